@@ -1,0 +1,12 @@
+//! The lines of a file that is read in pieces.
+//!
+//! A line ends with a line feed or with the end of the text, and no line begins at the end of the text. A carriage
+//! return directly before the line feed is dropped, but counts in the length of the line.
+#![tactic(auto)]
+
+mod reader;
+
+pub use reader::{Fault, Got, Limits, LineReader};
+
+#[cfg(test)]
+mod tests;

@@ -1,0 +1,14 @@
+pub mod Views
+pub mod Phrases
+pub mod Choices
+pub mod Joints
+pub mod Signs
+pub mod Expressions
+pub mod Sentences
+pub mod Reading
+pub mod Rows
+pub mod Tails
+pub mod Fitting
+pub mod Public
+pub mod Answering
+pub mod Uniqueness

@@ -1,0 +1,58 @@
+-- Signs are told apart by their numbers.
+use Rattle.std.proofs.Common.{◌≡◌, ◌==◌, ℕ, Bool, true, false, List, [], ◌∷◌, Some, get_or, refl, sym, ap, ◌∙◌, arith}
+use Rattle.std.proofs.lemmas.Bool.Decides.{nat_tests}
+use Rattle.ps_parser.specs.declared.sign.Sign.{Sign}
+use Rattle.ps_parser.specs.declared.sign.Sign.TheVariants.{Program, EndProgram, FunctionBlock, EndFunctionBlock, VarInput, VarOutput, Var, EndVar, And, Or, Assign, Colon, Semicolon, Comma, LeftBracket, RightBracket, Dot}
+use Rattle.ps_parser.specs.Symbol.{Symbol, Mark, Named, Truth, Duration, rank, is_mark}
+use Rattle.ps_parser.specs.Phrase.{next, Stops}
+
+signs : List Sign
+signs = Program ∷ EndProgram ∷ FunctionBlock ∷ EndFunctionBlock ∷ VarInput ∷ VarOutput ∷ Var ∷ EndVar ∷ And ∷ Or ∷ Assign ∷ Colon ∷ Semicolon ∷ Comma ∷ LeftBracket ∷ RightBracket ∷ Dot ∷ []
+
+ranked : (s : Sign) → get_or signs (rank s) Program ≡ s
+unfolding signs
+ranked Program = refl
+ranked EndProgram = refl
+ranked FunctionBlock = refl
+ranked EndFunctionBlock = refl
+ranked VarInput = refl
+ranked VarOutput = refl
+ranked Var = refl
+ranked EndVar = refl
+ranked And = refl
+ranked Or = refl
+ranked Assign = refl
+ranked Colon = refl
+ranked Semicolon = refl
+ranked Comma = refl
+ranked LeftBracket = refl
+ranked RightBracket = refl
+ranked Dot = refl
+
+pub one_rank : (s t : Sign) → rank s ≡ rank t → s ≡ t
+one_rank s t e = sym (ranked s) ∙ ap (λ n. get_or signs n Program) e ∙ ranked t
+
+alike : (a b : ℕ) → (a == b) ≡ true → a ≡ b
+alike a b e = grind (arith, nat_tests)
+
+differ : (a b : ℕ) → (a ≡ b → ⊥) → (a == b) ≡ false
+differ a b h = grind (arith, nat_tests)
+
+-- the symbol that is this sign
+pub mark_is : (s : Sign) (t : Symbol) → is_mark s t ≡ true → t ≡ Mark s
+mark_is s (Mark u) e = ap Mark (sym (one_rank s u (alike (rank s) (rank u) e)))
+mark_is s (Named n) e = cc
+mark_is s (Truth b p) e = cc
+mark_is s (Duration t p) e = cc
+
+-- what is this sign is not another thing
+pub of_mark : (f : Symbol → Bool) (s : Sign) → f (Mark s) ≡ false → (t : Symbol) → is_mark s t ≡ true → f t ≡ false
+of_mark f s h t e = ap f (mark_is s t e) ∙ h
+
+-- where the sign does not stand next, it does not go on
+pub not_next : (s : Sign) (ts : List Symbol) → (next ts ≡ Some (Mark s) → ⊥) → Stops (is_mark s) ts
+not_next s [] absent = tt
+not_next s (Mark u ∷ ts) absent = differ (rank s) (rank u) (λ e. absent (ap (λ v. Some (Mark v)) (sym (one_rank s u e))))
+not_next s (Named n ∷ ts) absent = refl
+not_next s (Truth b p ∷ ts) absent = refl
+not_next s (Duration t p ∷ ts) absent = refl

@@ -1,0 +1,10 @@
+use Rattle.std.proofs.Common.{◌≡◌, ◌<◌, length, Some, slice_get, sym, subst}
+use Rattle.ps_parser.specs.SumView.{factor_tree}
+use Rattle.ps_parser.proofs.Views.{factor_trees-items, tree_at}
+use Rattle.ps_parser.proofs.expression.Factors.at.Goals as goal
+
+pub returns : goal.returns
+returns c =
+    let is = factor_trees-items c.args.self.now in
+    subst (λ l. slice_get l c.args.i ≡ Some (factor_tree c.index.result.now)) (sym is)
+    (tree_at factor_tree c.args.self.now.items.items c.args.i c.index.result.now (subst (λ l. c.args.i < length l) is c.requires) c.index.ensures)

@@ -1,0 +1,7 @@
+-- The tree for which an argument of the program stands.
+use Rattle.ps_parser.specs.declared.statement.Argument.{Argument}
+use Rattle.ps_parser.specs.Tree.{ArgumentTree}
+use Rattle.ps_parser.specs.SumView.{sum_tree}
+
+abbrev pub argument_tree : Argument → ArgumentTree
+argument_tree a = record { pin = a.pin; value = sum_tree a.value }

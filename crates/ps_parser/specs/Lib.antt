@@ -1,0 +1,16 @@
+pub mod Names
+pub mod Tree
+pub mod TreeCode
+pub mod SumView
+pub mod ArgumentView
+pub mod StatementView
+pub mod Whole
+pub mod SourceView
+pub mod Symbol
+pub mod Spelt
+pub mod Phrase
+pub mod Grammar
+pub mod Parses
+pub mod Parsing
+pub mod Places
+pub mod Pins

@@ -1,0 +1,10 @@
+use Rattle.std.proofs.Common.{◌≡◌, ◌*◌, ◌≤◌, take}
+use Rattle.std.specs.Prelude.{sum_by}
+use Rattle.ps_model.specs.Budgets.{instructions_at_pin}
+use Rattle.ps_model.proofs.budget.instructions_of_pins.Given as goal
+
+abbrev pub invariant-loop-j : goal.invariant-loop-j
+invariant-loop-j l = record {
+  counted : l.total ≡ sum_by instructions_at_pin (take l.j l.args);
+  few : l.total ≤ 40000 * l.j;
+}

@@ -1,0 +1,78 @@
+-- Transition tables as data: for each state its guards in order, each with the next state. A state is named by its DiagCode.
+use Rattle.std.specs.Prelude.{ℕ, Bool, true, false, List, [], ◌∷◌, ◌&&◌, ◌||◌, ◌==◌, not, if◌then◌else◌}
+
+-- What the guards of a step see: the value of each Boolean input pin; whether Reset rose (`edge`) or is held (`static`), whether the
+-- auxiliary input rose, and whether the limit has elapsed; how many modes are TRUE, and whether they are just the latched one.
+pub record Conditions : Type 0 where
+  pub pin : ℕ → Bool
+  pub edge : Bool
+  pub static : Bool
+  pub rise : Bool
+  pub elapsed : Bool
+  pub modes : ℕ
+  pub exact : Bool
+
+abbrev pub Guard : Type 0
+Guard = Conditions → Bool
+
+-- A guard, and the state that it leads to.
+pub record Rule : Type 0 where
+  pub guard : Guard
+  pub next : ℕ
+
+infix 80 ◌⇒◌
+abbrev pub ◌⇒◌ : Guard → ℕ → Rule
+g ⇒ q = record { guard = g; next = q }
+
+-- A state, the condition under which its time restarts while it stays, and its rules in order.
+pub record Row : Type 0 where
+  pub state : ℕ
+  pub restart : Guard
+  pub rules : List Rule
+
+abbrev pub never : Guard
+never c = false
+
+abbrev pub otherwise : Guard
+otherwise c = true
+
+-- ---- The words of the guards.
+abbrev pub pin : ℕ → Guard
+pin j c = c.pin j
+
+abbrev pub edge : Guard
+edge c = c.edge
+
+abbrev pub static : Guard
+static c = c.static
+
+abbrev pub rise : Guard
+rise c = c.rise
+
+abbrev pub elapsed : Guard
+elapsed c = c.elapsed
+
+infixr 90 ◌and◌
+infixr 85 ◌or◌
+abbrev pub ◌and◌ : Guard → Guard → Guard
+(g and h) c = g c && h c
+
+abbrev pub ◌or◌ : Guard → Guard → Guard
+(g or h) c = g c || h c
+
+abbrev pub no : Guard → Guard
+no g c = not (g c)
+
+-- A state with these rules and no restart condition.
+abbrev pub in_state : ℕ → List Rule → Row
+in_state q rules = record { state = q; restart = never; rules = rules }
+
+-- The first rule whose guard holds decides. Where none holds the state stays.
+abbrev pub decided : ℕ → List Rule → Conditions → ℕ
+decided q [] c = q
+decided q (r ∷ rules) c = if r.guard c then r.next else decided q rules c
+
+-- The row of a state. A state of no row has no rules.
+abbrev pub row_at : List Row → ℕ → Row
+row_at [] q = in_state q []
+row_at (r ∷ rows) q = if r.state == q then r else row_at rows q

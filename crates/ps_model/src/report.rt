@@ -1,0 +1,127 @@
+// A scan's inputs, and what is reported of it.
+
+use crate::app::App;
+use crate::values::Bits;
+use ps_base::Memory;
+use std::alloc::Global;
+use std::marker::Model;
+
+/// The inputs of a scan: its time in ms, and one value for each input of the application in order.
+#[derive(Drop, Debug)]
+pub struct Scan {
+    pub now: u32,
+    pub ins: Bits,
+}
+
+/// What a block says of itself: Ready, Error and DiagCode (PLCopen TC5).
+#[derive(Clone, Copy, Debug, PartialEq, Eq)]
+pub struct Diag {
+    pub ready: bool,
+    pub error: bool,
+    pub code: u16,
+}
+
+/// What each instance says of itself, in order, which contracts see as a list.
+#[derive(Drop, Debug)]
+pub struct Diags {
+    items: Vec<Diag>,
+}
+
+impl Model for Diags {
+    ghost use Rattle.std.specs.Prelude.{List};
+    ghost use Rattle.ps_model.specs.declared.report.Diag.{Diag};
+
+    ghost Value = { List Diag };
+
+    ghost view = { λ d. d.items.items };
+}
+
+/// The report of a scan: the values of the outputs, and what each instance says of itself.
+#[derive(Drop, Debug)]
+pub struct Report {
+    pub outs: Bits,
+    pub diags: Diags,
+}
+
+ghost use Rattle.std.specs.Prelude.{◌≡◌, IfOk, false, length, replicate};
+ghost use Rattle.ps_model.specs.Network.{input_count, instance_count};
+ghost use Rattle.ps_model.specs.Blank.{no_diag};
+
+impl Diags {
+    ghost use Rattle.std.specs.Prelude.{◌≡◌, ◌<◌, [], ◌∷◌, ◌++◌, IfOk, OnOk, Some, length, replicate, slice_get, slice_set};
+    ghost use Rattle.ps_model.specs.Blank.{no_diag};
+
+    /// None. It takes no memory.
+    pub fn new(alloc: Global) -> Diags
+        ensures { result ≡ [] }
+    {
+        Diags {
+            items: Vec::new(alloc),
+        }
+    }
+
+    /// Those of this many idle blocks.
+    pub fn all_idle(alloc: Global, count: usize) -> Result<Diags, Memory>
+        ensures { IfOk result (λ d. d ≡ replicate count no_diag) }
+    {
+        let idle = Diag {
+            ready: false,
+            error: false,
+            code: 0,
+        };
+        let items = vec![in alloc; idle; count]?;
+        Ok(Diags { items })
+    }
+
+    /// One more at the end.
+    pub fn push(&mut self, diag: Diag) -> Result<(), Memory>
+        ensures { OnOk result (self.new ≡ self.old ++ diag ∷ []) }
+    {
+        self.items.push(diag)?;
+        Ok(())
+    }
+
+    /// How many there are.
+    pub fn len(&self) -> usize
+        ensures { result ≡ length self.now }
+    {
+        self.items.len()
+    }
+
+    /// That of an instance, by its number.
+    pub fn at(&self, i: usize) -> Diag
+        requires { i < length self.now }
+        ensures { slice_get self.now i ≡ Some result }
+    {
+        self.items[i]
+    }
+
+    /// Puts that of an instance.
+    pub fn set(&mut self, i: usize, diag: Diag)
+        requires { i < length self.old }
+        ensures { self.new ≡ slice_set self.old i diag }
+    {
+        self.items[i] = diag;
+    }
+}
+
+impl Scan {
+    /// A scan of the application's size at time 0, all FALSE.
+    pub fn for_app(alloc: Global, app: &App) -> Result<Scan, Memory>
+        ensures { IfOk result (λ scan. scan ≡ record { now = 0; ins = replicate (input_count app.now) false }) }
+    {
+        let ins = Bits::all_false(alloc, app.input_count() as usize)?;
+        Ok(Scan { now: 0, ins })
+    }
+}
+
+impl Report {
+    /// A report of the application's sizes, all FALSE and 0.
+    pub fn for_app(alloc: Global, app: &App) -> Result<Report, Memory>
+        ensures { IfOk result (λ report. report ≡ record { outs = replicate (length app.now.outputs) false; diags = replicate (instance_count app.now) no_diag }) }
+    {
+        let outs = Bits::all_false(alloc, app.output_count() as usize)?;
+        let diags = Diags::all_idle(alloc, app.instance_count() as usize)?;
+        Ok(Report { outs, diags })
+    }
+}

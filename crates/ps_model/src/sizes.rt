@@ -1,0 +1,47 @@
+// The sizes of an application, by which a channel finds its cells.
+
+ghost use Rattle.ps_model.specs.Places.{ArePlaces};
+
+use crate::app::App;
+use crate::values::{FirstPins, Kinds};
+use ps_base::Memory;
+use std::alloc::Global;
+
+/// How many signals, instances, inputs and outputs an application has, and of each instance its first
+/// output signal and its kind.
+#[derive(Drop, Debug)]
+pub struct Sizes {
+    pub signals: u16,
+    pub instances: u16,
+    pub inputs: u16,
+    pub outputs: u16,
+    pub first_pins: FirstPins,
+    pub kinds: Kinds,
+    ghost places: { ArePlaces signals instances inputs outputs first_pins kinds },
+}
+
+impl Sizes {
+    ghost use Rattle.std.specs.Prelude.{IfOk};
+    ghost use Rattle.ps_model.specs.Sized.{AreSizesOf};
+
+    /// The sizes of an application.
+    pub fn of(alloc: Global, app: &App) -> Result<Sizes, Memory>
+        ensures { IfOk result (λ sizes. AreSizesOf app.now sizes) }
+    {
+        app.sound();
+        let mut first_pins = FirstPins::new(alloc);
+        let mut kinds = Kinds::new(alloc);
+        for i in 0..app.instance_count() {
+            first_pins.push(app.first_pin(i))?;
+            kinds.push(app.instance_kind(i))?;
+        }
+        Ok(Sizes {
+            signals: app.signal_count(),
+            instances: app.instance_count(),
+            inputs: app.input_count(),
+            outputs: app.output_count(),
+            first_pins,
+            kinds,
+        })
+    }
+}

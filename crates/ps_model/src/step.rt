@@ -1,0 +1,196 @@
+// The steps of a network: assignments and calls.
+
+use crate::expr::Expr;
+use crate::node::{Node, write_nodes};
+use ps_base::Memory;
+use std::alloc::Global;
+use std::marker::Model;
+
+/// What stands at an input pin of a call: nothing, a Boolean literal, a TIME literal in ms, or a value.
+#[derive(Drop)]
+pub enum Arg {
+    Free,
+    Lit(bool),
+    Time(u32),
+    Value(Expr),
+}
+
+/// The arguments of a call, one for each input pin in the pin table's order, which contracts see as a list.
+#[derive(Drop)]
+pub struct Args {
+    items: Vec<Arg>,
+}
+
+impl Model for Args {
+    ghost use Rattle.std.specs.Prelude.{List, map};
+    ghost use Rattle.std.specs.Coded.{codes};
+    ghost use Rattle.ps_model.specs.FormulaCode.{formula_code};
+    ghost use Rattle.ps_model.specs.Action.{Actual};
+    ghost use Rattle.ps_model.specs.Args.{actual};
+
+    ghost Value = { List Actual };
+
+    ghost coded = { Prim.hlevel (codes, formula_code) };
+
+    ghost view = { λ a. map actual a.items.items };
+}
+
+/// A step of a network: a value assigned to a signal, or an instance called.
+#[derive(Drop)]
+pub enum Step {
+    Assign { target: u16, value: Expr },
+    Call { instance: u16, args: Args },
+}
+
+/// The steps in the order of the text, which contracts see as a list.
+/// The nodes of their values are kept beside them, so that no reader of an application walks its expressions.
+#[derive(Drop)]
+pub struct Steps {
+    items: Vec<Step>,
+    nodes: Vec<Node>,
+}
+
+impl Model for Steps {
+    ghost use Rattle.std.specs.Prelude.{List, map};
+    ghost use Rattle.std.specs.Coded.{codes};
+    ghost use Rattle.ps_model.specs.FormulaCode.{formula_code};
+    ghost use Rattle.ps_model.specs.Action.{Action};
+
+    ghost Value = { List Action };
+
+    ghost coded = { Prim.hlevel (codes, formula_code) };
+
+    ghost use Rattle.ps_model.specs.Steps.{action, KeepsNodes};
+
+    ghost view = { λ s. map action s.items.items };
+
+    ghost invariant = { λ s. KeepsNodes (map action s.items.items) s.nodes.items };
+}
+
+impl Args {
+    ghost use Rattle.std.specs.Prelude.{◌≡◌, [], ◌∷◌, ◌++◌, OnOk, ◌<◌, length, Some, slice_get};
+    ghost use Rattle.ps_model.specs.Args.{actual};
+
+    /// No arguments. It takes no memory.
+    pub fn new(alloc: Global) -> Args
+        ensures { result ≡ [] }
+    {
+        Args {
+            items: Vec::new(alloc),
+        }
+    }
+
+    /// One more argument at the end.
+    pub fn push(&mut self, arg: Arg) -> Result<(), Memory>
+        ensures { OnOk result (self.new ≡ self.old ++ actual arg ∷ []) }
+    {
+        self.items.push(arg)?;
+        Ok(())
+    }
+
+    /// How many there are.
+    pub fn len(&self) -> usize
+        ensures { result ≡ length self.now }
+    {
+        self.items.len()
+    }
+
+    /// The argument at a place, counted from 0.
+    pub fn at(&self, j: usize) -> &Arg
+        requires { j < length self.now }
+        ensures { slice_get self.now j ≡ Some (actual result.now) }
+    {
+        &self.items[j]
+    }
+}
+
+impl Steps {
+    ghost use Rattle.std.specs.Prelude.{◌≡◌, [], ◌∷◌, ◌++◌, OnOk, OnErr, ◌<◌, ◌≤◌, All, length, map, Some, slice_get};
+    ghost use Rattle.ps_model.specs.Steps.{action};
+    ghost use Rattle.ps_model.specs.Nodes.{nodes_of_steps};
+    ghost use Rattle.ps_model.specs.Rows.{node_of};
+
+    /// No steps. It takes no memory.
+    pub fn new(alloc: Global) -> Steps
+        ensures { result ≡ [] }
+    {
+        Steps {
+            items: Vec::new(alloc),
+            nodes: Vec::new(alloc),
+        }
+    }
+
+    /// One more step at the end. Where memory is wanting the steps are as before.
+    pub fn push(&mut self, step: Step) -> Result<(), Memory>
+        ensures pushed { OnOk result (self.new ≡ self.old ++ action step ∷ []) }
+        ensures refused { OnErr result (self.new ≡ self.old) }
+    {
+        let kept = self.nodes.len();
+        let mut nodes = Vec::new(*self.nodes.allocator());
+        write_step(&step, &mut nodes)?;
+        self.nodes.extend_from_slice(&nodes)?;
+        if self.items.push(step).is_err() {
+            self.nodes.truncate(kept);
+            return Err(Memory);
+        }
+        Ok(())
+    }
+
+    /// How many there are.
+    pub fn len(&self) -> usize
+        ensures { result ≡ length self.now }
+    {
+        self.items.len()
+    }
+
+    /// The step at a place, counted from 0.
+    pub fn at(&self, k: usize) -> &Step
+        requires { k < length self.now }
+        ensures { slice_get self.now k ≡ Some (action result.now) }
+    {
+        &self.items[k]
+    }
+
+    /// The nodes of all values, in the order of steps and pins, each before its operands.
+    pub fn nodes(&self) -> &[Node]
+        ensures { result.now ≡ map node_of (nodes_of_steps self.now) }
+    {
+        self.nodes.as_slice()
+    }
+}
+
+ghost use Rattle.std.specs.Prelude.{◌≡◌, ◌++◌, OnOk, map, flat_map};
+ghost use Rattle.ps_model.specs.Args.{actual};
+ghost use Rattle.ps_model.specs.Steps.{action};
+ghost use Rattle.ps_model.specs.Nodes.{nodes_at_pin, nodes_of_step};
+ghost use Rattle.ps_model.specs.Rows.{node_of};
+
+// Writes the nodes of an argument at the end.
+fn write_arg(arg: &Arg, rows: &mut Vec<Node>) -> Result<(), Memory>
+    ensures { OnOk result (rows.new.items ≡ rows.old.items ++ map node_of (nodes_at_pin (actual arg.now))) }
+{
+    match arg {
+        Arg::Value(e) => write_nodes(e, rows),
+        _ => Ok(()),
+    }
+}
+
+// Writes the nodes of the arguments of a call at the end.
+fn write_args(args: &Args, rows: &mut Vec<Node>) -> Result<(), Memory>
+    ensures { OnOk result (rows.new.items ≡ rows.old.items ++ map node_of (flat_map nodes_at_pin args.now)) }
+{
+    for j in 0..args.len() {
+        write_arg(args.at(j), rows)?;
+    }
+    Ok(())
+}
+
+// Writes the nodes of a step at the end.
+fn write_step(step: &Step, rows: &mut Vec<Node>) -> Result<(), Memory>
+    ensures { OnOk result (rows.new.items ≡ rows.old.items ++ map node_of (nodes_of_step (action step.now))) }
+{
+    match step {
+        Step::Assign { value, .. } => write_nodes(value, rows),
+        Step::Call { args, .. } => write_args(args, rows),
+    }
+}

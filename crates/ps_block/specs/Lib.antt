@@ -1,0 +1,4 @@
+pub mod Pins
+pub mod Shown
+pub mod Images
+pub mod Seeing

@@ -1,0 +1,4 @@
+pub mod GuardLockingStates
+pub mod SameGuardLockingStates
+pub mod GuardMonitoringStates
+pub mod SameGuardMonitoringStates

@@ -1,0 +1,4 @@
+pub mod Contacts
+pub mod SameContacts
+pub mod Stop
+pub mod SameStop

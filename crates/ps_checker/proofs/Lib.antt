@@ -1,0 +1,9 @@
+pub mod Sound
+pub mod Left
+pub mod Fits
+pub mod Covered
+pub mod Lawful
+pub mod Derived
+pub mod Passes
+pub mod Known
+pub mod Forged

@@ -1,0 +1,52 @@
+use Rattle.std.proofs.Common.{arith, ap, ◌∙◌, sym, refl, ◌≡◌, ◌+◌, ℕ, List, Some, subst, length}
+use Rattle.std.specs.Prelude.{slice_get}
+use Rattle.std.specs.List.{list_all}
+use Rattle.std.proofs.lemmas.Option.{slice_get_within}
+use Rattle.ps_model.specs.Network.{Network}
+use Rattle.ps_model.specs.Obligations.{obligations}
+use Rattle.ps_model.proofs.Once.{element_at}
+use Rattle.ps_flow.specs.declared.certificate.CertLine.{CertLine}
+use Rattle.ps_base.specs.declared.failing.Rule.{Rule}
+use Rattle.ps_base.specs.declared.failing.Rule.TheVariants.{O1, O2, O3}
+use Rattle.ps_checker.specs.Derives.{has_line}
+use Rattle.ps_checker.specs.Objections.{Objects, LineBreaks, EachUpTo}
+use Rattle.ps_checker.proofs.Sound.{accepted}
+use Rattle.ps_checker.proofs.Lawful.{keeps_skeletons, not_derived}
+use Rattle.ps_checker.proofs.checking.check.Goals as goal
+
+line_objects : (net : Network) (lines : List CertLine) (i : ℕ) (l : CertLine) (rule : Rule) → EachUpTo net lines i → slice_get lines i ≡ Some l →
+    LineBreaks net lines i l rule → Objects net lines (i + 1) rule
+line_objects net lines i l O1 each at h = (i, l, refl, each, at, h)
+line_objects net lines i l O2 each at h = (i, l, refl, each, at, h)
+line_objects net lines i l O3 each at h = (i, l, refl, each, at, h)
+line_objects net lines i l _ each at h = absurd h
+
+pub returns-in-Some-clause-objects : goal.returns-in-Some-clause-objects
+returns-in-Some-clause-objects c =
+    let e = element_at c.lines-lines.result.now c.loop-i.i c.loop-i-test.true in
+    line_objects c.args.app.now c.args.cert.now c.loop-i.i e.0 c.in-Some.rule c.loop-i.invariant (ap (λ ls. slice_get ls c.loop-i.i) (sym c.lines-lines.ensures) ∙ e.1)
+    (subst (λ ls. LineBreaks c.args.app.now ls c.loop-i.i e.0 c.in-Some.rule) c.lines-lines.ensures (c.in-Some.ensures.some e.0 e.1))
+
+pub returns-clause-derives : goal.returns-clause-derives
+returns-clause-derives c = record {
+  each = λ i l at. c.loop-i.invariant i (let h = slice_get_within c.args.cert.now i l at in omega (arith, ap length c.lines-lines.ensures)) l at;
+  literals = c.has_misfit.ensures.fits c.if-has_misfit.false;
+  covered = ap (λ ls. list_all (has_line ls) (obligations c.args.app.now)) (sym c.lines-lines.ensures) ∙ sym c.is_covered.ensures ∙ c.if-not-is_covered.false;
+}
+
+pub returns-clause-accepted : goal.returns-clause-accepted
+returns-clause-accepted c = accepted c.args.app.now c.args.cert.now (record {
+  each = λ i l at. c.loop-i.invariant i (let h = slice_get_within c.args.cert.now i l at in omega (arith, ap length c.lines-lines.ensures)) l at;
+  literals = c.has_misfit.ensures.fits c.if-has_misfit.false;
+  covered = ap (λ ls. list_all (has_line ls) (obligations c.args.app.now)) (sym c.lines-lines.ensures) ∙ sym c.is_covered.ensures ∙ c.if-not-is_covered.false;
+})
+
+pub returns-clause-skeletons : goal.returns-clause-skeletons
+returns-clause-skeletons c = keeps_skeletons c.args.app.now (accepted c.args.app.now c.args.cert.now (record {
+  each = λ i l at. c.loop-i.invariant i (let h = slice_get_within c.args.cert.now i l at in omega (arith, ap length c.lines-lines.ensures)) l at;
+  literals = c.has_misfit.ensures.fits c.if-has_misfit.false;
+  covered = ap (λ ls. list_all (has_line ls) (obligations c.args.app.now)) (sym c.lines-lines.ensures) ∙ sym c.is_covered.ensures ∙ c.if-not-is_covered.false;
+}))
+
+pub returns-in-Some-clause-refuses : goal.returns-in-Some-clause-refuses
+returns-in-Some-clause-refuses c = not_derived c.args.app.now c.args.cert.now (c.loop-i.i + 1) c.in-Some.rule (returns-in-Some-clause-objects c)

@@ -1,0 +1,5 @@
+pub mod Counts
+pub mod Derives
+pub mod Objections
+pub mod Fitting
+pub mod Lawful

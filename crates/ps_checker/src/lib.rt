@@ -1,0 +1,9 @@
+// The checker of certificates. It trusts no maker of one: of ps_flow it takes the type Certificate alone.
+#![tactic(auto)]
+
+pub mod checking;
+pub mod laws;
+pub mod objection;
+
+pub use checking::check;
+pub use objection::{Checked, Objection};

@@ -1,0 +1,5 @@
+pub mod Written
+pub mod Read
+pub mod Words
+pub mod Derivation
+pub mod Refusals

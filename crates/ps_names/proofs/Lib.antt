@@ -1,0 +1,17 @@
+pub mod Firsts
+pub mod Distinct
+pub mod Unbroken
+pub mod Targets
+pub mod OneDriver
+pub mod OneCall
+pub mod FirstPins
+pub mod Lists
+pub mod Differ
+pub mod Fine
+pub mod Values
+pub mod ReadNames
+pub mod Driven
+pub mod PinNames
+pub mod Counted
+pub mod Whole
+pub mod Lookups

@@ -1,0 +1,13 @@
+pub mod Indexing
+pub mod Repeats
+pub mod Trees
+pub mod NodeCounts
+pub mod Filtered
+pub mod Fit
+pub mod NumberLists
+pub mod Joining
+pub mod Building
+pub mod Arguments
+pub mod Walks
+pub mod LiteralValues
+pub mod ReadValues

@@ -1,0 +1,6 @@
+pub mod Tables
+pub mod Literals
+pub mod Counting
+pub mod Numbering
+pub mod Spelt
+pub mod Resolving

@@ -1,0 +1,26 @@
+use Rattle.std.proofs.Common.{◌≡◌, ◌≤◌, ◌<◌, ◌+◌, ◌-◌, ◌++◌, ℕ, List, IsTrue, Some, IsSome}
+use Rattle.ps_base.specs.declared.limits.TheConstants.{MOST_FAULT_LINES}
+use Rattle.ps_lines.specs.Reader.{IsReading, left, begin_of, name_of, limits_of, read_of}
+use Rattle.ps_trace.specs.Faults.{faults_of, faults_from, largest_fault_file}
+use Rattle.ps_trace.proofs.fault_file.read_faults.Given as goal
+
+abbrev pub invariant-lines : goal.invariant-lines
+invariant-lines g l = record {
+  reads : IsTrue (g.F.Files.tells l.initial.files) → (text : List ℕ) → g.F.Files.held l.initial.files l.name ≡ Some text → IsReading l.lines text;
+  faults : IsTrue (g.F.Files.tells l.initial.files) → (text : List ℕ) → g.F.Files.held l.initial.files l.name ≡ Some text →
+      (faults_of text l.sizes).faults ≡ l.faults ++ (faults_from l.sizes l.before l.number (left l.lines text)).faults;
+  refusal : IsTrue (g.F.Files.tells l.initial.files) → (text : List ℕ) → g.F.Files.held l.initial.files l.name ≡ Some text →
+      (faults_of text l.sizes).refusal ≡ (faults_from l.sizes l.before l.number (left l.lines text)).refusal;
+  found : IsTrue (g.F.Files.tells l.initial.files) → 0 < begin_of l.lines → IsSome (g.F.Files.held l.initial.files l.name);
+  fresh : begin_of l.lines ≡ 0 → read_of l.lines ≡ 0;
+  few : l.number ≤ MOST_FAULT_LINES + 1;
+  near : begin_of l.lines ≤ largest_fault_file;
+  limited : (limits_of l.lines).largest ≡ largest_fault_file;
+  named : name_of l.lines ≡ l.name;
+  counts : (other : List ℕ) → g.F.Files.faults l.initial.files other ≤ g.F.Files.faults l.files other;
+  kept : g.F.Files.held l.files ≡ g.F.Files.held l.initial.files;
+  telling : g.F.Files.tells l.files ≡ g.F.Files.tells l.initial.files;
+}
+
+abbrev pub decreases-lines : goal.decreases-lines
+decreases-lines g l = largest_fault_file + 1 - begin_of l.lines

@@ -1,0 +1,24 @@
+use Rattle.std.proofs.Common.{◌≡◌, ◌≤◌, ◌<◌, ◌+◌, ◌-◌, ℕ, List, IsTrue, Some, None, length}
+use Rattle.ps_base.specs.declared.limits.TheConstants.{LARGEST_TRACE}
+use Rattle.ps_lines.specs.Reader.{begin_of}
+use Rattle.ps_trace.specs.Reading.{IsReadingTrace, items_left, file_of, input_count_of, last_of}
+use Rattle.ps_trace.proofs.trace.TraceReader.next_scan.Given as goal
+
+abbrev pub invariant-lines : goal.invariant-lines
+invariant-lines g l = record {
+  reads : IsTrue (g.F.Files.tells l.initial.files) → (text : List ℕ) → g.F.Files.held l.initial.files (file_of l.initial.self) ≡ Some text →
+      IsReadingTrace l.initial.self text → IsReadingTrace l.self text;
+  left : IsTrue (g.F.Files.tells l.initial.files) → (text : List ℕ) → g.F.Files.held l.initial.files (file_of l.initial.self) ≡ Some text →
+      IsReadingTrace l.initial.self text → items_left l.self text ≡ items_left l.initial.self text;
+  unrefused : l.self.refusal ≡ None;
+  into : l.into ≡ l.initial.into;
+  time : last_of l.self ≡ last_of l.initial.self;
+  counts : (other : List ℕ) → g.F.Files.faults l.initial.files other ≤ g.F.Files.faults l.files other;
+  kept : g.F.Files.held l.files ≡ g.F.Files.held l.initial.files;
+  telling : g.F.Files.tells l.files ≡ g.F.Files.tells l.initial.files;
+  name : file_of l.self ≡ file_of l.initial.self;
+  places : l.self.places ≡ l.initial.self.places;
+}
+
+abbrev pub decreases-lines : goal.decreases-lines
+decreases-lines g l = LARGEST_TRACE + 1 - begin_of l.self.lines

@@ -1,0 +1,10 @@
+pub mod Words
+pub mod Trace
+pub mod LineSays
+pub mod Header
+pub mod HeaderSays
+pub mod Scans
+pub mod Faults
+pub mod FaultSays
+pub mod Feeds
+pub mod Reading

@@ -1,0 +1,147 @@
+// The lines of a fault file of two channels.
+
+ghost use Rattle.std.specs.Prelude.{◌≡◌, ◌≤◌, ◌<◌, ◌-◌, ◌∷◌, ℕ, List, length, take, drop, IfOk, codes};
+ghost use Rattle.std.specs.Str.{bytes_eq};
+ghost use Rattle.ps_trace.specs.Words.{number_of, words};
+ghost use Rattle.ps_trace.specs.Faults.{above_zero, bytes_said, channel_of, fault_said, first_of, made, others_of, region_of, target_said};
+
+use crate::words::{next_word, number};
+use ps_base::{Bytes, Memory};
+use ps_model::channel::{Channel, Fault, Region};
+use std::alloc::Global;
+
+// The fault that a line is, whose first word stands from `from` to `upto`. None: it does not have the form of one.
+pub(crate) fn read_fault(
+    alloc: Global,
+    line: &[u8],
+    from: usize,
+    upto: usize,
+) -> Result<Option<Fault>, Memory>
+    requires ordered { from ≤ upto }
+    requires within { upto ≤ length line.now }
+    ensures { IfOk result (λ fault. fault ≡ fault_said (take (upto - from) (drop from line.now) ∷ words (drop upto line.now))) }
+{
+    if &line[from..upto] != b"before".as_slice() {
+        return Ok(None);
+    }
+    let (scan, next) = take_word(line, upto);
+    let scan = count(scan);
+    let (third, behind) = take_word(line, next);
+    if third != b"turn".as_slice() {
+        return read_target(alloc, line, next, scan, Some(0));
+    }
+    let (turn, next) = take_word(line, behind);
+    read_target(alloc, line, next, scan, count(turn))
+}
+
+// The channel, the region, the offset and the bytes of a fault, which stand from `at` on.
+fn read_target(
+    alloc: Global,
+    line: &[u8],
+    at: usize,
+    scan: Option<u32>,
+    turn: Option<u32>,
+) -> Result<Option<Fault>, Memory>
+    requires { at ≤ length line.now }
+    ensures { IfOk result (λ fault. fault ≡ target_said scan turn (words (drop at line.now))) }
+{
+    let (channel, next) = take_word(line, at);
+    let (region, next) = take_word(line, next);
+    let (offset, next) = take_word(line, next);
+    let (bytes, next) = take_word(line, next);
+    if bytes.is_empty() || next_word(line, next).is_some() {
+        return Ok(None);
+    }
+    let bytes = read_bytes(alloc, bytes)?;
+    Ok(fault(
+        scan,
+        turn,
+        channel_named(channel),
+        region_named(region),
+        number(offset),
+        bytes,
+    ))
+}
+
+// A fault, where each of its parts is right.
+fn fault(
+    scan: Option<u32>,
+    turn: Option<u32>,
+    channel: Option<Channel>,
+    region: Option<Region>,
+    at: Option<u32>,
+    bytes: Option<Bytes>,
+) -> Option<Fault>
+    ensures { result ≡ made scan turn channel region at bytes }
+{
+    Some(Fault {
+        scan: scan?,
+        turn: turn?,
+        channel: channel?,
+        region: region?,
+        at: at?,
+        bytes: bytes?,
+    })
+}
+
+// The next word of a line, empty where there is none, and the place behind it.
+fn take_word(line: &[u8], at: usize) -> (&[u8], usize)
+    requires { at ≤ length line.now }
+    ensures within { result.1 ≤ length line.now }
+    ensures first { result.0.now ≡ first_of (words (drop at line.now)) }
+    ensures others { words (drop result.1 line.now) ≡ others_of (words (drop at line.now)) }
+{
+    match next_word(line, at) {
+        Some((from, upto)) => (&line[from..upto], upto),
+        None => (&line[at..at], line.len()),
+    }
+}
+
+// A number from 1 on.
+fn count(word: &[u8]) -> Option<u32>
+    ensures { result ≡ above_zero (number_of word.now) }
+{
+    match number(word) {
+        Some(0) => None,
+        other => other,
+    }
+}
+
+fn channel_named(word: &[u8]) -> Option<Channel>
+    ensures { result ≡ channel_of word.now }
+{
+    if word == b"A".as_slice() {
+        Some(Channel::A)
+    } else if word == b"B".as_slice() {
+        Some(Channel::B)
+    } else {
+        None
+    }
+}
+
+fn region_named(word: &[u8]) -> Option<Region>
+    ensures { result ≡ region_of word.now }
+{
+    if word == b"code".as_slice() {
+        Some(Region::Code)
+    } else if word == b"memory".as_slice() {
+        Some(Region::Cells)
+    } else {
+        None
+    }
+}
+
+// The bytes that a word is: 2 to 512 hexadecimal digits of either case, an even number.
+fn read_bytes(alloc: Global, word: &[u8]) -> Result<Option<Bytes>, Memory>
+    ensures { IfOk result (λ bytes. bytes ≡ bytes_said word.now) }
+{
+    let mut bytes = [0u8; 256];
+    if word.is_empty() || word.len() > 512 {
+        return Ok(None);
+    }
+    let half = &mut bytes[..word.len() / 2];
+    match hex::decode_to_slice(word, half) {
+        Ok(()) => Ok(Some(Bytes::from_slice(alloc, half)?)),
+        Err(_) => Ok(None),
+    }
+}

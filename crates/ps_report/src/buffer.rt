@@ -1,0 +1,199 @@
+// The buffer in which the lines of a run are made.
+
+ghost use Rattle.std.specs.Prelude.{◌≡◌, ◌+◌, ◌≤◌, ◌++◌, length, vec_len, vec_capacity, false, IfSome};
+ghost use Rattle.std.specs.List.{flat_map};
+ghost use Rattle.ps_model.specs.Network.{instance_count};
+ghost use Rattle.ps_report.specs.Image.{channel_letter};
+ghost use Rattle.ps_report.specs.Lines.{cause_text, given_cause, named_value, output_texts, instance_texts, outputs_room, instances_room};
+
+use crate::line::{put, put_named_diag, put_named_value, put_number};
+use ps_base::Memory;
+use ps_model::app::App;
+use ps_model::channel::{Cause, Channel};
+use ps_model::report::{Diags, Report};
+use ps_model::values::Bits;
+use std::alloc::Global;
+use std::marker::Model;
+
+/// The outputs with their values.
+fn put_outputs(line: &mut Vec<u8>, app: &App, outs: &Bits)
+    requires values { length outs.now ≡ length app.now.outputs }
+    requires room { vec_len line.old + outputs_room app.now.outputs ≤ vec_capacity line.old }
+    ensures bytes { line.new.items ≡ line.old.items ++ output_texts app.now.outputs outs.now }
+    ensures len { vec_len line.new ≤ vec_len line.old + outputs_room app.now.outputs }
+    ensures capacity { vec_capacity line.old ≤ vec_capacity line.new }
+{
+    app.sound();
+    let first = app.input_count();
+    for j in 0..app.output_count() {
+        put_named_value(line, app.signal_name(first + j), outs.at(j as usize));
+    }
+}
+
+/// Every output with the value FALSE.
+fn put_false_outputs(line: &mut Vec<u8>, app: &App)
+    requires room { vec_len line.old + outputs_room app.now.outputs ≤ vec_capacity line.old }
+    ensures bytes { line.new.items ≡ line.old.items ++ flat_map (λ output. named_value output.name false) app.now.outputs }
+    ensures len { vec_len line.new ≤ vec_len line.old + outputs_room app.now.outputs }
+    ensures capacity { vec_capacity line.old ≤ vec_capacity line.new }
+{
+    app.sound();
+    let first = app.input_count();
+    for j in 0..app.output_count() {
+        put_named_value(line, app.signal_name(first + j), false);
+    }
+}
+
+/// The instances with what they say of themselves.
+fn put_instances(line: &mut Vec<u8>, app: &App, diags: &Diags)
+    requires values { length diags.now ≡ instance_count app.now }
+    requires room { vec_len line.old + instances_room app.now.instances ≤ vec_capacity line.old }
+    ensures bytes { line.new.items ≡ line.old.items ++ instance_texts app.now.instances diags.now }
+    ensures len { vec_len line.new ≤ vec_len line.old + instances_room app.now.instances }
+    ensures capacity { vec_capacity line.old ≤ vec_capacity line.new }
+{
+    for i in 0..app.instance_count() {
+        put_named_diag(line, app.instance_name(i), diags.at(i as usize));
+    }
+}
+
+/// A channel's letter.
+pub(crate) fn letter(channel: Channel) -> &'static str
+    ensures letter { result.now ≡ channel_letter channel }
+    ensures len { length result.now ≡ 1 }
+{
+    match channel {
+        Channel::A => "A",
+        Channel::B => "B",
+    }
+}
+
+/// Why a scan is tripped, in room for 20 bytes.
+fn put_cause(line: &mut Vec<u8>, cause: Cause)
+    requires { vec_len line.old + 20 ≤ vec_capacity line.old }
+    ensures bytes { line.new.items ≡ line.old.items ++ cause_text cause }
+    ensures len { vec_len line.new ≤ vec_len line.old + 20 }
+    ensures capacity { vec_capacity line.old ≤ vec_capacity line.new }
+{
+    match cause {
+        Cause::Differ(field) => {
+            put(line, b" differ ");
+            put_number(line, u32::from(field));
+        }
+        Cause::Stuck(channel) => {
+            put(line, b" stuck ");
+            put(line, letter(channel).as_bytes());
+        }
+        Cause::Trap(channel, number) => {
+            put(line, b" trap ");
+            put(line, letter(channel).as_bytes());
+            put(line, b" ");
+            put_number(line, u32::from(number));
+        }
+        Cause::NoReport(channel) => {
+            put(line, b" no report ");
+            put(line, letter(channel).as_bytes());
+        }
+    }
+}
+
+/// The cause of the scan that trips, or nothing for a later one.
+fn put_given_cause(line: &mut Vec<u8>, cause: Option<Cause>)
+    requires { vec_len line.old + 20 ≤ vec_capacity line.old }
+    ensures bytes { line.new.items ≡ line.old.items ++ given_cause cause }
+    ensures len { vec_len line.new ≤ vec_len line.old + 20 }
+    ensures capacity { vec_capacity line.old ≤ vec_capacity line.new }
+{
+    if let Some(cause) = cause {
+        put_cause(line, cause);
+    }
+}
+
+/// The room of all outputs and instances of an application, in bytes, or None where it passes every number.
+fn fields_room(app: &App) -> Option<usize>
+    ensures { IfSome result (λ n. n ≡ outputs_room app.now.outputs + instances_room app.now.instances) }
+{
+    app.sound();
+    let first = app.input_count();
+    let mut room: usize = 0;
+    for j in 0..app.output_count() {
+        room = room
+            .checked_add(app.signal_name(first + j).len())?
+            .checked_add(3)?;
+    }
+    for i in 0..app.instance_count() {
+        room = room
+            .checked_add(app.instance_name(i).len())?
+            .checked_add(10)?;
+    }
+    Some(room)
+}
+
+/// A buffer for the lines of one application. Contracts see the number of bytes that it has room for.
+#[derive(Drop)]
+pub struct LineBuffer {
+    text: Vec<u8>,
+}
+
+impl Model for LineBuffer {
+    ghost use Rattle.std.specs.Prelude.{ℕ, vec_capacity};
+
+    ghost Value = { ℕ };
+
+    ghost view = { λ b. vec_capacity b.text };
+}
+
+impl LineBuffer {
+    ghost use Rattle.std.specs.Prelude.{IfOk, ⊤};
+    ghost use Rattle.std.specs.Borrow.{sem};
+    ghost use mathlib.Core.Option.{none};
+    ghost use denote.Follow.{follows_so};
+    ghost use Rattle.ps_report.specs.contracts.buffer.LineBuffer.{the_row};
+    ghost use Rattle.ps_report.specs.Lines.{line_room, report_text, trip_text};
+
+    /// A buffer with room for every line of a run of this application. It takes all memory that its lines will use.
+    pub fn for_app(alloc: Global, app: &App) -> Result<LineBuffer, Memory>
+        ensures { IfOk result (λ b. line_room app.now ≤ b) }
+    {
+        let fields = fields_room(app).ok_or(Memory)?;
+        let room = fields.checked_add(48).ok_or(Memory)?;
+        Ok(LineBuffer {
+            text: Vec::with_capacity(alloc, room)?,
+        })
+    }
+
+    /// The line of a scan, as `30 S_Motor=1 E=1,0,8000`: its time in ms, each output, and Ready, Error and DiagCode of each
+    /// instance, in order of declaration, ended by a line feed. It takes no memory.
+    pub fn report_line(&mut self, app: &App, now: u32, report: &Report) -> &[u8]
+        requires room { line_room app.now ≤ self.old }
+        requires outputs { length report.now.outs ≡ length app.now.outputs }
+        requires instances { length report.now.diags ≡ instance_count app.now }
+        ensures line { result.now ≡ report_text app.now now report.now }
+        ensures* after { sem 𝓛 (follows_so the_row the_row self.entry.ghost_name none (λ _ _. ⊤) (λ room. self.old ≤ room)) }
+    {
+        let text = &mut self.text;
+        text.clear();
+        put_number(text, now);
+        put_outputs(text, app, &report.outs);
+        put_instances(text, app, &report.diags);
+        put(text, b"\n");
+        text.as_slice()
+    }
+
+    /// The line of a scan that trips, as `20 TRIP differ 0 S_Motor=0`, or, without a cause, of a later scan, as
+    /// `30 TRIP S_Motor=0`. It takes no memory.
+    pub fn trip_line(&mut self, app: &App, now: u32, cause: Option<Cause>) -> &[u8]
+        requires { line_room app.now ≤ self.old }
+        ensures line { result.now ≡ trip_text app.now now cause }
+        ensures* after { sem 𝓛 (follows_so the_row the_row self.entry.ghost_name none (λ _ _. ⊤) (λ room. self.old ≤ room)) }
+    {
+        let text = &mut self.text;
+        text.clear();
+        put_number(text, now);
+        put(text, b" TRIP");
+        put_given_cause(text, cause);
+        put_false_outputs(text, app);
+        put(text, b"\n");
+        text.as_slice()
+    }
+}

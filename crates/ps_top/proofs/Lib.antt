@@ -1,0 +1,10 @@
+pub mod Meeting
+pub mod Fields
+pub mod Pieces
+pub mod Assigning
+pub mod Scans
+pub mod Wording
+pub mod Building
+pub mod Answering
+pub mod Answered
+pub mod Completing

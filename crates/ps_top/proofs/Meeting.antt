@@ -1,0 +1,165 @@
+-- How a call comes to meet what it is asked to say.
+use Rattle.std.proofs.Common.{◌≡◌, ◌≤◌, ◌⊎◌, ℕ, List, [], ◌∷◌, ◌++◌, Option, Some, Any, take, drop, refl, sym, ap, ◌∙◌, subst, inl, inr, ⊎_elim, arith, append_assoc, append-nil}
+use Rattle.std.proofs.lemmas.List.{take-append-drop}
+use Rattle.ps_outside.specs.Outside.{Rose}
+use Rattle.ps_top.specs.Asking.{Answer, Asking, IsAnswer, AsksFor}
+use Rattle.ps_top.specs.Asking.Asking.{Says, Asks, Finds}
+use Rattle.ps_top.specs.Meets.{IsCut, AppendsAll, AppendsPart, Gives, Meets, Owes}
+use Rattle.ps_top.specs.Resting.{behind}
+use Rattle.ps_top.specs.declared.Status.{Status}
+use Rattle.ps_top.specs.declared.Status.TheVariants.{Done, Refused, Usage, BadInput, Tripped, ReadFault, WriteFault, Memory}
+
+-- a count that rose in a part of a call rose in the call
+pub rose_earlier : (before mid after : ℕ) → before ≤ mid → Rose mid after → Rose before after
+rose_earlier before mid after le rose = ⊎_elim (λ more. inl (omega (arith, more, le))) inr rose
+
+pub rose_later : (before mid after : ℕ) → mid ≤ after → Rose before mid → Rose before after
+rose_later before mid after le rose = ⊎_elim (λ more. inl (omega (arith, more, le))) (λ last. inr (omega (arith, last, le))) rose
+
+-- what begins one of these answers begins one of more
+part_wider : (P Q : Answer → Type 0) (before after : List ℕ) → ((answer : Answer) → P answer → Q answer) → AppendsPart P before after → AppendsPart Q before after
+part_wider P Q before after wider part =
+    record { answer = part.answer; right = wider part.answer part.right; written = part.written; owed = part.owed; whole = part.whole; appended = part.appended }
+
+pub gives_wider : (P Q : Answer → Type 0) (before after : List ℕ) (status : Status) → ((answer : Answer) → P answer → Q answer) → Gives P before after status → Gives Q before after status
+gives_wider P Q before after status wider gives = record {
+  whole = λ not_cut. let all = gives.whole not_cut in record { answer = all.answer; right = wider all.answer all.right; ended = all.ended; appended = all.appended };
+  stopped = λ is. part_wider P Q before after wider (gives.stopped is);
+  unread = λ is. ⊎_elim inl (λ part. inr (part_wider P Q before after wider part)) (gives.unread is);
+  memory = gives.memory;
+}
+
+-- nothing was said yet, and memory is wanting
+pub no_memory : (asking : Asking) (held : List ℕ → Option (List ℕ)) (rose : List ℕ → Type 0) (taken : List ℕ) → Meets asking held rose taken taken Memory
+no_memory asking held rose taken = record {
+  gives = record { whole = λ not_cut. absurd (not_cut (inr (inr refl))); stopped = λ is. cc; unread = λ is. inl refl; memory = λ is. refl };
+  read_fault = λ is. cc;
+}
+
+-- the text that is asked for could not be read
+pub not_read : (name : List ℕ) (next : List ℕ → Asking) (held : List ℕ → Option (List ℕ)) (rose : List ℕ → Type 0) (taken : List ℕ) → rose name →
+    Meets (Asks name next) held rose taken taken ReadFault
+not_read name next held rose taken failed = record {
+  gives = record { whole = λ not_cut. absurd (not_cut (inl refl)); stopped = λ is. cc; unread = λ is. inl refl; memory = λ is. refl };
+  read_fault = λ _. (name, inl refl, failed);
+}
+
+-- the text was read
+pub was_read : (name text : List ℕ) (next : List ℕ → Asking) (held : List ℕ → Option (List ℕ)) (rose : List ℕ → Type 0) (before after : List ℕ) (status : Status) →
+    held name ≡ Some text → Meets (next text) held rose before after status → Meets (Asks name next) held rose before after status
+was_read name text next held rose before after status is meets = record {
+  gives = gives_wider (IsAnswer (next text) held) (IsAnswer (Asks name next) held) before after status (λ answer right. (text, is, right)) meets.gives;
+  read_fault = λ e. let asked = meets.read_fault e in (asked.0, inr (text, is, asked.1), asked.2);
+}
+
+-- what decides how it goes on was found
+pub was_found : (X : Type 0) (Fits : X → Type 0) (next : X → Asking) (x : X) (held : List ℕ → Option (List ℕ)) (rose : List ℕ → Type 0) (before after : List ℕ) (status : Status) →
+    Fits x → Meets (next x) held rose before after status → Meets (Finds X Fits next) held rose before after status
+was_found X Fits next x held rose before after status fits meets = record {
+  gives = gives_wider (IsAnswer (next x) held) (IsAnswer (Finds X Fits next) held) before after status (λ answer right. (x, fits, right)) meets.gives;
+  read_fault = λ e. let asked = meets.read_fault e in (asked.0, (x, fits, asked.1), asked.2);
+}
+
+-- one of the answers that may be given was given, and no read failed
+pub was_given : (asking : Asking) (P : Answer → Type 0) (held : List ℕ → Option (List ℕ)) (rose : List ℕ → Type 0) (before after : List ℕ) (status : Status) →
+    ¬ (status ≡ ReadFault) → ((answer : Answer) → P answer → IsAnswer asking held answer) → Gives P before after status → Meets asking held rose before after status
+was_given asking P held rose before after status no_read right gives = record {
+  gives = gives_wider P (IsAnswer asking held) before after status right gives;
+  read_fault = λ e. absurd (no_read e);
+}
+
+-- a count that rose in a part of a call
+pub meets_weaker : (asking : Asking) (held : List ℕ → Option (List ℕ)) (rose rose' : List ℕ → Type 0) (before after : List ℕ) (status : Status) →
+    ((name : List ℕ) → rose name → rose' name) → Meets asking held rose before after status → Meets asking held rose' before after status
+meets_weaker asking held rose rose' before after status weaker meets = record {
+  gives = meets.gives;
+  read_fault = λ e. let asked = meets.read_fault e in (asked.0, asked.1, weaker asked.0 asked.2);
+}
+
+-- the rest of a call, over files that hold the same texts, met what is asked of the whole call
+pub met_later : (asking : Asking) (held held' : List ℕ → Option (List ℕ)) (rose rose' : List ℕ → Type 0) (before after : List ℕ) (status : Status) →
+    held' ≡ held → ((name : List ℕ) → rose' name → rose name) → Meets asking held' rose' before after status → Meets asking held rose before after status
+met_later asking held held' rose rose' before after status same weaker meets =
+    meets_weaker asking held rose' rose before after status weaker (subst (λ (h : List ℕ → Option (List ℕ)). Meets asking h rose' before after status) same meets)
+
+-- a write of the whole answer stopped
+pub stopped_in : (answer : Answer) (before after : List ℕ) (n : ℕ) → after ≡ before ++ take n answer.bytes → Gives (λ given. given ≡ answer) before after WriteFault
+stopped_in answer before after n appended = record {
+  whole = λ not_cut. absurd (not_cut (inr (inl refl)));
+  stopped = λ _. record { answer = answer; right = refl; written = take n answer.bytes; owed = drop n answer.bytes; whole = take-append-drop n answer.bytes; appended = appended };
+  unread = λ e. cc;
+  memory = λ e. cc;
+}
+
+-- the whole answer was written
+pub all_given : (P : Answer → Type 0) (answer : Answer) (before after : List ℕ) → ¬ IsCut answer.status → P answer → after ≡ before ++ answer.bytes → Gives P before after answer.status
+all_given P answer before after no_cut right appended = record {
+  whole = λ _. record { answer = answer; right = right; ended = refl; appended = appended };
+  stopped = λ e. absurd (no_cut (inr (inl e)));
+  unread = λ e. absurd (no_cut (inl e));
+  memory = λ e. absurd (no_cut (inr (inr e)));
+}
+
+-- ---- what is owed
+
+-- all is owed at first
+pub all_owed : (P : Answer → Type 0) (taken : List ℕ) → Owes P P taken taken
+all_owed P taken = record { written = []; taken = sym (append-nil taken); completes = λ rest right. right }
+
+-- a line was written
+pub owed_less : (P R R' : Answer → Type 0) (line before now after : List ℕ) → Owes P R before now → ((rest : Answer) → R' rest → R (behind line rest)) → after ≡ now ++ line →
+    Owes P R' before after
+owed_less P R R' line before now after owes goes_on more = record {
+  written = owes.written ++ line;
+  taken = more ∙ ap (λ (t : List ℕ). t ++ line) owes.taken ∙ append_assoc before owes.written line;
+  completes = λ rest right. subst (λ (bytes : List ℕ). P (record { bytes = bytes; status = rest.status })) (sym (append_assoc owes.written line rest.bytes)) (owes.completes (behind line rest) (goes_on rest right));
+}
+
+-- what was owed was given
+pub owed_given : (P R : Answer → Type 0) (before now after : List ℕ) (status : Status) → Owes P R before now → Gives R now after status → ¬ (status ≡ Memory) → ¬ (status ≡ ReadFault) →
+    Gives P before after status
+owed_given P R before now after status owes gives no_memory no_read = record {
+  whole = λ not_cut. let all = gives.whole not_cut in record {
+    answer = record { bytes = owes.written ++ all.answer.bytes; status = all.answer.status };
+    right = owes.completes all.answer all.right;
+    ended = all.ended;
+    appended = all.appended ∙ ap (λ (t : List ℕ). t ++ all.answer.bytes) owes.taken ∙ append_assoc before owes.written all.answer.bytes;
+  };
+  stopped = λ is. let part = gives.stopped is in record {
+    answer = record { bytes = owes.written ++ part.answer.bytes; status = part.answer.status };
+    right = owes.completes part.answer part.right;
+    written = owes.written ++ part.written;
+    owed = part.owed;
+    whole = append_assoc owes.written part.written part.owed ∙ ap (λ (t : List ℕ). owes.written ++ t) part.whole;
+    appended = part.appended ∙ ap (λ (t : List ℕ). t ++ part.written) owes.taken ∙ append_assoc before owes.written part.written;
+  };
+  unread = λ is. absurd (no_read is);
+  memory = λ is. absurd (no_memory is);
+}
+
+-- the write of the line that is owed stopped
+pub line_stopped : (P R : Answer → Type 0) (rest : Answer) (line before now after : List ℕ) (n : ℕ) → Owes P R before now → R (behind line rest) → after ≡ now ++ take n line →
+    Gives P before after WriteFault
+line_stopped P R rest line before now after n owes right appended = record {
+  whole = λ not_cut. absurd (not_cut (inr (inl refl)));
+  stopped = λ _. record {
+    answer = record { bytes = owes.written ++ (line ++ rest.bytes); status = rest.status };
+    right = owes.completes (behind line rest) right;
+    written = owes.written ++ take n line;
+    owed = drop n line ++ rest.bytes;
+    whole = append_assoc owes.written (take n line) (drop n line ++ rest.bytes)
+        ∙ sym (ap (λ (t : List ℕ). owes.written ++ t) (append_assoc (take n line) (drop n line) rest.bytes))
+        ∙ ap (λ (t : List ℕ). owes.written ++ (t ++ rest.bytes)) (take-append-drop n line);
+    appended = appended ∙ ap (λ (t : List ℕ). t ++ take n line) owes.taken ∙ append_assoc before owes.written (take n line);
+  };
+  unread = λ e. cc;
+  memory = λ e. cc;
+}
+
+-- memory was wanting before anything was written
+pub nothing_given : (P : Answer → Type 0) (taken : List ℕ) → Gives P taken taken Memory
+nothing_given P taken = record { whole = λ not_cut. absurd (not_cut (inr (inr refl))); stopped = λ is. cc; unread = λ is. cc; memory = λ is. refl }
+
+-- the names of a run are those of its words
+pub any_second : (P : List ℕ → Type 0) (a b : List ℕ) → P b → Any P (a ∷ b ∷ [])
+any_second P a b p = (1, b, omega arith, refl, p)

@@ -1,0 +1,12 @@
+pub mod Asking
+pub mod Lines
+pub mod Meets
+pub mod Program
+pub mod Scaffold
+pub mod Words
+pub mod Resting
+pub mod Room
+pub mod Next
+pub mod Plain
+pub mod Taking
+pub mod Application

@@ -5,7 +5,7 @@ use Rattle.std.proofs.lemmas.List.{length-map}
 use Rattle.ps_model.specs.declared.kind.Kind.{Kind}
 use Rattle.ps_model.specs.declared.pins.PinRow.{PinRow}
 use Rattle.ps_model.specs.Blocks.{Pin, Output, block}
-use Rattle.ps_model.specs.Pins.{pin_count, pin_names, pin_rows, input_row}
+use Rattle.ps_model.specs.Pins.{pin_count, pin_rows, input_row}
 use Rattle.ps_model.specs.Scanning.{pin_at, no_pin}
 
 first_rows : (pins : List Pin) (more : List PinRow) (j : ℕ) → j < length pins →

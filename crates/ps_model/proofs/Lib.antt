@@ -5,6 +5,7 @@ pub mod Outputs
 pub mod Formulas
 pub mod Rest
 pub mod NodePlaces
+pub mod NodeRows
 pub mod Once
 pub mod FirstPins
 pub mod OneSolution
@@ -15,5 +16,3 @@ pub mod Placing
 pub mod Budgeting
 pub mod InputRows
 pub mod Sizing
-pub mod Moving
-pub mod Doing

@@ -1,12 +1,11 @@
 -- What is left of a list.
-use Rattle.std.proofs.Common.{◌≡◌, ℕ, suc, ◌+◌, ◌-◌, ◌<◌, List, [], ◌∷◌, ◌++◌, length, map, drop, get_or, sym, ap, ◌∙◌, refl, arith, length-append, append-nil}
-use Rattle.std.proofs.lemmas.List.{length-map}
+use Rattle.std.proofs.Common.{◌≡◌, ℕ, suc, ◌+◌, ◌-◌, ◌<◌, List, [], ◌∷◌, ◌++◌, length, drop, get_or, sym, ap, ◌∙◌, refl, arith, length-append, append-nil}
 use Rattle.std.specs.Prelude.{slice_set, slice_get, Some}
 use Rattle.std.proofs.lemmas.Option.{slice_get_within, get_or_from_slice_get}
 use Rattle.std.proofs.Math.Seq.{drop-cons}
 use Rattle.ps_model.specs.declared.node.Node.{Node}
 use Rattle.ps_model.specs.declared.node.Shape.{Shape}
-use Rattle.ps_model.specs.Rows.{node_of}
+use Rattle.ps_model.proofs.NodeRows.{AreRowsOf, one_each}
 use Rattle.ps_model.specs.Formula.{Formula}
 
 pub rest_at : {X : Type 0} (xs : List X) (i : ℕ) (x : X) → i < length xs → x ≡ get_or xs i x → drop i xs ≡ x ∷ drop (i + 1) xs
@@ -19,17 +18,18 @@ set_after [] r q more = refl
 set_after (b ∷ before) r q more = ap (λ z. b ∷ z) (set_after before r q more)
 
 -- a node's row gets its size once those below it are written
-pub sized : (rows before : List Node) (r : Node) (shape : Shape) (all : List Formula) (at size : ℕ) →
-    rows ++ [] ≡ before ++ r ∷ map node_of all → at ≡ length before → size ≡ length rows - at →
-    slice_set rows at (record { shape = shape; size = size }) ≡ before ++ record { shape = shape; size = suc (length all) } ∷ map node_of all
-sized rows before r shape all at size e here is =
-    let whole : rows ≡ before ++ r ∷ map node_of all = sym (append-nil rows) ∙ e in
-    let long : length rows ≡ length before + suc (length (map node_of all)) = ap length whole ∙ length-append before (r ∷ map node_of all) in
-    let count : size ≡ suc (length all) = omega (arith, length-map all node_of) in
-    ap (λ z. slice_set z at (record { shape = shape; size = size })) whole
-    ∙ ap (λ z. slice_set (before ++ r ∷ map node_of all) z (record { shape = shape; size = size })) here
-    ∙ set_after before r (record { shape = shape; size = size }) (map node_of all)
-    ∙ ap (λ z. before ++ record { shape = shape; size = z } ∷ map node_of all) count
+pub sized : (rows before : List Node) (r : Node) (shape : Shape) (depth : ℕ) (below : List Node) (all : List Formula) (at size : ℕ) →
+    AreRowsOf below all → rows ++ [] ≡ before ++ r ∷ below → at ≡ length before → size ≡ length rows - at →
+    slice_set rows at (record { shape = shape; size = size; depth = depth }) ≡ before ++ record { shape = shape; size = suc (length all); depth = depth } ∷ below
+sized rows before r shape depth below all at size are e here is =
+    let whole : rows ≡ before ++ r ∷ below = sym (append-nil rows) ∙ e in
+    let long : length rows ≡ length before + suc (length below) = ap length whole ∙ length-append before (r ∷ below) in
+    let each : length below ≡ length all = one_each below all are in
+    let count : size ≡ suc (length all) = omega arith in
+    ap (λ z. slice_set z at (record { shape = shape; size = size; depth = depth })) whole
+    ∙ ap (λ z. slice_set (before ++ r ∷ below) z (record { shape = shape; size = size; depth = depth })) here
+    ∙ set_after before r (record { shape = shape; size = size; depth = depth }) below
+    ∙ ap (λ z. before ++ record { shape = shape; size = z; depth = depth } ∷ below) count
 
 -- a list from a place on
 pub rest_found : {X : Type 0} (xs : List X) (k : ℕ) (x : X) → slice_get xs k ≡ Some x → drop k xs ≡ x ∷ drop (k + 1) xs

@@ -25,7 +25,6 @@ pub mod Sound
 pub mod Obligations
 pub mod Budgets
 pub mod Blank
-pub mod Seeing
 pub mod Places
 pub mod Sized
 pub mod Action
@@ -33,7 +32,6 @@ pub mod Args
 pub mod Steps
 pub mod Scanning
 pub mod Running
-pub mod Evaluating
 pub mod Meaning
 pub mod Apps
 pub mod Typing

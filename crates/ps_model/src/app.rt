@@ -44,7 +44,7 @@ impl App {
     ghost use Rattle.ps_model.specs.Sound.{IsSound};
     ghost use Rattle.ps_model.specs.Steps.{action};
     ghost use Rattle.ps_model.specs.Nodes.{app_nodes};
-    ghost use Rattle.ps_model.specs.Rows.{node_of};
+    ghost use Rattle.ps_model.specs.Rows.{app_rows};
     ghost use Rattle.ps_model.specs.Typing.{signal_type};
     ghost use Rattle.ps_model.specs.Budgets.{turns_a, turns_b};
 
@@ -134,6 +134,7 @@ impl App {
     }
 
     /// The number of expression nodes.
+    #[tactic(auto, using(crate::proofs::NodeRows::row_each))]
     pub fn node_count(&self) -> u32
         ensures { result ≡ length (app_nodes self.now) }
     {
@@ -141,9 +142,9 @@ impl App {
         self.steps.nodes().len() as u32
     }
 
-    /// The expression nodes, in the order of steps and pins, each before its operands.
+    /// The rows of the expression nodes, in the order of steps and pins, each before its operands.
     pub fn nodes(&self) -> &[Node]
-        ensures { result.now ≡ map node_of (app_nodes self.now) }
+        ensures { result.now ≡ app_rows self.now }
     {
         self.steps.nodes()
     }

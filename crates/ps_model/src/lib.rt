@@ -10,22 +10,12 @@ pub mod expr;
 pub mod kind;
 pub mod laws;
 pub mod named;
-mod next_actuators;
-mod next_guards;
-mod next_operator;
-mod next_sensors;
 pub mod node;
 mod pin_tables;
 pub mod pins;
 pub mod report;
-pub mod seen;
 pub mod sizes;
-pub mod solve;
-pub mod state;
 pub mod step;
-mod stepping;
-#[cfg(test)]
-mod tests;
 pub mod typing;
 pub mod values;
 

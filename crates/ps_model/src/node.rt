@@ -1,9 +1,9 @@
 // The nodes of an expression, as rows.
 
-ghost use Rattle.std.specs.Prelude.{◌≡◌, ◌++◌, ◌≤◌, OnOk, length, map};
+ghost use Rattle.std.specs.Prelude.{◌≡◌, ◌++◌, ◌≤◌, OnOk, length};
 ghost use Rattle.ps_model.specs.Exprs.{formula};
 ghost use Rattle.ps_model.specs.Nodes.{nodes};
-ghost use Rattle.ps_model.specs.Rows.{node_of};
+ghost use Rattle.ps_model.specs.Rows.{rows_at};
 
 use crate::expr::Expr;
 use ps_base::Memory;
@@ -17,11 +17,13 @@ pub enum Shape {
     Or,
 }
 
-/// A node of an expression, with the number of nodes that it has with all below it.
+/// The row of a node: what it is, how many nodes it has with all below it, and its depth, which is the number
+/// of AND and OR that stand around it within its value. The root of a value has depth 0.
 #[derive(Clone, Copy, PartialEq, Eq, Debug)]
 pub struct Node {
     pub shape: Shape,
     pub size: usize,
+    pub depth: usize,
 }
 
 /// How many nodes an expression has.
@@ -48,40 +50,47 @@ pub fn node_count(e: &Expr) -> u32
     }
 }
 
-/// Writes the nodes of an expression at the end, each before its operands.
-pub fn write_nodes(e: &Expr, rows: &mut Vec<Node>) -> Result<(), Memory>
-    ensures { OnOk result (rows.new.items ≡ rows.old.items ++ map node_of (nodes (formula e.now))) }
+/// Writes the rows of the nodes of an expression at the end, each before its operands. Of the AND and OR that stand
+/// around the expression, `depth` in number, the rows are already written.
+pub fn write_nodes(e: &Expr, depth: usize, rows: &mut Vec<Node>) -> Result<(), Memory>
+    requires { depth ≤ length rows.old.items }
+    ensures { OnOk result (rows.new.items ≡ rows.old.items ++ rows_at depth (formula e.now)) }
 {
     let at = rows.len();
     match e {
         Expr::Signal(s) => rows.push(Node {
             shape: Shape::Signal(*s),
             size: 1,
+            depth,
         })?,
         Expr::And(es) => {
             rows.push(Node {
                 shape: Shape::And,
                 size: 0,
+                depth,
             })?;
             for x in &es.items {
-                write_nodes(x, rows)?;
+                write_nodes(x, depth + 1, rows)?;
             }
             rows[at] = Node {
                 shape: Shape::And,
                 size: rows.len() - at,
+                depth,
             };
         }
         Expr::Or(es) => {
             rows.push(Node {
                 shape: Shape::Or,
                 size: 0,
+                depth,
             })?;
             for x in &es.items {
-                write_nodes(x, rows)?;
+                write_nodes(x, depth + 1, rows)?;
             }
             rows[at] = Node {
                 shape: Shape::Or,
                 size: rows.len() - at,
+                depth,
             };
         }
     }

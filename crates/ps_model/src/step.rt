@@ -107,8 +107,7 @@ impl Args {
 impl Steps {
     ghost use Rattle.std.specs.Prelude.{◌≡◌, [], ◌∷◌, ◌++◌, OnOk, OnErr, ◌<◌, ◌≤◌, All, length, map, Some, slice_get};
     ghost use Rattle.ps_model.specs.Steps.{action};
-    ghost use Rattle.ps_model.specs.Nodes.{nodes_of_steps};
-    ghost use Rattle.ps_model.specs.Rows.{node_of};
+    ghost use Rattle.ps_model.specs.Rows.{rows_of_steps};
 
     /// No steps. It takes no memory.
     pub fn new(alloc: Global) -> Steps
@@ -151,33 +150,32 @@ impl Steps {
         &self.items[k]
     }
 
-    /// The nodes of all values, in the order of steps and pins, each before its operands.
+    /// The rows of the nodes of all values, in the order of steps and pins, each before its operands.
     pub fn nodes(&self) -> &[Node]
-        ensures { result.now ≡ map node_of (nodes_of_steps self.now) }
+        ensures { result.now ≡ rows_of_steps self.now }
     {
         self.nodes.as_slice()
     }
 }
 
-ghost use Rattle.std.specs.Prelude.{◌≡◌, ◌++◌, OnOk, map, flat_map};
+ghost use Rattle.std.specs.Prelude.{◌≡◌, ◌++◌, OnOk, flat_map};
 ghost use Rattle.ps_model.specs.Args.{actual};
 ghost use Rattle.ps_model.specs.Steps.{action};
-ghost use Rattle.ps_model.specs.Nodes.{nodes_at_pin, nodes_of_step};
-ghost use Rattle.ps_model.specs.Rows.{node_of};
+ghost use Rattle.ps_model.specs.Rows.{rows_at_pin, rows_of_step};
 
 // Writes the nodes of an argument at the end.
 fn write_arg(arg: &Arg, rows: &mut Vec<Node>) -> Result<(), Memory>
-    ensures { OnOk result (rows.new.items ≡ rows.old.items ++ map node_of (nodes_at_pin (actual arg.now))) }
+    ensures { OnOk result (rows.new.items ≡ rows.old.items ++ rows_at_pin (actual arg.now)) }
 {
     match arg {
-        Arg::Value(e) => write_nodes(e, rows),
+        Arg::Value(e) => write_nodes(e, 0, rows),
         _ => Ok(()),
     }
 }
 
 // Writes the nodes of the arguments of a call at the end.
 fn write_args(args: &Args, rows: &mut Vec<Node>) -> Result<(), Memory>
-    ensures { OnOk result (rows.new.items ≡ rows.old.items ++ map node_of (flat_map nodes_at_pin args.now)) }
+    ensures { OnOk result (rows.new.items ≡ rows.old.items ++ flat_map rows_at_pin args.now) }
 {
     for j in 0..args.len() {
         write_arg(args.at(j), rows)?;
@@ -187,10 +185,10 @@ fn write_args(args: &Args, rows: &mut Vec<Node>) -> Result<(), Memory>
 
 // Writes the nodes of a step at the end.
 fn write_step(step: &Step, rows: &mut Vec<Node>) -> Result<(), Memory>
-    ensures { OnOk result (rows.new.items ≡ rows.old.items ++ map node_of (nodes_of_step (action step.now))) }
+    ensures { OnOk result (rows.new.items ≡ rows.old.items ++ rows_of_step (action step.now)) }
 {
     match step {
-        Step::Assign { value, .. } => write_nodes(value, rows),
+        Step::Assign { value, .. } => write_nodes(value, 0, rows),
         Step::Call { args, .. } => write_args(args, rows),
     }
 }

@@ -1,8 +1,7 @@
-use Rattle.std.proofs.Common.{◌≡◌, ◌++◌, ◌∷◌, length, map, drop}
+use Rattle.std.proofs.Common.{◌≡◌, ◌<◌, ◌+◌, ◌++◌, ◌∷◌, length, map, drop}
 use Rattle.ps_model.specs.Exprs.{formula, operands}
 use Rattle.ps_model.specs.Formula.{all_of, any_of}
-use Rattle.ps_model.specs.Nodes.{nodes_below}
-use Rattle.ps_model.specs.Rows.{node_of}
+use Rattle.ps_model.specs.Rows.{rows_below}
 use Rattle.ps_model.specs.declared.node.Shape.TheVariants.{And, Or}
 use Rattle.ps_model.proofs.node.+write_nodes.Given as goal
 
@@ -13,14 +12,16 @@ abbrev pub invariant-loop-x : goal.invariant-loop-x
 invariant-loop-x l = record {
   whole : formula l.fn.e ≡ all_of (operands (map formula l.x-items));
   at : l.at ≡ length l.fn.rows.items;
-  written : l.rows.items ++ map node_of (nodes_below (operands (map formula (drop l.x-index l.x-items))))
-      ≡ l.fn.rows.items ++ record { shape = And; size = 0 } ∷ map node_of (nodes_below (operands (map formula l.x-items)));
+  deep : l.fn.depth < length l.rows.items;
+  written : l.rows.items ++ rows_below (l.fn.depth + 1) (operands (map formula (drop l.x-index l.x-items)))
+      ≡ l.fn.rows.items ++ record { shape = And; size = 0; depth = l.fn.depth } ∷ rows_below (l.fn.depth + 1) (operands (map formula l.x-items));
 }
 
 abbrev pub invariant-loop-x-2 : goal.invariant-loop-x-2
 invariant-loop-x-2 l = record {
   whole : formula l.fn.e ≡ any_of (operands (map formula l.x-items));
   at : l.at ≡ length l.fn.rows.items;
-  written : l.rows.items ++ map node_of (nodes_below (operands (map formula (drop l.x-index l.x-items))))
-      ≡ l.fn.rows.items ++ record { shape = Or; size = 0 } ∷ map node_of (nodes_below (operands (map formula l.x-items)));
+  deep : l.fn.depth < length l.rows.items;
+  written : l.rows.items ++ rows_below (l.fn.depth + 1) (operands (map formula (drop l.x-index l.x-items)))
+      ≡ l.fn.rows.items ++ record { shape = Or; size = 0; depth = l.fn.depth } ∷ rows_below (l.fn.depth + 1) (operands (map formula l.x-items));
 }

@@ -2,7 +2,6 @@ use Rattle.std.proofs.Common.{◌≡◌, Some, ap, sym, ◌∙◌, arith}
 use Rattle.std.specs.Prelude.{unwrap_or}
 use Rattle.ps_model.specs.Pins.{input_row}
 use Rattle.ps_model.specs.Scanning.{pin_at}
-use Rattle.ps_model.specs.declared.pins.PinRow.{PinRow}
 use Rattle.ps_model.proofs.InputRows.{row_of_input, inputs_first}
 use Rattle.ps_model.proofs.typing.input_type.Goals as goal
 

@@ -1,116 +1,62 @@
 -- Walking over the operands of a node by the sizes of their nodes.
-use Rattle.std.proofs.Common.{◌≡◌, ℕ, suc, zero, ◌-◌, ◌+◌, ◌≤◌, ◌<◌, true, false, List, [], ◌∷◌, length, map, get_or, Some, sym, ap, ◌∙◌, refl, subst, arith, length-append, ◌&&◌, ◌||◌}
+use Rattle.std.proofs.Common.{◌≡◌, ℕ, suc, zero, ◌-◌, ◌+◌, ◌≤◌, ◌<◌, true, false, List, [], ◌∷◌, length, get_or, Some, sym, ap, ◌∙◌, refl, subst, arith, length-append, ◌&&◌}
 use Rattle.std.specs.Prelude.{slice_get, ◌==◌, nat_le}
 use borrow.Author.Tests.{leb-true}
 use Rattle.ps_flow.specs.declared.certificate.LineRule.TheVariants.{Src}
 use Rattle.ps_flow.specs.Derivation.{line}
-use Rattle.std.specs.List.{list_any, list_all}
-use Rattle.std.proofs.lemmas.Bool.{and_parts, and_from, or_left, eq-eqb, ne_eqb, le-leb}
+use Rattle.std.specs.List.{list_all}
+use Rattle.std.proofs.lemmas.Bool.{and_parts, and_from, eq-eqb, ne_eqb, le-leb}
 use Rattle.ps_model.specs.declared.node.Node.{Node}
 use Rattle.ps_model.specs.Formula.{Formula, Formulas, signal, all_of, any_of, no_operand, operand}
 use Rattle.ps_model.specs.Nodes.{nodes, nodes_below, operand_places}
-use Rattle.ps_model.specs.Rows.{node_of}
+use Rattle.ps_model.specs.Rows.{rows_at, rows_below}
 use Rattle.ps_flow.specs.declared.certificate.CertLine.{CertLine}
 use Rattle.ps_model.specs.Standing.{StandsAt}
 use Rattle.ps_checker.specs.Derives.{spoken, speak_of, is_earlier}
 use Rattle.ps_model.proofs.NodePlaces.{stands_found, first_stands, rest_stands}
-
-pub some_nodes : (e : Formula) → 1 ≤ length (nodes e)
-some_nodes (signal s) = omega arith
-some_nodes (all_of es) = omega arith
-some_nodes (any_of es) = omega arith
+use Rattle.ps_checker.proofs.RowPlaces.{some_nodes, length-rows_at, first_row}
 
 pub root_at : (all : List Formula) (n : ℕ) (e : Formula) → StandsAt all n (nodes e) → slice_get all n ≡ Some e
 root_at all n (signal x) r = stands_found all n (signal x) [] r
 root_at all n (all_of fs) r = stands_found all n (all_of fs) (nodes_below fs) r
 root_at all n (any_of fs) r = stands_found all n (any_of fs) (nodes_below fs) r
 
-pub row_at : (all : List Formula) (n : ℕ) (e : Formula) (d : Node) → slice_get all n ≡ Some e → get_or (map node_of all) n d ≡ node_of e
-row_at [] n e d at = cc
-row_at (f ∷ all) zero e d at = let same : f ≡ e = cc in ap node_of same
-row_at (f ∷ all) (suc n) e d at = row_at all n e d at
-
-pub row_some : (all : List Formula) (n : ℕ) (d : Node) → n < length all → 1 ≤ (get_or (map node_of all) n d).size
-row_some [] n d h = absurd (omega arith)
-row_some (f ∷ all) zero d h = some_nodes f
-row_some (f ∷ all) (suc n) d h = row_some all n d (omega arith)
-
 pub or_same : {X : Type 0} (xs : List X) (k : ℕ) (d e : X) → k < length xs → get_or xs k d ≡ get_or xs k e
 or_same [] k d e h = absurd (omega arith)
 or_same (x ∷ xs) zero d e h = refl
 or_same (x ∷ xs) (suc k) d e h = or_same xs k d e (omega arith)
 
--- these operands are left: they stand from m up to the end
-pub record Left (all : List Formula) (later : Formulas) (m end : ℕ) : Type 0 where
-  pub stands : StandsAt all m (nodes_below later)
+-- the rows of these operands are left: they stand from m up to the end
+pub record Left (rows : List Node) (depth : ℕ) (later : Formulas) (m end : ℕ) : Type 0 where
+  pub stands : StandsAt rows m (rows_below depth later)
   pub up_to : end ≡ m + length (nodes_below later)
 
 -- the one at m, and those after it
-pub next_left : (all : List Formula) (e : Formula) (later : Formulas) (m end : ℕ) → Left all (operand e later) m end → Left all later (m + length (nodes e)) end
-next_left all e later m end l = record {
-  stands = rest_stands all m (m + length (nodes e)) (nodes e) (nodes_below later) refl l.stands;
+pub next_left : (rows : List Node) (depth : ℕ) (e : Formula) (later : Formulas) (m end : ℕ) → Left rows depth (operand e later) m end → Left rows depth later (m + length (nodes e)) end
+next_left rows depth e later m end l = record {
+  stands = rest_stands rows m (m + length (nodes e)) (rows_at depth e) (rows_below depth later) (ap (λ n. m + n) (sym (length-rows_at depth e))) l.stands;
   up_to = let u = l.up_to in omega (arith, length-append (nodes e) (nodes_below later));
 }
 
-pub here_left : (all : List Formula) (e : Formula) (later : Formulas) (m end : ℕ) (d : Node) → Left all (operand e later) m end → (get_or (map node_of all) m d).size ≡ length (nodes e)
-here_left all e later m end d l =
-    ap (λ r. r.size) (row_at all m e d (root_at all m e (first_stands all m (nodes e) (nodes_below later) l.stands)))
+pub here_left : (rows : List Node) (depth : ℕ) (e : Formula) (later : Formulas) (m end : ℕ) (d : Node) → Left rows depth (operand e later) m end → (get_or rows m d).size ≡ length (nodes e)
+here_left rows depth e later m end d l =
+    ap (λ (r : Node). r.size) (first_row rows m depth e d (first_stands rows m (rows_at depth e) (rows_below depth later) l.stands))
 
-module _ (all : List Formula) (start : ℕ) (es : Formulas) (end node : ℕ) where
-  -- none before m is the node
-  pub record AnyLeft (m : ℕ) : Type 0 where
-    pub later : Formulas
-    pub left : Left all later m end
-    pub same : list_any (λ x. x == node) (operand_places start es) ≡ list_any (λ x. x == node) (operand_places m later)
-
-  pub any_start : StandsAt all start (nodes_below es) → end ≡ start + length (nodes_below es) → AnyLeft start
-  any_start s e = record { later = es; left = record { stands = s; up_to = e }; same = refl }
-
-  pub any_end : (m : ℕ) → AnyLeft m → end ≤ m → false ≡ list_any (λ x. x == node) (operand_places start es)
-  any_end m l past = go l.later l.left l.same
-    where
-      go : (later : Formulas) → Left all later m end → list_any (λ x. x == node) (operand_places start es) ≡ list_any (λ x. x == node) (operand_places m later) →
-          false ≡ list_any (λ x. x == node) (operand_places start es)
-      go no_operand k e = sym e
-      go (operand f later) k e = absurd (let u = k.up_to in let some = some_nodes f in omega (arith, length-append (nodes f) (nodes_below later)))
-
-  pub any_here : (m : ℕ) → AnyLeft m → m < end → m ≡ node → true ≡ list_any (λ x. x == node) (operand_places start es)
-  any_here m l inside is = go l.later l.left l.same
-    where
-      go : (later : Formulas) → Left all later m end → list_any (λ x. x == node) (operand_places start es) ≡ list_any (λ x. x == node) (operand_places m later) →
-          true ≡ list_any (λ x. x == node) (operand_places start es)
-      go no_operand k e = absurd (let u = k.up_to in omega arith)
-      go (operand f later) k e = sym (e ∙ or_left (m == node) (list_any (λ x. x == node) (operand_places (m + length (nodes f)) later)) (eq-eqb m node is))
-
-  pub any_next : (m : ℕ) (d : Node) (next : ℕ) → AnyLeft m → m < end → (m ≡ node → ⊥) → next ≡ m + (get_or (map node_of all) m d).size → AnyLeft next
-  any_next m d next l inside other e = go l.later l.left l.same
-    where
-      go : (later : Formulas) → Left all later m end → list_any (λ x. x == node) (operand_places start es) ≡ list_any (λ x. x == node) (operand_places m later) → AnyLeft next
-      go no_operand k same = absurd (let u = k.up_to in omega arith)
-      go (operand f later) k same =
-          let step : next ≡ m + length (nodes f) = e ∙ ap (λ z. m + z) (here_left all f later m end d k) in
-          record {
-            later = later;
-            left = subst (λ z. Left all later z end) (sym step) (next_left all f later m end k);
-            same = same ∙ ap (λ b. b || list_any (λ x. x == node) (operand_places (m + length (nodes f)) later)) (ne_eqb m node other)
-                ∙ ap (λ z. list_any (λ x. x == node) (operand_places z later)) (sym step);
-          }
-
-module _ (all : List Formula) (lines : List CertLine) (start : ℕ) (es : Formulas) (premises : List ℕ) (end : ℕ) where
+module _ (rows : List Node) (depth : ℕ) (lines : List CertLine) (start : ℕ) (es : Formulas) (premises : List ℕ) (end : ℕ) where
   -- those before m have their premises
   pub record SpeakLeft (m : ℕ) (rest : List ℕ) : Type 0 where
     pub later : Formulas
-    pub left : Left all later m end
+    pub left : Left rows depth later m end
     pub same : speak_of lines premises (operand_places start es) ≡ speak_of lines rest (operand_places m later)
 
-  pub speak_start : StandsAt all start (nodes_below es) → end ≡ start + length (nodes_below es) → SpeakLeft start premises
+  pub speak_start : StandsAt rows start (rows_below depth es) → end ≡ start + length (nodes_below es) → SpeakLeft start premises
   speak_start s e = record { later = es; left = record { stands = s; up_to = e }; same = refl }
 
   -- no operand is left for the premise, or it speaks of another node
   pub speak_past : (m : ℕ) (p : ℕ) (rest : List ℕ) → SpeakLeft m (p ∷ rest) → end ≤ m → false ≡ speak_of lines premises (operand_places start es)
   speak_past m p rest l past = go l.later l.left l.same
     where
-      go : (later : Formulas) → Left all later m end → speak_of lines premises (operand_places start es) ≡ speak_of lines (p ∷ rest) (operand_places m later) →
+      go : (later : Formulas) → Left rows depth later m end → speak_of lines premises (operand_places start es) ≡ speak_of lines (p ∷ rest) (operand_places m later) →
           false ≡ speak_of lines premises (operand_places start es)
       go no_operand k e = sym e
       go (operand f later) k e = absurd (let u = k.up_to in let some = some_nodes f in omega (arith, length-append (nodes f) (nodes_below later)))
@@ -124,16 +70,16 @@ module _ (all : List Formula) (lines : List CertLine) (start : ℕ) (es : Formul
       go (operand f later) e = sym (e ∙ ap (λ b. b && speak_of lines rest (operand_places (m + length (nodes f)) later)) (ne_eqb (spoken lines p) m other))
 
   pub speak_next : (m : ℕ) (p : ℕ) (rest : List ℕ) (d : Node) (next : ℕ) → SpeakLeft m (p ∷ rest) → m < end → spoken lines p ≡ m →
-      next ≡ m + (get_or (map node_of all) m d).size → SpeakLeft next rest
+      next ≡ m + (get_or rows m d).size → SpeakLeft next rest
   speak_next m p rest d next l inside speaks e = go l.later l.left l.same
     where
-      go : (later : Formulas) → Left all later m end → speak_of lines premises (operand_places start es) ≡ speak_of lines (p ∷ rest) (operand_places m later) → SpeakLeft next rest
+      go : (later : Formulas) → Left rows depth later m end → speak_of lines premises (operand_places start es) ≡ speak_of lines (p ∷ rest) (operand_places m later) → SpeakLeft next rest
       go no_operand k same = absurd (let u = k.up_to in omega arith)
       go (operand f later) k same =
-          let step : next ≡ m + length (nodes f) = e ∙ ap (λ z. m + z) (here_left all f later m end d k) in
+          let step : next ≡ m + length (nodes f) = e ∙ ap (λ z. m + z) (here_left rows depth f later m end d k) in
           record {
             later = later;
-            left = subst (λ z. Left all later z end) (sym step) (next_left all f later m end k);
+            left = subst (λ z. Left rows depth later z end) (sym step) (next_left rows depth f later m end k);
             same = same ∙ ap (λ b. b && speak_of lines rest (operand_places (m + length (nodes f)) later)) (eq-eqb (spoken lines p) m speaks)
                 ∙ ap (λ z. speak_of lines rest (operand_places z later)) (sym step);
           }
@@ -142,7 +88,7 @@ module _ (all : List Formula) (lines : List CertLine) (start : ℕ) (es : Formul
   pub speak_end : (m : ℕ) (rest : List ℕ) → SpeakLeft m rest → rest ≡ [] → (m == end) ≡ speak_of lines premises (operand_places start es)
   speak_end m rest l none = go l.later l.left (l.same ∙ ap (λ r. speak_of lines r (operand_places m l.later)) none)
     where
-      go : (later : Formulas) → Left all later m end → speak_of lines premises (operand_places start es) ≡ speak_of lines [] (operand_places m later) →
+      go : (later : Formulas) → Left rows depth later m end → speak_of lines premises (operand_places start es) ≡ speak_of lines [] (operand_places m later) →
           (m == end) ≡ speak_of lines premises (operand_places start es)
       go no_operand k e = let u = k.up_to in eq-eqb m end (omega arith) ∙ sym e
       go (operand f later) k e =

@@ -1,5 +1,8 @@
 pub mod Sound
+pub mod RowPlaces
+pub mod Operands
 pub mod Left
+pub mod Marking
 pub mod Fits
 pub mod Covered
 pub mod Lawful

@@ -3,3 +3,4 @@ pub mod Derives
 pub mod Objections
 pub mod Fitting
 pub mod Lawful
+pub mod Marks

@@ -8,6 +8,7 @@ ghost use Rattle.ps_model.specs.Blocks.{block};
 ghost use Rattle.ps_model.specs.Formula.{Formula, Formulas};
 ghost use Rattle.ps_model.specs.Network.{instance_count, kind_at, signal_count};
 ghost use Rattle.ps_model.specs.Nodes.{nodes_at_pin, nodes_below, nodes_of_step, app_nodes, operand_places};
+ghost use Rattle.ps_model.specs.Rows.{app_rows, rows_below};
 ghost use Rattle.ps_model.specs.Obligations.{obligation_at, obligations, obligations_at_pins, obligations_of_step};
 ghost use Rattle.ps_model.specs.Scanning.{pin_at};
 ghost use Rattle.ps_model.specs.StepOf.{IsStepOf};
@@ -20,13 +21,13 @@ ghost use Rattle.ps_checker.specs.Fitting.{fits_shape, IsKnown};
 ghost use Rattle.ps_checker.specs.Lawful.{KeepsSkeletons};
 ghost use Rattle.ps_checker.specs.Objections.{Objects, LineBreaks, LiteralMisfits};
 
+use crate::covering::is_covered;
 use crate::objection::{Checked, Objection};
 use ps_base::Rule;
-use ps_base::limits::MOST_NODES;
 use ps_flow::{CertLine, Certificate, LineRule};
 use ps_model::app::App;
 use ps_model::kind::Ty;
-use ps_model::node::{Node, Shape, node_count};
+use ps_model::node::{Node, Shape};
 use ps_model::pins::input_count;
 use ps_model::step::{Arg, Args, Step};
 use ps_model::typing::{input_type, is_safe};
@@ -48,7 +49,7 @@ fn are_earlier(premises: &[u32], i: usize) -> bool
 fn speak_of(app: &App, lines: &[CertLine], premises: &[u32], at: usize, end: usize) -> bool
     requires end { end ≤ length (app_nodes app.now) }
     requires earlier { list_all (is_earlier (length lines.now)) premises.now ≡ true }
-    ensures { (es : Formulas) → StandsAt (app_nodes app.now) at (nodes_below es) → end ≡ at + length (nodes_below es) →
+    ensures { (depth : ℕ) (es : Formulas) → StandsAt (app_rows app.now) at (rows_below depth es) → end ≡ at + length (nodes_below es) →
         result ≡ speak_of lines.now premises.now (operand_places at es) }
 {
     app.sound();
@@ -63,23 +64,19 @@ fn speak_of(app: &App, lines: &[CertLine], premises: &[u32], at: usize, end: usi
     m == end
 }
 
-// Whether a node is one of the operands that stand from node `at` up to node `end`. It goes along them up to that node,
-// so an AND with many operands takes a step for each operand before it.
-fn is_operand(app: &App, at: usize, end: usize, node: usize) -> bool
+// Whether a node is one of the operands, which stand from node `at` up to node `end`, of an AND at this depth. The
+// operands are one deeper than the AND, and what stands below them is deeper still, so one look at the node's own row
+// says it, however many operands there are.
+fn is_operand(app: &App, depth: usize, at: usize, end: usize, node: usize) -> bool
     requires end { end ≤ length (app_nodes app.now) }
-    ensures { (es : Formulas) → StandsAt (app_nodes app.now) at (nodes_below es) → end ≡ at + length (nodes_below es) →
+    ensures { (es : Formulas) → StandsAt (app_rows app.now) at (rows_below (depth + 1) es) → end ≡ at + length (nodes_below es) →
         result ≡ list_any (λ m. m == node) (operand_places at es) }
 {
     app.sound();
-    let nodes = app.nodes();
-    let mut m = at;
-    while m < end {
-        if m == node {
-            return true;
-        }
-        m += nodes[m].size;
+    if node < at || end <= node {
+        return false;
     }
-    false
+    app.nodes()[node].depth.saturating_sub(depth) == 1
 }
 
 // Whether a rule fits a node of this shape, whose operands stand behind it, from node `at` on.
@@ -95,7 +92,7 @@ fn shape_fits(
     requires some { 1 ≤ row.size }
     requires known { IsKnown (signal_count app.now) row.shape }
     requires earlier { list_all (is_earlier (length lines.now)) premises.now ≡ true }
-    ensures { (es : Formulas) → StandsAt (app_nodes app.now) at (nodes_below es) → row.size ≡ 1 + length (nodes_below es) →
+    ensures { (es : Formulas) → StandsAt (app_rows app.now) at (rows_below (row.depth + 1) es) → row.size ≡ 1 + length (nodes_below es) →
         result ≡ fits_shape app.now lines.now rule row.shape premises.now (operand_places at es) }
 {
     app.sound();
@@ -109,7 +106,13 @@ fn shape_fits(
         LineRule::And => match row.shape {
             Shape::Signal(_) => false,
             Shape::And => match premises {
-                [p] => is_operand(app, at, end, lines[*p as usize - 1].node as usize),
+                [p] => is_operand(
+                    app,
+                    row.depth,
+                    at,
+                    end,
+                    lines[*p as usize - 1].node as usize,
+                ),
                 _ => false,
             },
             Shape::Or => false,
@@ -151,7 +154,7 @@ fn line_objection(app: &App, lines: &[CertLine], i: usize) -> Option<Rule>
         (l : CertLine) → slice_get lines.now i ≡ Some l → LineBreaks app.now lines.now i l rule) }
 {
     let l = &lines[i];
-    if l.node as usize >= app.nodes().len() {
+    if l.node >= app.node_count() {
         return Some(Rule::O1);
     }
     if !are_earlier(l.premises.as_slice(), i) {
@@ -209,129 +212,8 @@ fn has_misfit(app: &App) -> bool
     false
 }
 
-// The first line that speaks of a node.
-fn line_of(lines: &[CertLine], node: u32) -> Option<usize>
-    ensures { is_some result ≡ list_any (λ l. l.node == node) lines.now }
-{
-    for (k, l) in lines.iter().enumerate() {
-        if l.node == node {
-            return Some(k);
-        }
-    }
-    None
-}
-
-// Whether a line speaks of a node. It goes on behind the line that was found last and then begins again, since a
-// certificate that was derived has the obligations in order: there all these searches are one pass.
-fn has_line(lines: &[CertLine], last: &mut usize, node: u32) -> bool
-    ensures { result ≡ list_any (λ l. l.node == node) lines.now }
-{
-    let from = (*last).min(lines.len());
-    let (front, back) = lines.split_at(from);
-    if let Some(k) = line_of(back, node) {
-        *last = from.saturating_add(k);
-        return true;
-    }
-    if let Some(k) = line_of(front, node) {
-        *last = k;
-        return true;
-    }
-    false
-}
-
-// How many nodes an argument has.
-fn arg_size(arg: &Arg) -> u32
-    requires { length (nodes_at_pin (actual arg.now)) ≤ MOST_NODES }
-    ensures { result ≡ length (nodes_at_pin (actual arg.now)) }
-{
-    match arg {
-        Arg::Value(e) => node_count(e),
-        Arg::Free | Arg::Lit(_) | Arg::Time(_) => 0,
-    }
-}
-
-// Whether the obligation at a pin, if it is one, has a line.
-fn pin_covered(lines: &[CertLine], last: &mut usize, ty: Ty, arg: &Arg, at: u32) -> bool
-    ensures { result ≡ list_all (has_line lines.now) (obligation_at at ty (actual arg.now)) }
-{
-    match arg {
-        Arg::Value(_) => ty != Ty::Safe || has_line(lines, last, at),
-        Arg::Free | Arg::Lit(_) | Arg::Time(_) => true,
-    }
-}
-
-// The node after a call's last one, if each obligation of the call has a line.
-fn call_covered(
-    app: &App,
-    lines: &[CertLine],
-    last: &mut usize,
-    i: u16,
-    args: &Args,
-    node: u32,
-) -> Option<u32>
-    requires inside { i < instance_count app.now }
-    requires each { length args.now ≡ length (block (kind_at app.now i)).inputs }
-    requires few { node + length (flat_map nodes_at_pin args.now) ≤ MOST_NODES }
-    ensures some { IfSome result (λ after. (after ≡ node + length (flat_map nodes_at_pin args.now))
-        × (list_all (has_line lines.now) (obligations_at_pins node (block (kind_at app.now i)).inputs args.now) ≡ true)) }
-    ensures none { IfNone result (
-        list_all (has_line lines.now) (obligations_at_pins node (block (kind_at app.now i)).inputs args.now) ≡ false) }
-{
-    let kind = app.instance_kind(i);
-    let mut at = node;
-    for j in 0..input_count(kind) {
-        let arg = args.at(j as usize);
-        if !pin_covered(lines, last, input_type(kind, j), arg, at) {
-            return None;
-        }
-        at += arg_size(arg);
-    }
-    Some(at)
-}
-
-// The node after a step's last one, if each obligation of the step has a line.
-fn step_covered(
-    app: &App,
-    lines: &[CertLine],
-    last: &mut usize,
-    step: &Step,
-    node: u32,
-) -> Option<u32>
-    requires step { IsStepOf app.now (action step.now) }
-    requires few { node + length (nodes_of_step (action step.now)) ≤ MOST_NODES }
-    ensures some { IfSome result (λ after. (after ≡ node + length (nodes_of_step (action step.now)))
-        × (list_all (has_line lines.now) (obligations_of_step app.now node (action step.now)) ≡ true)) }
-    ensures none { IfNone result (
-        list_all (has_line lines.now) (obligations_of_step app.now node (action step.now)) ≡ false) }
-{
-    match step {
-        Step::Assign { target, value } => {
-            if is_safe(app, *target) && !has_line(lines, last, node) {
-                return None;
-            }
-            Some(node + node_count(value))
-        }
-        Step::Call { instance, args } => call_covered(app, lines, last, *instance, args, node),
-    }
-}
-
-// Whether each obligation has a line.
-fn is_covered(app: &App, lines: &[CertLine]) -> bool
-    ensures { result ≡ list_all (has_line lines.now) (obligations app.now) }
-{
-    app.sound();
-    let mut last = 0;
-    let mut node = 0;
-    for k in 0..app.step_count() {
-        match step_covered(app, lines, &mut last, app.step(k), node) {
-            Some(after) => node = after,
-            None => return false,
-        }
-    }
-    true
-}
-
-/// Whether a certificate derives an application; otherwise the first objection. It takes no memory.
+/// Whether a certificate derives an application; otherwise the first objection. It takes no memory, and time in
+/// proportion to the lines with their premises and to the application.
 ///
 /// The lines are tried in order, and within a line O1 where its node does not exist, O2 where a premise is not the
 /// number of an earlier line, O3 where its rule does not fit: SRC fits a signal of type SAFEBOOL with no premises, AND
@@ -346,6 +228,7 @@ pub fn check(app: &App, cert: &Certificate) -> Result<Checked, Objection>
     ensures objects { IfErr result (λ o. Objects app.now cert.now o.line o.rule) }
     ensures refuses { OnErr result (Derives app.now cert.now → ⊥) }
 {
+    app.sound();
     let lines = cert.lines();
     let count = cert.len();
     for i in 0..lines.len() {

@@ -2,6 +2,7 @@
 #![tactic(auto)]
 
 pub mod checking;
+mod covering;
 pub mod laws;
 pub mod objection;
 

@@ -1,7 +1,12 @@
-use Rattle.std.proofs.Common.{arith, ap, ◌∙◌, sym, refl, ◌≡◌, ◌+◌, ℕ, List, Some, subst, length}
+use Rattle.std.proofs.Common.{arith, ap, ◌∙◌, sym, refl, ◌≡◌, ◌<◌, ◌+◌, ℕ, List, Some, subst, length, get_or, []}
 use Rattle.std.specs.Prelude.{slice_get}
 use Rattle.std.specs.List.{list_all}
-use Rattle.std.proofs.lemmas.Option.{slice_get_within}
+use Rattle.std.proofs.lemmas.Option.{slice_get_within, slice_get-get_or}
+use Rattle.std.proofs.lemmas.List.Elements.{All-from_get_or}
+use Rattle.ps_base.specs.declared.limits.TheConstants.{MOST_NODES}
+use Rattle.ps_model.specs.Nodes.{app_nodes}
+use Rattle.ps_flow.specs.declared.certificate.LineRule.TheVariants.{Src}
+use Rattle.ps_flow.specs.Derivation.{line}
 use Rattle.ps_model.specs.Network.{Network}
 use Rattle.ps_model.specs.Obligations.{obligations}
 use Rattle.ps_model.proofs.Once.{element_at}
@@ -26,6 +31,17 @@ returns-in-Some-clause-objects c =
     let e = element_at c.lines-lines.result.now c.loop-i.i c.loop-i-test.true in
     line_objects c.args.app.now c.args.cert.now c.loop-i.i e.0 c.in-Some.rule c.loop-i.invariant (ap (λ ls. slice_get ls c.loop-i.i) (sym c.lines-lines.ensures) ∙ e.1)
     (subst (λ ls. LineBreaks c.args.app.now ls c.loop-i.i e.0 c.in-Some.rule) c.lines-lines.ensures (c.in-Some.ensures.some e.0 e.1))
+
+-- every line that was tried speaks of a node of the application
+pub is_covered-requires : goal.is_covered-requires
+is_covered-requires c =
+    All-from_get_or (λ (l : CertLine). l.node < MOST_NODES) c.lines-lines.result.now (line 0 Src []) (λ i inside.
+    let here = slice_get-get_or c.lines-lines.result.now i (line 0 Src []) inside in
+    let instance = c.loop-i.invariant i (omega arith) (get_or c.lines-lines.result.now i (line 0 Src [])) (ap (λ ls. slice_get ls i) (sym c.lines-lines.ensures) ∙ here) in
+    let known = slice_get_within (app_nodes c.args.app.now) (get_or c.lines-lines.result.now i (line 0 Src [])).node instance.node instance.exists in
+    let few = c.sound.ensures.few_nodes in
+    omega arith
+    )
 
 pub returns-clause-derives : goal.returns-clause-derives
 returns-clause-derives c = record {

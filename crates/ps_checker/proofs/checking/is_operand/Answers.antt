@@ -1,34 +1,31 @@
-use Rattle.std.proofs.Common.{arith, ap, ◌<◌, ◌+◌, length, get_or, List}
+use Rattle.std.proofs.Common.{◌≡◌, ◌-◌, ◌+◌, List, ap, ◌∙◌, arith, get_or, length}
 use Rattle.ps_model.specs.declared.node.Node.{Node}
-use Rattle.ps_model.specs.Nodes.{app_nodes}
 use Rattle.ps_model.specs.declared.node.Shape.TheVariants.{Signal}
-use Rattle.ps_checker.proofs.Fits.{row_room}
-use Rattle.ps_checker.proofs.Left.{any_here, any_next, any_end, row_some}
+use Rattle.ps_model.specs.Nodes.{app_nodes}
+use Rattle.ps_model.specs.Rows.{app_rows}
+use Rattle.ps_model.proofs.NodeRows.{row_each}
+use Rattle.ps_checker.proofs.Operands.{before_operands, behind_operands, among_operands, one_deeper}
+use Rattle.ps_checker.proofs.checking.is_operand.Goals.{then-node-at-via-then-node-at, then-node-at-via-else-node-at+then-end-node}
 use Rattle.ps_checker.proofs.checking.is_operand.Goals as goal
 
-pub returns-then-m-node : goal.returns-then-m-node
-returns-then-m-node c = λ es s e. any_here (app_nodes c.args.app.now) c.args.at es c.args.end c.args.node c.loop-m.m (c.loop-m.invariant es s e) c.loop-m-test.true c.if-m-node.true
+pub returns-then-node-at : goal.returns-then-node-at
+returns-then-node-at c = λ es s e.
+    elim c.then-node-at.branch [
+      | then-node-at-via-then-node-at w ↦ before_operands c.args.node c.args.at es w.if-node-at.true
+      | then-node-at-via-else-node-at+then-end-node w ↦ behind_operands c.args.node c.args.at es (let past = w.if-end-node.true in omega arith)
+    ]
 
-pub loop-m-smaller : goal.loop-m-smaller
-loop-m-smaller c =
-    let inside : c.loop-m.m < length (app_nodes c.args.app.now) = omega arith in
-    let same = ap (λ (ns : List Node). (get_or ns c.loop-m.m (record { shape = Signal 0; size = 0 })).size) c.nodes-nodes.ensures in
-    let some = row_some (app_nodes c.args.app.now) c.loop-m.m (record { shape = Signal 0; size = 0 }) inside in
+pub offset_bounds-nodes-node : goal.offset_bounds-nodes-node
+offset_bounds-nodes-node c = let few = c.sound.ensures.few_nodes in omega arith
+
+pub bounds-nodes-node : goal.bounds-nodes-node
+bounds-nodes-node c =
+    let each : length c.nodes.result.now ≡ length (app_nodes c.args.app.now) = ap length c.nodes.ensures ∙ row_each c.args.app.now in
     omega arith
-
-pub loop-m-preserved : goal.loop-m-preserved
-loop-m-preserved c = λ es s e.
-    any_next (app_nodes c.args.app.now) c.args.at es c.args.end c.args.node c.loop-m.m (record { shape = Signal 0; size = 0 }) _ (c.loop-m.invariant es s e) c.loop-m-test.true c.if-m-node.false
-    (ap (λ (ns : List Node). c.loop-m.m + (get_or ns c.loop-m.m (record { shape = Signal 0; size = 0 })).size) c.nodes-nodes.ensures)
 
 pub returns : goal.returns
-returns c = λ es s e. any_end (app_nodes c.args.app.now) c.args.at es c.args.end c.args.node c.loop-m.m (c.loop-m.invariant es s e) c.loop-m-test.false
-
-pub overflow_add-m : goal.overflow_add-m
-overflow_add-m c =
-    let d : Node = record { shape = Signal 0; size = 0 } in
-    let inside : c.loop-m.m < length (app_nodes c.args.app.now) = omega arith in
-    let same = ap (λ (ns : List Node). (get_or ns c.loop-m.m d).size) c.nodes-nodes.ensures in
-    let room = row_room c.args.app.now c.loop-m.m d inside in
-    let few = c.sound.ensures.few_nodes in
-    omega arith
+returns c = λ es s e.
+    let d : Node = record { shape = Signal 0; size = 0; depth = 0 } in
+    let row = ap (λ (ns : List Node). (get_or ns c.args.node d).depth) c.nodes.ensures in
+    one_deeper _ c.args.depth _ (c.saturating_sub.ensures ∙ ap (λ n. n - c.args.depth) row)
+    ∙ among_operands c.args.node (app_rows c.args.app.now) (c.args.depth + 1) c.args.at es d s (omega arith) (let inside = c.if-end-node.false in omega arith)

@@ -91,3 +91,56 @@ fn guard_monitoring_that_starts_alone(rt: HostRuntime) {
     ];
     walk::<GuardMonitoring>(&rt, 100, &scans);
 }
+
+// Asserts of each sixteen bytes whether they load: the DiagCode, the last Reset, the last auxiliary input, the
+// latched mode, the time, and seven bytes that are 0.
+fn load_each<B: SafetyBlock>(rt: &impl Abort, rows: &[(u128, bool)]) {
+    for (bytes, loads) in rows {
+        let state = B::load(&bytes.to_be_bytes());
+        assert_eq!(rt; state.is_some(), *loads, "at {bytes:x}");
+    }
+}
+
+#[test]
+fn guard_monitoring_loads(rt: HostRuntime) {
+    let rows = [
+        (0x8000_00_00_00_01020304_00000000000000, true),
+        (0x8012_00_00_00_01020304_00000000000000, true),
+        (0xC012_00_00_00_01020304_00000000000000, true),
+        (0x0000_00_00_00_FFFFFFFF_00000000000000, true),
+        (0x8011_00_00_00_01020304_00000000000000, false),
+        (0xC002_00_00_00_01020304_00000000000000, false),
+        (0x0080_00_00_00_01020304_00000000000000, false),
+        (0x8000_01_00_00_01020304_00000000000000, true),
+        (0x0000_01_00_00_01020304_00000000000000, true),
+        (0x8000_02_00_00_01020304_00000000000000, false),
+        (0x8000_00_01_00_01020304_00000000000000, false),
+        (0x8000_00_02_00_01020304_00000000000000, false),
+        (0x8000_00_00_01_01020304_00000000000000, false),
+        (0x8000_00_00_00_01020304_01000000000000, false),
+        (0x8000_00_00_00_01020304_00000000000001, false),
+    ];
+    load_each::<GuardMonitoring>(&rt, &rows);
+}
+
+#[test]
+fn guard_locking_loads(rt: HostRuntime) {
+    let rows = [
+        (0x8000_00_00_00_01020304_00000000000000, true),
+        (0x8011_00_00_00_01020304_00000000000000, true),
+        (0xC004_00_00_00_01020304_00000000000000, true),
+        (0x0000_00_00_00_FFFFFFFF_00000000000000, true),
+        (0x8002_00_00_00_01020304_00000000000000, false),
+        (0xC011_00_00_00_01020304_00000000000000, false),
+        (0x0080_00_00_00_01020304_00000000000000, false),
+        (0x8000_01_00_00_01020304_00000000000000, true),
+        (0x0000_01_00_00_01020304_00000000000000, true),
+        (0x8000_02_00_00_01020304_00000000000000, false),
+        (0x8000_00_01_00_01020304_00000000000000, false),
+        (0x8000_00_02_00_01020304_00000000000000, false),
+        (0x8000_00_00_01_01020304_00000000000000, false),
+        (0x8000_00_00_00_01020304_01000000000000, false),
+        (0x8000_00_00_00_01020304_00000000000001, false),
+    ];
+    load_each::<GuardLocking>(&rt, &rows);
+}

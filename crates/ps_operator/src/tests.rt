@@ -148,42 +148,105 @@ fn enable_switch_with_held_reset(rt: HostRuntime) {
     walk::<EnableSwitch>(&rt, 0, &scans);
 }
 
-// Whether sixteen bytes load for a kind: a code, bytes 2 to 4, and byte 9.
-fn loads<B: SafetyBlock>(code: [u8; 2], reset: u8, auxiliary: u8, mode: u8, last: u8) -> bool {
-    let [high, low] = code;
-    let bytes = [
-        high, low, reset, auxiliary, mode, 1, 2, 3, 4, last, 0, 0, 0, 0, 0, 0,
-    ];
-    B::load(&bytes).is_some()
-}
-
-#[test]
-fn mode_selector_loads(rt: HostRuntime) {
-    for (code, reset, auxiliary, mode, last, want) in [
-        ([0x80, 0x00], 1, 1, 7, 0, true),
-        ([0x80, 0x04], 0, 1, 0, 0, true),
-        ([0x00, 0x00], 1, 0, 0, 0, true),
-        ([0x80, 0x00], 1, 1, 8, 0, false),
-        ([0x80, 0x05], 0, 0, 1, 0, false),
-        ([0x80, 0x01], 0, 0, 0, 0, false),
-        ([0x80, 0x05], 2, 0, 0, 0, false),
-        ([0x80, 0x05], 0, 2, 0, 0, false),
-        ([0x80, 0x05], 0, 0, 0, 1, false),
-    ] {
-        let found = loads::<ModeSelector>(code, reset, auxiliary, mode, last);
-        assert_eq!(rt;
-            found,
-            want,
-            "at {code:?} {reset} {auxiliary} {mode} {last}"
-        );
+// Asserts of each sixteen bytes whether they load: the DiagCode, the last Reset, the last auxiliary input, the
+// latched mode, the time, and seven bytes that are 0.
+fn load_each<B: SafetyBlock>(rt: &impl Abort, rows: &[(u128, bool)]) {
+    for (bytes, loads) in rows {
+        let state = B::load(&bytes.to_be_bytes());
+        assert_eq!(rt; state.is_some(), *loads, "at {bytes:x}");
     }
 }
 
 #[test]
-fn others_load(rt: HostRuntime) {
-    assert!(rt; loads::<TwoHandTwo>([0x80, 0x19], 0, 0, 0, 0));
-    assert!(rt; !loads::<TwoHandTwo>([0x80, 0x19], 1, 0, 0, 0));
-    assert!(rt; !loads::<TwoHandTwo>([0xC0, 0x04], 0, 0, 0, 0));
-    assert!(rt; loads::<EnableSwitch>([0xC0, 0x40], 1, 0, 0, 0));
-    assert!(rt; !loads::<EnableSwitch>([0xC0, 0x40], 1, 1, 0, 0));
+fn mode_selector_loads(rt: HostRuntime) {
+    let rows = [
+        (0x8000_00_00_00_01020304_00000000000000, true),
+        (0x8005_00_00_00_01020304_00000000000000, true),
+        (0xC004_00_00_00_01020304_00000000000000, true),
+        (0x0000_00_00_00_FFFFFFFF_00000000000000, true),
+        (0x8001_00_00_00_01020304_00000000000000, false),
+        (0xC005_00_00_00_01020304_00000000000000, false),
+        (0x0080_00_00_00_01020304_00000000000000, false),
+        (0x8000_01_00_00_01020304_00000000000000, true),
+        (0x0000_01_00_00_01020304_00000000000000, true),
+        (0x8000_02_00_00_01020304_00000000000000, false),
+        (0x8000_00_01_00_01020304_00000000000000, true),
+        (0x8000_00_02_00_01020304_00000000000000, false),
+        (0x8000_00_00_07_01020304_00000000000000, true),
+        (0x8004_00_00_07_01020304_00000000000000, true),
+        (0x8000_00_00_08_01020304_00000000000000, false),
+        (0x8004_00_00_FF_01020304_00000000000000, false),
+        (0x8005_00_00_01_01020304_00000000000000, false),
+        (0xC001_00_00_07_01020304_00000000000000, false),
+        (0x0000_00_00_01_01020304_00000000000000, false),
+        (0x8000_00_00_00_01020304_01000000000000, false),
+        (0x8000_00_00_00_01020304_00000000000001, false),
+    ];
+    load_each::<ModeSelector>(&rt, &rows);
+}
+
+#[test]
+fn two_hand_two_loads(rt: HostRuntime) {
+    let rows = [
+        (0x8000_00_00_00_01020304_00000000000000, true),
+        (0x8019_00_00_00_01020304_00000000000000, true),
+        (0xC003_00_00_00_01020304_00000000000000, true),
+        (0x0000_00_00_00_FFFFFFFF_00000000000000, true),
+        (0x8002_00_00_00_01020304_00000000000000, false),
+        (0xC004_00_00_00_01020304_00000000000000, false),
+        (0x0080_00_00_00_01020304_00000000000000, false),
+        (0x8000_01_00_00_01020304_00000000000000, false),
+        (0x0000_01_00_00_01020304_00000000000000, false),
+        (0x8000_02_00_00_01020304_00000000000000, false),
+        (0x8000_00_01_00_01020304_00000000000000, false),
+        (0x8000_00_02_00_01020304_00000000000000, false),
+        (0x8000_00_00_01_01020304_00000000000000, false),
+        (0x8000_00_00_00_01020304_01000000000000, false),
+        (0x8000_00_00_00_01020304_00000000000001, false),
+    ];
+    load_each::<TwoHandTwo>(&rt, &rows);
+}
+
+#[test]
+fn two_hand_three_loads(rt: HostRuntime) {
+    let rows = [
+        (0x8000_00_00_00_01020304_00000000000000, true),
+        (0x8009_00_00_00_01020304_00000000000000, true),
+        (0xC006_00_00_00_01020304_00000000000000, true),
+        (0x0000_00_00_00_FFFFFFFF_00000000000000, true),
+        (0x8002_00_00_00_01020304_00000000000000, false),
+        (0xC007_00_00_00_01020304_00000000000000, false),
+        (0x0080_00_00_00_01020304_00000000000000, false),
+        (0x8000_01_00_00_01020304_00000000000000, false),
+        (0x0000_01_00_00_01020304_00000000000000, false),
+        (0x8000_02_00_00_01020304_00000000000000, false),
+        (0x8000_00_01_00_01020304_00000000000000, false),
+        (0x8000_00_02_00_01020304_00000000000000, false),
+        (0x8000_00_00_01_01020304_00000000000000, false),
+        (0x8000_00_00_00_01020304_01000000000000, false),
+        (0x8000_00_00_00_01020304_00000000000001, false),
+    ];
+    load_each::<TwoHandThree>(&rt, &rows);
+}
+
+#[test]
+fn enable_switch_loads(rt: HostRuntime) {
+    let rows = [
+        (0x8000_00_00_00_01020304_00000000000000, true),
+        (0x8007_00_00_00_01020304_00000000000000, true),
+        (0xC040_00_00_00_01020304_00000000000000, true),
+        (0x0000_00_00_00_FFFFFFFF_00000000000000, true),
+        (0x8001_00_00_00_01020304_00000000000000, false),
+        (0xC003_00_00_00_01020304_00000000000000, false),
+        (0x0080_00_00_00_01020304_00000000000000, false),
+        (0x8000_01_00_00_01020304_00000000000000, true),
+        (0x0000_01_00_00_01020304_00000000000000, true),
+        (0x8000_02_00_00_01020304_00000000000000, false),
+        (0x8000_00_01_00_01020304_00000000000000, false),
+        (0x8000_00_02_00_01020304_00000000000000, false),
+        (0x8000_00_00_01_01020304_00000000000000, false),
+        (0x8000_00_00_00_01020304_01000000000000, false),
+        (0x8000_00_00_00_01020304_00000000000001, false),
+    ];
+    load_each::<EnableSwitch>(&rt, &rows);
 }

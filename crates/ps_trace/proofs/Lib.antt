@@ -1,6 +1,9 @@
 pub mod Numbers
 pub mod WordLemmas
+pub mod PlainLemmas
 pub mod SaidLemmas
 pub mod HeaderLemmas
 pub mod ScanLemmas
 pub mod FaultLemmas
+pub mod WholeFile
+mod GoingOn

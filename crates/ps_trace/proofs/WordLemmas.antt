@@ -5,7 +5,7 @@ use Rattle.std.proofs.lemmas.List.{drop_all, drop_more, get_or-drop}
 use Rattle.ps_trace.specs.Words.{is_blank, words, before_words, onto_word, IsNextWord, AreBlank}
 
 -- a blank in front changes no word
-words-blank : (b : ℕ) (bytes : List ℕ) → is_blank b ≡ true → words (b ∷ bytes) ≡ words bytes
+pub words-blank : (b : ℕ) (bytes : List ℕ) → is_blank b ≡ true → words (b ∷ bytes) ≡ words bytes
 words-blank b bytes blank = grind (arith, common_steps)
 
 -- blanks in front change no word
@@ -20,7 +20,7 @@ words-blanks (suc n) line at within blanks =
     ap words next ∙ words-blank (get_or line at 0) (drop (at + 1) line) first ∙ rest ∙ ap (λ (k : ℕ). words (drop k line)) same
 
 -- a word of one byte, behind which a blank or nothing stands
-words-one : (b : ℕ) (bytes : List ℕ) → is_blank b ≡ false → (0 < length bytes → is_blank (get_or bytes 0 0) ≡ true) → words (b ∷ bytes) ≡ (b ∷ []) ∷ words bytes
+pub words-one : (b : ℕ) (bytes : List ℕ) → is_blank b ≡ false → (0 < length bytes → is_blank (get_or bytes 0 0) ≡ true) → words (b ∷ bytes) ≡ (b ∷ []) ∷ words bytes
 words-one b [] plain ends = grind (arith, common_steps)
 words-one b (c ∷ bytes) plain ends =
     let blank : is_blank c ≡ true = ends (omega arith) in

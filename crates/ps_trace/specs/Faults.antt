@@ -1,5 +1,5 @@
 -- What a fault file says.
-use Rattle.std.specs.Prelude.{ℕ, List, [], ◌∷◌, ◌+◌, Bool, true, false, not, ◌==◌, ◌||◌, ◌&&◌, nat_lt, nat_le, if◌then◌else◌, Option, Some, None, Result, Ok, Err, length, codes}
+use Rattle.std.specs.Prelude.{ℕ, List, [], ◌∷◌, ◌+◌, ◌*◌, Bool, true, false, not, ◌==◌, ◌||◌, ◌&&◌, nat_lt, nat_le, if◌then◌else◌, Option, Some, None, Result, Ok, Err, length, map, codes}
 use Rattle.std.specs.Str.{bytes_eq}
 use Rattle.hex.specs.Hex.{decode_of}
 use Rattle.hex.specs.declared.error.FromHexError.{FromHexError}
@@ -7,7 +7,7 @@ use Rattle.ps_base.specs.declared.failing.Rule.{Rule}
 use Rattle.ps_base.specs.declared.failing.Rule.TheVariants.{F1, F2, F3, F4, F5}
 use Rattle.ps_base.specs.declared.failing.Refusal.{Refusal}
 use Rattle.ps_base.specs.declared.limits.TheConstants.{MOST_FAULT_LINES, LONGEST_FAULT_LINE, MOST_FAULT_BYTES}
-use Rattle.ps_lines.specs.Lines.{Line, lines_at}
+use Rattle.ps_lines.specs.Lines.{Line, kept_of, raw_lines}
 use Rattle.ps_lines.specs.Lines.Line.{Kept, KeptLast, Long, Large}
 use Rattle.ps_model.specs.declared.channel.Channel.{Channel}
 use Rattle.ps_model.specs.declared.channel.Channel.TheVariants.{A, B}
@@ -45,9 +45,9 @@ abbrev pub value_if_ok : Result (List ℕ) FromHexError → Option (List ℕ)
 value_if_ok (Ok bytes) = Some bytes
 value_if_ok (Err error) = None
 
--- the bytes that a word is: 2 to 512 hexadecimal digits of either case, an even number
+-- the bytes that a word is: some, and as many as a fault may have, by two hexadecimal digits of either case each
 abbrev pub bytes_said : List ℕ → Option (List ℕ)
-bytes_said word = if nat_lt 0 (length word) && nat_le (length word) 512 then value_if_ok (decode_of word) else None
+bytes_said word = if nat_lt 0 (length word) && nat_le (length word) (2 * MOST_FAULT_BYTES) then value_if_ok (decode_of word) else None
 
 -- a fault, where each of its parts is right
 abbrev pub made : (scan turn : Option ℕ) → Option Channel → Option Region → Option ℕ → Option (List ℕ) → Option Fault
@@ -156,13 +156,9 @@ faults_from sizes before number (line ∷ lines) =
     onto_faults (struck_of sizes before number line) number
     (faults_from sizes (before_next (struck_of sizes before number line) before) (number_after line number) lines)
 
--- more bytes than 1,001 lines of the longest length, with their line feeds, so a text that is larger breaks F1 or F5
-abbrev pub largest_fault_file : ℕ
-largest_fault_file = 1000000
-
--- the lines of a fault file
+-- the lines of a fault file, which has no largest size
 abbrev pub fault_lines : List ℕ → List Line
-fault_lines text = lines_at largest_fault_file LONGEST_FAULT_LINE text 0
+fault_lines text = map (kept_of LONGEST_FAULT_LINE) (raw_lines text)
 
 -- the faults that a fault file gives, or its first refusal
 abbrev pub faults_of : List ℕ → ImageSizes → FaultList

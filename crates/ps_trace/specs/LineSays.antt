@@ -1,5 +1,6 @@
 -- What the code says of a line.
-use Rattle.std.specs.Prelude.{List, Bool}
+use Rattle.std.specs.Prelude.{◌≡◌, ◌<◌, ℕ, List, [], ◌∷◌, Bool, true, false, length, slice_index}
+use Rattle.ps_trace.specs.Words.{is_blank}
 use Rattle.ps_trace.specs.Trace.{Said}
 use Rattle.ps_trace.specs.Trace.Said.{skips, restarts, scans, breaks}
 use Rattle.ps_trace.specs.declared.scan_line.LineSays.{LineSays}
@@ -11,3 +12,12 @@ said_by Nothing values = skips
 said_by Restart values = restarts
 said_by (Scan now) values = scans now values
 said_by (Broken rule) values = breaks rule
+
+-- the word of a value
+abbrev pub word_of : Bool → List ℕ
+word_of false = 48 ∷ []
+word_of true = 49 ∷ []
+
+-- no byte of these belongs to a word that ends in front of them
+abbrev pub IsApart : List ℕ → Type 0
+IsApart bytes = 0 < length bytes → is_blank (slice_index bytes 0) ≡ true

@@ -1,6 +1,7 @@
 -- What a reader of a trace has read, and what is left.
 use Rattle.std.specs.Prelude.{◌≡◌, ◌<◌, ◌≤◌, ℕ, List, [], ◌∷◌, Bool, Option, Some, None, Result, Ok, Err, length}
 use Rattle.ps_base.specs.declared.failing.Refusal.{Refusal}
+use Rattle.ps_base.specs.declared.limits.TheConstants.{LARGEST_TRACE}
 use Rattle.ps_lines.specs.Reader.{IsReading, left, begin_of, name_of}
 use Rattle.ps_model.specs.Meaning.{Item}
 use Rattle.ps_model.specs.Meaning.Item.{scan, restart}
@@ -63,6 +64,16 @@ abbrev pub Fills : Next → TraceReader → TraceReader → Scan → Scan → Ty
 Fills NextScan old new before after = (length after.ins ≡ length before.ins) × (last_of old ≤ after.now) × (last_of new ≡ after.now)
 Fills NextRestart old new before after = (after ≡ before) × (last_of new ≡ last_of old)
 Fills NextEnd old new before after = (after ≡ before) × (last_of new ≡ last_of old)
+
+-- where the reader's next line begins in its text
+abbrev pub place_of : TraceReader → ℕ
+place_of reader = begin_of reader.lines
+
+-- an item takes the reader on, and within the largest trace
+abbrev pub GoesOn : Next → TraceReader → TraceReader → Type 0
+GoesOn NextScan old new = (place_of old < place_of new) × (place_of new ≤ LARGEST_TRACE)
+GoesOn NextRestart old new = (place_of old < place_of new) × (place_of new ≤ LARGEST_TRACE)
+GoesOn NextEnd old new = Unit {0}
 
 -- the header stands, or this refusal stands in its place
 abbrev pub IsHeaded : Headed → Type 0

@@ -20,10 +20,13 @@ use ps_model::channel::{Channel, Fault, ImageSizes, Region};
 use ps_outside::Files;
 use std::alloc::Global;
 
-// A text that is larger has a line that is too long, or more lines than a fault file may have.
+// The bytes of as many lines as a fault file may have, of the longest length and with their line feeds. The line that
+// has a byte behind them is refused in any case: it is line 1,001, or too long, or one before it was.
+const LARGEST_READ: u32 = MOST_FAULT_LINES * (LONGEST_FAULT_LINE + 1);
+
 const LIMITS: Limits = Limits {
     longest: LONGEST_FAULT_LINE,
-    largest: 1_000_000,
+    largest: LARGEST_READ,
 };
 
 // The scan and the turn of the fault line before, and the channel of the first one.

@@ -6,6 +6,7 @@ ghost use Rattle.ps_trace.specs.Words.{number_of, words};
 ghost use Rattle.ps_trace.specs.Faults.{above_zero, bytes_said, channel_of, fault_said, first_of, made, others_of, region_of, target_said};
 
 use crate::words::{next_word, number};
+use ps_base::limits::MOST_FAULT_BYTES;
 use ps_base::{Bytes, Memory};
 use ps_model::channel::{Channel, Fault, Region};
 use std::alloc::Global;
@@ -131,12 +132,12 @@ fn region_named(word: &[u8]) -> Option<Region>
     }
 }
 
-// The bytes that a word is: 2 to 512 hexadecimal digits of either case, an even number.
+// The bytes that a word is: 1 to MOST_FAULT_BYTES of them, by two hexadecimal digits of either case each.
 fn read_bytes(alloc: Global, word: &[u8]) -> Result<Option<Bytes>, Memory>
     ensures { IfOk result (λ bytes. bytes ≡ bytes_said word.now) }
 {
-    let mut bytes = [0u8; 256];
-    if word.is_empty() || word.len() > 512 {
+    let mut bytes = [0u8; MOST_FAULT_BYTES as usize];
+    if word.is_empty() || word.len() > 2 * bytes.len() {
         return Ok(None);
     }
     let half = &mut bytes[..word.len() / 2];

@@ -1,10 +1,10 @@
 // The lines of a trace after its header.
 
-ghost use Rattle.std.specs.Prelude.{◌≡◌, ◌≤◌, ◌<◌, ◌&&◌, ℕ, IsTrue, List, length, drop, is_some, IfSome, slice_set};
+ghost use Rattle.std.specs.Prelude.{◌≡◌, ◌≤◌, ◌<◌, ◌&&◌, ◌∷◌, ℕ, IsTrue, List, length, map, drop, is_some, IfSome, slice_set};
 ghost use Rattle.std.specs.List.{list_all, filter_map};
 ghost use Rattle.ps_trace.specs.Words.{fields, words};
 ghost use Rattle.ps_trace.specs.Trace.{value_of, is_restart, line_said};
-ghost use Rattle.ps_trace.specs.LineSays.{said_by};
+ghost use Rattle.ps_trace.specs.LineSays.{said_by, word_of, IsApart};
 
 use crate::words::{first_field, next_word, number};
 use ps_base::Rule;
@@ -61,6 +61,50 @@ fn is_restart(word: &[u8], others: usize) -> bool
 
 // Reads the words of a line from `at` on, and puts the values that they are where there is room.
 fn read_values(line: &[u8], at: usize, values: &mut [bool]) -> Values
+    requires { at ≤ length line.now }
+    ensures count { result.count ≡ length (words (drop at line.now)) }
+    ensures proper { result.proper ≡ list_all (λ word. is_some (value_of word)) (words (drop at line.now)) }
+    ensures values { IsTrue result.proper → result.count ≡ length values.old → values.new ≡ filter_map value_of (words (drop at line.now)) }
+{
+    if read_plain(&line[at..], values) {
+        return Values {
+            count: values.len(),
+            proper: true,
+        };
+    }
+    read_words(line, at, values)
+}
+
+// Reads values that stand behind one blank each, one for each place, up to the end, as most lines have them. False:
+// the bytes have another form.
+fn read_plain(bytes: &[u8], values: &mut [bool]) -> bool
+    ensures { IsTrue result → words bytes.now ≡ map word_of values.new }
+{
+    let mut rest = bytes;
+    for i in 0..values.len() {
+        let Some((value, behind)) = plain_value(rest) else {
+            return false;
+        };
+        values[i] = value;
+        rest = behind;
+    }
+    rest.is_empty()
+}
+
+// The value that stands behind one blank, and the bytes behind it.
+fn plain_value(bytes: &[u8]) -> Option<(bool, &[u8])>
+    ensures apart { IfSome result (λ _. IsApart bytes.now) }
+    ensures value { IfSome result (λ found. IsApart found.1.now → words bytes.now ≡ word_of found.0 ∷ words found.1.now) }
+{
+    match bytes {
+        [b' ' | b'\t', b'0', behind @ ..] => Some((false, behind)),
+        [b' ' | b'\t', b'1', behind @ ..] => Some((true, behind)),
+        _ => None,
+    }
+}
+
+// Reads words of any form from `at` on, and puts the values that they are where there is room.
+fn read_words(line: &[u8], at: usize, values: &mut [bool]) -> Values
     requires { at ≤ length line.now }
     ensures count { result.count ≡ length (words (drop at line.now)) }
     ensures proper { result.proper ≡ list_all (λ word. is_some (value_of word)) (words (drop at line.now)) }

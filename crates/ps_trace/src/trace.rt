@@ -104,7 +104,7 @@ pub struct TraceReader {
 }
 
 impl TraceReader {
-    ghost use Rattle.ps_trace.specs.Reading.{IsReadingTrace, IsHeaded, IsRead, Comes, Fills, file_of, input_count_of, items_left, last_of, refusal_of, only_refused};
+    ghost use Rattle.ps_trace.specs.Reading.{IsReadingTrace, IsHeaded, IsRead, Comes, Fills, GoesOn, file_of, input_count_of, items_left, last_of, refusal_of, only_refused};
 
     /// A reader of the trace of this name, behind its header.
     ///
@@ -187,6 +187,7 @@ impl TraceReader {
         ensures reads_nothing { IsSome (refusal_of self.old) → files.new ≡ files.old }
         ensures stays_refused { (refusal : Refusal) → result ≡ Err (TraceStop.Refused refusal) → refusal_of self.new ≡ Some refusal }
         ensures fills { IfOk result (λ next. Fills next self.old self.new into.old into.new) }
+        ensures goes_on { IfOk result (λ next. GoesOn next self.old self.new) }
         ensures unchanged { OnErr result (into.new ≡ into.old) }
         ensures same_time { OnErr result (last_of self.new ≡ last_of self.old) }
         ensures fault { IsErrOf result TraceStop.Fault → Rose (F.faults files.old (file_of self.old)) (F.faults files.new (file_of self.old)) }
@@ -229,6 +230,7 @@ impl TraceReader {
         ensures open { OnOk result (self.new.refusal ≡ None) }
         ensures moves { result ≡ Ok None → begin_of self.old.lines < begin_of self.new.lines }
         ensures fills { (next : Next) → result ≡ Ok (Some next) → Fills next self.old self.new into.old into.new }
+        ensures goes_on { (next : Next) → result ≡ Ok (Some next) → GoesOn next self.old self.new }
         ensures skipped { result ≡ Ok None → into.new ≡ into.old }
         ensures skipped_time { result ≡ Ok None → last_of self.new ≡ last_of self.old }
         ensures unchanged { OnErr result (into.new ≡ into.old) }

@@ -1,20 +1,43 @@
-use Rattle.std.proofs.Common.{◌≡◌, ◌<◌, ◌≤◌, ◌+◌, ◌++◌, ◌∙◌, ℕ, List, [], ◌∷◌, Option, Some, None, Ok, IsTrue, IsSome, subst, sym, ap, append_assoc, arith}
+use Rattle.std.proofs.Common.{◌≡◌, ◌<◌, ◌≤◌, ◌+◌, ◌++◌, ◌∙◌, ℕ, List, [], ◌∷◌, Option, Some, None, Ok, IsTrue, IsSome, refl, subst, sym, ap, append_assoc, arith}
 use Rattle.std.proofs.lemmas.List.{append-nil}
 use Rattle.std.proofs.lemmas.Grind.{common_steps}
-use Rattle.ps_base.specs.declared.limits.TheConstants.{MOST_FAULT_LINES}
-use Rattle.ps_lines.specs.Reader.{Gives, left, line_of, begin_of, read_of, name_of}
+use Rattle.ps_base.specs.declared.limits.TheConstants.{LONGEST_FAULT_LINE, MOST_FAULT_LINES}
+use Rattle.ps_lines.specs.Reader.{Gives, IsFresh, left, line_of, begin_of, read_of, name_of}
+use Rattle.ps_lines.specs.declared.reader.Limits.{Limits}
 use Rattle.ps_lines.specs.declared.reader.Got.{Got}
 use Rattle.ps_lines.specs.declared.reader.Got.TheVariants.{End}
 use Rattle.ps_model.specs.declared.channel.Fault.{Fault}
 use Rattle.ps_trace.specs.Words.{fields}
 use Rattle.ps_trace.specs.declared.fault_file.Before.{Before}
-use Rattle.ps_trace.specs.Faults.{FaultList, faults_of, faults_from, words_struck, before_next}
+use Rattle.ps_trace.specs.declared.fault_file.TheConstants.{LARGEST_READ}
+use Rattle.ps_trace.specs.Faults.{FaultList, faults_of, faults_from, no_fault, words_struck, before_next}
 use Rattle.ps_trace.specs.Faults.Struck.{skipped, strikes, broken}
 use Rattle.ps_trace.specs.FaultSays.{struck_by}
 use Rattle.ps_trace.specs.Feeds.{feeds_of}
 use Rattle.ps_trace.proofs.ScanLemmas.{moved}
 use Rattle.ps_trace.proofs.FaultLemmas.{faults_skip, faults_strike, faults_break, list_is, found_either}
+use Rattle.ps_trace.proofs.WholeFile.{faults_whole}
 use Rattle.ps_trace.proofs.fault_file.read_faults.Goals as goal
+
+pub lines-init : goal.lines-init
+lines-init g c =
+    let fresh : IsFresh (record { longest = LONGEST_FAULT_LINE; largest = LARGEST_READ }) c.in_ok-lines.lines = c.in_ok-lines.ensures.fresh in
+    let first = λ (text : List ℕ). faults_from c.args.sizes.now no_fault 1 (left c.in_ok-lines.lines text) in
+    let all = λ (text : List ℕ). sym (faults_whole text c.args.sizes.now) ∙ ap (faults_from c.args.sizes.now no_fault 1) (sym (fresh.all_left text)) in
+    record {
+      reads = λ tells text is. fresh.reads text;
+      faults = λ tells text is. ap (λ (l : FaultList). l.faults) (all text) ∙ ap (λ (t : List Fault). t ++ (first text).faults) (sym c.new-faults.ensures);
+      refusal = λ tells text is. ap (λ (l : FaultList). l.refusal) (all text);
+      found = λ tells some. absurd (omega (arith, fresh.nothing));
+      fresh = λ none. fresh.nothing;
+      few = omega arith;
+      near = omega (arith, fresh.nothing);
+      limited = ap (λ (limits : Limits). limits.largest) fresh.limits;
+      named = c.in_ok-lines.ensures.name;
+      counts = λ other. omega arith;
+      kept = refl;
+      telling = refl;
+    }
 
 pub returns-then-eq-clause-gives : goal.returns-then-eq-clause-gives
 returns-then-eq-clause-gives g c = λ tells text is.

@@ -1,7 +1,8 @@
 use Rattle.std.proofs.Common.{◌≡◌, ◌≤◌, ◌<◌, ◌+◌, ◌-◌, ◌++◌, ℕ, List, IsTrue, Some, IsSome}
 use Rattle.ps_base.specs.declared.limits.TheConstants.{MOST_FAULT_LINES}
 use Rattle.ps_lines.specs.Reader.{IsReading, left, begin_of, name_of, limits_of, read_of}
-use Rattle.ps_trace.specs.Faults.{faults_of, faults_from, largest_fault_file}
+use Rattle.ps_trace.specs.Faults.{faults_of, faults_from}
+use Rattle.ps_trace.specs.declared.fault_file.TheConstants.{LARGEST_READ}
 use Rattle.ps_trace.proofs.fault_file.read_faults.Given as goal
 
 abbrev pub invariant-lines : goal.invariant-lines
@@ -14,8 +15,8 @@ invariant-lines g l = record {
   found : IsTrue (g.F.Files.tells l.initial.files) → 0 < begin_of l.lines → IsSome (g.F.Files.held l.initial.files l.name);
   fresh : begin_of l.lines ≡ 0 → read_of l.lines ≡ 0;
   few : l.number ≤ MOST_FAULT_LINES + 1;
-  near : begin_of l.lines ≤ largest_fault_file;
-  limited : (limits_of l.lines).largest ≡ largest_fault_file;
+  near : begin_of l.lines ≤ LARGEST_READ;
+  limited : (limits_of l.lines).largest ≡ LARGEST_READ;
   named : name_of l.lines ≡ l.name;
   counts : (other : List ℕ) → g.F.Files.faults l.initial.files other ≤ g.F.Files.faults l.files other;
   kept : g.F.Files.held l.files ≡ g.F.Files.held l.initial.files;
@@ -23,4 +24,4 @@ invariant-lines g l = record {
 }
 
 abbrev pub decreases-lines : goal.decreases-lines
-decreases-lines g l = largest_fault_file + 1 - begin_of l.lines
+decreases-lines g l = LARGEST_READ + 1 - begin_of l.lines

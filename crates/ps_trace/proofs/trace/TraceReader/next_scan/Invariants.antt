@@ -11,6 +11,7 @@ invariant-lines g l = record {
   left : IsTrue (g.F.Files.tells l.initial.files) → (text : List ℕ) → g.F.Files.held l.initial.files (file_of l.initial.self) ≡ Some text →
       IsReadingTrace l.initial.self text → items_left l.self text ≡ items_left l.initial.self text;
   unrefused : l.self.refusal ≡ None;
+  ahead : begin_of l.initial.self.lines ≤ begin_of l.self.lines;
   into : l.into ≡ l.initial.into;
   time : last_of l.self ≡ last_of l.initial.self;
   counts : (other : List ℕ) → g.F.Files.faults l.initial.files other ≤ g.F.Files.faults l.files other;

@@ -2,7 +2,7 @@ use Rattle.std.proofs.Common.{◌≡◌, ◌≤◌, ◌+◌, ◌-◌, ◌&&◌, 
 use Rattle.std.specs.List.{list_all, filter_map}
 use Rattle.ps_trace.specs.Words.{words}
 use Rattle.ps_trace.specs.Trace.{value_of}
-use Rattle.ps_trace.proofs.scan_line.read_values.Given as goal
+use Rattle.ps_trace.proofs.scan_line.read_words.Given as goal
 
 abbrev pub invariant-words : goal.invariant-words
 invariant-words l = record {

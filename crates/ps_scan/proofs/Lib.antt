@@ -1,0 +1,6 @@
+mod Timed
+mod Bitwise
+mod Going
+mod Ending
+mod Showing
+mod Holding

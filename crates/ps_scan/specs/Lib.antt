@@ -1,0 +1,4 @@
+pub mod Instances
+pub mod Cells
+pub mod Scanned
+pub mod Midway

@@ -1,0 +1,88 @@
+// What is kept of an instance between its steps.
+
+ghost use Rattle.std.specs.Prelude.{◌≡◌};
+ghost use Rattle.ps_model.specs.Kept.{fresh, stepped_at};
+ghost use Rattle.ps_block.specs.Pins.{pin_of};
+ghost use Rattle.ps_block.specs.Shown.{Shows};
+ghost use Rattle.ps_scan.specs.Instances.{held, held_by};
+
+use ps_actuators::monitoring::EdmState;
+use ps_actuators::out_control::OutControlState;
+use ps_actuators::safety_request::SafetyRequestState;
+use ps_actuators::{Edm, OutControl, SafetyRequest};
+use ps_block::{Outs, Pins, SafetyBlock};
+use ps_guards::guard_locking::GuardLockingState;
+use ps_guards::guard_monitoring::GuardMonitoringState;
+use ps_guards::{GuardLocking, GuardMonitoring};
+use ps_model::kind::Kind;
+use ps_operator::enable_switch::EnableSwitchState;
+use ps_operator::mode_selector::ModeSelectorState;
+use ps_operator::two_hand_three::TwoHandThreeState;
+use ps_operator::two_hand_two::TwoHandTwoState;
+use ps_operator::{EnableSwitch, ModeSelector, TwoHandThree, TwoHandTwo};
+use ps_sensors::contacts::ContactsState;
+use ps_sensors::stop::StopState;
+use ps_sensors::{Antivalent, EmergencyStop, Equivalent, Espe};
+
+/// The state of an instance's block, by its kind.
+#[derive(Clone, Copy)]
+pub(crate) enum Instance {
+    Equivalent(ContactsState),
+    Antivalent(ContactsState),
+    EmergencyStop(StopState),
+    Espe(StopState),
+    ModeSelector(ModeSelectorState),
+    TwoHandTwo(TwoHandTwoState),
+    TwoHandThree(TwoHandThreeState),
+    GuardMonitoring(GuardMonitoringState),
+    GuardLocking(GuardLockingState),
+    EnableSwitch(EnableSwitchState),
+    SafetyRequest(SafetyRequestState),
+    OutControl(OutControlState),
+    Edm(EdmState),
+}
+
+impl Instance {
+    /// An instance of a kind before its first step.
+    pub(crate) fn fresh(kind: Kind) -> Instance
+        ensures { held_by result ≡ held kind fresh }
+    {
+        match kind {
+            Kind::Equivalent => Instance::Equivalent(Equivalent::fresh()),
+            Kind::Antivalent => Instance::Antivalent(Antivalent::fresh()),
+            Kind::EmergencyStop => Instance::EmergencyStop(EmergencyStop::fresh()),
+            Kind::Espe => Instance::Espe(Espe::fresh()),
+            Kind::ModeSelector => Instance::ModeSelector(ModeSelector::fresh()),
+            Kind::TwoHandTwo => Instance::TwoHandTwo(TwoHandTwo::fresh()),
+            Kind::TwoHandThree => Instance::TwoHandThree(TwoHandThree::fresh()),
+            Kind::GuardMonitoring => Instance::GuardMonitoring(GuardMonitoring::fresh()),
+            Kind::GuardLocking => Instance::GuardLocking(GuardLocking::fresh()),
+            Kind::EnableSwitch => Instance::EnableSwitch(EnableSwitch::fresh()),
+            Kind::SafetyRequest => Instance::SafetyRequest(SafetyRequest::fresh()),
+            Kind::OutControl => Instance::OutControl(OutControl::fresh()),
+            Kind::Edm => Instance::Edm(Edm::fresh()),
+        }
+    }
+
+    /// One step of the instance's block.
+    pub(crate) fn step(&mut self, pins: Pins) -> Outs
+        ensures moves { held_by self.new ≡ held (held_by self.old).kind (stepped_at (held_by self.old).kind pins.limit (pin_of pins.bits) pins.now (held_by self.old).kept) }
+        ensures shows { Shows (held_by self.old).kind result (held_by self.new).kept }
+    {
+        match self {
+            Instance::Equivalent(state) => Equivalent::step(state, pins),
+            Instance::Antivalent(state) => Antivalent::step(state, pins),
+            Instance::EmergencyStop(state) => EmergencyStop::step(state, pins),
+            Instance::Espe(state) => Espe::step(state, pins),
+            Instance::ModeSelector(state) => ModeSelector::step(state, pins),
+            Instance::TwoHandTwo(state) => TwoHandTwo::step(state, pins),
+            Instance::TwoHandThree(state) => TwoHandThree::step(state, pins),
+            Instance::GuardMonitoring(state) => GuardMonitoring::step(state, pins),
+            Instance::GuardLocking(state) => GuardLocking::step(state, pins),
+            Instance::EnableSwitch(state) => EnableSwitch::step(state, pins),
+            Instance::SafetyRequest(state) => SafetyRequest::step(state, pins),
+            Instance::OutControl(state) => OutControl::step(state, pins),
+            Instance::Edm(state) => Edm::step(state, pins),
+        }
+    }
+}

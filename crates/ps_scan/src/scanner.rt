@@ -1,0 +1,173 @@
+// The scans of an application.
+
+ghost use Rattle.std.specs.Prelude.{◌≡◌, ◌+◌, ◌<◌, ◌≤◌, ℕ, length, map, false, replicate, slice_index_or, IfOk};
+ghost use Rattle.std.specs.List.{range_with_len};
+ghost use Rattle.ps_model.specs.Network.{instance_count, signal_count};
+ghost use Rattle.ps_scan.specs.Instances.{held_by};
+ghost use Rattle.ps_scan.specs.Cells.{held_first};
+
+use crate::instance::Instance;
+use crate::pins::write_at;
+use crate::steps::do_steps;
+use ps_base::Memory;
+use ps_block::{Outs, Pins};
+use ps_model::app::App;
+use ps_model::report::Report;
+use ps_model::values::Bits;
+use std::alloc::Global;
+use std::marker::Model;
+
+// Each instance of an application before its first step.
+fn fresh_instances(alloc: Global, app: &App) -> Result<Vec<Instance>, Memory>
+    ensures { IfOk result (λ instances. map held_by instances.items ≡ held_first app.now.instances) }
+{
+    let mut instances = Vec::with_capacity(alloc, app.instance_count() as usize)?;
+    for i in 0..app.instance_count() {
+        instances.push(Instance::fresh(app.instance_kind(i)))?;
+    }
+    Ok(instances)
+}
+
+// So many signals, each FALSE.
+fn false_signals(alloc: Global, app: &App) -> Result<Vec<bool>, Memory>
+    ensures { IfOk result (λ signals. signals.items ≡ replicate (signal_count app.now) false) }
+{
+    Ok(vec![in alloc; false; app.signal_count() as usize]?)
+}
+
+// Makes every signal FALSE.
+fn clear(signals: &mut [bool])
+    ensures each { (s : ℕ) → s < length signals.new → slice_index_or signals.new s false ≡ false }
+    ensures len { length signals.new ≡ length signals.old }
+{
+    for s in 0..signals.len() {
+        signals[s] = false;
+    }
+}
+
+// Makes each instance of an application as it is before its first step.
+fn renew(app: &App, instances: &mut [Instance])
+    requires { length instances.old ≡ instance_count app.now }
+    ensures held { map held_by instances.new ≡ held_first app.now.instances }
+    ensures len { length instances.new ≡ length instances.old }
+{
+    for i in 0..app.instance_count() {
+        instances[i as usize] = Instance::fresh(app.instance_kind(i));
+    }
+}
+
+// Writes what the outputs of an application are.
+fn put_outputs(outs: &mut Bits, signals: &[bool], first: usize)
+    requires room { first + length outs.old ≤ length signals.now }
+    ensures { outs.new ≡ map (λ s. slice_index_or signals.now s false) (range_with_len first (length outs.old)) }
+{
+    for j in 0..outs.len() {
+        outs.set(j, signals[first + j]);
+    }
+}
+
+/// What an application keeps between its scans: a value of each signal and a state of each instance. All memory that its
+/// scans use is taken by `new`.
+#[derive(Drop)]
+pub struct Scanner {
+    signals: Vec<bool>,
+    instances: Vec<Instance>,
+}
+
+impl Model for Scanner {
+    ghost use Rattle.std.specs.Prelude.{map};
+    ghost use Rattle.ps_scan.specs.Instances.{held_by};
+    ghost use Rattle.ps_scan.specs.Cells.{Cells};
+
+    ghost Value = { Cells };
+
+    ghost view = { λ s. record { signals = s.signals.items; instances = map held_by s.instances.items } };
+}
+
+impl Scanner {
+    ghost use Rattle.std.specs.Prelude.{◌≡◌, ◌≢◌, ◌+◌, ◌-◌, ◌<◌, ◌≤◌, ◌&&◌, ℕ, cond, nat_le, nat_lt, IfOk, length, slice_set, slice_index_or, false};
+    ghost use Rattle.ps_model.specs.Network.{input_count, instance_count};
+    ghost use Rattle.ps_model.specs.Meaning.{Since, nothing};
+    ghost use Rattle.ps_model.specs.Kept.{stepped_at};
+    ghost use Rattle.ps_block.specs.Pins.{pin_of};
+    ghost use Rattle.ps_block.specs.Shown.{Shows};
+    ghost use Rattle.ps_scan.specs.Instances.{held};
+    ghost use Rattle.ps_scan.specs.Cells.{IsFor, signal_at, held_at, kept_at};
+    ghost use Rattle.ps_scan.specs.Scanned.{Stands, Scanned, time_of};
+
+    /// A scanner of an application before its first scan. It takes all memory that its scans will use.
+    pub fn new(alloc: Global, app: &App) -> Result<Scanner, Memory>
+        ensures sizes { IfOk result (IsFor app.now) }
+        ensures first { IfOk result (Stands app.now nothing) }
+    {
+        Ok(Scanner {
+            signals: false_signals(alloc, app)?,
+            instances: fresh_instances(alloc, app)?,
+        })
+    }
+
+    /// Begins anew: every signal FALSE and every instance Idle, as before the first scan. It takes no memory.
+    pub fn restart(&mut self, app: &App)
+        requires sizes { IsFor app.now self.old }
+        ensures sizes { IsFor app.now self.new }
+        ensures first { Stands app.now nothing self.new }
+    {
+        clear(self.signals.as_mut_slice());
+        renew(app, self.instances.as_mut_slice());
+    }
+
+    /// The signals.
+    pub(crate) fn signals(&self) -> &[bool]
+        ensures { result.now ≡ self.now.signals }
+    {
+        self.signals.as_slice()
+    }
+
+    /// Sets a signal.
+    pub(crate) fn set_signal(&mut self, s: usize, value: bool)
+        requires { s < length self.old.signals }
+        ensures { self.new ≡ record self.old { signals = slice_set self.old.signals s value } }
+    {
+        self.signals[s] = value;
+    }
+
+    /// Writes values to neighbouring signals.
+    pub(crate) fn write(&mut self, at: usize, values: &[bool])
+        requires room { at + length values.now ≤ length self.old.signals }
+        ensures each { (s : ℕ) → signal_at self.new s ≡ cond (nat_le at s && nat_lt s (at + length values.now)) (slice_index_or values.now (s - at) false) (signal_at self.old s) }
+        ensures len { length self.new.signals ≡ length self.old.signals }
+        ensures instances { self.new.instances ≡ self.old.instances }
+    {
+        write_at(self.signals.as_mut_slice(), at, values);
+    }
+
+    /// One step of an instance.
+    pub(crate) fn step(&mut self, i: usize, pins: Pins) -> Outs
+        requires { i < length self.old.instances }
+        ensures signals { self.new.signals ≡ self.old.signals }
+        ensures len { length self.new.instances ≡ length self.old.instances }
+        ensures other { (j : ℕ) → j ≢ i → held_at self.new j ≡ held_at self.old j }
+        ensures moves { held_at self.new i ≡ held (held_at self.old i).kind (stepped_at (held_at self.old i).kind pins.limit (pin_of pins.bits) pins.now (kept_at self.old i)) }
+        ensures shows { Shows (held_at self.old i).kind result (kept_at self.new i) }
+    {
+        self.instances[i].step(pins)
+    }
+
+    /// A scan at a time in ms, with one value for each input. The report is that of the state that solves the equations
+    /// of the scan. It takes no memory.
+    pub fn scan(&mut self, app: &App, now: u32, ins: &[bool], report: &mut Report)
+        requires sizes { IsFor app.now self.old }
+        requires inputs { length ins.now ≡ input_count app.now }
+        requires outputs { length report.old.outs ≡ length app.now.outputs }
+        requires diagnoses { length report.old.diags ≡ instance_count app.now }
+        ensures sizes { IsFor app.now self.new }
+        ensures outputs { length report.new.outs ≡ length app.now.outputs }
+        ensures diagnoses { length report.new.diags ≡ instance_count app.now }
+        ensures solves { (since : Since) → Stands app.now since self.old → time_of since ≤ now → Scanned app.now since now ins.now report.new self.new }
+    {
+        app.sound();
+        self.write(0, ins);
+        do_steps(app, now, self, &mut report.diags);
+        put_outputs(&mut report.outs, self.signals(), app.input_count() as usize);
+    }
+}

@@ -4,8 +4,9 @@
 use ps_base::{Label, Memory};
 use ps_outside::{DiskFiles, StdSink};
 use ps_top::{Left, Status, Words, top};
+use std::io::{BufWriter, Write};
 use std::process::ExitCode;
-use std::rt::Env;
+use std::rt::{Env, Files};
 use std::{env, io};
 
 /// The exit status where the system does not give the words.
@@ -36,14 +37,39 @@ fn words_of<R: Env + AllocGlobal>(rt: &R) -> io::Result<Words> {
     Ok(words)
 }
 
+// The exit status where there are no words: memory is wanting, or the system does not give them.
+fn without_words(error: &io::Error) -> u8 {
+    match error.kind() {
+        io::ErrorKind::OutOfMemory => number(Status::Memory),
+        _ => NO_WORDS,
+    }
+}
+
+// Does what the words ask, with lines that go to a buffered output, which is flushed at the end. A flush that fails is a
+// write that failed.
+fn run<R: Files + AllocGlobal, W: Write + Drop>(rt: &R, words: &Words, out: &mut W) -> Status {
+    let mut files = DiskFiles::new(rt);
+    let status = top(
+        rt.alloc(),
+        words,
+        &mut files,
+        &mut StdSink::new(&mut *out),
+        &mut Left::new(),
+    );
+    match out.flush() {
+        Ok(()) => status,
+        Err(_) => Status::WriteFault,
+    }
+}
+
 fn main(rt: HostRuntime) -> ExitCode {
     let words = match words_of(&rt) {
         Ok(words) => words,
-        Err(_) => return ExitCode::from(NO_WORDS),
+        Err(error) => return ExitCode::from(without_words(&error)),
     };
-    let mut files = DiskFiles::new(&rt);
-    let mut out = StdSink::new(io::writer(&rt));
-    let mut left = Left::new();
-    let status = top(rt.alloc(), &words, &mut files, &mut out, &mut left);
+    let status = match BufWriter::new(rt.alloc(), io::writer(&rt)) {
+        Ok(mut out) => run(&rt, &words, &mut out),
+        Err(_) => Status::Memory,
+    };
     ExitCode::from(number(status))
 }

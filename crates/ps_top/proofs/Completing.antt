@@ -1,7 +1,7 @@
 -- A call that no fault cut short says all.
-use Rattle.std.proofs.Common.{◌≡◌, ◌⊎◌, ℕ, List, ◌++◌, Option, refl, sym, ap, subst, inl, inr, ⊎_elim, arith}
+use Rattle.std.proofs.Common.{◌≡◌, ◌⊎◌, ℕ, List, Option, refl, sym, subst, inl, inr, ⊎_elim, arith}
 use Rattle.ps_top.specs.Asking.{Answer, Asking, IsAnswer, AsksFor}
-use Rattle.ps_top.specs.Meets.{IsCut, AppendsAll, AppendsPart, Meets}
+use Rattle.ps_top.specs.Meets.{IsCut, AppendsAll, Meets}
 use Rattle.ps_top.specs.Program.{Command, command_of, said, text}
 use Rattle.ps_top.specs.declared.Status.{Status}
 use Rattle.ps_top.specs.declared.Status.TheVariants.{Done, Refused, Usage, BadInput, Tripped, ReadFault, WriteFault, Memory}

@@ -1,10 +1,13 @@
-pub mod Meeting
-pub mod Fields
-pub mod Pieces
-pub mod Assigning
-pub mod Scans
-pub mod Wording
-pub mod Building
-pub mod Answering
-pub mod Answered
-pub mod Completing
+mod Meeting
+mod Completing
+mod Applied
+mod Sourced
+mod Scans
+mod Standing
+mod Placing
+mod Judged
+mod Safe
+mod OneReading
+mod OneBreach
+mod OneJudgement
+mod OneAnswer

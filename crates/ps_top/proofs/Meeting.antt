@@ -1,13 +1,14 @@
 -- How a call comes to meet what it is asked to say.
-use Rattle.std.proofs.Common.{◌≡◌, ◌≤◌, ◌⊎◌, ℕ, List, [], ◌∷◌, ◌++◌, Option, Some, Any, take, drop, refl, sym, ap, ◌∙◌, subst, inl, inr, ⊎_elim, arith, append_assoc, append-nil}
+use Rattle.std.proofs.Common.{◌≡◌, ◌≤◌, ℕ, List, [], ◌∷◌, ◌++◌, Option, Some, Any, take, drop, refl, sym, ap, ◌∙◌, subst, inl, inr, ⊎_elim, arith, append_assoc, append-nil}
 use Rattle.std.proofs.lemmas.List.{take-append-drop}
 use Rattle.ps_outside.specs.Outside.{Rose}
-use Rattle.ps_top.specs.Asking.{Answer, Asking, IsAnswer, AsksFor}
-use Rattle.ps_top.specs.Asking.Asking.{Says, Asks, Finds}
-use Rattle.ps_top.specs.Meets.{IsCut, AppendsAll, AppendsPart, Gives, Meets, Owes}
+use Rattle.ps_checker.specs.Counts.{Counts}
+use Rattle.ps_top.specs.Asking.{Answer, Asking, IsAnswer}
+use Rattle.ps_top.specs.Asking.Asking.{Says, Asks, Finds, Leaves}
+use Rattle.ps_top.specs.Meets.{IsCut, AppendsPart, Gives, Meets, Owes}
 use Rattle.ps_top.specs.Resting.{behind}
 use Rattle.ps_top.specs.declared.Status.{Status}
-use Rattle.ps_top.specs.declared.Status.TheVariants.{Done, Refused, Usage, BadInput, Tripped, ReadFault, WriteFault, Memory}
+use Rattle.ps_top.specs.declared.Status.TheVariants.{ReadFault, WriteFault, Memory}
 
 -- a count that rose in a part of a call rose in the call
 pub rose_earlier : (before mid after : ℕ) → before ≤ mid → Rose mid after → Rose before after
@@ -29,10 +30,14 @@ gives_wider P Q before after status wider gives = record {
   memory = gives.memory;
 }
 
+-- memory was wanting before anything was written
+pub nothing_given : (P : Answer → Type 0) (taken : List ℕ) → Gives P taken taken Memory
+nothing_given P taken = record { whole = λ not_cut. absurd (not_cut (inr (inr refl))); stopped = λ is. cc; unread = λ is. cc; memory = λ is. refl }
+
 -- nothing was said yet, and memory is wanting
 pub no_memory : (asking : Asking) (held : List ℕ → Option (List ℕ)) (rose : List ℕ → Type 0) (taken : List ℕ) → Meets asking held rose taken taken Memory
 no_memory asking held rose taken = record {
-  gives = record { whole = λ not_cut. absurd (not_cut (inr (inr refl))); stopped = λ is. cc; unread = λ is. inl refl; memory = λ is. refl };
+  gives = nothing_given (IsAnswer asking held) taken;
   read_fault = λ is. cc;
 }
 
@@ -60,27 +65,46 @@ was_found X Fits next x held rose before after status fits meets = record {
   read_fault = λ e. let asked = meets.read_fault e in (asked.0, (x, fits, asked.1), asked.2);
 }
 
+-- the same, where counts are left
+pub was_left : (counts : Counts) (next : Asking) (held : List ℕ → Option (List ℕ)) (rose : List ℕ → Type 0) (before after : List ℕ) (status : Status) →
+    Meets next held rose before after status → Meets (Leaves counts next) held rose before after status
+was_left counts next held rose before after status meets = record { gives = meets.gives; read_fault = meets.read_fault }
+
+-- the answer was given
+pub was_said : (said : Answer) (held : List ℕ → Option (List ℕ)) (rose : List ℕ → Type 0) (before after : List ℕ) (status : Status) →
+    ¬ (status ≡ ReadFault) → Gives (λ answer. answer ≡ said) before after status → Meets (Says said) held rose before after status
+was_said said held rose before after status no_read gives = record {
+  gives = gives;
+  read_fault = λ e. absurd (no_read e);
+}
+
 -- one of the answers that may be given was given, and no read failed
 pub was_given : (asking : Asking) (P : Answer → Type 0) (held : List ℕ → Option (List ℕ)) (rose : List ℕ → Type 0) (before after : List ℕ) (status : Status) →
-    ¬ (status ≡ ReadFault) → ((answer : Answer) → P answer → IsAnswer asking held answer) → Gives P before after status → Meets asking held rose before after status
+    ¬ (status ≡ ReadFault) → ((answer : Answer) → P answer → IsAnswer asking held answer) → Gives P before after status →
+    Meets asking held rose before after status
 was_given asking P held rose before after status no_read right gives = record {
   gives = gives_wider P (IsAnswer asking held) before after status right gives;
   read_fault = λ e. absurd (no_read e);
 }
 
--- a count that rose in a part of a call
-pub meets_weaker : (asking : Asking) (held : List ℕ → Option (List ℕ)) (rose rose' : List ℕ → Type 0) (before after : List ℕ) (status : Status) →
-    ((name : List ℕ) → rose name → rose' name) → Meets asking held rose before after status → Meets asking held rose' before after status
-meets_weaker asking held rose rose' before after status weaker meets = record {
-  gives = meets.gives;
-  read_fault = λ e. let asked = meets.read_fault e in (asked.0, asked.1, weaker asked.0 asked.2);
+-- what was read while it was answered was given
+pub was_streamed : (name text : List ℕ) (next : List ℕ → Asking) (P : Answer → Type 0) (held : List ℕ → Option (List ℕ)) (rose : List ℕ → Type 0) (before after : List ℕ) (status : Status) →
+    held name ≡ Some text → (status ≡ ReadFault → rose name) → ((answer : Answer) → P answer → IsAnswer (next text) held answer) →
+    Gives P before after status → Meets (Asks name next) held rose before after status
+was_streamed name text next P held rose before after status is rose_if right gives = record {
+  gives = gives_wider P (IsAnswer (Asks name next) held) before after status (λ answer r. (text, is, right answer r)) gives;
+  read_fault = λ e. (name, inl refl, rose_if e);
 }
 
 -- the rest of a call, over files that hold the same texts, met what is asked of the whole call
 pub met_later : (asking : Asking) (held held' : List ℕ → Option (List ℕ)) (rose rose' : List ℕ → Type 0) (before after : List ℕ) (status : Status) →
     held' ≡ held → ((name : List ℕ) → rose' name → rose name) → Meets asking held' rose' before after status → Meets asking held rose before after status
 met_later asking held held' rose rose' before after status same weaker meets =
-    meets_weaker asking held rose' rose before after status weaker (subst (λ (h : List ℕ → Option (List ℕ)). Meets asking h rose' before after status) same meets)
+    let here = subst (λ (h : List ℕ → Option (List ℕ)). Meets asking h rose' before after status) same meets in
+    record {
+      gives = here.gives;
+      read_fault = λ e. let asked = here.read_fault e in (asked.0, asked.1, weaker asked.0 asked.2);
+    }
 
 -- a write of the whole answer stopped
 pub stopped_in : (answer : Answer) (before after : List ℕ) (n : ℕ) → after ≡ before ++ take n answer.bytes → Gives (λ given. given ≡ answer) before after WriteFault
@@ -156,9 +180,21 @@ line_stopped P R rest line before now after n owes right appended = record {
   memory = λ e. cc;
 }
 
--- memory was wanting before anything was written
-pub nothing_given : (P : Answer → Type 0) (taken : List ℕ) → Gives P taken taken Memory
-nothing_given P taken = record { whole = λ not_cut. absurd (not_cut (inr (inr refl))); stopped = λ is. cc; unread = λ is. cc; memory = λ is. refl }
+-- a read of the rest failed, after a beginning was written
+pub unread_in : (P R : Answer → Type 0) (rest : Answer) (before now : List ℕ) → Owes P R before now → R rest → Gives P before now ReadFault
+unread_in P R rest before now owes right = record {
+  whole = λ not_cut. absurd (not_cut (inl refl));
+  stopped = λ e. cc;
+  unread = λ _. inr (record {
+    answer = record { bytes = owes.written ++ rest.bytes; status = rest.status };
+    right = owes.completes rest right;
+    written = owes.written;
+    owed = rest.bytes;
+    whole = refl;
+    appended = owes.taken;
+  });
+  memory = λ e. cc;
+}
 
 -- the names of a run are those of its words
 pub any_second : (P : List ℕ → Type 0) (a b : List ℕ) → P b → Any P (a ∷ b ∷ [])

@@ -1,49 +1,59 @@
--- What may still be written while the scans of a trace are done.
-use Rattle.std.proofs.Common.{◌≡◌, ◌<◌, ◌≤◌, ◌^◌, ◌+◌, ◌++◌, ◌∷◌, [], ℕ, Bool, List, length, take, drop, IsTrue, refl, sym, ap, ◌∙◌, subst, append_assoc, append-nil, inl, inr, ⊎_elim}
-use Rattle.std.specs.Prelude.{codes}
-use Rattle.ps_model.specs.Network.{Network, input_count}
+-- What is still to be written of the scans of a trace.
+use Rattle.std.proofs.Common.{◌≡◌, ◌++◌, ◌∷◌, [], ℕ, List, Bool, refl, sym, ap, ◌∙◌, subst, append_assoc}
+use Rattle.ps_base.specs.declared.failing.Refusal.{Refusal}
+use Rattle.ps_model.specs.Network.{Network}
+use Rattle.ps_model.specs.Sound.{IsSound}
 use Rattle.ps_model.specs.Scanning.{State, Solves}
-use Rattle.ps_model.specs.Meaning.{Since, nothing, last, scan, old_state, passed, report}
+use Rattle.ps_model.specs.Meaning.{scan, restart, Since, nothing, last, old_state, passed, report}
+use Rattle.ps_model.proofs.Runs.{one_run}
+use Rattle.ps_report.specs.Lines.{report_text}
+use Rattle.ps_report.specs.Short.{refusal_text}
+use Rattle.ps_trace.specs.Scans.{Scans, End}
+use Rattle.ps_trace.specs.Scans.End.{whole}
+use Rattle.ps_trace.specs.Reading.{only_refused}
 use Rattle.ps_top.specs.Asking.{Answer}
-use Rattle.ps_top.specs.Meets.{Gives, Owes}
-use Rattle.ps_top.specs.Lines.{report_line, trace_refusal}
-use Rattle.ps_top.specs.Scaffold.{Begins, scan_text}
-use Rattle.ps_top.specs.Scaffold.End.{Whole, Stops}
-use Rattle.ps_top.specs.Program.{item_lines, end_line, end_status}
+use Rattle.ps_top.specs.Lines.{restart_line}
+use Rattle.ps_top.specs.Program.{answer, told, item_lines, end_line, end_status}
 use Rattle.ps_top.specs.Resting.{IsRest, behind}
-use Rattle.ps_top.specs.declared.Status.{Status}
-use Rattle.ps_top.specs.declared.Status.TheVariants.{Done, BadInput, WriteFault, ReadFault, Memory}
-use Rattle.ps_top.proofs.Meeting.{gives_wider, all_given, owed_less, owed_given, line_stopped}
+use Rattle.ps_top.specs.declared.Status.TheVariants.{Done, BadInput}
 
-module _ (net : Network) (since : Since) (before : ℕ) (text : List ℕ) where
-  -- the text ends
-  pub end_rest : text ≡ [] → IsRest net since before text (record { bytes = []; status = Done })
-  end_rest is = record { told = record { items = []; end = Whole }; tells = is; states = []; runs = refl; is = refl }
+module _ (net : Network) where
+  abbrev pub no_scans : Scans
+  no_scans = record { items = []; end = whole }
 
-  -- a line is refused
-  pub refused_rest : (line : ℕ) → IsRest net since before text (record { bytes = trace_refusal (codes "T4") line; status = BadInput })
-  refused_rest line = record { told = record { items = []; end = Stops line }; tells = tt; states = []; runs = refl; is = refl }
+  -- nothing at the end
+  pub end_rest : (since : Since) (scans : Scans) → scans ≡ no_scans → IsRest net since scans (answer [] Done)
+  end_rest since scans is = subst (λ (s : Scans). IsRest net since s (answer [] Done)) (sym is) (record { states = []; runs = refl; is = refl })
 
-  -- a scan comes: its line, and then what may be written of the rest
-  pub scan_rest : (now : ℕ) (rest : List ℕ) (ins : List Bool) (w' : State) → Begins text (scan_text now ins) rest → length ins ≡ input_count net → before ≤ now → now < 2 ^ 32 →
-      Solves net (old_state net since) ins (passed since now) w' → (answer : Answer) → IsRest net (last now w') now rest answer →
-      IsRest net since before text (behind (report_line net now (report net w')) answer)
-  scan_rest now rest ins w' begins long le small solves answer r = record {
-    told = record { items = scan now ins ∷ r.told.items; end = r.told.end };
-    tells = (rest, begins, long, le, small, r.tells);
-    states = w' ∷ r.states;
-    runs = (solves, r.runs);
-    is = ap (behind (report_line net now (report net w'))) r.is
-        ∙ ap (λ (bytes : List ℕ). let a : Answer = record { bytes = bytes; status = end_status r.told.end } in a)
-        (sym (append_assoc (report_line net now (report net w')) (item_lines net r.told.items r.states) (end_line r.told.end)));
-  }
+  -- the line of a refusal
+  pub refused_rest : (since : Since) (scans : Scans) (r : Refusal) → scans ≡ only_refused r → IsRest net since scans (answer (refusal_text r) BadInput)
+  refused_rest since scans r is = subst (λ (s : Scans). IsRest net since s (answer (refusal_text r) BadInput)) (sym is) (record { states = []; runs = refl; is = refl })
 
--- the same, as the loop has it
-pub next_rest : (net : Network) (since : Since) (before last' now at at' : ℕ) (text held : List ℕ) (ins : List Bool) (w w' : State) → held ≡ text →
-    Begins (drop at held) (scan_text now ins) (drop at' held) → before ≤ now → now < 2 ^ 32 → last' ≡ now → length ins ≡ input_count net → old_state net since ≡ w →
-    ((dt : ℕ) → Solves net w ins dt w') → (answer : Answer) → IsRest net (last now w') last' (drop at' text) answer →
-    IsRest net since before (drop at text) (behind (report_line net now (report net w')) answer)
-next_rest net since before last' now at at' text held ins w w' same begins le small is long stands solves answer r =
-    scan_rest net since before (drop at text) now (drop at' text) ins w' (subst (λ (t : List ℕ). Begins (drop at t) (scan_text now ins) (drop at' t)) same begins) long le small
-    (subst (λ (old : State). Solves net old ins (passed since now) w') (sym stands) (solves (passed since now))) answer
-    (subst (λ (b : ℕ). IsRest net (last now w') b (drop at' text) answer) is r)
+  longer : (line : List ℕ) (items : List ℕ) (end : End) → behind line (answer (items ++ end_line end) (end_status end)) ≡ answer ((line ++ items) ++ end_line end) (end_status end)
+  longer line items end = ap (λ (bytes : List ℕ). answer bytes (end_status end)) (sym (append_assoc line items (end_line end)))
+
+  -- the line of a scan, and then what is left
+  pub scan_rest : (since : Since) (now : ℕ) (ins : List Bool) (w : State) (scans rest : Scans) → scans ≡ record { items = scan now ins ∷ rest.items; end = rest.end } →
+      Solves net (old_state net since) ins (passed since now) w → (a : Answer) → IsRest net (last now w) rest a →
+      IsRest net since scans (behind (report_text net now (report net w)) a)
+  scan_rest since now ins w scans rest is solves a r =
+      let line = report_text net now (report net w) in
+      subst (λ (s : Scans). IsRest net since s (behind line a)) (sym is) (record {
+        states = w ∷ r.states;
+        runs = (solves, r.runs);
+        is = ap (behind line) r.is ∙ longer line (item_lines net rest.items r.states) rest.end;
+      })
+
+  -- the line of a restart, and then what is left
+  pub restart_rest : (since : Since) (scans rest : Scans) → scans ≡ record { items = restart ∷ rest.items; end = rest.end } →
+      (a : Answer) → IsRest net nothing rest a → IsRest net since scans (behind restart_line a)
+  restart_rest since scans rest is a r =
+      subst (λ (s : Scans). IsRest net since s (behind restart_line a)) (sym is) (record {
+        states = r.states;
+        runs = r.runs;
+        is = ap (behind restart_line) r.is ∙ longer restart_line (item_lines net rest.items r.states) rest.end;
+      })
+
+  -- something is left in any case
+  pub rest_of : IsSound net → (since : Since) (scans : Scans) → (a : Answer) × IsRest net since scans a
+  rest_of sound since scans = let run = one_run net sound since scans.items in (told net scans run.0, record { states = run.0; runs = run.1; is = refl })

@@ -1,17 +1,55 @@
 -- What the program writes, for its words and the texts that are held.
-use Rattle.std.specs.Prelude.{ℕ, Bool, false, not, ◌&&◌, ◌==◌, List, [], ◌∷◌, ◌++◌, codes, if◌then◌else◌}
+use Rattle.std.specs.Prelude.{◌≡◌, ◌⊎◌, ℕ, Bool, false, not, ◌&&◌, ◌==◌, List, [], ◌∷◌, ◌++◌, All, length, codes, if◌then◌else◌}
 use Rattle.std.specs.Str.{bytes_eq}
+use Rattle.ps_base.specs.declared.failing.Refusal.{Refusal}
 use Rattle.ps_model.specs.Network.{Network}
+use Rattle.ps_model.specs.Nodes.{app_nodes}
 use Rattle.ps_model.specs.Scanning.{State}
 use Rattle.ps_model.specs.Meaning.{Item, scan, restart, Meaning, report}
+use Rattle.ps_flow.specs.declared.certificate.CertLine.{CertLine}
+use Rattle.ps_flow.specs.Derivation.{certificate}
+use Rattle.ps_flow.specs.Read.{IsNumbered, IsTextOf, IsWithin, RefusesText}
+use Rattle.ps_flow.specs.Written.{written}
+use Rattle.ps_checker.specs.Counts.{Counts}
+use Rattle.ps_checker.specs.Derives.{Derives}
+use Rattle.ps_checker.specs.Objections.{Objects}
+use Rattle.ps_trace.specs.Scans.{Scans, End, scans_of}
+use Rattle.ps_trace.specs.Scans.End.{whole, refused}
+use Rattle.ps_report.specs.Lines.{report_text}
+use Rattle.ps_report.specs.Short.{refusal_text, check_text}
 use Rattle.ps_top.specs.Asking.{Answer, Asking}
-use Rattle.ps_top.specs.Asking.Asking.{Says, Asks, Finds}
-use Rattle.ps_top.specs.Lines.{report_line, restart_line, source_refusal, trace_refusal, usage_line}
-use Rattle.ps_top.specs.Scaffold.{Reading, Reads, Told, Tells, End}
-use Rattle.ps_top.specs.Scaffold.Reading.{StandsFor, IsRefused}
-use Rattle.ps_top.specs.Scaffold.End.{Whole, Stops}
+use Rattle.ps_top.specs.Asking.Asking.{Says, Asks, Finds, Leaves}
+use Rattle.ps_top.specs.Lines.{restart_line, usage_line, verified_line}
+use Rattle.ps_top.specs.Source.{Reading, Named, Flows}
+use Rattle.ps_top.specs.Source.Reading.{stands_for, is_refused}
 use Rattle.ps_top.specs.declared.Status.{Status}
 use Rattle.ps_top.specs.declared.Status.TheVariants.{Done, Refused, Usage, BadInput}
+
+abbrev pub answer : List ℕ → Status → Answer
+answer bytes status = record { bytes = bytes; status = status }
+
+-- ---- the source
+
+-- the counts of an application and of a certificate
+abbrev pub counts : Network → List CertLine → Counts
+counts net lines = record { nodes = length (app_nodes net); lines = length lines }
+
+-- with an application the program goes on; a source that is refused has its line
+abbrev pub with_application : (Network → Asking) → Reading → Asking
+with_application next (stands_for net) = next net
+with_application next (is_refused refusal) = Says (answer (refusal_text refusal) Refused)
+
+-- the application of an accepted source, whose certificate was checked
+abbrev pub accepted : List ℕ → (Network → Asking) → Asking
+accepted app next = Asks app (λ source. Finds Reading (Flows source) (with_application (λ net. Leaves (counts net (certificate net)) (next net))))
+
+-- ---- check and cert
+
+abbrev pub check : List ℕ → Asking
+check app = accepted app (λ net. Says (answer (check_text net) Done))
+
+abbrev pub cert : List ℕ → Asking
+cert app = accepted app (λ net. Says (answer (written (certificate net)) Done))
 
 -- ---- run
 
@@ -20,40 +58,68 @@ abbrev pub item_lines : Network → List Item → List State → List ℕ
 item_lines net [] ws = []
 item_lines net (restart ∷ items) ws = restart_line ++ item_lines net items ws
 item_lines net (scan now ins ∷ items) [] = []
-item_lines net (scan now ins ∷ items) (w ∷ ws) = report_line net now (report net w) ++ item_lines net items ws
+item_lines net (scan now ins ∷ items) (w ∷ ws) = report_text net now (report net w) ++ item_lines net items ws
 
 -- the line of the end of a trace: none, or its refusal
 abbrev pub end_line : End → List ℕ
-end_line Whole = []
-end_line (Stops line) = trace_refusal (codes "T4") line
+end_line whole = []
+end_line (refused refusal) = refusal_text refusal
 
 abbrev pub end_status : End → Status
-end_status Whole = Done
-end_status (Stops line) = BadInput
+end_status whole = Done
+end_status (refused refusal) = BadInput
 
 -- a line for each item, and one for a refusal
-abbrev pub told_answer : Network → Told → List State → Answer
-told_answer net told ws = record { bytes = item_lines net told.items ws ++ end_line told.end; status = end_status told.end }
+abbrev pub told : Network → Scans → List State → Answer
+told net scans ws = answer (item_lines net scans.items ws ++ end_line scans.end) (end_status scans.end)
 
--- the line of a source that is refused
-abbrev pub source_refused : (line column : ℕ) → Answer
-source_refused line column = record { bytes = source_refusal (codes "P1") line column; status = Refused }
+-- the scans of a trace have the lines of what they mean
+abbrev pub answer_scans : Network → Scans → Asking
+answer_scans net scans = Finds (List State) (Meaning net scans.items) (λ ws. Says (told net scans ws))
 
--- with an application the program goes on; a source that is refused has its line
-abbrev pub with_application : Reading → (Network → Asking) → Asking
-with_application (StandsFor net) next = next net
-with_application (IsRefused line column) next = Says (source_refused line column)
-
--- the scans that a trace tells have the lines of what they mean
-abbrev pub answer_trace : Network → List ℕ → Asking
-answer_trace net text = Finds Told (Tells net text) (λ told. Finds (List State) (Meaning net told.items) (λ ws. Says (told_answer net told ws)))
-
--- the trace of this name is asked for
-abbrev pub run_trace : List ℕ → Network → Asking
-run_trace trace net = Asks trace (answer_trace net)
+-- the trace of this name is run
+abbrev pub run_named : Network → List ℕ → Asking
+run_named net trace = Asks trace (λ text. answer_scans net (scans_of text net))
 
 abbrev pub run : List ℕ → List ℕ → Asking
-run app trace = Asks app (λ source. Finds Reading (Reads source) (λ reading. with_application reading (run_trace trace)))
+run app trace = accepted app (λ net. run_named net trace)
+
+-- ---- verify
+
+-- a certificate's lines derive the application, or an objection stands first
+pub data Judged : Type 0 where
+  derives : List CertLine → Judged
+  objects : Refusal → Judged
+
+-- the text is that of a certificate
+pub record IsCertificate (text : List ℕ) (lines : List CertLine) : Type 0 where
+  pub form : IsTextOf lines text
+  pub numbered : All IsNumbered lines
+  pub within : IsWithin text
+
+-- the certificate of the text has an objection, which names a line alone
+pub record HasObjection (net : Network) (text : List ℕ) (refusal : Refusal) : Type 0 where
+  pub lines : List CertLine
+  pub certificate_is : IsCertificate text lines
+  pub objection : Objects net lines refusal.place.line refusal.rule
+  pub line_alone : refusal.place.column ≡ 0
+
+-- the rules C are tried before the rules O
+abbrev pub Judges : Network → List ℕ → Judged → Type 0
+Judges net text (derives lines) = IsCertificate text lines × Derives net lines
+Judges net text (objects r) = RefusesText text r.rule r.place ⊎ HasObjection net text r
+
+abbrev pub verdict : Network → Judged → Asking
+verdict net (derives lines) = Leaves (counts net lines) (Says (answer (verified_line (length lines)) Done))
+verdict net (objects refusal) = Says (answer (refusal_text refusal) BadInput)
+
+-- the certificate of this name is judged
+abbrev pub verify_named : Network → List ℕ → Asking
+verify_named net cert = Asks cert (λ text. Finds Judged (Judges net text) (verdict net))
+
+-- no rule S is tried, and nothing is derived
+abbrev pub verify : List ℕ → List ℕ → Asking
+verify app cert = Asks app (λ source. Finds Reading (Named source) (with_application (λ net. verify_named net cert)))
 
 -- ---- the words
 
@@ -65,22 +131,38 @@ is_plain (b ∷ bytes) = not (b == 45)
 -- what the words ask of the program
 pub data Command : Type 0 where
   Run : (app trace : List ℕ) → Command
+  Check : (app : List ℕ) → Command
+  Cert : (app : List ℕ) → Command
+  Verify : (app cert : List ℕ) → Command
   NotTaken : Command
 
--- `run`, a source and a trace, neither of which is empty or begins with a hyphen
+-- of words that are neither empty nor begin with a hyphen: the name of a command and so many names of files
+abbrev pub one_name : List ℕ → List ℕ → Command
+one_name name app = if bytes_eq name (codes "check") then Check app else if bytes_eq name (codes "cert") then Cert app else NotTaken
+
+abbrev pub two_names : List ℕ → List ℕ → List ℕ → Command
+two_names name app other = if bytes_eq name (codes "run") then Run app other else if bytes_eq name (codes "verify") then Verify app other else NotTaken
+
 abbrev pub command_of : List (List ℕ) → Command
-command_of (name ∷ app ∷ trace ∷ []) = if bytes_eq name (codes "run") && is_plain app && is_plain trace then Run app trace else NotTaken
+command_of (name ∷ app ∷ []) = if is_plain app then one_name name app else NotTaken
+command_of (name ∷ app ∷ other ∷ []) = if is_plain app && is_plain other then two_names name app other else NotTaken
 command_of words = NotTaken
 
 -- the names of files that a command gives
 abbrev pub names_of : Command → List (List ℕ)
 names_of (Run app trace) = app ∷ trace ∷ []
+names_of (Check app) = app ∷ []
+names_of (Cert app) = app ∷ []
+names_of (Verify app cert) = app ∷ cert ∷ []
 names_of NotTaken = []
 
 -- what is said to words that ask this
 abbrev pub said : Command → Asking
 said (Run app trace) = run app trace
-said NotTaken = Says (record { bytes = usage_line; status = Usage })
+said (Check app) = check app
+said (Cert app) = cert app
+said (Verify app cert) = verify app cert
+said NotTaken = Says (answer usage_line Usage)
 
 -- what the program has to say
 abbrev pub text : List (List ℕ) → Asking

@@ -1,19 +1,17 @@
--- What may still be written while the scans of a trace are done.
+-- What is still to be written while the scans of a trace are done.
 use Rattle.std.specs.Prelude.{◌≡◌, ℕ, List, ◌++◌}
-use Rattle.ps_model.specs.Network.{Network, input_count}
+use Rattle.ps_model.specs.Network.{Network}
 use Rattle.ps_model.specs.Scanning.{State}
 use Rattle.ps_model.specs.Meaning.{Since, Runs}
+use Rattle.ps_trace.specs.Scans.{Scans}
 use Rattle.ps_top.specs.Asking.{Answer}
-use Rattle.ps_top.specs.Scaffold.{Told, TellsFrom}
-use Rattle.ps_top.specs.Program.{told_answer}
+use Rattle.ps_top.specs.Program.{told}
 
--- This may be written of the rest of a trace: a line for each item that it says, from where a run stands.
-pub record IsRest (net : Network) (since : Since) (before : ℕ) (text : List ℕ) (answer : Answer) : Type 0 where
-  pub told : Told
-  pub tells : TellsFrom (input_count net) before text told.items told.end
+-- This is to be written of these scans: a line for each item, from where a run stands.
+pub record IsRest (net : Network) (since : Since) (scans : Scans) (answer : Answer) : Type 0 where
   pub states : List State
-  pub runs : Runs net since told.items states
-  pub is : answer ≡ told_answer net told states
+  pub runs : Runs net since scans.items states
+  pub is : answer ≡ told net scans states
 
 -- an answer behind a line
 abbrev pub behind : List ℕ → Answer → Answer

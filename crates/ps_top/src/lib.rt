@@ -1,16 +1,18 @@
 //! The program `plcsafe`, over any files and any output.
 #![tactic(auto)]
 
-pub mod application;
+mod certifying;
+mod checking;
+pub mod laws;
 pub mod left;
-pub mod lines;
 pub mod list;
 pub mod program;
-pub mod running;
-pub mod saying;
-mod scaffold;
-pub mod scanning;
-pub mod words;
+mod reading;
+mod running;
+mod saying;
+mod source;
+mod verifying;
+mod words;
 
 pub use left::Left;
 pub use list::Words;
@@ -21,11 +23,11 @@ pub use program::top;
 pub enum Status {
     /// All was done.
     Done,
-    /// The source is refused.
+    /// The source is refused, by a rule L, P, N or S.
     Refused,
     /// The words are not taken.
     Usage,
-    /// The trace is refused.
+    /// The certificate is refused, by a rule C or O, or the trace, by a rule T.
     BadInput,
     /// A scan tripped.
     Tripped,

@@ -11,6 +11,12 @@ use crate::list::Words;
 pub enum Command<'a> {
     /// `run APP TRACE`
     Run { app: &'a str, trace: &'a str },
+    /// `check APP`
+    Check { app: &'a str },
+    /// `cert APP`
+    Cert { app: &'a str },
+    /// `verify APP CERT`
+    Verify { app: &'a str, cert: &'a str },
     /// The words are not taken.
     NotTaken,
 }
@@ -25,18 +31,46 @@ fn is_plain(word: &str) -> bool
     }
 }
 
+// What a command with one name of a file asks.
+fn one_name<'a>(name: &str, app: &'a str) -> Command<'a>
+    ensures { command_seen result ≡ program.one_name name.now app.now }
+{
+    match name {
+        "check" => Command::Check { app },
+        "cert" => Command::Cert { app },
+        _ => Command::NotTaken,
+    }
+}
+
+// What a command with two names of files asks.
+fn two_names<'a>(name: &str, app: &'a str, other: &'a str) -> Command<'a>
+    ensures { command_seen result ≡ program.two_names name.now app.now other.now }
+{
+    match name {
+        "run" => Command::Run { app, trace: other },
+        "verify" => Command::Verify { app, cert: other },
+        _ => Command::NotTaken,
+    }
+}
+
 /// What the words ask of the program.
 pub fn command_of(words: &Words) -> Command<'_>
     ensures { command_seen result ≡ program.command_of words.now }
 {
-    if words.len() != 3 {
+    if words.len() < 2 || words.len() > 3 {
         return Command::NotTaken;
     }
     let name = words.at(0).as_str();
     let app = words.at(1).as_str();
-    let trace = words.at(2).as_str();
-    if name == "run" && is_plain(app) && is_plain(trace) {
-        Command::Run { app, trace }
+    if !is_plain(app) {
+        return Command::NotTaken;
+    }
+    if words.len() == 2 {
+        return one_name(name, app);
+    }
+    let other = words.at(2).as_str();
+    if is_plain(other) {
+        two_names(name, app, other)
     } else {
         Command::NotTaken
     }

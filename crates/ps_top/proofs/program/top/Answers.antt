@@ -1,4 +1,3 @@
-use Rattle.std.proofs.Common.{◌≡◌, List, ℕ}
 use Rattle.ps_outside.specs.Outside.{Rose}
 use Rattle.ps_top.specs.Program as program
 use Rattle.ps_top.proofs.Completing.{all_said, nothing_said}

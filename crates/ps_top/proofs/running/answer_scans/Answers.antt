@@ -1,93 +1,110 @@
-use Rattle.std.proofs.Common.{◌≡◌, ◌≢◌, ◌≤◌, ◌+◌, ◌++◌, ℕ, List, IsTrue, Bool, [], length, take, drop, ap, sym, ◌∙◌, subst, refl, append-nil, arith}
-use Rattle.std.specs.Prelude.{codes}
-use Rattle.std.proofs.lemmas.Grind.{common_steps}
-use Rattle.ps_model.specs.Network.{Network, input_count, signal_count}
-use Rattle.ps_model.specs.Scanning.{State, Solves}
-use Rattle.ps_model.specs.Meaning.{Since, nothing, last, old_state, passed, report}
-use Rattle.ps_top.specs.Asking.{Answer}
-use Rattle.ps_top.specs.Meets.{Gives, Owes}
-use Rattle.ps_top.specs.Lines.{report_line, trace_refusal}
-use Rattle.ps_top.specs.Resting.{IsRest, behind}
-use Rattle.ps_top.specs.declared.Status.TheVariants.{Done, BadInput, ReadFault, Memory, WriteFault}
-use Rattle.ps_top.proofs.Meeting.{gives_wider, all_given, owed_less, owed_given, line_stopped}
-use Rattle.ps_top.proofs.Scans.{end_rest, refused_rest, next_rest}
+use Rattle.std.proofs.Common.{◌≡◌, ◌∙◌, ℕ, List, Bool, IsTrue, Some, Err, sym, ap, subst, arith}
+use Rattle.ps_trace.specs.Reading.{Comes, Fills, file_of, items_left, last_of}
+use Rattle.ps_trace.specs.declared.trace.Next.{Next}
+use Rattle.ps_top.proofs.Standing.{after_scan, scan_stopped, after_restart, restart_stopped, at_end, at_refusal, at_fault}
 use Rattle.ps_top.proofs.running.answer_scans.Goals as goal
 
-pub returns-in-End-clause-gives : goal.returns-in-End-clause-gives
-returns-in-End-clause-gives g c = λ tells.
-    let net : Network = c.args.app.now in
-    let text : List ℕ = drop c.scans.trace.at c.args.trace.now.text in
-    let owed = c.scans.invariant.owes tells in
-    let R : Answer → Type 0 = IsRest net owed.0 c.scans.trace.last text in
-    let nothing_left : text ≡ [] = ap (drop c.scans.trace.at) (sym c.scans.invariant.text) ∙ c.in-End.ensures.comes in
-    let taken : List ℕ = g.S.Sink.taken c.scans.out in
-    owed_given (IsRest net nothing c.args.trace.now.last (drop c.args.trace.now.at c.args.trace.now.text)) R (g.S.Sink.taken c.args.out.now) taken taken Done owed.2
-    (all_given R (record { bytes = []; status = Done }) taken taken (λ cut. grind arith) (end_rest net owed.0 c.scans.trace.last text nothing_left) (sym (append-nil taken)))
-    (λ e. cc) (λ e. cc)
-
-pub returns-in-Refused-clause-gives : goal.returns-in-Refused-clause-gives
-returns-in-Refused-clause-gives g c = λ tells.
-    let net : Network = c.args.app.now in
-    let text : List ℕ = drop c.scans.trace.at c.args.trace.now.text in
-    let owed = c.scans.invariant.owes tells in
-    let R : Answer → Type 0 = IsRest net owed.0 c.scans.trace.last text in
-    let tells_now : IsTrue (g.S.Sink.tells c.scans.out) = subst (λ (b : Bool). IsTrue b) (sym c.scans.invariant.telling) tells in
-    let no_memory : ¬ (c.say.result ≡ Memory) = grind (arith, common_steps) in
-    let no_read : ¬ (c.say.result ≡ ReadFault) = grind (arith, common_steps) in
-    let said : Answer = record { bytes = c.line.result.now; status = BadInput } in
-    let right : R said = subst (λ (bytes : List ℕ). R (record { bytes = bytes; status = BadInput })) (sym (c.line.ensures ∙ c.refusal.ensures.line))
-    (refused_rest net owed.0 c.scans.trace.last text c.next_scan.new.self.line) in
-    owed_given (IsRest net nothing c.args.trace.now.last (drop c.args.trace.now.at c.args.trace.now.text)) R (g.S.Sink.taken c.args.out.now) (g.S.Sink.taken c.scans.out)
-    (g.S.Sink.taken c.say.new.out) c.say.result owed.2
-    (gives_wider (λ answer. answer ≡ said) R (g.S.Sink.taken c.scans.out) (g.S.Sink.taken c.say.new.out) c.say.result (λ answer e. subst R (sym e) right) (c.say.ensures.gives tells_now))
-    no_memory no_read
-
-pub report-requires-clause-signals : goal.report-requires-clause-signals
-report-requires-clause-signals g c = omega (arith, c.scan.ensures.signals)
-
-pub scans-preserved : goal.scans-preserved
-scans-preserved g c =
-    let net : Network = c.args.app.now in
-    let comes = c.in-Scan.ensures.comes in
-    let w' : State = c.scan.new.w in
-    let long : length c.next_scan.new.ins ≡ input_count net = c.next_scan.auto.ins ∙ c.scans.invariant.ins in
-    let line : c.line-in-Scan.result.now ≡ report_line net c.in-Scan.now (report net w') = c.line-in-Scan.ensures ∙ c.report.ensures.line in
+pub items-preserved-in-Ok : goal.items-preserved-in-Ok
+items-preserved-in-Ok g c =
+    let inv = c.items.invariant in
+    let held = g.F.Files.held in
+    let here : (text : List ℕ) → held c.args.files.now (file_of c.args.trace.now) ≡ Some text → held c.items.files (file_of c.items.trace) ≡ Some text =
+    λ text is. ap (λ (h : List ℕ → _). h (file_of c.items.trace)) inv.kept ∙ ap (held c.args.files.now) inv.name ∙ is in
+    let ft' : IsTrue (g.F.Files.tells c.args.files.now) → IsTrue (g.F.Files.tells c.items.files) = λ ft. subst (λ (b : Bool). IsTrue b) (sym inv.telling) ft in
+    let st' : IsTrue (g.S.Sink.tells c.args.out.now) → IsTrue (g.S.Sink.tells c.items.out) = λ st. subst (λ (b : Bool). IsTrue b) (sym inv.still_telling) st in
+    let fills = subst (λ (n : Next). Fills n c.items.trace c.next_scan.new.self c.items.runner.scan c.next_scan.new.into) c.in-Ok-Scan.field-0-is c.in-Ok-Scan.ensures.fills in
     record {
-      ins = long;
-      signals = c.scan.ensures.signals;
-      blocks = c.scan.ensures.blocks;
-      room = c.report.ensures.still;
-      text = c.in-Scan.ensures.text ∙ c.scans.invariant.text;
-      owes = λ tells.
-          let owed = c.scans.invariant.owes tells in
-          let tells_now : IsTrue (g.S.Sink.tells c.scans.out) = subst (λ (b : Bool). IsTrue b) (sym c.scans.invariant.telling) tells in (
-            last c.in-Scan.now w',
-            refl,
-            owed_less (IsRest net nothing c.args.trace.now.last (drop c.args.trace.now.at c.args.trace.now.text))
-                (IsRest net owed.0 c.scans.trace.last (drop c.scans.trace.at c.args.trace.now.text))
-                (IsRest net (last c.in-Scan.now w') c.next_scan.new.self.last (drop c.next_scan.new.self.at c.args.trace.now.text))
-                (report_line net c.in-Scan.now (report net w')) (g.S.Sink.taken c.args.out.now) (g.S.Sink.taken c.scans.out) (g.S.Sink.taken c.write_all.new.out) owed.2
-                (next_rest net owed.0 c.scans.trace.last c.next_scan.new.self.last c.in-Scan.now c.scans.trace.at c.next_scan.new.self.at c.args.trace.now.text c.scans.trace.text
-                c.next_scan.new.ins c.scans.w w' c.scans.invariant.text comes.0 comes.1 comes.2 comes.3 long owed.1 c.scan.ensures.solves)
-                (c.in-Ok.ensures.whole tells_now ∙ ap (λ (l : List ℕ). g.S.Sink.taken c.scans.out ++ l) line),
-          );
-      count = omega (arith, c.scans.invariant.count, c.write_all.ensures.counts);
-      telling = c.write_all.ensures.telling ∙ c.scans.invariant.telling;
+      fits = c.in-Ok.ensures.fits;
+      inputs = c.in-Ok-Scan.ensures.inputs ∙ inv.inputs;
+      name = c.in-Ok-Scan.ensures.name ∙ inv.name;
+      reads = λ ft text is reading. c.in-Ok-Scan.ensures.reads (ft' ft) text (here text is) (inv.reads ft text is reading);
+      owes = λ ft st text is reading first.
+          after_scan c.args.app.now c.sound.ensures (items_left c.args.trace.now text) (items_left c.items.trace text) (items_left c.next_scan.new.self text) c.items.runner.scanner (last_of c.items.trace)
+          (g.S.Sink.taken c.args.out.now) (g.S.Sink.taken c.items.out) (inv.owes ft st text is reading first)
+          c.in-Ok.field-0 c.next_scan.new.into c.do_scan.new.self.scanner (last_of c.next_scan.new.self) (g.S.Sink.tells c.items.out) (g.S.Sink.taken c.do_scan.new.out)
+          (subst (λ (n : Next). Comes (items_left c.items.trace text) n c.next_scan.new.into (items_left c.next_scan.new.self text)) c.in-Ok-Scan.field-0-is (c.in-Ok-Scan.ensures.comes (ft' ft) text (here text is) (inv.reads ft text is reading)))
+          fills.1 fills.2 (st' st) c.in-Ok.ensures.writes;
+      counts = λ other. omega (arith, inv.counts other, c.in-Ok-Scan.ensures.counts other);
+      kept = c.in-Ok-Scan.ensures.kept ∙ inv.kept;
+      telling = c.in-Ok-Scan.ensures.telling ∙ inv.telling;
+      count = omega (arith, inv.count, c.in-Ok.ensures.counts);
+      still_telling = c.in-Ok.ensures.telling ∙ inv.still_telling;
     }
 
 pub returns-in-Err-clause-gives : goal.returns-in-Err-clause-gives
-returns-in-Err-clause-gives g c = λ tells.
-    let net : Network = c.args.app.now in
-    let comes = c.in-Scan.ensures.comes in
-    let w' : State = c.scan.new.w in
-    let long : length c.next_scan.new.ins ≡ input_count net = c.next_scan.auto.ins ∙ c.scans.invariant.ins in
-    let line : c.line-in-Scan.result.now ≡ report_line net c.in-Scan.now (report net w') = c.line-in-Scan.ensures ∙ c.report.ensures.line in
-    let owed = c.scans.invariant.owes tells in
-    let tells_now : IsTrue (g.S.Sink.tells c.scans.out) = subst (λ (b : Bool). IsTrue b) (sym c.scans.invariant.telling) tells in
-    let rest : Answer = record { bytes = trace_refusal (codes "T4") 0; status = BadInput } in
-    line_stopped (IsRest net nothing c.args.trace.now.last (drop c.args.trace.now.at c.args.trace.now.text)) (IsRest net owed.0 c.scans.trace.last (drop c.scans.trace.at c.args.trace.now.text))
-    rest (report_line net c.in-Scan.now (report net w')) (g.S.Sink.taken c.args.out.now) (g.S.Sink.taken c.scans.out) (g.S.Sink.taken c.write_all.new.out) c.in-Err.field-0.taken owed.2
-    (next_rest net owed.0 c.scans.trace.last c.next_scan.new.self.last c.in-Scan.now c.scans.trace.at c.next_scan.new.self.at c.args.trace.now.text c.scans.trace.text
-    c.next_scan.new.ins c.scans.w w' c.scans.invariant.text comes.0 comes.1 comes.2 comes.3 long owed.1 c.scan.ensures.solves rest
-    (refused_rest net (last c.in-Scan.now w') c.next_scan.new.self.last (drop c.next_scan.new.self.at c.args.trace.now.text) 0))
-    (c.in-Err.ensures.part tells_now ∙ ap (λ (l : List ℕ). g.S.Sink.taken c.scans.out ++ take c.in-Err.field-0.taken l) line)
+returns-in-Err-clause-gives g c = λ ft st text is reading first.
+    let inv = c.items.invariant in
+    let held = g.F.Files.held in
+    let here : held c.items.files (file_of c.items.trace) ≡ Some text = ap (λ (h : List ℕ → _). h (file_of c.items.trace)) inv.kept ∙ ap (held c.args.files.now) inv.name ∙ is in
+    let ft' : IsTrue (g.F.Files.tells c.items.files) = subst (λ (b : Bool). IsTrue b) (sym inv.telling) ft in
+    let st' : IsTrue (g.S.Sink.tells c.items.out) = subst (λ (b : Bool). IsTrue b) (sym inv.still_telling) st in
+    let fills = subst (λ (n : Next). Fills n c.items.trace c.next_scan.new.self c.items.runner.scan c.next_scan.new.into) c.in-Ok-Scan.field-0-is c.in-Ok-Scan.ensures.fills in
+    scan_stopped c.args.app.now c.sound.ensures (items_left c.args.trace.now text) (items_left c.items.trace text) (items_left c.next_scan.new.self text) c.items.runner.scanner (last_of c.items.trace)
+    (g.S.Sink.taken c.args.out.now) (g.S.Sink.taken c.items.out) (inv.owes ft st text is reading first)
+    c.in-Err.field-0 c.next_scan.new.into c.do_scan.new.self.scanner (g.S.Sink.tells c.items.out) (g.S.Sink.taken c.do_scan.new.out)
+    (subst (λ (n : Next). Comes (items_left c.items.trace text) n c.next_scan.new.into (items_left c.next_scan.new.self text)) c.in-Ok-Scan.field-0-is (c.in-Ok-Scan.ensures.comes ft' text here (inv.reads ft text is reading)))
+    fills.1 st' c.in-Err.ensures.writes
+
+pub items-preserved : goal.items-preserved
+items-preserved g c =
+    let inv = c.items.invariant in
+    let held = g.F.Files.held in
+    let here : (text : List ℕ) → held c.args.files.now (file_of c.args.trace.now) ≡ Some text → held c.items.files (file_of c.items.trace) ≡ Some text =
+    λ text is. ap (λ (h : List ℕ → _). h (file_of c.items.trace)) inv.kept ∙ ap (held c.args.files.now) inv.name ∙ is in
+    let ft' : IsTrue (g.F.Files.tells c.args.files.now) → IsTrue (g.F.Files.tells c.items.files) = λ ft. subst (λ (b : Bool). IsTrue b) (sym inv.telling) ft in
+    let st' : IsTrue (g.S.Sink.tells c.args.out.now) → IsTrue (g.S.Sink.tells c.items.out) = λ st. subst (λ (b : Bool). IsTrue b) (sym inv.still_telling) st in
+    record {
+      fits = c.in-Ok-do_restart.ensures.fits;
+      inputs = c.in-Ok-Restart.ensures.inputs ∙ inv.inputs;
+      name = c.in-Ok-Restart.ensures.name ∙ inv.name;
+      reads = λ ft text is reading. c.in-Ok-Restart.ensures.reads (ft' ft) text (here text is) (inv.reads ft text is reading);
+      owes = λ ft st text is reading first.
+          after_restart c.args.app.now c.sound.ensures (items_left c.args.trace.now text) (items_left c.items.trace text) (items_left c.next_scan.new.self text) c.items.runner.scanner (last_of c.items.trace)
+          (g.S.Sink.taken c.args.out.now) (g.S.Sink.taken c.items.out) (inv.owes ft st text is reading first)
+          c.do_restart.new.self.scanner (last_of c.next_scan.new.self) (g.S.Sink.taken c.do_restart.new.out)
+          (subst (λ (n : Next). Comes (items_left c.items.trace text) n c.next_scan.new.into (items_left c.next_scan.new.self text)) c.in-Ok-Restart.field-0-is (c.in-Ok-Restart.ensures.comes (ft' ft) text (here text is) (inv.reads ft text is reading))) c.in-Ok-do_restart.ensures.first (c.in-Ok-do_restart.ensures.written (st' st));
+      counts = λ other. omega (arith, inv.counts other, c.in-Ok-Restart.ensures.counts other);
+      kept = c.in-Ok-Restart.ensures.kept ∙ inv.kept;
+      telling = c.in-Ok-Restart.ensures.telling ∙ inv.telling;
+      count = omega (arith, inv.count, c.in-Ok-do_restart.ensures.counts);
+      still_telling = c.in-Ok-do_restart.ensures.telling ∙ inv.still_telling;
+    }
+
+pub returns-in-Err-do_restart-clause-gives : goal.returns-in-Err-do_restart-clause-gives
+returns-in-Err-do_restart-clause-gives g c = λ ft st text is reading first.
+    let inv = c.items.invariant in
+    let held = g.F.Files.held in
+    let here : held c.items.files (file_of c.items.trace) ≡ Some text = ap (λ (h : List ℕ → _). h (file_of c.items.trace)) inv.kept ∙ ap (held c.args.files.now) inv.name ∙ is in
+    let ft' : IsTrue (g.F.Files.tells c.items.files) = subst (λ (b : Bool). IsTrue b) (sym inv.telling) ft in
+    let st' : IsTrue (g.S.Sink.tells c.items.out) = subst (λ (b : Bool). IsTrue b) (sym inv.still_telling) st in
+    restart_stopped c.args.app.now c.sound.ensures (items_left c.args.trace.now text) (items_left c.items.trace text) (items_left c.next_scan.new.self text) c.items.runner.scanner (last_of c.items.trace)
+    (g.S.Sink.taken c.args.out.now) (g.S.Sink.taken c.items.out) (inv.owes ft st text is reading first)
+    c.in-Err-do_restart.field-0 (g.S.Sink.taken c.do_restart.new.out)
+    (subst (λ (n : Next). Comes (items_left c.items.trace text) n c.next_scan.new.into (items_left c.next_scan.new.self text)) c.in-Ok-Restart.field-0-is (c.in-Ok-Restart.ensures.comes ft' text here (inv.reads ft text is reading))) (c.in-Err-do_restart.ensures.written st')
+
+pub returns-in-Ok-End-clause-gives : goal.returns-in-Ok-End-clause-gives
+returns-in-Ok-End-clause-gives g c = λ ft st text is reading first.
+    let inv = c.items.invariant in
+    let held = g.F.Files.held in
+    let here : held c.items.files (file_of c.items.trace) ≡ Some text = ap (λ (h : List ℕ → _). h (file_of c.items.trace)) inv.kept ∙ ap (held c.args.files.now) inv.name ∙ is in
+    let ft' : IsTrue (g.F.Files.tells c.items.files) = subst (λ (b : Bool). IsTrue b) (sym inv.telling) ft in
+    at_end c.args.app.now c.sound.ensures (items_left c.args.trace.now text) (items_left c.items.trace text) (items_left c.items.trace text) c.items.runner.scanner (last_of c.items.trace)
+    (g.S.Sink.taken c.args.out.now) (g.S.Sink.taken c.items.out) (inv.owes ft st text is reading first)
+    (subst (λ (n : Next). Comes (items_left c.items.trace text) n c.next_scan.new.into (items_left c.next_scan.new.self text)) c.in-Ok-End.field-0-is (c.in-Ok-End.ensures.comes ft' text here (inv.reads ft text is reading))).0
+
+pub returns-in-Err-Refused-clause-gives : goal.returns-in-Err-Refused-clause-gives
+returns-in-Err-Refused-clause-gives g c = λ ft st text is reading first.
+    let inv = c.items.invariant in
+    let held = g.F.Files.held in
+    let here : held c.items.files (file_of c.items.trace) ≡ Some text = ap (λ (h : List ℕ → _). h (file_of c.items.trace)) inv.kept ∙ ap (held c.args.files.now) inv.name ∙ is in
+    let ft' : IsTrue (g.F.Files.tells c.items.files) = subst (λ (b : Bool). IsTrue b) (sym inv.telling) ft in
+    let st' : IsTrue (g.S.Sink.tells c.items.out) = subst (λ (b : Bool). IsTrue b) (sym inv.still_telling) st in
+    at_refusal c.args.app.now c.sound.ensures (items_left c.args.trace.now text) (items_left c.items.trace text) (items_left c.items.trace text) c.items.runner.scanner (last_of c.items.trace)
+    (g.S.Sink.taken c.args.out.now) (g.S.Sink.taken c.items.out) (inv.owes ft st text is reading first)
+    c.in-Err-Refused.refusal (g.S.Sink.taken c.say_refused.new.out) c.say_refused.result
+    (c.next_scan.ensures.refuses ft' text here (inv.reads ft text is reading) c.in-Err-Refused.refusal (c.in-Err-Refused.is ∙ ap Err c.in-Err-Refused.field-0-is)) c.say_refused.ensures.ends (c.say_refused.ensures.gives st')
+
+pub returns-in-Err-Fault-clause-gives : goal.returns-in-Err-Fault-clause-gives
+returns-in-Err-Fault-clause-gives g c = λ ft st text is reading first.
+    at_fault c.args.app.now c.sound.ensures (items_left c.args.trace.now text) (items_left c.items.trace text) (items_left c.items.trace text) c.items.runner.scanner (last_of c.items.trace)
+    (g.S.Sink.taken c.args.out.now) (g.S.Sink.taken c.items.out) (c.items.invariant.owes ft st text is reading first)

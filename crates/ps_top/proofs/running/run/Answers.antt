@@ -1,36 +1,59 @@
-use Rattle.std.proofs.Common.{◌≡◌, ℕ, List, IsTrue, Bool, sym, subst, arith}
-use Rattle.std.proofs.lemmas.Grind.{common_steps}
+use Rattle.std.proofs.Common.{◌∙◌, ℕ, Bool, List, Some, IsTrue, ap, sym, subst}
+use Rattle.ps_checker.specs.Counts.{Counts}
+use Rattle.ps_model.specs.Network.{Network}
 use Rattle.ps_outside.specs.Outside.{Rose}
+use Rattle.ps_flow.specs.declared.certificate.CertLine.{CertLine}
+use Rattle.ps_flow.specs.Derivation.{certificate}
 use Rattle.ps_top.specs.Asking.{Asking}
-use Rattle.ps_top.specs.Asking.Asking.{Finds, Says}
-use Rattle.ps_top.specs.Program.{with_application, run_trace, source_refused}
-use Rattle.ps_top.specs.Scaffold.{Reading, Reads}
-use Rattle.ps_top.specs.Scaffold.Reading.{StandsFor, IsRefused}
-use Rattle.ps_top.specs.declared.Status.TheVariants.{ReadFault}
-use Rattle.ps_top.proofs.Meeting.{was_read, was_found, was_given, met_later, rose_earlier, any_second}
+use Rattle.ps_top.specs.Asking.Asking.{Leaves}
+use Rattle.ps_top.specs.Program.{counts, run_named}
+use Rattle.ps_top.specs.Reading.{IsChecked}
+use Rattle.ps_top.specs.Source.{Flows}
+use Rattle.ps_top.specs.Source.Reading.{stands_for}
+use Rattle.ps_top.specs.declared.source.Accepted.{Accepted}
+use Rattle.ps_top.proofs.Meeting.{met_later, rose_earlier, any_second}
+use Rattle.ps_top.proofs.Applied.{unread_meets, unread_leaves, accepted_meets, accepted_leaves}
 use Rattle.ps_top.proofs.running.run.Goals as goal
 
-pub returns-in-Accepted-clause-meets : goal.returns-in-Accepted-clause-meets
-returns-in-Accepted-clause-meets g c = λ files_tell sink_tells.
-    let read = c.in-Accepted.ensures.read files_tell in
-    let still : IsTrue (g.F.Files.tells c.read_application.new.files) = subst (λ (b : Bool). IsTrue b) (sym c.in-Accepted.ensures.telling) files_tell in
-    was_read c.args.app.now read.0 (λ source. Finds Reading (Reads source) (λ reading. with_application reading (run_trace c.args.trace.now))) _ _ _ _ _ read.1
-    (was_found Reading (Reads read.0) (λ reading. with_application reading (run_trace c.args.trace.now)) (StandsFor c.in-Accepted.app) _ _ _ _ _ read.2
-    (met_later (run_trace c.args.trace.now c.in-Accepted.app) _ _ _ _ _ _ _ c.in-Accepted.ensures.kept
-    (λ name. rose_earlier (g.F.Files.faults c.args.files.now name) (g.F.Files.faults c.read_application.new.files name) (g.F.Files.faults c.answer_trace.new.files name) (c.in-Accepted.ensures.counts name))
-    (c.answer_trace.ensures.meets still sink_tells)))
+abbrev next : List ℕ → Network → Asking
+next trace net = Leaves (counts net (certificate net)) (run_named net trace)
 
-pub returns-in-Accepted-clause-read_fault : goal.returns-in-Accepted-clause-read_fault
-returns-in-Accepted-clause-read_fault g c = λ fault.
-    any_second (λ name. Rose (g.F.Files.faults c.args.files.now name) (g.F.Files.faults c.answer_trace.new.files name)) c.args.app.now c.args.trace.now
-    (rose_earlier (g.F.Files.faults c.args.files.now c.args.trace.now) (g.F.Files.faults c.read_application.new.files c.args.trace.now) (g.F.Files.faults c.answer_trace.new.files c.args.trace.now)
-    (c.in-Accepted.ensures.counts c.args.trace.now) (c.answer_trace.ensures.read_fault fault))
+pub returns-in-Ok-clause-meets : goal.returns-in-Ok-clause-meets
+returns-in-Ok-clause-meets g c = λ files_tell sink_tells.
+    let read = c.in-Ok.ensures.read files_tell in
+    let net : Network = c.parted-app.result.0 in
+    let trace = c.args.trace.now in
+    let held = g.F.Files.held c.args.files.now in
+    let rose = λ (name : List ℕ). Rose (g.F.Files.faults c.args.files.now name) (g.F.Files.faults c.run_named.new.files name) in
+    let still : IsTrue (g.F.Files.tells c.read_accepted.new.files) = subst (λ (b : Bool). IsTrue b) (sym c.in-Ok.ensures.telling) files_tell in
+    let stands : Flows read.0 (stands_for net) = subst (λ (n : Network). Flows read.0 (stands_for n)) (sym c.parted-app.ensures.app) read.2.0 in
+    accepted_meets c.args.app.now read.0 (λ n. run_named n trace) net held rose (g.S.Sink.taken c.args.out.now) (g.S.Sink.taken c.run_named.new.out) c.run_named.result read.1 stands
+    (met_later (run_named net trace) held (g.F.Files.held c.read_accepted.new.files) rose
+    (λ name. Rose (g.F.Files.faults c.read_accepted.new.files name) (g.F.Files.faults c.run_named.new.files name)) (g.S.Sink.taken c.args.out.now) (g.S.Sink.taken c.run_named.new.out) c.run_named.result
+    c.in-Ok.ensures.kept
+    (λ name. rose_earlier (g.F.Files.faults c.args.files.now name) (g.F.Files.faults c.read_accepted.new.files name) (g.F.Files.faults c.run_named.new.files name) (c.in-Ok.ensures.counts name))
+    (c.run_named.ensures.meets still sink_tells))
 
-pub returns-in-Refused-clause-meets : goal.returns-in-Refused-clause-meets
-returns-in-Refused-clause-meets g c = λ files_tell sink_tells.
-    let read = c.in-Refused.ensures.read files_tell in
-    let no_read : ¬ (c.refuse.result ≡ ReadFault) = grind (arith, common_steps) in
-    was_read c.args.app.now read.0 (λ source. Finds Reading (Reads source) (λ reading. with_application reading (run_trace c.args.trace.now))) _ _ _ _ _ read.1
-    (was_found Reading (Reads read.0) (λ reading. with_application reading (run_trace c.args.trace.now)) (IsRefused c.in-Refused.place.line c.in-Refused.place.column) _ _ _ _ _ tt
-    (was_given (Says (source_refused c.in-Refused.place.line c.in-Refused.place.column)) (λ answer. answer ≡ source_refused c.in-Refused.place.line c.in-Refused.place.column) _ _ _ _ _ no_read
-    (λ answer right. right) (c.refuse.ensures.gives sink_tells)))
+pub returns-in-Ok-clause-leaves : goal.returns-in-Ok-clause-leaves
+returns-in-Ok-clause-leaves g c = λ files_tell not_cut.
+    let read = c.in-Ok.ensures.read files_tell in
+    let net : Network = c.in-Ok.accepted.app in
+    accepted_leaves c.args.app.now read.0 (λ n. run_named n c.args.trace.now) net (g.F.Files.held c.args.files.now) _ read.1 read.2.0
+    (ap (λ (x : Counts). Some x) (c.parted-app.ensures.checked ∙ read.2.1.counted ∙ ap (λ (ls : List CertLine). counts net ls) read.2.1.derivation))
+
+pub returns-in-Ok-clause-read_fault : goal.returns-in-Ok-clause-read_fault
+returns-in-Ok-clause-read_fault g c = λ fault.
+    any_second (λ name. Rose (g.F.Files.faults c.args.files.now name) (g.F.Files.faults c.run_named.new.files name)) c.args.app.now c.args.trace.now
+    (rose_earlier (g.F.Files.faults c.args.files.now c.args.trace.now) (g.F.Files.faults c.read_accepted.new.files c.args.trace.now) (g.F.Files.faults c.run_named.new.files c.args.trace.now)
+    (c.in-Ok.ensures.counts c.args.trace.now) (c.run_named.ensures.read_fault fault))
+
+pub returns-in-Err-clause-meets : goal.returns-in-Err-clause-meets
+returns-in-Err-clause-meets g c = λ files_tell sink_tells.
+    unread_meets c.args.app.now Flows (next c.args.trace.now) (g.F.Files.held c.args.files.now) Accepted (λ text a. Flows text (stands_for a.app) × IsChecked a)
+    (λ name. Rose (g.F.Files.faults c.args.files.now name) (g.F.Files.faults c.read_accepted.new.files name)) (g.S.Sink.taken c.args.out.now) (g.S.Sink.taken c.refuse.new.out) c.refuse.result c.in-Err.unread
+    (c.in-Err.ensures.read files_tell) c.in-Err.ensures.fault c.refuse.ensures.ends (c.refuse.ensures.told sink_tells)
+
+pub returns-in-Err-clause-leaves : goal.returns-in-Err-clause-leaves
+returns-in-Err-clause-leaves g c = λ files_tell not_cut.
+    unread_leaves c.args.app.now Flows (next c.args.trace.now) (g.F.Files.held c.args.files.now) Accepted (λ text a. Flows text (stands_for a.app) × IsChecked a)
+    _ c.refuse.result c.in-Err.unread (c.in-Err.ensures.read files_tell) c.refuse.ensures.ends not_cut

@@ -1,0 +1,28 @@
+-- What the judge of a certificate's text answers.
+use Rattle.std.specs.Prelude.{◌≡◌, ℕ, List, Option, Some}
+use Rattle.ps_checker.specs.Counts.{Counts}
+use Rattle.ps_flow.specs.declared.certificate.CertLine.{CertLine}
+use Rattle.ps_model.specs.Network.{Network}
+use Rattle.ps_report.specs.Short.{refusal_text}
+use Rattle.ps_top.specs.Lines.{verified_line}
+use Rattle.ps_top.specs.Asking.{Answer}
+use Rattle.ps_top.specs.Program.{answer, counts, Judges}
+use Rattle.ps_top.specs.Program.Judged.{derives, objects}
+use Rattle.ps_top.specs.declared.Status.TheVariants.{Done, BadInput}
+use Rattle.ps_top.specs.declared.verifying.Judgement.{Judgement}
+use Rattle.ps_top.specs.declared.verifying.Judgement.TheVariants.{Derives, Objects}
+
+-- the text of a certificate comes to this
+abbrev pub IsJudged : Network → List ℕ → Judgement → Type 0
+IsJudged net text (Derives c) = (lines : List CertLine) × Judges net text (derives lines) × (c ≡ counts net lines)
+IsJudged net text (Objects refusal) = Judges net text (objects refusal)
+
+-- a judgement has its line
+abbrev pub told_of : Judgement → Answer
+told_of (Derives c) = answer (verified_line c.lines) Done
+told_of (Objects refusal) = answer (refusal_text refusal) BadInput
+
+-- the counts of what was checked are left
+abbrev pub LeavesCounts : Judgement → Option Counts → Type 0
+LeavesCounts (Derives c) left = left ≡ Some c
+LeavesCounts (Objects refusal) left = Unit {0}

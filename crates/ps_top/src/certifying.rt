@@ -1,0 +1,44 @@
+// `cert APP`.
+
+ghost use Rattle.std.specs.Prelude.{◌≡◌, ◌≢◌, IsTrue};
+ghost use Rattle.ps_outside.specs.Outside.{Rose};
+ghost use Rattle.ps_top.specs.Asking.{IsLeft};
+ghost use Rattle.ps_top.specs.Meets.{IsCut, Meets};
+ghost use Rattle.ps_top.specs.Program as program;
+
+use crate::Status;
+use crate::checking::refuse;
+use crate::left::Left;
+use crate::reading::read_accepted;
+use crate::saying::say;
+use ps_outside::{Files, Sink};
+use std::alloc::Global;
+
+/// `cert APP`: the certificate of an accepted application.
+pub(crate) fn cert<F: Files, S: Sink>(
+    alloc: Global,
+    app: &str,
+    files: &mut F,
+    out: &mut S,
+    left: &mut Left,
+) -> Status
+    ensures meets { IsTrue (F.tells files.old) → IsTrue (S.tells out.old) →
+        Meets (program.cert app.now) (F.held files.old)
+        (λ name. Rose (F.faults files.old name) (F.faults files.new name)) (S.taken out.old) (S.taken out.new) result }
+    ensures leaves { IsTrue (F.tells files.old) → ¬ IsCut result → IsLeft (program.cert app.now) (F.held files.old) left.new.checked }
+    ensures read_fault { result ≡ Status.ReadFault → Rose (F.faults files.old app.now) (F.faults files.new app.now) }
+    ensures memory { IsTrue (S.tells out.old) → result ≡ Status.Memory → S.taken out.new ≡ S.taken out.old }
+    ensures write_fault { result ≡ Status.WriteFault → Rose (S.faults out.old) (S.faults out.new) }
+    ensures no_usage { result ≢ Status.Usage }
+{
+    match read_accepted(alloc, app, files) {
+        Ok(accepted) => match accepted.written(alloc) {
+            Ok((text, checked)) => {
+                left.checked = Some(checked);
+                say(out, text.as_slice(), Status::Done)
+            }
+            Err(_) => Status::Memory,
+        },
+        Err(unread) => refuse(out, unread),
+    }
+}

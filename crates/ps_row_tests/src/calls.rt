@@ -1,0 +1,115 @@
+// Calls of the program, and what they have to write.
+
+use ps_base::{Label, Memory};
+use ps_outside::{MemFiles, MemSink};
+use ps_top::{Left, Status, Words, top};
+use std::alloc::Global;
+use std::process::Abort;
+
+/// The bytes that a sink has room for.
+pub const ROOM: u32 = 1_048_576;
+
+/// The words of a text, parted by single spaces.
+pub fn words_of(alloc: Global, text: &str) -> Result<Words, Memory> {
+    let mut words = Words::new(alloc);
+    for word in text.split(' ') {
+        words.push(Label::of(String::from_str(alloc, word)?))?;
+    }
+    Ok(words)
+}
+
+/// Files that hold an application under `A` and a further text under `T`.
+pub fn files_of(alloc: Global, app: &str, other: &str) -> Result<MemFiles, Memory> {
+    let mut files = MemFiles::new(alloc);
+    files.put("A", app.as_bytes())?;
+    files.put("T", other.as_bytes())?;
+    Ok(files)
+}
+
+/// Asserts that a call with these words writes this text and ends with this status, where `A` and `T` are held.
+pub fn gives(
+    rt: &impl Abort,
+    alloc: Global,
+    words: &str,
+    held: (&str, &str),
+    wanted: (&str, Status),
+) -> Result<(), Memory> {
+    let (app, other) = held;
+    let (text, status) = wanted;
+    let mut files = files_of(alloc, app, other)?;
+    let mut out = MemSink::new(alloc, ROOM)?;
+    let list = words_of(alloc, words)?;
+    let found = top(alloc, &list, &mut files, &mut out, &mut Left::new());
+    assert_eq!(rt; out.taken(), text.as_bytes(), "{words}");
+    assert_eq!(rt; found, status, "{words}");
+    Ok(())
+}
+
+/// The trace and the text of a table. A row is a line of the trace and, behind ` => `, the line that is written for
+/// it, if any.
+pub fn trace_and_text(alloc: Global, rows: &str) -> Result<(String, String), Memory> {
+    let mut trace = String::new(alloc);
+    let mut text = String::new(alloc);
+    for row in rows.lines() {
+        match row.split_once(" => ") {
+            Some((line, written)) => {
+                trace.push_str(line)?;
+                text.push_str(written)?;
+                text.push_str("\n")?;
+            }
+            None => trace.push_str(row)?,
+        }
+        trace.push_str("\n")?;
+    }
+    Ok((trace, text))
+}
+
+/// Asserts that `run` of an application writes a table's text for its trace, and ends with this status.
+pub fn walk(
+    rt: &impl Abort,
+    alloc: Global,
+    app: &str,
+    rows: &str,
+    status: Status,
+) -> Result<(), Memory> {
+    let (trace, text) = trace_and_text(alloc, rows)?;
+    gives(
+        rt,
+        alloc,
+        "run A T",
+        (app, trace.as_str()),
+        (text.as_str(), status),
+    )
+}
+
+/// Asserts of each application of a table what a command says of it. A row is a line of the application and,
+/// behind ` => `, what is written for it; the line stands between a head and an end.
+pub fn hold(
+    rt: &impl Abort,
+    alloc: Global,
+    command: &str,
+    around: (&str, &str),
+    rows: &str,
+    status: Status,
+) -> Result<(), Memory> {
+    let (head, end) = around;
+    for row in rows.lines() {
+        match row.split_once(" => ") {
+            Some((line, written)) => {
+                let lines = line.replace(alloc, '|', "\n")?;
+                let line = lines.as_str();
+                let app = format!(in alloc; "{head}{line}{end}")?;
+                let text = format!(in alloc; "{written}\n")?;
+                gives(
+                    rt,
+                    alloc,
+                    command,
+                    (app.as_str(), "time\n"),
+                    (text.as_str(), status),
+                )?;
+            }
+            None => assert!(rt; false, "no row: {row}"),
+        }
+    }
+    Ok(())
+}

@@ -1,0 +1,80 @@
+// Words that are not taken.
+
+use crate::calls::{ROOM, files_of, gives};
+use crate::motor::MOTOR;
+use ps_outside::MemSink;
+use ps_top::{Left, Status, Words, top};
+use std::test::Fail;
+
+/// The usage line.
+const USAGE: &str = "usage: plcsafe run APP TRACE | check APP | cert APP | verify APP CERT\n";
+
+/// Words that are not taken, a call to a line.
+const WORDS: &str = "\
+run
+run A
+run A T T
+run A  T
+run A -T
+run -A T
+-run A T
+Run A T
+--help
+--version
+help
+check
+check A T
+Check A
+check -
+cert
+cert A T
+verify A
+verify A T T
+frob A T
+runA T
+";
+
+#[test]
+fn words_that_are_not_taken(rt: HostRuntime) -> Result<(), Fail> {
+    for words in WORDS.lines() {
+        gives(&rt, rt.alloc(), words, (MOTOR, ""), (USAGE, Status::Usage))?;
+    }
+    Ok(())
+}
+
+#[test]
+fn empty_words(rt: HostRuntime) -> Result<(), Fail> {
+    gives(&rt, rt.alloc(), "", (MOTOR, ""), (USAGE, Status::Usage))?;
+    gives(
+        &rt,
+        rt.alloc(),
+        "run A T ",
+        (MOTOR, ""),
+        (USAGE, Status::Usage),
+    )?;
+    gives(
+        &rt,
+        rt.alloc(),
+        " run A T",
+        (MOTOR, ""),
+        (USAGE, Status::Usage),
+    )?;
+    Ok(())
+}
+
+#[test]
+fn no_words(rt: HostRuntime) -> Result<(), Fail> {
+    let alloc = rt.alloc();
+    let mut files = files_of(alloc, MOTOR, "")?;
+    let mut out = MemSink::new(alloc, ROOM)?;
+    let status = top(
+        alloc,
+        &Words::new(alloc),
+        &mut files,
+        &mut out,
+        &mut Left::new(),
+    );
+    assert_eq!(rt; out.taken(), USAGE.as_bytes());
+    assert_eq!(rt; status, Status::Usage);
+    Ok(())
+}

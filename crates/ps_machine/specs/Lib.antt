@@ -1,0 +1,10 @@
+pub mod Bytes
+pub mod Progressing
+pub mod Machines
+pub mod Keeping
+pub mod Standing
+pub mod Reporting
+pub mod Channels
+pub mod Phases
+pub mod Limits
+pub mod ReadingBack

@@ -1,0 +1,69 @@
+// What the compilers write of a call: the free values of its pins, and its limit.
+
+ghost use Rattle.std.specs.Prelude.{◌≡◌, ◌<◌, length};
+ghost use Rattle.ps_model.specs.Blocks.{block};
+ghost use Rattle.ps_model.specs.Scanning.{pin_at, limit_of};
+ghost use Rattle.ps_model.specs.Args.{actual};
+ghost use Rattle.ps_model.specs.Steps.{action};
+ghost use Rattle.ps_model.specs.Budgets.{IsCall};
+ghost use Rattle.ps_machine.specs.Limits.{literal_time, HasLimit, LimitsFit};
+
+use ps_model::app::App;
+use ps_model::budget::boolean_count;
+use ps_model::kind::{Kind, fixed_limit};
+use ps_model::pins::pin_row;
+use ps_model::step::{Arg, Args, Step};
+
+/// The value of an input pin that a call does not name, by the pin's number.
+pub fn free_value(kind: Kind, j: u8) -> bool
+    requires { j < length (block kind).inputs }
+    ensures { result ≡ (pin_at kind j).free }
+{
+    pin_row(kind, j).free
+}
+
+// The TIME literal that stands at a pin in ms, and else 0.
+fn literal_at(arg: &Arg) -> u32
+    ensures { result ≡ literal_time (actual arg.now) }
+{
+    match arg {
+        Arg::Time(t) => *t,
+        _ => 0,
+    }
+}
+
+/// The limit of a call in ms: the literal at the kind's TIME pin, 0 where that pin is free, and the
+/// kind's own where it has no TIME pin (profile).
+#[tactic(auto, using(crate::proofs::Timing::limit_timed, crate::proofs::Timing::limit_own))]
+pub fn call_limit(kind: Kind, args: &Args) -> u32
+    requires { length args.now ≡ length (block kind).inputs }
+    ensures { result ≡ limit_of kind args.now }
+{
+    let time_pin = boolean_count(kind) as usize;
+    if time_pin < args.len() {
+        literal_at(args.at(time_pin))
+    } else {
+        fixed_limit(kind)
+    }
+}
+
+/// The limit of each call of an application is a number of 32 bits. It looks at each call and changes
+/// nothing.
+pub fn limits_fit(app: &App)
+    ensures { LimitsFit app.now }
+{
+    app.sound();
+    for k in 0..app.step_count() {
+        limit_fits(app, app.step(k));
+    }
+}
+
+// The limit of a step, where it is a call.
+fn limit_fits(app: &App, step: &Step)
+    requires { IsCall app.now (action step.now) }
+    ensures { HasLimit app.now (action step.now) }
+{
+    if let Step::Call { instance, args } = step {
+        let _limit = call_limit(app.instance_kind(*instance), args);
+    }
+}

@@ -1,0 +1,28 @@
+-- The rows of SF_ESPE decide as its table does.
+use Rattle.std.proofs.Common.{◌≡◌, ℕ, Bool, true, refl, ◌∙◌, rules}
+use Rattle.ps_model.specs.declared.kind.Kind.TheVariants.{Espe}
+use Rattle.ps_model.specs.Blocks.{next, block}
+use Rattle.ps_model.specs.Kept.{Kept, seen}
+use Rattle.ps_rows.specs.declared.stop.TheConstants.{STOP}
+use Rattle.ps_rows.specs.Names.{names}
+use Rattle.ps_rows.specs.Decision.{RowsDecide}
+use Rattle.ps_rows.proofs.Choices.{decides, of_states, decides_each, decision_same, TableAgrees}
+use Rattle.ps_rows.proofs.Seeing.{seen_at, as_chosen, nowhere}
+
+passed : decides STOP Espe as_chosen (seen_at 4 5 nowhere nowhere nowhere) 6 ≡ true
+unfolding next block
+passed = refl
+
+pub espe_states : of_states STOP Espe ≡ true
+unfolding block
+espe_states = refl
+
+agrees : (pins : ℕ → Bool) (elapsed : Bool) (k : Kept) →
+    TableAgrees (block Espe).rows (seen_at 4 5 nowhere nowhere nowhere (names Espe pins elapsed k)) (seen Espe pins elapsed k)
+unfolding block
+agrees pins elapsed k = search rules
+
+pub espe_decides : RowsDecide Espe
+espe_decides q pins elapsed k =
+    decides_each STOP Espe as_chosen (seen_at 4 5 nowhere nowhere nowhere) 6 passed espe_states q (names Espe pins elapsed k) refl
+    ∙ decision_same Espe q (seen_at 4 5 nowhere nowhere nowhere (names Espe pins elapsed k)) (seen Espe pins elapsed k) refl (agrees pins elapsed k)

@@ -1,0 +1,12 @@
+pub mod Again
+pub mod Blocks
+pub mod Complements
+pub mod KeptBits
+pub mod KindsByNumber
+pub mod Lengths
+pub mod OneBit
+pub mod OutsRead
+pub mod PinsRead
+pub mod Poking
+pub mod Walks
+pub mod Reported

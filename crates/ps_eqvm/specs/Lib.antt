@@ -1,0 +1,10 @@
+pub mod Bits
+pub mod Kinds
+pub mod Plain
+pub mod Rows
+pub mod Acting
+pub mod Turn
+pub mod Channel
+pub mod Finding
+pub mod Gates
+pub mod Pins

@@ -1,0 +1,203 @@
+// BLOCK: one step of an instance.
+
+ghost use Rattle.std.specs.Prelude.{◌≡◌, ◌≢◌, ℕ, ◌+◌, ◌*◌, ◌<◌, ◌≤◌, IfNone, IfSome, Option, if◌then◌else◌, length, max};
+ghost use Rattle.std.specs.List.{list_any};
+ghost use Rattle.std.specs.Int.{bit_at};
+ghost use Rattle.ps_model.specs.Blocks.{output_count};
+ghost use Rattle.ps_model.specs.Budgets.{boolean_count};
+ghost use Rattle.ps_model.specs.Stored.{loaded};
+ghost use Rattle.ps_machine.specs.Bytes.{bit, instance_bytes};
+ghost use Rattle.ps_rows.specs.Viewed.{pin_of};
+ghost use Rattle.ps_eqvm.specs.Plain.{IsSized};
+ghost use Rattle.ps_eqvm.specs.Rows.{operands};
+ghost use Rattle.ps_eqvm.specs.Acting.{after_block, block_as, trapped, stepped_by, pin_bytes, is_missing};
+ghost use Rattle.ps_eqvm.specs.Pins.{Reads, ReadSoFar};
+ghost use Rattle.ps_eqvm.specs.Finding.{found_of};
+
+use crate::kept::load;
+use crate::operand::Found;
+use crate::plain::PlainCells;
+use ps_machine::bytes::number_in_two;
+use ps_model::budget::boolean_count;
+use ps_model::kind::{Kind, kind_numbered, output_count};
+
+/// What a look at the operands of a row finds.
+#[derive(Clone, Copy)]
+pub enum Pins {
+    /// One of them is bad.
+    Missing,
+    /// None is bad, and a byte is neither 0 nor 1.
+    Odd,
+    /// Bit j is pin j.
+    Bits(u32),
+}
+
+/// What a BLOCK row names beside its kind: the instance, its first output signal and its limit in ms.
+/// `signals` is how many signals there are, and `next` is where the following row stands.
+#[derive(Clone, Copy)]
+pub struct Site {
+    pub signals: u16,
+    pub instance: u16,
+    pub first: u16,
+    pub limit: u32,
+    pub next: u32,
+}
+
+// The pins so far: bit j is pin j, and whether a byte was neither 0 nor 1.
+#[derive(Clone, Copy)]
+struct PinBits {
+    bits: u32,
+    odd: bool,
+}
+
+// The pins with pin j, where it is TRUE.
+fn with_pin(bits: u32, j: u8, on: bool) -> u32
+    requires { j < 32 }
+    ensures same { bit_at result j ≡ max (bit_at bits j) (bit on) }
+    ensures others { (k : ℕ) → k ≢ j → bit_at result k ≡ bit_at bits k }
+{
+    if on { bits | 1u32 << j } else { bits }
+}
+
+// The pins with what was found for pin j, and None where its operand is bad.
+fn with_found(so_far: PinBits, j: u8, found: Found) -> Option<PinBits>
+    requires { j < 32 }
+    ensures some { IfSome result (λ pins. (f : ℕ → Option ℕ) → ReadSoFar f j so_far.bits so_far.odd → found ≡ found_of (f j) → ReadSoFar f (j + 1) pins.bits pins.odd) }
+    ensures none { IfNone result (found ≡ Found.Missing) }
+{
+    match found {
+        Found::Missing => None,
+        Found::Odd => Some(PinBits {
+            bits: so_far.bits,
+            odd: true,
+        }),
+        Found::Truth(on) => Some(PinBits {
+            bits: with_pin(so_far.bits, j, on),
+            odd: so_far.odd,
+        }),
+    }
+}
+
+// The pins that so many operands from a place of the code on give, among so many signals.
+fn pins_of(plain: &PlainCells, signals: u16, code: &[u8], from: usize, count: u8) -> Pins
+    requires sized { length plain.now.cells ≡ 48 + signals }
+    requires whole { from + 2 * count ≤ length code.now }
+    requires few { count ≤ 32 }
+    ensures { Reads result (pin_bytes signals plain.now.cells (operands code.now from count)) }
+{
+    let mut pins = PinBits {
+        bits: 0,
+        odd: false,
+    };
+    for j in 0..count {
+        let found = plain.find(signals, number_in_two(code, from + 2 * j as usize));
+        match with_found(pins, j, found) {
+            None => return Pins::Missing,
+            Some(more) => pins = more,
+        }
+    }
+    if pins.odd {
+        Pins::Odd
+    } else {
+        Pins::Bits(pins.bits)
+    }
+}
+
+// Whether the operand was bad.
+fn was_bad(found: Found) -> bool
+    ensures { (byte : Option ℕ) → found ≡ found_of byte → result ≡ is_missing byte }
+{
+    match found {
+        Found::Missing => true,
+        Found::Odd => false,
+        Found::Truth(_) => false,
+    }
+}
+
+// Whether one of so many operands from a place of the code on is bad, among so many signals.
+fn has_bad(plain: &PlainCells, signals: u16, code: &[u8], from: usize, count: u8) -> bool
+    requires sized { length plain.now.cells ≡ 48 + signals }
+    requires whole { from + 2 * count ≤ length code.now }
+    ensures { result ≡ list_any is_missing (pin_bytes signals plain.now.cells (operands code.now from count)) }
+{
+    for j in 0..count {
+        if was_bad(plain.find(signals, number_in_two(code, from + 2 * j as usize))) {
+            return true;
+        }
+    }
+    false
+}
+
+/// BLOCK of an instance, of which there are so many, as the kind with a number, with so many operands
+/// from a place of the code on.
+#[tactic(auto, using(crate::proofs::KindsByNumber::kind_of_number, crate::proofs::KindsByNumber::no_kind_of))]
+pub fn block(
+    plain: &mut PlainCells,
+    instances: u16,
+    kind: u8,
+    site: Site,
+    code: &[u8],
+    from: usize,
+    count: u8,
+)
+    requires sized { IsSized site.signals instances plain.old }
+    requires whole { from + 2 * count ≤ length code.now }
+    ensures { plain.new ≡ after_block site.signals instances site.instance kind site.first site.limit (operands code.now from count) site.next plain.old }
+{
+    if site.instance >= instances {
+        return plain.trap(6);
+    }
+    match kind_numbered(kind) {
+        Some(kind) => block_as(plain, kind, site, code, from, count),
+        None => plain.trap(6),
+    }
+}
+
+// BLOCK of an instance that is there.
+fn block_as(plain: &mut PlainCells, kind: Kind, site: Site, code: &[u8], from: usize, count: u8)
+    requires cells { length plain.old.cells ≡ 48 + site.signals }
+    requires blocks { 16 * site.instance + 16 ≤ length plain.old.blocks }
+    requires whole { from + 2 * count ≤ length code.now }
+    ensures { plain.new ≡ block_as site.signals site.instance site.first site.limit kind (pin_bytes site.signals plain.old.cells (operands code.now from count)) site.next plain.old }
+{
+    if u32::from(site.first) + u32::from(output_count(kind)) > u32::from(site.signals) {
+        return plain.trap(5);
+    }
+    if count != boolean_count(kind) {
+        return miscounted(plain, site.signals, code, from, count);
+    }
+    match pins_of(plain, site.signals, code, from, count) {
+        Pins::Missing => plain.trap(5),
+        Pins::Odd => plain.trap(4),
+        Pins::Bits(bits) => step_as(plain, kind, bits, site),
+    }
+}
+
+// BLOCK with a wrong number of operands: all of them are judged first.
+fn miscounted(plain: &mut PlainCells, signals: u16, code: &[u8], from: usize, count: u8)
+    requires cells { length plain.old.cells ≡ 48 + signals }
+    requires whole { from + 2 * count ≤ length code.now }
+    ensures { plain.new ≡ (if list_any is_missing (pin_bytes signals plain.old.cells (operands code.now from count)) then trapped 5 plain.old else trapped 3 plain.old) }
+{
+    if has_bad(plain, signals, code, from, count) {
+        plain.trap(5)
+    } else {
+        plain.trap(3)
+    }
+}
+
+// The step of an instance as a kind, with pins that are there.
+fn step_as(plain: &mut PlainCells, kind: Kind, bits: u32, site: Site)
+    requires cells { length plain.old.cells ≡ 48 + site.signals }
+    requires blocks { 16 * site.instance + 16 ≤ length plain.old.blocks }
+    requires outs { site.first + output_count kind ≤ site.signals }
+    ensures { plain.new ≡ stepped_by site.instance site.first site.limit kind (pin_of bits) site.next (loaded kind (instance_bytes 0 site.instance plain.old.blocks)) plain.old }
+{
+    match load(kind, &plain.instance(site.instance as usize)) {
+        None => plain.trap(7),
+        Some(block) => {
+            let stepped = block.stepped(kind, bits, site.limit, plain.passed());
+            plain.settle(kind, stepped, site.instance, site.first, site.next)
+        }
+    }
+}

@@ -1,0 +1,211 @@
+// Channel B: its code and its cells.
+
+ghost use Rattle.std.specs.Prelude.{◌≡◌, ◌+◌, ◌*◌, IfOk};
+
+use crate::image::EquationImage;
+use crate::plain::PlainCells;
+use crate::{report, turn};
+use ps_base::Memory;
+use ps_machine::bytes::{overwrite, progress_of_byte, replace};
+use ps_model::channel::{OutOfRegion, Progress, Region};
+use ps_model::report::{Report, Scan};
+use ps_model::sizes::Sizes;
+use ps_model::values::{FirstPins, Kinds};
+use std::alloc::Global;
+use std::marker::Model;
+
+/// Channel B: a machine that runs equation code. It has its own copy of the code and its cells, and
+/// remembers nothing else. Contracts see both as bytes as they are stored: each byte of the cells is
+/// 255 less its plain value. Every turn reads its row from that code, so bytes that a fault replaced
+/// are run as they are. Of its calls only `new` takes memory.
+#[derive(Drop, Debug)]
+pub struct EquationChannel {
+    sizes: Sizes,
+    code: Vec<u8>,
+    plain: PlainCells,
+}
+
+impl Model for EquationChannel {
+    ghost use Rattle.std.specs.Prelude.{◌≡◌, ◌^◌, ◌<◌, length};
+    ghost use Rattle.ps_eqvm.specs.Plain.{laid_out, IsSized};
+    ghost use Rattle.ps_eqvm.specs.Channel.{ChannelB};
+
+    ghost Value = { ChannelB };
+
+    ghost view = { λ c. record { sizes = c.sizes; code = c.code.items; cells = laid_out c.plain } };
+
+    ghost invariant = { λ c. IsSized c.sizes.signals c.sizes.instances c.plain × (length c.code.items < 2 ^ 32) };
+}
+
+// A copy of first pins.
+fn copy_of_first_pins(alloc: Global, first_pins: &FirstPins) -> Result<FirstPins, Memory>
+    ensures { IfOk result (λ copy. copy ≡ first_pins.now) }
+{
+    let mut copy = FirstPins::new(alloc);
+    for i in 0..first_pins.len() {
+        copy.push(first_pins.at(i))?;
+    }
+    Ok(copy)
+}
+
+// A copy of kinds.
+fn copy_of_kinds(alloc: Global, kinds: &Kinds) -> Result<Kinds, Memory>
+    ensures { IfOk result (λ copy. copy ≡ kinds.now) }
+{
+    let mut copy = Kinds::new(alloc);
+    for i in 0..kinds.len() {
+        copy.push(kinds.at(i))?;
+    }
+    Ok(copy)
+}
+
+// A copy of the sizes of an application.
+fn copy_of_sizes(alloc: Global, sizes: &Sizes) -> Result<Sizes, Memory>
+    ensures { IfOk result (λ copy. copy ≡ sizes.now) }
+{
+    let first_pins = copy_of_first_pins(alloc, &sizes.first_pins)?;
+    let kinds = copy_of_kinds(alloc, &sizes.kinds)?;
+    Ok(Sizes {
+        signals: sizes.signals,
+        instances: sizes.instances,
+        inputs: sizes.inputs,
+        outputs: sizes.outputs,
+        first_pins,
+        kinds,
+    })
+}
+
+// How many bytes the cells of an application have.
+fn cells_len(sizes: &Sizes) -> u32
+    ensures { result ≡ 61 + sizes.now.signals + 16 * sizes.now.instances }
+{
+    let signals = sizes.signals;
+    let instances = sizes.instances;
+    61 + signals as u32 + 16 * instances as u32
+}
+
+impl EquationChannel {
+    ghost use Rattle.std.specs.Prelude.{◌≡◌, ℕ, ◌+◌, ◌<◌, ◌==◌, IfOk, None, Some, false, is_err, length, nat_lt, true};
+    ghost use Rattle.ps_machine.specs.Progressing.{progress_said};
+    ghost use Rattle.ps_eqvm.specs.Bits.{AreBitsOf};
+    ghost use Rattle.ps_eqvm.specs.Turn.{turn_b, begin_b, report_b};
+    ghost use Rattle.ps_eqvm.specs.Channel.{ChannelB, blank_b, progress_of, region_of, spoiled, bit_cells};
+
+    /// A channel with its own copy of the code, for an application of these sizes, with cells of plain
+    /// value 0.
+    pub fn new(
+        alloc: Global,
+        image: &EquationImage,
+        sizes: &Sizes,
+    ) -> Result<EquationChannel, Memory>
+        ensures { IfOk result (λ c. c ≡ record { sizes = sizes.now; code = image.now; cells = blank_b sizes.now }) }
+    {
+        let sizes = copy_of_sizes(alloc, sizes)?;
+        let code = Vec::from_slice(alloc, image.as_slice())?;
+        let plain = PlainCells::all_zero(alloc, sizes.signals, sizes.instances)?;
+        Ok(EquationChannel { sizes, code, plain })
+    }
+
+    /// The channel is as `new` makes it from this image.
+    pub fn renew(&mut self, image: &EquationImage)
+        requires { length image.now ≡ length self.old.code }
+        ensures { self.new ≡ record { sizes = self.old.sizes; code = image.now; cells = blank_b self.old.sizes } }
+    {
+        self.code.copy_from_slice(image.as_slice());
+        self.plain.clear();
+    }
+
+    /// The Begin of a scan (profile): the offset and the progress are 0, the time passed is that since
+    /// the last scan, and the inputs have the scan's values.
+    pub fn begin(&mut self, scan: &Scan)
+        requires { length scan.now.ins ≡ self.old.sizes.inputs }
+        ensures { self.new ≡ record self.old { cells = begin_b self.old.sizes scan.entry.now.now scan.entry.now.ins self.old.cells } }
+    {
+        self.plain.sound();
+        self.plain.begin(scan.now, scan.ins.as_slice());
+    }
+
+    /// What the progress byte says, by its plain value.
+    pub fn progress(&self) -> Progress
+        ensures { result ≡ progress_said (progress_of self.now.cells) }
+    {
+        self.plain.sound();
+        progress_of_byte(self.plain.progress())
+    }
+
+    /// One row, on any bytes. A trap n is marked in the progress byte, and nothing else changes.
+    pub fn turn(&mut self)
+        requires { progress_said (progress_of self.old.cells) ≡ Progress.Running }
+        ensures { self.new ≡ record self.old { cells = turn_b self.old.sizes self.old.code self.old.cells } }
+    {
+        self.plain.sound();
+        turn::turn(
+            &mut self.plain,
+            &self.code,
+            self.sizes.signals,
+            self.sizes.instances,
+        );
+    }
+
+    /// The value words as they are kept: bit i is 1 exactly where the plain byte of work cell i, or
+    /// from 48 on of signal i - 48, is 1. There are as many words as these cells need, and the bits
+    /// past the last cell are 0.
+    pub fn value_words(&self) -> &[u64]
+        ensures { AreBitsOf (λ byte. byte == 1) (bit_cells self.now.sizes self.now.cells) result.now }
+    {
+        self.plain.sound();
+        self.plain.value_words()
+    }
+
+    /// The odd words as they are kept: bit i is 1 exactly where the plain byte of work cell i, or from
+    /// 48 on of signal i - 48, is neither 0 nor 1. There are as many words as these cells need, and the
+    /// bits past the last cell are 0.
+    pub fn odd_words(&self) -> &[u64]
+        ensures { AreBitsOf (nat_lt 1) (bit_cells self.now.sizes self.now.cells) result.now }
+    {
+        self.plain.sound();
+        self.plain.odd_words()
+    }
+
+    /// The length of a region in bytes.
+    pub fn region_len(&self, region: Region) -> u32
+        ensures { result ≡ length (region_of region self.now) }
+    {
+        match region {
+            Region::Code => self.code.len() as u32,
+            Region::Cells => cells_len(&self.sizes),
+        }
+    }
+
+    /// Replaces bytes of a region, as they are stored. OutOfRegion comes exactly where they would pass
+    /// its end, and then nothing changed.
+    pub fn spoil(&mut self, region: Region, at: u32, bytes: &[u8]) -> Result<(), OutOfRegion>
+        ensures spoiled { self.new ≡ spoiled region at bytes.now self.old }
+        ensures refused { is_err result ≡ nat_lt (length (region_of region self.old)) (at + length bytes.now) }
+    {
+        match region {
+            Region::Code => overwrite(&mut self.code, at, bytes),
+            Region::Cells => {
+                let len = cells_len(&self.sizes) as usize;
+                self.plain.overwrite(len, at, bytes)
+            }
+        }
+    }
+
+    /// True exactly where the plain byte of each output, Ready and Error is 0 or 1, and then `into` is
+    /// the report that the cells hold. False leaves `into` unchanged.
+    pub fn report_into(&self, into: &mut Report) -> bool
+        requires outs { length into.old.outs ≡ self.now.sizes.outputs }
+        requires diags { length into.old.diags ≡ self.now.sizes.instances }
+        ensures some { result ≡ true → report_b self.now.sizes self.now.cells ≡ Some into.new }
+        ensures none { result ≡ false → (report_b self.now.sizes self.now.cells ≡ None) × (into.new ≡ into.old) }
+    {
+        self.plain.sound();
+        if !report::has_report(&self.plain, &self.sizes) {
+            return false;
+        }
+        report::write_outputs(&self.plain, &self.sizes, &mut into.outs);
+        report::write_diags(&self.plain, &self.sizes, &mut into.diags);
+        true
+    }
+}

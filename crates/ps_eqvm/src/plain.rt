@@ -1,0 +1,319 @@
+// The cells with their plain content.
+
+ghost use Rattle.std.specs.Prelude.{◌≡◌, ◌+◌, ◌<◌, ◌≤◌, ◌^◌, length, map, slice_set};
+ghost use Rattle.std.specs.Int.{w32, to_be_bytes};
+ghost use Rattle.ps_model.specs.Blocks.{outs, output_count};
+ghost use Rattle.ps_machine.specs.Bytes.{bit, replaced};
+
+use crate::cells::BitCells;
+use crate::instances::InstanceBytes;
+use crate::kept::store;
+use crate::operand::{Found, Operand, find};
+use crate::outputs::output;
+use ps_base::Memory;
+use ps_model::channel::OutOfRegion;
+use ps_model::kind::{Kind, output_count};
+use ps_rows::CountedBlock;
+use std::alloc::Global;
+use std::marker::Model;
+
+/// Channel B's cells, which contracts see with their plain content. The numbers are kept as numbers,
+/// the work cells and signals as bits, and the instances' bytes as they are stored.
+#[derive(Drop, Debug)]
+pub struct PlainCells {
+    offset: u32,
+    progress: u8,
+    last: u32,
+    passed: u32,
+    cells: BitCells,
+    blocks: InstanceBytes,
+}
+
+impl Model for PlainCells {
+    ghost use Rattle.ps_eqvm.specs.Plain.{Plain};
+
+    ghost Value = { Plain };
+
+    ghost view = { λ p. record { offset = p.offset; progress = p.progress; last = p.last; passed = p.passed; cells = p.cells; blocks = p.blocks } };
+}
+
+// One truth value for each cell from a place on.
+fn put_all(cells: &mut BitCells, at: usize, values: &[bool])
+    requires low { at < 2 ^ 32 }
+    requires room { at + length values.now ≤ length cells.old }
+    ensures { cells.new ≡ replaced cells.old at (map bit values.now) }
+{
+    for (i, value) in values.iter().enumerate() {
+        cells.put(at + i, *value);
+    }
+}
+
+// The outputs of a kind in a state with this latched mode, from a cell on.
+fn put_outputs(cells: &mut BitCells, at: usize, kind: Kind, code: u16, mode: u8)
+    requires low { at < 2 ^ 32 }
+    requires room { at + output_count kind ≤ length cells.old }
+    ensures { cells.new ≡ replaced cells.old at (map bit (outs kind code mode)) }
+{
+    for j in 0..output_count(kind) {
+        cells.put(at + j as usize, output(kind, code, mode, j));
+    }
+}
+
+// A number with one of its four bytes replaced, of which byte 0 is the highest.
+fn with_byte(number: u32, i: usize, byte: u8) -> u32
+    requires { i < 4 }
+    ensures { to_be_bytes w32 result ≡ slice_set (to_be_bytes w32 number) i byte }
+{
+    let mut bytes = number.to_be_bytes();
+    bytes[i] = byte;
+    u32::from_be_bytes(bytes)
+}
+
+impl PlainCells {
+    ghost use Rattle.std.specs.Prelude.{◌≡◌, ◌+◌, ◌-◌, ◌*◌, ◌<◌, ◌≤◌, ◌^◌, ◌==◌, IfOk, is_err, length, nat_lt, slice_index, slice_set};
+    ghost use Rattle.ps_machine.specs.Bytes.{bit, be2, instance_bytes, overwritten, replaced};
+    ghost use Rattle.ps_model.specs.Blocks.{output_count};
+    ghost use Rattle.ps_rows.specs.Counted.{kept_by};
+    ghost use Rattle.ps_eqvm.specs.Bits.{truth_of, AreBitsOf};
+    ghost use Rattle.ps_eqvm.specs.Plain.{plain_bytes, laid_out, blank, IsPlain};
+    ghost use Rattle.ps_eqvm.specs.Rows.{operand_of};
+    ghost use Rattle.ps_eqvm.specs.Acting.{trapped, after_last, byte_of, with_cell, settled};
+    ghost use Rattle.ps_eqvm.specs.Turn.{begin_plain};
+    ghost use Rattle.ps_eqvm.specs.Finding.{found_of};
+
+    /// Cells of an application with so many signals and instances, each 0.
+    pub fn all_zero(alloc: Global, signals: u16, instances: u16) -> Result<PlainCells, Memory>
+        ensures { IfOk result (λ p. p ≡ blank (48 + signals) (16 * instances)) }
+    {
+        let cells = BitCells::all_zero(alloc, 48 + signals as usize)?;
+        let blocks = InstanceBytes::all_zero(alloc, instances)?;
+        Ok(PlainCells {
+            offset: 0,
+            progress: 0,
+            last: 0,
+            passed: 0,
+            cells,
+            blocks,
+        })
+    }
+
+    /// Each byte becomes 0.
+    pub fn clear(&mut self)
+        ensures { self.new ≡ blank (length self.old.cells) (length self.old.blocks) }
+    {
+        self.offset = 0;
+        self.progress = 0;
+        self.last = 0;
+        self.passed = 0;
+        self.cells.clear();
+        self.blocks.clear();
+    }
+
+    /// Its numbers and bytes are in range. It does nothing when it runs.
+    pub fn sound(&self)
+        ensures { IsPlain self.now }
+    {
+        self.cells.are_bytes();
+        self.blocks.are_bytes();
+        let _offset = self.offset;
+        let _progress = self.progress;
+        let _last = self.last;
+        let _passed = self.passed;
+    }
+
+    /// Where the next row stands in the code.
+    pub fn offset(&self) -> u32
+        ensures { result ≡ self.now.offset }
+    {
+        self.offset
+    }
+
+    /// The progress of the scan.
+    pub fn progress(&self) -> u8
+        ensures { result ≡ self.now.progress }
+    {
+        self.progress
+    }
+
+    /// The time passed in this scan, in ms.
+    pub fn passed(&self) -> u32
+        ensures { result ≡ self.now.passed }
+    {
+        self.passed
+    }
+
+    /// The truth value of a cell, or None exactly where its byte is neither 0 nor 1.
+    pub fn cell(&self, i: usize) -> Option<bool>
+        requires { i < length self.now.cells }
+        ensures { result ≡ truth_of (slice_index self.now.cells i) }
+    {
+        self.cells.at(i)
+    }
+
+    /// The value of the operand with a number, among so many signals.
+    pub fn find(&self, signals: u16, number: u16) -> Found
+        requires { length self.now.cells ≡ 48 + signals }
+        ensures { result ≡ found_of (byte_of self.now.cells (operand_of signals number)) }
+    {
+        find(&self.cells, Operand::numbered(signals, number))
+    }
+
+    /// The sixteen bytes of an instance.
+    pub fn instance(&self, i: usize) -> [u8; 16]
+        requires { 16 * i + 16 ≤ length self.now.blocks }
+        ensures { result ≡ instance_bytes 0 i self.now.blocks }
+    {
+        self.blocks.at(i)
+    }
+
+    /// The truth value of signal s, or None exactly where its byte is neither 0 nor 1.
+    pub fn signal(&self, s: u16) -> Option<bool>
+        requires { 48 + s < length self.now.cells }
+        ensures { result ≡ truth_of (slice_index (plain_bytes self.now) (61 + s)) }
+    {
+        self.cells.at(48 + s as usize)
+    }
+
+    /// The DiagCode of instance i, among so many signals.
+    pub fn code(&self, signals: u16, i: usize) -> u16
+        requires cells { length self.now.cells ≡ 48 + signals }
+        requires blocks { 16 * i + 16 ≤ length self.now.blocks }
+        ensures { result ≡ be2 (plain_bytes self.now) (61 + signals + 16 * i) }
+    {
+        self.blocks.code(i)
+    }
+
+    /// The value words: a bit is 1 exactly where its cell's byte is 1.
+    pub fn value_words(&self) -> &[u64]
+        ensures { AreBitsOf (λ byte. byte == 1) self.now.cells result.now }
+    {
+        self.cells.value_words()
+    }
+
+    /// The odd words: a bit is 1 exactly where its cell's byte is neither 0 nor 1.
+    pub fn odd_words(&self) -> &[u64]
+        ensures { AreBitsOf (nat_lt 1) self.now.cells result.now }
+    {
+        self.cells.odd_words()
+    }
+
+    /// The Begin of a scan at a time in ms, with these inputs.
+    pub fn begin(&mut self, now: u32, ins: &[bool])
+        requires { 48 + length ins.now ≤ length self.old.cells }
+        ensures { self.new ≡ begin_plain now ins.now self.old }
+    {
+        self.offset = 0;
+        self.progress = 0;
+        self.passed = now.saturating_sub(self.last);
+        self.last = now;
+        put_all(&mut self.cells, 48, ins);
+    }
+
+    /// Marks the trap with number n.
+    pub fn trap(&mut self, n: u8)
+        requires { n < 8 }
+        ensures { self.new ≡ trapped n self.old }
+    {
+        self.progress = n + 1;
+    }
+
+    /// The scan is done.
+    pub fn end(&mut self, next: u32)
+        ensures { self.new ≡ after_last next self.old }
+    {
+        self.offset = next;
+        self.progress = 1;
+    }
+
+    /// A cell becomes a truth value, and the row at `next` follows.
+    pub fn put(&mut self, i: usize, on: bool, next: u32)
+        requires { i < length self.old.cells }
+        ensures { self.new ≡ with_cell i (bit on) next self.old }
+    {
+        self.cells.put(i, on);
+        self.offset = next;
+    }
+
+    /// An instance keeps its new state, its outputs are written from a signal on, and the row at `next`
+    /// follows.
+    pub fn settle(&mut self, kind: Kind, block: CountedBlock, instance: u16, first: u16, next: u32)
+        requires outs { 48 + first + output_count kind ≤ length self.old.cells }
+        requires bytes { 16 * instance + 16 ≤ length self.old.blocks }
+        ensures { self.new ≡ settled instance first kind (kept_by block) next self.old }
+    {
+        put_outputs(
+            &mut self.cells,
+            48 + first as usize,
+            kind,
+            block.code,
+            block.mode,
+        );
+        self.blocks.put(instance as usize, &store(block));
+        self.offset = next;
+    }
+
+    /// Replaces bytes, as they are stored, where there are `len` bytes. OutOfRegion comes exactly where
+    /// they would pass the end, and then nothing changed.
+    pub fn overwrite(&mut self, len: usize, at: u32, bytes: &[u8]) -> Result<(), OutOfRegion>
+        requires { len ≡ length (laid_out self.old) }
+        ensures written { laid_out self.new ≡ overwritten (laid_out self.old) at bytes.now }
+        ensures refused { is_err result ≡ nat_lt (length (laid_out self.old)) (at + length bytes.now) }
+        ensures cells { length self.new.cells ≡ length self.old.cells }
+        ensures blocks { length self.new.blocks ≡ length self.old.blocks }
+    {
+        let place = at as usize;
+        if place > len || bytes.len() > len - place {
+            return Err(OutOfRegion);
+        }
+        self.write(at, bytes);
+        Ok(())
+    }
+
+    // Replaces bytes that are there, as they are stored.
+    fn write(&mut self, at: u32, bytes: &[u8])
+        requires { at + length bytes.now ≤ length (laid_out self.old) }
+        ensures written { laid_out self.new ≡ replaced (laid_out self.old) at bytes.now }
+        ensures cells { length self.new.cells ≡ length self.old.cells }
+        ensures blocks { length self.new.blocks ≡ length self.old.blocks }
+    {
+        for (i, byte) in bytes.iter().enumerate() {
+            self.poke(at as usize + i, *byte);
+        }
+    }
+
+    // One of the bytes becomes another, both as they are stored.
+    fn poke(&mut self, at: usize, stored: u8)
+        requires { at < 13 + length self.old.cells + length self.old.blocks }
+        ensures poked { laid_out self.new ≡ slice_set (laid_out self.old) at stored }
+        ensures cells { length self.new.cells ≡ length self.old.cells }
+        ensures blocks { length self.new.blocks ≡ length self.old.blocks }
+    {
+        let byte = 255 - stored;
+        if at < 4 {
+            self.offset = with_byte(self.offset, at, byte);
+        } else if at == 4 {
+            self.progress = byte;
+        } else if at < 9 {
+            self.last = with_byte(self.last, at - 5, byte);
+        } else if at < 13 {
+            self.passed = with_byte(self.passed, at - 9, byte);
+        } else {
+            self.poke_cell(at - 13, byte);
+        }
+    }
+
+    // A byte behind the numbers becomes another, by its plain value.
+    fn poke_cell(&mut self, at: usize, byte: u8)
+        requires { at < length self.old.cells + length self.old.blocks }
+        ensures poked { plain_bytes self.new ≡ slice_set (plain_bytes self.old) (13 + at) byte }
+        ensures cells { length self.new.cells ≡ length self.old.cells }
+        ensures blocks { length self.new.blocks ≡ length self.old.blocks }
+    {
+        let cells = self.cells.len();
+        if at < cells {
+            self.cells.poke(at, byte);
+        } else {
+            self.blocks.poke(at - cells, byte);
+        }
+    }
+}

@@ -1,0 +1,132 @@
+// The report that the cells hold.
+
+ghost use Rattle.std.specs.Prelude.{◌≡◌, ◌+◌, ◌-◌, ◌*◌, ◌<◌, ◌≤◌, ◌==◌, ◌&&◌, not, length, map, slice_index, slice_index_or};
+ghost use Rattle.std.specs.List.{list_all, range_with_len};
+ghost use Rattle.ps_model.specs.declared.kind.Kind.TheVariants.{Equivalent};
+ghost use Rattle.ps_model.specs.Blocks.{output_count};
+ghost use Rattle.ps_machine.specs.Bytes.{is_no_bit};
+ghost use Rattle.ps_machine.specs.Reporting.{output_byte, ready_byte, error_byte, diag_at, holds_report};
+ghost use Rattle.ps_eqvm.specs.Plain.{plain_bytes, IsSized};
+
+use crate::plain::PlainCells;
+use ps_model::kind::output_count;
+use ps_model::report::{Diag, Diags};
+use ps_model::sizes::Sizes;
+use ps_model::values::Bits;
+
+// The signal behind the outputs of an instance: Ready and Error are the last two of them.
+#[tactic(auto, using(std::proofs::lemmas::Option::get_or_from_slice_get), unfolding(ps_model::specs::Blocks::output_count))]
+fn past_outputs(sizes: &Sizes, i: u16) -> usize
+    requires { i < sizes.now.instances }
+    ensures value { result ≡ slice_index_or sizes.now.first_pins i 0 + output_count (slice_index_or sizes.now.kinds i Equivalent) }
+    ensures low { 2 ≤ result }
+    ensures high { result ≤ sizes.now.signals }
+{
+    sizes.first_pins.at(i as usize) as usize + output_count(sizes.kinds.at(i as usize)) as usize
+}
+
+// Whether the byte of a signal is 0 or 1.
+fn holds(plain: &PlainCells, sizes: &Sizes, s: usize) -> bool
+    requires sized { IsSized sizes.now.signals sizes.now.instances plain.now }
+    requires signal { s < sizes.now.signals }
+    ensures { result ≡ not (is_no_bit (slice_index (plain_bytes plain.now) (61 + s))) }
+{
+    let _signals = sizes.signals;
+    plain.signal(s as u16).is_some()
+}
+
+// Whether the byte of a signal is 1.
+fn is_on(plain: &PlainCells, sizes: &Sizes, s: usize) -> bool
+    requires sized { IsSized sizes.now.signals sizes.now.instances plain.now }
+    requires signal { s < sizes.now.signals }
+    ensures { result ≡ (slice_index (plain_bytes plain.now) (61 + s) == 1) }
+{
+    let _signals = sizes.signals;
+    match plain.signal(s as u16) {
+        Some(on) => on,
+        None => false,
+    }
+}
+
+// Whether the Ready and the Error byte of an instance are 0 or 1.
+fn diag_holds(plain: &PlainCells, sizes: &Sizes, i: u16) -> bool
+    requires sized { IsSized sizes.now.signals sizes.now.instances plain.now }
+    requires instance { i < sizes.now.instances }
+    ensures { result ≡ (not (is_no_bit (ready_byte sizes.now 61 (plain_bytes plain.now) i)) && not (is_no_bit (error_byte sizes.now 61 (plain_bytes plain.now) i))) }
+{
+    let past = past_outputs(sizes, i);
+    holds(plain, sizes, past - 2) && holds(plain, sizes, past - 1)
+}
+
+// Whether each output byte is 0 or 1.
+fn outputs_hold(plain: &PlainCells, sizes: &Sizes) -> bool
+    requires { IsSized sizes.now.signals sizes.now.instances plain.now }
+    ensures { result ≡ list_all (λ j. not (is_no_bit (output_byte sizes.now 61 (plain_bytes plain.now) j))) (range_with_len 0 sizes.now.outputs) }
+{
+    for j in 0..sizes.outputs {
+        if !holds(plain, sizes, sizes.inputs as usize + j as usize) {
+            return false;
+        }
+    }
+    true
+}
+
+// Whether each Ready and Error byte is 0 or 1.
+fn diags_hold(plain: &PlainCells, sizes: &Sizes) -> bool
+    requires { IsSized sizes.now.signals sizes.now.instances plain.now }
+    ensures { result ≡ list_all (λ i. not (is_no_bit (ready_byte sizes.now 61 (plain_bytes plain.now) i)) && not (is_no_bit (error_byte sizes.now 61 (plain_bytes plain.now) i))) (range_with_len 0 sizes.now.instances) }
+{
+    for i in 0..sizes.instances {
+        if !diag_holds(plain, sizes, i) {
+            return false;
+        }
+    }
+    true
+}
+
+/// Whether the cells hold a report.
+pub fn has_report(plain: &PlainCells, sizes: &Sizes) -> bool
+    requires { IsSized sizes.now.signals sizes.now.instances plain.now }
+    ensures { result ≡ holds_report sizes.now 61 (plain_bytes plain.now) }
+{
+    outputs_hold(plain, sizes) && diags_hold(plain, sizes)
+}
+
+/// Writes the outputs of the report.
+pub fn write_outputs(plain: &PlainCells, sizes: &Sizes, outs: &mut Bits)
+    requires sized { IsSized sizes.now.signals sizes.now.instances plain.now }
+    requires size { length outs.old ≡ sizes.now.outputs }
+    ensures { outs.new ≡ map (λ j. output_byte sizes.now 61 (plain_bytes plain.now) j == 1) (range_with_len 0 sizes.now.outputs) }
+{
+    for j in 0..sizes.outputs {
+        outs.set(
+            j as usize,
+            is_on(plain, sizes, sizes.inputs as usize + j as usize),
+        );
+    }
+}
+
+// What an instance says of itself.
+fn diag(plain: &PlainCells, sizes: &Sizes, i: u16) -> Diag
+    requires sized { IsSized sizes.now.signals sizes.now.instances plain.now }
+    requires instance { i < sizes.now.instances }
+    ensures { result ≡ diag_at sizes.now 61 (plain_bytes plain.now) i }
+{
+    let past = past_outputs(sizes, i);
+    Diag {
+        ready: is_on(plain, sizes, past - 2),
+        error: is_on(plain, sizes, past - 1),
+        code: plain.code(sizes.signals, i as usize),
+    }
+}
+
+/// Writes what the instances say of themselves.
+pub fn write_diags(plain: &PlainCells, sizes: &Sizes, diags: &mut Diags)
+    requires sized { IsSized sizes.now.signals sizes.now.instances plain.now }
+    requires size { length diags.old ≡ sizes.now.instances }
+    ensures { diags.new ≡ map (diag_at sizes.now 61 (plain_bytes plain.now)) (range_with_len 0 sizes.now.instances) }
+{
+    for i in 0..sizes.instances {
+        diags.set(i as usize, diag(plain, sizes, i));
+    }
+}

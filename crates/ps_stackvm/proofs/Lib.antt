@@ -1,0 +1,4 @@
+pub mod KindsByNumber
+pub mod PinBits
+pub mod Walks
+pub mod Calls

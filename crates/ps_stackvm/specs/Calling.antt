@@ -1,0 +1,53 @@
+-- What CALL leaves of the cells: one step of an instance (profile). `first` is the instance's first output signal, and `next` is where
+-- the following instruction stands. The traps are tried in the order in which they are written.
+use Rattle.std.specs.Prelude.{ℕ, ◌+◌, ◌-◌, ◌*◌, ◌==◌, ◌||◌, nat_lt, nat_le, if◌then◌else◌, Bool, List, map, take, drop, slice_index, Option, Some, None}
+use Rattle.std.specs.List.{list_any}
+use Rattle.ps_model.specs.declared.kind.Kind.{Kind}
+use Rattle.ps_model.specs.Blocks.{output_count, outs}
+use Rattle.ps_model.specs.Budgets.{boolean_count}
+use Rattle.ps_model.specs.Kept.{Kept, stepped_at}
+use Rattle.ps_model.specs.Stored.{stored, loaded}
+use Rattle.ps_machine.specs.Bytes.{bit, is_no_bit, replaced}
+use Rattle.ps_stackvm.specs.Kinds.{kind_of}
+use Rattle.ps_stackvm.specs.Cells.{height_of, time_of, block_bytes, with_pc, with_height, trapped}
+
+-- the topmost n bytes of the stack, the lowest first
+abbrev pub topmost : ℕ → List ℕ → List ℕ
+topmost n cells = take n (drop (10 + (height_of cells - n)) cells)
+
+-- pin j is TRUE where byte j is 1
+abbrev pub pins_in : List ℕ → ℕ → Bool
+pins_in bytes j = slice_index bytes j == 1
+
+-- the pins are popped, and the new state of the instance and its outputs take their places
+abbrev pub stepped_to : (signals instance first next : ℕ) → Kind → Kept → List ℕ → List ℕ
+stepped_to signals instance first next kind kept cells =
+    let popped = with_height (height_of cells - boolean_count kind) cells in
+    let with_state = replaced popped (74 + signals + 16 * instance) (stored kept) in
+    with_pc next (replaced with_state (74 + first) (map bit (outs kind kept.code kept.mode)))
+
+-- a step of what the instance's bytes keep, at the time of the scan, with the popped pins
+abbrev pub called_with : (signals instance first limit next : ℕ) → Kind → Option Kept → List ℕ → List ℕ
+called_with signals instance first limit next kind None cells = trapped 7 cells
+called_with signals instance first limit next kind (Some kept) cells =
+    let pins = pins_in (topmost (boolean_count kind) cells) in
+    stepped_to signals instance first next kind (stepped_at kind limit pins (time_of cells) kept) cells
+
+-- a call of an instance as a kind
+abbrev pub called_as : (signals instance first limit next : ℕ) → Kind → List ℕ → List ℕ
+called_as signals instance first limit next kind cells =
+    if nat_lt signals (first + output_count kind) then trapped 5 cells
+    else (if nat_lt 64 (height_of cells) || nat_lt (height_of cells) (boolean_count kind) then trapped 3 cells
+    else (if list_any is_no_bit (topmost (boolean_count kind) cells) then trapped 4 cells
+    else called_with signals instance first limit next kind (loaded kind (block_bytes signals instance cells)) cells))
+
+-- the same where the number is that of a kind
+abbrev pub called_by : (signals instance first limit next : ℕ) → Option Kind → List ℕ → List ℕ
+called_by signals instance first limit next None cells = trapped 6 cells
+called_by signals instance first limit next (Some kind) cells = called_as signals instance first limit next kind cells
+
+-- CALL steps an instance.
+abbrev pub after_call : (signals instances instance kind first limit next : ℕ) → List ℕ → List ℕ
+after_call signals instances instance kind first limit next cells =
+    if nat_le instances instance then trapped 6 cells
+    else called_by signals instance first limit next (kind_of kind) cells

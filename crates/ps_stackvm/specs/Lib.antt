@@ -1,0 +1,9 @@
+pub mod Kinds
+pub mod Cells
+pub mod Instructions
+pub mod Stack
+pub mod Calling
+pub mod Turn
+pub mod Channel
+pub mod Code
+pub mod Stands

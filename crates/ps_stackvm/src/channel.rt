@@ -1,0 +1,179 @@
+// Channel A: its code and its cells.
+
+ghost use Rattle.std.specs.Prelude.{◌≡◌, ◌<◌, ◌+◌, ◌*◌, ◌≤◌, ◌^◌, IfOk, length};
+ghost use Rattle.ps_machine.specs.Bytes.{overwritten};
+
+use crate::cells::begin;
+use crate::image::StackImage;
+use crate::report::{has_report, write_diags, write_outputs};
+use crate::turn::turn;
+use ps_base::Memory;
+use ps_machine::bytes::{overwrite, progress_of_byte};
+use ps_model::channel::{OutOfRegion, Progress, Region};
+use ps_model::report::{Report, Scan};
+use ps_model::sizes::Sizes;
+use ps_model::values::{FirstPins, Kinds};
+use std::alloc::Global;
+use std::marker::Model;
+
+/// Channel A: a machine that runs stack code (profile). It has its own copy of the code and its cells, and
+/// remembers nothing else. Every turn reads its instruction from that code, so bytes that a fault replaced
+/// are run as they are. Of its calls only `new` takes memory.
+#[derive(Drop, Debug)]
+pub struct StackChannel {
+    sizes: Sizes,
+    code: Vec<u8>,
+    cells: Vec<u8>,
+}
+
+impl Model for StackChannel {
+    ghost use Rattle.std.specs.Prelude.{◌≡◌, ◌+◌, ◌*◌, ◌^◌, ◌<◌, length};
+    ghost use Rattle.ps_stackvm.specs.Channel.{ChannelA};
+
+    ghost Value = { ChannelA };
+
+    ghost view = { λ c. record { sizes = c.sizes; code = c.code.items; cells = c.cells.items } };
+
+    ghost invariant = { λ c. (length c.cells.items ≡ 74 + c.sizes.signals + 16 * c.sizes.instances) × (length c.cells.items < 2 ^ 32) × (length c.code.items < 2 ^ 32) };
+}
+
+// A copy of first output signals.
+fn copy_of_first_pins(alloc: Global, first_pins: &FirstPins) -> Result<FirstPins, Memory>
+    ensures { IfOk result (λ copy. copy ≡ first_pins.now) }
+{
+    let mut copy = FirstPins::new(alloc);
+    for i in 0..first_pins.len() {
+        copy.push(first_pins.at(i))?;
+    }
+    Ok(copy)
+}
+
+// A copy of kinds.
+fn copy_of_kinds(alloc: Global, kinds: &Kinds) -> Result<Kinds, Memory>
+    ensures { IfOk result (λ copy. copy ≡ kinds.now) }
+{
+    let mut copy = Kinds::new(alloc);
+    for i in 0..kinds.len() {
+        copy.push(kinds.at(i))?;
+    }
+    Ok(copy)
+}
+
+// A copy of the sizes of an application.
+fn copy_of_sizes(alloc: Global, sizes: &Sizes) -> Result<Sizes, Memory>
+    ensures { IfOk result (λ copy. copy ≡ sizes.now) }
+{
+    let first_pins = copy_of_first_pins(alloc, &sizes.first_pins)?;
+    let kinds = copy_of_kinds(alloc, &sizes.kinds)?;
+    Ok(Sizes {
+        signals: sizes.signals,
+        instances: sizes.instances,
+        inputs: sizes.inputs,
+        outputs: sizes.outputs,
+        first_pins,
+        kinds,
+    })
+}
+
+impl StackChannel {
+    ghost use Rattle.std.specs.Prelude.{◌≡◌, ◌+◌, ◌<◌, length, slice_index, true, false, IfOk, Some, None, is_err, nat_lt};
+    ghost use Rattle.ps_machine.specs.Progressing.{progress_said};
+    ghost use Rattle.ps_stackvm.specs.Cells.{progress_of};
+    ghost use Rattle.ps_stackvm.specs.Turn.{begin_a, turn_a, report_a};
+    ghost use Rattle.ps_stackvm.specs.Channel.{ChannelA, blank_a, region_of, spoiled};
+
+    /// A channel with its own copy of the code, for an application of these sizes, with cells all 0.
+    pub fn new(alloc: Global, image: &StackImage, sizes: &Sizes) -> Result<StackChannel, Memory>
+        ensures { IfOk result (λ c. c ≡ record { sizes = sizes.now; code = image.now; cells = blank_a sizes.now }) }
+    {
+        let sizes = copy_of_sizes(alloc, sizes)?;
+        let code = Vec::from_slice(alloc, image.as_slice())?;
+        let cells = vec![in alloc; 0; 74 + sizes.signals as usize + 16 * sizes.instances as usize]?;
+        Ok(StackChannel { sizes, code, cells })
+    }
+
+    /// The Begin of a scan, which has one value for each input: pc, height and progress are 0, and the
+    /// time and the inputs are the scan's. All else stays.
+    pub fn begin(&mut self, scan: &Scan)
+        requires { length scan.now.ins ≡ self.old.sizes.inputs }
+        ensures { self.new ≡ record self.old { cells = begin_a scan.entry.now.now scan.entry.now.ins self.old.cells } }
+    {
+        begin(&mut self.cells, scan.now, scan.ins.as_slice());
+    }
+
+    /// What the progress byte says.
+    pub fn progress(&self) -> Progress
+        ensures { result ≡ progress_said (progress_of self.now.cells) }
+    {
+        progress_of_byte(self.cells[5])
+    }
+
+    /// One instruction, on any bytes. A trap n is marked in the progress byte, and nothing else changes.
+    pub fn turn(&mut self)
+        requires { progress_said (progress_of self.old.cells) ≡ Progress.Running }
+        ensures { self.new ≡ record self.old { cells = turn_a self.old.sizes self.old.code self.old.cells } }
+    {
+        turn(
+            &mut self.cells,
+            &self.code,
+            self.sizes.signals,
+            self.sizes.instances,
+        );
+    }
+
+    /// Writes the report that the cells hold into a report of the application's sizes. False where an output,
+    /// Ready or Error byte is neither 0 nor 1, and then the report is as before.
+    pub fn report_into(&self, into: &mut Report) -> bool
+        requires outs { length into.old.outs ≡ self.now.sizes.outputs }
+        requires diags { length into.old.diags ≡ self.now.sizes.instances }
+        ensures report { result ≡ true → report_a self.now.sizes self.now.cells ≡ Some into.new }
+        ensures none { result ≡ false → report_a self.now.sizes self.now.cells ≡ None }
+        ensures kept { result ≡ false → into.new ≡ into.old }
+    {
+        if !has_report(&self.cells, &self.sizes) {
+            return false;
+        }
+        write_outputs(&self.cells, &self.sizes, &mut into.outs);
+        write_diags(&self.cells, &self.sizes, &mut into.diags);
+        true
+    }
+
+    /// The length of a region in bytes.
+    pub fn region_len(&self, region: Region) -> u32
+        ensures { result ≡ length (region_of region self.now) }
+    {
+        match region {
+            Region::Code => self.code.len() as u32,
+            Region::Cells => self.cells.len() as u32,
+        }
+    }
+
+    /// Replaces bytes of a region, as a fault does. OutOfRegion comes exactly where they do not lie within
+    /// it, and then nothing changed.
+    pub fn spoil(&mut self, region: Region, at: u32, bytes: &[u8]) -> Result<(), OutOfRegion>
+        ensures bytes { self.new ≡ spoiled region at bytes.now self.old }
+        ensures refused { is_err result ≡ nat_lt (length (region_of region self.old)) (at + length bytes.now) }
+    {
+        match region {
+            Region::Code => overwrite(&mut self.code, at, bytes),
+            Region::Cells => overwrite(&mut self.cells, at, bytes),
+        }
+    }
+
+    /// Makes the channel as `new` makes it from this image, which has the length of the channel's code.
+    pub fn renew(&mut self, image: &StackImage)
+        requires { length image.now ≡ length self.old.code }
+        ensures { self.new ≡ record { sizes = self.old.sizes; code = image.now; cells = blank_a self.old.sizes } }
+    {
+        self.code.copy_from_slice(image.as_slice());
+        self.cells.fill(0);
+    }
+
+    /// A byte of the cells.
+    pub fn cell(&self, at: u32) -> u8
+        requires { at < length self.now.cells }
+        ensures { result ≡ slice_index self.now.cells at }
+    {
+        self.cells[at as usize]
+    }
+}

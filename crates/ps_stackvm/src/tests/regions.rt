@@ -1,0 +1,74 @@
+// The regions of M's channel: 33 bytes of code and 97 of cells.
+
+use super::fixtures::{CODE, channel, image, report};
+use ps_model::channel::{Progress, Region};
+use std::alloc::Global;
+use std::process::Abort;
+use std::test::Fail;
+
+#[test]
+fn spoils_at_the_ends(rt: HostRuntime) -> Result<(), Fail> {
+    let mut channel = channel(rt.alloc(), &CODE)?;
+    assert_eq!(rt; channel.region_len(Region::Code), 33);
+    assert_eq!(rt; channel.region_len(Region::Cells), 97);
+    assert!(rt; channel.spoil(Region::Cells, 97, &[1]).is_err());
+    assert!(rt; channel.spoil(Region::Cells, 97, &[]).is_ok());
+    assert!(rt; channel.spoil(Region::Cells, 96, &[1]).is_ok());
+    assert!(rt; channel.spoil(Region::Cells, 96, &[1, 2]).is_err());
+    assert!(rt; channel.spoil(Region::Cells, u32::MAX, &[]).is_err());
+    assert!(rt; channel.spoil(Region::Code, 33, &[1]).is_err());
+    assert!(rt; channel.spoil(Region::Code, 32, &[8]).is_ok());
+    assert!(rt; channel.spoil(Region::Code, 0, &[8; 34]).is_err());
+    assert!(rt; 96 < channel.region_len(Region::Cells));
+    assert_eq!(rt; channel.cell(96), 1);
+    Ok(())
+}
+
+// Whether M's cells hold a report where the byte of this signal is 7.
+fn reports_with(rt: &impl Abort, alloc: Global, signal: u32) -> Result<bool, Fail> {
+    let mut channel = channel(alloc, &CODE)?;
+    let mut report = report(alloc)?;
+    assert!(rt; signal < 7);
+    assert!(rt; channel.spoil(Region::Cells, 74 + signal, &[7]).is_ok());
+    Ok(channel.report_into(&mut report))
+}
+
+#[test]
+fn reports_need_outputs_and_diags(rt: HostRuntime) -> Result<(), Fail> {
+    assert!(rt; reports_with(&rt, rt.alloc(), 0)?);
+    assert!(rt; reports_with(&rt, rt.alloc(), 1)?);
+    assert!(rt; reports_with(&rt, rt.alloc(), 2)?);
+    assert!(rt; !reports_with(&rt, rt.alloc(), 3)?);
+    assert!(rt; reports_with(&rt, rt.alloc(), 4)?);
+    assert!(rt; !reports_with(&rt, rt.alloc(), 5)?);
+    assert!(rt; !reports_with(&rt, rt.alloc(), 6)?);
+    Ok(())
+}
+
+#[test]
+fn a_spoiled_instruction_is_run(rt: HostRuntime) -> Result<(), Fail> {
+    let mut channel = channel(rt.alloc(), &CODE)?;
+    assert!(rt; channel.spoil(Region::Code, 0, &[8]).is_ok());
+    assert!(rt; channel.progress() == Progress::Running);
+    channel.turn();
+    assert_eq!(rt; channel.progress(), Progress::Trapped(1));
+    Ok(())
+}
+
+#[test]
+fn renewed_code_runs_from_blank_cells(rt: HostRuntime) -> Result<(), Fail> {
+    let mut channel = channel(rt.alloc(), &CODE)?;
+    assert!(rt; channel.spoil(Region::Code, 0, &[8, 8]).is_ok());
+    assert!(rt; channel.spoil(Region::Cells, 0, &[9; 97]).is_ok());
+    assert_eq!(rt; channel.progress(), Progress::Trapped(0));
+    let image = image(rt.alloc(), &CODE)?;
+    assert!(rt; channel.region_len(Region::Code) == image.len());
+    channel.renew(&image);
+    assert!(rt; channel.progress() == Progress::Running);
+    channel.turn();
+    assert!(rt; 96 < channel.region_len(Region::Cells));
+    assert_eq!(rt; channel.cell(3), 2);
+    assert_eq!(rt; channel.cell(10), 1);
+    assert_eq!(rt; channel.cell(96), 0);
+    Ok(())
+}

@@ -1,0 +1,10 @@
+pub mod Instructions
+pub mod Holding
+pub mod Running
+pub mod Written
+pub mod Calling
+pub mod Stepping
+pub mod Fitting
+pub mod Counted
+pub mod Scanning
+pub mod Examples

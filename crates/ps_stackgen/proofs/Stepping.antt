@@ -1,0 +1,294 @@
+-- The machine follows the code of the steps.
+use Rattle.std.proofs.Common.{◌≡◌, ◌≢◌, ℕ, ◌+◌, ◌-◌, ◌*◌, ◌^◌, ◌<◌, ◌≤◌, Bool, true, false, cond, List, [], ◌∷◌, ◌++◌, length, drop, map, min, refl, sym, ap, ◌∙◌, subst, inl, inr, arith, length-append, length-drop, lit<}
+use Rattle.std.specs.Prelude.{slice_index, slice_index_or, nat_le, nat_lt, ◌&&◌, ◌||◌, ◌==◌, count_by}
+use Rattle.std.specs.List.{list_any, range_with_len, flat_map}
+use Rattle.std.proofs.lemmas.Bool.{false≢true, cases_lt, cases_eq, cond-true, cond-false, eq-eqb, ne_eqb, or_right}
+use Rattle.std.proofs.lemmas.List.{same_lists, get_or_default, get_or-drop, get_or-take, get_or_past, length-take, length-take-le}
+use Rattle.std.proofs.lemmas.List.Sums.{sum_by-cons}
+use Rattle.std.proofs.lemmas.List.FromFn.{length-map-range_with_len, get_or-map-range_with_len}
+use Rattle.ps_model.specs.declared.kind.Kind.{Kind}
+use Rattle.ps_model.specs.Formula.{Formula, value}
+use Rattle.ps_model.specs.Action.{Action, Actual, free, assigns, calls}
+use Rattle.ps_model.specs.Blocks.{Block_state, block, moved, outs, output_count, safe_output, ready_in, error_in}
+use Rattle.ps_model.specs.Budgets.{boolean_count}
+use Rattle.ps_model.specs.Kept.{Kept, StandsBy, Since, stepped_at}
+use Rattle.ps_model.specs.Network.{Network, signal_count, instance_count, kind_at, first_pin, is_call_of}
+use Rattle.ps_model.specs.Running.{Memory, done, exec}
+use Rattle.ps_model.specs.Scanning.{pins_under, limit_of}
+use Rattle.ps_model.specs.Stored.{IsKept, stored}
+use Rattle.ps_model.proofs.Keeping.{go_on}
+use Rattle.ps_model.proofs.Once.{none_after}
+use Rattle.ps_model.proofs.Sixteen.{loads_loaded, step_kept}
+use Rattle.ps_machine.specs.Bytes.{replaced}
+use Rattle.ps_machine.specs.Machines.{turned}
+use Rattle.ps_machine.specs.Standing.{StandsBlock}
+use Rattle.ps_machine.proofs.Places.{length-replaced, index_before, index_within, index_after}
+use Rattle.ps_stackvm.specs.declared.instruction.Instruction.{Instruction}
+use Rattle.ps_stackvm.specs.declared.instruction.Instruction.TheVariants.{Store, Call}
+use Rattle.ps_stackvm.specs.Code.{expression_code, pins_code, step_code}
+use Rattle.ps_stackgen.proofs.Instructions.{HasAt, has_front, has_back, size_all, size_all-append}
+use Rattle.ps_stackgen.proofs.Holding.{Holds, turn, store_turn}
+use Rattle.ps_stackgen.proofs.Running.{Comes, stays, one_turn, comes_on, comes_as, IsFine, IsFinePin, expression_runs, pins_run}
+use Rattle.ps_stackgen.proofs.Calling.{bytes_at, called_signals, call_turn}
+
+-- sixteen bytes that were replaced, and those of the other instances
+bytes_at_same : (blocks st : List ℕ) (i : ℕ) → 16 * i + 16 ≤ length blocks → length st ≡ 16 → bytes_at i (replaced blocks (16 * i) st) ≡ st
+bytes_at_same blocks st i room size =
+    let lr = length-replaced blocks (16 * i) st (omega arith) in
+    let ld = length-drop (16 * i) (replaced blocks (16 * i) st) in
+    let lt = length-take-le 16 (drop (16 * i) (replaced blocks (16 * i) st)) (omega arith) in
+    same_lists (bytes_at i (replaced blocks (16 * i) st)) st (lt ∙ sym size) (λ k d low.
+    let low' : k < length st = omega arith in
+    let low16 : k < 16 = omega arith in
+    get_or_default (bytes_at i (replaced blocks (16 * i) st)) k d 0 low
+    ∙ get_or-take 16 (drop (16 * i) (replaced blocks (16 * i) st)) k 0 low16
+    ∙ get_or-drop (16 * i) (replaced blocks (16 * i) st) k 0
+    ∙ index_within blocks (16 * i) st k low' (omega arith)
+    ∙ get_or_default st k 0 d low')
+
+bytes_at_other : (blocks st : List ℕ) (i j : ℕ) → 16 * i + 16 ≤ length blocks → length st ≡ 16 → j ≢ i → bytes_at j (replaced blocks (16 * i) st) ≡ bytes_at j blocks
+bytes_at_other blocks st i j room size other =
+    let new = replaced blocks (16 * i) st in
+    let lr = length-replaced blocks (16 * i) st (omega arith) in
+    let lx = length-drop (16 * j) new in
+    let ly = length-drop (16 * j) blocks in
+    let same : length (drop (16 * j) new) ≡ length (drop (16 * j) blocks) = omega arith in
+    let len : length (bytes_at j new) ≡ length (bytes_at j blocks) = length-take 16 (drop (16 * j) new) ∙ ap (min 16) same ∙ sym (length-take 16 (drop (16 * j) blocks)) in
+    same_lists (bytes_at j new) (bytes_at j blocks) len (λ k d low.
+    let low' : k < length (bytes_at j blocks) = omega arith in
+    let low16 : k < 16 = omega (arith, length-take 16 (drop (16 * j) new)) in
+    let mid : slice_index new (16 * j + k) ≡ slice_index blocks (16 * j + k) =
+    elim (cases_lt j i) [
+      | inl before ↦ index_before blocks (16 * i) st (16 * j + k) (omega arith) (omega arith)
+      | inr after ↦ index_after blocks (16 * i) st (16 * j + k) (omega arith) (omega arith)
+    ] in
+    get_or_default (bytes_at j new) k d 0 low
+    ∙ get_or-take 16 (drop (16 * j) new) k 0 low16
+    ∙ get_or-drop (16 * j) new k 0
+    ∙ mid
+    ∙ sym (get_or-drop (16 * j) blocks k 0)
+    ∙ sym (get_or-take 16 (drop (16 * j) blocks) k 0 low16)
+    ∙ get_or_default (bytes_at j blocks) k 0 d low')
+
+-- how many outputs there are
+length-outs : (kind : Kind) (q mode : ℕ) → length (outs kind q mode) ≡ output_count kind
+unfolding outs output_count
+length-outs kind q mode =
+    omega (
+      arith,
+      length-append (map (safe_output kind q mode) (range_with_len 0 (length (block kind).outputs))) (ready_in q ∷ error_in q ∷ []),
+      length-map-range_with_len (safe_output kind q mode) 0 (length (block kind).outputs),
+    )
+
+-- what a call asks of its application
+pub record CallFits (net : Network) (i : ℕ) (args : List Actual) : Type 0 where
+  pub within : i < instance_count net
+  pub room : first_pin net i + output_count (kind_at net i) ≤ signal_count net
+  pub pins : (j : ℕ) → IsFinePin (signal_count net) (slice_index_or args j free)
+  pub past : (v : ℕ → Bool) (j : ℕ) → boolean_count (kind_at net i) ≤ j → pins_under v (kind_at net i) args j ≡ false
+  pub few : boolean_count (kind_at net i) ≤ 13
+  pub limit : limit_of (kind_at net i) args < 2 ^ 32
+
+-- what a step asks
+abbrev pub StepFits : Network → Action → Type 0
+StepFits net (assigns t e) = (t < signal_count net) × IsFine (signal_count net) 34 e
+StepFits net (calls i args) = CallFits net i args
+
+abbrev pub AllFit : Network → List Action → Type 0
+AllFit net [] = Unit {0}
+AllFit net (a ∷ rest) = StepFits net a × AllFit net rest
+
+-- each instance is called once at most
+abbrev pub Once : Network → List Action → Type 0
+Once net rest = (i : ℕ) → count_by (is_call_of net i) rest ≤ 1
+
+-- the time up to which the bytes of an instance speak: that of the last scan until it is called in this one
+abbrev pub clock : Network → (t now : ℕ) → List Action → ℕ → ℕ
+clock net t now rest i = cond (list_any (is_call_of net i) rest) t now
+
+-- the bytes of the instances, while these steps are left
+pub record BlocksStand (net : Network) (t now : ℕ) (rest : List Action) (blocks : List ℕ) (b : ℕ → Block_state) : Type 0 where
+  pub size : length blocks ≡ 16 * instance_count net
+  pub each : (i : ℕ) → i < instance_count net → StandsBlock (Since (clock net t now rest i)) (kind_at net i) (bytes_at i blocks) (b i)
+
+module _ (net : Network) (t now dt : ℕ) (later : t ≤ now) (small : now < 2 ^ 32) (code : List ℕ) where
+  -- the code ran, and the cells hold this memory
+  pub record Led (cells : List ℕ) (is : List Instruction) (pc : ℕ) (rest : List Action) (m : Memory) : Type 0 where
+    pub blocks : List ℕ
+    pub comes : Comes (signal_count net) (instance_count net) now code blocks cells (length is) (pc + size_all is) [] m.signals
+    pub stand : BlocksStand net t now rest blocks m.blocks
+
+  assign_led : (s : ℕ) (e : Formula) (rest : List Action) (m : Memory) (cells : List ℕ) (pc : ℕ) (blocks : List ℕ) → s < signal_count net → IsFine (signal_count net) 34 e →
+      HasAt code pc (step_code net (assigns s e)) → Holds (signal_count net) now blocks cells pc [] m.signals → BlocksStand net t now (assigns s e ∷ rest) blocks m.blocks →
+      Led cells (step_code net (assigns s e)) pc rest (done net dt (assigns s e) m)
+  assign_led s e rest m cells pc blocks low is has h stand =
+      let n = signal_count net in
+      let k = instance_count net in
+      let ce = expression_code e in
+      let v' = (done net dt (assigns s e) m).signals in
+      let b = value m.signals e in
+      let x = expression_runs n k now blocks code m.signals e 34 cells pc [] is (has_front code pc ce (Store s ∷ []) has) h (lit< tt) in
+      let cells1 = turned (turn n k code) (length ce) cells in
+      let pc1 = pc + size_all ce in
+      let back = has_back code pc ce (Store s ∷ []) has in
+      let turn = store_turn n k now blocks code cells1 pc1 s [] m.signals v' b back.0 x.there (lit< tt) low
+      (cond-true (s == s) b (m.signals s) (eq-eqb s s refl)) (λ j other. cond-false (s == j) b (m.signals j) (ne_eqb s j (λ q. other (sym q)))) in
+      let y = one_turn n k now code blocks blocks cells1 pc1 (pc1 + 3) (b ∷ []) [] m.signals v' x.there turn in
+      let el : length ce + 1 ≡ length (ce ++ Store s ∷ []) = sym (length-append ce (Store s ∷ [])) in
+      let ep : pc1 + 3 ≡ pc + size_all (ce ++ Store s ∷ []) = omega (arith, size_all-append ce (Store s ∷ [])) in
+      record {
+        blocks = blocks;
+        comes = comes_as n k now code blocks cells _ _ _ _ [] [] v' el ep refl (comes_on n k now code blocks blocks cells (length ce) 1 _ _ (b ∷ []) [] m.signals v' x y);
+        stand = record { size = stand.size; each = stand.each };
+      }
+
+  -- the stack after the pins are computed gives every pin
+  pins_are : (v : ℕ → Bool) (kind : Kind) (args : List Actual) (count : ℕ) → ((j : ℕ) → count ≤ j → pins_under v kind args j ≡ false) →
+      (λ j. slice_index_or (map (pins_under v kind args) (range_with_len 0 count)) j false) ≡ pins_under v kind args
+  pins_are v kind args count past =
+      let each : (j : ℕ) → slice_index_or (map (pins_under v kind args) (range_with_len 0 count)) j false ≡ pins_under v kind args j =
+      λ j. elim (cases_lt j count) [
+        | inl low ↦ get_or-map-range_with_len (pins_under v kind args) 0 count j j false low (omega arith)
+        | inr high ↦ get_or_past (map (pins_under v kind args) (range_with_len 0 count)) j false (omega (arith, length-map-range_with_len (pins_under v kind args) 0 count)) ∙ sym (past j high)
+      ] in
+      λ x j. each j x
+
+  call_led : (i : ℕ) (args : List Actual) (rest : List Action) (m : Memory) (cells : List ℕ) (pc : ℕ) (blocks : List ℕ) → CallFits net i args → Once net (calls i args ∷ rest) →
+      ((m.blocks i).code ≢ 0 → dt ≡ now - t) → HasAt code pc (step_code net (calls i args)) → Holds (signal_count net) now blocks cells pc [] m.signals →
+      BlocksStand net t now (calls i args ∷ rest) blocks m.blocks → Led cells (step_code net (calls i args)) pc rest (done net dt (calls i args) m)
+  call_led i args rest m cells pc blocks fits once timely has h stand =
+      let n = signal_count net in
+      let k = instance_count net in
+      let kind = kind_at net i in
+      let limit = limit_of kind args in
+      let o = first_pin net i in
+      let pins = pins_under m.signals kind args in
+      let count = boolean_count kind in
+      let cp = pins_code kind args in
+      let call = Call i (block kind).number o limit in
+      let m' = done net dt (calls i args) m in
+      let list = map pins (range_with_len 0 count) in
+      let many : length list ≡ count = length-map-range_with_len pins 0 count in
+      let some : count ≤ 13 = fits.few in
+      let x = pins_run n k now blocks code m.signals kind args count 0 cells pc [] fits.pins (has_front code pc cp (call ∷ []) has) h (omega arith) in
+      let cells1 = turned (turn n k code) (length cp) cells in
+      let pc1 = pc + size_all cp in
+      let back = has_back code pc cp (call ∷ []) has in
+      let within = fits.within in
+      let size = stand.size in
+      let space : 16 * i + 16 ≤ length blocks = omega arith in
+      let here : is_call_of net i (calls i args) ≡ true = eq-eqb i i refl in
+      let early : clock net t now (calls i args ∷ rest) i ≡ t = ap (λ b. cond (b || list_any (is_call_of net i) rest) t now) here in
+      let sb : StandsBlock (Since t) kind (bytes_at i blocks) (m.blocks i) = subst (λ c. StandsBlock (Since c) kind (bytes_at i blocks) (m.blocks i)) early (stand.each i within) in
+      let kept : Kept = sb.kept in
+      let k' : Kept = stepped_at kind limit pins now kept in
+      let b' = moved kind limit pins dt (m.blocks i) in
+      let goes : StandsBy (Since now) k' b' = go_on kind limit pins t now dt kept (m.blocks i) later sb.stands timely in
+      let held_kept : IsKept kind k' = step_kept kind pins (nat_le limit (now - kept.timer)) now kept.timer kept sb.loads.kept small sb.loads.kept.timer in
+      let blocks' = replaced blocks (16 * i) (stored k') in
+      let same_pins = pins_are m.signals kind args count (fits.past m.signals) in
+      let k1 : Kept = stepped_at kind limit (λ j. slice_index_or list j false) now kept in
+      let turn1 = call_turn n k now blocks code cells1 pc1 i o limit kind list m.signals kept back.0 x.there many (omega (arith, many)) within
+      (length-outs kind k1.code k1.mode) fits.room space (loads_loaded kind (bytes_at i blocks) kept sb.loads) in
+      let turn2 : Holds n now blocks' (turn n k code cells1) (pc1 + 10) [] (called_signals o (outs kind k'.code k'.mode) m.signals) =
+      subst (λ (p : ℕ → Bool). Holds n now (replaced blocks (16 * i) (stored (stepped_at kind limit p now kept))) (turn n k code cells1) (pc1 + 10) []
+      (called_signals o (outs kind (stepped_at kind limit p now kept).code (stepped_at kind limit p now kept).mode) m.signals)) same_pins turn1 in
+      let os_are : outs kind k'.code k'.mode ≡ outs kind b'.code b'.mode = λ z. outs kind (goes.code z) (goes.mode z) in
+      let v_is : called_signals o (outs kind k'.code k'.mode) m.signals ≡ m'.signals =
+      ap (λ os. called_signals o os m.signals) os_are
+      ∙ ap (λ c. λ s. cond (nat_le o s && nat_lt s (o + c)) (slice_index_or (outs kind b'.code b'.mode) (s - o) false) (m.signals s)) (length-outs kind b'.code b'.mode) in
+      let turn3 : Holds n now blocks' (turn n k code cells1) (pc1 + 10) [] m'.signals = subst (Holds n now blocks' (turn n k code cells1) (pc1 + 10) []) v_is turn2 in
+      let y = one_turn n k now code blocks blocks' cells1 pc1 (pc1 + 10) list [] m.signals m'.signals x.there turn3 in
+      let el : length cp + 1 ≡ length (cp ++ call ∷ []) = sym (length-append cp (call ∷ [])) in
+      let ep : pc1 + 10 ≡ pc + size_all (cp ++ call ∷ []) = omega (arith, size_all-append cp (call ∷ [])) in
+      record {
+        blocks = blocks';
+        comes = comes_as n k now code blocks' cells _ _ _ _ [] [] m'.signals el ep refl (comes_on n k now code blocks blocks' cells (length cp) 1 _ _ list [] m.signals m'.signals x y);
+        stand = record {
+          size = length-replaced blocks (16 * i) (stored k') space ∙ size;
+          each = λ j low. elim (cases_eq i j) [
+            | inl same ↦
+                let over : list_any (is_call_of net i) rest ≡ false = none_after (is_call_of net i) (calls i args ∷ []) rest (once i) (ap (λ b. b || false) here) in
+                let at_now : clock net t now rest i ≡ now = ap (λ b. cond b t now) over in
+                let mine : StandsBlock (Since now) kind (bytes_at i blocks') b' = record {
+                  kept = k';
+                  loads = record { kept = held_kept; bytes_are = bytes_at_same blocks (stored k') i space refl };
+                  stands = goes;
+                } in
+                let timed : StandsBlock (Since (clock net t now rest i)) kind (bytes_at i blocks') b' = subst (λ c. StandsBlock (Since c) kind (bytes_at i blocks') b') (sym at_now) mine in
+                let placed : StandsBlock (Since (clock net t now rest i)) kind (bytes_at i blocks') (m'.blocks i) =
+                subst (StandsBlock (Since (clock net t now rest i)) kind (bytes_at i blocks')) (sym (cond-true (i == i) b' (m.blocks i) here)) timed in
+                subst (λ q. StandsBlock (Since (clock net t now rest q)) (kind_at net q) (bytes_at q blocks') (m'.blocks q)) same placed
+            | inr other ↦
+                let off : (i == j) ≡ false = ne_eqb i j other in
+                let kept_clock : clock net t now (calls i args ∷ rest) j ≡ clock net t now rest j = ap (λ b. cond (b || list_any (is_call_of net j) rest) t now) off in
+                let was : StandsBlock (Since (clock net t now rest j)) (kind_at net j) (bytes_at j blocks) (m.blocks j) =
+                subst (λ c. StandsBlock (Since c) (kind_at net j) (bytes_at j blocks) (m.blocks j)) kept_clock (stand.each j low) in
+                subst (StandsBlock (Since (clock net t now rest j)) (kind_at net j) (bytes_at j blocks')) (sym (cond-false (i == j) b' (m.blocks j) off))
+                (subst (λ b. StandsBlock (Since (clock net t now rest j)) (kind_at net j) b (m.blocks j)) (sym (bytes_at_other blocks (stored k') i j space refl (λ e. other (sym e)))) was)
+          ];
+        };
+      }
+
+  -- an instance that is still to be called moves by dt, where that matters
+  abbrev pub Timely : List Action → Memory → Type 0
+  Timely rest m = (i : ℕ) → list_any (is_call_of net i) rest ≡ true → (m.blocks i).code ≢ 0 → dt ≡ now - t
+
+  -- after a step the later calls are still to come
+  timely_after : (a : Action) (rest : List Action) (m : Memory) → Once net (a ∷ rest) → Timely (a ∷ rest) m → Timely rest (done net dt a m)
+  timely_after (assigns s e) rest m once timely i later on = timely i later on
+  timely_after (calls j args) rest m once timely i later on =
+      elim (cases_eq j i) [
+        | inl same ↦
+            let here : is_call_of net i (calls j args) ≡ true = eq-eqb j i same in
+            absurd (false≢true (sym (none_after (is_call_of net i) (calls j args ∷ []) rest (once i) (ap (λ b. b || false) here)) ∙ later))
+        | inr other ↦
+            let off : (j == i) ≡ false = ne_eqb j i other in
+            let stays : (done net dt (calls j args) m).blocks i ≡ m.blocks i = cond-false (j == i) _ (m.blocks i) off in
+            timely i (or_right (j == i) (list_any (is_call_of net i) rest) later) (λ e. on (ap (λ (b : Block_state). b.code) stays ∙ e))
+      ]
+
+  once_after : (a : Action) (rest : List Action) → Once net (a ∷ rest) → Once net rest
+  once_after a rest once i =
+      let few' = once i in
+      let e : count_by (is_call_of net i) (a ∷ rest) ≡ cond (is_call_of net i a) 1 0 + count_by (is_call_of net i) rest = sum_by-cons (λ x. cond (is_call_of net i x) 1 0) a rest in
+      omega arith
+
+  step_led : (a : Action) (rest : List Action) (m : Memory) (cells : List ℕ) (pc : ℕ) (blocks : List ℕ) → StepFits net a → Once net (a ∷ rest) → Timely (a ∷ rest) m →
+      HasAt code pc (step_code net a) → Holds (signal_count net) now blocks cells pc [] m.signals → BlocksStand net t now (a ∷ rest) blocks m.blocks →
+      Led cells (step_code net a) pc rest (done net dt a m)
+  step_led (assigns s e) rest m cells pc blocks fits once timely has h stand = assign_led s e rest m cells pc blocks fits.0 fits.1 has h stand
+  step_led (calls i args) rest m cells pc blocks fits once timely has h stand =
+      call_led i args rest m cells pc blocks fits once (λ on. timely i (ap (λ b. b || list_any (is_call_of net i) rest) (eq-eqb i i refl)) on) has h stand
+
+  -- the steps in order leave the memory of `exec`
+  pub steps_led : (rest : List Action) (m : Memory) (cells : List ℕ) (pc : ℕ) (blocks : List ℕ) → AllFit net rest → Once net rest → Timely rest m →
+      HasAt code pc (flat_map (step_code net) rest) → Holds (signal_count net) now blocks cells pc [] m.signals → BlocksStand net t now rest blocks m.blocks →
+      Led cells (flat_map (step_code net) rest) pc [] (exec net dt rest m)
+  unfolding exec
+  steps_led [] m cells pc blocks fits once timely has h stand =
+      let n = signal_count net in
+      let k = instance_count net in
+      let ep : pc ≡ pc + 0 = omega arith in
+      record {
+        blocks = blocks;
+        comes = comes_as n k now code blocks cells 0 0 pc (pc + 0) [] [] m.signals refl ep refl (stays n k now code blocks cells pc [] m.signals h);
+        stand = stand;
+      }
+  steps_led (a ∷ rest) m cells pc blocks fits once timely has h stand =
+      let n = signal_count net in
+      let k = instance_count net in
+      let ca = step_code net a in
+      let cr = flat_map (step_code net) rest in
+      let x = step_led a rest m cells pc blocks fits.0 once timely (has_front code pc ca cr has) h stand in
+      let cells1 = turned (turn n k code) (length ca) cells in
+      let pc1 = pc + size_all ca in
+      let y = steps_led rest (done net dt a m) cells1 pc1 x.blocks fits.1 (once_after a rest once) (timely_after a rest m once timely) (has_back code pc ca cr has) x.comes.there x.stand in
+      let el : length ca + length cr ≡ length (ca ++ cr) = sym (length-append ca cr) in
+      let ep : pc1 + size_all cr ≡ pc + size_all (ca ++ cr) = omega (arith, size_all-append ca cr) in
+      record {
+        blocks = y.blocks;
+        comes = comes_as n k now code y.blocks cells _ _ _ _ [] [] (exec net dt rest (done net dt a m)).signals el ep refl
+            (comes_on n k now code x.blocks y.blocks cells (length ca) (length cr) _ _ [] [] (done net dt a m).signals (exec net dt rest (done net dt a m)).signals x.comes y.comes);
+        stand = y.stand;
+      }

@@ -1,0 +1,94 @@
+"""Writes the files that the measurements run on: applications at the limits, and long traces of the motor.
+
+python3 generate.py FOLDER writes into FOLDER
+  motor.st             an emergency stop and a motor
+  motor-32.trace       32 MiB of scans of it, motor-64.trace 64 MiB, and motor-2k.trace and motor-4k.trace so many thousand scans
+  limits-half.st       an application of half the size of limits.st
+  limits.st            1 MiB of text, 512 inputs, 512 outputs, 400 instances, 4,000 signals, 20,000 nodes
+"""
+import os
+import sys
+
+MOTOR = """PROGRAM M
+VAR_INPUT
+  S_In : SAFEBOOL;
+  Ack, Run : BOOL;
+END_VAR
+VAR_OUTPUT S_Motor : SAFEBOOL; END_VAR
+VAR E : SF_EmergencyStop; END_VAR
+E(Activate := TRUE, S_EStopIn := S_In, Reset := Ack);
+S_Motor := E.S_EStopOut AND Run;
+END_PROGRAM
+"""
+HEADER = "time S_In Ack Run\n"
+MIB = 1 << 20
+
+
+def scans(first, count):
+    """The lines of `count` scans from the scan `first` on: every tenth scan the stop is pressed, and later acknowledged."""
+    lines = []
+    for k in range(first, first + count):
+        part = k % 10
+        lines.append(f"{10 * k % 4_000_000_000:08d} {int(part != 8)} {int(part == 3)} 1\n")
+    return "".join(lines)
+
+
+def write_trace(path, size=None, count=None):
+    """A trace of `count` scans, or of as many as fit into `size` bytes."""
+    with open(path, "w", encoding="ascii") as out:
+        done = out.write(HEADER)
+        line = len(scans(0, 1))
+        count = count if count is not None else (size - done) // line
+        for first in range(0, count, 50_000):
+            out.write(scans(first, min(50_000, count - first)))
+    return count
+
+
+def write_limits(path, inputs, outputs, instances, locals_, nodes, size):
+    """An application with these counts. Each instance has three outputs, each output is an AND, the nodes are shared out evenly, and
+    a comment fills the text up to `size` bytes."""
+    name = lambda letter, k: f"S_{letter}_{k:04d}_of_the_application_here"
+    parts = ["PROGRAM Limits\nVAR_INPUT\n"]
+    parts += [f"  {name('i', k)} : SAFEBOOL;\n" for k in range(inputs)]
+    parts.append("END_VAR\nVAR_OUTPUT\n")
+    parts += [f"  {name('o', k)} : SAFEBOOL;\n" for k in range(outputs)]
+    parts.append("END_VAR\nVAR\n")
+    parts += [f"  {name('x', k)} : SAFEBOOL;\n" for k in range(locals_)]
+    parts += [f"  {name('e', k)} : SF_EmergencyStop;\n" for k in range(instances)]
+    parts.append("END_VAR\n")
+    # a call has one node, an assignment to a local one, and the outputs share the others
+    for k in range(instances):
+        parts.append(f"{name('e', k)}(Activate := TRUE, S_EStopIn := {name('i', k % inputs)});\n")
+    for k in range(locals_):
+        parts.append(f"{name('x', k)} := {name('e', k % instances)}.S_EStopOut;\n")
+    rest = nodes - instances - locals_
+    for k in range(outputs):
+        share = rest // outputs + (k < rest % outputs)
+        operands = [name("x", (k * 7 + j) % locals_) for j in range(share - 1)]
+        parts.append(f"{name('o', k)} := {' AND '.join(operands)};\n")
+    parts.append("END_PROGRAM\n")
+    text = "".join(parts)
+    fill = size - len(text)
+    assert fill >= 3, f"{-fill} bytes too many"
+    with open(path, "w", encoding="ascii") as out:
+        out.write(text + "//" + "-" * (fill - 3) + "\n")
+
+
+def main(folder):
+    os.makedirs(folder, exist_ok=True)
+    at = lambda file: os.path.join(folder, file)
+    with open(at("motor.st"), "w", encoding="ascii") as out:
+        out.write(MOTOR)
+    write_trace(at("motor-2k.trace"), count=2_000)
+    write_trace(at("motor-4k.trace"), count=4_000)
+    write_trace(at("motor-32.trace"), size=32 * MIB)
+    write_trace(at("motor-64.trace"), size=64 * MIB)
+    # 512 + 512 + locals + 3 * 400 signals
+    write_limits(at("limits.st"), 512, 512, 400, 4_000 - 1_024 - 1_200, 20_000, MIB)
+    write_limits(at("limits-half.st"), 256, 256, 200, 2_000 - 512 - 600, 10_000, MIB // 2)
+
+
+if __name__ == "__main__":
+    if len(sys.argv) != 2:
+        sys.exit(__doc__)
+    main(sys.argv[1])

@@ -1,5 +1,6 @@
 // The sizes of an application, by which a channel finds its cells.
 
+ghost use Rattle.std.specs.Prelude.{◌≡◌, IfOk};
 ghost use Rattle.ps_model.specs.Places.{ArePlaces};
 
 use crate::app::App;
@@ -20,8 +21,30 @@ pub struct Sizes {
     ghost places: { ArePlaces signals instances inputs outputs first_pins kinds },
 }
 
+// A copy of first output signals.
+fn copy_of_first_pins(alloc: Global, first_pins: &FirstPins) -> Result<FirstPins, Memory>
+    ensures { IfOk result (λ copy. copy ≡ first_pins.now) }
+{
+    let mut copy = FirstPins::new(alloc);
+    for i in 0..first_pins.len() {
+        copy.push(first_pins.at(i))?;
+    }
+    Ok(copy)
+}
+
+// A copy of kinds.
+fn copy_of_kinds(alloc: Global, kinds: &Kinds) -> Result<Kinds, Memory>
+    ensures { IfOk result (λ copy. copy ≡ kinds.now) }
+{
+    let mut copy = Kinds::new(alloc);
+    for i in 0..kinds.len() {
+        copy.push(kinds.at(i))?;
+    }
+    Ok(copy)
+}
+
 impl Sizes {
-    ghost use Rattle.std.specs.Prelude.{IfOk};
+    ghost use Rattle.std.specs.Prelude.{◌≡◌, IfOk};
     ghost use Rattle.ps_model.specs.Sized.{AreSizesOf};
 
     /// The sizes of an application.
@@ -40,6 +63,22 @@ impl Sizes {
             instances: app.instance_count(),
             inputs: app.input_count(),
             outputs: app.output_count(),
+            first_pins,
+            kinds,
+        })
+    }
+
+    /// A copy of these sizes.
+    pub fn copy(&self, alloc: Global) -> Result<Sizes, Memory>
+        ensures { IfOk result (λ copy. copy ≡ self.now) }
+    {
+        let first_pins = copy_of_first_pins(alloc, &self.first_pins)?;
+        let kinds = copy_of_kinds(alloc, &self.kinds)?;
+        Ok(Sizes {
+            signals: self.signals,
+            instances: self.instances,
+            inputs: self.inputs,
+            outputs: self.outputs,
             first_pins,
             kinds,
         })

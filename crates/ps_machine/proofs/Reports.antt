@@ -26,10 +26,10 @@ use Rattle.ps_model.proofs.OneSolution.{first_pin_range}
 use Rattle.ps_machine.specs.Bytes.{bit, be2, is_no_bit, instance_bytes}
 use Rattle.ps_machine.specs.Standing.{StandsIn}
 use Rattle.ps_machine.specs.Reporting.{output_byte, past_outputs, ready_byte, error_byte, code_in, holds_report, diag_at, report_in}
+use Rattle.ps_machine.proofs.Bits.{bit_is_bit}
 
 is_bit : (b : Bool) → not (is_no_bit (bit b)) ≡ true
-is_bit true = refl
-is_bit false = refl
+is_bit b = ap not (bit_is_bit b)
 
 -- a test of each number of a range
 all_in_range : (p : ℕ → Bool) (a n : ℕ) → ((j : ℕ) → a ≤ j → j < a + n → p j ≡ true) → list_all p (range_with_len a n) ≡ true

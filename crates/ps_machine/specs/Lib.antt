@@ -8,3 +8,4 @@ pub mod Channels
 pub mod Phases
 pub mod Limits
 pub mod ReadingBack
+pub mod Kinds

@@ -1,5 +1,5 @@
 -- The limits of the calls of an application.
-use Rattle.std.specs.Prelude.{◌≡◌, ℕ, ◌<◌, ◌^◌, List, Some, slice_get}
+use Rattle.std.specs.Prelude.{◌≡◌, ℕ, ◌<◌, ◌^◌, Some, slice_get}
 use Rattle.ps_model.specs.Action.{Action, Actual, time, assigns, calls}
 use Rattle.ps_model.specs.Network.{Network, kind_at}
 use Rattle.ps_model.specs.Scanning.{limit_of}

@@ -6,20 +6,32 @@ ghost use Rattle.ps_model.specs.Scanning.{pin_at, limit_of};
 ghost use Rattle.ps_model.specs.Args.{actual};
 ghost use Rattle.ps_model.specs.Steps.{action};
 ghost use Rattle.ps_model.specs.Budgets.{IsCall};
+ghost use Rattle.ps_machine.specs.Kinds.{kind_of};
 ghost use Rattle.ps_machine.specs.Limits.{literal_time, HasLimit, LimitsFit};
 
 use ps_model::app::App;
 use ps_model::budget::boolean_count;
-use ps_model::kind::{Kind, fixed_limit};
+use ps_model::kind::{Kind, fixed_limit, kind_numbered};
 use ps_model::pins::pin_row;
 use ps_model::step::{Arg, Args, Step};
 
-/// The value of an input pin that a call does not name, by the pin's number.
+/// The kind with a number of code, and None exactly where no kind has it.
+pub fn kind_by_number(number: u8) -> Option<Kind>
+    ensures { result ≡ kind_of number }
+{
+    kind_numbered(number)
+}
+
+/// The value of an input pin that a call does not name, by the pin's number. SF_Antivalent alone has a pin that is TRUE
+/// then, so no row is looked up for the others.
 pub fn free_value(kind: Kind, j: u8) -> bool
     requires { j < length (block kind).inputs }
     ensures { result ≡ (pin_at kind j).free }
 {
-    pin_row(kind, j).free
+    match kind {
+        Kind::Antivalent => pin_row(kind, j).free,
+        _ => false,
+    }
 }
 
 // The TIME literal that stands at a pin in ms, and else 0.

@@ -1,3 +1,5 @@
 pub mod Loading
 pub mod Codes
 pub mod Showing
+pub mod Zeros
+pub mod Reading

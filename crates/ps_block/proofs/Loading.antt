@@ -6,7 +6,7 @@ use Rattle.std.proofs.lemmas.Nat.{from_be_bytes-to_be_bytes_2}
 use Rattle.ps_model.specs.declared.kind.Kind.{Kind}
 use Rattle.ps_model.specs.Blocks.{block}
 use Rattle.ps_model.specs.Kept.{Kept}
-use Rattle.ps_model.specs.Stored.{Loads, IsKept, stored, is_state, is_last, is_mode, bit, be2}
+use Rattle.ps_model.specs.Stored.{Loads, stored, is_state, is_last, is_mode, bit, be2}
 use Rattle.ps_model.proofs.Sixteen.{short_code}
 use Rattle.ps_block.specs.declared.image.Image.{Image}
 use Rattle.ps_block.specs.Images.{Reads, kept_by}
@@ -23,7 +23,7 @@ loads_from kind bytes i k r state code reset auxiliary mode time =
     let same : kept_by i ≡ k = λ x. record { code = sym code x; last_reset = sym reset x; last_auxiliary = sym auxiliary x; mode = sym mode x; timer = sym time x } in
     subst (λ y. Loads kind bytes y) same (loads_image kind bytes i r state)
 
-code_in : (k : Kept) → k.code < 2 ^ 16 → be2 (stored k) 0 ≡ k.code
+pub code_in : (k : Kept) → k.code < 2 ^ 16 → be2 (stored k) 0 ≡ k.code
 code_in k h = from_be_bytes-to_be_bytes_2 k.code h
 
 pub no_state : (kind : Kind) (bytes : List ℕ) (i : Image) → Reads kind bytes i → is_state kind i.code ≡ false → (k : Kept) → Loads kind bytes k → ⊥

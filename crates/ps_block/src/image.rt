@@ -1,10 +1,11 @@
 // The sixteen bytes that keep a state.
 
-ghost use Rattle.std.specs.Prelude.{◌≡◌, ◌<◌, ◌^◌, ◌&&◌, IfSome, IfNone};
+ghost use Rattle.std.specs.Prelude.{◌≡◌, ◌<◌, ◌^◌, ◌&&◌, ◌==◌, drop, IfSome, IfNone};
+ghost use Rattle.std.specs.List.{list_all};
 ghost use Rattle.ps_model.specs.declared.kind.Kind.{Kind};
 ghost use Rattle.ps_model.specs.Blocks.{block};
 ghost use Rattle.ps_model.specs.Kept.{Kept};
-ghost use Rattle.ps_model.specs.Stored.{Loads, bit, stored, is_last, is_mode};
+ghost use Rattle.ps_model.specs.Stored.{Loads, stored, is_last, is_mode};
 
 use ps_model::kind::{Kind, auxiliary_pin, reset_pin};
 
@@ -20,24 +21,21 @@ pub struct Image {
     pub time: u32,
 }
 
-// A truth value from its byte, and None where it is neither 0 nor 1.
-fn truth(byte: u8) -> Option<bool>
-    ensures some { IfSome result (λ b. bit b ≡ byte) }
-    ensures none { IfNone result (1 < byte) }
+// Whether a kind with this pin, or with none, has such a last input.
+fn may_be_last(pin: Option<u8>, byte: u8) -> bool
+    ensures { result ≡ is_last pin byte }
 {
-    match byte {
-        0 => Some(false),
-        1 => Some(true),
-        _ => None,
+    match pin {
+        Some(_) => byte <= 1,
+        None => byte == 0,
     }
 }
 
-// Whether a kind has such a last input.
-#[tactic(auto, unfolding(ps_model::specs::Blocks::block))]
-fn may_have(kind: Kind, last_reset: bool, last_auxiliary: bool) -> bool
-    ensures { result ≡ (is_last (block kind).reset (bit last_reset) && is_last (block kind).auxiliary (bit last_auxiliary)) }
+// Whether a kind has such last inputs.
+fn may_have(kind: Kind, reset: u8, auxiliary: u8) -> bool
+    ensures { result ≡ (is_last (block kind).reset reset && is_last (block kind).auxiliary auxiliary) }
 {
-    (!last_reset || reset_pin(kind).is_some()) && (!last_auxiliary || auxiliary_pin(kind).is_some())
+    may_be_last(reset_pin(kind), reset) && may_be_last(auxiliary_pin(kind), auxiliary)
 }
 
 // Whether a kind has such a latched mode in a state.
@@ -48,6 +46,16 @@ fn may_latch(kind: Kind, code: u16, mode: u8) -> bool
         mode < 8
     } else {
         mode == 0
+    }
+}
+
+// Whether the bytes 9 to 15 are 0. The last eight bytes are one number, so this is one test.
+fn ends_in_zeros(from: &[u8; 16]) -> bool
+    ensures { result ≡ list_all (λ b. b == 0) (drop 9 from.now) }
+{
+    match from.last_chunk::<8>() {
+        Some(last) => u64::from_be_bytes(*last) % (1 << 56) == 0,
+        None => false,
     }
 }
 
@@ -74,40 +82,23 @@ impl Image {
         ensures some { IfSome result (Reads kind from.now) }
         ensures none { IfNone result ((k : Kept) → ¬ (Loads kind from.now k)) }
     {
-        let [
-            c0,
-            c1,
-            reset,
-            auxiliary,
-            mode,
-            t0,
-            t1,
-            t2,
-            t3,
-            z0,
-            z1,
-            z2,
-            z3,
-            z4,
-            z5,
-            z6,
-        ] = *from;
-        let image = Image {
-            code: u16::from_be_bytes([c0, c1]),
-            last_reset: truth(reset)?,
-            last_auxiliary: truth(auxiliary)?,
+        let [c0, c1, reset, auxiliary, mode, t0, t1, t2, t3, ..] = *from;
+        let code = u16::from_be_bytes([c0, c1]);
+        if !may_have(kind, reset, auxiliary) {
+            return None;
+        }
+        if !may_latch(kind, code, mode) {
+            return None;
+        }
+        if !ends_in_zeros(from) {
+            return None;
+        }
+        Some(Image {
+            code,
+            last_reset: reset == 1,
+            last_auxiliary: auxiliary == 1,
             mode,
             time: u32::from_be_bytes([t0, t1, t2, t3]),
-        };
-        if !may_have(kind, image.last_reset, image.last_auxiliary) {
-            return None;
-        }
-        if !may_latch(kind, image.code, mode) {
-            return None;
-        }
-        if z0 != 0 || z1 != 0 || z2 != 0 || z3 != 0 || z4 != 0 || z5 != 0 || z6 != 0 {
-            return None;
-        }
-        Some(image)
+        })
     }
 }

@@ -1,4 +1,4 @@
-mod Timed
+mod FewPins
 mod Bitwise
 mod Going
 mod Ending

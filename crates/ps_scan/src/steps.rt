@@ -10,9 +10,10 @@ ghost use Rattle.ps_model.specs.Running.{Memory, done, exec};
 ghost use Rattle.ps_scan.specs.Cells.{IsFor};
 ghost use Rattle.ps_scan.specs.Midway.{Midway};
 
-use crate::pins::{limit, pin_bits, shown_values};
+use crate::pins::{pin_bits, shown_values};
 use crate::scanner::Scanner;
 use ps_block::Pins;
+use ps_machine::calls::call_limit;
 use ps_model::app::App;
 use ps_model::expr::{Expr, evaluate};
 use ps_model::kind::safe_count;
@@ -46,7 +47,7 @@ fn call(app: &App, k: u16, i: u16, args: &Args, now: u32, w: &mut Scanner, diags
     let kind = app.instance_kind(i);
     let pins = Pins {
         bits: pin_bits(kind, args, w.signals()),
-        limit: limit(kind, args),
+        limit: call_limit(kind, args),
         now,
     };
     let outs = w.step(i as usize, pins);

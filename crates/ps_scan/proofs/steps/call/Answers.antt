@@ -71,8 +71,8 @@ returns-clause-done c =
     ∙ ap (λ (kd : Kind). pins_under (signal_at w) kd args j) here in
     let moves : kept_at w' i ≡ stepped_at kind (limit_of kind args) bits now (kept_at w i) =
     ap (λ (h : Held). h.kept) (same i ∙ c.step-outs.ensures.moves)
-    ∙ ap (λ (kd : Kind). stepped_at kd c.limit.result bits now (kept_at w i)) (c.requires.sizes.kinds i)
-    ∙ ap (λ (n : ℕ). stepped_at kind n bits now (kept_at w i)) (c.limit.ensures ∙ ap (λ (kd : Kind). limit_of kd args) here) in
+    ∙ ap (λ (kd : Kind). stepped_at kd c.call_limit.result bits now (kept_at w i)) (c.requires.sizes.kinds i)
+    ∙ ap (λ (n : ℕ). stepped_at kind n bits now (kept_at w i)) (c.call_limit.ensures ∙ ap (λ (kd : Kind). limit_of kd args) here) in
     let shows : Shows kind o (kept_at w' i) =
     subst (λ (kd : Kind). Shows kd o (kept_at w' i)) (c.requires.sizes.kinds i)
     (subst (λ (h : Held). Shows (held_at w i).kind o h.kept) (sym (same i)) c.step-outs.ensures.shows) in

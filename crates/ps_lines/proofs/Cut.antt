@@ -1,11 +1,10 @@
 -- Where the lines of a text are cut.
-use Rattle.std.proofs.Common.{◌≡◌, ◌≢◌, ◌≤◌, ◌<◌, ◌+◌, ◌-◌, ℕ, List, [], ◌∷◌, ◌++◌, Bool, true, false, cond, eqb, nat_lt, length, take, drop, get_or, refl, sym, ◌∙◌, ap, arith, length-take, length-drop, append_assoc, subst}
+use Rattle.std.proofs.Common.{◌≡◌, ◌≤◌, ◌<◌, ◌+◌, ◌-◌, ℕ, List, [], ◌∷◌, ◌++◌, Bool, true, false, nat_lt, length, take, drop, get_or, refl, sym, ◌∙◌, ap, arith, length-take, length-drop, subst}
 use Rattle.std.proofs.lemmas.Grind.{common_steps}
 use Rattle.std.proofs.Math.Seq.{take-add}
 use Rattle.std.proofs.lemmas.List.{take_all, drop_all, drop-take, drop-drop, take-append-drop, drop_more, take-take, get_or-take, get_or-drop, length-take-le}
 use Rattle.std.proofs.lemmas.Bool.{lt-ltb, le-ltb}
 use Rattle.std.proofs.lemmas.List.Folds.{list_any-append}
-use Rattle.std.specs.List.{list_any}
 use Rattle.std.specs.Prelude.{◌==◌, if◌then◌else◌}
 use Rattle.ps_lines.specs.Lines.{RawLine, Line, raw_lines, onto_first, bytes_of, HasNoLineFeed, lines_at, lines_from, kept_of}
 use Rattle.ps_lines.specs.Lines.Line.{Kept, KeptLast, Long, Large}

@@ -4,6 +4,7 @@
 //! return directly before the line feed is dropped, but counts in the length of the line.
 #![tactic(auto)]
 
+mod feeds;
 mod reader;
 
 pub use reader::{Fault, Got, Limits, LineReader};

@@ -1,10 +1,11 @@
 // The reader of lines. It holds one piece of the file, and a line that several pieces make up.
 
-ghost use Rattle.std.specs.Prelude.{◌≡◌, ◌≤◌, ◌<◌, ◌+◌, ◌-◌, ◌++◌, ℕ, List, IsTrue, Some, IsSome, OnOk, OnSome, take, length, vec_len, IfOk, OnErr, drop, IfSome, IfNone, slice_index, true, false};
+ghost use Rattle.std.specs.Prelude.{◌≡◌, ◌≤◌, ◌<◌, ◌+◌, ◌-◌, ◌++◌, ℕ, List, IsTrue, Some, IsSome, OnOk, OnSome, take, length, vec_len, IfOk, OnErr, IfSome, IfNone, slice_index, true, false};
 ghost use Rattle.ps_outside.specs.Outside.{Rose};
 ghost use Rattle.std.specs.Str.Lines.{strip_carriage_return};
 ghost use Rattle.ps_lines.specs.Lines.{HasNoLineFeed};
 
+use crate::feeds::line_feed;
 use ps_base::Memory;
 use ps_outside::{Failed, Files};
 use std::alloc::Global;
@@ -143,7 +144,8 @@ impl LineReader {
         }
     }
 
-    // Reads the next piece.
+    // Reads the next piece. Most lines want none, so this stands apart from them.
+    #[inline(never)]
     fn fetch<F: Files>(&mut self, files: &mut F) -> Result<usize, Fault>
         requires all_looked_at { self.old.from ≡ self.old.upto }
         requires not_large { self.old.at ≤ self.old.limits.largest }
@@ -278,6 +280,7 @@ impl LineReader {
 
     // The line that came last began in a piece before. What is held of it, up to the line feed at place `n`, is put
     // behind what was kept.
+    #[cold]
     fn show_kept(&mut self, n: usize) -> Got
         requires held { n < self.old.upto - self.old.from }
         requires feed { slice_index (held_of self.old) n ≡ 10 }
@@ -305,6 +308,7 @@ impl LineReader {
     }
 
     // All that is held is of the line.
+    #[cold]
     fn keep_all(&mut self)
         requires { HasNoLineFeed (held_of self.old) }
         ensures reads { (text : List ℕ) → IsReading self.old text → IsReading self.new text }
@@ -342,17 +346,4 @@ fn keep(line: &mut [u8], count: usize, part: &[u8])
     if count <= line.len() && part.len() <= line.len() - count {
         line[count..count + part.len()].copy_from_slice(part);
     }
-}
-
-// The place of the first line feed.
-fn line_feed(bytes: &[u8]) -> Option<usize>
-    ensures found { IfSome result (λ n. (n < length bytes.now) × (slice_index bytes.now n ≡ 10) × HasNoLineFeed (take n bytes.now)) }
-    ensures none { IfNone result (HasNoLineFeed bytes.now) }
-{
-    for (i, b) in bytes.iter().enumerate() {
-        if *b == b'\n' {
-            return Some(i);
-        }
-    }
-    None
 }

@@ -1,11 +1,10 @@
 -- The lines of a fault file.
-use Rattle.std.proofs.Common.{◌≡◌, ◌≢◌, ◌≤◌, ◌<◌, ◌+◌, ℕ, List, [], ◌∷◌, Option, Some, None, Ok, Err, length, zero, suc, refl, sym, ◌∙◌, ap, arith}
+use Rattle.std.proofs.Common.{◌≡◌, ◌≢◌, ◌≤◌, ◌<◌, ◌+◌, ℕ, List, [], ◌∷◌, Option, Some, None, Ok, Err, length, zero, suc, refl, ◌∙◌, ap, arith}
 use Rattle.std.proofs.lemmas.Grind.{common_steps}
 use Rattle.ps_base.specs.declared.failing.Rule.{Rule}
 use Rattle.ps_base.specs.declared.failing.Rule.TheVariants.{F1, F5}
 use Rattle.ps_base.specs.declared.limits.TheConstants.{MOST_FAULT_LINES}
 use Rattle.ps_lines.specs.Lines as cut
-use Rattle.ps_lines.specs.Lines.Line.{Kept, KeptLast, Long, Large}
 use Rattle.ps_lines.specs.Reader.{Gives}
 use Rattle.ps_lines.specs.declared.reader.Got.{Got}
 use Rattle.ps_lines.specs.declared.reader.Got.TheVariants.{Line, LastLine, TooLong, TooLarge, End}

@@ -1,5 +1,5 @@
 -- The names of a header.
-use Rattle.std.proofs.Common.{◌≡◌, ◌≢◌, ◌≤◌, ◌<◌, ◌+◌, ◌==◌, ◌↔◌, ℕ, List, [], ◌∷◌, ◌++◌, Bool, not, true, false, IsTrue, Option, Some, None, if◌then◌else◌, length, drop, get_or, map, slice_index, slice_set, unwrap_or, codes, refl, sym, ◌∙◌, ap, arith, rules}
+use Rattle.std.proofs.Common.{◌≡◌, ◌≤◌, ◌<◌, ◌+◌, ◌==◌, ◌↔◌, ℕ, List, [], ◌∷◌, ◌++◌, Bool, not, true, false, IsTrue, Option, Some, if◌then◌else◌, length, drop, get_or, map, slice_index, slice_set, unwrap_or, codes, refl, sym, ◌∙◌, ap, arith}
 use Rattle.std.specs.List.{position_from, list_any, list_all, range_with_len}
 use Rattle.std.specs.Char.{to_ascii_lowercase}
 use Rattle.std.specs.Str.{bytes_eq, str_eq_ignore_ascii_case}

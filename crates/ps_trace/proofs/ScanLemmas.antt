@@ -1,9 +1,8 @@
 -- One line of a trace, and what is left behind it.
-use Rattle.std.proofs.Common.{◌≡◌, ◌≢◌, ◌<◌, ◌+◌, ℕ, List, [], ◌∷◌, Bool, Ok, Err, length, refl, sym, ◌∙◌, ap, arith}
+use Rattle.std.proofs.Common.{◌≡◌, ◌≢◌, ◌<◌, ◌+◌, ℕ, List, Bool, Ok, Err, length, refl, ◌∙◌, ap, arith}
 use Rattle.std.proofs.lemmas.Grind.{common_steps}
 use Rattle.ps_base.specs.declared.failing.Rule.{Rule}
 use Rattle.ps_lines.specs.Lines as cut
-use Rattle.ps_lines.specs.Lines.Line.{Kept, KeptLast, Long, Large}
 use Rattle.ps_lines.specs.Reader.{Gives, GoesOn, begin_of}
 use Rattle.ps_lines.specs.declared.reader.LineReader.{LineReader}
 use Rattle.ps_lines.specs.declared.reader.Got.{Got}
@@ -15,7 +14,6 @@ use Rattle.ps_trace.specs.Trace.Said.{skips, restarts, scans, breaks}
 use Rattle.ps_trace.specs.Header.{header_said}
 use Rattle.ps_trace.specs.Header.Header.{no_header, places, wrong}
 use Rattle.ps_trace.specs.Scans.{scans_from, headed, at_line, inputs_of}
-use Rattle.ps_trace.specs.Scans.End.{whole}
 use Rattle.ps_trace.specs.Scans.Headed.{begins, fails}
 use Rattle.ps_trace.specs.Feeds.{feeds_of}
 use Rattle.ps_trace.specs.Reading.{Begins, only_refused}

@@ -1,5 +1,5 @@
 -- A fault file has no largest size: a line that the reader does not look at is refused all the same.
-use Rattle.std.proofs.Common.{◌≡◌, ◌≤◌, ◌<◌, ◌+◌, ◌*◌, ◌⊎◌, ℕ, List, [], ◌∷◌, Bool, true, false, Some, nat_eq, nat_lt, if◌then◌else◌, length, map, refl, sym, ◌∙◌, ap, ⊎_elim, arith}
+use Rattle.std.proofs.Common.{◌≡◌, ◌≤◌, ◌<◌, ◌+◌, ◌*◌, ℕ, List, [], ◌∷◌, Bool, true, false, Some, nat_eq, nat_lt, if◌then◌else◌, length, map, refl, sym, ◌∙◌, ap, ⊎_elim, arith}
 use Rattle.std.proofs.lemmas.Bool.{le-ltb, lt-ltb}
 use Rattle.std.proofs.lemmas.Bool.Decides.{leb_tells}
 use Rattle.std.specs.Str.Lines.{strip_carriage_return}
@@ -12,7 +12,7 @@ use Rattle.ps_lines.specs.Lines.Line.{Kept, KeptLast, Long, Large}
 use Rattle.ps_model.specs.declared.channel.ImageSizes.{ImageSizes}
 use Rattle.ps_trace.specs.declared.fault_file.Before.{Before}
 use Rattle.ps_trace.specs.Scans.{at_line, number_after}
-use Rattle.ps_trace.specs.Faults.{Struck, FaultList, before_next, faults_from, faults_of, line_struck, no_fault, onto_faults, struck_of}
+use Rattle.ps_trace.specs.Faults.{Struck, before_next, faults_from, faults_of, line_struck, no_fault, onto_faults, struck_of}
 use Rattle.ps_trace.specs.Faults.Struck.{broken}
 use Rattle.ps_trace.specs.FaultSays.{faults_read}
 use Rattle.ps_trace.specs.declared.fault_file.TheConstants.{LARGEST_READ}

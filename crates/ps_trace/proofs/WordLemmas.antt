@@ -1,8 +1,8 @@
 -- Where the words of a line stand.
-use Rattle.std.proofs.Common.{◌≡◌, ◌≤◌, ◌<◌, ◌+◌, ◌-◌, ℕ, List, [], ◌∷◌, Bool, true, false, length, take, drop, get_or, refl, sym, ◌∙◌, ap, arith, subst, length-drop, suc, zero}
+use Rattle.std.proofs.Common.{◌≡◌, ◌≤◌, ◌<◌, ◌+◌, ◌-◌, ℕ, List, [], ◌∷◌, true, false, length, take, drop, get_or, sym, ◌∙◌, ap, arith, length-drop, suc, zero}
 use Rattle.std.proofs.lemmas.Grind.{common_steps}
 use Rattle.std.proofs.lemmas.List.{drop_all, drop_more, get_or-drop}
-use Rattle.ps_trace.specs.Words.{is_blank, words, before_words, onto_word, IsNextWord, AreBlank}
+use Rattle.ps_trace.specs.Words.{is_blank, words, IsNextWord, AreBlank}
 
 -- a blank in front changes no word
 pub words-blank : (b : ℕ) (bytes : List ℕ) → is_blank b ≡ true → words (b ∷ bytes) ≡ words bytes
@@ -27,7 +27,7 @@ words-one b (c ∷ bytes) plain ends =
     grind (arith, common_steps)
 
 -- one byte more in front of a word
-words-more : (b c : ℕ) (bytes word : List ℕ) (more : List (List ℕ)) → is_blank b ≡ false → is_blank c ≡ false → words (c ∷ bytes) ≡ word ∷ more →
+pub words-more : (b c : ℕ) (bytes word : List ℕ) (more : List (List ℕ)) → is_blank b ≡ false → is_blank c ≡ false → words (c ∷ bytes) ≡ word ∷ more →
     words (b ∷ c ∷ bytes) ≡ (b ∷ word) ∷ more
 words-more b c bytes word more plain joined is = grind (arith, common_steps)
 

@@ -1,6 +1,6 @@
 -- What the code says of a line.
-use Rattle.std.specs.Prelude.{◌≡◌, ◌<◌, ℕ, List, [], ◌∷◌, Bool, true, false, length, slice_index}
-use Rattle.ps_trace.specs.Words.{is_blank}
+use Rattle.std.specs.Prelude.{◌≡◌, ◌<◌, ◌++◌, ℕ, List, [], ◌∷◌, Bool, true, false, Some, length, map, slice_index}
+use Rattle.ps_trace.specs.Words.{is_blank, fields, number_of}
 use Rattle.ps_trace.specs.Trace.{Said}
 use Rattle.ps_trace.specs.Trace.Said.{skips, restarts, scans, breaks}
 use Rattle.ps_trace.specs.declared.scan_line.LineSays.{LineSays}
@@ -21,3 +21,15 @@ word_of true = 49 ∷ []
 -- no byte of these belongs to a word that ends in front of them
 abbrev pub IsApart : List ℕ → Type 0
 IsApart bytes = 0 < length bytes → is_blank (slice_index bytes 0) ≡ true
+
+-- bytes that begin with digits of this value, and go on with others
+pub record IsNumbered (bytes : List ℕ) (value : ℕ) (behind : List ℕ) : Type 0 where
+  pub digits : List ℕ
+  pub whole : bytes ≡ digits ++ behind
+  pub number : number_of digits ≡ Some value
+
+-- a line with this time, and with these values behind it
+pub record IsPlain (line : List ℕ) (now : ℕ) (values : List Bool) : Type 0 where
+  pub time : List ℕ
+  pub whole : fields line ≡ time ∷ map word_of values
+  pub number : number_of time ≡ Some now

@@ -1,13 +1,11 @@
 -- What the lines of a trace say.
-use Rattle.std.specs.Prelude.{ℕ, List, [], ◌∷◌, ◌+◌, Bool, true, false, not, ◌==◌, ◌||◌, nat_lt, if◌then◌else◌, Option, Some, None, is_some, is_none, unwrap_or, length, map, position, slice_index_or}
-use Rattle.std.specs.List.{list_all, list_any, filter_map, range_with_len}
-use Rattle.std.specs.Str.{bytes_eq, str_eq_ignore_ascii_case}
+use Rattle.std.specs.Prelude.{ℕ, List, [], ◌∷◌, Bool, true, false, not, ◌==◌, nat_lt, if◌then◌else◌, Option, Some, None, is_some, length}
+use Rattle.std.specs.List.{list_all, filter_map}
+use Rattle.std.specs.Str.{bytes_eq}
 use Rattle.std.specs.Prelude.{codes}
 use Rattle.ps_base.specs.declared.failing.Rule.{Rule}
-use Rattle.ps_base.specs.declared.failing.Rule.TheVariants.{T1, T2, T3, T4, T5, T6, T7, T8, T9}
-use Rattle.ps_lines.specs.Lines.{Line}
-use Rattle.ps_lines.specs.Lines.Line.{Kept, KeptLast, Long, Large}
-use Rattle.ps_trace.specs.Words.{fields, number_of}
+use Rattle.ps_base.specs.declared.failing.Rule.TheVariants.{T4, T5, T6, T7}
+use Rattle.ps_trace.specs.Words.{number_of}
 
 -- the value that a word is: `0` or `1`
 abbrev pub value_of : List ℕ → Option Bool

@@ -1,7 +1,6 @@
 // The lines of a fault file of two channels.
 
-ghost use Rattle.std.specs.Prelude.{◌≡◌, ◌≤◌, ◌<◌, ◌-◌, ◌∷◌, ℕ, List, length, take, drop, IfOk, codes};
-ghost use Rattle.std.specs.Str.{bytes_eq};
+ghost use Rattle.std.specs.Prelude.{◌≡◌, ◌≤◌, ◌-◌, ◌∷◌, length, take, drop, IfOk};
 ghost use Rattle.ps_trace.specs.Words.{number_of, words};
 ghost use Rattle.ps_trace.specs.Faults.{above_zero, bytes_said, channel_of, fault_said, first_of, made, others_of, region_of, target_said};
 

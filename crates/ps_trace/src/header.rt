@@ -1,6 +1,6 @@
 // The header of a trace.
 
-ghost use Rattle.std.specs.Prelude.{◌≡◌, ◌≤◌, ◌<◌, ◌+◌, ◌==◌, ◌^◌, ℕ, IsTrue, List, Some, length, drop, not, replicate, slice_index, slice_set, if◌then◌else◌, IfOk, IfSome, codes};
+ghost use Rattle.std.specs.Prelude.{◌≡◌, ◌≤◌, ◌<◌, ◌+◌, ◌==◌, ◌^◌, ℕ, IsTrue, Some, length, drop, not, replicate, slice_index, slice_set, if◌then◌else◌, IfOk, IfSome, codes};
 ghost use Rattle.std.specs.Str.{bytes_eq};
 ghost use Rattle.std.specs.List.{list_all, position_from};
 ghost use Rattle.ps_model.specs.Network.{input_count};

@@ -5,6 +5,7 @@ mod fault_file;
 mod fault_line;
 mod faults;
 mod header;
+mod plain_line;
 mod scan_line;
 mod trace;
 mod words;

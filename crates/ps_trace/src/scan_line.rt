@@ -1,11 +1,12 @@
 // The lines of a trace after its header.
 
-ghost use Rattle.std.specs.Prelude.{◌≡◌, ◌≤◌, ◌<◌, ◌&&◌, ◌∷◌, ℕ, IsTrue, List, length, map, drop, is_some, IfSome, slice_set};
+ghost use Rattle.std.specs.Prelude.{◌≡◌, ◌≤◌, ◌<◌, ℕ, Bool, IsTrue, List, length, drop, is_some, IfSome, slice_set};
 ghost use Rattle.std.specs.List.{list_all, filter_map};
 ghost use Rattle.ps_trace.specs.Words.{fields, words};
-ghost use Rattle.ps_trace.specs.Trace.{value_of, is_restart, line_said};
-ghost use Rattle.ps_trace.specs.LineSays.{said_by, word_of, IsApart};
+ghost use Rattle.ps_trace.specs.Trace.{value_of, is_restart, line_said, timed};
+ghost use Rattle.ps_trace.specs.LineSays.{said_by};
 
+use crate::plain_line::read_plain;
 use crate::words::{first_field, next_word, number};
 use ps_base::Rule;
 
@@ -31,11 +32,23 @@ pub(crate) fn read_line(line: &[u8], last: u32, values: &mut [bool]) -> LineSays
     ensures says { line_said (length values.old) last (fields line.now) ≡ said_by result values.new }
     ensures rises { (now : ℕ) → result ≡ LineSays.Scan now → last ≤ now }
 {
+    match read_plain(line, values) {
+        Some(now) => judge_time(Some(now), last),
+        None => read_fields(line, last, values),
+    }
+}
+
+// What a line of any form says.
+#[inline(never)]
+fn read_fields(line: &[u8], last: u32, values: &mut [bool]) -> LineSays
+    ensures says { line_said (length values.old) last (fields line.now) ≡ said_by result values.new }
+    ensures rises { (now : ℕ) → result ≡ LineSays.Scan now → last ≤ now }
+{
     let Some((from, upto)) = first_field(line) else {
         return LineSays::Nothing;
     };
     let time = &line[from..upto];
-    let found = read_values(line, upto, values);
+    let found = read_words(line, upto, values);
     if is_restart(time, found.count) {
         return LineSays::Restart;
     }
@@ -45,7 +58,15 @@ pub(crate) fn read_line(line: &[u8], last: u32, values: &mut [bool]) -> LineSays
     if !found.proper {
         return LineSays::Broken(Rule::T5);
     }
-    match number(time) {
+    judge_time(number(time), last)
+}
+
+// What a line with its values says by its time, where its first word is one.
+fn judge_time(time: Option<u32>, last: u32) -> LineSays
+    ensures says { (values : List Bool) → timed last time values ≡ said_by result values }
+    ensures rises { (now : ℕ) → result ≡ LineSays.Scan now → last ≤ now }
+{
+    match time {
         None => LineSays::Broken(Rule::T6),
         Some(now) if now < last => LineSays::Broken(Rule::T7),
         Some(now) => LineSays::Scan(now),
@@ -60,50 +81,6 @@ fn is_restart(word: &[u8], others: usize) -> bool
 }
 
 // Reads the words of a line from `at` on, and puts the values that they are where there is room.
-fn read_values(line: &[u8], at: usize, values: &mut [bool]) -> Values
-    requires { at ≤ length line.now }
-    ensures count { result.count ≡ length (words (drop at line.now)) }
-    ensures proper { result.proper ≡ list_all (λ word. is_some (value_of word)) (words (drop at line.now)) }
-    ensures values { IsTrue result.proper → result.count ≡ length values.old → values.new ≡ filter_map value_of (words (drop at line.now)) }
-{
-    if read_plain(&line[at..], values) {
-        return Values {
-            count: values.len(),
-            proper: true,
-        };
-    }
-    read_words(line, at, values)
-}
-
-// Reads values that stand behind one blank each, one for each place, up to the end, as most lines have them. False:
-// the bytes have another form.
-fn read_plain(bytes: &[u8], values: &mut [bool]) -> bool
-    ensures { IsTrue result → words bytes.now ≡ map word_of values.new }
-{
-    let mut rest = bytes;
-    for i in 0..values.len() {
-        let Some((value, behind)) = plain_value(rest) else {
-            return false;
-        };
-        values[i] = value;
-        rest = behind;
-    }
-    rest.is_empty()
-}
-
-// The value that stands behind one blank, and the bytes behind it.
-fn plain_value(bytes: &[u8]) -> Option<(bool, &[u8])>
-    ensures apart { IfSome result (λ _. IsApart bytes.now) }
-    ensures value { IfSome result (λ found. IsApart found.1.now → words bytes.now ≡ word_of found.0 ∷ words found.1.now) }
-{
-    match bytes {
-        [b' ' | b'\t', b'0', behind @ ..] => Some((false, behind)),
-        [b' ' | b'\t', b'1', behind @ ..] => Some((true, behind)),
-        _ => None,
-    }
-}
-
-// Reads words of any form from `at` on, and puts the values that they are where there is room.
 fn read_words(line: &[u8], at: usize, values: &mut [bool]) -> Values
     requires { at ≤ length line.now }
     ensures count { result.count ≡ length (words (drop at line.now)) }

@@ -1,6 +1,6 @@
 // The reader of a trace.
 
-ghost use Rattle.std.specs.Prelude.{◌≡◌, ◌≢◌, ◌≤◌, ◌<◌, ◌+◌, ℕ, List, Bool, IsTrue, Some, None, IsSome, false, length, map, slice_index_or, vec_len, IfOk, IfErr, OnOk, OnErr, Ok, Err, IsErrOf};
+ghost use Rattle.std.specs.Prelude.{◌≡◌, ◌≢◌, ◌≤◌, ◌<◌, ◌+◌, ℕ, List, IsTrue, Some, None, IsSome, false, length, vec_len, IfOk, OnOk, OnErr, Ok, Err, IsErrOf};
 ghost use Rattle.ps_outside.specs.Outside.{Rose};
 ghost use Rattle.ps_base.specs.declared.limits.TheConstants.{LARGEST_TRACE, LONGEST_TRACE_LINE};
 ghost use Rattle.ps_lines.specs.Reader.{begin_of, limits_of, line_of};
@@ -15,7 +15,6 @@ ghost use Rattle.ps_trace.specs.Scans.{at_line, header_in, inputs_of, scans_of};
 ghost use Rattle.ps_trace.specs.Scans.Headed.{fails};
 ghost use Rattle.ps_base.specs.declared.failing.Rule.{Rule};
 ghost use Rattle.ps_trace.specs.declared.trace.TraceFail.TheVariants.{Memory as NoMemory, Fault as IsFault};
-ghost use Rattle.ps_trace.specs.declared.trace.TraceStop.TheVariants.{Fault as StopFault};
 
 use crate::header::{HeaderSays, read_header};
 use crate::scan_line::{LineSays, read_line};

@@ -1,6 +1,5 @@
 -- An application of the three inputs alone is sound.
-use Rattle.std.proofs.Common.{◌≡◌, ◌≤◌, ◌<◌, ◌++◌, ◌∷◌, [], ℕ, zero, suc, List, length, map, get_or, sym, ap, ◌∙◌, subst, append-nil, arith}
-use Rattle.std.specs.Prelude.{AllPairs}
+use Rattle.std.proofs.Common.{◌≡◌, ◌<◌, [], ℕ, zero, suc, List, get_or, ap, arith}
 use Rattle.ps_model.specs.declared.named.Signal.{Signal}
 use Rattle.ps_model.specs.declared.named.Instance.{Instance}
 use Rattle.ps_model.specs.Action.{Action}

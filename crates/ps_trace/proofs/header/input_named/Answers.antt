@@ -1,4 +1,4 @@
-use Rattle.std.proofs.Common.{◌≡◌, ◌<◌, ◌∙◌, [], length, get_or, true, false, sym, ap, arith}
+use Rattle.std.proofs.Common.{◌≡◌, ◌<◌, ◌∙◌, [], get_or, true, false, sym, ap, arith}
 use Rattle.std.specs.Str.{str_eq_ignore_ascii_case}
 use Rattle.ps_model.specs.Network.{input_count}
 use Rattle.ps_trace.specs.Header.{input_names}

@@ -1,8 +1,8 @@
-use Rattle.std.proofs.Common.{◌≡◌, ◌∙◌, true, false, drop, arith}
+use Rattle.std.proofs.Common.{◌∙◌, drop, arith}
 use Rattle.std.proofs.lemmas.Grind.{common_steps}
 use Rattle.ps_model.specs.Network.{input_count}
 use Rattle.ps_trace.specs.Words.{words}
-use Rattle.ps_trace.specs.Header.{input_names, inputs_named, names_another}
+use Rattle.ps_trace.specs.Header.{input_names, inputs_named}
 use Rattle.ps_trace.proofs.HeaderLemmas.{input_names-length, once_each, places_are, said_T2, said_T3, said_places}
 use Rattle.ps_trace.proofs.header.judge_names.Goals as goal
 

@@ -1,4 +1,4 @@
-use Rattle.std.proofs.Common.{◌≡◌, ◌<◌, ◌+◌, ◌==◌, ◌∙◌, ℕ, List, Some, length, drop, slice_index, if◌then◌else◌, sym, ap, arith}
+use Rattle.std.proofs.Common.{◌<◌, ◌+◌, ◌==◌, ◌∙◌, ℕ, List, Some, length, drop, slice_index, if◌then◌else◌, sym, ap, arith}
 use Rattle.std.specs.List.{position_from}
 use Rattle.std.proofs.lemmas.Grind.{common_steps}
 use Rattle.ps_trace.specs.Words.{words}

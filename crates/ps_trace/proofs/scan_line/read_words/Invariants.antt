@@ -1,4 +1,4 @@
-use Rattle.std.proofs.Common.{◌≡◌, ◌≤◌, ◌+◌, ◌-◌, ◌&&◌, ◌++◌, ℕ, IsTrue, length, take, drop, is_some}
+use Rattle.std.proofs.Common.{◌≡◌, ◌≤◌, ◌+◌, ◌-◌, ◌&&◌, ◌++◌, IsTrue, length, take, drop, is_some}
 use Rattle.std.specs.List.{list_all, filter_map}
 use Rattle.ps_trace.specs.Words.{words}
 use Rattle.ps_trace.specs.Trace.{value_of}

@@ -1,5 +1,4 @@
-use Rattle.std.proofs.Common.{◌≡◌, sym, ap, ◌∙◌, subst}
-use Rattle.ps_model.specs.Network.{Network, input_count}
+use Rattle.std.proofs.Common.{sym, subst}
 use Rattle.ps_model.specs.Sound.{IsSound}
 use Rattle.ps_trace_tests.proofs.InputsAlone.{alone_sound, alone_is}
 use Rattle.ps_trace_tests.proofs.inputs.application.Goals as goal

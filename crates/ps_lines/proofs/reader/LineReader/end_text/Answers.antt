@@ -1,4 +1,4 @@
-use Rattle.std.proofs.Common.{◌≡◌, ◌≤◌, ◌-◌, ℕ, List, length, take, drop, arith, length-drop, length-take}
+use Rattle.std.proofs.Common.{◌≡◌, ◌≤◌, ℕ, length, arith, length-drop, length-take}
 use Rattle.ps_lines.specs.Reader.{held_of}
 use Rattle.ps_lines.proofs.Cut.{lines_at-last_long, lines_at-last_kept}
 use Rattle.ps_lines.proofs.reader.LineReader.end_text.Goals as goal

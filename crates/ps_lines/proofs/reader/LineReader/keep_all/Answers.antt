@@ -1,9 +1,8 @@
-use Rattle.std.proofs.Common.{◌≡◌, ◌≤◌, ◌+◌, ◌-◌, ◌++◌, ℕ, List, [], take, drop, length, arith, subst, sym, refl, ap, ◌∙◌, length-drop, length-take}
-use Rattle.std.proofs.lemmas.Grind.{common_steps}
+use Rattle.std.proofs.Common.{◌≡◌, ◌+◌, ◌-◌, ℕ, List, [], take, drop, length, arith, subst, sym, refl, ap, ◌∙◌, length-drop, length-take}
 use Rattle.std.proofs.lemmas.List.{take_all, drop_all, with_items_is}
 use Rattle.std.specs.Vec.{with_items}
 use Rattle.ps_lines.specs.Lines.{HasNoLineFeed}
-use Rattle.ps_lines.specs.Reader.{Follows, held_of}
+use Rattle.ps_lines.specs.Reader.{held_of}
 use Rattle.ps_lines.proofs.Cut.{looked_now, keeps_from, part_held}
 use Rattle.ps_lines.proofs.reader.LineReader.keep_all.Goals as goal
 

@@ -1,7 +1,7 @@
-use Rattle.std.proofs.Common.{◌≡◌, ◌≤◌, ◌<◌, ◌+◌, ◌-◌, ℕ, List, IsTrue, Some, None, length}
+use Rattle.std.proofs.Common.{◌≡◌, ◌≤◌, ◌+◌, ◌-◌, ℕ, List, IsTrue, Some, None}
 use Rattle.ps_base.specs.declared.limits.TheConstants.{LARGEST_TRACE}
 use Rattle.ps_lines.specs.Reader.{begin_of}
-use Rattle.ps_trace.specs.Reading.{IsReadingTrace, items_left, file_of, input_count_of, last_of}
+use Rattle.ps_trace.specs.Reading.{IsReadingTrace, items_left, file_of, last_of}
 use Rattle.ps_trace.proofs.trace.TraceReader.next_scan.Given as goal
 
 abbrev pub invariant-lines : goal.invariant-lines

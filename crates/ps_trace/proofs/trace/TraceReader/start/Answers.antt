@@ -1,12 +1,12 @@
-use Rattle.std.proofs.Common.{◌≡◌, ◌<◌, ◌≤◌, ◌+◌, ◌∙◌, ℕ, List, Option, Some, Ok, IsTrue, subst, sym, ap, arith}
+use Rattle.std.proofs.Common.{◌≡◌, ◌<◌, ◌≤◌, ◌∙◌, ℕ, List, Ok, IsTrue, subst, sym, ap, arith}
 use Rattle.std.proofs.lemmas.Grind.{common_steps}
-use Rattle.ps_lines.specs.Reader.{Gives, left, line_of, name_of, begin_of}
+use Rattle.ps_lines.specs.Reader.{line_of, begin_of}
 use Rattle.ps_trace.specs.Words.{fields}
-use Rattle.ps_trace.specs.Header.{Header, input_names, header_said}
+use Rattle.ps_trace.specs.Header.{input_names, header_said}
 use Rattle.ps_trace.specs.Header.Header.{no_header, places}
 use Rattle.ps_trace.specs.HeaderSays.{header_by}
 use Rattle.ps_trace.specs.Feeds.{feeds_of}
-use Rattle.ps_trace.specs.Scans.{Headed, scans_behind}
+use Rattle.ps_trace.specs.Scans.{scans_behind}
 use Rattle.ps_trace.specs.Reading.{IsHeaded}
 use Rattle.ps_trace.proofs.ScanLemmas.{moved, headed_skip, headed_begins}
 use Rattle.ps_trace.proofs.trace.TraceReader.start.Goals as goal

@@ -4,6 +4,7 @@ mod Applied
 mod Sourced
 mod Scans
 mod Standing
+mod Doing
 mod Placing
 mod Judged
 mod Safe

@@ -1,11 +1,11 @@
 -- How a call comes to meet what it is asked to say.
-use Rattle.std.proofs.Common.{◌≡◌, ◌≤◌, ℕ, List, [], ◌∷◌, ◌++◌, Option, Some, Any, take, drop, refl, sym, ap, ◌∙◌, subst, inl, inr, ⊎_elim, arith, append_assoc, append-nil}
+use Rattle.std.proofs.Common.{◌≡◌, ◌≤◌, ℕ, List, [], ◌∷◌, ◌++◌, Option, Some, Any, take, drop, refl, ap, ◌∙◌, subst, inl, inr, ⊎_elim, arith, append_assoc}
 use Rattle.std.proofs.lemmas.List.{take-append-drop}
 use Rattle.ps_outside.specs.Outside.{Rose}
 use Rattle.ps_checker.specs.Counts.{Counts}
 use Rattle.ps_top.specs.Asking.{Answer, Asking, IsAnswer}
 use Rattle.ps_top.specs.Asking.Asking.{Says, Asks, Finds, Leaves}
-use Rattle.ps_top.specs.Meets.{IsCut, AppendsPart, Gives, Meets, Owes}
+use Rattle.ps_top.specs.Meets.{IsCut, AppendsPart, Gives, Meets}
 use Rattle.ps_top.specs.Resting.{behind}
 use Rattle.ps_top.specs.declared.Status.{Status}
 use Rattle.ps_top.specs.declared.Status.TheVariants.{ReadFault, WriteFault, Memory}
@@ -124,75 +124,45 @@ all_given P answer before after no_cut right appended = record {
   memory = λ e. absurd (no_cut (inr (inr e)));
 }
 
--- ---- what is owed
+-- ---- what was written before
 
--- all is owed at first
-pub all_owed : (P : Answer → Type 0) (taken : List ℕ) → Owes P P taken taken
-all_owed P taken = record { written = []; taken = sym (append-nil taken); completes = λ rest right. right }
-
--- a line was written
-pub owed_less : (P R R' : Answer → Type 0) (line before now after : List ℕ) → Owes P R before now → ((rest : Answer) → R' rest → R (behind line rest)) → after ≡ now ++ line →
-    Owes P R' before after
-owed_less P R R' line before now after owes goes_on more = record {
-  written = owes.written ++ line;
-  taken = more ∙ ap (λ (t : List ℕ). t ++ line) owes.taken ∙ append_assoc before owes.written line;
-  completes = λ rest right. subst (λ (bytes : List ℕ). P (record { bytes = bytes; status = rest.status })) (sym (append_assoc owes.written line rest.bytes)) (owes.completes (behind line rest) (goes_on rest right));
-}
-
--- what was owed was given
-pub owed_given : (P R : Answer → Type 0) (before now after : List ℕ) (status : Status) → Owes P R before now → Gives R now after status → ¬ (status ≡ Memory) → ¬ (status ≡ ReadFault) →
-    Gives P before after status
-owed_given P R before now after status owes gives no_memory no_read = record {
-  whole = λ not_cut. let all = gives.whole not_cut in record {
-    answer = record { bytes = owes.written ++ all.answer.bytes; status = all.answer.status };
-    right = owes.completes all.answer all.right;
-    ended = all.ended;
-    appended = all.appended ∙ ap (λ (t : List ℕ). t ++ all.answer.bytes) owes.taken ∙ append_assoc before owes.written all.answer.bytes;
+-- the rest of an answer was given behind what was written of it
+pub given_behind : (P : Answer → Type 0) (said : Answer) (bytes before mid after : List ℕ) (status : Status) → P (behind bytes said) → mid ≡ before ++ bytes →
+    Gives (λ given. given ≡ said) mid after status → ¬ (status ≡ Memory) → ¬ (status ≡ ReadFault) → Gives P before after status
+given_behind P said bytes before mid after status right wrote gives no_memory no_read = record {
+  whole = λ not_cut. let rest = gives.whole not_cut in record {
+    answer = behind bytes said;
+    right = right;
+    ended = rest.ended ∙ ap (λ (a : Answer). a.status) rest.right;
+    appended = rest.appended ∙ ap (λ (a : Answer). mid ++ a.bytes) rest.right ∙ ap (λ (t : List ℕ). t ++ said.bytes) wrote ∙ append_assoc before bytes said.bytes;
   };
   stopped = λ is. let part = gives.stopped is in record {
-    answer = record { bytes = owes.written ++ part.answer.bytes; status = part.answer.status };
-    right = owes.completes part.answer part.right;
-    written = owes.written ++ part.written;
+    answer = behind bytes said;
+    right = right;
+    written = bytes ++ part.written;
     owed = part.owed;
-    whole = append_assoc owes.written part.written part.owed ∙ ap (λ (t : List ℕ). owes.written ++ t) part.whole;
-    appended = part.appended ∙ ap (λ (t : List ℕ). t ++ part.written) owes.taken ∙ append_assoc before owes.written part.written;
+    whole = append_assoc bytes part.written part.owed ∙ ap (λ (t : List ℕ). bytes ++ t) (part.whole ∙ ap (λ (a : Answer). a.bytes) part.right);
+    appended = part.appended ∙ ap (λ (t : List ℕ). t ++ part.written) wrote ∙ append_assoc before bytes part.written;
   };
   unread = λ is. absurd (no_read is);
   memory = λ is. absurd (no_memory is);
 }
 
--- the write of the line that is owed stopped
-pub line_stopped : (P R : Answer → Type 0) (rest : Answer) (line before now after : List ℕ) (n : ℕ) → Owes P R before now → R (behind line rest) → after ≡ now ++ take n line →
-    Gives P before after WriteFault
-line_stopped P R rest line before now after n owes right appended = record {
+-- a beginning was given, and then a write stopped
+pub part_given : (P : Answer → Type 0) (before after : List ℕ) → AppendsPart P before after → Gives P before after WriteFault
+part_given P before after part = record {
   whole = λ not_cut. absurd (not_cut (inr (inl refl)));
-  stopped = λ _. record {
-    answer = record { bytes = owes.written ++ (line ++ rest.bytes); status = rest.status };
-    right = owes.completes (behind line rest) right;
-    written = owes.written ++ take n line;
-    owed = drop n line ++ rest.bytes;
-    whole = append_assoc owes.written (take n line) (drop n line ++ rest.bytes)
-        ∙ sym (ap (λ (t : List ℕ). owes.written ++ t) (append_assoc (take n line) (drop n line) rest.bytes))
-        ∙ ap (λ (t : List ℕ). owes.written ++ (t ++ rest.bytes)) (take-append-drop n line);
-    appended = appended ∙ ap (λ (t : List ℕ). t ++ take n line) owes.taken ∙ append_assoc before owes.written (take n line);
-  };
+  stopped = λ _. part;
   unread = λ e. cc;
   memory = λ e. cc;
 }
 
--- a read of the rest failed, after a beginning was written
-pub unread_in : (P R : Answer → Type 0) (rest : Answer) (before now : List ℕ) → Owes P R before now → R rest → Gives P before now ReadFault
-unread_in P R rest before now owes right = record {
+-- a beginning was given, and then a read failed
+pub part_unread : (P : Answer → Type 0) (before after : List ℕ) → AppendsPart P before after → Gives P before after ReadFault
+part_unread P before after part = record {
   whole = λ not_cut. absurd (not_cut (inl refl));
   stopped = λ e. cc;
-  unread = λ _. inr (record {
-    answer = record { bytes = owes.written ++ rest.bytes; status = rest.status };
-    right = owes.completes rest right;
-    written = owes.written;
-    owed = rest.bytes;
-    whole = refl;
-    appended = owes.taken;
-  });
+  unread = λ _. inr part;
   memory = λ e. cc;
 }
 

@@ -1,99 +1,143 @@
--- Where a run of scans stands, and what each item makes of it.
-use Rattle.std.proofs.Common.{◌≡◌, ◌≤◌, ◌++◌, [], ℕ, List, Option, Bool, IsTrue, Ok, Err, refl, sym, subst, take, append-nil, ◌⊎◌, arith}
+-- What a run wrote of the items of a trace is what is to be written of them.
+use Rattle.std.proofs.Common.{◌≡◌, ◌≤◌, ◌∙◌, ◌++◌, ℕ, List, Option, Result, Ok, Err, refl, sym, ap, subst, take, drop, append_assoc, ◌⊎◌, arith}
+use Rattle.std.proofs.lemmas.List.{take-append-drop}
 use Rattle.ps_base.specs.declared.failing.Refusal.{Refusal}
+use Rattle.ps_model.specs.declared.channel.Verdict.{Verdict}
 use Rattle.ps_model.specs.Network.{Network}
 use Rattle.ps_model.specs.Sound.{IsSound}
 use Rattle.ps_model.specs.Meaning.Item.{scan, restart}
-use Rattle.ps_model.specs.Meaning.{Since, nothing, last, report}
-use Rattle.ps_model.specs.declared.report.Scan.{Scan}
-use Rattle.ps_outside.specs.declared.sink.Stopped.{Stopped}
-use Rattle.ps_report.specs.Lines.{report_text}
+use Rattle.ps_model.specs.Meaning.{Item, Since, nothing, last}
 use Rattle.ps_report.specs.Short.{refusal_text}
 use Rattle.ps_scan.specs.Cells.{Cells}
 use Rattle.ps_scan.specs.Scanned.{Stands, time_of}
 use Rattle.ps_trace.specs.Scans.{Scans}
 use Rattle.ps_trace.specs.Reading.{Begins, only_refused}
 use Rattle.ps_top.specs.Asking.{Answer, IsAnswer}
-use Rattle.ps_top.specs.Lines.{restart_line}
-use Rattle.ps_top.specs.Meets.{Gives, Owes}
+use Rattle.ps_top.specs.Meets.{AppendsPart, Gives}
 use Rattle.ps_top.specs.Program.{answer, answer_scans}
-use Rattle.ps_top.specs.Resting.{IsRest}
-use Rattle.ps_top.specs.Running.{Writes}
+use Rattle.ps_top.specs.Resting.{IsRest, behind}
+use Rattle.ps_top.specs.Outcomes.{Outcome, outcome_line}
+use Rattle.ps_top.specs.Performing.{Performs}
+use Rattle.ps_top.specs.Doing.{IsDue, time_behind, Did, all, refused, unread, unwritten, next}
+use Rattle.ps_top.specs.declared.items.Cut.{Cut}
+use Rattle.ps_top.specs.declared.items.Cut.TheVariants.{Refused, Unread, Unwritten}
 use Rattle.ps_top.specs.declared.Status.{Status}
 use Rattle.ps_top.specs.declared.Status.TheVariants.{Done, BadInput, ReadFault, WriteFault}
-use Rattle.ps_top.proofs.Meeting.{gives_wider, all_given, all_owed, owed_less, owed_given, line_stopped, unread_in}
+use Rattle.ps_top.proofs.Meeting.{all_given, given_behind, part_given, part_unread}
 use Rattle.ps_top.proofs.Applied.{no_read_bad, no_memory_bad}
-use Rattle.ps_top.proofs.Scans.{no_scans, end_rest, refused_rest, scan_rest, restart_rest, rest_of}
+use Rattle.ps_top.proofs.Scans.{end_rest, refused_rest, scan_rest, restart_rest, rest_of}
 
--- a run stands here: of the whole trace these scans are left
-abbrev pub Stood : Network → Scans → Scans → Cells → ℕ → (before now : List ℕ) → Type 0
-Stood net all scans w t before now =
-    (since : Since) × Stands net since w × (time_of since ≤ t) × Owes (IsRest net nothing all) (IsRest net since scans) before now
+-- A run goes on behind an item: from where it then stands, what is to be written of the rest stands behind the item's line.
+record Goes (net : Network) (since : Since) (time : ℕ) (item : Item) (outcome : Outcome Verdict) (w : Cells) : Type 0 where
+  since' : Since
+  stands : Stands net since' w
+  early : time_of since' ≤ time_behind time item
+  goes : (scans rest : Scans) → Begins scans item rest → (a : Answer) → IsRest net since' rest a → IsRest net since scans (behind (outcome_line net outcome) a)
 
-pub stood_first : (net : Network) (scans : Scans) (w : Cells) (t : ℕ) (taken : List ℕ) → Stands net nothing w → Stood net scans scans w t taken taken
-stood_first net scans w t taken stands = (nothing, stands, omega arith, all_owed (IsRest net nothing scans) taken)
+goes_on : (net : Network) (since : Since) (time : ℕ) (w : Cells) (item : Item) (outcome : Outcome Verdict) (w' : Cells) →
+    Stands net since w → time_of since ≤ time → IsDue time item → Performs net w item outcome w' → Goes net since time item outcome w'
+goes_on net since time w (scan now ins) outcome w' stands early due performs =
+    let r = performs since stands (omega (arith, early, due)) in record {
+      since' = last now r.state;
+      stands = r.stands;
+      early = omega arith;
+      goes = λ scans rest begins a right.
+          subst (λ (o : Outcome Verdict). IsRest net since scans (behind (outcome_line net o) a)) (sym r.released) (scan_rest net since now ins r.state scans rest begins r.solves a right);
+    }
+goes_on net since time w restart outcome w' stands early due performs = record {
+  since' = nothing;
+  stands = performs.1;
+  early = omega arith;
+  goes = λ scans rest begins a right.
+      subst (λ (o : Outcome Verdict). IsRest net since scans (behind (outcome_line net o) a)) (sym performs.0) (restart_rest net since scans rest begins a right);
+}
 
-module _ (net : Network) (sound : IsSound net) (all scans rest : Scans) (w : Cells) (t : ℕ) (before mid : List ℕ) (stood : Stood net all scans w t before mid) where
-  abbrev P : Answer → Type 0
-  P = IsRest net nothing all
+-- these bytes begin what is to be written
+record IsBegun (net : Network) (since : Since) (scans : Scans) (bytes : List ℕ) : Type 0 where
+  answer : Answer
+  right : IsRest net since scans answer
+  owed : List ℕ
+  whole : bytes ++ owed ≡ answer.bytes
 
-  abbrev R : Answer → Type 0
-  R = IsRest net (stood.0) scans
+-- these bytes were written of the items: all that is to be written, but for the line of a refusal, or a beginning
+abbrev Tells : Network → Since → Scans → List ℕ → Result (Unit {0}) Cut → Type 0
+Tells net since scans bytes (Ok x) = IsRest net since scans (answer bytes Done)
+Tells net since scans bytes (Err (Refused refusal)) = IsRest net since scans (answer (bytes ++ refusal_text refusal) BadInput)
+Tells net since scans bytes (Err Unread) = IsBegun net since scans bytes
+Tells net since scans bytes (Err Unwritten) = IsBegun net since scans bytes
 
-  -- a scan with its line
-  pub after_scan : {A : Type 0} (x : A) (sc : Scan) (w' : Cells) (t' : ℕ) (tells : Bool) (after : List ℕ) → Begins scans (scan sc.now sc.ins) rest → t ≤ sc.now → t' ≡ sc.now → IsTrue tells →
-      ((since : Since) → Stands net since w → time_of since ≤ sc.now → Writes net since sc w' tells mid after {A = A} (Ok x)) → Stood net all rest w' t' before after
-  after_scan x sc w' t' tells after begins later same on writes =
-      let wr = writes stood.0 stood.1 (let earlier = stood.2 in omega arith) in (
-        last sc.now wr.state,
-        wr.stands,
-        omega (arith, same),
-        owed_less P R (IsRest net (last sc.now wr.state) rest) (report_text net sc.now (report net wr.state)) before mid after stood.3
-            (scan_rest net stood.0 sc.now sc.ins wr.state scans rest begins wr.solves) (wr.written on),
-      )
+module _ (net : Network) (since : Since) (time : ℕ) (item : Item) (outcome : Outcome Verdict) (w : Cells) (goes : Goes net since time item outcome w)
+    (scans rest : Scans) (begins : Begins scans item rest) where
+  abbrev line : List ℕ
+  line = outcome_line net outcome
 
-  -- the write of a scan's line stopped
-  pub scan_stopped : {A : Type 0} (stop : Stopped) (sc : Scan) (w' : Cells) (tells : Bool) (after : List ℕ) → Begins scans (scan sc.now sc.ins) rest → t ≤ sc.now → IsTrue tells →
-      ((since : Since) → Stands net since w → time_of since ≤ sc.now → Writes net since sc w' tells mid after {A = A} (Err stop)) → Gives P before after WriteFault
-  scan_stopped stop sc w' tells after begins later on writes =
-      let wr = writes stood.0 stood.1 (let earlier = stood.2 in omega arith) in
-      let a = rest_of net sound (last sc.now wr.state) rest in
-      line_stopped P R a.0 (report_text net sc.now (report net wr.state)) before mid after stop.taken stood.3
-      (scan_rest net stood.0 sc.now sc.ins wr.state scans rest begins wr.solves a.0 a.1) (wr.written on)
+  begun_behind : (bytes : List ℕ) → IsBegun net (goes.since') rest bytes → IsBegun net since scans (line ++ bytes)
+  begun_behind bytes begun = record {
+    answer = behind line begun.answer;
+    right = goes.goes scans rest begins begun.answer begun.right;
+    owed = begun.owed;
+    whole = append_assoc line bytes begun.owed ∙ ap (λ (more : List ℕ). line ++ more) begun.whole;
+  }
 
-  -- a restart with its line
-  pub after_restart : (w' : Cells) (t' : ℕ) (after : List ℕ) → Begins scans restart rest → Stands net nothing w' → after ≡ mid ++ restart_line → Stood net all rest w' t' before after
-  after_restart w' t' after begins stands written = (
-    nothing,
-    stands,
-    omega arith,
-    owed_less P R (IsRest net nothing rest) restart_line before mid after stood.3 (restart_rest net stood.0 scans rest begins) written,
-  )
+  tells_behind : (bytes : List ℕ) (ended : Result (Unit {0}) Cut) → Tells net (goes.since') rest bytes ended → Tells net since scans (line ++ bytes) ended
+  tells_behind bytes (Ok x) tells = goes.goes scans rest begins (answer bytes Done) tells
+  tells_behind bytes (Err (Refused refusal)) tells =
+      subst (λ (whole : List ℕ). IsRest net since scans (answer whole BadInput)) (sym (append_assoc line bytes (refusal_text refusal)))
+      (goes.goes scans rest begins (answer (bytes ++ refusal_text refusal) BadInput) tells)
+  tells_behind bytes (Err Unread) tells = begun_behind bytes tells
+  tells_behind bytes (Err Unwritten) tells = begun_behind bytes tells
 
-  -- the write of a restart's line stopped
-  pub restart_stopped : (stop : Stopped) (after : List ℕ) → Begins scans restart rest → after ≡ mid ++ take stop.taken restart_line → Gives P before after WriteFault
-  restart_stopped stop after begins written =
-      let a = rest_of net sound nothing rest in
-      line_stopped P R a.0 restart_line before mid after stop.taken stood.3 (restart_rest net stood.0 scans rest begins a.0 a.1) written
+  -- a part of the item's line was written
+  line_begun : IsSound net → (taken : ℕ) → IsBegun net since scans (take taken line)
+  line_begun sound taken = let a = rest_of net sound goes.since' rest in record {
+    answer = behind line a.0;
+    right = goes.goes scans rest begins a.0 a.1;
+    owed = drop taken line ++ a.0.bytes;
+    whole = sym (append_assoc (take taken line) (drop taken line) a.0.bytes) ∙ ap (λ (front : List ℕ). front ++ a.0.bytes) (take-append-drop taken line);
+  }
 
-  -- the end of the trace
-  pub at_end : scans ≡ no_scans net → Gives P before mid Done
-  at_end is =
-      owed_given P R before mid mid Done stood.3
-      (all_given R (answer [] Done) mid mid (λ cut. grind arith) (end_rest net stood.0 scans is) (sym (append-nil mid)))
-      (λ e. cc) (λ e. cc)
+-- what a scanner did of items from where a run stands
+tells : {T : Type 0} (net : Network) → IsSound net → (takes : T → Outcome Verdict → T → Type 0) (since : Since) (time : ℕ) (w : Cells) (t : T) (scans : Scans)
+    (bytes : List ℕ) (ended : Result (Unit {0}) Cut) (w' : Cells) (t' : T) → Stands net since w → time_of since ≤ time →
+    Did (Performs net) (outcome_line net) takes time w t scans bytes ended w' t' → Tells net since scans bytes ended
+tells net sound takes since _ _ _ _ _ _ _ _ stands early (all time w t scans is) = end_rest net since scans is
+tells net sound takes since _ _ _ _ _ _ _ _ stands early (refused time w t scans refusal is) = refused_rest net since scans refusal is
+tells net sound takes since _ _ _ _ _ _ _ _ stands early (unread time w t scans) =
+    let a = rest_of net sound since scans in record { answer = a.0; right = a.1; owed = a.0.bytes; whole = refl }
+tells net sound takes since _ _ _ _ _ _ _ _ stands early (unwritten time w t scans item rest outcome w' t' taken begins due performs) =
+    line_begun net since time item outcome w' (goes_on net since time w item outcome w' stands early due performs) scans rest begins sound taken
+tells net sound takes since _ _ _ _ _ _ _ _ stands early (next time w t scans item rest outcome w' t' bytes ended w'' t'' begins due performs took did) =
+    let goes = goes_on net since time w item outcome w' stands early due performs in
+    tells_behind net since time item outcome w' goes scans rest begins bytes ended
+    (tells net sound takes goes.since' (time_behind time item) w' t' rest bytes ended w'' t'' goes.stands goes.early did)
 
-  -- a refused line
-  pub at_refusal : (r : Refusal) (after : List ℕ) (status : Status) → scans ≡ only_refused r → (status ≡ BadInput) ⊎ (status ≡ WriteFault) →
-      Gives (λ said. said ≡ answer (refusal_text r) BadInput) mid after status → Gives P before after status
-  at_refusal r after status is ends gives =
-      owed_given P R before mid after status stood.3
-      (gives_wider (λ said. said ≡ answer (refusal_text r) BadInput) R mid after status (λ said e. subst R (sym e) (refused_rest net stood.0 scans r is)) gives)
-      (no_memory_bad status ends) (no_read_bad status ends)
+-- what is given of a whole trace, once it is told how its items ended
+abbrev pub Gave : Network → Scans → (before after : List ℕ) → Result (Unit {0}) Cut → Type 0
+Gave net scans before after (Ok x) = Gives (IsRest net nothing scans) before after Done
+Gave net scans before after (Err (Refused refusal)) =
+    (later : List ℕ) (status : Status) → (status ≡ BadInput) ⊎ (status ≡ WriteFault) → Gives (λ said. said ≡ answer (refusal_text refusal) BadInput) after later status →
+    Gives (IsRest net nothing scans) before later status
+Gave net scans before after (Err Unread) = Gives (IsRest net nothing scans) before after ReadFault
+Gave net scans before after (Err Unwritten) = Gives (IsRest net nothing scans) before after WriteFault
 
-  -- a read that failed
-  pub at_fault : Gives P before mid ReadFault
-  at_fault = let a = rest_of net sound stood.0 scans in unread_in P R a.0 before mid stood.3 a.1
+begun_part : (net : Network) (scans : Scans) (bytes before after : List ℕ) → after ≡ before ++ bytes → IsBegun net nothing scans bytes → AppendsPart (IsRest net nothing scans) before after
+begun_part net scans bytes before after wrote begun =
+    record { answer = begun.answer; right = begun.right; written = bytes; owed = begun.owed; whole = begun.whole; appended = wrote }
+
+gave_told : (net : Network) (scans : Scans) (bytes before after : List ℕ) (ended : Result (Unit {0}) Cut) → after ≡ before ++ bytes → Tells net nothing scans bytes ended →
+    Gave net scans before after ended
+gave_told net scans bytes before after (Ok x) wrote told = all_given (IsRest net nothing scans) (answer bytes Done) before after (λ cut. grind arith) told wrote
+gave_told net scans bytes before after (Err (Refused refusal)) wrote told = λ later status ends gives.
+    given_behind (IsRest net nothing scans) (answer (refusal_text refusal) BadInput) bytes before after later status told wrote gives (no_memory_bad status ends) (no_read_bad status ends)
+gave_told net scans bytes before after (Err Unread) wrote told = part_unread (IsRest net nothing scans) before after (begun_part net scans bytes before after wrote told)
+gave_told net scans bytes before after (Err Unwritten) wrote told = part_given (IsRest net nothing scans) before after (begun_part net scans bytes before after wrote told)
+
+-- the items of a trace were done from the first one on
+pub gave : {T : Type 0} (net : Network) → IsSound net → (takes : T → Outcome Verdict → T → Type 0) (time : ℕ) (w : Cells) (t : T) (scans : Scans) (bytes before after : List ℕ)
+    (ended : Result (Unit {0}) Cut) (w' : Cells) (t' : T) → Stands net nothing w → Did (Performs net) (outcome_line net) takes time w t scans bytes ended w' t' →
+    after ≡ before ++ bytes → Gave net scans before after ended
+gave net sound takes time w t scans bytes before after ended w' t' stands did wrote =
+    gave_told net scans bytes before after ended wrote (tells net sound takes nothing time w t scans bytes ended w' t' stands (omega arith) did)
 
 -- what is to be written of the scans of a whole trace answers it
 pub rest_answers : (net : Network) (scans scans' : Scans) (held : List ℕ → Option (List ℕ)) (said : Answer) → scans ≡ scans' → IsRest net nothing scans said → IsAnswer (answer_scans net scans') held said

@@ -8,5 +8,10 @@ pub mod Reading
 pub mod Resting
 pub mod Refusing
 pub mod Judging
+pub mod Written
+pub mod Outcomes
+pub mod Performing
+pub mod Cutting
+pub mod Doing
 pub mod Running
 pub mod Skeletons

@@ -36,9 +36,3 @@ pub record Gives (IsRight : Answer → Type 0) (before after : List ℕ) (status
 pub record Meets (asking : Asking) (held : List ℕ → Option (List ℕ)) (rose : List ℕ → Type 0) (before after : List ℕ) (status : Status) : Type 0 where
   pub gives : Gives (IsAnswer asking held) before after status
   pub read_fault : status ≡ ReadFault → (name : List ℕ) × AsksFor asking held name × rose name
-
--- What is written so far is the beginning of a whole answer, of which any answer to what is left is the rest.
-pub record Owes (IsWhole IsLeft : Answer → Type 0) (before now : List ℕ) : Type 0 where
-  pub written : List ℕ
-  pub taken : now ≡ before ++ written
-  pub completes : (rest : Answer) → IsLeft rest → IsWhole (record { bytes = written ++ rest.bytes; status = rest.status })

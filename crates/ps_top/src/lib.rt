@@ -3,14 +3,17 @@
 
 mod certifying;
 mod checking;
+mod items;
 pub mod laws;
 pub mod left;
 pub mod list;
+mod performing;
 pub mod program;
 mod reading;
 mod running;
 mod saying;
 mod source;
+mod taking;
 mod verifying;
 mod words;
 

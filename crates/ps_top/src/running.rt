@@ -1,83 +1,46 @@
 // `run APP TRACE`.
 
-ghost use Rattle.std.specs.Prelude.{◌≡◌, ◌≢◌, ◌≤◌, ℕ, List, IsTrue, Some, OnErr, IfOk, Any, ◌∷◌, []};
-ghost use Rattle.ps_model.specs.Meaning.{Since, nothing};
+ghost use Rattle.std.specs.Prelude.{◌≡◌, ◌≢◌, ◌≤◌, ℕ, List, IsTrue, Some, IfOk, Any, ◌∷◌, []};
+ghost use Rattle.ps_model.specs.Meaning.{nothing};
+ghost use Rattle.ps_model.specs.Network.{input_count};
 ghost use Rattle.ps_outside.specs.Outside.{Rose};
-ghost use Rattle.ps_scan.specs.Scanned.{Stands, time_of};
-ghost use Rattle.ps_top.specs.Lines.{restart_line};
+ghost use Rattle.ps_report.specs.Lines.{line_room};
+ghost use Rattle.ps_scan.specs.Cells.{IsFor};
+ghost use Rattle.ps_scan.specs.Scanned.{Stands};
 ghost use Rattle.ps_top.specs.Asking.{IsLeft};
 ghost use Rattle.ps_top.specs.Meets.{IsCut, Gives, Meets};
 ghost use Rattle.ps_top.specs.Program as program;
 ghost use Rattle.ps_top.specs.Resting.{IsRest};
-ghost use Rattle.ps_top.specs.Running.{Fits, Writes, IsWritten};
-ghost use Rattle.ps_trace.specs.Reading.{IsReadingTrace, file_of, input_count_of, items_left, last_of};
-ghost use Rattle.ps_model.specs.Network.{input_count};
+ghost use Rattle.ps_top.specs.Running.{Fits};
+ghost use Rattle.ps_trace.specs.Reading.{IsReadingTrace, file_of, input_count_of, items_left};
 
 use crate::Status;
 use crate::checking::refuse;
+use crate::items::{Cut, Runner, do_items};
 use crate::left::Left;
 use crate::reading::read_accepted;
 use crate::saying::say_refused;
 use ps_base::Memory;
 use ps_model::app::App;
 use ps_model::report::{Report, Scan};
-use ps_outside::{Files, Sink, Stopped, write_all};
+use ps_outside::{Files, Sink};
 use ps_report::LineBuffer;
 use ps_scan::Scanner;
-use ps_trace::{Next, TraceFail, TraceReader, TraceStop};
+use ps_trace::{TraceFail, TraceReader};
 use std::alloc::Global;
 
-// All that the scans of a run use.
-#[derive(Drop)]
-pub(crate) struct Runner {
-    scanner: Scanner,
-    scan: Scan,
-    report: Report,
-    line: LineBuffer,
-}
-
-impl Runner {
-    // What the scans of an application use, before its first scan. It takes all their memory.
-    fn for_app(alloc: Global, app: &App) -> Result<Runner, Memory>
-        ensures fits { IfOk result (Fits app.now) }
-        ensures first { IfOk result (λ r. Stands app.now nothing r.scanner) }
+impl Runner<Scanner, LineBuffer> {
+    // What the scans of an application are done with, before the first. It takes all their memory.
+    fn for_app(alloc: Global, app: &App) -> Result<Runner<Scanner, LineBuffer>, Memory>
+        ensures fits { IfOk result (Fits (IsFor app.now) (λ room. line_room app.now ≤ room) app.now) }
+        ensures first { IfOk result (λ r. Stands app.now nothing r.performer) }
     {
         Ok(Runner {
-            scanner: Scanner::new(alloc, app)?,
+            performer: Scanner::new(alloc, app)?,
+            taker: LineBuffer::for_app(alloc, app)?,
             scan: Scan::for_app(alloc, app)?,
             report: Report::for_app(alloc, app)?,
-            line: LineBuffer::for_app(alloc, app)?,
         })
-    }
-
-    // Does a scan, and writes its line.
-    fn do_scan<S: Sink>(&mut self, app: &App, out: &mut S) -> Result<(), Stopped>
-        requires fits { Fits app.now self.old }
-        ensures fits { Fits app.now self.new }
-        ensures writes { (since : Since) → Stands app.now since self.old.scanner → time_of since ≤ self.old.scan.now →
-            Writes app.now since self.old.scan self.new.scanner (S.tells out.old) (S.taken out.old) (S.taken out.new) result }
-        ensures stopped { OnErr result (Rose (S.faults out.old) (S.faults out.new)) }
-        ensures counts { S.faults out.old ≤ S.faults out.new }
-        ensures telling { S.tells out.new ≡ S.tells out.old }
-    {
-        let now = self.scan.now;
-        self.scanner
-            .scan(app, now, self.scan.ins.as_slice(), &mut self.report);
-        write_all(out, self.line.report_line(app, now, &self.report))
-    }
-
-    // Begins anew, and writes the line of a restart.
-    fn do_restart<S: Sink>(&mut self, app: &App, out: &mut S) -> Result<(), Stopped>
-        requires fits { Fits app.now self.old }
-        ensures fits { Fits app.now self.new }
-        ensures first { Stands app.now nothing self.new.scanner }
-        ensures written { IsTrue (S.tells out.old) → IsWritten result restart_line (S.taken out.old) (S.taken out.new) }
-        ensures stopped { OnErr result (Rose (S.faults out.old) (S.faults out.new)) }
-        ensures counts { S.faults out.old ≤ S.faults out.new }
-        ensures telling { S.tells out.new ≡ S.tells out.old }
-    {
-        self.scanner.restart(app);
-        write_all(out, b"restart\n")
     }
 }
 
@@ -85,14 +48,14 @@ impl Runner {
 fn answer_scans<F: Files, S: Sink>(
     app: &App,
     trace: &mut TraceReader,
-    runner: &mut Runner,
+    runner: &mut Runner<Scanner, LineBuffer>,
     files: &mut F,
     out: &mut S,
 ) -> Status
-    requires fits { Fits app.now runner.old }
+    requires fits { Fits (IsFor app.now) (λ room. line_room app.now ≤ room) app.now runner.old }
     requires inputs { input_count_of trace.old ≡ input_count app.now }
     ensures gives { IsTrue (F.tells files.old) → IsTrue (S.tells out.old) → (text : List ℕ) → F.held files.old (file_of trace.old) ≡ Some text →
-        IsReadingTrace trace.old text → Stands app.now nothing runner.old.scanner →
+        IsReadingTrace trace.old text → Stands app.now nothing runner.old.performer →
         Gives (IsRest app.now nothing (items_left trace.old text)) (S.taken out.old) (S.taken out.new) result }
     ensures no_memory { result ≢ Status.Memory }
     ensures no_usage { result ≢ Status.Usage }
@@ -101,22 +64,11 @@ fn answer_scans<F: Files, S: Sink>(
     ensures counts { (other : List ℕ) → F.faults files.old other ≤ F.faults files.new other }
 {
     app.sound();
-    'items: loop {
-        match trace.next_scan(files, &mut runner.scan) {
-            Ok(Next::Scan) => match runner.do_scan(app, out) {
-                Ok(()) => {}
-                Err(_) => return Status::WriteFault,
-            },
-            Ok(Next::Restart) => match runner.do_restart(app, out) {
-                Ok(()) => {}
-                Err(_) => return Status::WriteFault,
-            },
-            Ok(Next::End) => return Status::Done,
-            Err(TraceStop::Refused(refusal)) => {
-                return say_refused(out, &refusal, Status::BadInput);
-            }
-            Err(TraceStop::Fault) => return Status::ReadFault,
-        }
+    match do_items(app, trace, runner, files, out) {
+        Ok(()) => Status::Done,
+        Err(Cut::Refused(refusal)) => say_refused(out, &refusal, Status::BadInput),
+        Err(Cut::Unread) => Status::ReadFault,
+        Err(Cut::Unwritten) => Status::WriteFault,
     }
 }
 

@@ -1,0 +1,76 @@
+-- How a loop over the items of a trace comes to do them all.
+use Rattle.std.proofs.Common.{◌≡◌, ◌∙◌, ◌++◌, [], ℕ, List, Bool, IsTrue, Result, Ok, Err, take, refl, sym, ap, subst, append_assoc, append-nil}
+use Rattle.ps_base.specs.declared.failing.Refusal.{Refusal}
+use Rattle.ps_model.specs.Meaning.{Item}
+use Rattle.ps_outside.specs.declared.sink.Stopped.{Stopped}
+use Rattle.ps_trace.specs.Scans.{Scans}
+use Rattle.ps_trace.specs.Reading.{Begins, only_refused}
+use Rattle.ps_trace.specs.declared.trace.TraceStop.{TraceStop}
+use Rattle.ps_trace.specs.declared.trace.TraceStop.TheVariants.{Refused as IsRefused, Fault as IsFault}
+use Rattle.ps_top.specs.Outcomes.{Outcome}
+use Rattle.ps_top.specs.Cutting.{cut_of}
+use Rattle.ps_top.specs.Doing.{IsDue, time_behind, no_items, DoesItem, Did, all, refused, unread, unwritten, next, DoesItems}
+use Rattle.ps_top.specs.declared.items.Cut.{Cut}
+use Rattle.ps_top.specs.declared.items.Cut.TheVariants.{Refused, Unread, Unwritten}
+
+-- So far these bytes were written, and what is done of the items that are left ends the whole.
+pub record Leads {P T V : Type 0} (performs : P → Item → Outcome V → P → Type 0) (said : Outcome V → List ℕ) (takes : T → Outcome V → T → Type 0)
+    (time : ℕ) (p : P) (t : T) (items : Scans) (tells : Bool) (before : List ℕ) (time' : ℕ) (p' : P) (t' : T) (rest : Scans) (now : List ℕ) : Type 0 where
+  pub bytes : List ℕ
+  pub written : IsTrue tells → now ≡ before ++ bytes
+  pub ends : (more : List ℕ) (ended : Result (Unit {0}) Cut) (p'' : P) (t'' : T) → Did performs said takes time' p' t' rest more ended p'' t'' →
+      Did performs said takes time p t items (bytes ++ more) ended p'' t''
+
+-- at first all is left
+pub leads_first : {P T V : Type 0} (performs : P → Item → Outcome V → P → Type 0) (said : Outcome V → List ℕ) (takes : T → Outcome V → T → Type 0)
+    (time : ℕ) (p : P) (t : T) (items : Scans) (tells : Bool) (before : List ℕ) → Leads performs said takes time p t items tells before time p t items before
+leads_first performs said takes time p t items tells before = record {
+  bytes = [];
+  written = λ on. sym (append-nil before);
+  ends = λ more ended p'' t'' did. did;
+}
+
+module _ {P T V : Type 0} (performs : P → Item → Outcome V → P → Type 0) (said : Outcome V → List ℕ) (takes : T → Outcome V → T → Type 0)
+    (time : ℕ) (p : P) (t : T) (items : Scans) (tells : Bool) (before : List ℕ) (time' : ℕ) (p' : P) (t' : T) (rest : Scans) (now : List ℕ)
+    (leads : Leads performs said takes time p t items tells before time' p' t' rest now) where
+  -- one more item was done
+  pub leads_on : (x : Unit {0}) (tells' : Bool) (item : Item) (rest' : Scans) (time'' : ℕ) (p'' : P) (t'' : T) (after : List ℕ) → tells' ≡ tells →
+      Begins rest item rest' → IsDue time' item → time'' ≡ time_behind time' item → DoesItem performs said takes item p' p'' t' t'' tells' now after (Ok x) →
+      Leads performs said takes time p t items tells before time'' p'' t'' rest' after
+  leads_on x tells' item rest' time'' p'' t'' after telling begins due same does = record {
+    bytes = leads.bytes ++ said does.outcome;
+    written = λ on. does.written (subst (λ (b : Bool). IsTrue b) (sym telling) on) ∙ ap (λ (bytes : List ℕ). bytes ++ said does.outcome) (leads.written on)
+        ∙ append_assoc before leads.bytes (said does.outcome);
+    ends = λ more ended last_p last_t did.
+        subst (λ (bytes : List ℕ). Did performs said takes time p t items bytes ended last_p last_t) (sym (append_assoc leads.bytes (said does.outcome) more))
+        (leads.ends (said does.outcome ++ more) ended last_p last_t
+        (next time' p' t' rest item rest' does.outcome p'' t'' more ended last_p last_t begins due does.done does.taken
+        (subst (λ (n : ℕ). Did performs said takes n p'' t'' rest' more ended last_p last_t) same did)));
+  }
+
+  -- the rest was done
+  pub led : (more : List ℕ) (ended : Result (Unit {0}) Cut) (p'' : P) (t'' : T) (after : List ℕ) → Did performs said takes time' p' t' rest more ended p'' t'' →
+      (IsTrue tells → after ≡ now ++ more) → DoesItems performs said takes time p t items tells before after ended p'' t''
+  led more ended p'' t'' after did wrote = record {
+    bytes = leads.bytes ++ more;
+    did = leads.ends more ended p'' t'' did;
+    written = λ on. wrote on ∙ ap (λ (bytes : List ℕ). bytes ++ more) (leads.written on) ∙ append_assoc before leads.bytes more;
+  }
+
+  -- the write of what is said of an item stopped
+  pub led_unwritten : (stop : Stopped) (tells' : Bool) (item : Item) (rest' : Scans) (p'' : P) (t'' : T) (after : List ℕ) → tells' ≡ tells → Begins rest item rest' → IsDue time' item →
+      DoesItem performs said takes item p' p'' t' t'' tells' now after (Err stop) → DoesItems performs said takes time p t items tells before after (Err Unwritten) p'' t''
+  led_unwritten stop tells' item rest' p'' t'' after telling begins due does =
+      led (take stop.taken (said does.outcome)) (Err Unwritten) p'' t'' after
+      (unwritten time' p' t' rest item rest' does.outcome p'' t'' stop.taken begins due does.done)
+      (λ on. does.written (subst (λ (b : Bool). IsTrue b) (sym telling) on))
+
+  -- all were done
+  pub led_all : (x : Unit {0}) → rest ≡ no_items → DoesItems performs said takes time p t items tells before now (Ok x) p' t'
+  led_all x is = led [] (Ok x) p' t' now (all time' p' t' rest is) (λ on. sym (append-nil now))
+
+  -- no item came
+  pub led_cut : (stop : TraceStop) → ((refusal : Refusal) → stop ≡ IsRefused refusal → rest ≡ only_refused refusal) →
+      DoesItems performs said takes time p t items tells before now (Err (cut_of stop)) p' t'
+  led_cut (IsRefused refusal) is = led [] (Err (Refused refusal)) p' t' now (refused time' p' t' rest refusal (is refusal refl)) (λ on. sym (append-nil now))
+  led_cut IsFault is = led [] (Err Unread) p' t' now (unread time' p' t' rest) (λ on. sym (append-nil now))

@@ -1,0 +1,20 @@
+-- What comes of the items of a trace.
+use Rattle.std.specs.Prelude.{ℕ, List, Some, None}
+use Rattle.ps_model.specs.declared.channel.Verdict.{Verdict}
+use Rattle.ps_model.specs.declared.channel.Verdict.TheVariants.{Released, Tripped, Down}
+use Rattle.ps_model.specs.declared.report.Report.{Report}
+use Rattle.ps_model.specs.Network.{Network}
+use Rattle.ps_report.specs.Lines.{report_text, trip_text}
+use Rattle.ps_top.specs.Lines.{restart_line}
+
+-- A scan was performed, with its time, a verdict on it and its report; or all begins anew.
+pub data Outcome (V : Type 0) : Type 0 where
+  performed : (now : ℕ) (verdict : V) (report : Report) → Outcome V
+  anew : Outcome V
+
+-- the line of an outcome
+abbrev pub outcome_line : Network → Outcome Verdict → List ℕ
+outcome_line net (performed now Released report) = report_text net now report
+outcome_line net (performed now (Tripped cause) report) = trip_text net now (Some cause)
+outcome_line net (performed now Down report) = trip_text net now None
+outcome_line net anew = restart_line

@@ -1,4 +1,4 @@
-pub mod KindsByNumber
-pub mod PinBits
-pub mod Walks
+pub mod Outputs
 pub mod Calls
+pub mod Gathering
+pub mod Popping

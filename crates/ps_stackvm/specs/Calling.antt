@@ -8,7 +8,7 @@ use Rattle.ps_model.specs.Budgets.{boolean_count}
 use Rattle.ps_model.specs.Kept.{Kept, stepped_at}
 use Rattle.ps_model.specs.Stored.{stored, loaded}
 use Rattle.ps_machine.specs.Bytes.{bit, is_no_bit, replaced}
-use Rattle.ps_stackvm.specs.Kinds.{kind_of}
+use Rattle.ps_machine.specs.Kinds.{kind_of}
 use Rattle.ps_stackvm.specs.Cells.{height_of, time_of, block_bytes, with_pc, with_height, trapped}
 
 -- the topmost n bytes of the stack, the lowest first

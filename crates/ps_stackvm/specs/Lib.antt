@@ -1,8 +1,8 @@
-pub mod Kinds
 pub mod Cells
 pub mod Instructions
 pub mod Stack
 pub mod Calling
+pub mod Stepping
 pub mod Turn
 pub mod Channel
 pub mod Code

@@ -1,6 +1,6 @@
 // CALL: one step of an instance.
 
-ghost use Rattle.std.specs.Prelude.{◌≡◌, ℕ, ◌+◌, ◌-◌, ◌*◌, ◌<◌, ◌≤◌, length, map, slice_index};
+ghost use Rattle.std.specs.Prelude.{◌≡◌, ℕ, ◌+◌, ◌-◌, ◌*◌, ◌<◌, ◌≤◌, None, IfSome, IfNone, length, map, slice_index};
 ghost use Rattle.ps_model.specs.Blocks.{block, output_count};
 ghost use Rattle.ps_model.specs.BlockLaws.{AreBytes};
 ghost use Rattle.ps_model.specs.Budgets.{boolean_count};
@@ -10,16 +10,17 @@ ghost use Rattle.ps_block.specs.Pins.{pin_of};
 ghost use Rattle.ps_block.specs.Shown.{shown};
 ghost use Rattle.ps_stackvm.specs.Cells.{block_bytes, with_pc, with_height};
 ghost use Rattle.ps_stackvm.specs.Calling.{after_call, called_as, called_with, pins_in, topmost};
+ghost use Rattle.ps_stackvm.specs.Stepping.{Steps};
 
-use crate::cells::{set_pc, sixteen, time, top_of, trap};
-use crate::pins::{pins_of, put_outputs};
+use crate::cells::{set_pc, time, trap};
+use crate::pins::{pins_on_stack, put_outputs};
 use ps_actuators::{Edm, OutControl, SafetyRequest};
 use ps_block::{Outs, Pins, SafetyBlock};
 use ps_guards::{GuardLocking, GuardMonitoring};
-use ps_machine::bytes::replace;
+use ps_machine::calls::kind_by_number;
 use ps_model::block_laws::loads_exactly;
 use ps_model::budget::boolean_count;
-use ps_model::kind::{Kind, kind_numbered, output_count, safe_count};
+use ps_model::kind::{Kind, output_count, safe_count};
 use ps_operator::{EnableSwitch, ModeSelector, TwoHandThree, TwoHandTwo};
 use ps_sensors::{Antivalent, EmergencyStop, Equivalent, Espe};
 
@@ -43,9 +44,7 @@ impl Site {
     }
 }
 
-// CALL of an instance, of which there are so many, as the kind with a number. It is kept out of the turn, so that the short
-// instructions do not save the registers that a step of a block needs.
-#[inline(never)]
+// CALL of an instance, of which there are so many, as the kind with a number.
 pub(crate) fn call(cells: &mut [u8], instances: u16, kind: u8, site: Site)
     requires { 74 + site.signals + 16 * instances ≤ length cells.old }
     ensures { cells.new ≡ after_call site.signals instances site.instance kind site.first site.limit site.next cells.old }
@@ -53,7 +52,7 @@ pub(crate) fn call(cells: &mut [u8], instances: u16, kind: u8, site: Site)
     if site.instance >= instances {
         return trap(cells, 6);
     }
-    match kind_numbered(kind) {
+    match kind_by_number(kind) {
         Some(kind) => call_as(cells, kind, site),
         None => trap(cells, 6),
     }
@@ -64,46 +63,77 @@ fn call_as(cells: &mut [u8], kind: Kind, site: Site)
     requires { 74 + site.signals + 16 * site.instance + 16 ≤ length cells.old }
     ensures { cells.new ≡ called_as site.signals site.instance site.first site.limit site.next kind cells.old }
 {
-    if u32::from(site.first) + u32::from(output_count(kind)) > u32::from(site.signals) {
+    match kind {
+        Kind::Equivalent => call_block::<Equivalent>(cells, site),
+        Kind::Antivalent => call_block::<Antivalent>(cells, site),
+        Kind::EmergencyStop => call_block::<EmergencyStop>(cells, site),
+        Kind::Espe => call_block::<Espe>(cells, site),
+        Kind::ModeSelector => call_block::<ModeSelector>(cells, site),
+        Kind::TwoHandTwo => call_block::<TwoHandTwo>(cells, site),
+        Kind::TwoHandThree => call_block::<TwoHandThree>(cells, site),
+        Kind::GuardMonitoring => call_block::<GuardMonitoring>(cells, site),
+        Kind::GuardLocking => call_block::<GuardLocking>(cells, site),
+        Kind::EnableSwitch => call_block::<EnableSwitch>(cells, site),
+        Kind::SafetyRequest => call_block::<SafetyRequest>(cells, site),
+        Kind::OutControl => call_block::<OutControl>(cells, site),
+        Kind::Edm => call_block::<Edm>(cells, site),
+    }
+}
+
+// The same as a block. What the site has is passed part by part, in registers: a struct would go through memory.
+#[inline(always)]
+fn call_block<B: SafetyBlock>(cells: &mut [u8], site: Site)
+    requires { 74 + site.signals + 16 * site.instance + 16 ≤ length cells.old }
+    ensures { cells.new ≡ called_as site.signals site.instance site.first site.limit site.next B.KIND cells.old }
+{
+    call_apart::<B>(
+        cells,
+        site.signals,
+        site.instance,
+        site.first,
+        site.limit,
+        site.next,
+    );
+}
+
+// The same, with a code of its own for each kind, in which the counts of pins and outputs are constants. It is kept out of
+// the turn, so that the short instructions do not save the registers that a step of a block needs.
+#[inline(never)]
+#[tactic(auto, using(crate::proofs::Calls::has_pins))]
+fn call_apart<B: SafetyBlock>(
+    cells: &mut [u8],
+    signals: u16,
+    instance: u16,
+    first: u16,
+    limit: u32,
+    next: u32,
+)
+    requires { 74 + signals + 16 * instance + 16 ≤ length cells.old }
+    ensures { cells.new ≡ called_as signals instance first limit next B.KIND cells.old }
+{
+    if u32::from(first) + u32::from(output_count(B::KIND)) > u32::from(signals) {
         return trap(cells, 5);
     }
-    let count = boolean_count(kind);
+    let count = boolean_count(B::KIND);
     if cells[4] > 64 || cells[4] < count {
         return trap(cells, 3);
     }
-    match pins_of(top_of(cells, count)) {
-        Some(bits) => step_as(cells, kind, bits, site),
+    match pins_on_stack(cells, count) {
+        Some(bits) => {
+            let site = Site {
+                signals,
+                instance,
+                first,
+                limit,
+                next,
+            };
+            step_block::<B>(cells, bits, site)
+        }
         None => trap(cells, 4),
     }
 }
 
-// The step of an instance as a kind, with pins that are there.
-fn step_as(cells: &mut [u8], kind: Kind, bits: u32, site: Site)
-    requires end { 74 + site.signals + 16 * site.instance + 16 ≤ length cells.old }
-    requires outs { site.first + output_count kind ≤ site.signals }
-    requires low { slice_index cells.old 4 ≤ 64 }
-    requires tall { boolean_count kind ≤ slice_index cells.old 4 }
-    requires pins { (j : ℕ) → pin_of bits j ≡ pins_in (topmost (boolean_count kind) cells.old) j }
-    ensures { cells.new ≡ called_with site.signals site.instance site.first site.limit site.next kind (loaded kind (block_bytes site.signals site.instance cells.old)) cells.old }
-{
-    match kind {
-        Kind::Equivalent => step_block::<Equivalent>(cells, bits, site),
-        Kind::Antivalent => step_block::<Antivalent>(cells, bits, site),
-        Kind::EmergencyStop => step_block::<EmergencyStop>(cells, bits, site),
-        Kind::Espe => step_block::<Espe>(cells, bits, site),
-        Kind::ModeSelector => step_block::<ModeSelector>(cells, bits, site),
-        Kind::TwoHandTwo => step_block::<TwoHandTwo>(cells, bits, site),
-        Kind::TwoHandThree => step_block::<TwoHandThree>(cells, bits, site),
-        Kind::GuardMonitoring => step_block::<GuardMonitoring>(cells, bits, site),
-        Kind::GuardLocking => step_block::<GuardLocking>(cells, bits, site),
-        Kind::EnableSwitch => step_block::<EnableSwitch>(cells, bits, site),
-        Kind::SafetyRequest => step_block::<SafetyRequest>(cells, bits, site),
-        Kind::OutControl => step_block::<OutControl>(cells, bits, site),
-        Kind::Edm => step_block::<Edm>(cells, bits, site),
-    }
-}
-
-// The step of an instance as a block: load, step, store.
+// The step of an instance as a block, with pins that are there.
 fn step_block<B: SafetyBlock>(cells: &mut [u8], bits: u32, site: Site)
     requires end { 74 + site.signals + 16 * site.instance + 16 ≤ length cells.old }
     requires outs { site.first + output_count B.KIND ≤ site.signals }
@@ -112,22 +142,38 @@ fn step_block<B: SafetyBlock>(cells: &mut [u8], bits: u32, site: Site)
     requires pins { (j : ℕ) → pin_of bits j ≡ pins_in (topmost (boolean_count B.KIND) cells.old) j }
     ensures { cells.new ≡ called_with site.signals site.instance site.first site.limit site.next B.KIND (loaded B.KIND (block_bytes site.signals site.instance cells.old)) cells.old }
 {
+    let place = site.place();
+    let pins = Pins {
+        bits,
+        limit: site.limit,
+        now: time(cells),
+    };
+    match step_here::<B>(&mut cells[place..place + 16], pins) {
+        Some(outs) => show(cells, B::KIND, outs, site),
+        None => trap(cells, 7),
+    }
+}
+
+// A step of a block whose sixteen bytes are these: load, step, store. None where they load for no state, and then they stay.
+fn step_here<B: SafetyBlock>(bytes: &mut [u8], pins: Pins) -> Option<Outs>
+    requires { length bytes.old ≡ 16 }
+    ensures steps { IfSome result (Steps B.KIND pins bytes.old bytes.new) }
+    ensures none { IfNone result (loaded B.KIND bytes.old ≡ None) }
+    ensures kept { IfNone result (bytes.new ≡ bytes.old) }
+{
     loads_exactly();
-    let mut bytes = sixteen(cells, site.place());
-    match B::load(&bytes) {
-        None => {
-            are_bytes(&bytes);
-            trap(cells, 7)
-        }
+    let Some(block) = bytes.as_mut_array::<16>() else {
+        unreachable!()
+    };
+    match B::load(block) {
         Some(mut state) => {
-            let pins = Pins {
-                bits,
-                limit: site.limit,
-                now: time(cells),
-            };
             let outs = B::step(&mut state, pins);
-            B::store(&state, &mut bytes);
-            settle(cells, B::KIND, &bytes, outs, site)
+            B::store(&state, block);
+            Some(outs)
+        }
+        None => {
+            are_bytes(block);
+            None
         }
     }
 }
@@ -141,15 +187,14 @@ fn are_bytes(bytes: &[u8; 16])
     }
 }
 
-// The pins are popped, and an instance's new bytes and its outputs take their places.
-fn settle(cells: &mut [u8], kind: Kind, bytes: &[u8; 16], outs: Outs, site: Site)
-    requires end { 74 + site.signals + 16 * site.instance + 16 ≤ length cells.old }
+// The pins are popped, and the outputs are written.
+fn show(cells: &mut [u8], kind: Kind, outs: Outs, site: Site)
+    requires end { 74 + site.signals ≤ length cells.old }
     requires outs { site.first + output_count kind ≤ site.signals }
     requires tall { boolean_count kind ≤ slice_index cells.old 4 }
-    ensures { cells.new ≡ with_pc site.next (replaced (replaced (with_height (slice_index cells.old 4 - boolean_count kind) cells.old) (74 + site.signals + 16 * site.instance) bytes.now) (74 + site.first) (map bit (shown (length (block kind).outputs) outs))) }
+    ensures { cells.new ≡ with_pc site.next (replaced (with_height (slice_index cells.old 4 - boolean_count kind) cells.old) (74 + site.first) (map bit (shown (length (block kind).outputs) outs))) }
 {
     cells[4] -= boolean_count(kind);
-    replace(cells, site.place(), bytes);
     put_outputs(cells, 74 + site.first as usize, safe_count(kind), outs);
     set_pc(cells, site.next);
 }

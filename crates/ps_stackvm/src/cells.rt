@@ -1,9 +1,8 @@
 // Single places of the cells.
 
-ghost use Rattle.std.specs.Prelude.{◌≡◌, ◌+◌, ◌<◌, ◌≤◌, length, map, take, drop, slice_index};
+ghost use Rattle.std.specs.Prelude.{◌≡◌, ◌+◌, ◌<◌, ◌≤◌, length, map, slice_index};
 ghost use Rattle.ps_machine.specs.Bytes.{bit, replaced};
 ghost use Rattle.ps_stackvm.specs.Cells.{pc_of, time_of, with_pc, trapped};
-ghost use Rattle.ps_stackvm.specs.Calling.{topmost};
 ghost use Rattle.ps_stackvm.specs.Stack.{pushed};
 ghost use Rattle.ps_stackvm.specs.Turn.{begin_a};
 
@@ -48,28 +47,6 @@ pub(crate) fn push(cells: &mut [u8], byte: u8)
     let height = cells[4];
     cells[10 + height as usize] = byte;
     cells[4] = height + 1;
-}
-
-// The topmost bytes of the stack, so many of them, the lowest first.
-pub(crate) fn top_of(cells: &[u8], count: u8) -> &[u8]
-    requires room { 74 ≤ length cells.now }
-    requires low { slice_index cells.now 4 ≤ 64 }
-    requires tall { count ≤ slice_index cells.now 4 }
-    ensures bytes { result.now ≡ topmost count cells.now }
-    ensures count { length result.now ≡ count }
-{
-    let low = 10 + (cells[4] as usize - count as usize);
-    &cells[low..low + count as usize]
-}
-
-// The sixteen bytes at a place.
-pub(crate) fn sixteen(cells: &[u8], place: usize) -> [u8; 16]
-    requires { place + 16 ≤ length cells.now }
-    ensures { result ≡ take 16 (drop place cells.now) }
-{
-    let mut bytes = [0; 16];
-    bytes.copy_from_slice(&cells[place..place + 16]);
-    bytes
 }
 
 // The byte of a truth value.

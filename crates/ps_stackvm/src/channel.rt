@@ -12,7 +12,6 @@ use ps_machine::bytes::{overwrite, progress_of_byte};
 use ps_model::channel::{OutOfRegion, Progress, Region};
 use ps_model::report::{Report, Scan};
 use ps_model::sizes::Sizes;
-use ps_model::values::{FirstPins, Kinds};
 use std::alloc::Global;
 use std::marker::Model;
 
@@ -37,44 +36,6 @@ impl Model for StackChannel {
     ghost invariant = { λ c. (length c.cells.items ≡ 74 + c.sizes.signals + 16 * c.sizes.instances) × (length c.cells.items < 2 ^ 32) × (length c.code.items < 2 ^ 32) };
 }
 
-// A copy of first output signals.
-fn copy_of_first_pins(alloc: Global, first_pins: &FirstPins) -> Result<FirstPins, Memory>
-    ensures { IfOk result (λ copy. copy ≡ first_pins.now) }
-{
-    let mut copy = FirstPins::new(alloc);
-    for i in 0..first_pins.len() {
-        copy.push(first_pins.at(i))?;
-    }
-    Ok(copy)
-}
-
-// A copy of kinds.
-fn copy_of_kinds(alloc: Global, kinds: &Kinds) -> Result<Kinds, Memory>
-    ensures { IfOk result (λ copy. copy ≡ kinds.now) }
-{
-    let mut copy = Kinds::new(alloc);
-    for i in 0..kinds.len() {
-        copy.push(kinds.at(i))?;
-    }
-    Ok(copy)
-}
-
-// A copy of the sizes of an application.
-fn copy_of_sizes(alloc: Global, sizes: &Sizes) -> Result<Sizes, Memory>
-    ensures { IfOk result (λ copy. copy ≡ sizes.now) }
-{
-    let first_pins = copy_of_first_pins(alloc, &sizes.first_pins)?;
-    let kinds = copy_of_kinds(alloc, &sizes.kinds)?;
-    Ok(Sizes {
-        signals: sizes.signals,
-        instances: sizes.instances,
-        inputs: sizes.inputs,
-        outputs: sizes.outputs,
-        first_pins,
-        kinds,
-    })
-}
-
 impl StackChannel {
     ghost use Rattle.std.specs.Prelude.{◌≡◌, ◌+◌, ◌<◌, length, slice_index, true, false, IfOk, Some, None, is_err, nat_lt};
     ghost use Rattle.ps_machine.specs.Progressing.{progress_said};
@@ -86,7 +47,7 @@ impl StackChannel {
     pub fn new(alloc: Global, image: &StackImage, sizes: &Sizes) -> Result<StackChannel, Memory>
         ensures { IfOk result (λ c. c ≡ record { sizes = sizes.now; code = image.now; cells = blank_a sizes.now }) }
     {
-        let sizes = copy_of_sizes(alloc, sizes)?;
+        let sizes = sizes.copy(alloc)?;
         let code = Vec::from_slice(alloc, image.as_slice())?;
         let cells = vec![in alloc; 0; 74 + sizes.signals as usize + 16 * sizes.instances as usize]?;
         Ok(StackChannel { sizes, code, cells })

@@ -8,7 +8,7 @@ use std::process::Abort;
 use std::test::Fail;
 
 // One turn of this code over cells of 0 in which these places have these bytes.
-fn turn(
+pub fn turn(
     rt: &impl Abort,
     alloc: Global,
     code: &[u8],
@@ -42,6 +42,8 @@ fn operands_cut_short(rt: HostRuntime) -> Result<(), Fail> {
     turn(&rt, rt.alloc(), &[1, 0], &[], Progress::Trapped(2))?;
     turn(&rt, rt.alloc(), &[2, 0], &[(4, 1)], Progress::Trapped(2))?;
     turn(&rt, rt.alloc(), &[3], &[], Progress::Trapped(2))?;
+    turn(&rt, rt.alloc(), &[6], &[], Progress::Trapped(2))?;
+    turn(&rt, rt.alloc(), &[1, 255], &[], Progress::Trapped(2))?;
     turn(
         &rt,
         rt.alloc(),

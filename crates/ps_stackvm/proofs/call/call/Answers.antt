@@ -4,8 +4,7 @@ use Rattle.std.proofs.lemmas.Bool.{cond-false, lt-leb}
 use Rattle.ps_model.specs.declared.kind.Kind.{Kind}
 use Rattle.ps_stackvm.specs.Cells.{trapped}
 use Rattle.ps_stackvm.specs.Calling.{called_by}
-use Rattle.ps_stackvm.specs.Kinds.{kind_of}
-use Rattle.ps_stackvm.proofs.KindsByNumber.{kind_of_number, no_kind_of}
+use Rattle.ps_machine.specs.Kinds.{kind_of}
 use Rattle.ps_stackvm.proofs.call.call.Goals as goal
 
 pub returns-in-Some : goal.returns-in-Some
@@ -14,7 +13,7 @@ returns-in-Some c =
     let site = c.args.site in
     let called : Option Kind → List ℕ = λ o. called_by site.signals site.instance site.first site.limit site.next o cells in
     c.call_as.ensures
-    ∙ ap called (sym (kind_of_number c.in-Some.kind c.args.kind c.in-Some.ensures.some))
+    ∙ ap called c.in-Some.ensures
     ∙ sym (cond-false (nat_le c.args.instances site.instance) (trapped 6 cells) (called (kind_of c.args.kind)) (lt-leb c.args.instances site.instance c.if-site-instances.false))
 
 pub returns-in-None : goal.returns-in-None
@@ -23,5 +22,5 @@ returns-in-None c =
     let site = c.args.site in
     let called : Option Kind → List ℕ = λ o. called_by site.signals site.instance site.first site.limit site.next o cells in
     c.trap-in-None.ensures
-    ∙ ap called (sym (no_kind_of c.args.kind c.in-None.ensures.none))
+    ∙ ap called c.in-None.ensures
     ∙ sym (cond-false (nat_le c.args.instances site.instance) (trapped 6 cells) (called (kind_of c.args.kind)) (lt-leb c.args.instances site.instance c.if-site-instances.false))

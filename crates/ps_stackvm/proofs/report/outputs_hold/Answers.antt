@@ -3,7 +3,7 @@ use Rattle.std.specs.Prelude.{not}
 use Rattle.std.proofs.lemmas.Bool.{lt-ltb, le-ltb}
 use Rattle.ps_machine.specs.Bytes.{is_no_bit}
 use Rattle.ps_machine.specs.Reporting.{output_byte}
-use Rattle.ps_stackvm.proofs.Walks.{all_more, not_all}
+use Rattle.ps_machine.proofs.Walks.{all_more, not_all}
 use Rattle.ps_stackvm.proofs.report.outputs_hold.Goals as goal
 
 pub returns-then-cells-sizes-gt1 : goal.returns-then-cells-sizes-gt1

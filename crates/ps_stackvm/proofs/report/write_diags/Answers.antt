@@ -2,7 +2,7 @@ use Rattle.std.proofs.Common.{ℕ, length, ap, ◌∙◌, arith}
 use Rattle.std.specs.Prelude.{slice_set}
 use Rattle.ps_model.specs.declared.report.Diag.{Diag}
 use Rattle.ps_machine.specs.Reporting.{diag_at}
-use Rattle.ps_stackvm.proofs.Walks.{length_part, set_more}
+use Rattle.ps_machine.proofs.Walks.{length_part, set_more}
 use Rattle.ps_stackvm.proofs.report.write_diags.Goals as goal
 
 pub set-requires : goal.set-requires

@@ -1,7 +1,7 @@
 use Rattle.std.proofs.Common.{ℕ, Bool, length, refl, ap, ◌∙◌, arith}
 use Rattle.std.specs.Prelude.{◌==◌, slice_set}
 use Rattle.ps_machine.specs.Reporting.{output_byte}
-use Rattle.ps_stackvm.proofs.Walks.{length_part, set_more}
+use Rattle.ps_machine.proofs.Walks.{length_part, set_more}
 use Rattle.ps_stackvm.proofs.report.write_outputs.Goals as goal
 
 pub set-requires : goal.set-requires

@@ -1,49 +1,27 @@
 -- One turn at a CALL.
-use Rattle.std.proofs.Common.{◌⊎◌, inl, inr, ◌≡◌, ◌≢◌, ℕ, suc, ◌+◌, ◌-◌, ◌*◌, ◌^◌, ◌<◌, ◌≤◌, Bool, false, cond, List, [], ◌∷◌, length, take, drop, map, refl, sym, ap, ◌∙◌, subst, arith, length-drop, Some, lit<, lit≤}
-use Rattle.std.specs.Prelude.{slice_index, slice_index_or, nat_le, nat_lt, ◌==◌, ◌&&◌, ◌||◌}
+use Rattle.std.proofs.Common.{◌⊎◌, inl, inr, ◌≡◌, ◌≢◌, ℕ, suc, ◌+◌, ◌-◌, ◌*◌, ◌^◌, ◌<◌, ◌≤◌, Bool, false, List, [], ◌∷◌, length, take, drop, map, refl, sym, ap, ◌∙◌, subst, arith, length-drop, Some, lit<, lit≤}
+use Rattle.std.specs.Prelude.{slice_index, slice_index_or, nat_le, nat_lt, ◌==◌, ◌||◌}
 use Rattle.std.specs.List.{list_any}
-use Rattle.std.proofs.lemmas.List.{same_lists, get_or_default, get_or-drop, get_or-take, get_or-map, get_or_past, length-map, length-take-le, drop-drop}
+use Rattle.std.proofs.lemmas.List.{same_lists, get_or_default, get_or-drop, get_or-take, get_or-map, get_or_past, length-map, length-take-le}
 use Rattle.std.proofs.lemmas.Grind.{common_steps}
-use Rattle.std.proofs.lemmas.Bool.{lt-leb, le-leb, lt-ltb, le-ltb, cases_lt, cond-true, cond-false}
+use Rattle.std.proofs.lemmas.Bool.{lt-leb, cases_lt, cond-false}
 use Rattle.ps_model.specs.declared.kind.Kind.{Kind}
-use Rattle.ps_model.specs.declared.kind.Kind.TheVariants.{Equivalent, Antivalent, EmergencyStop, Espe, ModeSelector, TwoHandTwo, TwoHandThree, GuardMonitoring, GuardLocking, EnableSwitch, SafetyRequest, OutControl, Edm}
 use Rattle.ps_model.specs.Blocks.{block, outs, output_count}
 use Rattle.ps_model.specs.Budgets.{boolean_count}
 use Rattle.ps_model.specs.Kept.{Kept, stepped_at}
 use Rattle.ps_model.specs.Stored.{stored, loaded}
 use Rattle.ps_model.proofs.Sixteen.{bit_is_one}
-use Rattle.ps_machine.specs.Bytes.{bit, is_no_bit, replaced, instance_bytes}
+use Rattle.ps_machine.specs.Bytes.{bit, is_no_bit, replaced}
+use Rattle.ps_machine.proofs.Bits.{bit_is_bit}
+use Rattle.ps_machine.proofs.CalledSignals.{called_signals, signal_inside, signal_before, signal_past}
+use Rattle.ps_machine.proofs.Instances.{bytes_at, block_is}
+use Rattle.ps_machine.proofs.KindsByNumber.{kind_of-number}
 use Rattle.ps_machine.proofs.Places.{length-replaced, index_before, index_within, index_after}
 use Rattle.ps_stackvm.specs.declared.instruction.Instruction.TheVariants.{Call}
-use Rattle.ps_stackvm.specs.Kinds.{kind_of}
 use Rattle.ps_stackvm.specs.Cells.{height_of, time_of, block_bytes, with_pc, with_height}
 use Rattle.ps_stackvm.specs.Calling.{topmost, pins_in, stepped_to, called_with, called_by, after_call}
 use Rattle.ps_stackgen.proofs.Instructions.{Has}
-use Rattle.ps_stackgen.proofs.Holding.{Holds, turn, turn_is, bit_is_bit, time_same, pc_of-with_pc, index-with_pc, length-with_pc}
-
--- the bytes of instance i among those of all
-abbrev pub bytes_at : ℕ → List ℕ → List ℕ
-bytes_at i blocks = take 16 (drop (16 * i) blocks)
-
-pub block_is : (n i : ℕ) (cells blocks : List ℕ) → drop (74 + n) cells ≡ blocks → instance_bytes (74 + n) i cells ≡ bytes_at i blocks
-block_is n i cells blocks rest = ap (take 16) (sym (drop-drop (16 * i) (74 + n) cells) ∙ ap (drop (16 * i)) rest)
-
--- each kind is found by its number
-kind_found : (kind : Kind) → kind_of (block kind).number ≡ Some kind
-unfolding kind_of block
-kind_found Equivalent = refl
-kind_found Antivalent = refl
-kind_found EmergencyStop = refl
-kind_found Espe = refl
-kind_found ModeSelector = refl
-kind_found TwoHandTwo = refl
-kind_found TwoHandThree = refl
-kind_found GuardMonitoring = refl
-kind_found GuardLocking = refl
-kind_found EnableSwitch = refl
-kind_found SafetyRequest = refl
-kind_found OutControl = refl
-kind_found Edm = refl
+use Rattle.ps_stackgen.proofs.Holding.{Holds, turn, turn_is, time_same, pc_of-with_pc, index-with_pc, length-with_pc}
 
 -- the stack is just the pins
 pins_on_top : (n now : ℕ) (blocks cells : List ℕ) (pc : ℕ) (pins : List Bool) (v : ℕ → Bool) → Holds n now blocks cells pc pins v → length pins ≤ 64 →
@@ -83,11 +61,11 @@ call_goes n m i o limit next now kind blocks cells pc pins v kept h within room 
     let e3 : nat_lt 64 (height_of cells) ≡ false = lt-leb 65 (height_of cells) (omega (arith, h.height)) in
     let e4 : nat_lt (height_of cells) (boolean_count kind) ≡ false = lt-leb (suc (height_of cells)) (boolean_count kind) (omega (arith, h.height)) in
     let top : topmost (boolean_count kind) cells ≡ map bit pins = ap (λ c. topmost c cells) (sym many) ∙ pins_on_top n now blocks cells pc pins v h low in
-    let found : loaded kind (block_bytes n i cells) ≡ Some kept = ap (loaded kind) (block_is n i cells blocks h.rest) ∙ there in
+    let found : loaded kind (block_bytes n i cells) ≡ Some kept = ap (loaded kind) (block_is (74 + n) i cells blocks h.rest) ∙ there in
     let odd : list_any is_no_bit (topmost (boolean_count kind) cells) ≡ false = ap (list_any is_no_bit) top ∙ none_odd pins in
     let pins_are : pins_in (topmost (boolean_count kind) cells) ≡ (λ j. slice_index_or pins j false) = ap pins_in top ∙ (λ x j. pin_is pins j x) in
     cond-false (nat_le m i) _ _ e1
-    ∙ ap (λ k. called_by n i o limit next k cells) (kind_found kind)
+    ∙ ap (λ k. called_by n i o limit next k cells) (kind_of-number kind)
     ∙ cond-false (nat_lt n (o + output_count kind)) _ _ e2
     ∙ cond-false (nat_lt 64 (height_of cells) || nat_lt (height_of cells) (boolean_count kind)) _ _ (ap (λ b. b || nat_lt (height_of cells) (boolean_count kind)) e3 ∙ e4)
     ∙ cond-false (list_any is_no_bit (topmost (boolean_count kind) cells)) _ _ odd
@@ -203,30 +181,11 @@ module _ (n i o next height : ℕ) (st os cells : List ℕ) (size : length st �
       ] in
       from ∙ there ∙ on ∙ mid ∙ to)
 
--- the signals after a call whose outputs are these
-abbrev pub called_signals : (o : ℕ) → List Bool → (ℕ → Bool) → ℕ → Bool
-called_signals o os v s = cond (nat_le o s && nat_lt s (o + length os)) (slice_index_or os (s - o) false) (v s)
-
-signal_inside : (o : ℕ) (os : List Bool) (v : ℕ → Bool) (s : ℕ) → o ≤ s → s < o + length os → called_signals o os v s ≡ slice_index_or os (s - o) false
-signal_inside o os v s low high =
-    cond-true (nat_le o s && nat_lt s (o + length os)) (slice_index_or os (s - o) false) (v s)
-    (ap (λ b. b && nat_lt s (o + length os)) (le-leb o s low) ∙ lt-ltb s (o + length os) high)
-
-signal_before : (o : ℕ) (os : List Bool) (v : ℕ → Bool) (s : ℕ) → s < o → called_signals o os v s ≡ v s
-signal_before o os v s low =
-    cond-false (nat_le o s && nat_lt s (o + length os)) (slice_index_or os (s - o) false) (v s)
-    (ap (λ b. b && nat_lt s (o + length os)) (lt-leb o s low))
-
-signal_past : (o : ℕ) (os : List Bool) (v : ℕ → Bool) (s : ℕ) → o ≤ s → o + length os ≤ s → called_signals o os v s ≡ v s
-signal_past o os v s low high =
-    cond-false (nat_le o s && nat_lt s (o + length os)) (slice_index_or os (s - o) false) (v s)
-    (ap (λ b. b && nat_lt s (o + length os)) (le-leb o s low) ∙ le-ltb s (o + length os) high)
-
-pub call_holds : (n now i o next count : ℕ) (blocks cells : List ℕ) (pc : ℕ) (pins os : List Bool) (v : ℕ → Bool) (st : List ℕ) →
-    Holds n now blocks cells pc pins v → next < 2 ^ 32 → length pins ≡ count → o + length os ≤ n → 16 * i + 16 ≤ length blocks → length st ≡ 16 →
+pub call_holds : (n now i o next count wide : ℕ) (blocks cells : List ℕ) (pc : ℕ) (pins os : List Bool) (v : ℕ → Bool) (st : List ℕ) →
+    Holds n now blocks cells pc pins v → next < 2 ^ 32 → length pins ≡ count → length os ≡ wide → o + wide ≤ n → 16 * i + 16 ≤ length blocks → length st ≡ 16 →
     Holds n now (replaced blocks (16 * i) st) (with_pc next (replaced (replaced (with_height (height_of cells - count) cells) (74 + n + 16 * i) st) (74 + o) (map bit os))) next []
-    (called_signals o os v)
-call_holds n now i o next count blocks cells pc pins os v st h small many room inside size =
+    (called_signals o wide os v)
+call_holds n now i o next count wide blocks cells pc pins os v st h small many shown room inside size =
     let lr = ap length h.rest in
     let ld = length-drop (74 + n) cells in
     let fits : 74 + n + 16 * i + 16 ≤ length cells = omega (arith, h.sized) in
@@ -238,7 +197,7 @@ call_holds n now i o next count blocks cells pc pins os v st h small many room i
     let final = with_pc next (c3 n i o next hh st ob cells size fits room') in
     let low_is = low_same n i o next hh st ob cells size fits room' in
     let same = c1_same n i o next hh st ob cells size fits room' in
-    let held : Holds n now (replaced blocks (16 * i) st) final next [] (called_signals o os v) = record {
+    let held : Holds n now (replaced blocks (16 * i) st) final next [] (called_signals o wide os v) = record {
       sized = omega (arith, h.sized, l4 n i o next hh st ob cells size fits room');
       at = pc_of-with_pc next (c3 n i o next hh st ob cells size fits room') small;
       height = low_is 4 (lit≤ tt) (lit< tt) ∙ height_is n i o next hh st ob cells size fits room' ∙ empty;
@@ -246,8 +205,8 @@ call_holds n now i o next count blocks cells pc pins os v st h small many room i
       time = time_same cells final (λ k from to. low_is k (omega arith) (omega arith) ∙ same k (λ p. omega arith)) ∙ h.time;
       holds = λ k l. absurd (omega arith);
       signals = λ k l. elim (cases_lt k o) [
-        | inl before ↦ signal_same n i o next hh st ob cells size fits room' k l (inl before) ∙ h.signals k l ∙ ap bit (sym (signal_before o os v k before))
-        | inr from ↦ elim (cases_lt k (o + length os)) [
+        | inl before ↦ signal_same n i o next hh st ob cells size fits room' k l (inl before) ∙ h.signals k l ∙ ap bit (sym (signal_before o wide os v k before))
+        | inr from ↦ elim (cases_lt k (o + wide)) [
           | inl within ↦
               let j = k - o in
               let e : o + j ≡ k = omega arith in
@@ -255,24 +214,24 @@ call_holds n now i o next count blocks cells pc pins os v st h small many room i
               ap (λ p. slice_index final (74 + p)) (sym e)
               ∙ out_is n i o next hh st ob cells size fits room' j (omega arith)
               ∙ get_or-map bit os j false 0 here
-              ∙ ap bit (sym (signal_inside o os v k from within))
-          | inr past ↦ signal_same n i o next hh st ob cells size fits room' k l (inr (omega arith)) ∙ h.signals k l ∙ ap bit (sym (signal_past o os v k from past))
+              ∙ ap bit (sym (signal_inside o wide os v k from within))
+          | inr past ↦ signal_same n i o next hh st ob cells size fits room' k l (inr (omega arith)) ∙ h.signals k l ∙ ap bit (sym (signal_past o wide os v k from past))
         ]
       ];
       rest = rest_is n i o next hh st ob cells size fits room' ∙ ap (λ b. replaced b (16 * i) st) h.rest;
     } in
-    subst (λ c. Holds n now (replaced blocks (16 * i) st) c next [] (called_signals o os v)) (sym (called_is n i o next hh st ob cells size fits room')) held
+    subst (λ c. Holds n now (replaced blocks (16 * i) st) c next [] (called_signals o wide os v)) (sym (called_is n i o next hh st ob cells size fits room')) held
 
 pub call_turn : (n m now : ℕ) (blocks code cells : List ℕ) (pc i o limit : ℕ) (kind : Kind) (pins : List Bool) (v : ℕ → Bool) (kept : Kept) →
     Has code pc (Call i (block kind).number o limit) → Holds n now blocks cells pc pins v → length pins ≡ boolean_count kind → length pins ≤ 64 → i < m →
     length (outs kind (stepped_at kind limit (λ j. slice_index_or pins j false) now kept).code (stepped_at kind limit (λ j. slice_index_or pins j false) now kept).mode) ≡ output_count kind →
     o + output_count kind ≤ n → 16 * i + 16 ≤ length blocks → loaded kind (bytes_at i blocks) ≡ Some kept →
     Holds n now (replaced blocks (16 * i) (stored (stepped_at kind limit (λ j. slice_index_or pins j false) now kept))) (turn n m code cells) (pc + 10) []
-    (called_signals o (outs kind (stepped_at kind limit (λ j. slice_index_or pins j false) now kept).code (stepped_at kind limit (λ j. slice_index_or pins j false) now kept).mode) v)
+    (called_signals o (output_count kind) (outs kind (stepped_at kind limit (λ j. slice_index_or pins j false) now kept).code (stepped_at kind limit (λ j. slice_index_or pins j false) now kept).mode) v)
 call_turn n m now blocks code cells pc i o limit kind pins v kept has h many low within shown room inside there =
     let k' : Kept = stepped_at kind limit (λ j. slice_index_or pins j false) now kept in
     let os = outs kind k'.code k'.mode in
     let e = turn_is n m code cells pc (Call i (block kind).number o limit) h.at has
     ∙ call_goes n m i o limit (pc + 10) now kind blocks cells pc pins v kept h within room many low there in
-    subst (λ y. Holds n now (replaced blocks (16 * i) (stored k')) y (pc + 10) [] (called_signals o os v)) (sym e)
-    (call_holds n now i o (pc + 10) (boolean_count kind) blocks cells pc pins os v (stored k') h has.small many (omega (arith, shown)) inside refl)
+    subst (λ y. Holds n now (replaced blocks (16 * i) (stored k')) y (pc + 10) [] (called_signals o (output_count kind) os v)) (sym e)
+    (call_holds n now i o (pc + 10) (boolean_count kind) (output_count kind) blocks cells pc pins os v (stored k') h has.small many shown room inside refl)

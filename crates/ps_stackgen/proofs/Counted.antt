@@ -1,9 +1,8 @@
 -- How many instructions and bytes the code of an application has, and that each number fits its bytes.
-use Rattle.std.proofs.Common.{◌≡◌, ℕ, zero, suc, ◌+◌, ◌-◌, ◌*◌, ◌^◌, ◌<◌, ◌≤◌, Bool, true, false, List, [], ◌∷◌, ◌++◌, length, take, drop, refl, ap, ◌∙◌, arith, length-append, lit<, Some, get_or}
-use Rattle.std.specs.Prelude.{slice_index_or, slice_get, sum_by}
+use Rattle.std.proofs.Common.{◌≡◌, ℕ, zero, suc, ◌+◌, ◌-◌, ◌*◌, ◌^◌, ◌<◌, ◌≤◌, Bool, true, false, List, [], ◌∷◌, ◌++◌, length, drop, refl, ap, ◌∙◌, arith, length-append, lit<, Some, get_or}
+use Rattle.std.specs.Prelude.{slice_index_or, slice_get}
 use Rattle.std.specs.List.{flat_map, range_with_len}
 use Rattle.std.proofs.lemmas.List.{drop_more}
-use Rattle.std.proofs.lemmas.List.Sums.{sum_by-cons}
 use Rattle.ps_model.specs.declared.kind.Kind.{Kind}
 use Rattle.ps_model.specs.Formula.{Formula, Formulas, signal, all_of, any_of, no_operand, operand}
 use Rattle.ps_model.specs.Action.{Action, Actual, free, literal, time, wired, assigns, calls}
@@ -15,16 +14,16 @@ use Rattle.ps_model.specs.Scanning.{pin_at, limit_of}
 use Rattle.ps_model.specs.Sound.{IsSound}
 use Rattle.ps_model.specs.Values.{IsBelow, AreBelow, HasOperands, HaveOperands, operand_count}
 use Rattle.ps_model.proofs.Budgeting.{boolean_within}
-use Rattle.ps_model.proofs.Counting.{few_steps}
 use Rattle.ps_model.proofs.KindNumbers.{number_at_most}
 use Rattle.ps_machine.specs.Bytes.{bit}
+use Rattle.ps_machine.proofs.Fine.{IsFinePin}
+use Rattle.ps_machine.proofs.Fitting.{StepFits, AllFit}
+use Rattle.ps_machine.proofs.Totals.{length_of_steps, length_of_pins, steps_small}
 use Rattle.ps_stackvm.specs.declared.instruction.Instruction.{Instruction}
 use Rattle.ps_stackvm.specs.declared.instruction.Instruction.TheVariants.{Store, And, Or, Call, End}
 use Rattle.ps_stackvm.specs.Instructions.{size_of}
 use Rattle.ps_stackvm.specs.Code.{encoded, bytes_of, expression_code, group_code, later_code, pin_code, code_at_pin, pins_code, step_code, network_code, code_a}
 use Rattle.ps_stackgen.proofs.Instructions.{size_all, size_all-append, length-encoded, IsShort, AreShort, short-append}
-use Rattle.ps_stackgen.proofs.Running.{IsFinePin}
-use Rattle.ps_stackgen.proofs.Stepping.{StepFits, AllFit}
 
 -- ---- how many instructions
 mutual
@@ -49,47 +48,20 @@ pin_are n default (literal b) is = refl
 pin_are n default (time t) is = refl
 pin_are n default (wired e) is = instructions_are e is.full
 
-pins_are : (n : ℕ) (kind : Kind) (args : List Actual) (count j : ℕ) → ((k : ℕ) → IsFinePin n (slice_index_or args k free)) → j + count ≤ length args →
-    length (flat_map (code_at_pin kind args) (range_with_len j count)) ≡ sum_by instructions_at_pin (take count (drop j args))
-pins_are n kind args zero j is low = refl
-pins_are n kind args (suc count) j is low =
-    let inside : j < length args = omega arith in
-    let a = get_or args j free in
-    let rest : take (suc count) (drop j args) ≡ a ∷ take count (drop (j + 1) args) = ap (take (suc count)) (drop_more args j free inside) in
-    let here = pin_are n (pin_at kind j).free a (is j) in
-    let later = pins_are n kind args count (j + 1) is (omega arith) in
-    omega (
-      arith,
-      length-append (code_at_pin kind args j) (flat_map (code_at_pin kind args) (range_with_len (j + 1) count)),
-      here,
-      later,
-      ap (sum_by instructions_at_pin) rest ∙ sum_by-cons instructions_at_pin a (take count (drop (j + 1) args)),
-    )
-
 step_are : (net : Network) (sound : IsSound net) (k : ℕ) (a : Action) → slice_get net.steps k ≡ Some a → StepFits net a → length (step_code net a) ≡ instructions_of_step net a
 step_are net sound k (assigns t e) at fits = omega (arith, length-append (expression_code e) (Store t ∷ []), instructions_are e fits.1.full)
 step_are net sound k (calls i args) at fits =
     let kind = kind_at net i in
     let many = sound.arguments k i args at in
     let within = boolean_within kind in
-    let all = pins_are (signal_count net) kind args (boolean_count kind) 0 fits.pins (omega arith) in
+    let each : (j : ℕ) → length (code_at_pin kind args j) ≡ instructions_at_pin (slice_index_or args j free) =
+    λ j. pin_are (signal_count net) (pin_at kind j).free (slice_index_or args j free) (fits.pins j) in
+    let all = length_of_pins (code_at_pin kind args) instructions_at_pin args free (boolean_count kind) 0 each (omega arith) in
     omega (arith, length-append (pins_code kind args) (Call i (block kind).number (first_pin net i) (limit_of kind args) ∷ []), all)
-
-steps_are : (net : Network) (steps : List Action) → ((k : ℕ) (a : Action) → slice_get steps k ≡ Some a → length (step_code net a) ≡ instructions_of_step net a) →
-    length (flat_map (step_code net) steps) ≡ sum_by (instructions_of_step net) steps
-steps_are net [] h = refl
-steps_are net (a ∷ rest) h =
-    omega (
-      arith,
-      length-append (step_code net a) (flat_map (step_code net) rest),
-      h 0 a refl,
-      steps_are net rest (λ k b at. h (suc k) b at),
-      sum_by-cons (instructions_of_step net) a rest,
-    )
 
 pub turns_are : (net : Network) → IsSound net → ((k : ℕ) (a : Action) → slice_get net.steps k ≡ Some a → StepFits net a) → length (network_code net) ≡ turns_a net
 turns_are net sound fits =
-    omega (arith, length-append (flat_map (step_code net) net.steps) (End ∷ []), steps_are net net.steps (λ k a at. step_are net sound k a at (fits k a at)))
+    omega (arith, length-append (flat_map (step_code net) net.steps) (End ∷ []), length_of_steps (step_code net) (instructions_of_step net) net.steps (λ k a at. step_are net sound k a at (fits k a at)))
 
 -- ---- how many bytes
 mutual
@@ -129,7 +101,7 @@ pins_bound kind args (suc count) j low =
       ap length rest ∙ length-append (nodes_at_pin a) (flat_map nodes_at_pin (drop (j + 1) args)),
     )
 
-step_bound : (net : Network) (sound : IsSound net) (k : ℕ) (a : Action) → slice_get net.steps k ≡ Some a → StepFits net a → size_all (step_code net a) ≤ 4 * length (nodes_of_step a) + 36
+step_bound : (net : Network) (sound : IsSound net) (k : ℕ) (a : Action) → slice_get net.steps k ≡ Some a → StepFits net a → size_all (step_code net a) ≤ 5 * length (nodes_of_step a) + 37
 step_bound net sound k (assigns t e) at fits = omega (arith, size_all-append (expression_code e) (Store t ∷ []), size_bound e)
 step_bound net sound k (calls i args) at fits =
     let kind = kind_at net i in
@@ -138,34 +110,14 @@ step_bound net sound k (calls i args) at fits =
     let few = fits.few in
     omega (arith, size_all-append (pins_code kind args) (Call i (block kind).number (first_pin net i) (limit_of kind args) ∷ []), pins_bound kind args (boolean_count kind) 0 (omega arith))
 
-steps_bound : (net : Network) (steps : List Action) → ((k : ℕ) (a : Action) → slice_get steps k ≡ Some a → size_all (step_code net a) ≤ 4 * length (nodes_of_step a) + 36) →
-    size_all (flat_map (step_code net) steps) ≤ 4 * length (flat_map nodes_of_step steps) + 36 * length steps
-steps_bound net [] h = omega arith
-steps_bound net (a ∷ rest) h =
-    omega (
-      arith,
-      size_all-append (step_code net a) (flat_map (step_code net) rest),
-      h 0 a refl,
-      steps_bound net rest (λ k b at. h (suc k) b at),
-      length-append (nodes_of_step a) (flat_map nodes_of_step rest),
-    )
-
 length-bytes : (is : List Instruction) → length (bytes_of is) ≡ size_all is
 length-bytes [] = refl
 length-bytes (i ∷ is) = omega (arith, length-append (encoded i) (bytes_of is), length-encoded i, length-bytes is)
 
 pub code_small : (net : Network) → IsSound net → ((k : ℕ) (a : Action) → slice_get net.steps k ≡ Some a → StepFits net a) → length (code_a net) < 2 ^ 32
 code_small net sound fits =
-    let all = steps_bound net net.steps (λ k a at. step_bound net sound k a at (fits k a at)) in
-    omega (
-      arith,
-      length-bytes (network_code net),
-      size_all-append (flat_map (step_code net) net.steps) (End ∷ []),
-      all,
-      sound.few_nodes,
-      few_steps net sound,
-      sound.few_signals,
-    )
+    let all = steps_small size_all (step_code net) refl size_all-append net sound (λ k a at. step_bound net sound k a at (fits k a at)) in
+    omega (arith, length-bytes (network_code net), size_all-append (flat_map (step_code net) net.steps) (End ∷ []), all)
 
 -- ---- each number fits its bytes
 bit_short : (b : Bool) → bit b < 256

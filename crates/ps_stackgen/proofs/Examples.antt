@@ -1,31 +1,15 @@
--- Stack code of small applications, as a table of examples:
---   PROGRAM M VAR_INPUT S_In : SAFEBOOL; Ack, Run : BOOL; END_VAR VAR_OUTPUT S_Motor : SAFEBOOL; END_VAR
---   VAR E : SF_EmergencyStop; END_VAR
---   E(Activate := TRUE, S_EStopIn := S_In, Reset := Ack); S_Motor := E.S_EStopOut AND Run; END_PROGRAM
-use Rattle.std.proofs.Common.{◌≡◌, [], ◌∷◌, true, false, refl}
-use Rattle.std.specs.Prelude.{codes}
-use Rattle.ps_model.specs.declared.kind.Ty.TheVariants.{Safe, Bool as Plain}
-use Rattle.ps_model.specs.declared.kind.Kind.TheVariants.{EmergencyStop, Antivalent}
-use Rattle.ps_model.specs.Action.{free, literal, time, wired, assigns, calls}
+-- Stack code of small applications, as a table of examples.
+use Rattle.std.proofs.Common.{◌≡◌, [], ◌∷◌, false, refl}
+use Rattle.ps_model.specs.declared.kind.Kind.TheVariants.{Antivalent}
+use Rattle.ps_model.specs.Action.{free, literal, time}
 use Rattle.ps_model.specs.Blocks.{block, output_count}
 use Rattle.ps_model.specs.Budgets.{boolean_count, turns_a}
 use Rattle.ps_model.specs.Formula.{signal, all_of, any_of, operand, no_operand}
-use Rattle.ps_model.specs.Network.{Network}
+use Rattle.ps_machine.proofs.Motor.{motor}
 use Rattle.ps_stackvm.specs.declared.instruction.Instruction.TheVariants.{Load, Const, And, Or}
 use Rattle.ps_stackvm.specs.Code.{expression_code, pins_code, code_a}
 
-abbrev motor : Network
-motor = record {
-  name = codes "M";
-  inputs = record { name = codes "S_In"; ty = Safe } ∷ record { name = codes "Ack"; ty = Plain } ∷ record { name = codes "Run"; ty = Plain } ∷ [];
-  outputs = record { name = codes "S_Motor"; ty = Safe } ∷ [];
-  locals = [];
-  instances = record { name = codes "E"; kind = EmergencyStop } ∷ [];
-  steps = calls 0 (literal true ∷ wired (signal 0) ∷ free ∷ free ∷ wired (signal 1) ∷ [])
-      ∷ assigns 3 (all_of (operand (signal 4) (operand (signal 2) no_operand))) ∷ [];
-}
-
--- its 33 bytes: CONST 1, LOAD 0, CONST 0, CONST 0, LOAD 1, CALL, LOAD 4, LOAD 2, AND, STORE 3, END
+-- the 33 bytes of the motor: CONST 1, LOAD 0, CONST 0, CONST 0, LOAD 1, CALL, LOAD 4, LOAD 2, AND, STORE 3, END
 motor_code : code_a motor
     ≡ 3 ∷ 1 ∷ 1 ∷ 0 ∷ 0 ∷ 3 ∷ 0 ∷ 3 ∷ 0 ∷ 1 ∷ 0 ∷ 1 ∷ 6 ∷ 0 ∷ 0 ∷ 3 ∷ 0 ∷ 4 ∷ 0 ∷ 0 ∷ 0 ∷ 0
     ∷ 1 ∷ 0 ∷ 4 ∷ 1 ∷ 0 ∷ 2 ∷ 4 ∷ 2 ∷ 0 ∷ 3 ∷ 7 ∷ []

@@ -1,12 +1,13 @@
 -- What the cells hold while code runs, and what one turn makes of it.
-use Rattle.std.proofs.Common.{◌⊎◌, inl, inr, ◌≡◌, ◌≢◌, ℕ, suc, ◌+◌, ◌-◌, ◌^◌, ◌<◌, ◌≤◌, Bool, true, false, List, [], ◌∷◌, ◌++◌, length, drop, refl, sym, ap, ◌∙◌, subst, arith, length-append, length-drop, lit<, lit≤}
+use Rattle.std.proofs.Common.{◌⊎◌, inl, inr, ◌≡◌, ◌≢◌, ℕ, suc, ◌+◌, ◌-◌, ◌^◌, ◌<◌, ◌≤◌, Bool, false, List, [], ◌∷◌, ◌++◌, length, drop, refl, sym, ap, ◌∙◌, subst, arith, length-append, length-drop, lit<, lit≤}
 use Rattle.std.specs.Prelude.{slice_set, slice_index, slice_index_or, nat_lt, nat_eq, ◌&&◌, ◌||◌, bit_and, bit_or}
 use Rattle.std.specs.Int.{w32, to_be_bytes}
 use Rattle.std.proofs.lemmas.Grind.{common_steps}
 use Rattle.std.proofs.Math.Dec.{eqb-suc-zero}
 use Rattle.std.proofs.lemmas.List.{same_lists, get_or_default, get_or-drop}
 use Rattle.std.proofs.lemmas.Bool.{lt-leb, cases_lt, cases_eq}
-use Rattle.ps_machine.specs.Bytes.{bit, is_no_bit}
+use Rattle.ps_machine.specs.Bytes.{bit}
+use Rattle.ps_machine.proofs.Bits.{bit_is_bit, bit_and-bit, bit_or-bit}
 use Rattle.ps_machine.proofs.Places.{length-replaced, index_after, be4_within}
 use Rattle.ps_stackvm.specs.declared.instruction.Instruction.{Instruction}
 use Rattle.ps_stackvm.specs.declared.instruction.Instruction.TheVariants.{Load, Store, Const, And, Or}
@@ -58,10 +59,6 @@ time_same cells new same =
     let h8 = same 8 (lit≤ tt) (lit< tt) in
     let h9 = same 9 (lit≤ tt) (lit< tt) in
     rw (h6, h7, h8, h9) refl
-
-pub bit_is_bit : (b : Bool) → is_no_bit (bit b) ≡ false
-bit_is_bit true = refl
-bit_is_bit false = refl
 
 -- the elements of a list with one more at its end
 last_or_before : (stack : List Bool) (b : Bool) (k : ℕ) → k < length (stack ++ b ∷ []) → ((k < length stack) × (slice_index_or (stack ++ b ∷ []) k false ≡ slice_index_or stack k false)) ⊎ ((k ≡ length stack) × (slice_index_or (stack ++ b ∷ []) k false ≡ b))
@@ -126,18 +123,6 @@ store_holds n now blocks cells pc next c stack v v' b h small low within new sam
             | inr other ↦ grind (arith, common_steps, h.signals s l, same s other)
           ];
     }
-
-bit_and-bit : (a b : Bool) → bit_and (bit a) (bit b) ≡ bit (a && b)
-bit_and-bit true true = refl
-bit_and-bit true false = refl
-bit_and-bit false true = refl
-bit_and-bit false false = refl
-
-bit_or-bit : (a b : Bool) → bit_or (bit a) (bit b) ≡ bit (a || b)
-bit_or-bit true true = refl
-bit_or-bit true false = refl
-bit_or-bit false true = refl
-bit_or-bit false false = refl
 
 -- the two topmost bytes give way to one
 join_holds : (n now : ℕ) (blocks cells : List ℕ) (pc next : ℕ) (stack : List Bool) (v : ℕ → Bool) (a b r : Bool) → Holds n now blocks cells pc ((stack ++ a ∷ []) ++ b ∷ []) v → next < 2 ^ 32 → length stack < 63 → Holds n now blocks (with_pc next (with_height (height_of cells - 1) (slice_set cells (10 + (height_of cells - 2)) (bit r)))) next (stack ++ r ∷ []) v

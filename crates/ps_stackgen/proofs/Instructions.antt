@@ -1,11 +1,10 @@
 -- Instructions stand at places of the code, as the machine reads them.
-use Rattle.std.proofs.Common.{◌≡◌, ℕ, suc, ◌+◌, ◌^◌, ◌<◌, false, List, [], ◌∷◌, ◌++◌, length, refl, sym, ap, ◌∙◌, subst, arith, append_assoc, length-append, zero-add, add_assoc, Ok, lit<}
-use Rattle.std.specs.Prelude.{slice_index, nat_le, nat_lt}
+use Rattle.std.proofs.Common.{◌≡◌, ℕ, ◌+◌, ◌^◌, ◌<◌, List, [], ◌∷◌, ◌++◌, length, refl, sym, ap, ◌∙◌, subst, arith, append_assoc, length-append, zero-add, add_assoc, Ok, lit<}
+use Rattle.std.specs.Prelude.{slice_index}
 use Rattle.std.specs.Int.{w16, w32, to_be_bytes, from_be_bytes}
-use Rattle.std.proofs.lemmas.Grind.{common_steps}
-use Rattle.std.proofs.lemmas.Bool.{lt-leb}
 use Rattle.std.proofs.lemmas.Nat.{from_be_bytes-to_be_bytes_2, from_be_bytes-to_be_bytes_4}
 use Rattle.ps_machine.specs.Bytes.{be2, be4}
+use Rattle.ps_machine.proofs.Opcodes.{index_there, has_opcode}
 use Rattle.ps_stackvm.specs.declared.instruction.Instruction.{Instruction}
 use Rattle.ps_stackvm.specs.declared.instruction.Instruction.TheVariants.{Load, Store, Const, And, Or, Call, End}
 use Rattle.ps_stackvm.specs.Instructions.{size_of, fetched}
@@ -67,27 +66,6 @@ length-encoded Or = refl
 length-encoded (Call i k o limit) = refl
 length-encoded End = refl
 
-index_there : (pre bs post : List ℕ) (j : ℕ) → j < length bs → slice_index (pre ++ (bs ++ post)) (length pre + j) ≡ slice_index bs j
-index_there pre bs post j h = grind (arith, common_steps)
-
--- the code's byte at pc, where there is room for n of them
-record Stands (code : List ℕ) (pc op n : ℕ) : Type 0 where
-  is_op : slice_index code pc ≡ op
-  in_code : nat_le (length code) pc ≡ false
-  room : nat_lt (length code) (pc + n) ≡ false
-
-stands : (pre bs post : List ℕ) (b : ℕ) (n : ℕ) → length (b ∷ bs) ≡ n → Stands (pre ++ ((b ∷ bs) ++ post)) (length pre) b n
-stands pre bs post b n len =
-    let all = length-append pre ((b ∷ bs) ++ post) in
-    let more = length-append (b ∷ bs) post in
-    let e : length pre + 0 ≡ length pre = omega arith in
-    let i = index_there pre (b ∷ bs) post 0 (omega arith) in
-    record {
-      is_op = ap (λ k. slice_index (pre ++ ((b ∷ bs) ++ post)) k) (sym e) ∙ i;
-      in_code = lt-leb (length (pre ++ ((b ∷ bs) ++ post))) (length pre) (omega arith);
-      room = lt-leb (suc (length (pre ++ ((b ∷ bs) ++ post)))) (length pre + n) (omega arith);
-    }
-
 -- the operand of two bytes after the opcode
 operand : (pre post : List ℕ) (op c : ℕ) → c < 2 ^ 16 → be2 (pre ++ ((op ∷ to_be_bytes w16 c) ++ post)) (length pre + 1) ≡ c
 operand pre post op c h =
@@ -101,25 +79,25 @@ operand pre post op c h =
 
 found_at : (pre post : List ℕ) (i : Instruction) → IsShort i → fetched (pre ++ (encoded i ++ post)) (length pre) ≡ Ok i
 found_at pre post (Load c) h =
-    let s = stands pre (to_be_bytes w16 c) post 1 3 refl in
+    let s = has_opcode pre (to_be_bytes w16 c) post 1 3 refl in
     rw (s.in_code, s.is_op, s.room, operand pre post 1 c h) refl
 found_at pre post (Store c) h =
-    let s = stands pre (to_be_bytes w16 c) post 2 3 refl in
+    let s = has_opcode pre (to_be_bytes w16 c) post 2 3 refl in
     rw (s.in_code, s.is_op, s.room, operand pre post 2 c h) refl
 found_at pre post (Const b) h =
-    let s = stands pre (b ∷ []) post 3 2 refl in
+    let s = has_opcode pre (b ∷ []) post 3 2 refl in
     let o = index_there pre (3 ∷ b ∷ []) post 1 (lit< tt) in
     rw (s.in_code, s.is_op, s.room, o) refl
 found_at pre post And h =
-    let s = stands pre [] post 4 1 refl in
+    let s = has_opcode pre [] post 4 1 refl in
     rw (s.in_code, s.is_op, s.room) refl
 found_at pre post Or h =
-    let s = stands pre [] post 5 1 refl in
+    let s = has_opcode pre [] post 5 1 refl in
     rw (s.in_code, s.is_op, s.room) refl
 found_at pre post (Call i k o limit) h =
     let bs = to_be_bytes w16 i ++ (k ∷ (to_be_bytes w16 o ++ to_be_bytes w32 limit)) in
     let code = pre ++ ((6 ∷ bs) ++ post) in
-    let s = stands pre bs post 6 10 refl in
+    let s = has_opcode pre bs post 6 10 refl in
     let at : (j a : ℕ) → a ≡ length pre + j → j < 10 → slice_index code a ≡ slice_index (6 ∷ bs) j = λ j a e low. ap (slice_index code) e ∙ index_there pre (6 ∷ bs) post j low in
     let p = length pre in
     let e0 : p + 1 + 1 ≡ p + 2 = omega arith in
@@ -141,7 +119,7 @@ found_at pre post (Call i k o limit) h =
     let nl : be4 code (p + 6) ≡ limit = rw (i6, i7, i8, i9) (from_be_bytes-to_be_bytes_4 limit h.3) in
     rw (s.in_code, s.is_op, s.room, ni, i3, no, nl) refl
 found_at pre post End h =
-    let s = stands pre [] post 7 1 refl in
+    let s = has_opcode pre [] post 7 1 refl in
     rw (s.in_code, s.is_op, s.room) refl
 
 -- code that was written is there

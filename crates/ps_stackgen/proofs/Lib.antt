@@ -4,7 +4,6 @@ pub mod Running
 pub mod Written
 pub mod Calling
 pub mod Stepping
-pub mod Fitting
 pub mod Counted
 pub mod Scanning
 pub mod Examples

@@ -1,5 +1,5 @@
 -- The machine follows the code of an expression, and that of the pins of a call.
-use Rattle.std.proofs.Common.{inl, inr, ◌≡◌, ℕ, zero, suc, ◌+◌, ◌-◌, ◌<◌, ◌≤◌, Bool, true, false, List, [], ◌∷◌, ◌++◌, length, map, refl, sym, ap, ◌∙◌, subst, arith, append_assoc, append-nil, length-append}
+use Rattle.std.proofs.Common.{inl, inr, ◌≡◌, ℕ, zero, suc, ◌+◌, ◌-◌, ◌<◌, Bool, true, false, List, [], ◌∷◌, ◌++◌, length, map, refl, sym, ap, ◌∙◌, subst, arith, append_assoc, append-nil, length-append}
 use Rattle.std.specs.Prelude.{slice_index_or, ◌&&◌, ◌||◌}
 use Rattle.std.specs.List.{flat_map, range_with_len}
 use Rattle.std.proofs.lemmas.Bool.{cases_lt}
@@ -7,9 +7,10 @@ use Rattle.ps_model.specs.declared.kind.Kind.{Kind}
 use Rattle.ps_model.specs.Formula.{Formula, Formulas, signal, all_of, any_of, no_operand, operand, value, all_true, any_true}
 use Rattle.ps_model.specs.Action.{Actual, free, literal, time, wired}
 use Rattle.ps_model.specs.Scanning.{pin_at, pin_value, pins_under}
-use Rattle.ps_model.specs.Values.{IsBelow, AreBelow, HasOperands, HaveOperands, operand_count, depth, deepest}
+use Rattle.ps_model.specs.Values.{operand_count}
 use Rattle.ps_machine.specs.Bytes.{bit}
 use Rattle.ps_machine.specs.Machines.{turned}
+use Rattle.ps_machine.proofs.Fine.{IsFine, AreFine, IsFinePin, first_fine, later_fine}
 use Rattle.ps_machine.proofs.Phases.{turned_add}
 use Rattle.ps_stackvm.specs.declared.instruction.Instruction.{Instruction}
 use Rattle.ps_stackvm.specs.declared.instruction.Instruction.TheVariants.{Const, And, Or}
@@ -83,30 +84,6 @@ all_group v (operand e es) h = all_folded (value v e) v es
 any_group : (v : ℕ → Bool) (es : Formulas) → 0 < operand_count es → group_folded (λ x y. x || y) v es ≡ any_true v es
 any_group v no_operand h = absurd (omega arith)
 any_group v (operand e es) h = any_folded (value v e) v es
-
--- what the code of a value asks of it: its signals exist, its groups have operands, and it is nested at most d deep
-pub record IsFine (n d : ℕ) (e : Formula) : Type 0 where
-  pub below : IsBelow n e
-  pub full : HasOperands e
-  pub shallow : depth e ≤ d
-
-record AreFine (n d : ℕ) (es : Formulas) : Type 0 where
-  below : AreBelow n es
-  full : HaveOperands es
-  shallow : deepest es ≤ d
-
-first_fine : (n d : ℕ) (e : Formula) (es : Formulas) → AreFine n d (operand e es) → IsFine n d e
-first_fine n d e es h = let deep = h.shallow in record { below = h.below.0; full = h.full.0; shallow = omega arith }
-
-later_fine : (n d : ℕ) (e : Formula) (es : Formulas) → AreFine n d (operand e es) → AreFine n d es
-later_fine n d e es h = let deep = h.shallow in record { below = h.below.1; full = h.full.1; shallow = omega arith }
-
--- a value at a pin is fine
-abbrev pub IsFinePin : ℕ → Actual → Type 0
-IsFinePin n free = Unit {0}
-IsFinePin n (literal b) = Unit {0}
-IsFinePin n (time t) = Unit {0}
-IsFinePin n (wired e) = IsFine n 34 e
 
 module _ (n m now : ℕ) (blocks code : List ℕ) (v : ℕ → Bool) where
   mutual

@@ -1,36 +1,37 @@
 -- A whole scan: stack code keeps the meaning.
-use Rattle.std.proofs.Common.{◌≡◌, ℕ, zero, suc, ◌+◌, ◌*◌, ◌^◌, ◌<◌, ◌≤◌, Bool, true, false, cond, List, [], ◌∷◌, ◌++◌, length, take, drop, map, refl, sym, ap, ◌∙◌, subst, inl, inr, arith, length-append, length-drop, zero-add, Option, Some, None, lit<, lit≤}
-use Rattle.std.specs.Prelude.{slice_index, slice_index_or, nat_lt, replicate}
+use Rattle.std.proofs.Common.{◌≡◌, ℕ, ◌+◌, ◌-◌, ◌*◌, ◌^◌, ◌<◌, ◌≤◌, Bool, true, false, cond, List, [], ◌∷◌, ◌++◌, length, drop, map, refl, sym, ap, ◌∙◌, subst, inl, inr, arith, length-append, length-drop, zero-add, lit<, lit≤}
+use Rattle.std.specs.Prelude.{slice_index, slice_index_or, replicate}
 use Rattle.std.specs.List.{flat_map, list_any}
 use Rattle.std.specs.Int.{w32, to_be_bytes, from_be_bytes}
-use Rattle.std.proofs.lemmas.Bool.{cases_lt, cases_Bool, cond-true, cond-false, lt-ltb, lt-leb, or_parts, ltb-false}
+use Rattle.std.proofs.lemmas.Bool.{cases_lt}
 use Rattle.std.proofs.lemmas.Nat.{from_be_bytes-to_be_bytes_4}
-use Rattle.std.proofs.lemmas.List.{take_all, get_or-map, length-map, length-replicate, get_or-replicate, get_or_past, get_or-set_same, get_or-set_other, length-set, same_lists, get_or_default, get_or-take, get_or-drop, length-take-le}
-use Rattle.ps_model.specs.declared.kind.Kind.{Kind}
-use Rattle.ps_model.specs.declared.kind.Kind.TheVariants.{Equivalent, Antivalent, EmergencyStop, Espe, ModeSelector, TwoHandTwo, TwoHandThree, GuardMonitoring, GuardLocking, EnableSwitch, SafetyRequest, OutControl, Edm}
+use Rattle.std.proofs.lemmas.List.{get_or-map, length-map, get_or-replicate, get_or-set_same, get_or-set_other, length-set}
 use Rattle.ps_model.specs.declared.sizes.Sizes.{Sizes}
-use Rattle.ps_model.specs.Blocks.{block, idle}
 use Rattle.ps_model.specs.Budgets.{turns_a}
-use Rattle.ps_model.specs.Kept.{Since, fresh}
+use Rattle.ps_model.specs.Kept.{Since}
 use Rattle.ps_model.specs.Meaning.{first_state}
-use Rattle.ps_model.specs.Network.{Network, input_count, signal_count, instance_count, kind_at, drives, is_driven, is_call_of, is_new}
-use Rattle.ps_model.specs.Running.{begun, exec}
-use Rattle.ps_model.specs.Scanning.{State, Solves, signal_in, block_in}
+use Rattle.ps_model.specs.Network.{Network, input_count, signal_count, instance_count, kind_at, is_call_of}
+use Rattle.ps_model.specs.Running.{begun}
+use Rattle.ps_model.specs.Scanning.{State, Solves, block_in}
 use Rattle.ps_model.specs.Sized.{AreSizesOf}
 use Rattle.ps_model.specs.Sound.{IsSound}
-use Rattle.ps_model.specs.Stored.{is_last, is_mode}
 use Rattle.ps_model.specs.Typing.{Accepted}
 use Rattle.ps_model.proofs.Once.{any_of_one}
-use Rattle.ps_model.proofs.OneSolution.{signal_stays, other-signal, other-block}
-use Rattle.ps_machine.specs.Bytes.{bit, replaced, instance_bytes}
+use Rattle.ps_model.proofs.OneSolution.{other-block}
+use Rattle.ps_machine.specs.Bytes.{bit, replaced}
 use Rattle.ps_machine.specs.Keeping.{Passes, KeepsExactly}
 use Rattle.ps_machine.specs.Limits.{LimitsFit}
 use Rattle.ps_machine.specs.Machines.{turned}
 use Rattle.ps_machine.specs.Progressing.{progress_said}
 use Rattle.ps_machine.specs.Standing.{StandsBlock}
+use Rattle.ps_machine.proofs.Blank.{zeros, blank_stands}
+use Rattle.ps_machine.proofs.CalledOnce.{Timely, called_once}
+use Rattle.ps_machine.proofs.Fitting.{step_fits, all_fit}
+use Rattle.ps_machine.proofs.Instances.{bytes_at, block_is}
 use Rattle.ps_machine.proofs.Phases.{turned_add}
 use Rattle.ps_machine.proofs.Places.{length-replaced, index_before, index_within, index_after}
 use Rattle.ps_machine.proofs.Reports.{reported}
+use Rattle.ps_machine.proofs.Scans.{begun_input, begun_other, ends}
 use Rattle.ps_stackvm.specs.declared.instruction.Instruction.TheVariants.{End}
 use Rattle.ps_stackvm.specs.Cells.{pc_of, progress_of, time_of, with_pc, with_progress}
 use Rattle.ps_stackvm.specs.Channel.{blank_a}
@@ -40,18 +41,13 @@ use Rattle.ps_stackvm.specs.Stands.{machine_a, StandsA}
 use Rattle.ps_stackvm.specs.Turn.{turn_a, begin_a, carried_out}
 use Rattle.ps_stackgen.proofs.Instructions.{has_front, has_back, size_all, has_written}
 use Rattle.ps_stackgen.proofs.Holding.{Holds, turn, turn_is, drop_ext, index-with_pc, length-with_pc}
-use Rattle.ps_stackgen.proofs.Calling.{bytes_at, block_is}
-use Rattle.ps_stackgen.proofs.Stepping.{clock, BlocksStand, Timely, steps_led}
-use Rattle.ps_stackgen.proofs.Fitting.{called_once, step_fits, all_fit}
+use Rattle.ps_stackgen.proofs.Stepping.{clock, BlocksStand, steps_led}
 use Rattle.ps_stackgen.proofs.Counted.{turns_are, code_small, network_short}
 
 -- Begin's three writes
 module _ (n now : ℕ) (ins : List Bool) (cells : List ℕ) (few : length ins ≤ n) (room : 74 + n ≤ length cells) where
-  zeros : List ℕ
-  zeros = replicate 6 0
-
   b1 : List ℕ
-  b1 = replaced cells 0 zeros
+  b1 = replaced cells 0 (zeros 6)
 
   b2 : List ℕ
   b2 = replaced b1 6 (to_be_bytes w32 now)
@@ -60,42 +56,42 @@ module _ (n now : ℕ) (ins : List Bool) (cells : List ℕ) (few : length ins �
   len = length-map ins bit
 
   l1 : length b1 ≡ length cells
-  unfolding b1 zeros
-  l1 = length-replaced cells 0 zeros (omega arith)
+  unfolding b1
+  l1 = length-replaced cells 0 (zeros 6) (omega arith)
 
   l2 : length b2 ≡ length cells
   unfolding b2
   l2 = length-replaced b1 6 (to_be_bytes w32 now) (omega (arith, l1)) ∙ l1
 
   l3 : length (begin_a now ins cells) ≡ length cells
-  unfolding b1 b2 zeros
+  unfolding b1 b2
   l3 = length-replaced b2 74 (map bit ins) (omega (arith, l2, len)) ∙ l2
 
   head : (k : ℕ) → k < 6 → slice_index (begin_a now ins cells) k ≡ 0
-  unfolding b1 b2 zeros
+  unfolding b1 b2
   head k h =
       let e : 0 + k ≡ k = zero-add k in
       index_before b2 74 (map bit ins) k (omega arith) (omega (arith, l2))
       ∙ index_before b1 6 (to_be_bytes w32 now) k h (omega (arith, l1))
-      ∙ ap (slice_index b1) (sym e) ∙ index_within cells 0 zeros k h (omega arith)
+      ∙ ap (slice_index b1) (sym e) ∙ index_within cells 0 (zeros 6) k h (omega arith)
       ∙ get_or-replicate 6 k 0 0 h
 
   clock_byte : (j : ℕ) → j < 4 → slice_index (begin_a now ins cells) (6 + j) ≡ slice_index (to_be_bytes w32 now) j
-  unfolding b1 b2 zeros
+  unfolding b1 b2
   clock_byte j h =
       index_before b2 74 (map bit ins) (6 + j) (omega arith) (omega (arith, l2))
       ∙ index_within b1 6 (to_be_bytes w32 now) j h (omega (arith, l1))
 
   input : (s : ℕ) → s < length ins → slice_index (begin_a now ins cells) (74 + s) ≡ bit (slice_index_or ins s false)
-  unfolding b1 b2 zeros
+  unfolding b1 b2
   input s h = index_within b2 74 (map bit ins) s (omega (arith, len)) (omega (arith, l2)) ∙ get_or-map bit ins s false 0 h
 
   beyond : (k : ℕ) → 74 + length ins ≤ k → slice_index (begin_a now ins cells) k ≡ slice_index cells k
-  unfolding b1 b2 zeros
+  unfolding b1 b2
   beyond k h =
       index_after b2 74 (map bit ins) k (omega (arith, len)) (omega (arith, l2))
       ∙ index_after b1 6 (to_be_bytes w32 now) k (omega arith) (omega (arith, l1))
-      ∙ index_after cells 0 zeros k (omega arith) (omega arith)
+      ∙ index_after cells 0 (zeros 6) k (omega arith) (omega arith)
 
   pc_zero : pc_of (begin_a now ins cells) ≡ 0
   pc_zero =
@@ -106,78 +102,6 @@ module _ (n now : ℕ) (ins : List Bool) (cells : List ℕ) (few : length ins �
   time_now small =
       let h0 = clock_byte 0 (lit< tt) in let h1 = clock_byte 1 (lit< tt) in let h2 = clock_byte 2 (lit< tt) in let h3 = clock_byte 3 (lit< tt) in
       (λ x. from_be_bytes w32 (h0 x ∷ h1 x ∷ h2 x ∷ h3 x ∷ [])) ∙ from_be_bytes-to_be_bytes_4 now small
-
--- ---- the cells at the start
-blanks : ℕ → List ℕ
-blanks n = replicate n 0
-
-zeros_of : (n p : ℕ) → p + 16 ≤ n → take 16 (drop p (blanks n)) ≡ replicate 16 0
-unfolding blanks
-zeros_of n p room =
-    let none : List ℕ = replicate n 0 in
-    let sixteen : List ℕ = replicate 16 0 in
-    let all = length-replicate n zero in
-    let ld = length-drop p none in
-    let lt = length-take-le 16 (drop p none) (omega arith) in
-    same_lists (take 16 (drop p none)) sixteen (lt ∙ sym (length-replicate 16 zero)) (λ k d low.
-    let low16 : k < 16 = omega arith in
-    let low' : k < length sixteen = omega (arith, length-replicate 16 zero) in
-    get_or_default (take 16 (drop p none)) k d 0 low
-    ∙ get_or-take 16 (drop p none) k 0 low16
-    ∙ get_or-drop p none k 0
-    ∙ get_or-replicate n (p + k) 0 0 (omega arith)
-    ∙ sym (get_or-replicate 16 k 0 d low16))
-
-off_last : (o : Option ℕ) → is_last o 0 ≡ true
-off_last None = refl
-off_last (Some j) = refl
-
-no_mode : (kind : Kind) → is_mode kind 0 0 ≡ true
-no_mode Equivalent = refl
-no_mode Antivalent = refl
-no_mode EmergencyStop = refl
-no_mode Espe = refl
-no_mode ModeSelector = refl
-no_mode TwoHandTwo = refl
-no_mode TwoHandThree = refl
-no_mode GuardMonitoring = refl
-no_mode GuardLocking = refl
-no_mode EnableSwitch = refl
-no_mode SafetyRequest = refl
-no_mode OutControl = refl
-no_mode Edm = refl
-
-no_state : (kind : Kind) → StandsBlock (Since 0) kind (replicate 16 0) idle
-no_state kind = record {
-  kept = fresh;
-  loads = record {
-    kept = record { state = refl; last_reset = off_last (block kind).reset; last_auxiliary = off_last (block kind).auxiliary; mode = no_mode kind; timer = lit< tt };
-    bytes_are = refl;
-  };
-  stands = record { code = refl; last_reset = refl; last_auxiliary = refl; mode = refl; timer = λ h. absurd (h refl) };
-}
-
-blank_stands : (net : Network) → StandsA net (first_state net) 0 (blanks (74 + signal_count net + 16 * instance_count net))
-unfolding blanks
-blank_stands net =
-    let n = signal_count net in
-    let m = instance_count net in
-    let w = first_state net in
-    let size = 74 + n + 16 * m in
-    let none : (s : ℕ) → signal_in w s ≡ false = λ s. elim (cases_lt s n) [
-      | inl low ↦ get_or-replicate n s false false low
-      | inr high ↦ get_or_past (replicate n false) s false (omega (arith, length-replicate n false))
-    ] in
-    record {
-      sized = length-replicate size zero;
-      undriven = λ s a b. none s;
-      signals = λ s l. get_or-replicate size (74 + s) 0 0 (omega arith) ∙ ap bit (sym (none s));
-      blocks = λ i l.
-          let at : block_in w i ≡ idle = get_or-replicate m i idle idle l in
-          let bytes : instance_bytes (74 + n) i (blanks size) ≡ replicate 16 0 = zeros_of size (74 + n + 16 * i) (omega arith) in
-          subst (StandsBlock (Since 0) (kind_at net i) (instance_bytes (74 + n) i (blanks size))) (sym at)
-          (subst (λ x. StandsBlock (Since 0) (kind_at net i) x idle) (sym bytes) (no_state (kind_at net i)));
-    }
 
 module _ (net : Network) (sound : IsSound net) where
   begins : (old : State) (ins : List Bool) (t now : ℕ) (cells : List ℕ) → length ins ≡ input_count net → now < 2 ^ 32 → StandsA net old t cells →
@@ -197,10 +121,10 @@ module _ (net : Network) (sound : IsSound net) where
         signals = λ s l. elim (cases_lt s (input_count net)) [
           | inl low ↦
               input n now ins cells few room s (omega arith)
-              ∙ ap bit (sym (cond-true (nat_lt s (input_count net)) (slice_index_or ins s false) (signal_in old s) (lt-ltb s (input_count net) low)))
+              ∙ ap bit (sym (begun_input net old ins s low))
           | inr high ↦
               beyond n now ins cells few room (74 + s) (omega arith) ∙ stands.signals s l
-              ∙ ap bit (sym (cond-false (nat_lt s (input_count net)) (slice_index_or ins s false) (signal_in old s) (lt-leb (suc s) (input_count net) (omega arith))))
+              ∙ ap bit (sym (begun_other net old ins s high))
         ];
         rest = drop_ext (74 + n) (begin_a now ins cells) cells (l3 n now ins cells few room) (λ j from. beyond n now ins cells few room j (omega arith));
       }
@@ -214,27 +138,8 @@ module _ (net : Network) (sound : IsSound net) where
         let some : list_any (is_call_of net i) net.steps ≡ true = any_of_one (is_call_of net i) net.steps (sound.called_once i l) in
         let early : clock net t now net.steps i ≡ t = ap (λ b. cond b t now) some in
         subst (λ c. StandsBlock (Since c) (kind_at net i) bytes (block_in old i)) (sym early)
-        (subst (λ b. StandsBlock (Since t) (kind_at net i) b (block_in old i)) (block_is (signal_count net) i cells (drop (74 + signal_count net) cells) refl) (stands.blocks i l));
+        (subst (λ b. StandsBlock (Since t) (kind_at net i) b (block_in old i)) (block_is (74 + signal_count net) i cells (drop (74 + signal_count net) cells) refl) (stands.blocks i l));
   }
-
-  -- at the end the memory is the state that solves
-  ends : (old new : State) (ins : List Bool) (t dt : ℕ) (cells : List ℕ) → StandsA net old t cells → Solves net old ins dt new → (s : ℕ) → s < signal_count net →
-      (exec net dt net.steps (begun net old ins)).signals s ≡ signal_in new s
-  ends old new ins t dt cells stands solves s low =
-      let all = (exec net dt net.steps (begun net old ins)).signals s in
-      let here = is_new net (length net.steps) s in
-      let is = other-signal net sound old ins dt new solves s low in
-      elim (cases_Bool here) [
-        | inl anew ↦ sym (is ∙ cond-true here all false anew)
-        | inr none ↦
-            let parts = or_parts (nat_lt s (input_count net)) (list_any (drives net s) (take (length net.steps) net.steps)) none in
-            let past = ltb-false s (input_count net) parts.0 in
-            let undriven : is_driven net s ≡ false = ap (list_any (drives net s)) (sym (take_all (length net.steps) net.steps (omega arith))) ∙ parts.1 in
-            signal_stays net dt net.steps (begun net old ins) s undriven
-            ∙ cond-false (nat_lt s (input_count net)) (slice_index_or ins s false) (signal_in old s) parts.0
-            ∙ stands.undriven s past undriven
-            ∙ sym (is ∙ cond-false here all false none)
-      ]
 
   module _ (accepted : Accepted net) (limits : LimitsFit net) where
     -- a scan as the machine runs it: so many turns, then done with these cells
@@ -254,7 +159,7 @@ module _ (net : Network) (sound : IsSound net) where
         let q = begin_a now ins cells in
         let m0 = begun net old ins in
         let has = has_written (network_code net) [] (network_short net sound.few_signals sound.few_instances (all_fit net sound accepted limits)) (code_small net sound fit) in
-        let timely : Timely net t now dt later small code net.steps m0 = λ i called on. passes i on in
+        let timely : Timely net dt (now - t) net.steps m0 = λ i called on. passes i on in
         let led = steps_led net t now dt later small code net.steps m0 q 0 (drop (74 + n) cells) (all_fit net sound accepted limits) (called_once net sound) timely
         (has_front code 0 sc (End ∷ []) has) (begins old ins t now cells count small stands) (begins_blocks old t now cells stands) in
         let x = led.comes in
@@ -287,25 +192,24 @@ module _ (net : Network) (sound : IsSound net) where
           stands = subst (StandsA net new now) (sym last) (record {
             sized = omega arith;
             undriven = solves.undriven;
-            signals = λ s l. past (74 + s) (omega arith) ∙ x.there.signals s l ∙ ap bit (ends old new ins t dt cells stands solves s l);
+            signals = λ s l. past (74 + s) (omega arith) ∙ x.there.signals s l ∙ ap bit (ends net sound old new ins dt stands.undriven solves s l);
             blocks = λ i l.
                 let here : StandsBlock (Since now) (kind_at net i) (bytes_at i led.blocks) (block_in new i) =
                 subst (StandsBlock (Since now) (kind_at net i) (bytes_at i led.blocks)) (sym (other-block net sound old ins dt new solves i l)) (led.stand.each i l) in
-                subst (λ b. StandsBlock (Since now) (kind_at net i) b (block_in new i)) (sym (block_is n i final led.blocks rest)) here;
+                subst (λ b. StandsBlock (Since now) (kind_at net i) b (block_in new i)) (sym (block_is (74 + n) i final led.blocks rest)) here;
           });
         }
 
     pub keeps_exactly : (z : Sizes) → AreSizesOf net z → KeepsExactly net (machine_a z (code_a net) (turns_a net)) (StandsA net)
-    unfolding blanks
     keeps_exactly z sizes =
         let n = signal_count net in
         let k = instance_count net in
         let code = code_a net in
         let turns : length (network_code net) ≡ turns_a net = turns_are net sound (step_fits net sound accepted limits) in
         let same : turn n k code ≡ turn_a z code = λ x cells. carried_out ((sym sizes.signals) x) ((sym sizes.instances) x) (fetched code (pc_of cells)) cells in
-        let blank_is : blanks (74 + n + 16 * k) ≡ blank_a z = λ x. replicate (74 + (sym sizes.signals) x + 16 * (sym sizes.instances) x) 0 in
+        let blank_is : zeros (74 + n + 16 * k) ≡ blank_a z = λ x. replicate (74 + (sym sizes.signals) x + 16 * (sym sizes.instances) x) 0 in
         record {
-          blank = subst (StandsA net (first_state net) 0) blank_is (blank_stands net);
+          blank = subst (StandsA net (first_state net) 0) blank_is (blank_stands net (λ i. Since 0) 74);
           scan = λ old new ins t now dt cells later small count passes stands solves.
               let s = scanned old new ins t now dt cells later small count passes stands solves in
               let q = begin_a now ins cells in

@@ -1,14 +1,13 @@
 -- The machine follows the code of the steps.
-use Rattle.std.proofs.Common.{◌≡◌, ◌≢◌, ℕ, ◌+◌, ◌-◌, ◌*◌, ◌^◌, ◌<◌, ◌≤◌, Bool, true, false, cond, List, [], ◌∷◌, ◌++◌, length, drop, map, min, refl, sym, ap, ◌∙◌, subst, inl, inr, arith, length-append, length-drop, lit<}
-use Rattle.std.specs.Prelude.{slice_index, slice_index_or, nat_le, nat_lt, ◌&&◌, ◌||◌, ◌==◌, count_by}
+use Rattle.std.proofs.Common.{◌≡◌, ◌≢◌, ℕ, ◌+◌, ◌-◌, ◌*◌, ◌^◌, ◌<◌, ◌≤◌, Bool, true, false, cond, List, [], ◌∷◌, ◌++◌, length, map, refl, sym, ap, ◌∙◌, subst, inl, inr, arith, length-append, lit<}
+use Rattle.std.specs.Prelude.{slice_index_or, nat_le, ◌||◌, ◌==◌}
 use Rattle.std.specs.List.{list_any, range_with_len, flat_map}
-use Rattle.std.proofs.lemmas.Bool.{false≢true, cases_lt, cases_eq, cond-true, cond-false, eq-eqb, ne_eqb, or_right}
-use Rattle.std.proofs.lemmas.List.{same_lists, get_or_default, get_or-drop, get_or-take, get_or_past, length-take, length-take-le}
-use Rattle.std.proofs.lemmas.List.Sums.{sum_by-cons}
+use Rattle.std.proofs.lemmas.Bool.{cases_lt, cases_eq, cond-true, cond-false, eq-eqb, ne_eqb}
+use Rattle.std.proofs.lemmas.List.{get_or_past}
 use Rattle.std.proofs.lemmas.List.FromFn.{length-map-range_with_len, get_or-map-range_with_len}
 use Rattle.ps_model.specs.declared.kind.Kind.{Kind}
 use Rattle.ps_model.specs.Formula.{Formula, value}
-use Rattle.ps_model.specs.Action.{Action, Actual, free, assigns, calls}
+use Rattle.ps_model.specs.Action.{Action, Actual, assigns, calls}
 use Rattle.ps_model.specs.Blocks.{Block_state, block, moved, outs, output_count, safe_output, ready_in, error_in}
 use Rattle.ps_model.specs.Budgets.{boolean_count}
 use Rattle.ps_model.specs.Kept.{Kept, StandsBy, Since, stepped_at}
@@ -22,53 +21,19 @@ use Rattle.ps_model.proofs.Sixteen.{loads_loaded, step_kept}
 use Rattle.ps_machine.specs.Bytes.{replaced}
 use Rattle.ps_machine.specs.Machines.{turned}
 use Rattle.ps_machine.specs.Standing.{StandsBlock}
-use Rattle.ps_machine.proofs.Places.{length-replaced, index_before, index_within, index_after}
+use Rattle.ps_machine.proofs.CalledOnce.{Once, Timely, once_after, timely_after}
+use Rattle.ps_machine.proofs.CalledSignals.{called_signals}
+use Rattle.ps_machine.proofs.Fine.{IsFine}
+use Rattle.ps_machine.proofs.Fitting.{CallFits, StepFits, AllFit}
+use Rattle.ps_machine.proofs.Instances.{bytes_at, bytes_at_same, bytes_at_other}
+use Rattle.ps_machine.proofs.Places.{length-replaced}
 use Rattle.ps_stackvm.specs.declared.instruction.Instruction.{Instruction}
 use Rattle.ps_stackvm.specs.declared.instruction.Instruction.TheVariants.{Store, Call}
 use Rattle.ps_stackvm.specs.Code.{expression_code, pins_code, step_code}
 use Rattle.ps_stackgen.proofs.Instructions.{HasAt, has_front, has_back, size_all, size_all-append}
 use Rattle.ps_stackgen.proofs.Holding.{Holds, turn, store_turn}
-use Rattle.ps_stackgen.proofs.Running.{Comes, stays, one_turn, comes_on, comes_as, IsFine, IsFinePin, expression_runs, pins_run}
-use Rattle.ps_stackgen.proofs.Calling.{bytes_at, called_signals, call_turn}
-
--- sixteen bytes that were replaced, and those of the other instances
-bytes_at_same : (blocks st : List ℕ) (i : ℕ) → 16 * i + 16 ≤ length blocks → length st ≡ 16 → bytes_at i (replaced blocks (16 * i) st) ≡ st
-bytes_at_same blocks st i room size =
-    let lr = length-replaced blocks (16 * i) st (omega arith) in
-    let ld = length-drop (16 * i) (replaced blocks (16 * i) st) in
-    let lt = length-take-le 16 (drop (16 * i) (replaced blocks (16 * i) st)) (omega arith) in
-    same_lists (bytes_at i (replaced blocks (16 * i) st)) st (lt ∙ sym size) (λ k d low.
-    let low' : k < length st = omega arith in
-    let low16 : k < 16 = omega arith in
-    get_or_default (bytes_at i (replaced blocks (16 * i) st)) k d 0 low
-    ∙ get_or-take 16 (drop (16 * i) (replaced blocks (16 * i) st)) k 0 low16
-    ∙ get_or-drop (16 * i) (replaced blocks (16 * i) st) k 0
-    ∙ index_within blocks (16 * i) st k low' (omega arith)
-    ∙ get_or_default st k 0 d low')
-
-bytes_at_other : (blocks st : List ℕ) (i j : ℕ) → 16 * i + 16 ≤ length blocks → length st ≡ 16 → j ≢ i → bytes_at j (replaced blocks (16 * i) st) ≡ bytes_at j blocks
-bytes_at_other blocks st i j room size other =
-    let new = replaced blocks (16 * i) st in
-    let lr = length-replaced blocks (16 * i) st (omega arith) in
-    let lx = length-drop (16 * j) new in
-    let ly = length-drop (16 * j) blocks in
-    let same : length (drop (16 * j) new) ≡ length (drop (16 * j) blocks) = omega arith in
-    let len : length (bytes_at j new) ≡ length (bytes_at j blocks) = length-take 16 (drop (16 * j) new) ∙ ap (min 16) same ∙ sym (length-take 16 (drop (16 * j) blocks)) in
-    same_lists (bytes_at j new) (bytes_at j blocks) len (λ k d low.
-    let low' : k < length (bytes_at j blocks) = omega arith in
-    let low16 : k < 16 = omega (arith, length-take 16 (drop (16 * j) new)) in
-    let mid : slice_index new (16 * j + k) ≡ slice_index blocks (16 * j + k) =
-    elim (cases_lt j i) [
-      | inl before ↦ index_before blocks (16 * i) st (16 * j + k) (omega arith) (omega arith)
-      | inr after ↦ index_after blocks (16 * i) st (16 * j + k) (omega arith) (omega arith)
-    ] in
-    get_or_default (bytes_at j new) k d 0 low
-    ∙ get_or-take 16 (drop (16 * j) new) k 0 low16
-    ∙ get_or-drop (16 * j) new k 0
-    ∙ mid
-    ∙ sym (get_or-drop (16 * j) blocks k 0)
-    ∙ sym (get_or-take 16 (drop (16 * j) blocks) k 0 low16)
-    ∙ get_or_default (bytes_at j blocks) k 0 d low')
+use Rattle.ps_stackgen.proofs.Running.{Comes, stays, one_turn, comes_on, comes_as, expression_runs, pins_run}
+use Rattle.ps_stackgen.proofs.Calling.{call_turn}
 
 -- how many outputs there are
 length-outs : (kind : Kind) (q mode : ℕ) → length (outs kind q mode) ≡ output_count kind
@@ -79,28 +44,6 @@ length-outs kind q mode =
       length-append (map (safe_output kind q mode) (range_with_len 0 (length (block kind).outputs))) (ready_in q ∷ error_in q ∷ []),
       length-map-range_with_len (safe_output kind q mode) 0 (length (block kind).outputs),
     )
-
--- what a call asks of its application
-pub record CallFits (net : Network) (i : ℕ) (args : List Actual) : Type 0 where
-  pub within : i < instance_count net
-  pub room : first_pin net i + output_count (kind_at net i) ≤ signal_count net
-  pub pins : (j : ℕ) → IsFinePin (signal_count net) (slice_index_or args j free)
-  pub past : (v : ℕ → Bool) (j : ℕ) → boolean_count (kind_at net i) ≤ j → pins_under v (kind_at net i) args j ≡ false
-  pub few : boolean_count (kind_at net i) ≤ 13
-  pub limit : limit_of (kind_at net i) args < 2 ^ 32
-
--- what a step asks
-abbrev pub StepFits : Network → Action → Type 0
-StepFits net (assigns t e) = (t < signal_count net) × IsFine (signal_count net) 34 e
-StepFits net (calls i args) = CallFits net i args
-
-abbrev pub AllFit : Network → List Action → Type 0
-AllFit net [] = Unit {0}
-AllFit net (a ∷ rest) = StepFits net a × AllFit net rest
-
--- each instance is called once at most
-abbrev pub Once : Network → List Action → Type 0
-Once net rest = (i : ℕ) → count_by (is_call_of net i) rest ≤ 1
 
 -- the time up to which the bytes of an instance speak: that of the last scan until it is called in this one
 abbrev pub clock : Network → (t now : ℕ) → List Action → ℕ → ℕ
@@ -190,13 +133,12 @@ module _ (net : Network) (t now dt : ℕ) (later : t ≤ now) (small : now < 2 ^
       let k1 : Kept = stepped_at kind limit (λ j. slice_index_or list j false) now kept in
       let turn1 = call_turn n k now blocks code cells1 pc1 i o limit kind list m.signals kept back.0 x.there many (omega (arith, many)) within
       (length-outs kind k1.code k1.mode) fits.room space (loads_loaded kind (bytes_at i blocks) kept sb.loads) in
-      let turn2 : Holds n now blocks' (turn n k code cells1) (pc1 + 10) [] (called_signals o (outs kind k'.code k'.mode) m.signals) =
+      let turn2 : Holds n now blocks' (turn n k code cells1) (pc1 + 10) [] (called_signals o (output_count kind) (outs kind k'.code k'.mode) m.signals) =
       subst (λ (p : ℕ → Bool). Holds n now (replaced blocks (16 * i) (stored (stepped_at kind limit p now kept))) (turn n k code cells1) (pc1 + 10) []
-      (called_signals o (outs kind (stepped_at kind limit p now kept).code (stepped_at kind limit p now kept).mode) m.signals)) same_pins turn1 in
+      (called_signals o (output_count kind) (outs kind (stepped_at kind limit p now kept).code (stepped_at kind limit p now kept).mode) m.signals)) same_pins turn1 in
       let os_are : outs kind k'.code k'.mode ≡ outs kind b'.code b'.mode = λ z. outs kind (goes.code z) (goes.mode z) in
-      let v_is : called_signals o (outs kind k'.code k'.mode) m.signals ≡ m'.signals =
-      ap (λ os. called_signals o os m.signals) os_are
-      ∙ ap (λ c. λ s. cond (nat_le o s && nat_lt s (o + c)) (slice_index_or (outs kind b'.code b'.mode) (s - o) false) (m.signals s)) (length-outs kind b'.code b'.mode) in
+      let v_is : called_signals o (output_count kind) (outs kind k'.code k'.mode) m.signals ≡ m'.signals =
+      ap (λ os. called_signals o (output_count kind) os m.signals) os_are in
       let turn3 : Holds n now blocks' (turn n k code cells1) (pc1 + 10) [] m'.signals = subst (Holds n now blocks' (turn n k code cells1) (pc1 + 10) []) v_is turn2 in
       let y = one_turn n k now code blocks blocks' cells1 pc1 (pc1 + 10) list [] m.signals m'.signals x.there turn3 in
       let el : length cp + 1 ≡ length (cp ++ call ∷ []) = sym (length-append cp (call ∷ [])) in
@@ -230,31 +172,7 @@ module _ (net : Network) (t now dt : ℕ) (later : t ≤ now) (small : now < 2 ^
         };
       }
 
-  -- an instance that is still to be called moves by dt, where that matters
-  abbrev pub Timely : List Action → Memory → Type 0
-  Timely rest m = (i : ℕ) → list_any (is_call_of net i) rest ≡ true → (m.blocks i).code ≢ 0 → dt ≡ now - t
-
-  -- after a step the later calls are still to come
-  timely_after : (a : Action) (rest : List Action) (m : Memory) → Once net (a ∷ rest) → Timely (a ∷ rest) m → Timely rest (done net dt a m)
-  timely_after (assigns s e) rest m once timely i later on = timely i later on
-  timely_after (calls j args) rest m once timely i later on =
-      elim (cases_eq j i) [
-        | inl same ↦
-            let here : is_call_of net i (calls j args) ≡ true = eq-eqb j i same in
-            absurd (false≢true (sym (none_after (is_call_of net i) (calls j args ∷ []) rest (once i) (ap (λ b. b || false) here)) ∙ later))
-        | inr other ↦
-            let off : (j == i) ≡ false = ne_eqb j i other in
-            let stays : (done net dt (calls j args) m).blocks i ≡ m.blocks i = cond-false (j == i) _ (m.blocks i) off in
-            timely i (or_right (j == i) (list_any (is_call_of net i) rest) later) (λ e. on (ap (λ (b : Block_state). b.code) stays ∙ e))
-      ]
-
-  once_after : (a : Action) (rest : List Action) → Once net (a ∷ rest) → Once net rest
-  once_after a rest once i =
-      let few' = once i in
-      let e : count_by (is_call_of net i) (a ∷ rest) ≡ cond (is_call_of net i a) 1 0 + count_by (is_call_of net i) rest = sum_by-cons (λ x. cond (is_call_of net i x) 1 0) a rest in
-      omega arith
-
-  step_led : (a : Action) (rest : List Action) (m : Memory) (cells : List ℕ) (pc : ℕ) (blocks : List ℕ) → StepFits net a → Once net (a ∷ rest) → Timely (a ∷ rest) m →
+  step_led : (a : Action) (rest : List Action) (m : Memory) (cells : List ℕ) (pc : ℕ) (blocks : List ℕ) → StepFits net a → Once net (a ∷ rest) → Timely net dt (now - t) (a ∷ rest) m →
       HasAt code pc (step_code net a) → Holds (signal_count net) now blocks cells pc [] m.signals → BlocksStand net t now (a ∷ rest) blocks m.blocks →
       Led cells (step_code net a) pc rest (done net dt a m)
   step_led (assigns s e) rest m cells pc blocks fits once timely has h stand = assign_led s e rest m cells pc blocks fits.0 fits.1 has h stand
@@ -262,7 +180,7 @@ module _ (net : Network) (t now dt : ℕ) (later : t ≤ now) (small : now < 2 ^
       call_led i args rest m cells pc blocks fits once (λ on. timely i (ap (λ b. b || list_any (is_call_of net i) rest) (eq-eqb i i refl)) on) has h stand
 
   -- the steps in order leave the memory of `exec`
-  pub steps_led : (rest : List Action) (m : Memory) (cells : List ℕ) (pc : ℕ) (blocks : List ℕ) → AllFit net rest → Once net rest → Timely rest m →
+  pub steps_led : (rest : List Action) (m : Memory) (cells : List ℕ) (pc : ℕ) (blocks : List ℕ) → AllFit net rest → Once net rest → Timely net dt (now - t) rest m →
       HasAt code pc (flat_map (step_code net) rest) → Holds (signal_count net) now blocks cells pc [] m.signals → BlocksStand net t now rest blocks m.blocks →
       Led cells (flat_map (step_code net) rest) pc [] (exec net dt rest m)
   unfolding exec
@@ -283,7 +201,7 @@ module _ (net : Network) (t now dt : ℕ) (later : t ≤ now) (small : now < 2 ^
       let x = step_led a rest m cells pc blocks fits.0 once timely (has_front code pc ca cr has) h stand in
       let cells1 = turned (turn n k code) (length ca) cells in
       let pc1 = pc + size_all ca in
-      let y = steps_led rest (done net dt a m) cells1 pc1 x.blocks fits.1 (once_after a rest once) (timely_after a rest m once timely) (has_back code pc ca cr has) x.comes.there x.stand in
+      let y = steps_led rest (done net dt a m) cells1 pc1 x.blocks fits.1 (once_after net a rest once) (timely_after net dt (now - t) a rest m once timely) (has_back code pc ca cr has) x.comes.there x.stand in
       let el : length ca + length cr ≡ length (ca ++ cr) = sym (length-append ca cr) in
       let ep : pc1 + size_all cr ≡ pc + size_all (ca ++ cr) = omega (arith, size_all-append ca cr) in
       record {

@@ -1,7 +1,7 @@
 use Rattle.std.proofs.Common.{◌++◌, ap, sym, ◌∙◌}
 use Rattle.ps_model.specs.Steps.{action}
-use Rattle.ps_stackvm.specs.Code.{bytes_of, step_code}
-use Rattle.ps_stackgen.proofs.Written.{code_next}
+use Rattle.ps_machine.proofs.Encoding.{step_next}
+use Rattle.ps_stackvm.specs.Code.{encoded, bytes_of, step_code}
 use Rattle.ps_stackgen.proofs.image.emit_application.Goals as goal
 
 pub loop-k-preserved : goal.loop-k-preserved
@@ -10,4 +10,4 @@ loop-k-preserved c =
     let here = action c.step.result.now in
     c.in_ok-emit_step.ensures
     ∙ ap (λ l. l ++ bytes_of (step_code net here)) c.loop-k.invariant
-    ∙ sym (code_next (step_code net) net.steps c.loop-k.k here c.step.ensures)
+    ∙ sym (step_next encoded (step_code net) net.steps c.loop-k.k here c.step.ensures)

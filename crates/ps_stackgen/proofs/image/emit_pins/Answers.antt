@@ -5,8 +5,8 @@ use Rattle.ps_model.specs.Action.{free}
 use Rattle.ps_model.specs.Args.{actual}
 use Rattle.ps_model.specs.Scanning.{pin_at}
 use Rattle.ps_model.proofs.Budgeting.{boolean_within}
-use Rattle.ps_stackvm.specs.Code.{bytes_of, pin_code, code_at_pin}
-use Rattle.ps_stackgen.proofs.Written.{pin_next}
+use Rattle.ps_machine.proofs.Encoding.{pin_next}
+use Rattle.ps_stackvm.specs.Code.{encoded, bytes_of, pin_code, code_at_pin}
 use Rattle.ps_stackgen.proofs.image.emit_pins.Goals as goal
 
 pub free_value-requires : goal.free_value-requires
@@ -27,4 +27,4 @@ loop-j-preserved c =
     ∙ append_assoc c.args.code.now.items (bytes_of before) (bytes_of (pin_code c.free_value.result given))
     ∙ ap (λ l. c.args.code.now.items ++ (bytes_of before ++ bytes_of l))
     (ap (λ b. pin_code b given) c.free_value.ensures ∙ ap (pin_code (pin_at c.args.kind j).free) (sym found))
-    ∙ ap (λ l. c.args.code.now.items ++ l) (sym (pin_next f j))
+    ∙ ap (λ l. c.args.code.now.items ++ l) (sym (pin_next encoded f j))

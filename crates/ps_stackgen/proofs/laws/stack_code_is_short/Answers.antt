@@ -1,5 +1,5 @@
+use Rattle.ps_machine.proofs.Fitting.{step_fits}
 use Rattle.ps_stackgen.proofs.Counted.{turns_are, code_small}
-use Rattle.ps_stackgen.proofs.Fitting.{step_fits}
 use Rattle.ps_stackgen.proofs.laws.stack_code_is_short.Goals as goal
 
 pub returns : goal.returns

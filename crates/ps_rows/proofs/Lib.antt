@@ -2,6 +2,8 @@ pub mod Choices
 pub mod Seeing
 pub mod Placing
 pub mod Viewing
+pub mod LastPins
+pub mod Counting
 pub mod Equivalence
 pub mod Antivalence
 pub mod Stopping

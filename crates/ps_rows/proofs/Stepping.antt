@@ -1,16 +1,17 @@
 -- What the rows decide makes the step of a block whose timer counts down.
-use Rattle.std.proofs.Common.{rules, ◌≡◌, ℕ, ◌+◌, ◌-◌, ◌*◌, ◌<◌, ◌^◌, Bool, true, false, cond, refl, ap, ◌∙◌, ◌&&◌, Some, None, arith}
-use Rattle.std.specs.Prelude.{IfSome, ◌==◌, not, bit_and, nat_lt}
+use Rattle.std.proofs.Common.{◌≡◌, ℕ, ◌+◌, ◌*◌, ◌<◌, ◌^◌, Bool, true, false, cond, refl, sym, ap, ◌∙◌, ⊎_elim, ◌&&◌, Some, None, arith}
+use Rattle.std.specs.Prelude.{◌==◌, not, bit_and, nat_lt}
 use Rattle.std.specs.List.{list_any, range_with_len}
-use Rattle.std.proofs.lemmas.Bool.{cond-true, eqb-true, ltb-true}
+use Rattle.std.proofs.lemmas.Bool.{and_parts, cases_Bool, cond-true, cond-false, eqb-true, ltb-true}
 use Rattle.std.proofs.lemmas.Option.{same_Some}
 use Rattle.ps_model.specs.declared.kind.Kind.{Kind}
 use Rattle.ps_model.specs.declared.kind.Kind.TheVariants.{Equivalent, Antivalent, EmergencyStop, Espe, ModeSelector, TwoHandTwo, TwoHandThree, GuardMonitoring, GuardLocking, EnableSwitch, SafetyRequest, OutControl, Edm}
 use Rattle.ps_model.specs.Blocks.{block, next, latched, at_pin, lowest_on, mode_states}
-use Rattle.ps_model.specs.Kept.{Kept, fresh, seen, runs_on, counted_down}
-use Rattle.ps_model.specs.Stored.{bit, is_state, is_mode, IsKept}
+use Rattle.ps_model.specs.Kept.{Kept, fresh, seen, runs_on, stepped}
+use Rattle.ps_model.specs.Stored.{bit, is_state, is_last, is_mode, IsKept}
 use Rattle.ps_rows.specs.Names.{names}
 use Rattle.ps_rows.specs.Decision.{decision, action, latches}
+use Rattle.ps_rows.specs.Counted.{mode_after}
 
 timer_bit : (runs latch : Bool) → (bit_and (bit (not runs) + 2 * bit latch) 1 == 1) ≡ not runs
 timer_bit true true = refl
@@ -35,38 +36,31 @@ none_some : (x : ℕ × ℕ) → None ≡ Some x → ⊥
 none_some x h = cc
 
 -- ---- The mode.
-no_mode : (b : Bool) (mode lowest : ℕ) → mode ≡ 0 → cond false lowest (cond b mode 0) ≡ 0
-no_mode true mode lowest e = e
-no_mode false mode lowest e = refl
-
 selected : (from to : Bool) (lowest mode : ℕ) → cond (from && to) lowest (cond to mode 0) ≡ cond to (cond from lowest mode) 0
 selected true true lowest mode = refl
 selected true false lowest mode = refl
 selected false true lowest mode = refl
 selected false false lowest mode = refl
 
-module _ (pins : ℕ → Bool) (q q' : ℕ) (mode : ℕ) where
-  abbrev lowest : ℕ
-  lowest = lowest_on (range_with_len 0 8) pins
-
-  abbrev to : Bool
-  to = list_any (λ x. x == q') mode_states
-
-  mode_is : (kind : Kind) → is_mode kind q mode ≡ true → cond (latches kind q q') lowest (cond to mode 0) ≡ latched kind pins q q' mode
+module _ (pins : ℕ → Bool) (q q' : ℕ) (mode : ℕ) (runs : Bool) where
+  mode_is : (kind : Kind) → mode_after kind (bit (not runs) + 2 * bit (latches kind q q')) q' pins mode ≡ latched kind pins q q' mode
   unfolding latched
-  mode_is Equivalent h = no_mode to mode lowest (eqb-true mode 0 h)
-  mode_is Antivalent h = no_mode to mode lowest (eqb-true mode 0 h)
-  mode_is EmergencyStop h = no_mode to mode lowest (eqb-true mode 0 h)
-  mode_is Espe h = no_mode to mode lowest (eqb-true mode 0 h)
-  mode_is ModeSelector h = selected (q == 0x8005) to lowest mode
-  mode_is TwoHandTwo h = no_mode to mode lowest (eqb-true mode 0 h)
-  mode_is TwoHandThree h = no_mode to mode lowest (eqb-true mode 0 h)
-  mode_is GuardMonitoring h = no_mode to mode lowest (eqb-true mode 0 h)
-  mode_is GuardLocking h = no_mode to mode lowest (eqb-true mode 0 h)
-  mode_is EnableSwitch h = no_mode to mode lowest (eqb-true mode 0 h)
-  mode_is SafetyRequest h = no_mode to mode lowest (eqb-true mode 0 h)
-  mode_is OutControl h = no_mode to mode lowest (eqb-true mode 0 h)
-  mode_is Edm h = no_mode to mode lowest (eqb-true mode 0 h)
+  mode_is Equivalent = refl
+  mode_is Antivalent = refl
+  mode_is EmergencyStop = refl
+  mode_is Espe = refl
+  mode_is ModeSelector =
+      let to = list_any (λ x. x == q') mode_states in
+      let lowest = lowest_on (range_with_len 0 8) pins in
+      ap (λ b. cond b lowest (cond to mode 0)) (latch_bit runs (q == 0x8005 && to)) ∙ selected (q == 0x8005) to lowest mode
+  mode_is TwoHandTwo = refl
+  mode_is TwoHandThree = refl
+  mode_is GuardMonitoring = refl
+  mode_is GuardLocking = refl
+  mode_is EnableSwitch = refl
+  mode_is SafetyRequest = refl
+  mode_is OutControl = refl
+  mode_is Edm = refl
 
 zero_few : (mode : ℕ) → (mode == 0) ≡ true → mode < 8
 zero_few mode h = let e = eqb-true mode 0 h in omega arith
@@ -128,71 +122,49 @@ names_of_kept SafetyRequest pins elapsed k = refl
 names_of_kept OutControl pins elapsed k = refl
 names_of_kept Edm pins elapsed k = refl
 
--- Reset and the auxiliary input are among the first 32 pins.
-pub reset_within : (kind : Kind) → IfSome (block kind).reset (λ j. j < 32)
-unfolding block
-reset_within Equivalent = search rules
-reset_within Antivalent = search rules
-reset_within EmergencyStop = search rules
-reset_within Espe = search rules
-reset_within ModeSelector = search rules
-reset_within TwoHandTwo = search rules
-reset_within TwoHandThree = search rules
-reset_within GuardMonitoring = search rules
-reset_within GuardLocking = search rules
-reset_within EnableSwitch = search rules
-reset_within SafetyRequest = search rules
-reset_within OutControl = search rules
-reset_within Edm = search rules
-
-pub auxiliary_within : (kind : Kind) → IfSome (block kind).auxiliary (λ j. j < 32)
-unfolding block
-auxiliary_within Equivalent = search rules
-auxiliary_within Antivalent = search rules
-auxiliary_within EmergencyStop = search rules
-auxiliary_within Espe = search rules
-auxiliary_within ModeSelector = search rules
-auxiliary_within TwoHandTwo = search rules
-auxiliary_within TwoHandThree = search rules
-auxiliary_within GuardMonitoring = search rules
-auxiliary_within GuardLocking = search rules
-auxiliary_within EnableSwitch = search rules
-auxiliary_within SafetyRequest = search rules
-auxiliary_within OutControl = search rules
-auxiliary_within Edm = search rules
-
 -- ---- The step.
-module _ (kind : Kind) (pins : ℕ → Bool) (limit passed : ℕ) (k : Kept) (is : IsKept kind k) where
-  abbrev left : ℕ
-  left = k.timer - passed
-
-  decided : decision kind k.code (seen kind pins (left == 0) k)
+module _ (kind : Kind) (pins : ℕ → Bool) (limit left : ℕ) (k : Kept) where
+  decided : is_state kind k.code ≡ true → decision kind k.code (seen kind pins (left == 0) k)
       ≡ Some (next kind k.code (seen kind pins (left == 0) k), action kind k.code (next kind k.code (seen kind pins (left == 0) k)) (seen kind pins (left == 0) k))
-  decided =
+  decided is =
       let c = seen kind pins (left == 0) k in
-      cond-true (is_state kind k.code) (Some (next kind k.code c, action kind k.code (next kind k.code c) c)) None is.state
+      cond-true (is_state kind k.code) (Some (next kind k.code c, action kind k.code (next kind k.code c) c)) None is
 
-  pub some_answer : None ≡ decision kind k.code (seen kind pins (left == 0) k) → ⊥
-  some_answer h = none_some _ (h ∙ decided)
+  -- what is kept is in a state, and so the rows decide
+  pub some_answer : is_state kind k.code ≡ true → None ≡ decision kind k.code (seen kind pins (left == 0) k) → ⊥
+  some_answer is h = none_some _ (h ∙ decided is)
 
-  pub counts : (q a mode timer : ℕ) → Some (q, a) ≡ decision kind k.code (seen kind pins (left == 0) k) →
-      mode ≡ cond (bit_and a 2 == 2) (lowest_on (range_with_len 0 8) pins) (cond (list_any (λ x. x == q) mode_states) k.mode 0) →
-      timer ≡ cond (bit_and a 1 == 1) limit left →
-      record { code = q; last_reset = at_pin (block kind).reset pins; last_auxiliary = at_pin (block kind).auxiliary pins; mode = mode; timer = timer }
-      ≡ counted_down kind limit pins passed k
-  counts q a mode timer h mode_e timer_e =
+  -- and where they decide, the code is that of a state
+  pub in_state : (x : ℕ × ℕ) → Some x ≡ decision kind k.code (seen kind pins (left == 0) k) → is_state kind k.code ≡ true
+  in_state x h =
+      let c = seen kind pins (left == 0) k in
+      ⊎_elim (λ yes. yes)
+      (λ no. absurd (none_some x (sym (h ∙ cond-false (is_state kind k.code) (Some (next kind k.code c, action kind k.code (next kind k.code c) c)) None no))))
+      (cases_Bool (is_state kind k.code))
+
+  -- it is kept where the last inputs and the mode are what the kind can keep, and the rows decide
+  pub is_kept : (x : ℕ × ℕ) → (is_last (block kind).reset (bit k.last_reset) && is_last (block kind).auxiliary (bit k.last_auxiliary) && is_mode kind k.code k.mode) ≡ true →
+      Some x ≡ decision kind k.code (seen kind pins (left == 0) k) → k.timer < 2 ^ 32 → IsKept kind k
+  is_kept x fits h small =
+      let both = and_parts (is_last (block kind).reset (bit k.last_reset) && is_last (block kind).auxiliary (bit k.last_auxiliary)) (is_mode kind k.code k.mode) fits in
+      let lasts = and_parts (is_last (block kind).reset (bit k.last_reset)) (is_last (block kind).auxiliary (bit k.last_auxiliary)) both.0 in
+      record { state = in_state x h; last_reset = lasts.0; last_auxiliary = lasts.1; mode = both.1; timer = small }
+
+  pub counts : (x : ℕ × ℕ) (mode timer : ℕ) → is_state kind k.code ≡ true → Some x ≡ decision kind k.code (seen kind pins (left == 0) k) →
+      mode ≡ mode_after kind x.1 x.0 pins k.mode → timer ≡ cond (bit_and x.1 1 == 1) limit left →
+      record { code = x.0; last_reset = at_pin (block kind).reset pins; last_auxiliary = at_pin (block kind).auxiliary pins; mode = mode; timer = timer }
+      ≡ stepped kind pins (left == 0) limit left k
+  counts x mode timer is h mode_e timer_e =
       let c = seen kind pins (left == 0) k in
       let q' = next kind k.code c in
       let runs = runs_on kind k.code q' c in
       let latch = latches kind k.code q' in
-      let e = same_pair (q, a) (q', action kind k.code q' c) (h ∙ decided) in
+      let e = same_pair x (q', action kind k.code q' c) (h ∙ decided is) in
       let t : timer ≡ cond runs left limit =
-      timer_e ∙ ap (λ x. cond (bit_and x 1 == 1) limit left) e.1 ∙ ap (λ b. cond b limit left) (timer_bit runs latch) ∙ flipped runs limit left in
-      let lowest = lowest_on (range_with_len 0 8) pins in
+      timer_e ∙ ap (λ a. cond (bit_and a 1 == 1) limit left) e.1 ∙ ap (λ b. cond b limit left) (timer_bit runs latch) ∙ flipped runs limit left in
       let m : mode ≡ latched kind pins k.code q' k.mode =
       mode_e
-      ∙ ap (λ x. cond (bit_and x 2 == 2) lowest (cond (list_any (λ y. y == q) mode_states) k.mode 0)) e.1
-      ∙ ap (λ x. cond (bit_and (action kind k.code q' c) 2 == 2) lowest (cond (list_any (λ y. y == x) mode_states) k.mode 0)) e.0
-      ∙ ap (λ b. cond b lowest (cond (list_any (λ y. y == q') mode_states) k.mode 0)) (latch_bit runs latch)
-      ∙ mode_is pins k.code q' k.mode kind is.mode in
+      ∙ ap (λ a. mode_after kind a x.0 pins k.mode) e.1
+      ∙ ap (λ q. mode_after kind (action kind k.code q' c) q pins k.mode) e.0
+      ∙ mode_is pins k.code q' k.mode runs kind in
       λ i. record { code = e.0 i; last_reset = at_pin (block kind).reset pins; last_auxiliary = at_pin (block kind).auxiliary pins; mode = m i; timer = t i }

@@ -3,9 +3,10 @@
 ghost use Rattle.std.specs.Prelude.{◌≡◌, true, false, IfSome, IfNone};
 ghost use Rattle.ps_model.specs.Stored.{is_state};
 ghost use Rattle.ps_model.specs.declared.kind.Kind.TheVariants.{Edm};
+ghost use Rattle.ps_rows.specs.Fitting.{first_fit};
 ghost use Rattle.ps_rows.specs.Placed.{is_placed};
 
-use crate::row::{ANEW, MaskRow, RowRange, STAYS, range, row};
+use crate::row::{ANEW, MaskRow, RowRange, STAYS, first_in, range, row};
 
 const ACTIVATE: u32 = 0x1; // Activate
 
@@ -140,36 +141,51 @@ pub(crate) static EDM: [MaskRow; 89] = [
     row!(0xC091, 0, 0, 0xC091, STAYS),
 ];
 
+// What `$of` makes of the places of a state's rows, and None where the code is no state.
+macro_rules! at_state {
+    ($code:expr, $of:ident $(, $with:expr)*) => {
+        match $code {
+            0x0000 => $of(range(0, 2) $(, $with)*),
+            0x8001 => $of(range(2, 7) $(, $with)*),
+            0x8010 => $of(range(7, 17) $(, $with)*),
+            0x8000 => $of(range(17, 23) $(, $with)*),
+            0xC001 => $of(range(23, 26) $(, $with)*),
+            0xC010 => $of(range(26, 30) $(, $with)*),
+            0xC020 => $of(range(30, 34) $(, $with)*),
+            0xC030 => $of(range(34, 38) $(, $with)*),
+            0xC040 => $of(range(38, 42) $(, $with)*),
+            0xC050 => $of(range(42, 46) $(, $with)*),
+            0xC060 => $of(range(46, 50) $(, $with)*),
+            0xC070 => $of(range(50, 54) $(, $with)*),
+            0xC080 => $of(range(54, 58) $(, $with)*),
+            0xC090 => $of(range(58, 62) $(, $with)*),
+            0xC011 => $of(range(62, 65) $(, $with)*),
+            0xC021 => $of(range(65, 68) $(, $with)*),
+            0xC031 => $of(range(68, 71) $(, $with)*),
+            0xC041 => $of(range(71, 74) $(, $with)*),
+            0xC051 => $of(range(74, 77) $(, $with)*),
+            0xC061 => $of(range(77, 80) $(, $with)*),
+            0xC071 => $of(range(80, 83) $(, $with)*),
+            0xC081 => $of(range(83, 86) $(, $with)*),
+            0xC091 => $of(range(86, 89) $(, $with)*),
+            _ => None,
+        }
+    };
+}
+
 // Where the rows of a state stand.
 #[tactic(auto, unfolding(ps_model::specs::Blocks::block))]
 pub(crate) fn state_rows(code: u16) -> Option<RowRange>
     ensures some { IfSome result (λ range. is_placed EDM code range ≡ true) }
     ensures none { IfNone result (is_state Edm code ≡ false) }
 {
-    match code {
-        0x0000 => range(0, 2),
-        0x8001 => range(2, 7),
-        0x8010 => range(7, 17),
-        0x8000 => range(17, 23),
-        0xC001 => range(23, 26),
-        0xC010 => range(26, 30),
-        0xC020 => range(30, 34),
-        0xC030 => range(34, 38),
-        0xC040 => range(38, 42),
-        0xC050 => range(42, 46),
-        0xC060 => range(46, 50),
-        0xC070 => range(50, 54),
-        0xC080 => range(54, 58),
-        0xC090 => range(58, 62),
-        0xC011 => range(62, 65),
-        0xC021 => range(65, 68),
-        0xC031 => range(68, 71),
-        0xC041 => range(71, 74),
-        0xC051 => range(74, 77),
-        0xC061 => range(77, 80),
-        0xC071 => range(80, 83),
-        0xC081 => range(83, 86),
-        0xC091 => range(86, 89),
-        _ => None,
-    }
+    at_state!(code, Some)
+}
+
+// Next state and action of the first row that fits.
+#[tactic(auto, unfolding(ps_model::specs::Blocks::block))]
+pub(crate) fn next_of(code: u16, conditions: u32) -> Option<(u16, u8)>
+    ensures { result ≡ first_fit EDM code conditions }
+{
+    at_state!(code, first_in, &EDM, code, conditions)
 }

@@ -3,9 +3,10 @@
 ghost use Rattle.std.specs.Prelude.{◌≡◌, true, false, IfSome, IfNone};
 ghost use Rattle.ps_model.specs.Stored.{is_state};
 ghost use Rattle.ps_model.specs.declared.kind.Kind.TheVariants.{EnableSwitch};
+ghost use Rattle.ps_rows.specs.Fitting.{first_fit};
 ghost use Rattle.ps_rows.specs.Placed.{is_placed};
 
-use crate::row::{ANEW, MaskRow, RowRange, STAYS, range, row};
+use crate::row::{ANEW, MaskRow, RowRange, STAYS, first_in, range, row};
 
 const ACTIVATE: u32 = 0x1; // Activate
 
@@ -96,25 +97,40 @@ pub(crate) static ENABLE_SWITCH: [MaskRow; 58] = [
     row!(0xC002, 0, 0, 0xC002, STAYS),
 ];
 
+// What `$of` makes of the places of a state's rows, and None where the code is no state.
+macro_rules! at_state {
+    ($code:expr, $of:ident $(, $with:expr)*) => {
+        match $code {
+            0x0000 => $of(range(0, 2) $(, $with)*),
+            0x8004 => $of(range(2, 5) $(, $with)*),
+            0x8005 => $of(range(5, 9) $(, $with)*),
+            0x8006 => $of(range(9, 14) $(, $with)*),
+            0x8000 => $of(range(14, 19) $(, $with)*),
+            0x8007 => $of(range(19, 24) $(, $with)*),
+            0xC010 => $of(range(24, 28) $(, $with)*),
+            0xC020 => $of(range(28, 36) $(, $with)*),
+            0xC030 => $of(range(36, 41) $(, $with)*),
+            0xC040 => $of(range(41, 50) $(, $with)*),
+            0xC001 => $of(range(50, 54) $(, $with)*),
+            0xC002 => $of(range(54, 58) $(, $with)*),
+            _ => None,
+        }
+    };
+}
+
 // Where the rows of a state stand.
 #[tactic(auto, unfolding(ps_model::specs::Blocks::block))]
 pub(crate) fn state_rows(code: u16) -> Option<RowRange>
     ensures some { IfSome result (λ range. is_placed ENABLE_SWITCH code range ≡ true) }
     ensures none { IfNone result (is_state EnableSwitch code ≡ false) }
 {
-    match code {
-        0x0000 => range(0, 2),
-        0x8004 => range(2, 5),
-        0x8005 => range(5, 9),
-        0x8006 => range(9, 14),
-        0x8000 => range(14, 19),
-        0x8007 => range(19, 24),
-        0xC010 => range(24, 28),
-        0xC020 => range(28, 36),
-        0xC030 => range(36, 41),
-        0xC040 => range(41, 50),
-        0xC001 => range(50, 54),
-        0xC002 => range(54, 58),
-        _ => None,
-    }
+    at_state!(code, Some)
+}
+
+// Next state and action of the first row that fits.
+#[tactic(auto, unfolding(ps_model::specs::Blocks::block))]
+pub(crate) fn next_of(code: u16, conditions: u32) -> Option<(u16, u8)>
+    ensures { result ≡ first_fit ENABLE_SWITCH code conditions }
+{
+    at_state!(code, first_in, &ENABLE_SWITCH, code, conditions)
 }

@@ -3,9 +3,10 @@
 ghost use Rattle.std.specs.Prelude.{◌≡◌, true, false, IfSome, IfNone};
 ghost use Rattle.ps_model.specs.Stored.{is_state};
 ghost use Rattle.ps_model.specs.declared.kind.Kind.TheVariants.{Equivalent};
+ghost use Rattle.ps_rows.specs.Fitting.{first_fit};
 ghost use Rattle.ps_rows.specs.Placed.{is_placed};
 
-use crate::row::{ANEW, MaskRow, RowRange, STAYS, range, row};
+use crate::row::{ANEW, MaskRow, RowRange, STAYS, first_in, range, row};
 
 const ACTIVATE: u32 = 0x1; // Activate
 
@@ -64,22 +65,37 @@ pub(crate) static EQUIVALENT: [MaskRow; 35] = [
     row!(0xC003, 0, 0, 0xC003, STAYS),
 ];
 
+// What `$of` makes of the places of a state's rows, and None where the code is no state.
+macro_rules! at_state {
+    ($code:expr, $of:ident $(, $with:expr)*) => {
+        match $code {
+            0x0000 => $of(range(0, 2) $(, $with)*),
+            0x8001 => $of(range(2, 7) $(, $with)*),
+            0x8004 => $of(range(7, 12) $(, $with)*),
+            0x8014 => $of(range(12, 17) $(, $with)*),
+            0x8000 => $of(range(17, 22) $(, $with)*),
+            0x8005 => $of(range(22, 26) $(, $with)*),
+            0xC001 => $of(range(26, 29) $(, $with)*),
+            0xC002 => $of(range(29, 32) $(, $with)*),
+            0xC003 => $of(range(32, 35) $(, $with)*),
+            _ => None,
+        }
+    };
+}
+
 // Where the rows of a state stand.
 #[tactic(auto, unfolding(ps_model::specs::Blocks::block))]
 pub(crate) fn state_rows(code: u16) -> Option<RowRange>
     ensures some { IfSome result (λ range. is_placed EQUIVALENT code range ≡ true) }
     ensures none { IfNone result (is_state Equivalent code ≡ false) }
 {
-    match code {
-        0x0000 => range(0, 2),
-        0x8001 => range(2, 7),
-        0x8004 => range(7, 12),
-        0x8014 => range(12, 17),
-        0x8000 => range(17, 22),
-        0x8005 => range(22, 26),
-        0xC001 => range(26, 29),
-        0xC002 => range(29, 32),
-        0xC003 => range(32, 35),
-        _ => None,
-    }
+    at_state!(code, Some)
+}
+
+// Next state and action of the first row that fits.
+#[tactic(auto, unfolding(ps_model::specs::Blocks::block))]
+pub(crate) fn next_of(code: u16, conditions: u32) -> Option<(u16, u8)>
+    ensures { result ≡ first_fit EQUIVALENT code conditions }
+{
+    at_state!(code, first_in, &EQUIVALENT, code, conditions)
 }

@@ -3,9 +3,10 @@
 ghost use Rattle.std.specs.Prelude.{◌≡◌, true, false, IfSome, IfNone};
 ghost use Rattle.ps_model.specs.Stored.{is_state};
 ghost use Rattle.ps_model.specs.declared.kind.Kind.TheVariants.{GuardLocking};
+ghost use Rattle.ps_rows.specs.Fitting.{first_fit};
 ghost use Rattle.ps_rows.specs.Placed.{is_placed};
 
-use crate::row::{ANEW, MaskRow, RowRange, STAYS, range, row};
+use crate::row::{ANEW, MaskRow, RowRange, STAYS, first_in, range, row};
 
 const ACTIVATE: u32 = 0x1; // Activate
 
@@ -94,25 +95,40 @@ pub(crate) static GUARD_LOCKING: [MaskRow; 52] = [
     row!(0xC004, 0, 0, 0xC004, STAYS),
 ];
 
+// What `$of` makes of the places of a state's rows, and None where the code is no state.
+macro_rules! at_state {
+    ($code:expr, $of:ident $(, $with:expr)*) => {
+        match $code {
+            0x0000 => $of(range(0, 2) $(, $with)*),
+            0x8001 => $of(range(2, 6) $(, $with)*),
+            0x8000 => $of(range(6, 11) $(, $with)*),
+            0x8003 => $of(range(11, 18) $(, $with)*),
+            0x8013 => $of(range(18, 23) $(, $with)*),
+            0x8012 => $of(range(23, 27) $(, $with)*),
+            0x8011 => $of(range(27, 34) $(, $with)*),
+            0x8014 => $of(range(34, 40) $(, $with)*),
+            0xC001 => $of(range(40, 43) $(, $with)*),
+            0xC002 => $of(range(43, 46) $(, $with)*),
+            0xC003 => $of(range(46, 49) $(, $with)*),
+            0xC004 => $of(range(49, 52) $(, $with)*),
+            _ => None,
+        }
+    };
+}
+
 // Where the rows of a state stand.
 #[tactic(auto, unfolding(ps_model::specs::Blocks::block))]
 pub(crate) fn state_rows(code: u16) -> Option<RowRange>
     ensures some { IfSome result (λ range. is_placed GUARD_LOCKING code range ≡ true) }
     ensures none { IfNone result (is_state GuardLocking code ≡ false) }
 {
-    match code {
-        0x0000 => range(0, 2),
-        0x8001 => range(2, 6),
-        0x8000 => range(6, 11),
-        0x8003 => range(11, 18),
-        0x8013 => range(18, 23),
-        0x8012 => range(23, 27),
-        0x8011 => range(27, 34),
-        0x8014 => range(34, 40),
-        0xC001 => range(40, 43),
-        0xC002 => range(43, 46),
-        0xC003 => range(46, 49),
-        0xC004 => range(49, 52),
-        _ => None,
-    }
+    at_state!(code, Some)
+}
+
+// Next state and action of the first row that fits.
+#[tactic(auto, unfolding(ps_model::specs::Blocks::block))]
+pub(crate) fn next_of(code: u16, conditions: u32) -> Option<(u16, u8)>
+    ensures { result ≡ first_fit GUARD_LOCKING code conditions }
+{
+    at_state!(code, first_in, &GUARD_LOCKING, code, conditions)
 }

@@ -3,9 +3,10 @@
 ghost use Rattle.std.specs.Prelude.{◌≡◌, true, false, IfSome, IfNone};
 ghost use Rattle.ps_model.specs.Stored.{is_state};
 ghost use Rattle.ps_model.specs.declared.kind.Kind.TheVariants.{GuardMonitoring};
+ghost use Rattle.ps_rows.specs.Fitting.{first_fit};
 ghost use Rattle.ps_rows.specs.Placed.{is_placed};
 
-use crate::row::{ANEW, MaskRow, RowRange, STAYS, range, row};
+use crate::row::{ANEW, MaskRow, RowRange, STAYS, first_in, range, row};
 
 const ACTIVATE: u32 = 0x1; // Activate
 
@@ -90,25 +91,40 @@ pub(crate) static GUARD_MONITORING: [MaskRow; 50] = [
     row!(0xC012, 0, 0, 0xC012, STAYS),
 ];
 
+// What `$of` makes of the places of a state's rows, and None where the code is no state.
+macro_rules! at_state {
+    ($code:expr, $of:ident $(, $with:expr)*) => {
+        match $code {
+            0x0000 => $of(range(0, 2) $(, $with)*),
+            0x8001 => $of(range(2, 6) $(, $with)*),
+            0x8002 => $of(range(6, 9) $(, $with)*),
+            0x8012 => $of(range(9, 14) $(, $with)*),
+            0x8004 => $of(range(14, 20) $(, $with)*),
+            0x8014 => $of(range(20, 26) $(, $with)*),
+            0x8005 => $of(range(26, 31) $(, $with)*),
+            0x8003 => $of(range(31, 37) $(, $with)*),
+            0x8000 => $of(range(37, 41) $(, $with)*),
+            0xC001 => $of(range(41, 44) $(, $with)*),
+            0xC011 => $of(range(44, 47) $(, $with)*),
+            0xC012 => $of(range(47, 50) $(, $with)*),
+            _ => None,
+        }
+    };
+}
+
 // Where the rows of a state stand.
 #[tactic(auto, unfolding(ps_model::specs::Blocks::block))]
 pub(crate) fn state_rows(code: u16) -> Option<RowRange>
     ensures some { IfSome result (λ range. is_placed GUARD_MONITORING code range ≡ true) }
     ensures none { IfNone result (is_state GuardMonitoring code ≡ false) }
 {
-    match code {
-        0x0000 => range(0, 2),
-        0x8001 => range(2, 6),
-        0x8002 => range(6, 9),
-        0x8012 => range(9, 14),
-        0x8004 => range(14, 20),
-        0x8014 => range(20, 26),
-        0x8005 => range(26, 31),
-        0x8003 => range(31, 37),
-        0x8000 => range(37, 41),
-        0xC001 => range(41, 44),
-        0xC011 => range(44, 47),
-        0xC012 => range(47, 50),
-        _ => None,
-    }
+    at_state!(code, Some)
+}
+
+// Next state and action of the first row that fits.
+#[tactic(auto, unfolding(ps_model::specs::Blocks::block))]
+pub(crate) fn next_of(code: u16, conditions: u32) -> Option<(u16, u8)>
+    ensures { result ≡ first_fit GUARD_MONITORING code conditions }
+{
+    at_state!(code, first_in, &GUARD_MONITORING, code, conditions)
 }

@@ -6,6 +6,7 @@ mod enable_switch;
 mod equivalent;
 mod guard_locking;
 mod guard_monitoring;
+mod last_pins;
 pub mod laws;
 mod modes;
 mod out_control;

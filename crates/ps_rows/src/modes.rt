@@ -3,9 +3,10 @@
 ghost use Rattle.std.specs.Prelude.{◌≡◌, true, false, IfSome, IfNone};
 ghost use Rattle.ps_model.specs.Stored.{is_state};
 ghost use Rattle.ps_model.specs.declared.kind.Kind.TheVariants.{ModeSelector};
+ghost use Rattle.ps_rows.specs.Fitting.{first_fit};
 ghost use Rattle.ps_rows.specs.Placed.{is_placed};
 
-use crate::row::{ANEW, LATCH, MaskRow, RowRange, STAYS, range, row};
+use crate::row::{ANEW, LATCH, MaskRow, RowRange, STAYS, first_in, range, row};
 
 const ACTIVATE: u32 = 0x1; // Activate
 
@@ -68,21 +69,36 @@ pub(crate) static MODES: [MaskRow; 30] = [
     row!(0xC004, 0, 0, 0xC004, STAYS),
 ];
 
+// What `$of` makes of the places of a state's rows, and None where the code is no state.
+macro_rules! at_state {
+    ($code:expr, $of:ident $(, $with:expr)*) => {
+        match $code {
+            0x0000 => $of(range(0, 2) $(, $with)*),
+            0x8005 => $of(range(2, 8) $(, $with)*),
+            0x8000 => $of(range(8, 12) $(, $with)*),
+            0x8004 => $of(range(12, 16) $(, $with)*),
+            0xC001 => $of(range(16, 20) $(, $with)*),
+            0xC002 => $of(range(20, 24) $(, $with)*),
+            0xC003 => $of(range(24, 27) $(, $with)*),
+            0xC004 => $of(range(27, 30) $(, $with)*),
+            _ => None,
+        }
+    };
+}
+
 // Where the rows of a state stand.
 #[tactic(auto, unfolding(ps_model::specs::Blocks::block))]
 pub(crate) fn state_rows(code: u16) -> Option<RowRange>
     ensures some { IfSome result (λ range. is_placed MODES code range ≡ true) }
     ensures none { IfNone result (is_state ModeSelector code ≡ false) }
 {
-    match code {
-        0x0000 => range(0, 2),
-        0x8005 => range(2, 8),
-        0x8000 => range(8, 12),
-        0x8004 => range(12, 16),
-        0xC001 => range(16, 20),
-        0xC002 => range(20, 24),
-        0xC003 => range(24, 27),
-        0xC004 => range(27, 30),
-        _ => None,
-    }
+    at_state!(code, Some)
+}
+
+// Next state and action of the first row that fits.
+#[tactic(auto, unfolding(ps_model::specs::Blocks::block))]
+pub(crate) fn next_of(code: u16, conditions: u32) -> Option<(u16, u8)>
+    ensures { result ≡ first_fit MODES code conditions }
+{
+    at_state!(code, first_in, &MODES, code, conditions)
 }

@@ -3,9 +3,10 @@
 ghost use Rattle.std.specs.Prelude.{◌≡◌, true, false, IfSome, IfNone};
 ghost use Rattle.ps_model.specs.Stored.{is_state};
 ghost use Rattle.ps_model.specs.declared.kind.Kind.TheVariants.{OutControl};
+ghost use Rattle.ps_rows.specs.Fitting.{first_fit};
 ghost use Rattle.ps_rows.specs.Placed.{is_placed};
 
-use crate::row::{ANEW, MaskRow, RowRange, STAYS, range, row};
+use crate::row::{ANEW, MaskRow, RowRange, STAYS, first_in, range, row};
 
 const ACTIVATE: u32 = 0x1; // Activate
 
@@ -76,22 +77,37 @@ pub(crate) static OUT_CONTROL: [MaskRow; 37] = [
     row!(0xC002, 0, 0, 0xC002, STAYS),
 ];
 
+// What `$of` makes of the places of a state's rows, and None where the code is no state.
+macro_rules! at_state {
+    ($code:expr, $of:ident $(, $with:expr)*) => {
+        match $code {
+            0x0000 => $of(range(0, 2) $(, $with)*),
+            0x8001 => $of(range(2, 8) $(, $with)*),
+            0x8002 => $of(range(8, 12) $(, $with)*),
+            0x8003 => $of(range(12, 17) $(, $with)*),
+            0x8010 => $of(range(17, 23) $(, $with)*),
+            0x8000 => $of(range(23, 27) $(, $with)*),
+            0xC010 => $of(range(27, 31) $(, $with)*),
+            0xC001 => $of(range(31, 34) $(, $with)*),
+            0xC002 => $of(range(34, 37) $(, $with)*),
+            _ => None,
+        }
+    };
+}
+
 // Where the rows of a state stand.
 #[tactic(auto, unfolding(ps_model::specs::Blocks::block))]
 pub(crate) fn state_rows(code: u16) -> Option<RowRange>
     ensures some { IfSome result (λ range. is_placed OUT_CONTROL code range ≡ true) }
     ensures none { IfNone result (is_state OutControl code ≡ false) }
 {
-    match code {
-        0x0000 => range(0, 2),
-        0x8001 => range(2, 8),
-        0x8002 => range(8, 12),
-        0x8003 => range(12, 17),
-        0x8010 => range(17, 23),
-        0x8000 => range(23, 27),
-        0xC010 => range(27, 31),
-        0xC001 => range(31, 34),
-        0xC002 => range(34, 37),
-        _ => None,
-    }
+    at_state!(code, Some)
+}
+
+// Next state and action of the first row that fits.
+#[tactic(auto, unfolding(ps_model::specs::Blocks::block))]
+pub(crate) fn next_of(code: u16, conditions: u32) -> Option<(u16, u8)>
+    ensures { result ≡ first_fit OUT_CONTROL code conditions }
+{
+    at_state!(code, first_in, &OUT_CONTROL, code, conditions)
 }

@@ -1,6 +1,8 @@
-// A mask row, and the place of a state's rows.
+// A mask row, the place of a state's rows, and the search for the first of them that fits.
 
-ghost use Rattle.std.specs.Prelude.{◌≡◌, Some};
+ghost use Rattle.std.specs.Prelude.{◌≡◌, true};
+ghost use Rattle.ps_rows.specs.Fitting.{first_fit, first_match};
+ghost use Rattle.ps_rows.specs.Placed.{is_placed};
 
 /// One row of a kind's table (profile). It decides in its state where the conditions under `care`
 /// equal `value`. Conditions are complemented: a bit that is 1 says FALSE.
@@ -52,8 +54,36 @@ macro_rules! row {
 
 pub(crate) use row;
 
-pub(crate) fn range(from: u16, upto: u16) -> Option<RowRange>
-    ensures { result ≡ Some (record { from = from; upto = upto }) }
+pub(crate) fn range(from: u16, upto: u16) -> RowRange
+    ensures { result ≡ record { from = from; upto = upto } }
 {
-    Some(RowRange { from, upto })
+    RowRange { from, upto }
+}
+
+// Next state and action of the first row of a state that fits. The range is where the rows of the state
+// stand among all of the kind. Each kind calls it with ranges that are written out, so that the compiler
+// makes tests of the rows themselves, with no loop.
+pub(crate) fn first_in(
+    range: RowRange,
+    rows: &[MaskRow],
+    state: u16,
+    conditions: u32,
+) -> Option<(u16, u8)>
+    requires { is_placed rows.now state range ≡ true }
+    ensures { result ≡ first_fit rows.now state conditions }
+{
+    first_match(&rows[range.from as usize..range.upto as usize], conditions)
+}
+
+// Next state and action of the first of these rows, all of one state, whose value equals the
+// conditions under its care.
+fn first_match(rows: &[MaskRow], conditions: u32) -> Option<(u16, u8)>
+    ensures { result ≡ first_match rows.now conditions }
+{
+    for row in rows {
+        if conditions & row.care == row.value {
+            return Some((row.next, row.action));
+        }
+    }
+    None
 }

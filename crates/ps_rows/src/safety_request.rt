@@ -3,9 +3,10 @@
 ghost use Rattle.std.specs.Prelude.{◌≡◌, true, false, IfSome, IfNone};
 ghost use Rattle.ps_model.specs.Stored.{is_state};
 ghost use Rattle.ps_model.specs.declared.kind.Kind.TheVariants.{SafetyRequest};
+ghost use Rattle.ps_rows.specs.Fitting.{first_fit};
 ghost use Rattle.ps_rows.specs.Placed.{is_placed};
 
-use crate::row::{ANEW, MaskRow, RowRange, STAYS, range, row};
+use crate::row::{ANEW, MaskRow, RowRange, STAYS, first_in, range, row};
 
 const ACTIVATE: u32 = 0x1; // Activate
 
@@ -74,24 +75,39 @@ pub(crate) static SAFETY_REQUEST: [MaskRow; 39] = [
     row!(0x8005, 0, 0, 0x8005, STAYS),
 ];
 
+// What `$of` makes of the places of a state's rows, and None where the code is no state.
+macro_rules! at_state {
+    ($code:expr, $of:ident $(, $with:expr)*) => {
+        match $code {
+            0x0000 => $of(range(0, 2) $(, $with)*),
+            0x8001 => $of(range(2, 6) $(, $with)*),
+            0x8012 => $of(range(6, 10) $(, $with)*),
+            0x8002 => $of(range(10, 13) $(, $with)*),
+            0x8003 => $of(range(13, 18) $(, $with)*),
+            0x8000 => $of(range(18, 22) $(, $with)*),
+            0xC002 => $of(range(22, 26) $(, $with)*),
+            0xC003 => $of(range(26, 30) $(, $with)*),
+            0xC004 => $of(range(30, 33) $(, $with)*),
+            0xC005 => $of(range(33, 36) $(, $with)*),
+            0x8005 => $of(range(36, 39) $(, $with)*),
+            _ => None,
+        }
+    };
+}
+
 // Where the rows of a state stand.
 #[tactic(auto, unfolding(ps_model::specs::Blocks::block))]
 pub(crate) fn state_rows(code: u16) -> Option<RowRange>
     ensures some { IfSome result (λ range. is_placed SAFETY_REQUEST code range ≡ true) }
     ensures none { IfNone result (is_state SafetyRequest code ≡ false) }
 {
-    match code {
-        0x0000 => range(0, 2),
-        0x8001 => range(2, 6),
-        0x8012 => range(6, 10),
-        0x8002 => range(10, 13),
-        0x8003 => range(13, 18),
-        0x8000 => range(18, 22),
-        0xC002 => range(22, 26),
-        0xC003 => range(26, 30),
-        0xC004 => range(30, 33),
-        0xC005 => range(33, 36),
-        0x8005 => range(36, 39),
-        _ => None,
-    }
+    at_state!(code, Some)
+}
+
+// Next state and action of the first row that fits.
+#[tactic(auto, unfolding(ps_model::specs::Blocks::block))]
+pub(crate) fn next_of(code: u16, conditions: u32) -> Option<(u16, u8)>
+    ensures { result ≡ first_fit SAFETY_REQUEST code conditions }
+{
+    at_state!(code, first_in, &SAFETY_REQUEST, code, conditions)
 }

@@ -1,18 +1,21 @@
 // One step of an instance by its mask rows, with a timer that counts down.
 
-ghost use Rattle.std.specs.Prelude.{◌≡◌, ◌<◌, ◌==◌, true, IfSome, bit_and, if◌then◌else◌};
-ghost use Rattle.std.specs.List.{range_with_len, list_any};
-ghost use Rattle.ps_model.specs.Blocks.{lowest_on, at_pin, mode_states};
+ghost use Rattle.std.specs.Prelude.{◌≡◌, ◌<◌, ◌≤◌, ◌==◌, ◌&&◌, true, Some, IfSome, IfNone, bit_and, if◌then◌else◌};
+ghost use Rattle.std.specs.List.{range_with_len};
+ghost use Rattle.ps_model.specs.Blocks.{block, lowest_on};
 ghost use Rattle.ps_model.specs.declared.kind.Kind.{Kind};
-ghost use Rattle.ps_model.specs.Kept.{fresh, counted_down};
-ghost use Rattle.ps_model.specs.Stored.{IsKept};
+ghost use Rattle.ps_model.specs.declared.kind.Kind.TheVariants.{ModeSelector};
+ghost use Rattle.ps_model.specs.Kept.{fresh, seen, stepped, counted_down};
+ghost use Rattle.ps_model.specs.Stored.{bit, is_last, is_mode, IsKept};
 ghost use Rattle.ps_rows.specs.Viewed.{pin_of};
-ghost use Rattle.ps_rows.specs.Counted.{kept_by};
+ghost use Rattle.ps_rows.specs.Decision.{decision};
+ghost use Rattle.ps_rows.specs.Counted.{kept_by, mode_after};
 
+use crate::last_pins::{is_on, last_pins, may_keep};
 use crate::row::{ANEW, LATCH};
 use crate::table::next_of;
-use crate::view::{BlockView, conditions, pin};
-use ps_model::kind::{Kind, auxiliary_pin, reset_pin};
+use crate::view::{BlockView, conditions_in, pin};
+use ps_model::kind::Kind;
 
 /// What a channel keeps of an instance whose timer counts down (profile).
 #[derive(Clone, Copy, PartialEq, Eq, Debug)]
@@ -54,6 +57,52 @@ impl CountedBlock {
         ensures kept { IsKept kind (kept_by result) }
     {
         let remains = self.remains.saturating_sub(passed);
+        match self.decided(kind, bits, remains) {
+            // No state of the kind, which what is kept excludes.
+            None => self,
+            Some(decided) => self.after(kind, bits, limit, remains, decided),
+        }
+    }
+
+    /// The same step of what may be nothing that the kind keeps, and None exactly where it is not: where
+    /// the code is no state of the kind, a last input is TRUE that the kind lacks, or a mode stands where
+    /// none is latched or is over 7.
+    pub fn stepped_if_kept(
+        self,
+        kind: Kind,
+        bits: u32,
+        limit: u32,
+        passed: u32,
+    ) -> Option<CountedBlock>
+        ensures was { IfSome result (λ after. IsKept kind (kept_by self)) }
+        ensures counted { IfSome result (λ after. kept_by after ≡ counted_down kind limit (pin_of bits) passed (kept_by self)) }
+        ensures kept { IfSome result (λ after. IsKept kind (kept_by after)) }
+        ensures none { IfNone result (¬ (IsKept kind (kept_by self))) }
+    {
+        if !self.fits(kind) {
+            return None;
+        }
+        let remains = self.remains.saturating_sub(passed);
+        let decided = self.decided(kind, bits, remains)?;
+        Some(self.after(kind, bits, limit, remains, decided))
+    }
+
+    // Whether the last inputs and the mode are what a kind can keep in this state.
+    fn fits(self, kind: Kind) -> bool
+        ensures { result ≡ (is_last (block kind).reset (bit self.last_reset) && is_last (block kind).auxiliary (bit self.last_aux) && is_mode kind self.code self.mode) }
+    {
+        let pins = last_pins(kind);
+        may_keep(self.last_reset, pins.reset)
+            && may_keep(self.last_aux, pins.auxiliary)
+            && may_latch(kind, self.code, self.mode)
+    }
+
+    // What the rows of a kind decide: the next state and the action, and None exactly where the code
+    // is no state.
+    fn decided(self, kind: Kind, bits: u32, remains: u32) -> Option<(u16, u8)>
+        requires { self.mode ≤ 7 }
+        ensures { result ≡ decision kind self.code (seen kind (pin_of bits) (remains == 0) (kept_by self)) }
+    {
         let view = BlockView {
             bits,
             last_reset: self.last_reset,
@@ -61,34 +110,60 @@ impl CountedBlock {
             mode: self.mode,
             elapsed: remains == 0,
         };
-        match next_of(kind, self.code, conditions(kind, view)) {
-            // No state of the kind, which what is kept excludes.
-            None => self,
-            Some((code, action)) => CountedBlock {
-                code,
-                last_reset: is_on(reset_pin(kind), bits),
-                last_aux: is_on(auxiliary_pin(kind), bits),
-                mode: mode_after(action, code, bits, self.mode),
-                remains: timer_after(action, limit, remains),
-            },
+        next_of(kind, self.code, conditions_in(kind, &view))
+    }
+
+    // The block after the step that the rows have decided.
+    fn after(
+        self,
+        kind: Kind,
+        bits: u32,
+        limit: u32,
+        remains: u32,
+        decided: (u16, u8),
+    ) -> CountedBlock
+        requires kept { IsKept kind (kept_by self) }
+        requires decides { Some decided ≡ decision kind self.code (seen kind (pin_of bits) (remains == 0) (kept_by self)) }
+        ensures counted { kept_by result ≡ stepped kind (pin_of bits) (remains == 0) limit remains (kept_by self) }
+        ensures kept { IsKept kind (kept_by result) }
+    {
+        let (code, action) = decided;
+        let pins = last_pins(kind);
+        CountedBlock {
+            code,
+            last_reset: is_on(bits, pins.reset),
+            last_aux: is_on(bits, pins.auxiliary),
+            mode: mode_after(kind, action, code, bits, self.mode),
+            remains: timer_after(action, limit, remains),
         }
     }
 }
 
-// A pin that the kind may lack: FALSE where it does.
-fn is_on(j: Option<u8>, bits: u32) -> bool
-    requires { IfSome j (λ j. j < 32) }
-    ensures { result ≡ at_pin j (pin_of bits) }
+// Whether a kind has such a latched mode in a state.
+fn may_latch(kind: Kind, code: u16, mode: u8) -> bool
+    ensures { result ≡ is_mode kind code mode }
 {
-    match j {
-        None => false,
-        Some(j) => pin(bits, u32::from(j)),
+    if kind == Kind::ModeSelector && (code == 0x8000 || code == 0x8004) {
+        mode < 8
+    } else {
+        mode == 0
     }
 }
 
-// The mode after a step to the state with this code: latched, kept in 8000 and 8004, and 0 elsewhere.
-fn mode_after(action: u8, code: u16, bits: u32, mode: u8) -> u8
-    ensures { result ≡ (if bit_and action 2 == 2 then lowest_on (range_with_len 0 8) (pin_of bits) else if list_any (λ q. q == code) mode_states then mode else 0) }
+// The mode after a step to the state with this code: that of SF_ModeSelector is latched, kept in 8000
+// and 8004, and 0 elsewhere; that of other kinds is 0.
+fn mode_after(kind: Kind, action: u8, code: u16, bits: u32, mode: u8) -> u8
+    ensures { result ≡ mode_after kind action code (pin_of bits) mode }
+{
+    match kind {
+        Kind::ModeSelector => selected_mode(action, code, bits, mode),
+        _ => 0,
+    }
+}
+
+// The mode of SF_ModeSelector after a step.
+fn selected_mode(action: u8, code: u16, bits: u32, mode: u8) -> u8
+    ensures { result ≡ mode_after ModeSelector action code (pin_of bits) mode }
 {
     if action & LATCH == LATCH {
         lowest_mode(bits)

@@ -3,7 +3,7 @@
 ghost use Rattle.std.specs.Prelude.{◌≡◌, ◌<◌, ◌≤◌, ℕ, Bool, true, false, length, slice_get, Some, IfSome, IfNone};
 ghost use Rattle.ps_model.specs.Kept.{Kept, seen};
 ghost use Rattle.ps_model.specs.Stored.{is_state};
-ghost use Rattle.ps_rows.specs.Fitting.{first_fit, first_match, HoldsExactly};
+ghost use Rattle.ps_rows.specs.Fitting.{first_fit, HoldsExactly};
 ghost use Rattle.ps_rows.specs.Placed.{is_placed};
 ghost use Rattle.ps_rows.specs.Rows.{rows_of};
 ghost use Rattle.ps_rows.specs.Names.{names, complemented};
@@ -49,26 +49,26 @@ pub fn next_of(kind: Kind, code: u16, conditions: u32) -> Option<(u16, u8)>
     ensures first { result ≡ first_fit (rows_of kind) code conditions }
     ensures decides { (pins : ℕ → Bool) (elapsed : Bool) (k : Kept) → conditions ≡ complemented (names kind pins elapsed k) → result ≡ decision kind code (seen kind pins elapsed k) }
 {
-    match placed(kind, code) {
-        None => None,
-        Some(range) => {
-            let all = rows(kind);
-            first_match(&all[range.from as usize..range.upto as usize], conditions)
-        }
-    }
+    first_fit(kind, code, conditions)
 }
 
-// Next state and action of the first of these rows, all of one state, whose value equals the
-// conditions under its care.
-fn first_match(rows: &[MaskRow], conditions: u32) -> Option<(u16, u8)>
-    ensures { result ≡ first_match rows.now conditions }
+// The first row that fits, by the kind.
+fn first_fit(kind: Kind, code: u16, conditions: u32) -> Option<(u16, u8)>
+    ensures { result ≡ first_fit (rows_of kind) code conditions }
 {
-    for row in rows {
-        if conditions & row.care == row.value {
-            return Some((row.next, row.action));
-        }
+    match kind {
+        Kind::Equivalent | Kind::Antivalent => equivalent::next_of(code, conditions),
+        Kind::EmergencyStop | Kind::Espe => stop::next_of(code, conditions),
+        Kind::ModeSelector => modes::next_of(code, conditions),
+        Kind::TwoHandTwo => two_hand_two::next_of(code, conditions),
+        Kind::TwoHandThree => two_hand_three::next_of(code, conditions),
+        Kind::GuardMonitoring => guard_monitoring::next_of(code, conditions),
+        Kind::GuardLocking => guard_locking::next_of(code, conditions),
+        Kind::EnableSwitch => enable_switch::next_of(code, conditions),
+        Kind::SafetyRequest => safety_request::next_of(code, conditions),
+        Kind::OutControl => out_control::next_of(code, conditions),
+        Kind::Edm => edm::next_of(code, conditions),
     }
-    None
 }
 
 // The rows of a kind.

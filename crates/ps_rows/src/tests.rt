@@ -1,5 +1,8 @@
 // Walks through the tables by rows.
 
+mod kept;
+mod states;
+
 use crate::table::row;
 use crate::{CountedBlock, MaskRow, RowRange, next_of, row_count, state_rows};
 use ps_model::kind::Kind;

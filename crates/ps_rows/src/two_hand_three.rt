@@ -3,9 +3,10 @@
 ghost use Rattle.std.specs.Prelude.{◌≡◌, true, false, IfSome, IfNone};
 ghost use Rattle.ps_model.specs.Stored.{is_state};
 ghost use Rattle.ps_model.specs.declared.kind.Kind.TheVariants.{TwoHandThree};
+ghost use Rattle.ps_rows.specs.Fitting.{first_fit};
 ghost use Rattle.ps_rows.specs.Placed.{is_placed};
 
-use crate::row::{ANEW, MaskRow, RowRange, STAYS, range, row};
+use crate::row::{ANEW, MaskRow, RowRange, STAYS, first_in, range, row};
 
 const ACTIVATE: u32 = 0x1; // Activate
 
@@ -102,29 +103,44 @@ pub(crate) static TWO_HAND_THREE: [MaskRow; 66] = [
     row!(0xC006, 0, 0, 0xC006, STAYS),
 ];
 
+// What `$of` makes of the places of a state's rows, and None where the code is no state.
+macro_rules! at_state {
+    ($code:expr, $of:ident $(, $with:expr)*) => {
+        match $code {
+            0x0000 => $of(range(0, 2) $(, $with)*),
+            0x8001 => $of(range(2, 8) $(, $with)*),
+            0xC001 => $of(range(8, 11) $(, $with)*),
+            0xC002 => $of(range(11, 14) $(, $with)*),
+            0xC003 => $of(range(14, 17) $(, $with)*),
+            0x8004 => $of(range(17, 22) $(, $with)*),
+            0x8005 => $of(range(22, 30) $(, $with)*),
+            0x8006 => $of(range(30, 38) $(, $with)*),
+            0x8000 => $of(range(38, 43) $(, $with)*),
+            0x8007 => $of(range(43, 47) $(, $with)*),
+            0x8008 => $of(range(47, 51) $(, $with)*),
+            0x8009 => $of(range(51, 54) $(, $with)*),
+            0x8019 => $of(range(54, 57) $(, $with)*),
+            0xC004 => $of(range(57, 60) $(, $with)*),
+            0xC005 => $of(range(60, 63) $(, $with)*),
+            0xC006 => $of(range(63, 66) $(, $with)*),
+            _ => None,
+        }
+    };
+}
+
 // Where the rows of a state stand.
 #[tactic(auto, unfolding(ps_model::specs::Blocks::block))]
 pub(crate) fn state_rows(code: u16) -> Option<RowRange>
     ensures some { IfSome result (λ range. is_placed TWO_HAND_THREE code range ≡ true) }
     ensures none { IfNone result (is_state TwoHandThree code ≡ false) }
 {
-    match code {
-        0x0000 => range(0, 2),
-        0x8001 => range(2, 8),
-        0xC001 => range(8, 11),
-        0xC002 => range(11, 14),
-        0xC003 => range(14, 17),
-        0x8004 => range(17, 22),
-        0x8005 => range(22, 30),
-        0x8006 => range(30, 38),
-        0x8000 => range(38, 43),
-        0x8007 => range(43, 47),
-        0x8008 => range(47, 51),
-        0x8009 => range(51, 54),
-        0x8019 => range(54, 57),
-        0xC004 => range(57, 60),
-        0xC005 => range(60, 63),
-        0xC006 => range(63, 66),
-        _ => None,
-    }
+    at_state!(code, Some)
+}
+
+// Next state and action of the first row that fits.
+#[tactic(auto, unfolding(ps_model::specs::Blocks::block))]
+pub(crate) fn next_of(code: u16, conditions: u32) -> Option<(u16, u8)>
+    ensures { result ≡ first_fit TWO_HAND_THREE code conditions }
+{
+    at_state!(code, first_in, &TWO_HAND_THREE, code, conditions)
 }

@@ -31,6 +31,14 @@ pub fn conditions(kind: Kind, view: BlockView) -> u32
     requires { view.mode ≤ 7 }
     ensures { result ≡ complemented (names_in kind view) }
 {
+    conditions_in(kind, &view)
+}
+
+// The same of a view that is lent.
+pub(crate) fn conditions_in(kind: Kind, view: &BlockView) -> u32
+    requires { view.now.mode ≤ 7 }
+    ensures { result ≡ complemented (names_in kind view.now) }
+{
     let bits = view.bits;
     match kind {
         Kind::Equivalent => behind_pins(bits, 3, off(view.elapsed, 0)),
@@ -50,9 +58,9 @@ pub fn conditions(kind: Kind, view: BlockView) -> u32
 }
 
 // The named conditions of SF_ModeSelector.
-fn mode_conditions(view: BlockView) -> u32
-    requires { view.mode ≤ 7 }
-    ensures { result ≡ complemented (names_in ModeSelector view) }
+fn mode_conditions(view: &BlockView) -> u32
+    requires { view.now.mode ≤ 7 }
+    ensures { result ≡ complemented (names_in ModeSelector view.now) }
 {
     let bits = view.bits;
     let count = mode_count(bits);
@@ -66,11 +74,12 @@ fn mode_conditions(view: BlockView) -> u32
     off(pin(bits, 0), off(count == 0, middle))
 }
 
-// How many modes are TRUE.
-fn mode_count(bits: u32) -> usize
+// How many modes are TRUE: they are the pins 1 to 8.
+#[tactic(auto, using(crate::proofs::Counting::modes_counted))]
+fn mode_count(bits: u32) -> u32
     ensures { result ≡ modes_on (pin_of bits) }
 {
-    (0..8).filter(|mode| pin(bits, *mode + 1)).count()
+    ((bits >> 1) & 0xFF).count_ones()
 }
 
 /// The value of Boolean input pin j.

@@ -1,6 +1,6 @@
 -- What was laid out is read again.
-use Rattle.std.proofs.Common.{◌≡◌, ℕ, zero, suc, ◌+◌, ◌-◌, ◌^◌, ◌<◌, ◌≤◌, Bool, List, [], ◌∷◌, ◌++◌, length, take, drop, map, refl, sym, ap, ◌∙◌, subst, arith, lit<, length-append, append_assoc, get_or}
-use Rattle.std.specs.Prelude.{slice_index, slice_set}
+use Rattle.std.proofs.Common.{◌≡◌, ℕ, zero, suc, ◌+◌, ◌-◌, ◌<◌, Bool, List, [], ◌∷◌, ◌++◌, take, drop, refl, sym, ap, ◌∙◌, arith, lit<}
+use Rattle.std.specs.Prelude.{slice_index}
 use Rattle.std.specs.Int.{w32, to_be_bytes}
 use Rattle.std.proofs.lemmas.Nat.{from_be_bytes-to_be_bytes_4}
 use Rattle.std.proofs.lemmas.List.{take_at, drop_at, drop-drop}
@@ -19,20 +19,20 @@ twice (b ∷ bs) h =
     ap (λ x. x ∷ complement (complement bs)) e ∙ ap (λ l. b ∷ l) rest
 
 -- a byte of joined lists is a byte of one of them
-bytes-append : (xs ys : List ℕ) → ((i : ℕ) → slice_index xs i < 256) → ((i : ℕ) → slice_index ys i < 256) → (i : ℕ) → slice_index (xs ++ ys) i < 256
+pub bytes-append : (xs ys : List ℕ) → ((i : ℕ) → slice_index xs i < 256) → ((i : ℕ) → slice_index ys i < 256) → (i : ℕ) → slice_index (xs ++ ys) i < 256
 bytes-append [] ys h g i = g i
 bytes-append (x ∷ xs) ys h g zero = h 0
 bytes-append (x ∷ xs) ys h g (suc i) = bytes-append xs ys (λ k. h (suc k)) g i
 
 -- the bytes of a number
-four : (n i : ℕ) → slice_index (to_be_bytes w32 n) i < 256
+pub four : (n i : ℕ) → slice_index (to_be_bytes w32 n) i < 256
 four n zero = omega arith
 four n (suc zero) = omega arith
 four n (suc (suc zero)) = omega arith
 four n (suc (suc (suc zero))) = omega arith
 four n (suc (suc (suc (suc i)))) = lit< tt
 
-one : (b : ℕ) → b < 256 → (i : ℕ) → slice_index (b ∷ []) i < 256
+pub one : (b : ℕ) → b < 256 → (i : ℕ) → slice_index (b ∷ []) i < 256
 one b h zero = h
 one b h (suc i) = lit< tt
 

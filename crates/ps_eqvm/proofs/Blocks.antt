@@ -1,7 +1,7 @@
 -- What BLOCK leaves, case by case.
-use Rattle.std.proofs.Common.{◌≡◌, ℕ, ◌+◌, ◌*◌, ◌<◌, ◌≤◌, Bool, true, false, cond, List, length, map, Option, Some, None, Result, Ok, Err, refl, sym, ap, ◌∙◌, arith}
-use Rattle.std.specs.Prelude.{slice_index, ◌||◌, ◌==◌, nat_lt, nat_le, not}
-use Rattle.std.specs.List.{list_any, range_with_len}
+use Rattle.std.proofs.Common.{◌≡◌, ℕ, ◌+◌, ◌*◌, ◌<◌, ◌≤◌, true, false, cond, List, length, Option, Result, Ok, Err, refl, sym, ap, ◌∙◌}
+use Rattle.std.specs.Prelude.{slice_index, ◌||◌, ◌==◌, nat_lt, not}
+use Rattle.std.specs.List.{list_any}
 use Rattle.std.proofs.lemmas.Bool.{cond-true, cond-false, or_left, le-ltb, lt-ltb, ne_eqb, eq-eqb}
 use Rattle.std.proofs.lemmas.List.FromFn.{length-map-range_with_len}
 use Rattle.ps_model.specs.declared.kind.Kind.{Kind}
@@ -12,10 +12,10 @@ use Rattle.ps_machine.specs.Bytes.{be2, be4, instance_bytes}
 use Rattle.ps_rows.specs.Viewed.{pin_of}
 use Rattle.ps_eqvm.specs.Plain.{Plain}
 use Rattle.ps_eqvm.specs.declared.gates.Gate.{Gate}
-use Rattle.ps_eqvm.specs.declared.gates.Gate.TheVariants.{All, Any}
-use Rattle.ps_eqvm.specs.Gates.{gate_of, gate_row}
-use Rattle.ps_eqvm.specs.Rows.{Row, all_row, any_row, operand_of, operands, size_of, whole, block_at}
-use Rattle.ps_eqvm.specs.Acting.{trapped, is_missing, is_odd, pins_on, stepped_by, block_as, after_block, after_join, target_of, byte_of}
+use Rattle.ps_eqvm.specs.declared.gates.Gate.TheVariants.{Set, All, Any}
+use Rattle.ps_eqvm.specs.Gates.{gate_row, after_gate}
+use Rattle.ps_eqvm.specs.Rows.{Row, set_row, all_row, any_row, operand_of, operands, size_of, whole, block_at}
+use Rattle.ps_eqvm.specs.Acting.{trapped, is_missing, is_odd, pins_on, stepped_by, block_as, after_block, target_of, byte_of}
 use Rattle.ps_eqvm.specs.Turn.{after_row, carried_out}
 
 module _ (n i o limit next : ℕ) (kind : Kind) (bytes : List (Option ℕ)) (p : Plain) where
@@ -88,8 +88,20 @@ row_whole n k at size code p row is here h =
     let next : at + size ≡ p.offset + size_of row = λ x. sym here x + sym is x in
     ap (λ m. after_row n k row m p) next ∙ ap (λ (r : Result Row ℕ). carried_out n k r p) (sym (cond-false (nat_lt (length code) (at + size_of row)) (Err 2) (Ok row) test))
 
--- ALL or ANY that is whole
+-- SET, ALL or ANY that is whole
 pub gate_whole : (how : Gate) (n k at t c : ℕ) (code : List ℕ) (p : Plain) → p.offset ≡ at → at + 5 ≤ length code →
-    after_join (gate_of how) (target_of (operand_of n t)) (byte_of p.cells (operand_of n c)) (at + 5) p ≡ carried_out n k (whole code at (gate_row how t c)) p
+    after_gate how (target_of (operand_of n t)) (byte_of p.cells (operand_of n c)) (at + 5) p ≡ carried_out n k (whole code at (gate_row how t c)) p
+gate_whole Set n k at t c code p here h = row_whole n k at 5 code p (set_row t c) refl here h
 gate_whole All n k at t c code p here h = row_whole n k at 5 code p (all_row t c) refl here h
 gate_whole Any n k at t c code p here h = row_whole n k at 5 code p (any_row t c) refl here h
+
+-- SET, ALL or ANY that is cut
+pub gate_cut : (how : Gate) (n k at t c : ℕ) (code : List ℕ) (p : Plain) → length code < at + 5 → trapped 2 p ≡ carried_out n k (whole code at (gate_row how t c)) p
+gate_cut how n k at t c code p h =
+    let test : nat_lt (length code) (at + size_of (gate_row how t c)) ≡ true = ap (λ m. nat_lt (length code) (at + m)) (five how) ∙ lt-ltb (length code) (at + 5) h in
+    ap (λ (r : Result Row ℕ). carried_out n k r p) (sym (cond-true (nat_lt (length code) (at + size_of (gate_row how t c))) (Err 2) (Ok (gate_row how t c)) test))
+  where
+    five : (how : Gate) → size_of (gate_row how t c) ≡ 5
+    five Set = refl
+    five All = refl
+    five Any = refl

@@ -1,5 +1,5 @@
 -- Bytes and their complements.
-use Rattle.std.proofs.Common.{◌≡◌, ℕ, zero, suc, ◌+◌, ◌-◌, ◌<◌, List, [], ◌∷◌, ◌++◌, length, take, drop, map, replicate, refl, sym, ap, ◌∙◌, arith, lit<}
+use Rattle.std.proofs.Common.{◌≡◌, ℕ, zero, suc, ◌+◌, ◌-◌, ◌<◌, List, [], ◌∷◌, ◌++◌, length, take, drop, replicate, refl, sym, ap, ◌∙◌, arith, lit<}
 use Rattle.std.specs.Prelude.{slice_index, slice_set}
 use Rattle.std.proofs.lemmas.List.{map-append, take-map, drop-map, length-map, map-set}
 use Rattle.ps_machine.specs.Bytes.{replaced}
@@ -9,6 +9,11 @@ pub complement_small : (bytes : List ℕ) (i : ℕ) → slice_index (complement 
 complement_small [] i = lit< tt
 complement_small (b ∷ bs) zero = omega arith
 complement_small (b ∷ bs) (suc i) = complement_small bs i
+
+pub complement_index : (bytes : List ℕ) (i : ℕ) → i < length bytes → slice_index (complement bytes) i ≡ 255 - slice_index bytes i
+complement_index [] i h = absurd (omega (arith, h))
+complement_index (b ∷ bs) zero h = refl
+complement_index (b ∷ bs) (suc i) h = complement_index bs i (omega (arith, h))
 
 pub complement_replicate : (n byte : ℕ) → complement (replicate n byte) ≡ replicate n (255 - byte)
 complement_replicate zero byte = refl

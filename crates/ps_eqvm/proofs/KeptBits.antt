@@ -1,9 +1,8 @@
 -- What is known of cells that are kept in bits.
-use Rattle.std.proofs.Common.{◌⊎◌, inl, inr, ◌≡◌, ◌≢◌, ℕ, zero, suc, ◌+◌, ◌-◌, ◌*◌, ◌^◌, ◌/◌, ◌%◌, ◌<◌, ◌≤◌, Bool, true, false, cond, List, length, map, replicate, refl, sym, ap, ◌∙◌, subst, ⊎_elim, arith, lit<, zero-add, get_or}
-use Rattle.std.specs.Prelude.{slice_set, slice_index, ◌==◌, nat_lt}
-use Rattle.std.specs.List.{range_with_len}
+use Rattle.std.proofs.Common.{inl, inr, ◌≡◌, ℕ, zero, suc, ◌/◌, ◌%◌, ◌<◌, ◌≤◌, true, false, cond, List, length, replicate, refl, sym, ap, ◌∙◌, subst, ⊎_elim, arith, lit<, zero-add}
+use Rattle.std.specs.Prelude.{slice_index, ◌==◌, nat_lt}
 use Rattle.std.specs.Int.{bit_at}
-use Rattle.std.proofs.lemmas.Bool.{cases_Bool, cond-true, cond-false, eqb-true, ne_eqb, lt-ltb, le-ltb, cases_lt}
+use Rattle.std.proofs.lemmas.Bool.{cases_Bool, cond-true, cond-false, eqb-true, eq-eqb, ne_eqb, lt-ltb, le-ltb, cases_lt, cases_eq}
 use Rattle.std.proofs.lemmas.List.{same_lists, length-replicate, get_or-replicate, get_or_past}
 use Rattle.std.proofs.lemmas.List.FromFn.{length-map-range_with_len, get_or-map-range_with_len}
 use Rattle.std.proofs.lemmas.Nat.Bits.{bit_at-lt, bit_at-zero}
@@ -91,4 +90,15 @@ cell_bytes value odd counted small i =
           let len = length-cells value odd counted in
           let past : length (plain_cells value odd counted) ≤ i = omega (arith, high, len) in
           subst (λ (b : ℕ). b < 256) (sym (get_or_past (plain_cells value odd counted) i 0 past)) (lit< tt)
+    ]
+
+-- a cell whose byte is 0 or 1 is not odd
+pub even_cell : (value odd counted : List ℕ) (i : ℕ) → AreCells value odd counted → plain_cell value odd counted i < 2 → bit_in odd i ≡ 0
+even_cell value odd counted i is small =
+    let low : bit_in odd i < 2 = bit_at-lt (slice_index odd (i / 64)) (i % 64) in
+    elim (cases_eq (bit_in odd i) 1) [
+      | inl one ↦
+          let own : plain_cell value odd counted i ≡ slice_index counted i = cond-true (bit_in odd i == 1) (slice_index counted i) (bit_in value i) (eq-eqb (bit_in odd i) 1 one) in
+          absurd (omega (arith, own, small, is.counts i one))
+      | inr other ↦ omega (arith, low, other)
     ]

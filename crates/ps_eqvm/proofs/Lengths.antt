@@ -1,6 +1,6 @@
 -- A turn and a Begin leave as many cells and as many bytes of instances as there were.
-use Rattle.std.proofs.Common.{◌≡◌, ℕ, zero, suc, ◌+◌, ◌*◌, ◌<◌, ◌≤◌, Bool, true, false, cond, List, [], ◌∷◌, ◌++◌, length, map, Option, Some, None, Result, Ok, Err, refl, sym, ap, ◌∙◌, arith, length-append}
-use Rattle.std.specs.Prelude.{slice_set, slice_index, ◌||◌, ◌==◌, nat_lt, nat_le, not, bit_and, bit_or}
+use Rattle.std.proofs.Common.{◌≡◌, ℕ, ◌+◌, ◌*◌, ◌<◌, ◌≤◌, Bool, cond, List, [], ◌∷◌, length, map, Option, Some, None, Result, Ok, Err, refl, ap, ◌∙◌, arith, length-append}
+use Rattle.std.specs.Prelude.{slice_index, ◌||◌, ◌==◌, nat_lt, nat_le, not, bit_and, bit_or}
 use Rattle.std.specs.List.{list_any, range_with_len}
 use Rattle.std.proofs.lemmas.Bool.{cond_both, or_parts, ltb-false, leb-false}
 use Rattle.std.proofs.lemmas.List.{length-set, length-map}
@@ -10,12 +10,12 @@ use Rattle.ps_model.specs.Blocks.{block, outs, output_count, safe_output, ready_
 use Rattle.ps_model.specs.Budgets.{boolean_count}
 use Rattle.ps_model.specs.Kept.{Kept, counted_down}
 use Rattle.ps_model.specs.Stored.{stored, loaded}
-use Rattle.ps_machine.specs.Bytes.{bit, is_no_bit, replaced, instance_bytes}
+use Rattle.ps_machine.specs.Bytes.{bit, is_no_bit, instance_bytes}
 use Rattle.ps_machine.proofs.Places.{length-replaced}
-use Rattle.ps_eqvm.specs.Kinds.{kind_of}
+use Rattle.ps_machine.specs.Kinds.{kind_of}
 use Rattle.ps_eqvm.specs.Plain.{Plain, IsSized}
 use Rattle.ps_eqvm.specs.Rows.{Row, last_row, set_row, all_row, any_row, block_row, operand_of, fetched}
-use Rattle.ps_eqvm.specs.Acting.{trapped, with_cell, byte_of, target_of, after_set, after_join, is_missing, is_odd, pins_on, pin_bytes, settled, stepped_by, block_as, block_by, after_block}
+use Rattle.ps_eqvm.specs.Acting.{trapped, with_cell, byte_of, target_of, after_set, after_join, is_missing, is_odd, pins_on, pin_bytes, settled, stepped_by, block_as, block_by}
 use Rattle.ps_eqvm.specs.Turn.{after_row, carried_out, turn_plain, begin_plain}
 
 pub length-outs : (kind : Kind) (code mode : ℕ) → length (outs kind code mode) ≡ output_count kind
@@ -23,6 +23,10 @@ unfolding outs output_count
 length-outs kind code mode =
     length-append (map (safe_output kind code mode) (range_with_len 0 (length (block kind).outputs))) (ready_in code ∷ error_in code ∷ [])
     ∙ ap (λ n. n + 2) (length-map-range_with_len (safe_output kind code mode) 0 (length (block kind).outputs))
+
+pub output_count_is : (kind : Kind) → output_count kind ≡ length (block kind).outputs + 2
+unfolding output_count
+output_count_is kind = refl
 
 pub length-stored : (kept : Kept) → length (stored kept) ≡ 16
 length-stored kept = refl

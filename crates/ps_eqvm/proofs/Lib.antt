@@ -1,12 +1,14 @@
 pub mod Again
 pub mod Blocks
 pub mod Complements
+pub mod Fetching
 pub mod KeptBits
-pub mod KindsByNumber
 pub mod Lengths
+pub mod LowBits
 pub mod OneBit
-pub mod OutsRead
 pub mod PinsRead
 pub mod Poking
-pub mod Walks
 pub mod Reported
+pub mod StaysPlain
+pub mod Runs
+pub mod StoredBytes

@@ -1,19 +1,17 @@
 -- The operands of a BLOCK row, read one after another.
-use Rattle.std.proofs.Common.{◌⊎◌, inl, inr, ◌≡◌, ◌≢◌, ℕ, zero, suc, ◌+◌, ◌-◌, ◌*◌, ◌%◌, ◌^◌, ◌<◌, ◌≤◌, Bool, true, false, cond, List, [], ◌∷◌, ◌++◌, length, map, Option, Some, None, refl, sym, ap, ◌∙◌, subst, arith, zero-add, get_or, ⊎_elim}
-use Rattle.std.specs.Prelude.{slice_index, slice_index_or, ◌==◌, ◌||◌, max, bit_or}
+use Rattle.std.proofs.Common.{inl, inr, ◌≡◌, ◌≢◌, ℕ, zero, suc, ◌+◌, ◌<◌, ◌≤◌, Bool, true, false, List, [], ◌∷◌, length, map, Option, Some, None, refl, sym, ap, ◌∙◌, arith, zero-add, ⊎_elim}
+use Rattle.std.specs.Prelude.{◌==◌, ◌||◌, max}
 use Rattle.std.specs.List.{list_any, range_with_len}
-use Rattle.std.specs.Int.{bit_at, w32}
-use Rattle.std.proofs.lemmas.Bool.{cases_eq, cases_lt, cases_Bool, cond-true, cond-false, or_left, or_right, or_from, eqb-true}
+use Rattle.std.specs.Int.{bit_at}
+use Rattle.std.proofs.lemmas.Bool.{cases_eq, cases_lt, cases_Bool, cond-true, cond-false, or_left, or_right, or_from}
 use Rattle.std.proofs.lemmas.List.{get_or_past}
 use Rattle.std.proofs.lemmas.List.Folds.{list_any-append}
 use Rattle.std.proofs.lemmas.List.FromFn.{length-map-range_with_len, get_or-map-range_with_len, map-range_with_len_more}
 use Rattle.std.proofs.lemmas.Simd.{map-map}
-use Rattle.std.proofs.lemmas.Nat.Bits.{bit_at_set_same, bit_at_set_other, bit_at-lt}
-use Rattle.ps_machine.specs.Bytes.{bit, be2, is_no_bit}
+use Rattle.ps_machine.specs.Bytes.{bit, is_no_bit}
 use Rattle.ps_rows.specs.Viewed.{pin_of}
-use Rattle.ps_eqvm.specs.declared.operand.Found.{Found}
 use Rattle.ps_eqvm.specs.declared.operand.Found.TheVariants.{Missing, Odd, Truth}
-use Rattle.ps_eqvm.specs.declared.block.Pins.TheVariants.{Bits, Odd as Odd_pins, Missing as Missing_pins}
+use Rattle.ps_eqvm.specs.declared.block.Pins.TheVariants.{Bits, Odd as Odd_pins}
 use Rattle.ps_eqvm.specs.Finding.{found_of}
 use Rattle.ps_eqvm.specs.Rows.{operands}
 use Rattle.ps_eqvm.specs.Acting.{is_missing, is_odd, is_on, pins_on, pin_bytes}
@@ -124,13 +122,3 @@ pin_bytes_are signals cells code from count = map-map _ _ (range_with_len 0 coun
 
 pub pin_count_is : (signals : ℕ) (cells code : List ℕ) (from count : ℕ) → length (pin_bytes signals cells (operands code from count)) ≡ count
 pin_count_is signals cells code from count = ap length (pin_bytes_are signals cells code from count) ∙ length-map-range_with_len (pin_byte signals cells code from) 0 count
-
--- a pin among others
-pub pin_set : (bits j : ℕ) → j < 32 → bit_at (bit_or bits (1 * 2 ^ j % 2 ^ 32)) j ≡ max (bit_at bits j) 1
-pin_set bits j low = let small = bit_at-lt bits j in let one : 1 ≡ max (bit_at bits j) 1 = omega arith in bit_at_set_same w32 bits j low ∙ one
-
-pub pin_kept : (bits j : ℕ) → bit_at bits j ≡ max (bit_at bits j) 0
-pin_kept bits j = omega arith
-
-pub pin_others : (bits j : ℕ) → j < 32 → (k : ℕ) → k ≢ j → bit_at (bit_or bits (1 * 2 ^ j % 2 ^ 32)) k ≡ bit_at bits k
-pin_others bits j low k other = bit_at_set_other w32 bits j low k other

@@ -1,8 +1,8 @@
 -- One byte of the cells is new.
-use Rattle.std.proofs.Common.{◌≡◌, ℕ, zero, suc, ◌+◌, ◌-◌, ◌*◌, ◌^◌, ◌<◌, ◌≤◌, Bool, List, [], ◌∷◌, ◌++◌, length, take, drop, map, replicate, refl, sym, ap, ◌∙◌, subst, arith, length-append, length-drop, get_or}
+use Rattle.std.proofs.Common.{◌≡◌, ℕ, suc, ◌+◌, ◌-◌, ◌<◌, ◌≤◌, List, [], ◌∷◌, ◌++◌, length, take, replicate, refl, sym, ap, ◌∙◌, arith, length-append}
 use Rattle.std.specs.Prelude.{slice_index, slice_set}
 use Rattle.std.specs.Int.{w16, w32, to_be_bytes, from_be_bytes}
-use Rattle.std.proofs.lemmas.List.{set-append_left, set-append_right, map-set, length-set, length-map, get_or-drop, get_or_append_left, get_or-append-add, length-take-le, take_more, replicate-append-replicate}
+use Rattle.std.proofs.lemmas.List.{set-append_left, set-append_right, map-set, length-map, get_or-drop, get_or_append_left, get_or-append-add, length-take-le, take_more, replicate-append-replicate}
 use Rattle.ps_machine.specs.Bytes.{be2, replaced}
 use Rattle.ps_machine.proofs.Places.{replaced_more}
 use Rattle.ps_eqvm.specs.Plain.{Plain, complement, plain_bytes, laid_out, blank}

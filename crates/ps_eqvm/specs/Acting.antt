@@ -1,6 +1,6 @@
 -- What each row leaves of the plain cells. `next` is where the following row stands. The traps of each are tried in the order in which they are
 -- written. Profile.
-use Rattle.std.specs.Prelude.{ℕ, ◌+◌, ◌*◌, Bool, true, false, ◌==◌, ◌||◌, not, nat_lt, nat_le, if◌then◌else◌, List, length, map, slice_index, slice_index_or, slice_set, Option, Some, None, bit_and, bit_or}
+use Rattle.std.specs.Prelude.{ℕ, ◌+◌, ◌*◌, Bool, true, false, ◌==◌, ◌||◌, not, nat_lt, nat_le, if◌then◌else◌, List, length, map, slice_index, slice_index_or, slice_set, Option, Some, None}
 use Rattle.std.specs.List.{list_any}
 use Rattle.ps_model.specs.declared.kind.Kind.{Kind}
 use Rattle.ps_model.specs.Blocks.{outs, output_count}
@@ -10,7 +10,7 @@ use Rattle.ps_model.specs.Stored.{stored, loaded}
 use Rattle.ps_machine.specs.Bytes.{bit, is_no_bit, replaced, instance_bytes}
 use Rattle.ps_eqvm.specs.declared.operand.Operand.{Operand}
 use Rattle.ps_eqvm.specs.declared.operand.Operand.TheVariants.{Cell, Constant, Bad}
-use Rattle.ps_eqvm.specs.Kinds.{kind_of}
+use Rattle.ps_machine.specs.Kinds.{kind_of}
 use Rattle.ps_eqvm.specs.Plain.{Plain}
 use Rattle.ps_eqvm.specs.Rows.{operand_of}
 

@@ -1,5 +1,4 @@
 pub mod Bits
-pub mod Kinds
 pub mod Plain
 pub mod Rows
 pub mod Acting
@@ -8,3 +7,7 @@ pub mod Channel
 pub mod Finding
 pub mod Gates
 pub mod Pins
+pub mod Code
+pub mod Stands
+pub mod Instances
+pub mod LowBits

@@ -1,7 +1,6 @@
 -- Channel B's cells with their plain content, and the bytes that they are stored as. Profile.
 use Rattle.std.specs.Prelude.{◌≡◌, ℕ, ◌+◌, ◌-◌, ◌*◌, ◌^◌, ◌<◌, List, ◌∷◌, ◌++◌, length, take, drop, map, replicate, slice_index}
 use Rattle.std.specs.Int.{w32, to_be_bytes}
-use Rattle.ps_model.specs.declared.sizes.Sizes.{Sizes}
 use Rattle.ps_machine.specs.Bytes.{be4}
 
 -- The plain content: where the next row stands in the code, the progress, the time of the last scan that began and the time passed in this

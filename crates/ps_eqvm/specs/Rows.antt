@@ -1,5 +1,5 @@
 -- Rows of equation code, and how one is read. Profile.
-use Rattle.std.specs.Prelude.{ℕ, ◌+◌, ◌-◌, ◌*◌, Bool, true, false, ◌==◌, nat_lt, nat_le, if◌then◌else◌, List, length, map, slice_index, Result, Ok, Err}
+use Rattle.std.specs.Prelude.{ℕ, ◌+◌, ◌-◌, ◌*◌, true, false, ◌==◌, nat_lt, nat_le, if◌then◌else◌, List, length, map, slice_index, Result, Ok, Err}
 use Rattle.std.specs.List.{range_with_len}
 use Rattle.ps_machine.specs.Bytes.{be2, be4}
 use Rattle.ps_eqvm.specs.declared.operand.Operand.{Operand}

@@ -14,12 +14,13 @@ ghost use Rattle.ps_eqvm.specs.Acting.{after_block, block_as, trapped, stepped_b
 ghost use Rattle.ps_eqvm.specs.Pins.{Reads, ReadSoFar};
 ghost use Rattle.ps_eqvm.specs.Finding.{found_of};
 
-use crate::kept::load;
 use crate::operand::Found;
 use crate::plain::PlainCells;
+use crate::words::with_bit;
 use ps_machine::bytes::number_in_two;
+use ps_machine::calls::kind_by_number;
 use ps_model::budget::boolean_count;
-use ps_model::kind::{Kind, kind_numbered, output_count};
+use ps_model::kind::{Kind, output_count};
 
 /// What a look at the operands of a row finds.
 #[derive(Clone, Copy)]
@@ -50,15 +51,6 @@ struct PinBits {
     odd: bool,
 }
 
-// The pins with pin j, where it is TRUE.
-fn with_pin(bits: u32, j: u8, on: bool) -> u32
-    requires { j < 32 }
-    ensures same { bit_at result j ≡ max (bit_at bits j) (bit on) }
-    ensures others { (k : ℕ) → k ≢ j → bit_at result k ≡ bit_at bits k }
-{
-    if on { bits | 1u32 << j } else { bits }
-}
-
 // The pins with what was found for pin j, and None where its operand is bad.
 fn with_found(so_far: PinBits, j: u8, found: Found) -> Option<PinBits>
     requires { j < 32 }
@@ -72,7 +64,7 @@ fn with_found(so_far: PinBits, j: u8, found: Found) -> Option<PinBits>
             odd: true,
         }),
         Found::Truth(on) => Some(PinBits {
-            bits: with_pin(so_far.bits, j, on),
+            bits: with_bit(so_far.bits, j, on),
             odd: so_far.odd,
         }),
     }
@@ -130,7 +122,6 @@ fn has_bad(plain: &PlainCells, signals: u16, code: &[u8], from: usize, count: u8
 
 /// BLOCK of an instance, of which there are so many, as the kind with a number, with so many operands
 /// from a place of the code on.
-#[tactic(auto, using(crate::proofs::KindsByNumber::kind_of_number, crate::proofs::KindsByNumber::no_kind_of))]
 pub fn block(
     plain: &mut PlainCells,
     instances: u16,
@@ -147,7 +138,7 @@ pub fn block(
     if site.instance >= instances {
         return plain.trap(6);
     }
-    match kind_numbered(kind) {
+    match kind_by_number(kind) {
         Some(kind) => block_as(plain, kind, site, code, from, count),
         None => plain.trap(6),
     }
@@ -174,6 +165,8 @@ fn block_as(plain: &mut PlainCells, kind: Kind, site: Site, code: &[u8], from: u
 }
 
 // BLOCK with a wrong number of operands: all of them are judged first.
+#[cold]
+#[inline(never)]
 fn miscounted(plain: &mut PlainCells, signals: u16, code: &[u8], from: usize, count: u8)
     requires cells { length plain.old.cells ≡ 48 + signals }
     requires whole { from + 2 * count ≤ length code.now }
@@ -193,11 +186,11 @@ fn step_as(plain: &mut PlainCells, kind: Kind, bits: u32, site: Site)
     requires outs { site.first + output_count kind ≤ site.signals }
     ensures { plain.new ≡ stepped_by site.instance site.first site.limit kind (pin_of bits) site.next (loaded kind (instance_bytes 0 site.instance plain.old.blocks)) plain.old }
 {
-    match load(kind, &plain.instance(site.instance as usize)) {
+    match plain.instance(site.instance as usize) {
         None => plain.trap(7),
-        Some(block) => {
-            let stepped = block.stepped(kind, bits, site.limit, plain.passed());
-            plain.settle(kind, stepped, site.instance, site.first, site.next)
-        }
+        Some(block) => match block.stepped_if_kept(kind, bits, site.limit, plain.passed()) {
+            None => plain.trap(7),
+            Some(after) => plain.settle(kind, after, site.instance, site.first, site.next),
+        },
     }
 }

@@ -1,10 +1,11 @@
 // Cells that are kept as bits.
 
-ghost use Rattle.std.specs.Prelude.{◌≡◌, ℕ, ◌+◌, ◌*◌, ◌/◌, ◌<◌, ◌≤◌, length, slice_index, slice_set};
-ghost use Rattle.ps_machine.specs.Bytes.{bit};
+ghost use Rattle.std.specs.Prelude.{◌≡◌, ℕ, ◌+◌, ◌*◌, ◌/◌, ◌%◌, ◌<◌, ◌≤◌, Bool, List, length, map, slice_index, slice_set};
+ghost use Rattle.ps_machine.specs.Bytes.{bit, replaced};
 ghost use Rattle.ps_eqvm.specs.Bits.{bit_in, plain_cell, plain_cells, truth_of, words_for, AreCells};
+ghost use Rattle.ps_eqvm.specs.LowBits.{AreLowBits};
 
-use crate::words::{bit_at, clear_all, place};
+use crate::words::{bit_at, clear_all, place, place_run};
 use ps_base::Memory;
 use std::alloc::Global;
 use std::marker::Model;
@@ -54,6 +55,17 @@ fn write(value: &mut [u64], odd: &mut [u64], counted: &[u8], i: usize, on: bool)
     place(value, i, on);
 }
 
+// Cell i, which is not odd, becomes a truth value.
+fn write_over(value: &mut [u64], odd: &[u64], counted: &[u8], i: usize, on: bool)
+    requires cells { AreCells value.old odd.now counted.now }
+    requires within { i < length counted.now }
+    requires even { bit_in odd.now i ≡ 0 }
+    ensures cells { AreCells value.new odd.now counted.now }
+    ensures written { plain_cells value.new odd.now counted.now ≡ slice_set (plain_cells value.old odd.now counted.now) i (bit on) }
+{
+    place(value, i, on);
+}
+
 // Cell i becomes a byte that is neither 0 nor 1.
 fn write_odd(value: &mut [u64], odd: &mut [u64], counted: &mut [u8], i: usize, byte: u8)
     requires cells { AreCells value.old odd.old counted.old }
@@ -67,15 +79,30 @@ fn write_odd(value: &mut [u64], odd: &mut [u64], counted: &mut [u8], i: usize, b
     counted[i] = byte;
 }
 
+// So many cells from cell i on, which stand in one word, become the lowest bits of a number.
+fn write_run(value: &mut [u64], odd: &mut [u64], counted: &[u8], i: usize, count: u8, number: u64)
+    requires cells { AreCells value.old odd.old counted.now }
+    requires room { i + count ≤ length counted.now }
+    requires some { 0 < count }
+    requires few { count < 64 }
+    requires fits { i % 64 + count ≤ 64 }
+    ensures cells { AreCells value.new odd.new counted.now }
+    ensures written { (values : List Bool) → length values ≡ count → AreLowBits values number → plain_cells value.new odd.new counted.now ≡ replaced (plain_cells value.old odd.old counted.now) i (map bit values) }
+{
+    place_run(odd, i, count, 0);
+    place_run(value, i, count, number);
+}
+
 // The values of bytes are below 256.
 fn are_bytes(bytes: &[u8])
     ensures { (i : ℕ) → slice_index bytes.now i < 256 }
 {}
 
 impl BitCells {
-    ghost use Rattle.std.specs.Prelude.{◌≡◌, ℕ, ◌+◌, ◌<◌, ◌^◌, ◌==◌, IfOk, length, replicate, slice_index, slice_set, nat_lt};
-    ghost use Rattle.ps_machine.specs.Bytes.{bit};
+    ghost use Rattle.std.specs.Prelude.{◌≡◌, ℕ, ◌+◌, ◌<◌, ◌≤◌, ◌^◌, ◌==◌, Bool, IfOk, List, length, map, replicate, slice_index, slice_set, nat_lt};
+    ghost use Rattle.ps_machine.specs.Bytes.{bit, replaced};
     ghost use Rattle.ps_eqvm.specs.Bits.{truth_of, AreBitsOf};
+    ghost use Rattle.ps_eqvm.specs.LowBits.{AreLowBits};
 
     /// So many cells, each 0.
     pub fn all_zero(alloc: Global, count: usize) -> Result<BitCells, Memory>
@@ -121,6 +148,51 @@ impl BitCells {
         ensures { self.new ≡ slice_set self.old i (bit on) }
     {
         write(&mut self.value, &mut self.odd, &self.counted, i, on);
+    }
+
+    /// A cell whose byte is 0 or 1 becomes a truth value.
+    pub fn put_over(&mut self, i: usize, on: bool)
+        requires within { i < length self.old }
+        requires even { slice_index self.old i < 2 }
+        ensures { self.new ≡ slice_set self.old i (bit on) }
+    {
+        write_over(&mut self.value, &self.odd, &self.counted, i, on);
+    }
+
+    /// So many cells from cell i on become the truth values that the lowest bits of a number are. Where
+    /// the cells stand in one word, they are written at once.
+    pub fn put_run(&mut self, i: usize, count: u8, number: u32)
+        requires low { i < 2 ^ 32 }
+        requires room { i + count ≤ length self.old }
+        requires few { count ≤ 32 }
+        ensures { (values : List Bool) → length values ≡ count → AreLowBits values number → self.new ≡ replaced self.old i (map bit values) }
+    {
+        if count > 0 && i % 64 + count as usize <= 64 {
+            write_run(
+                &mut self.value,
+                &mut self.odd,
+                &self.counted,
+                i,
+                count,
+                number as u64,
+            );
+        } else {
+            self.put_each(i, count, number);
+        }
+    }
+
+    // The same one by one.
+    #[cold]
+    #[inline(never)]
+    fn put_each(&mut self, i: usize, count: u8, number: u32)
+        requires low { i < 2 ^ 32 }
+        requires room { i + count ≤ length self.old }
+        requires few { count ≤ 32 }
+        ensures { (values : List Bool) → length values ≡ count → AreLowBits values number → self.new ≡ replaced self.old i (map bit values) }
+    {
+        for j in 0..count {
+            self.put(i + j as usize, number >> j & 1 == 1);
+        }
     }
 
     /// A cell becomes any byte.

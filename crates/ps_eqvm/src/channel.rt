@@ -10,7 +10,6 @@ use ps_machine::bytes::{overwrite, progress_of_byte, replace};
 use ps_model::channel::{OutOfRegion, Progress, Region};
 use ps_model::report::{Report, Scan};
 use ps_model::sizes::Sizes;
-use ps_model::values::{FirstPins, Kinds};
 use std::alloc::Global;
 use std::marker::Model;
 
@@ -35,44 +34,6 @@ impl Model for EquationChannel {
     ghost view = { λ c. record { sizes = c.sizes; code = c.code.items; cells = laid_out c.plain } };
 
     ghost invariant = { λ c. IsSized c.sizes.signals c.sizes.instances c.plain × (length c.code.items < 2 ^ 32) };
-}
-
-// A copy of first pins.
-fn copy_of_first_pins(alloc: Global, first_pins: &FirstPins) -> Result<FirstPins, Memory>
-    ensures { IfOk result (λ copy. copy ≡ first_pins.now) }
-{
-    let mut copy = FirstPins::new(alloc);
-    for i in 0..first_pins.len() {
-        copy.push(first_pins.at(i))?;
-    }
-    Ok(copy)
-}
-
-// A copy of kinds.
-fn copy_of_kinds(alloc: Global, kinds: &Kinds) -> Result<Kinds, Memory>
-    ensures { IfOk result (λ copy. copy ≡ kinds.now) }
-{
-    let mut copy = Kinds::new(alloc);
-    for i in 0..kinds.len() {
-        copy.push(kinds.at(i))?;
-    }
-    Ok(copy)
-}
-
-// A copy of the sizes of an application.
-fn copy_of_sizes(alloc: Global, sizes: &Sizes) -> Result<Sizes, Memory>
-    ensures { IfOk result (λ copy. copy ≡ sizes.now) }
-{
-    let first_pins = copy_of_first_pins(alloc, &sizes.first_pins)?;
-    let kinds = copy_of_kinds(alloc, &sizes.kinds)?;
-    Ok(Sizes {
-        signals: sizes.signals,
-        instances: sizes.instances,
-        inputs: sizes.inputs,
-        outputs: sizes.outputs,
-        first_pins,
-        kinds,
-    })
 }
 
 // How many bytes the cells of an application have.
@@ -100,7 +61,7 @@ impl EquationChannel {
     ) -> Result<EquationChannel, Memory>
         ensures { IfOk result (λ c. c ≡ record { sizes = sizes.now; code = image.now; cells = blank_b sizes.now }) }
     {
-        let sizes = copy_of_sizes(alloc, sizes)?;
+        let sizes = sizes.copy(alloc)?;
         let code = Vec::from_slice(alloc, image.as_slice())?;
         let plain = PlainCells::all_zero(alloc, sizes.signals, sizes.instances)?;
         Ok(EquationChannel { sizes, code, plain })

@@ -1,82 +1,105 @@
 // SET, ALL and ANY. `next` is where the following row stands.
 
-ghost use Rattle.std.specs.Prelude.{◌≡◌, ◌+◌, ◌<◌, length, Some};
+ghost use Rattle.std.specs.Prelude.{◌≡◌, ◌≢◌, ◌+◌, ◌<◌, length, Some};
 ghost use Rattle.ps_machine.specs.Bytes.{bit};
 ghost use Rattle.ps_eqvm.specs.Rows.{operand_of};
-ghost use Rattle.ps_eqvm.specs.Acting.{byte_of, target_of, after_set, after_join};
-ghost use Rattle.ps_eqvm.specs.Gates.{gate_of};
+ghost use Rattle.ps_eqvm.specs.Acting.{byte_of, target_of};
+ghost use Rattle.ps_eqvm.specs.Gates.{after_gate};
 
 use crate::operand::{Found, Operand};
 use crate::plain::PlainCells;
 
-/// How ALL and ANY join their target with their operand.
+/// The rows that give a target the value of an operand, or join it.
 #[derive(Clone, Copy)]
 pub enum Gate {
+    Set,
     All,
     Any,
 }
 
 impl Gate {
-    // The two values joined.
-    fn of(self, target: bool, operand: bool) -> bool
-        ensures { bit result ≡ gate_of self (bit target) (bit operand) }
+    ghost use Rattle.std.specs.Prelude.{◌≡◌, ◌≢◌, IfSome, IfNone};
+    ghost use Rattle.ps_eqvm.specs.Gates.{opcode_of, decides};
+
+    /// The one with an opcode, and None exactly where none has it.
+    pub fn with_opcode(opcode: u8) -> Option<Gate>
+        ensures some { IfSome result (λ gate. opcode_of gate ≡ opcode) }
+        ensures none { IfNone result ((gate : Gate) → opcode_of gate ≢ opcode) }
+    {
+        match opcode {
+            0xF1 => Some(Gate::Set),
+            0xF2 => Some(Gate::All),
+            0xF3 => Some(Gate::Any),
+            _ => None,
+        }
+    }
+
+    // Whether a value alone decides what becomes of the target: FALSE for ALL, and TRUE for ANY.
+    fn is_decided_by(self, on: bool) -> bool
+        ensures { result ≡ decides self on }
     {
         match self {
-            Gate::All => target && operand,
-            Gate::Any => target || operand,
+            Gate::Set => true,
+            Gate::All => !on,
+            Gate::Any => on,
         }
     }
 }
 
-/// SET, among so many signals.
-pub fn set(plain: &mut PlainCells, signals: u16, target: u16, operand: u16, next: u32)
+/// SET, ALL or ANY of a target and an operand, among so many signals.
+pub fn set_or_join(
+    plain: &mut PlainCells,
+    signals: u16,
+    how: Gate,
+    target: u16,
+    operand: u16,
+    next: u32,
+)
     requires { length plain.old.cells ≡ 48 + signals }
-    ensures { plain.new ≡ after_set (target_of (operand_of signals target)) (byte_of plain.old.cells (operand_of signals operand)) next plain.old }
+    ensures { plain.new ≡ after_gate how (target_of (operand_of signals target)) (byte_of plain.old.cells (operand_of signals operand)) next plain.old }
 {
     match Operand::numbered(signals, target) {
-        Operand::Cell(i) => set_cell(plain, signals, i, operand, next),
+        Operand::Cell(i) => set_or_join_cell(plain, signals, how, i, operand, next),
         Operand::Constant(_) => plain.trap(5),
         Operand::Bad => plain.trap(5),
     }
 }
 
-// SET of a cell.
-fn set_cell(plain: &mut PlainCells, signals: u16, i: u16, operand: u16, next: u32)
+// SET, ALL or ANY of a cell and an operand.
+fn set_or_join_cell(
+    plain: &mut PlainCells,
+    signals: u16,
+    how: Gate,
+    i: u16,
+    operand: u16,
+    next: u32,
+)
     requires cells { length plain.old.cells ≡ 48 + signals }
     requires within { i < 48 + signals }
-    ensures { plain.new ≡ after_set (Some i) (byte_of plain.old.cells (operand_of signals operand)) next plain.old }
+    ensures { plain.new ≡ after_gate how (Some i) (byte_of plain.old.cells (operand_of signals operand)) next plain.old }
 {
     match plain.find(signals, operand) {
         Found::Missing => plain.trap(5),
         Found::Odd => plain.trap(4),
-        Found::Truth(on) => plain.put(i as usize, on, next),
-    }
-}
-
-/// ALL and ANY, among so many signals.
-pub fn join(plain: &mut PlainCells, signals: u16, how: Gate, target: u16, operand: u16, next: u32)
-    requires { length plain.old.cells ≡ 48 + signals }
-    ensures { plain.new ≡ after_join (gate_of how) (target_of (operand_of signals target)) (byte_of plain.old.cells (operand_of signals operand)) next plain.old }
-{
-    match Operand::numbered(signals, target) {
-        Operand::Cell(i) => join_cell(plain, signals, how, i, operand, next),
-        Operand::Constant(_) => plain.trap(5),
-        Operand::Bad => plain.trap(5),
-    }
-}
-
-// ALL and ANY of a cell.
-fn join_cell(plain: &mut PlainCells, signals: u16, how: Gate, i: u16, operand: u16, next: u32)
-    requires cells { length plain.old.cells ≡ 48 + signals }
-    requires within { i < 48 + signals }
-    ensures { plain.new ≡ after_join (gate_of how) (Some i) (byte_of plain.old.cells (operand_of signals operand)) next plain.old }
-{
-    match plain.find(signals, operand) {
-        Found::Missing => plain.trap(5),
-        Found::Odd => plain.trap(4),
-        Found::Truth(on) => match plain.cell(i as usize) {
-            None => plain.trap(4),
-            Some(target) => plain.put(i as usize, how.of(target, on), next),
+        Found::Truth(on) => match how {
+            Gate::Set => plain.put(i as usize, on, next),
+            _ => join(plain, how, i as usize, on, next),
         },
+    }
+}
+
+// ALL or ANY of a cell and a value: where the value decides the cell becomes it, and else the cell stays.
+fn join(plain: &mut PlainCells, how: Gate, i: usize, on: bool, next: u32)
+    requires within { i < length plain.old.cells }
+    requires joins { how ≢ Gate.Set }
+    ensures { plain.new ≡ after_gate how (Some i) (Some (bit on)) next plain.old }
+{
+    if plain.cell(i).is_none() {
+        return plain.trap(4);
+    }
+    if how.is_decided_by(on) {
+        plain.put_over(i, on, next)
+    } else {
+        plain.pass(next)
     }
 }

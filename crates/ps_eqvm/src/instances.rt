@@ -1,10 +1,11 @@
 // The sixteen bytes of each instance.
 
-ghost use Rattle.std.specs.Prelude.{◌≡◌, ◌+◌, ◌≤◌, length, take, drop, replicate};
-ghost use Rattle.ps_eqvm.specs.Plain.{complement};
+ghost use Rattle.std.specs.Prelude.{◌≡◌, length, replicate};
 
+use crate::kept::{read, store};
 use ps_base::Memory;
 use ps_machine::bytes::replace;
+use ps_rows::CountedBlock;
 use std::alloc::Global;
 use std::marker::Model;
 
@@ -24,36 +25,11 @@ impl Model for InstanceBytes {
     ghost view = { λ b. complement b.stored.items };
 }
 
-// Each byte becomes 255 less it.
-fn complement(bytes: &mut [u8])
-    ensures { bytes.new ≡ complement bytes.old }
-{
-    for i in 0..bytes.len() {
-        bytes[i] = 255 - bytes[i];
-    }
-}
-
-// The complement of sixteen bytes.
-fn complemented(bytes: &[u8; 16]) -> [u8; 16]
-    ensures { result ≡ complement bytes.now }
-{
-    let mut plain = *bytes;
-    complement(&mut plain);
-    plain
-}
-
-// The sixteen bytes at a place.
-fn read(stored: &[u8], at: usize) -> [u8; 16]
-    requires { at + 16 ≤ length stored.now }
-    ensures { complement result ≡ take 16 (drop at (complement stored.now)) }
-{
-    let mut bytes = [0; 16];
-    bytes.copy_from_slice(&stored[at..at + 16]);
-    bytes
-}
-
 impl InstanceBytes {
-    ghost use Rattle.std.specs.Prelude.{◌≡◌, ℕ, ◌+◌, ◌*◌, ◌<◌, ◌≤◌, ◌^◌, IfOk, length, replicate, slice_index, slice_set};
+    ghost use Rattle.std.specs.Prelude.{◌≡◌, ℕ, ◌+◌, ◌*◌, ◌<◌, ◌≤◌, ◌^◌, IfOk, IfSome, IfNone, length, replicate, slice_index, slice_set};
+    ghost use Rattle.ps_model.specs.Stored.{stored};
+    ghost use Rattle.ps_rows.specs.Counted.{kept_by};
+    ghost use Rattle.ps_eqvm.specs.Instances.{LoadAs, LoadNowhere};
     ghost use Rattle.ps_machine.specs.Bytes.{be2, replaced, instance_bytes};
 
     /// Those of so many instances, each 0.
@@ -78,12 +54,14 @@ impl InstanceBytes {
         let _ = &self.stored;
     }
 
-    /// The plain bytes of instance i.
-    pub fn at(&self, i: usize) -> [u8; 16]
+    /// What the bytes of instance i say, for any kind that can keep it. None comes where they load for no
+    /// kind.
+    pub fn at(&self, i: usize) -> Option<CountedBlock>
         requires { 16 * i + 16 ≤ length self.now }
-        ensures { result ≡ instance_bytes 0 i self.now }
+        ensures some { IfSome result (λ block. LoadAs (instance_bytes 0 i self.now) (kept_by block)) }
+        ensures none { IfNone result (LoadNowhere (instance_bytes 0 i self.now)) }
     {
-        complemented(&read(&self.stored, 16 * i))
+        read(&self.stored, 16 * i)
     }
 
     /// The DiagCode of instance i: its bytes 0 and 1, the highest first.
@@ -94,12 +72,12 @@ impl InstanceBytes {
         u16::from_be_bytes([255 - self.stored[16 * i], 255 - self.stored[16 * i + 1]])
     }
 
-    /// Puts the plain bytes of instance i.
-    pub fn put(&mut self, i: usize, bytes: &[u8; 16])
+    /// Instance i keeps this.
+    pub fn put(&mut self, i: usize, block: CountedBlock)
         requires { 16 * i + 16 ≤ length self.old }
-        ensures { self.new ≡ replaced self.old (16 * i) bytes.now }
+        ensures { self.new ≡ replaced self.old (16 * i) (stored (kept_by block)) }
     {
-        replace(&mut self.stored, 16 * i, &complemented(bytes));
+        replace(&mut self.stored, 16 * i, &store(block));
     }
 
     /// One byte becomes another, by its plain value.

@@ -12,6 +12,8 @@ mod operand;
 mod outputs;
 mod plain;
 mod report;
+#[cfg(test)]
+mod tests;
 mod turn;
 mod words;
 

@@ -42,14 +42,10 @@ impl Operand {
             } else {
                 Operand::Bad
             }
-        } else if number < 0xF000 {
-            Operand::Bad
-        } else if number < 0xF030 {
+        } else if number >= 0xFFFE {
+            Operand::Constant(number % 2 == 1)
+        } else if number >= 0xF000 && number < 0xF030 {
             Operand::Cell(number - 0xF000)
-        } else if number == 0xFFFE {
-            Operand::Constant(false)
-        } else if number == 0xFFFF {
-            Operand::Constant(true)
         } else {
             Operand::Bad
         }

@@ -7,12 +7,11 @@ ghost use Rattle.ps_machine.specs.Bytes.{bit, replaced};
 
 use crate::cells::BitCells;
 use crate::instances::InstanceBytes;
-use crate::kept::store;
 use crate::operand::{Found, Operand, find};
-use crate::outputs::output;
+use crate::outputs::outputs;
 use ps_base::Memory;
 use ps_model::channel::OutOfRegion;
-use ps_model::kind::{Kind, output_count};
+use ps_model::kind::{Kind, safe_count};
 use ps_rows::CountedBlock;
 use std::alloc::Global;
 use std::marker::Model;
@@ -54,9 +53,8 @@ fn put_outputs(cells: &mut BitCells, at: usize, kind: Kind, code: u16, mode: u8)
     requires room { at + output_count kind ≤ length cells.old }
     ensures { cells.new ≡ replaced cells.old at (map bit (outs kind code mode)) }
 {
-    for j in 0..output_count(kind) {
-        cells.put(at + j as usize, output(kind, code, mode, j));
-    }
+    let safe = safe_count(kind);
+    cells.put_run(at, safe + 2, outputs(kind, safe, code, mode));
 }
 
 // A number with one of its four bytes replaced, of which byte 0 is the highest.
@@ -70,10 +68,11 @@ fn with_byte(number: u32, i: usize, byte: u8) -> u32
 }
 
 impl PlainCells {
-    ghost use Rattle.std.specs.Prelude.{◌≡◌, ◌+◌, ◌-◌, ◌*◌, ◌<◌, ◌≤◌, ◌^◌, ◌==◌, IfOk, is_err, length, nat_lt, slice_index, slice_set};
+    ghost use Rattle.std.specs.Prelude.{◌≡◌, ◌+◌, ◌-◌, ◌*◌, ◌<◌, ◌≤◌, ◌^◌, ◌==◌, IfOk, IfSome, IfNone, is_err, length, nat_lt, slice_index, slice_set};
     ghost use Rattle.ps_machine.specs.Bytes.{bit, be2, instance_bytes, overwritten, replaced};
     ghost use Rattle.ps_model.specs.Blocks.{output_count};
     ghost use Rattle.ps_rows.specs.Counted.{kept_by};
+    ghost use Rattle.ps_eqvm.specs.Instances.{LoadAs, LoadNowhere};
     ghost use Rattle.ps_eqvm.specs.Bits.{truth_of, AreBitsOf};
     ghost use Rattle.ps_eqvm.specs.Plain.{plain_bytes, laid_out, blank, IsPlain};
     ghost use Rattle.ps_eqvm.specs.Rows.{operand_of};
@@ -158,10 +157,12 @@ impl PlainCells {
         find(&self.cells, Operand::numbered(signals, number))
     }
 
-    /// The sixteen bytes of an instance.
-    pub fn instance(&self, i: usize) -> [u8; 16]
+    /// What the bytes of an instance say, for any kind that can keep it. None comes where they load for
+    /// no kind.
+    pub fn instance(&self, i: usize) -> Option<CountedBlock>
         requires { 16 * i + 16 ≤ length self.now.blocks }
-        ensures { result ≡ instance_bytes 0 i self.now.blocks }
+        ensures some { IfSome result (λ block. LoadAs (instance_bytes 0 i self.now.blocks) (kept_by block)) }
+        ensures none { IfNone result (LoadNowhere (instance_bytes 0 i self.now.blocks)) }
     {
         self.blocks.at(i)
     }
@@ -234,6 +235,23 @@ impl PlainCells {
         self.offset = next;
     }
 
+    /// A cell whose byte is 0 or 1 becomes a truth value, and the row at `next` follows.
+    pub fn put_over(&mut self, i: usize, on: bool, next: u32)
+        requires within { i < length self.old.cells }
+        requires even { slice_index self.old.cells i < 2 }
+        ensures { self.new ≡ with_cell i (bit on) next self.old }
+    {
+        self.cells.put_over(i, on);
+        self.offset = next;
+    }
+
+    /// The row at `next` follows, and nothing else changes.
+    pub fn pass(&mut self, next: u32)
+        ensures { self.new ≡ record self.old { offset = next } }
+    {
+        self.offset = next;
+    }
+
     /// An instance keeps its new state, its outputs are written from a signal on, and the row at `next`
     /// follows.
     pub fn settle(&mut self, kind: Kind, block: CountedBlock, instance: u16, first: u16, next: u32)
@@ -248,7 +266,7 @@ impl PlainCells {
             block.code,
             block.mode,
         );
-        self.blocks.put(instance as usize, &store(block));
+        self.blocks.put(instance as usize, block);
         self.offset = next;
     }
 

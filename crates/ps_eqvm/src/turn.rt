@@ -3,49 +3,22 @@
 ghost use Rattle.std.specs.Prelude.{◌≡◌, ◌+◌, ◌*◌, ◌<◌, ◌≤◌, ◌^◌, length, slice_index};
 ghost use Rattle.ps_machine.specs.Bytes.{be2};
 ghost use Rattle.ps_eqvm.specs.Plain.{IsSized};
-ghost use Rattle.ps_eqvm.specs.Rows.{set_row, whole, block_at};
+ghost use Rattle.ps_eqvm.specs.Rows.{whole, block_at};
 ghost use Rattle.ps_eqvm.specs.Gates.{gate_row};
 ghost use Rattle.ps_eqvm.specs.Turn.{carried_out, turn_plain};
 
 use crate::block::{Site, block};
-use crate::gates::{Gate, join, set};
+use crate::gates::{Gate, set_or_join};
 use crate::plain::PlainCells;
 use ps_machine::bytes::{number_in_four, number_in_two};
 
-// The opcodes of rows.
+// The opcodes of the other rows.
 const LAST: u8 = 0xF0;
-
-const SET: u8 = 0xF1;
-
-const ALL: u8 = 0xF2;
-
-const ANY: u8 = 0xF3;
 
 const BLOCK: u8 = 0xF4;
 
-// SET at a place of the code.
-fn turn_set(plain: &mut PlainCells, signals: u16, instances: u16, code: &[u8], at: u32)
-    requires sized { IsSized signals instances plain.old }
-    requires here { plain.old.offset ≡ at }
-    requires within { at < length code.now }
-    requires short { length code.now < 2 ^ 32 }
-    ensures { plain.new ≡ carried_out signals instances (whole code.now at (set_row (be2 code.now (at + 1)) (be2 code.now (at + 3)))) plain.old }
-{
-    let place = at as usize;
-    if code.len() - place < 5 {
-        return plain.trap(2);
-    }
-    set(
-        plain,
-        signals,
-        number_in_two(code, place + 1),
-        number_in_two(code, place + 3),
-        at + 5,
-    );
-}
-
-// ALL or ANY at a place of the code.
-fn turn_join(plain: &mut PlainCells, signals: u16, instances: u16, how: Gate, code: &[u8], at: u32)
+// SET, ALL or ANY at a place of the code.
+fn turn_gate(plain: &mut PlainCells, signals: u16, instances: u16, how: Gate, code: &[u8], at: u32)
     requires sized { IsSized signals instances plain.old }
     requires here { plain.old.offset ≡ at }
     requires within { at < length code.now }
@@ -56,17 +29,13 @@ fn turn_join(plain: &mut PlainCells, signals: u16, instances: u16, how: Gate, co
     if code.len() - place < 5 {
         return plain.trap(2);
     }
-    join(
-        plain,
-        signals,
-        how,
-        number_in_two(code, place + 1),
-        number_in_two(code, place + 3),
-        at + 5,
-    );
+    let target = number_in_two(code, place + 1);
+    let operand = number_in_two(code, place + 3);
+    set_or_join(plain, signals, how, target, operand, at + 5);
 }
 
-// BLOCK at a place of the code.
+// BLOCK at a place of the code. It is a call of its own, since its many values would cost the short rows.
+#[inline(never)]
 fn turn_block(plain: &mut PlainCells, signals: u16, instances: u16, code: &[u8], at: u32)
     requires sized { IsSized signals instances plain.old }
     requires here { plain.old.offset ≡ at }
@@ -112,12 +81,13 @@ pub fn turn(plain: &mut PlainCells, code: &[u8], signals: u16, instances: u16)
     if at as usize >= code.len() {
         return plain.trap(2);
     }
-    match code[at as usize] {
-        LAST => plain.end(at + 1),
-        SET => turn_set(plain, signals, instances, code, at),
-        ALL => turn_join(plain, signals, instances, Gate::All, code, at),
-        ANY => turn_join(plain, signals, instances, Gate::Any, code, at),
-        BLOCK => turn_block(plain, signals, instances, code, at),
-        _ => plain.trap(1),
+    let opcode = code[at as usize];
+    match Gate::with_opcode(opcode) {
+        Some(how) => turn_gate(plain, signals, instances, how, code, at),
+        None => match opcode {
+            LAST => plain.end(at + 1),
+            BLOCK => turn_block(plain, signals, instances, code, at),
+            _ => plain.trap(1),
+        },
     }
 }

@@ -1,4 +1,4 @@
-use Rattle.std.proofs.Common.{◌≡◌, ◌+◌, ◌*◌, ℕ, map, ap, ◌∙◌, sym, arith}
+use Rattle.std.proofs.Common.{◌≡◌, ℕ, map, ap, ◌∙◌, sym, arith}
 use Rattle.std.specs.List.{list_any, range_with_len}
 use Rattle.ps_eqvm.specs.Acting.{byte_of, is_missing}
 use Rattle.ps_eqvm.specs.Rows.{operand_of}

@@ -1,7 +1,7 @@
-use Rattle.std.proofs.Common.{◌≡◌, ◌+◌, ◌*◌, ℕ, Bool, true, false, List, Option, ap, ◌∙◌, sym, subst, arith}
+use Rattle.std.proofs.Common.{◌≡◌, ℕ, Bool, true, false, List, Option, ap, ◌∙◌, sym, subst, arith}
 use Rattle.std.specs.List.{list_any}
 use Rattle.std.proofs.lemmas.Nat.Bits.{bit_at-zero}
-use Rattle.ps_eqvm.specs.declared.block.Pins.TheVariants.{Missing, Odd, Bits}
+use Rattle.ps_eqvm.specs.declared.block.Pins.TheVariants.{Odd, Bits}
 use Rattle.ps_eqvm.specs.Acting.{byte_of, is_missing}
 use Rattle.ps_eqvm.specs.Rows.{operand_of}
 use Rattle.ps_eqvm.specs.Finding.{found_of}

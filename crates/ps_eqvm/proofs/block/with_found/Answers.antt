@@ -7,4 +7,4 @@ returns-in-Odd-clause-some c = λ f r h. read_odd f c.args.j c.args.so_far.bits 
 
 pub returns-in-Truth-clause-some : goal.returns-in-Truth-clause-some
 returns-in-Truth-clause-some c =
-    λ f r h. read_truth f c.args.j c.args.so_far.bits c.with_pin.result c.args.so_far.odd c.in-Truth.on r (sym h ∙ c.in-Truth.is) c.with_pin.ensures.same c.with_pin.ensures.others
+    λ f r h. read_truth f c.args.j c.args.so_far.bits c.with_bit.result c.args.so_far.odd c.in-Truth.on r (sym h ∙ c.in-Truth.is) c.with_bit.ensures.same c.with_bit.ensures.others

@@ -1,4 +1,4 @@
-use Rattle.std.proofs.Common.{cond, refl, length}
+use Rattle.std.proofs.Common.{refl}
 use Rattle.ps_machine.specs.Bytes.{bit}
 use Rattle.ps_eqvm.proofs.OneBit.{cells_set}
 use Rattle.ps_eqvm.proofs.cells.write.Goals as goal

@@ -1,4 +1,4 @@
-use Rattle.std.proofs.Common.{cond, refl, length, ap}
+use Rattle.std.proofs.Common.{refl}
 use Rattle.std.specs.Prelude.{slice_set}
 use Rattle.std.proofs.lemmas.List.{length-set, get_or-set_same, get_or-set_other}
 use Rattle.ps_eqvm.proofs.OneBit.{cells_set}

@@ -1,4 +1,4 @@
-use Rattle.std.proofs.Common.{refl, ◌∙◌, ap, length, arith, ◌≡◌, ◌+◌, ◌≤◌, take}
+use Rattle.std.proofs.Common.{refl, ◌∙◌, ap, length, arith, ◌+◌, ◌≤◌, take}
 use Rattle.std.specs.Prelude.{map}
 use Rattle.std.proofs.lemmas.List.{length-map, length-take}
 use Rattle.ps_machine.specs.Bytes.{bit}

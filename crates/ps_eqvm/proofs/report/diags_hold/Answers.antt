@@ -1,9 +1,9 @@
-use Rattle.std.proofs.Common.{◌≡◌, ℕ, Bool, sym, ap, ◌∙◌}
+use Rattle.std.proofs.Common.{ℕ, Bool, sym, ◌∙◌}
 use Rattle.std.specs.Prelude.{not, ◌&&◌}
 use Rattle.ps_machine.specs.Bytes.{is_no_bit}
 use Rattle.ps_machine.specs.Reporting.{ready_byte, error_byte}
 use Rattle.ps_eqvm.specs.Plain.{plain_bytes}
-use Rattle.ps_eqvm.proofs.Walks.{all_more, not_all}
+use Rattle.ps_machine.proofs.Walks.{all_more, not_all}
 use Rattle.ps_eqvm.proofs.report.diags_hold.Goals as goal
 
 pub returns-then-not-diag_holds : goal.returns-then-not-diag_holds

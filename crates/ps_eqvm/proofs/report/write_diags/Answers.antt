@@ -1,9 +1,9 @@
-use Rattle.std.proofs.Common.{◌≡◌, ℕ, length, ap, ◌∙◌, arith}
+use Rattle.std.proofs.Common.{ℕ, length, ap, ◌∙◌, arith}
 use Rattle.std.specs.Prelude.{slice_set}
 use Rattle.ps_model.specs.declared.report.Diag.{Diag}
 use Rattle.ps_machine.specs.Reporting.{diag_at}
 use Rattle.ps_eqvm.specs.Plain.{plain_bytes}
-use Rattle.ps_eqvm.proofs.Walks.{length_part, set_more}
+use Rattle.ps_machine.proofs.Walks.{length_part, set_more}
 use Rattle.ps_eqvm.proofs.report.write_diags.Goals as goal
 
 pub set-requires : goal.set-requires

@@ -1,8 +1,8 @@
-use Rattle.std.proofs.Common.{◌≡◌, ℕ, Bool, length, ap, ◌∙◌, arith}
+use Rattle.std.proofs.Common.{ℕ, Bool, length, ap, ◌∙◌, arith}
 use Rattle.std.specs.Prelude.{◌==◌, slice_set}
 use Rattle.ps_machine.specs.Reporting.{output_byte}
 use Rattle.ps_eqvm.specs.Plain.{plain_bytes}
-use Rattle.ps_eqvm.proofs.Walks.{length_part, set_more}
+use Rattle.ps_machine.proofs.Walks.{length_part, set_more}
 use Rattle.ps_eqvm.proofs.report.write_outputs.Goals as goal
 
 pub set-requires : goal.set-requires

@@ -1,4 +1,4 @@
-use Rattle.std.proofs.Common.{◌≡◌, ap, ◌∙◌, length, replicate, ℕ}
+use Rattle.std.proofs.Common.{ap, ◌∙◌, replicate, ℕ}
 use Rattle.std.proofs.lemmas.List.{length-replicate}
 use Rattle.ps_eqvm.specs.Bits.{plain_cells}
 use Rattle.ps_eqvm.proofs.KeptBits.{zero_cells}

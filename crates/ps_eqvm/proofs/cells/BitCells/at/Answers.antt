@@ -1,5 +1,5 @@
-use Rattle.std.proofs.Common.{ap, ◌∙◌, sym, arith, length}
-use Rattle.ps_eqvm.specs.Bits.{truth_of, plain_cell}
+use Rattle.std.proofs.Common.{ap, ◌∙◌, sym}
+use Rattle.ps_eqvm.specs.Bits.{truth_of}
 use Rattle.ps_eqvm.proofs.OneBit.{cell_at}
 use Rattle.ps_eqvm.proofs.cells.BitCells.at.Goals as goal
 

@@ -1,4 +1,4 @@
-use Rattle.std.proofs.Common.{◌≡◌, ◌≤◌, ap, ◌∙◌, sym, subst, List, ℕ, Bool, length, arith}
+use Rattle.std.proofs.Common.{◌≤◌, ap, ◌∙◌, sym, subst, List, ℕ, Bool, length, arith}
 use Rattle.ps_eqvm.specs.Plain.{Plain, IsSized, laid_out}
 use Rattle.ps_eqvm.specs.Turn.{begin_b, begin_plain}
 use Rattle.ps_eqvm.specs.Channel.{ChannelB}

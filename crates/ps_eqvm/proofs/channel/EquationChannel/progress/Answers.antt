@@ -1,4 +1,4 @@
-use Rattle.std.proofs.Common.{◌≡◌, ◌-◌, ◌<◌, ◌^◌, ap, ◌∙◌, sym, ℕ, arith}
+use Rattle.std.proofs.Common.{◌≡◌, ◌-◌, ◌<◌, ap, ◌∙◌, arith}
 use Rattle.ps_machine.specs.Progressing.{progress_said}
 use Rattle.ps_eqvm.specs.Channel.{ChannelB, progress_of}
 use Rattle.ps_eqvm.proofs.channel.EquationChannel.progress.Goals as goal

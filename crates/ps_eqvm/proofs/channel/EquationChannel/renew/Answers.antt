@@ -1,4 +1,4 @@
-use Rattle.std.proofs.Common.{◌≡◌, ◌+◌, ◌*◌, ap, ◌∙◌, sym, ℕ, length, replicate, arith}
+use Rattle.std.proofs.Common.{◌≡◌, ◌+◌, ◌*◌, ap, ◌∙◌, ℕ, length, replicate, arith}
 use Rattle.ps_eqvm.specs.Plain.{laid_out}
 use Rattle.ps_eqvm.specs.Channel.{ChannelB, blank_b}
 use Rattle.ps_eqvm.proofs.Poking.{blank_laid}

@@ -1,4 +1,4 @@
-use Rattle.std.proofs.Common.{◌≡◌, Some, None, refl, ap, ◌∙◌, sym}
+use Rattle.std.proofs.Common.{Some, refl, ap, ◌∙◌, sym}
 use Rattle.ps_eqvm.specs.Turn.{report_b}
 use Rattle.ps_eqvm.specs.Channel.{ChannelB}
 use Rattle.ps_eqvm.proofs.Reported.{reported_none, reported_some}

@@ -1,4 +1,4 @@
-use Rattle.std.proofs.Common.{◌≡◌, ap, ◌∙◌, sym, subst, List, ℕ}
+use Rattle.std.proofs.Common.{ap, ◌∙◌, sym, subst, List, ℕ}
 use Rattle.ps_eqvm.specs.Plain.{Plain, IsSized, laid_out}
 use Rattle.ps_eqvm.specs.Turn.{turn_b, turn_plain}
 use Rattle.ps_eqvm.specs.Channel.{ChannelB}

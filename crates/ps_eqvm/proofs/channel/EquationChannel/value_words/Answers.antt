@@ -1,4 +1,4 @@
-use Rattle.std.proofs.Common.{◌≡◌, ap, ◌∙◌, sym, subst, List, ℕ}
+use Rattle.std.proofs.Common.{ap, ◌∙◌, sym, subst, List, ℕ}
 use Rattle.std.specs.Prelude.{◌==◌}
 use Rattle.ps_eqvm.specs.Bits.{AreBitsOf}
 use Rattle.ps_eqvm.specs.Plain.{Plain}

@@ -1,4 +1,4 @@
-use Rattle.std.proofs.Common.{◌≡◌, ◌*◌, replicate, ap, ◌∙◌}
+use Rattle.std.proofs.Common.{◌*◌, ap, ◌∙◌}
 use Rattle.ps_eqvm.specs.Plain.{complement}
 use Rattle.ps_eqvm.proofs.Complements.{complement_replicate}
 use Rattle.ps_eqvm.proofs.instances.InstanceBytes.all_zero.Goals as goal

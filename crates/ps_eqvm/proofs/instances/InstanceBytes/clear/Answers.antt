@@ -1,4 +1,4 @@
-use Rattle.std.proofs.Common.{◌≡◌, arith, ap, ◌∙◌, sym, length, replicate, List, ℕ, ◌-◌}
+use Rattle.std.proofs.Common.{arith, ap, ◌∙◌, sym, length, replicate, List, ℕ, ◌-◌}
 use Rattle.std.proofs.lemmas.List.{length-map, with_items_is}
 use Rattle.ps_eqvm.specs.Plain.{complement}
 use Rattle.ps_eqvm.proofs.Complements.{complement_replicate}

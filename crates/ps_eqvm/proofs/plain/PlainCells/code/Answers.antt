@@ -1,4 +1,4 @@
-use Rattle.std.proofs.Common.{◌≡◌, ◌+◌, ◌*◌, ap, ◌∙◌, sym}
+use Rattle.std.proofs.Common.{◌*◌, ap, ◌∙◌, sym}
 use Rattle.ps_machine.specs.Bytes.{be2}
 use Rattle.ps_eqvm.specs.Plain.{Plain}
 use Rattle.ps_eqvm.proofs.Poking.{code_at}

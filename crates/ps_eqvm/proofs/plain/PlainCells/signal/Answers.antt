@@ -1,7 +1,7 @@
-use Rattle.std.proofs.Common.{◌≡◌, ◌+◌, ◌<◌, ap, ◌∙◌, sym, length}
+use Rattle.std.proofs.Common.{◌+◌, ap, ◌∙◌, sym}
 use Rattle.std.specs.Prelude.{slice_index}
 use Rattle.ps_eqvm.specs.Bits.{truth_of}
-use Rattle.ps_eqvm.specs.Plain.{Plain, plain_bytes}
+use Rattle.ps_eqvm.specs.Plain.{Plain}
 use Rattle.ps_eqvm.proofs.Poking.{signal_at}
 use Rattle.ps_eqvm.proofs.plain.PlainCells.signal.Goals as goal
 

@@ -1,8 +1,6 @@
-use Rattle.std.proofs.Common.{◌≡◌, ◌+◌, ◌<◌, ◌≤◌, ◌∷◌, [], ◌++◌, List, ℕ, length, take, ap, ◌∙◌, sym, arith}
-use Rattle.std.specs.Prelude.{slice_set, slice_index}
+use Rattle.std.proofs.Common.{ap, ◌∙◌, arith}
 use Rattle.std.proofs.lemmas.List.{take_all}
 use Rattle.ps_machine.specs.Bytes.{replaced}
-use Rattle.ps_machine.proofs.Places.{replaced_more}
 use Rattle.ps_eqvm.specs.Plain.{laid_out}
 use Rattle.ps_eqvm.proofs.Poking.{length-laid, write_more}
 use Rattle.ps_eqvm.proofs.plain.PlainCells.write.Goals as goal

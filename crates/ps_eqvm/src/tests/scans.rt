@@ -1,0 +1,60 @@
+// M's channel through six scans, and a block with a timer.
+
+use super::fixtures::{CODE, channel, make_scan, motor, reported};
+use ps_model::channel::Progress;
+use ps_model::kind::Kind;
+use std::alloc::Global;
+use std::process::Abort;
+use std::test::Fail;
+
+// Time, inputs, what is reported, and the value word: bit 0 is work cell 0, and bits 48 to 54 are the signals.
+#[test]
+fn six_scans(rt: HostRuntime) -> Result<(), Fail> {
+    let scans = [
+        (0, [true, false, true], (false, 0x8001), 0x0025000000000000),
+        (10, [true, false, true], (false, 0x8002), 0x0025000000000000),
+        (20, [true, false, true], (false, 0x8003), 0x0025000000000000),
+        (30, [true, true, true], (true, 0x8000), 0x003F000000000001),
+        (
+            40,
+            [true, false, false],
+            (false, 0x8000),
+            0x0031000000000000,
+        ),
+        (
+            50,
+            [false, false, true],
+            (false, 0x8004),
+            0x0024000000000000,
+        ),
+    ];
+    let mut motor = motor(rt.alloc(), &CODE)?;
+    for (now, inputs, wanted, values) in scans {
+        make_scan(&rt, rt.alloc(), &mut motor, now, &inputs, 5)?;
+        assert_eq!(rt; reported(rt.alloc(), &motor)?, Some(wanted), "at {now}");
+        assert_eq!(rt; motor.value_words(), [values].as_slice(), "at {now}");
+        assert_eq!(rt; motor.odd_words(), [0].as_slice(), "at {now}");
+    }
+    Ok(())
+}
+
+// SF_Equivalent with a limit of 50 ms, with the inputs at its channels and one output behind them, and the end of the scan.
+const EQUIVALENT: [u8; 18] = [
+    0xF4, 0, 0, 1, 0, 3, 0, 0, 0, 50, 3, 0xFF, 0xFF, 0, 0, 0, 1, 0xF0,
+];
+
+// The DiagCode of SF_Equivalent where channel B comes so many ms after channel A.
+fn discrepancy(rt: &impl Abort, alloc: Global, gap: u8) -> Result<Option<(bool, u16)>, Fail> {
+    let mut both = channel(alloc, Kind::Equivalent, 2, 1, &EQUIVALENT)?;
+    make_scan(rt, alloc, &mut both, 0, &[false, false], 2)?;
+    make_scan(rt, alloc, &mut both, 10, &[true, false], 2)?;
+    make_scan(rt, alloc, &mut both, 10 + u32::from(gap), &[true, true], 2)?;
+    Ok(reported(alloc, &both)?)
+}
+
+#[test]
+fn limit_of_a_timer(rt: HostRuntime) -> Result<(), Fail> {
+    assert_eq!(rt; discrepancy(&rt, rt.alloc(), 49)?, Some((false, 0x8000)));
+    assert_eq!(rt; discrepancy(&rt, rt.alloc(), 50)?, Some((false, 0xC001)));
+    Ok(())
+}

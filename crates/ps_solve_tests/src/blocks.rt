@@ -1,8 +1,9 @@
 // Tables of applications with one block.
 
-use crate::tables::{Row, met};
+use crate::tables::Row;
 
-const CONTACTS: &str = "PROGRAM Eq \
+/// Two contacts that are to agree within 50 ms.
+pub const CONTACTS: &str = "PROGRAM Eq \
 VAR_INPUT S_A : SAFEBOOL; S_B : SAFEBOOL; END_VAR \
 VAR_OUTPUT S_O : SAFEBOOL; END_VAR \
 VAR Q : SF_Equivalent; END_VAR \
@@ -10,29 +11,26 @@ Q(Activate := TRUE, S_ChannelA := S_A, S_ChannelB := S_B, DiscrepancyTime := T#5
 S_O := Q.S_EquivalentOut; \
 END_PROGRAM";
 
-// Limit of a timer: the second contact follows after 50 ms, which is too late.
-#[test]
-fn late_contact(rt: HostRuntime) {
-    let rows = [
+/// Limit of a timer: the second contact follows after 50 ms, which is too late.
+pub fn late_contact() -> [Row; 3] {
+    [
         Row::of(0, "00", "0", &[0x8001]),
         Row::of(10, "10", "0", &[0x8004]),
         Row::of(60, "11", "0", &[0xC001]),
-    ];
-    assert_eq!(rt; met(rt.alloc(), CONTACTS, &rows), Ok(3));
+    ]
 }
 
-// Limit of a timer: the second contact follows after 49 ms.
-#[test]
-fn contact_in_time(rt: HostRuntime) {
-    let rows = [
+/// Limit of a timer: the second contact follows after 49 ms.
+pub fn contact_in_time() -> [Row; 3] {
+    [
         Row::of(0, "00", "0", &[0x8001]),
         Row::of(10, "10", "0", &[0x8004]),
         Row::of(59, "11", "1", &[0x8000]),
-    ];
-    assert_eq!(rt; met(rt.alloc(), CONTACTS, &rows), Ok(3));
+    ]
 }
 
-const CONTACTS_AT_ONCE: &str = "PROGRAM Eq \
+/// Two contacts that are to agree at once.
+pub const CONTACTS_AT_ONCE: &str = "PROGRAM Eq \
 VAR_INPUT S_A : SAFEBOOL; S_B : SAFEBOOL; END_VAR \
 VAR_OUTPUT S_O : SAFEBOOL; END_VAR \
 VAR Q : SF_Equivalent; END_VAR \
@@ -40,18 +38,17 @@ Q(Activate := TRUE, S_ChannelA := S_A, S_ChannelB := S_B); \
 S_O := Q.S_EquivalentOut; \
 END_PROGRAM";
 
-// Limit 0: a limit that is not given has elapsed at once.
-#[test]
-fn limit_zero(rt: HostRuntime) {
-    let rows = [
+/// Limit 0: a limit that is not given has elapsed at once.
+pub fn limit_zero() -> [Row; 3] {
+    [
         Row::of(5, "10", "0", &[0x8001]),
         Row::of(5, "10", "0", &[0x8004]),
         Row::of(5, "10", "0", &[0xC001]),
-    ];
-    assert_eq!(rt; met(rt.alloc(), CONTACTS_AT_ONCE, &rows), Ok(3));
+    ]
 }
 
-const OPPOSED_CONTACTS: &str = "PROGRAM Anti \
+/// Two contacts of which one opens where the other closes, within 50 ms.
+pub const OPPOSED_CONTACTS: &str = "PROGRAM Anti \
 VAR_INPUT S_NC : SAFEBOOL; S_NO : SAFEBOOL; END_VAR \
 VAR_OUTPUT S_O : SAFEBOOL; END_VAR \
 VAR Q : SF_Antivalent; END_VAR \
@@ -59,21 +56,20 @@ Q(Activate := TRUE, S_ChannelNC := S_NC, S_ChannelNO := S_NO, DiscrepancyTime :=
 S_O := Q.S_AntivalentOut; \
 END_PROGRAM";
 
-// Antivalent contacts: closed in time, opened too late, and begun anew.
-#[test]
-fn antivalent_contacts(rt: HostRuntime) {
-    let rows = [
+/// Antivalent contacts: closed in time, opened too late, and begun anew.
+pub fn antivalent_contacts() -> [Row; 6] {
+    [
         Row::of(0, "01", "0", &[0x8001]),
         Row::of(10, "11", "0", &[0x8004]),
         Row::of(20, "10", "1", &[0x8000]),
         Row::of(30, "11", "0", &[0x8005]),
         Row::of(80, "11", "0", &[0xC003]),
         Row::of(90, "01", "0", &[0x8001]),
-    ];
-    assert_eq!(rt; met(rt.alloc(), OPPOSED_CONTACTS, &rows), Ok(6));
+    ]
 }
 
-const MOTOR: &str = "PROGRAM M \
+/// An emergency stop, and a motor behind it.
+pub const MOTOR: &str = "PROGRAM M \
 VAR_INPUT S_In : SAFEBOOL; Ack, Run : BOOL; END_VAR \
 VAR_OUTPUT S_Motor : SAFEBOOL; END_VAR \
 VAR E : SF_EmergencyStop; END_VAR \
@@ -81,44 +77,29 @@ E(Activate := TRUE, S_EStopIn := S_In, Reset := Ack); \
 S_Motor := E.S_EStopOut AND Run; \
 END_PROGRAM";
 
-// Ordinary use: freed by an edge of Reset, stopped by the process and by the emergency stop.
-#[test]
-fn ordinary_use(rt: HostRuntime) {
-    let rows = [
+/// Ordinary use: freed by an edge of Reset, stopped by the process and by the emergency stop.
+pub fn ordinary_use() -> [Row; 6] {
+    [
         Row::of(0, "101", "0", &[0x8001]),
         Row::of(10, "101", "0", &[0x8002]),
         Row::of(20, "101", "0", &[0x8003]),
         Row::of(30, "111", "1", &[0x8000]),
         Row::of(40, "100", "0", &[0x8000]),
         Row::of(50, "001", "0", &[0x8004]),
-    ];
-    assert_eq!(rt; met(rt.alloc(), MOTOR, &rows), Ok(6));
+    ]
 }
 
-// Held reset: a Reset that is held is an error.
-#[test]
-fn held_reset(rt: HostRuntime) {
-    let rows = [
+/// Held reset: a Reset that is held is an error.
+pub fn held_reset() -> [Row; 3] {
+    [
         Row::of(0, "101", "0", &[0x8001]),
         Row::of(10, "111", "0", &[0x8002]),
         Row::of(20, "111", "0", &[0xC001]),
-    ];
-    assert_eq!(rt; met(rt.alloc(), MOTOR, &rows), Ok(3));
+    ]
 }
 
-// A table that tells another code or output is not met.
-#[test]
-fn wrong_tables(rt: HostRuntime) {
-    let code = [
-        Row::of(0, "00", "0", &[0x8001]),
-        Row::of(10, "10", "0", &[0x8000]),
-    ];
-    assert_eq!(rt; met(rt.alloc(), CONTACTS, &code), Ok(1));
-    let output = [Row::of(0, "00", "1", &[0x8001])];
-    assert_eq!(rt; met(rt.alloc(), CONTACTS, &output), Ok(0));
-}
-
-const TWO_HANDS: &str = "PROGRAM H \
+/// A two-hand control of type III, whose buttons are to follow each other within 500 ms.
+pub const TWO_HANDS: &str = "PROGRAM H \
 VAR_INPUT S_1 : SAFEBOOL; S_2 : SAFEBOOL; END_VAR \
 VAR_OUTPUT S_O : SAFEBOOL; END_VAR \
 VAR H3 : SF_TwoHandControlTypeIII; END_VAR \
@@ -126,43 +107,38 @@ H3(Activate := TRUE, S_Button1 := S_1, S_Button2 := S_2); \
 S_O := H3.S_TwoHandOut; \
 END_PROGRAM";
 
-// Fixed time of type III: the second button within 499 ms.
-#[test]
-fn second_button_in_time(rt: HostRuntime) {
-    let rows = [
+/// Fixed time of type III: the second button within 499 ms.
+pub fn second_button_in_time() -> [Row; 4] {
+    [
         Row::of(0, "00", "0", &[0x8001]),
         Row::of(10, "00", "0", &[0x8004]),
         Row::of(20, "10", "0", &[0x8005]),
         Row::of(519, "11", "1", &[0x8000]),
-    ];
-    assert_eq!(rt; met(rt.alloc(), TWO_HANDS, &rows), Ok(4));
+    ]
 }
 
-// Fixed time of type III: the second button after 500 ms.
-#[test]
-fn second_button_late(rt: HostRuntime) {
-    let rows = [
+/// Fixed time of type III: the second button after 500 ms.
+pub fn second_button_late() -> [Row; 4] {
+    [
         Row::of(0, "00", "0", &[0x8001]),
         Row::of(10, "00", "0", &[0x8004]),
         Row::of(20, "10", "0", &[0x8005]),
         Row::of(520, "11", "0", &[0xC006]),
-    ];
-    assert_eq!(rt; met(rt.alloc(), TWO_HANDS, &rows), Ok(4));
+    ]
 }
 
-// Fixed time of type III: one button alone for 500 ms.
-#[test]
-fn no_second_button(rt: HostRuntime) {
-    let rows = [
+/// Fixed time of type III: one button alone for 500 ms.
+pub fn no_second_button() -> [Row; 4] {
+    [
         Row::of(0, "00", "0", &[0x8001]),
         Row::of(10, "00", "0", &[0x8004]),
         Row::of(20, "10", "0", &[0x8005]),
         Row::of(520, "10", "0", &[0xC004]),
-    ];
-    assert_eq!(rt; met(rt.alloc(), TWO_HANDS, &rows), Ok(4));
+    ]
 }
 
-const MODES: &str = "PROGRAM Modes \
+/// A selector of two modes, of which one is to be chosen within a second.
+pub const MODES: &str = "PROGRAM Modes \
 VAR_INPUT S_A : SAFEBOOL; S_B : SAFEBOOL; S_U : SAFEBOOL; Ack : BOOL; END_VAR \
 VAR_OUTPUT S_M1 : SAFEBOOL; END_VAR \
 VAR K : SF_ModeSelector; END_VAR \
@@ -171,10 +147,9 @@ ModeMonitorTime := T#1s, Reset := Ack); \
 S_M1 := K.S_Mode1Sel; \
 END_PROGRAM";
 
-// Mode selector: two modes at once, a held Reset, a mode latched and locked, none for a second.
-#[test]
-fn mode_selector(rt: HostRuntime) {
-    let rows = [
+/// Mode selector: two modes at once, a held Reset, a mode latched and locked, none for a second.
+pub fn mode_selector() -> [Row; 10] {
+    [
         Row::of(0, "1111", "0", &[0x8005]),
         Row::of(10, "1111", "0", &[0xC001]),
         Row::of(20, "1111", "0", &[0xC003]),
@@ -185,11 +160,11 @@ fn mode_selector(rt: HostRuntime) {
         Row::of(70, "0000", "1", &[0x8004]),
         Row::of(80, "0010", "0", &[0x8005]),
         Row::of(1080, "0010", "0", &[0xC002]),
-    ];
-    assert_eq!(rt; met(rt.alloc(), MODES, &rows), Ok(10));
+    ]
 }
 
-const ENABLING: &str = "PROGRAM En \
+/// An enabling switch with two contacts.
+pub const ENABLING: &str = "PROGRAM En \
 VAR_INPUT S_1 : SAFEBOOL; S_2 : SAFEBOOL; Ack : BOOL; END_VAR \
 VAR_OUTPUT S_O : SAFEBOOL; END_VAR \
 VAR Q : SF_EnableSwitch; END_VAR \
@@ -198,10 +173,9 @@ Reset := Ack); \
 S_O := Q.S_EnableSwitchOut; \
 END_PROGRAM";
 
-// Enable switch: pressed, pressed through, released, and freed by an edge of Reset.
-#[test]
-fn enable_switch(rt: HostRuntime) {
-    let rows = [
+/// Enable switch: pressed, pressed through, released, and freed by an edge of Reset.
+pub fn enable_switch() -> [Row; 9] {
+    [
         Row::of(0, "010", "0", &[0x8004]),
         Row::of(10, "010", "0", &[0x8005]),
         Row::of(20, "010", "0", &[0x8006]),
@@ -211,11 +185,11 @@ fn enable_switch(rt: HostRuntime) {
         Row::of(60, "010", "0", &[0xC040]),
         Row::of(70, "011", "0", &[0x8006]),
         Row::of(80, "111", "1", &[0x8000]),
-    ];
-    assert_eq!(rt; met(rt.alloc(), ENABLING, &rows), Ok(9));
+    ]
 }
 
-const LOCKING: &str = "PROGRAM Gl \
+/// A guard with a lock.
+pub const LOCKING: &str = "PROGRAM Gl \
 VAR_INPUT S_M : SAFEBOOL; S_S : SAFEBOOL; S_L : SAFEBOOL; U : BOOL; Ack : BOOL; END_VAR \
 VAR_OUTPUT S_Lk : SAFEBOOL; S_Un : SAFEBOOL; END_VAR \
 VAR Q : SF_GuardLocking; END_VAR \
@@ -225,10 +199,9 @@ S_Lk := Q.S_GuardLocked; \
 S_Un := Q.S_UnlockGuard; \
 END_PROGRAM";
 
-// Guard locking: unlocked on request, opened, closed and locked again, and opened while it is locked.
-#[test]
-fn guard_locking(rt: HostRuntime) {
-    let rows = [
+/// Guard locking: unlocked on request, opened, closed and locked again, and opened while it is locked.
+pub fn guard_locking() -> [Row; 10] {
+    [
         Row::of(0, "10100", "00", &[0x8001]),
         Row::of(10, "10100", "00", &[0x8003]),
         Row::of(20, "10101", "10", &[0x8000]),
@@ -239,11 +212,11 @@ fn guard_locking(rt: HostRuntime) {
         Row::of(70, "10101", "10", &[0x8000]),
         Row::of(80, "00101", "00", &[0xC004]),
         Row::of(90, "10101", "00", &[0xC004]),
-    ];
-    assert_eq!(rt; met(rt.alloc(), LOCKING, &rows), Ok(10));
+    ]
 }
 
-const REQUESTING: &str = "PROGRAM Sr \
+/// A safety request that is to be acknowledged within 100 ms.
+pub const REQUESTING: &str = "PROGRAM Sr \
 VAR_INPUT S_Op : SAFEBOOL; S_K : SAFEBOOL; Ack : BOOL; END_VAR \
 VAR_OUTPUT S_Ac : SAFEBOOL; S_Rq : SAFEBOOL; END_VAR \
 VAR Q : SF_SafetyRequest; END_VAR \
@@ -252,10 +225,9 @@ S_Ac := Q.S_SafetyActive; \
 S_Rq := Q.S_SafetyRequest; \
 END_PROGRAM";
 
-// Safety request: no acknowledgement in time, an edge of Reset, a request that is answered, and one that is lost.
-#[test]
-fn safety_request(rt: HostRuntime) {
-    let rows = [
+/// Safety request: no acknowledgement in time, an edge of Reset, a request that is answered, and one that is lost.
+pub fn safety_request() -> [Row; 12] {
+    [
         Row::of(0, "000", "00", &[0x8001]),
         Row::of(10, "000", "00", &[0x8003]),
         Row::of(110, "000", "00", &[0xC003]),
@@ -268,6 +240,5 @@ fn safety_request(rt: HostRuntime) {
         Row::of(180, "001", "00", &[0xC002]),
         Row::of(190, "001", "00", &[0xC004]),
         Row::of(200, "000", "00", &[0xC002]),
-    ];
-    assert_eq!(rt; met(rt.alloc(), REQUESTING, &rows), Ok(12));
+    ]
 }

@@ -1,11 +1,9 @@
-// Worked examples through the plain evaluator: a text, its scans, and what each of them is to show.
+// Worked examples: a text, its scans, and what each of them is to show; and the plain evaluator that makes the scans.
 #![tactic(auto)]
 
+pub mod blocks;
+pub mod press;
+pub mod tables;
 #[cfg(test)]
-mod blocks;
-#[cfg(test)]
-mod press;
-#[cfg(test)]
-mod tables;
-#[cfg(test)]
-mod wires;
+mod tests;
+pub mod wires;

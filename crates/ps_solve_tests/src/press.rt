@@ -1,8 +1,9 @@
 // A table of a press, with five blocks.
 
-use crate::tables::{Row, met};
+use crate::tables::Row;
 
-const PRESS: &str = "PROGRAM Press \
+/// A press with an emergency stop, a guard, a two-hand control and two contactors.
+pub const PRESS: &str = "PROGRAM Press \
 VAR_INPUT \
 S_EStop, S_G1, S_G2, S_L, S_R, S_K1, S_K2 : SAFEBOOL; \
 Ack, Auto : BOOL; \
@@ -26,10 +27,9 @@ S_Ram := Edm.S_EDM_Out; \
 Lamp := Stop.Error OR Guard.Error OR Edm.Error; \
 END_PROGRAM";
 
-// A press: freed, worked by two hands, opened at work, and stopped by a contactor that does not fall.
-#[test]
-fn press(rt: HostRuntime) {
-    let rows = [
+/// A press: freed, worked by two hands, opened at work, and stopped by a contactor that does not fall.
+pub fn press_at_work() -> [Row; 18] {
+    [
         Row::of(
             0,
             "111001101",
@@ -138,6 +138,5 @@ fn press(rt: HostRuntime) {
             "00",
             &[0x8000, 0x8000, 0x8004, 0x8002, 0x8010],
         ),
-    ];
-    assert_eq!(rt; met(rt.alloc(), PRESS, &rows), Ok(18));
+    ]
 }

@@ -35,8 +35,8 @@ impl Row {
     }
 }
 
-// The Booleans that digits stand for.
-fn bits(alloc: Global, digits: &str) -> Result<Vec<bool>, Memory> {
+/// The Booleans that digits stand for: TRUE for 1, and FALSE for all else.
+pub fn bits(alloc: Global, digits: &str) -> Result<Vec<bool>, Memory> {
     let mut bits = Vec::new(alloc);
     for digit in digits.as_bytes() {
         bits.push(*digit == b'1')?;
@@ -94,6 +94,26 @@ fn shows_codes(blocks: &[BlockState], codes: &[u16]) -> bool {
     true
 }
 
+/// Whether a state shows what a row is to show.
+pub fn shows(app: &App, state: &State, row: &Row) -> bool {
+    shows_outputs(app, state, row.outs.as_bytes()) && shows_codes(state.blocks(), row.codes)
+}
+
+/// The state after a scan with these inputs, dt ms after the old one. None where these are not as many inputs as the
+/// application has, where the old state is not of its sizes, or where an age would pass 64 bits.
+pub fn solved(
+    alloc: Global,
+    app: &App,
+    old: &State,
+    ins: &[bool],
+    dt: u64,
+) -> Result<Option<State>, Memory> {
+    if ins.len() != app.input_count() as usize || !has_room(app, old, dt) {
+        return Ok(None);
+    }
+    Ok(Some(solve(alloc, app, old, ins, dt)?))
+}
+
 // The state after a row's scan, if it shows what it is to show.
 fn after(
     alloc: Global,
@@ -103,14 +123,13 @@ fn after(
     dt: u64,
 ) -> Result<Option<State>, Memory> {
     let ins = bits(alloc, row.ins)?;
-    if ins.len() != app.input_count() as usize || !has_room(app, old, dt) {
-        return Ok(None);
-    }
-    let new = solve(alloc, app, old, &ins, dt)?;
-    if shows_outputs(app, &new, row.outs.as_bytes()) && shows_codes(new.blocks(), row.codes) {
-        Ok(Some(new))
-    } else {
-        Ok(None)
+    match solved(alloc, app, old, &ins, dt)? {
+        Some(new) => Ok(if shows(app, &new, row) {
+            Some(new)
+        } else {
+            None
+        }),
+        None => Ok(None),
     }
 }
 

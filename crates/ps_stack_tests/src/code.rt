@@ -1,5 +1,8 @@
 // From the text of an application to its stack code.
 
+ghost use Rattle.std.specs.Prelude.{OnOk};
+ghost use Rattle.ps_model.specs.Typing.{Accepted};
+
 use ps_base::{Fail, Place, Refusal};
 use ps_flow::{FlowFail, FlowRefusal, derive};
 use ps_lexer::lex;
@@ -28,10 +31,18 @@ fn flow_fail(fail: FlowFail) -> Fail {
     }
 }
 
-/// The stack code of an application, where its SAFEBOOL flow is accepted.
-pub fn code_of(alloc: Global, app: &App) -> Result<StackImage, Fail> {
+/// Nothing, where SAFEBOOL flow accepts an application, and else its refusal, at line 0.
+pub fn accept(alloc: Global, app: &App) -> Result<(), Fail>
+    ensures { OnOk result (Accepted app.now) }
+{
     match derive(alloc, app) {
-        Ok(_) => Ok(stack_image(alloc, app)?),
+        Ok(_) => Ok(()),
         Err(fail) => Err(flow_fail(fail)),
     }
+}
+
+/// The stack code of an application, where its SAFEBOOL flow is accepted.
+pub fn code_of(alloc: Global, app: &App) -> Result<StackImage, Fail> {
+    accept(alloc, app)?;
+    Ok(stack_image(alloc, app)?)
 }

@@ -4,3 +4,4 @@
 pub mod code;
 #[cfg(test)]
 mod tests;
+pub mod texts;

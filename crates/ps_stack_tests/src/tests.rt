@@ -1,17 +1,8 @@
 // Codes that are worked out by hand.
 
 use crate::code::{application, code_of};
+use crate::texts::{DEEP, MOTOR, TIMES};
 use std::test::Fail;
-
-// An emergency stop, and a motor behind it.
-const MOTOR: &str = "PROGRAM M
-VAR_INPUT S_In : SAFEBOOL; Ack, Run : BOOL; END_VAR
-VAR_OUTPUT S_Motor : SAFEBOOL; END_VAR
-VAR E : SF_EmergencyStop; END_VAR
-E(Activate := TRUE, S_EStopIn := S_In, Reset := Ack);
-S_Motor := E.S_EStopOut AND Run;
-END_PROGRAM
-";
 
 // CONST 1, LOAD S_In, CONST 0, CONST 0, LOAD Ack, CALL; LOAD E.S_EStopOut, LOAD Run, AND, STORE S_Motor, END
 const MOTOR_CODE: [u8; 33] = [
@@ -28,15 +19,6 @@ fn the_code_of_m(rt: HostRuntime) -> Result<(), Fail> {
     Ok(())
 }
 
-// A TIME literal is the limit, a free S_ChannelNO is TRUE, and the two-hand control has 500 ms of its own.
-const TIMES: &str = "PROGRAM T
-VAR_INPUT S_A, S_B : SAFEBOOL; END_VAR
-VAR A : SF_Antivalent; H : SF_TwoHandControlTypeIII; END_VAR
-A(S_ChannelNC := S_A, DiscrepancyTime := T#50ms);
-H(Activate := TRUE, S_Button1 := S_A, S_Button2 := S_B);
-END_PROGRAM
-";
-
 const TIMES_CODE: [u8; 36] = [
     3, 0, 1, 0, 0, 3, 1, 6, 0, 0, 2, 0, 2, 0, 0, 0, 50, 3, 1, 1, 0, 0, 1, 0, 1, 6, 0, 1, 7, 0, 5,
     0, 0, 1, 244, 7,
@@ -49,19 +31,6 @@ fn limits_and_free_pins(rt: HostRuntime) -> Result<(), Fail> {
     assert_eq!(rt; code.as_slice(), TIMES_CODE.as_slice());
     Ok(())
 }
-
-// ORs within ANDs within ORs, as deep as a text can have them: 17 sums, each an OR with an AND in it.
-const DEEP: &str = "PROGRAM D
-VAR_INPUT S_A, S_B, S_C : SAFEBOOL; END_VAR
-VAR_OUTPUT S_O : SAFEBOOL; END_VAR
-S_O := S_A OR S_B AND (S_A OR S_B AND (S_A OR S_B AND (S_A OR S_B AND (
-S_A OR S_B AND (S_A OR S_B AND (S_A OR S_B AND (S_A OR S_B AND (
-S_A OR S_B AND (S_A OR S_B AND (S_A OR S_B AND (S_A OR S_B AND (
-S_A OR S_B AND (S_A OR S_B AND (S_A OR S_B AND (S_A OR S_B AND (
-S_A OR S_B AND S_C
-))))))))))))))));
-END_PROGRAM
-";
 
 // 35 signals are loaded, 34 ANDs and ORs join them; then STORE and END.
 #[test]

@@ -1,0 +1,76 @@
+// Codes that are worked out by hand, and their figures.
+
+use crate::code::{Figures, equation_code_of, equation_figures, stack_figures};
+use ps_base::Fail;
+use ps_stack_tests::code::application;
+use ps_stack_tests::texts::{DEEP, MOTOR, TIMES};
+use std::alloc::Global;
+
+// BLOCK, instance 0, kind 3, outputs from 4, limit 0, operands TRUE, S_In, FALSE, FALSE, Ack; SET work cell 0 := E.S_EStopOut;
+// ALL work cell 0 with Run; SET S_Motor := work cell 0; LAST
+const MOTOR_CODE: [u8; 37] = [
+    0xF4, 0, 0, 3, 0, 4, 0, 0, 0, 0, 5, 0xFF, 0xFF, 0, 0, 0xFF, 0xFE, 0xFF, 0xFE, 0, 1, 0xF1, 0xF0,
+    0, 0, 4, 0xF2, 0xF0, 0, 0, 2, 0xF1, 0, 3, 0xF0, 0, 0xF0,
+];
+
+// Whether the equation code of the application of a text has these bytes.
+fn has_equation_code(alloc: Global, text: &str, bytes: &[u8]) -> Result<bool, Fail> {
+    let app = application(alloc, text)?;
+    let code = equation_code_of(alloc, &app)?;
+    Ok(code.as_slice() == bytes)
+}
+
+#[test]
+fn the_code_of_m(rt: HostRuntime) {
+    assert_eq!(rt; has_equation_code(rt.alloc(), MOTOR, &MOTOR_CODE), Ok(true));
+}
+
+// BLOCK, instance 0, kind 2, outputs from 2, limit 50, operands FALSE, S_A, TRUE; BLOCK, instance 1, kind 7, outputs from 5,
+// limit 500, operands TRUE, S_A, S_B; LAST
+const TIMES_CODE: [u8; 35] = [
+    0xF4, 0, 0, 2, 0, 2, 0, 0, 0, 50, 3, 0xFF, 0xFE, 0, 0, 0xFF, 0xFF, 0xF4, 0, 1, 7, 0, 5, 0, 0,
+    1, 0xF4, 3, 0xFF, 0xFF, 0, 0, 0, 1, 0xF0,
+];
+
+#[test]
+fn limits_and_free_pins(rt: HostRuntime) {
+    assert_eq!(rt; has_equation_code(rt.alloc(), TIMES, &TIMES_CODE), Ok(true));
+}
+
+/// The figures of both channels, A and then B, for the application of a text.
+pub fn figures(alloc: Global, text: &str) -> Result<(Figures, Figures), Fail> {
+    let app = application(alloc, text)?;
+    Ok((stack_figures(alloc, &app)?, equation_figures(alloc, &app)?))
+}
+
+#[test]
+fn figures_of_m(rt: HostRuntime) {
+    let stack = Figures {
+        code: 33,
+        cells: 97,
+        turns: 11,
+    };
+    let equation = Figures {
+        code: 37,
+        cells: 84,
+        turns: 5,
+    };
+    assert_eq!(rt; figures(rt.alloc(), MOTOR), Ok((stack, equation)));
+}
+
+// In channel A 35 signals are loaded and 34 ANDs and ORs join them; then STORE and END. In channel B each of the 34 has two
+// operands; then SET and LAST.
+#[test]
+fn figures_of_the_deepest_expression(rt: HostRuntime) {
+    let stack = Figures {
+        code: 3 * 35 + 34 + 3 + 1,
+        cells: 74 + 4,
+        turns: 71,
+    };
+    let equation = Figures {
+        code: 5 * 69 + 1,
+        cells: 61 + 4,
+        turns: 70,
+    };
+    assert_eq!(rt; figures(rt.alloc(), DEEP), Ok((stack, equation)));
+}

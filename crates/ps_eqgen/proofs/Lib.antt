@@ -1,0 +1,11 @@
+pub mod Decoding
+pub mod Holding
+pub mod Placing
+pub mod Calling
+pub mod Stepping
+pub mod Counted
+pub mod StoredRuns
+pub mod Scanning
+pub mod Written
+pub mod Shallow
+pub mod Examples

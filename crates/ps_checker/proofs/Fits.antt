@@ -4,10 +4,10 @@ use Rattle.std.proofs.Common.{length-append}
 use Rattle.ps_model.specs.Formula.{Formula, signal, all_of, any_of}
 use Rattle.ps_model.specs.Network.{Network}
 use Rattle.ps_model.specs.Nodes.{nodes, nodes_below, app_nodes, operand_places}
-use Rattle.ps_model.specs.Rows.{shape_of, app_rows}
+use Rattle.ps_model.specs.NodeList.{shape_of, node_list}
 use Rattle.ps_model.specs.declared.node.Node.{Node}
 use Rattle.ps_model.proofs.Once.{element_at}
-use Rattle.ps_model.proofs.NodeRows.{row_at}
+use Rattle.ps_model.proofs.NodeLists.{listed_node}
 use Rattle.ps_checker.proofs.RowPlaces.{some_nodes, operands_of}
 use Rattle.ps_flow.specs.declared.certificate.CertLine.{CertLine}
 use Rattle.ps_flow.specs.declared.certificate.LineRule.{LineRule}
@@ -44,17 +44,17 @@ stands_room xs n ys s =
     omega (arith, length-append ys s.after)
 
 -- a node's row counts the node itself
-pub row_some : (net : Network) (m : ℕ) (d : Node) → m < length (app_nodes net) → 1 ≤ (get_or (app_rows net) m d).size
+pub row_some : (net : Network) (m : ℕ) (d : Node) → m < length (app_nodes net) → 1 ≤ (get_or (node_list net) m d).size
 row_some net m d inside =
     let e = element_at (app_nodes net) m inside in
-    let size = ap (λ (r : Node). r.size) (row_at net m e.0 d e.1) in
+    let size = ap (λ (r : Node). r.size) (listed_node net m e.0 d e.1) in
     let some = some_nodes e.0 in
     omega arith
 
 -- no node's row reaches past the last node
-pub row_room : (net : Network) (m : ℕ) (d : Node) → m < length (app_nodes net) → m + (get_or (app_rows net) m d).size ≤ length (app_nodes net)
+pub row_room : (net : Network) (m : ℕ) (d : Node) → m < length (app_nodes net) → m + (get_or (node_list net) m d).size ≤ length (app_nodes net)
 row_room net m d inside =
     let e = element_at (app_nodes net) m inside in
     let room = stands_room (app_nodes net) m (nodes e.0) (app_at net m e.0 e.1) in
-    let size : (get_or (app_rows net) m d).size ≡ length (nodes e.0) = ap (λ (r : Node). r.size) (row_at net m e.0 d e.1) in
+    let size : (get_or (node_list net) m d).size ≡ length (nodes e.0) = ap (λ (r : Node). r.size) (listed_node net m e.0 d e.1) in
     omega arith

@@ -7,7 +7,7 @@ use Rattle.ps_model.specs.Formula.{Formula, Formulas, signal, all_of, any_of, no
 use Rattle.ps_model.specs.Action.{Action, Actual, free, literal, time, wired, assigns, calls}
 use Rattle.ps_model.specs.Network.{Network, signal_count}
 use Rattle.ps_model.specs.Nodes.{nodes, nodes_below, nodes_at_pin, nodes_of_step, app_nodes}
-use Rattle.ps_model.specs.Rows.{shape_of}
+use Rattle.ps_model.specs.NodeList.{shape_of}
 use Rattle.ps_model.specs.Sound.{IsSound}
 use Rattle.ps_model.specs.Values.{IsBelow, AreBelow, values_at_pin, values_of_step}
 use Rattle.ps_flow.proofs.Walk.{all_before, all_after}

@@ -9,7 +9,7 @@ use Rattle.std.proofs.lemmas.Bool.{and_parts, and_from, eq-eqb, ne_eqb, le-leb}
 use Rattle.ps_model.specs.declared.node.Node.{Node}
 use Rattle.ps_model.specs.Formula.{Formula, Formulas, signal, all_of, any_of, no_operand, operand}
 use Rattle.ps_model.specs.Nodes.{nodes, nodes_below, operand_places}
-use Rattle.ps_model.specs.Rows.{rows_at, rows_below}
+use Rattle.ps_model.specs.NodeList.{listed_at, listed_below}
 use Rattle.ps_flow.specs.declared.certificate.CertLine.{CertLine}
 use Rattle.ps_model.specs.Standing.{StandsAt}
 use Rattle.ps_checker.specs.Derives.{spoken, speak_of, is_earlier}
@@ -28,19 +28,19 @@ or_same (x ∷ xs) (suc k) d e h = or_same xs k d e (omega arith)
 
 -- the rows of these operands are left: they stand from m up to the end
 pub record Left (rows : List Node) (depth : ℕ) (later : Formulas) (m end : ℕ) : Type 0 where
-  pub stands : StandsAt rows m (rows_below depth later)
+  pub stands : StandsAt rows m (listed_below depth later)
   pub up_to : end ≡ m + length (nodes_below later)
 
 -- the one at m, and those after it
 pub next_left : (rows : List Node) (depth : ℕ) (e : Formula) (later : Formulas) (m end : ℕ) → Left rows depth (operand e later) m end → Left rows depth later (m + length (nodes e)) end
 next_left rows depth e later m end l = record {
-  stands = rest_stands rows m (m + length (nodes e)) (rows_at depth e) (rows_below depth later) (ap (λ n. m + n) (sym (length-rows_at depth e))) l.stands;
+  stands = rest_stands rows m (m + length (nodes e)) (listed_at depth e) (listed_below depth later) (ap (λ n. m + n) (sym (length-rows_at depth e))) l.stands;
   up_to = let u = l.up_to in omega (arith, length-append (nodes e) (nodes_below later));
 }
 
 pub here_left : (rows : List Node) (depth : ℕ) (e : Formula) (later : Formulas) (m end : ℕ) (d : Node) → Left rows depth (operand e later) m end → (get_or rows m d).size ≡ length (nodes e)
 here_left rows depth e later m end d l =
-    ap (λ (r : Node). r.size) (first_row rows m depth e d (first_stands rows m (rows_at depth e) (rows_below depth later) l.stands))
+    ap (λ (r : Node). r.size) (first_row rows m depth e d (first_stands rows m (listed_at depth e) (listed_below depth later) l.stands))
 
 module _ (rows : List Node) (depth : ℕ) (lines : List CertLine) (start : ℕ) (es : Formulas) (premises : List ℕ) (end : ℕ) where
   -- those before m have their premises
@@ -49,7 +49,7 @@ module _ (rows : List Node) (depth : ℕ) (lines : List CertLine) (start : ℕ) 
     pub left : Left rows depth later m end
     pub same : speak_of lines premises (operand_places start es) ≡ speak_of lines rest (operand_places m later)
 
-  pub speak_start : StandsAt rows start (rows_below depth es) → end ≡ start + length (nodes_below es) → SpeakLeft start premises
+  pub speak_start : StandsAt rows start (listed_below depth es) → end ≡ start + length (nodes_below es) → SpeakLeft start premises
   speak_start s e = record { later = es; left = record { stands = s; up_to = e }; same = refl }
 
   -- no operand is left for the premise, or it speaks of another node

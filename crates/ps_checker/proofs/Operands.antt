@@ -9,7 +9,7 @@ use Rattle.std.proofs.Math.Seq.{get_or-append_right}
 use Rattle.ps_model.specs.declared.node.Node.{Node}
 use Rattle.ps_model.specs.Formula.{Formula, Formulas, signal, all_of, any_of, no_operand, operand}
 use Rattle.ps_model.specs.Nodes.{nodes, nodes_below, operand_places}
-use Rattle.ps_model.specs.Rows.{node_of, rows_at, rows_below}
+use Rattle.ps_model.specs.NodeList.{node_of, listed_at, listed_below}
 use Rattle.ps_model.specs.Standing.{StandsAt}
 use Rattle.ps_model.proofs.NodePlaces.{first_stands, rest_stands}
 use Rattle.ps_checker.proofs.RowPlaces.{some_nodes, length-rows_at, length-rows_below, first_row}
@@ -20,17 +20,17 @@ DeepFrom least r = least ≤ r.depth
 
 -- the rows of a value are as deep as it stands, or deeper
 mutual
-  deep_at : (least depth : ℕ) (e : Formula) → least ≤ depth → All (DeepFrom least) (rows_at depth e)
+  deep_at : (least depth : ℕ) (e : Formula) → least ≤ depth → All (DeepFrom least) (listed_at depth e)
   deep_at least depth (signal s) h = All-cons (DeepFrom least) (node_of depth (signal s)) [] h (All-nil (DeepFrom least))
   deep_at least depth (all_of es) h =
-      All-cons (DeepFrom least) (node_of depth (all_of es)) (rows_below (depth + 1) es) h (deep_below least (depth + 1) es (omega arith))
+      All-cons (DeepFrom least) (node_of depth (all_of es)) (listed_below (depth + 1) es) h (deep_below least (depth + 1) es (omega arith))
   deep_at least depth (any_of es) h =
-      All-cons (DeepFrom least) (node_of depth (any_of es)) (rows_below (depth + 1) es) h (deep_below least (depth + 1) es (omega arith))
+      All-cons (DeepFrom least) (node_of depth (any_of es)) (listed_below (depth + 1) es) h (deep_below least (depth + 1) es (omega arith))
 
-  deep_below : (least depth : ℕ) (es : Formulas) → least ≤ depth → All (DeepFrom least) (rows_below depth es)
+  deep_below : (least depth : ℕ) (es : Formulas) → least ≤ depth → All (DeepFrom least) (listed_below depth es)
   deep_below least depth no_operand h = All-nil (DeepFrom least)
   deep_below least depth (operand e es) h =
-      All-append (DeepFrom least) (rows_at depth e) (rows_below depth es) (deep_at least depth e h) (deep_below least depth es h)
+      All-append (DeepFrom least) (listed_at depth e) (listed_below depth es) (deep_at least depth e h) (deep_below least depth es h)
 
 -- an element of a list that stands in another
 standing : {X : Type 0} (xs : List X) (n : ℕ) (ys : List X) (k : ℕ) (d : X) → StandsAt xs n ys → n ≤ k → k < n + length ys → get_or xs k d ≡ get_or ys (k - n) d
@@ -42,20 +42,20 @@ standing xs n ys k d s low high =
     ∙ ap (λ b. get_or ys (k - b) d) (sym place)
 
 -- what stands below a value's root is deeper than the root
-below_root : (rows : List Node) (at depth : ℕ) (e : Formula) (k : ℕ) (d : Node) → StandsAt rows at (rows_at depth e) →
+below_root : (rows : List Node) (at depth : ℕ) (e : Formula) (k : ℕ) (d : Node) → StandsAt rows at (listed_at depth e) →
     at < k → k < at + length (nodes e) → depth + 1 ≤ (get_or rows k d).depth
 below_root rows at depth e k d s low high =
-    ap-le (standing rows at (rows_at depth e) k d s (omega arith) (let n = length-rows_at depth e in omega arith)) (go e (k - at) (omega arith) (omega arith))
+    ap-le (standing rows at (listed_at depth e) k d s (omega arith) (let n = length-rows_at depth e in omega arith)) (go e (k - at) (omega arith) (omega arith))
   where
     ap-le : {x y : Node} → x ≡ y → depth + 1 ≤ y.depth → depth + 1 ≤ x.depth
     ap-le e h = let same = ap (λ (r : Node). r.depth) e in omega arith
 
-    inside : (r : Node) (es : Formulas) (j : ℕ) → 0 < j → j < 1 + length (nodes_below es) → depth + 1 ≤ (get_or (r ∷ rows_below (depth + 1) es) j d).depth
+    inside : (r : Node) (es : Formulas) (j : ℕ) → 0 < j → j < 1 + length (nodes_below es) → depth + 1 ≤ (get_or (r ∷ listed_below (depth + 1) es) j d).depth
     inside r es j some few =
-        ap-le (get_or-append_right (r ∷ []) (rows_below (depth + 1) es) j d (omega arith))
-        (All-get_or (DeepFrom (depth + 1)) (rows_below (depth + 1) es) (j - 1) d (let n = length-rows_below (depth + 1) es in omega arith) (deep_below (depth + 1) (depth + 1) es (omega arith)))
+        ap-le (get_or-append_right (r ∷ []) (listed_below (depth + 1) es) j d (omega arith))
+        (All-get_or (DeepFrom (depth + 1)) (listed_below (depth + 1) es) (j - 1) d (let n = length-rows_below (depth + 1) es in omega arith) (deep_below (depth + 1) (depth + 1) es (omega arith)))
 
-    go : (e : Formula) (j : ℕ) → 0 < j → j < length (nodes e) → depth + 1 ≤ (get_or (rows_at depth e) j d).depth
+    go : (e : Formula) (j : ℕ) → 0 < j → j < length (nodes e) → depth + 1 ≤ (get_or (listed_at depth e) j d).depth
     go (signal s) j some few = absurd (omega arith)
     go (all_of es) j some few = inside (node_of depth (all_of es)) es j some (omega arith)
     go (any_of es) j some few = inside (node_of depth (any_of es)) es j some (omega arith)
@@ -89,14 +89,14 @@ module _ (node : ℕ) where
       ∙ ap (λ b. b || is_one (at + length (nodes e)) es) (sym (ne_eqb at node (λ same. omega arith)))
 
   -- among them it is one where its row is just as deep as theirs
-  pub among_operands : (rows : List Node) (depth : ℕ) (at : ℕ) (es : Formulas) (d : Node) → StandsAt rows at (rows_below depth es) →
+  pub among_operands : (rows : List Node) (depth : ℕ) (at : ℕ) (es : Formulas) (d : Node) → StandsAt rows at (listed_below depth es) →
       at ≤ node → node < at + length (nodes_below es) → ((get_or rows node d).depth == depth) ≡ is_one at es
   among_operands rows depth at no_operand d s low high = absurd (omega arith)
   among_operands rows depth at (operand e es) d s low high =
       let some = some_nodes e in
       let long = length-append (nodes e) (nodes_below es) in
-      let here = first_stands rows at (rows_at depth e) (rows_below depth es) s in
-      let next = rest_stands rows at (at + length (nodes e)) (rows_at depth e) (rows_below depth es) (ap (λ n. at + n) (sym (length-rows_at depth e))) s in
+      let here = first_stands rows at (listed_at depth e) (listed_below depth es) s in
+      let next = rest_stands rows at (at + length (nodes e)) (listed_at depth e) (listed_below depth es) (ap (λ n. at + n) (sym (length-rows_at depth e))) s in
       ⊎_elim
       (λ inside. ⊎_elim
       (λ below.

@@ -8,7 +8,7 @@ ghost use Rattle.ps_model.specs.Blocks.{block};
 ghost use Rattle.ps_model.specs.Formula.{Formula, Formulas};
 ghost use Rattle.ps_model.specs.Network.{instance_count, kind_at, signal_count};
 ghost use Rattle.ps_model.specs.Nodes.{nodes_at_pin, nodes_below, nodes_of_step, app_nodes, operand_places};
-ghost use Rattle.ps_model.specs.Rows.{app_rows, rows_below};
+ghost use Rattle.ps_model.specs.NodeList.{node_list, listed_below};
 ghost use Rattle.ps_model.specs.Obligations.{obligation_at, obligations, obligations_at_pins, obligations_of_step};
 ghost use Rattle.ps_model.specs.Scanning.{pin_at};
 ghost use Rattle.ps_model.specs.StepOf.{IsStepOf};
@@ -49,7 +49,7 @@ fn are_earlier(premises: &[u32], i: usize) -> bool
 fn speak_of(app: &App, lines: &[CertLine], premises: &[u32], at: usize, end: usize) -> bool
     requires end { end ≤ length (app_nodes app.now) }
     requires earlier { list_all (is_earlier (length lines.now)) premises.now ≡ true }
-    ensures { (depth : ℕ) (es : Formulas) → StandsAt (app_rows app.now) at (rows_below depth es) → end ≡ at + length (nodes_below es) →
+    ensures { (depth : ℕ) (es : Formulas) → StandsAt (node_list app.now) at (listed_below depth es) → end ≡ at + length (nodes_below es) →
         result ≡ speak_of lines.now premises.now (operand_places at es) }
 {
     app.sound();
@@ -69,7 +69,7 @@ fn speak_of(app: &App, lines: &[CertLine], premises: &[u32], at: usize, end: usi
 // says it, however many operands there are.
 fn is_operand(app: &App, depth: usize, at: usize, end: usize, node: usize) -> bool
     requires end { end ≤ length (app_nodes app.now) }
-    ensures { (es : Formulas) → StandsAt (app_rows app.now) at (rows_below (depth + 1) es) → end ≡ at + length (nodes_below es) →
+    ensures { (es : Formulas) → StandsAt (node_list app.now) at (listed_below (depth + 1) es) → end ≡ at + length (nodes_below es) →
         result ≡ list_any (λ m. m == node) (operand_places at es) }
 {
     app.sound();
@@ -92,7 +92,7 @@ fn shape_fits(
     requires some { 1 ≤ row.size }
     requires known { IsKnown (signal_count app.now) row.shape }
     requires earlier { list_all (is_earlier (length lines.now)) premises.now ≡ true }
-    ensures { (es : Formulas) → StandsAt (app_rows app.now) at (rows_below (row.depth + 1) es) → row.size ≡ 1 + length (nodes_below es) →
+    ensures { (es : Formulas) → StandsAt (node_list app.now) at (listed_below (row.depth + 1) es) → row.size ≡ 1 + length (nodes_below es) →
         result ≡ fits_shape app.now lines.now rule row.shape premises.now (operand_places at es) }
 {
     app.sound();

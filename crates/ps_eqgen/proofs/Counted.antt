@@ -7,7 +7,7 @@ use Rattle.std.proofs.lemmas.List.FromFn.{length-map-range_with_len}
 use Rattle.ps_model.specs.declared.kind.Kind.{Kind}
 use Rattle.ps_model.specs.Formula.{Formula, Formulas, signal, all_of, any_of, no_operand, operand}
 use Rattle.ps_model.specs.Action.{Action, Actual, free, literal, time, wired, assigns, calls}
-use Rattle.ps_model.specs.Budgets.{rows, rows_below, rows_at_pin, rows_of_step, turns_b, boolean_count}
+use Rattle.ps_model.specs.Budgets.{equation_rows, equation_rows_below, equation_rows_at_pin, equation_rows_of_step, turns_b, boolean_count}
 use Rattle.ps_model.specs.Network.{Network, signal_count, instance_count, kind_at}
 use Rattle.ps_model.specs.Nodes.{nodes, nodes_below, nodes_at_pin, nodes_of_step}
 use Rattle.ps_model.specs.Scanning.{pin_at}
@@ -22,12 +22,12 @@ use Rattle.ps_eqgen.proofs.Decoding.{size_all, size_all-append, length-encoded, 
 
 -- ---- how many rows
 mutual
-  rows_are : (d : ℕ) (e : Formula) → length (expression_rows d e) ≡ rows e
+  rows_are : (d : ℕ) (e : Formula) → length (expression_rows d e) ≡ equation_rows e
   rows_are d (signal s) = refl
   rows_are d (all_of es) = group_are d all_row es
   rows_are d (any_of es) = group_are d any_row es
 
-  group_are : (d : ℕ) (join : ℕ → ℕ → Row) (es : Formulas) → length (group_rows d join es) ≡ rows_below es
+  group_are : (d : ℕ) (join : ℕ → ℕ → Row) (es : Formulas) → length (group_rows d join es) ≡ equation_rows_below es
   group_are d join no_operand = refl
   group_are d join (operand e es) =
       omega (
@@ -37,7 +37,7 @@ mutual
         later_are d join es,
       )
 
-  later_are : (d : ℕ) (join : ℕ → ℕ → Row) (es : Formulas) → length (later_rows d join es) ≡ rows_below es
+  later_are : (d : ℕ) (join : ℕ → ℕ → Row) (es : Formulas) → length (later_rows d join es) ≡ equation_rows_below es
   later_are d join no_operand = refl
   later_are d join (operand e es) =
       omega (
@@ -47,23 +47,23 @@ mutual
         later_are d join es,
       )
 
-pin_are : (d : ℕ) (a : Actual) → length (pin_rows d a) ≡ rows_at_pin a
+pin_are : (d : ℕ) (a : Actual) → length (pin_rows d a) ≡ equation_rows_at_pin a
 pin_are d free = refl
 pin_are d (literal b) = refl
 pin_are d (time t) = refl
 pin_are d (wired e) = rows_are d e
 
-step_are : (net : Network) (sound : IsSound net) (k : ℕ) (a : Action) → slice_get net.steps k ≡ Some a → length (step_rows net a) ≡ rows_of_step net a
+step_are : (net : Network) (sound : IsSound net) (k : ℕ) (a : Action) → slice_get net.steps k ≡ Some a → length (step_rows net a) ≡ equation_rows_of_step net a
 step_are net sound k (assigns t e) at = omega (arith, length-append (expression_rows 0 e) (set_row t (operand_at 0 e) ∷ []), rows_are 0 e)
 step_are net sound k (calls i args) at =
     let kind = kind_at net i in
     let many = sound.arguments k i args at in
     let within = boolean_within kind in
-    let all = length_of_pins (rows_at args) rows_at_pin args free (boolean_count kind) 0 (λ j. pin_are j (slice_index_or args j free)) (omega arith) in
+    let all = length_of_pins (rows_at args) equation_rows_at_pin args free (boolean_count kind) 0 (λ j. pin_are j (slice_index_or args j free)) (omega arith) in
     omega (arith, length-append (pins_rows kind args) (call_row net i args ∷ []), all)
 
 pub turns_are : (net : Network) → IsSound net → length (network_rows net) ≡ turns_b net
-turns_are net sound = omega (arith, length-append (flat_map (step_rows net) net.steps) (last_row ∷ []), length_of_steps (step_rows net) (rows_of_step net) net.steps (step_are net sound))
+turns_are net sound = omega (arith, length-append (flat_map (step_rows net) net.steps) (last_row ∷ []), length_of_steps (step_rows net) (equation_rows_of_step net) net.steps (step_are net sound))
 
 -- ---- how many bytes
 mutual

@@ -9,7 +9,7 @@ use Rattle.ps_model.specs.Blocks.{Block_state, moved, outs, output_count}
 use Rattle.ps_model.specs.Budgets.{boolean_count}
 use Rattle.ps_model.specs.Kept.{Kept, StandsBy, Remains, counted_down}
 use Rattle.ps_model.specs.Network.{Network, signal_count, instance_count, kind_at, first_pin, is_call_of}
-use Rattle.ps_model.specs.Running.{Memory, done, exec}
+use Rattle.ps_model.specs.Running.{Interim, done, exec}
 use Rattle.ps_model.specs.Scanning.{pins_under, limit_of}
 use Rattle.ps_model.specs.Stored.{IsKept, stored, loaded}
 use Rattle.ps_model.proofs.Keeping.{count_down}
@@ -41,12 +41,12 @@ pub record BlocksStand (net : Network) (blocks : List ℕ) (b : ℕ → Block_st
 
 module _ (net : Network) (few : signal_count net ≤ 4000) (dt last passed : ℕ) (code : List ℕ) where
   -- the rows ran, and the cells hold this memory
-  pub record Led (p : Plain) (rows : List Row) (at : ℕ) (m : Memory) : Type 0 where
+  pub record Led (p : Plain) (rows : List Row) (at : ℕ) (m : Interim) : Type 0 where
     pub blocks : List ℕ
     pub comes : Comes (signal_count net) (instance_count net) last passed code blocks p (length rows) (at + size_all rows) 0 m.signals
     pub stand : BlocksStand net blocks m.blocks
 
-  assign_led : (t : ℕ) (e : Formula) (m : Memory) (p : Plain) (at : ℕ) (blocks : List ℕ) → t < signal_count net → IsFine (signal_count net) 34 e → HasAt code at (step_rows net (assigns t e)) →
+  assign_led : (t : ℕ) (e : Formula) (m : Interim) (p : Plain) (at : ℕ) (blocks : List ℕ) → t < signal_count net → IsFine (signal_count net) 34 e → HasAt code at (step_rows net (assigns t e)) →
       Holds (signal_count net) last passed blocks p at m.signals → BlocksStand net blocks m.blocks → Led p (step_rows net (assigns t e)) at (done net dt (assigns t e) m)
   assign_led t e m p at blocks low is has h stand =
       let n = signal_count net in
@@ -75,7 +75,7 @@ module _ (net : Network) (few : signal_count net ≤ 4000) (dt last passed : ℕ
         stand = record { size = stand.size; each = stand.each };
       }
 
-  call_led : (i : ℕ) (args : List Actual) (m : Memory) (p : Plain) (at : ℕ) (blocks : List ℕ) → CallFits net i args → ((m.blocks i).code ≢ 0 → dt ≡ passed) → HasAt code at (step_rows net (calls i args)) →
+  call_led : (i : ℕ) (args : List Actual) (m : Interim) (p : Plain) (at : ℕ) (blocks : List ℕ) → CallFits net i args → ((m.blocks i).code ≢ 0 → dt ≡ passed) → HasAt code at (step_rows net (calls i args)) →
       Holds (signal_count net) last passed blocks p at m.signals → BlocksStand net blocks m.blocks → Led p (step_rows net (calls i args)) at (done net dt (calls i args) m)
   call_led i args m p at blocks fits timely has h stand =
       let n = signal_count net in
@@ -144,13 +144,13 @@ module _ (net : Network) (few : signal_count net ≤ 4000) (dt last passed : ℕ
         };
       }
 
-  step_led : (a : Action) (m : Memory) (p : Plain) (at : ℕ) (blocks : List ℕ) → StepFits net a → ((i : ℕ) → is_call_of net i a ≡ true → (m.blocks i).code ≢ 0 → dt ≡ passed) →
+  step_led : (a : Action) (m : Interim) (p : Plain) (at : ℕ) (blocks : List ℕ) → StepFits net a → ((i : ℕ) → is_call_of net i a ≡ true → (m.blocks i).code ≢ 0 → dt ≡ passed) →
       HasAt code at (step_rows net a) → Holds (signal_count net) last passed blocks p at m.signals → BlocksStand net blocks m.blocks → Led p (step_rows net a) at (done net dt a m)
   step_led (assigns t e) m p at blocks fits timely has h stand = assign_led t e m p at blocks fits.0 fits.1 has h stand
   step_led (calls i args) m p at blocks fits timely has h stand = call_led i args m p at blocks fits (timely i (eq-eqb i i refl)) has h stand
 
   -- the steps in order leave the memory of `exec`
-  pub steps_led : (rest : List Action) (m : Memory) (p : Plain) (at : ℕ) (blocks : List ℕ) → AllFit net rest → Once net rest → Timely net dt passed rest m → HasAt code at (flat_map (step_rows net) rest) →
+  pub steps_led : (rest : List Action) (m : Interim) (p : Plain) (at : ℕ) (blocks : List ℕ) → AllFit net rest → Once net rest → Timely net dt passed rest m → HasAt code at (flat_map (step_rows net) rest) →
       Holds (signal_count net) last passed blocks p at m.signals → BlocksStand net blocks m.blocks → Led p (flat_map (step_rows net) rest) at (exec net dt rest m)
   unfolding exec
   steps_led [] m p at blocks fits once timely has h stand =

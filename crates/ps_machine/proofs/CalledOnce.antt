@@ -7,7 +7,7 @@ use Rattle.std.proofs.lemmas.List.Sums.{sum_by-cons}
 use Rattle.ps_model.specs.Action.{Action, assigns, calls}
 use Rattle.ps_model.specs.Blocks.{Block_state}
 use Rattle.ps_model.specs.Network.{Network, instance_count, is_call_of}
-use Rattle.ps_model.specs.Running.{Memory, done}
+use Rattle.ps_model.specs.Running.{Interim, done}
 use Rattle.ps_model.specs.Sound.{IsSound}
 use Rattle.ps_model.proofs.Once.{place_of, none_after}
 use Rattle.ps_model.proofs.OneSolution.{call_is}
@@ -45,11 +45,11 @@ pub once_after : (net : Network) (a : Action) (rest : List Action) → Once net 
 once_after net a rest once i = fewer (is_call_of net i) a rest (once i)
 
 -- for an instance that is still to be called so much time passed as dt, where that matters
-abbrev pub Timely : Network → (dt passed : ℕ) → List Action → Memory → Type 0
+abbrev pub Timely : Network → (dt passed : ℕ) → List Action → Interim → Type 0
 Timely net dt passed rest m = (i : ℕ) → list_any (is_call_of net i) rest ≡ true → (m.blocks i).code ≢ 0 → dt ≡ passed
 
 -- after a step the later calls are still to come
-pub timely_after : (net : Network) (dt passed : ℕ) (a : Action) (rest : List Action) (m : Memory) → Once net (a ∷ rest) → Timely net dt passed (a ∷ rest) m → Timely net dt passed rest (done net dt a m)
+pub timely_after : (net : Network) (dt passed : ℕ) (a : Action) (rest : List Action) (m : Interim) → Once net (a ∷ rest) → Timely net dt passed (a ∷ rest) m → Timely net dt passed rest (done net dt a m)
 timely_after net dt passed (assigns t e) rest m once timely i later on = timely i later on
 timely_after net dt passed (calls j args) rest m once timely i later on =
     elim (cases_eq j i) [

@@ -7,7 +7,7 @@ use Rattle.ps_model.specs.declared.channel.Progress.TheVariants.{Running, Done}
 use Rattle.ps_model.specs.Blocks.{Block_state, idle}
 use Rattle.ps_model.specs.Network.{Network, input_count, instance_count}
 use Rattle.ps_model.specs.Scanning.{State, Solves, block_in}
-use Rattle.ps_model.specs.Meaning.{Since, nothing, last, old_state, passed, first_state, report}
+use Rattle.ps_model.specs.Meaning.{Past, nothing, last, old_state, passed, first_state, report}
 use Rattle.ps_machine.specs.Machines.{Machine, turned}
 use Rattle.ps_machine.specs.Keeping.{Passes, Keeps, KeepsExactly}
 use Rattle.ps_machine.specs.Channels.{Channel_state, Own, meets, alone, at_begin, after_turn, new_channel, is_running, ended}
@@ -44,56 +44,56 @@ first_idle net i =
       | inr high ↦ ap (λ (b : Block_state). b.code) (get_or_past (replicate (instance_count net) idle) i idle (omega (arith, length-replicate (instance_count net) idle)))
     ]
 
-pub passes_since : (net : Network) (since : Since) (now : ℕ) → Passes (old_state net since) (time_of since) now (passed since now)
+pub passes_since : (net : Network) (past : Past) (now : ℕ) → Passes (old_state net past) (time_of past) now (passed past now)
 passes_since net nothing now i busy = absurd (busy (first_idle net i))
 passes_since net (last before w) now i busy = refl
 
 module _ (net : Network) (m : Machine) (Stands : State → ℕ → List ℕ → Type 0) where
-  pub begins_midway : Keeps net m Stands → (latest : ℕ) (s : Channel_state) (since : Since) (new : State) (ins : List Bool) (now : ℕ) →
-      AtRest net m Stands latest s since → latest ≤ now → now < 2 ^ 32 → length ins ≡ input_count net →
-      Solves net (old_state net since) ins (passed since now) new → Midway net m Stands now (at_begin m now ins s) (last now new)
-  begins_midway keeps latest s since new ins now rest later small count solves =
+  pub begins_midway : Keeps net m Stands → (latest : ℕ) (s : Channel_state) (past : Past) (new : State) (ins : List Bool) (now : ℕ) →
+      AtRest net m Stands latest s past → latest ≤ now → now < 2 ^ 32 → length ins ≡ input_count net →
+      Solves net (old_state net past) ins (passed past now) new → Midway net m Stands now (at_begin m now ins s) (last now new)
+  begins_midway keeps latest s past new ins now rest later small count solves =
       let e = rest.early in
       record {
         code = rest.code;
         from = m.begin now ins s.cells;
-        runs = keeps.scan (old_state net since) new ins (time_of since) now (passed since now) s.cells (omega arith) small count (passes_since net since now) rest.stands solves;
+        runs = keeps.scan (old_state net past) new ins (time_of past) now (passed past now) s.cells (omega arith) small count (passes_since net past now) rest.stands solves;
         at = refl;
         count = omega arith;
         early = omega arith;
       }
 
   -- the channel has ended exactly where it made the turns of its run
-  not_ended : (latest : ℕ) (s : Channel_state) (since : Since) → (mid : Midway net m Stands latest s since) → s.turns < mid.runs.turns → ended m s ≡ false
-  not_ended latest s since mid low =
+  not_ended : (latest : ℕ) (s : Channel_state) (past : Past) → (mid : Midway net m Stands latest s past) → s.turns < mid.runs.turns → ended m s ≡ false
+  not_ended latest s past mid low =
       let p : m.progress s.cells ≡ Running = ap m.progress mid.at ∙ mid.runs.runs.running s.turns low in
       let few = mid.runs.within in
       ap (λ q. not (is_running q) || nat_le m.budget s.turns) p ∙ lt-leb m.budget s.turns (omega arith)
 
-  is_done : (latest : ℕ) (s : Channel_state) (since : Since) → (mid : Midway net m Stands latest s since) → mid.runs.turns ≤ s.turns → m.progress s.cells ≡ Done
-  is_done latest s since mid high =
+  is_done : (latest : ℕ) (s : Channel_state) (past : Past) → (mid : Midway net m Stands latest s past) → mid.runs.turns ≤ s.turns → m.progress s.cells ≡ Done
+  is_done latest s past mid high =
       let all : s.turns ≡ mid.runs.turns = omega (arith, mid.count) in
       ap m.progress mid.at ∙ ap (λ k. m.progress (turned (m.turn m.image) k mid.from)) all ∙ mid.runs.runs.done
 
-  pub turns_left : (latest : ℕ) (s : Channel_state) (since : Since) → (mid : Midway net m Stands latest s since) → ended m s ≡ false → s.turns < mid.runs.turns
-  turns_left latest s since mid h =
+  pub turns_left : (latest : ℕ) (s : Channel_state) (past : Past) → (mid : Midway net m Stands latest s past) → ended m s ≡ false → s.turns < mid.runs.turns
+  turns_left latest s past mid h =
       elim (cases_lt s.turns mid.runs.turns) [
         | inl low ↦ low
         | inr high ↦
-            let e : ended m s ≡ true = ap (λ q. not (is_running q) || nat_le m.budget s.turns) (is_done latest s since mid high) in
+            let e : ended m s ≡ true = ap (λ q. not (is_running q) || nat_le m.budget s.turns) (is_done latest s past mid high) in
             absurd cc
       ]
 
-  pub all_turns : (latest : ℕ) (s : Channel_state) (since : Since) → (mid : Midway net m Stands latest s since) → ended m s ≡ true → s.turns ≡ mid.runs.turns
-  all_turns latest s since mid h =
+  pub all_turns : (latest : ℕ) (s : Channel_state) (past : Past) → (mid : Midway net m Stands latest s past) → ended m s ≡ true → s.turns ≡ mid.runs.turns
+  all_turns latest s past mid h =
       elim (cases_lt s.turns mid.runs.turns) [
-        | inl low ↦ let e = not_ended latest s since mid low in absurd cc
+        | inl low ↦ let e = not_ended latest s past mid low in absurd cc
         | inr high ↦ omega (arith, mid.count)
       ]
 
-  pub turn_goes_on : (latest : ℕ) (s : Channel_state) (since : Since) → Midway net m Stands latest s since → ended m s ≡ false → Midway net m Stands latest (after_turn m s) since
-  turn_goes_on latest s since mid h =
-      let low = turns_left latest s since mid h in
+  pub turn_goes_on : (latest : ℕ) (s : Channel_state) (past : Past) → Midway net m Stands latest s past → ended m s ≡ false → Midway net m Stands latest (after_turn m s) past
+  turn_goes_on latest s past mid h =
+      let low = turns_left latest s past mid h in
       let one : s.turns + 1 ≡ suc s.turns = omega arith in
       record {
         code = mid.code;
@@ -105,17 +105,17 @@ module _ (net : Network) (m : Machine) (Stands : State → ℕ → List ℕ → 
       }
 
   -- where a scan has ended, the channel is done and at rest, and its cells hold the report of the meaning
-  pub record Over (latest : ℕ) (s : Channel_state) (since : Since) : Type 0 where
-    pub rest : AtRest net m Stands latest s since
+  pub record Over (latest : ℕ) (s : Channel_state) (past : Past) : Type 0 where
+    pub rest : AtRest net m Stands latest s past
     pub done : m.progress s.cells ≡ Done
-    pub reports : m.report s.cells ≡ Some (report net (old_state net since))
+    pub reports : m.report s.cells ≡ Some (report net (old_state net past))
 
-  pub scan_over : (latest : ℕ) (s : Channel_state) (since : Since) → Midway net m Stands latest s since → ended m s ≡ true → Over latest s since
-  scan_over latest s since mid h =
-      let all = all_turns latest s since mid h in
+  pub scan_over : (latest : ℕ) (s : Channel_state) (past : Past) → Midway net m Stands latest s past → ended m s ≡ true → Over latest s past
+  scan_over latest s past mid h =
+      let all = all_turns latest s past mid h in
       let at : s.cells ≡ turned (m.turn m.image) mid.runs.turns mid.from = mid.at ∙ ap (λ k. turned (m.turn m.image) k mid.from) all in
       record {
-        rest = record { code = mid.code; stands = subst (Stands (old_state net since) (time_of since)) (sym at) mid.runs.runs.stands; early = mid.early };
+        rest = record { code = mid.code; stands = subst (Stands (old_state net past) (time_of past)) (sym at) mid.runs.runs.stands; early = mid.early };
         done = ap m.progress at ∙ mid.runs.runs.done;
         reports = ap m.report at ∙ mid.runs.runs.reports;
       }
@@ -125,6 +125,6 @@ module _ (net : Network) (m : Machine) (Stands : State → ℕ → List ℕ → 
   starts_at_rest keeps latest = record { code = refl; stands = keeps.blank; early = omega arith }
 
   -- so is one that was given cells that stand for the state of the last scan
-  pub made_at_rest : (latest turns : ℕ) (since : Since) (cells : List ℕ) → Stands (old_state net since) (time_of since) cells → time_of since ≤ latest →
-      AtRest net m Stands latest (record { code = m.image; cells = cells; turns = turns }) since
-  made_at_rest latest turns since cells stands early = record { code = refl; stands = stands; early = early }
+  pub made_at_rest : (latest turns : ℕ) (past : Past) (cells : List ℕ) → Stands (old_state net past) (time_of past) cells → time_of past ≤ latest →
+      AtRest net m Stands latest (record { code = m.image; cells = cells; turns = turns }) past
+  made_at_rest latest turns past cells stands early = record { code = refl; stands = stands; early = early }

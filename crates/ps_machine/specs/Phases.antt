@@ -2,32 +2,32 @@
 use Rattle.std.specs.Prelude.{◌≡◌, ℕ, ◌≤◌, Bool, true, false, List}
 use Rattle.ps_model.specs.Network.{Network}
 use Rattle.ps_model.specs.Scanning.{State}
-use Rattle.ps_model.specs.Meaning.{Since, nothing, last, old_state}
+use Rattle.ps_model.specs.Meaning.{Past, nothing, last, old_state}
 use Rattle.ps_machine.specs.Machines.{Machine, turned}
 use Rattle.ps_machine.specs.Keeping.{RunsTo}
 use Rattle.ps_machine.specs.Channels.{Channel_state}
 
 -- the time of the last scan, 0 where there is none since the start or a restart
-abbrev pub time_of : Since → ℕ
+abbrev pub time_of : Past → ℕ
 time_of nothing = 0
 time_of (last now w) = now
 
 -- Its code is as compiled and its cells stand for the state of the last scan, which was at most at the latest time.
-pub record AtRest (net : Network) (m : Machine) (Stands : State → ℕ → List ℕ → Type 0) (latest : ℕ) (s : Channel_state) (since : Since) : Type 0 where
+pub record AtRest (net : Network) (m : Machine) (Stands : State → ℕ → List ℕ → Type 0) (latest : ℕ) (s : Channel_state) (past : Past) : Type 0 where
   pub code : s.code ≡ m.image
-  pub stands : Stands (old_state net since) (time_of since) s.cells
-  pub early : time_of since ≤ latest
+  pub stands : Stands (old_state net past) (time_of past) s.cells
+  pub early : time_of past ≤ latest
 
 -- Its code is as compiled and its cells are on their way to the state of the scan that began, by as many turns as are counted.
-pub record Midway (net : Network) (m : Machine) (Stands : State → ℕ → List ℕ → Type 0) (latest : ℕ) (s : Channel_state) (since : Since) : Type 0 where
+pub record Midway (net : Network) (m : Machine) (Stands : State → ℕ → List ℕ → Type 0) (latest : ℕ) (s : Channel_state) (past : Past) : Type 0 where
   pub code : s.code ≡ m.image
   pub from : List ℕ
-  pub runs : RunsTo net m Stands from (old_state net since) (time_of since)
+  pub runs : RunsTo net m Stands from (old_state net past) (time_of past)
   pub at : s.cells ≡ turned (m.turn m.image) s.turns from
   pub count : s.turns ≤ runs.turns
-  pub early : time_of since ≤ latest
+  pub early : time_of past ≤ latest
 
 -- by whether a scan is begun
-abbrev pub Phase : (net : Network) (m : Machine) (Stands : State → ℕ → List ℕ → Type 0) (latest : ℕ) (begun : Bool) (s : Channel_state) (since : Since) → Type 0
-Phase net m Stands latest false s since = AtRest net m Stands latest s since
-Phase net m Stands latest true s since = Midway net m Stands latest s since
+abbrev pub Phase : (net : Network) (m : Machine) (Stands : State → ℕ → List ℕ → Type 0) (latest : ℕ) (begun : Bool) (s : Channel_state) (past : Past) → Type 0
+Phase net m Stands latest false s past = AtRest net m Stands latest s past
+Phase net m Stands latest true s past = Midway net m Stands latest s past

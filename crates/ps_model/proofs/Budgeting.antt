@@ -9,7 +9,7 @@ use Rattle.ps_model.specs.Blocks.{block}
 use Rattle.ps_model.proofs.Once.{take_next}
 use Rattle.ps_model.specs.Formula.{Formula, Formulas, signal, all_of, any_of, no_operand, operand}
 use Rattle.ps_model.specs.Nodes.{nodes, nodes_below}
-use Rattle.ps_model.specs.Budgets.{instructions, joined, rows, rows_below, boolean_count, is_boolean}
+use Rattle.ps_model.specs.Budgets.{instructions, joined, equation_rows, equation_rows_below, boolean_count, is_boolean}
 
 mutual
   pub instructions_bound : (e : Formula) → instructions e + 1 ≤ 2 * length (nodes e)
@@ -23,15 +23,15 @@ mutual
       omega (arith, instructions_bound e, joined_bound es, length-append (nodes e) (nodes_below es))
 
 mutual
-  pub rows_bound : (e : Formula) → rows e + 1 ≡ length (nodes e)
-  rows_bound (signal s) = refl
-  rows_bound (all_of es) = omega (arith, rows_below_bound es)
-  rows_bound (any_of es) = omega (arith, rows_below_bound es)
+  pub equation_rows_bound : (e : Formula) → equation_rows e + 1 ≡ length (nodes e)
+  equation_rows_bound (signal s) = refl
+  equation_rows_bound (all_of es) = omega (arith, equation_rows_below_bound es)
+  equation_rows_bound (any_of es) = omega (arith, equation_rows_below_bound es)
 
-  pub rows_below_bound : (es : Formulas) → rows_below es ≡ length (nodes_below es)
-  rows_below_bound no_operand = refl
-  rows_below_bound (operand e es) =
-      omega (arith, rows_bound e, rows_below_bound es, length-append (nodes e) (nodes_below es))
+  pub equation_rows_below_bound : (es : Formulas) → equation_rows_below es ≡ length (nodes_below es)
+  equation_rows_below_bound no_operand = refl
+  equation_rows_below_bound (operand e es) =
+      omega (arith, equation_rows_bound e, equation_rows_below_bound es, length-append (nodes e) (nodes_below es))
 
 -- the Boolean pins of a kind are some of its input pins
 pub boolean_within : (kind : Kind) → boolean_count kind ≤ length (block kind).inputs

@@ -5,7 +5,7 @@ pub mod Outputs
 pub mod Formulas
 pub mod Rest
 pub mod NodePlaces
-pub mod NodeRows
+pub mod NodeLists
 pub mod Once
 pub mod FirstPins
 pub mod OneSolution

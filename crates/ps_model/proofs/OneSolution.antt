@@ -14,20 +14,20 @@ use Rattle.ps_model.specs.Network.{Network, input_count, declared_count, instanc
 use Rattle.ps_model.specs.Sound.{IsSound}
 use Rattle.ps_model.specs.Action.{Action, Actual, assigns, calls}
 use Rattle.ps_model.specs.Scanning.{State, Solves, signal_in, block_in, read_at, pins_under, limit_of, HasOneSolution}
-use Rattle.ps_model.specs.Running.{Memory, begun, is_kept, stepped, written, left_at, done, exec}
+use Rattle.ps_model.specs.Running.{Interim, begun, is_kept, called_state, written, left_at, done, exec}
 use Rattle.ps_model.proofs.Once.{any_of_one, place_of, split_at, take_next, element_at, alone_before, alone_after, none_of_first, any_of_first, none_of_rest, any_at, sum_up_to}
 
 module _ (net : Network) (dt : ℕ) where
-  pub exec-append : (xs ys : List Action) (m : Memory) → exec net dt (xs ++ ys) m ≡ exec net dt ys (exec net dt xs m)
+  pub exec-append : (xs ys : List Action) (m : Interim) → exec net dt (xs ++ ys) m ≡ exec net dt ys (exec net dt xs m)
   unfolding exec
   exec-append [] ys m = refl
   exec-append (x ∷ xs) ys m = exec-append xs ys (done net dt x m)
 
-  pub exec-one : (x : Action) (m : Memory) → exec net dt (x ∷ []) m ≡ done net dt x m
+  pub exec-one : (x : Action) (m : Interim) → exec net dt (x ∷ []) m ≡ done net dt x m
   unfolding exec
   exec-one x m = refl
 
-  pub exec_next : (xs : List Action) (k : ℕ) (x : Action) (m : Memory) → slice_get xs k ≡ Some x →
+  pub exec_next : (xs : List Action) (k : ℕ) (x : Action) (m : Interim) → slice_get xs k ≡ Some x →
       exec net dt (take (k + 1) xs) m ≡ done net dt x (exec net dt (take k xs) m)
   exec_next xs k x m at =
       let next : k + 1 ≡ suc k = omega arith in
@@ -35,7 +35,7 @@ module _ (net : Network) (dt : ℕ) where
       ∙ exec-append (take k xs) (x ∷ []) m ∙ exec-one x (exec net dt (take k xs) m)
 
   -- a signal that no step drives stays
-  pub signal_stays : (xs : List Action) (m : Memory) (s : ℕ) → list_any (drives net s) xs ≡ false → (exec net dt xs m).signals s ≡ m.signals s
+  pub signal_stays : (xs : List Action) (m : Interim) (s : ℕ) → list_any (drives net s) xs ≡ false → (exec net dt xs m).signals s ≡ m.signals s
   unfolding exec
   signal_stays [] m s h = refl
   signal_stays (x ∷ xs) m s h =
@@ -43,7 +43,7 @@ module _ (net : Network) (dt : ℕ) where
       signal_stays xs (done net dt x m) s parts.1 ∙ cond-false (drives net s x) (written net dt x m s) (m.signals s) parts.0
 
   -- an instance that no step calls stays
-  pub block_stays : (xs : List Action) (m : Memory) (i : ℕ) → list_any (is_call_of net i) xs ≡ false → (exec net dt xs m).blocks i ≡ m.blocks i
+  pub block_stays : (xs : List Action) (m : Interim) (i : ℕ) → list_any (is_call_of net i) xs ≡ false → (exec net dt xs m).blocks i ≡ m.blocks i
   unfolding exec
   block_stays [] m i h = refl
   block_stays (x ∷ xs) m i h =
@@ -111,7 +111,7 @@ module _ (net : Network) (sound : IsSound net) where
   is_call_itself i args = eq-eqb i i refl
 
   -- an instance has its state of the beginning up to its call
-  pub uncalled_block : (dt : ℕ) (m : Memory) (k i : ℕ) (args : List Actual) → slice_get net.steps k ≡ Some (calls i args) →
+  pub uncalled_block : (dt : ℕ) (m : Interim) (k i : ℕ) (args : List Actual) → slice_get net.steps k ≡ Some (calls i args) →
       (exec net dt (take k net.steps) m).blocks i ≡ m.blocks i
   uncalled_block dt m k i args at =
       block_stays net dt (take k net.steps) m i
@@ -119,15 +119,15 @@ module _ (net : Network) (sound : IsSound net) where
 
   -- ---- one scan
   module _ (old : State) (ins : List Bool) (dt : ℕ) where
-    abbrev pub start : Memory
+    abbrev pub start : Interim
     start = begun net old ins
 
     -- the memory before step k
-    abbrev pub before : ℕ → Memory
+    abbrev pub before : ℕ → Interim
     before k = exec net dt (take k net.steps) start
 
     -- the memory after all steps
-    abbrev pub all : Memory
+    abbrev pub all : Interim
     all = exec net dt net.steps start
 
     all-before : (k : ℕ) → all ≡ exec net dt (drop k net.steps) (before k)
@@ -154,13 +154,13 @@ module _ (net : Network) (sound : IsSound net) where
 
     -- and so does the state that a call leaves
     called_stays : (k i : ℕ) (args : List Actual) → slice_get net.steps k ≡ Some (calls i args) →
-        all.blocks i ≡ stepped net dt i args (before k)
+        all.blocks i ≡ called_state net dt i args (before k)
     called_stays k i args at =
         let inside = sound.instances k i args at in
         ap (λ m. m.blocks i) (all-after k (calls i args) at)
         ∙ block_stays net dt (drop (suc k) net.steps) (done net dt (calls i args) (before k)) i
         (alone_after (is_call_of net i) net.steps (one_call i inside) k (calls i args) at (is_call_itself i args))
-        ∙ cond-true (is_call_of net i (calls i args)) (stepped net dt i args (before k)) ((before k).blocks i) (is_call_itself i args)
+        ∙ cond-true (is_call_of net i (calls i args)) (called_state net dt i args (before k)) ((before k).blocks i) (is_call_itself i args)
 
     -- an instance has its old state up to its call
     uncalled : (k i : ℕ) (args : List Actual) → slice_get net.steps k ≡ Some (calls i args) → (before k).blocks i ≡ block_in old i
@@ -201,7 +201,7 @@ module _ (net : Network) (sound : IsSound net) where
 
     same_step : (new : State) (k i : ℕ) (args : List Actual) → slice_get net.steps k ≡ Some (calls i args) → Agrees new k →
         moved (kind_at net i) (limit_of (kind_at net i) args) (pins_under (read_at net old new k) (kind_at net i) args) dt (block_in old i)
-        ≡ stepped net dt i args (before k)
+        ≡ called_state net dt i args (before k)
     same_step new k i args at agrees =
         ap (λ v. moved (kind_at net i) (limit_of (kind_at net i) args) (pins_under v (kind_at net i) args) dt (block_in old i)) (λ x s. agrees s x)
         ∙ ap (λ b. moved (kind_at net i) (limit_of (kind_at net i) args) (pins_under (before k).signals (kind_at net i) args) dt b) (sym (uncalled k i args at))
@@ -285,7 +285,7 @@ module _ (net : Network) (sound : IsSound net) where
           solution-block i (sound.instances k i args at) ∙ called_stays k i args at ∙ sym (same_step solution k i args at (solution_agrees k));
       pin_outputs = λ i j inside h.
           let c = call_of i inside in
-          let state : block_in solution i ≡ stepped net dt i c.1 (before c.0) = solution-block i inside ∙ called_stays c.0 i c.1 c.2 in
+          let state : block_in solution i ≡ called_state net dt i c.1 (before c.0) = solution-block i inside ∙ called_stays c.0 i c.1 c.2 in
           solution-written c.0 (calls i c.1) (first_pin net i + j) c.2 (drives_output i j c.1 h)
           ∙ ap (λ b. slice_index_or (outs (kind_at net i) b.code b.mode) (first_pin net i + j - first_pin net i) false) (sym state)
           ∙ ap (λ x. slice_index_or (outs (kind_at net i) (block_in solution i).code (block_in solution i).mode) x false) (omega arith);

@@ -5,7 +5,7 @@ use Rattle.std.proofs.lemmas.Option.{slice_get_within, get_or_from_slice_get}
 use Rattle.std.proofs.Math.Seq.{drop-cons}
 use Rattle.ps_model.specs.declared.node.Node.{Node}
 use Rattle.ps_model.specs.declared.node.Shape.{Shape}
-use Rattle.ps_model.proofs.NodeRows.{AreRowsOf, one_each}
+use Rattle.ps_model.proofs.NodeLists.{AreListed, one_each}
 use Rattle.ps_model.specs.Formula.{Formula}
 
 pub rest_at : {X : Type 0} (xs : List X) (i : ℕ) (x : X) → i < length xs → x ≡ get_or xs i x → drop i xs ≡ x ∷ drop (i + 1) xs
@@ -19,7 +19,7 @@ set_after (b ∷ before) r q more = ap (λ z. b ∷ z) (set_after before r q mor
 
 -- a node's row gets its size once those below it are written
 pub sized : (rows before : List Node) (r : Node) (shape : Shape) (depth : ℕ) (below : List Node) (all : List Formula) (at size : ℕ) →
-    AreRowsOf below all → rows ++ [] ≡ before ++ r ∷ below → at ≡ length before → size ≡ length rows - at →
+    AreListed below all → rows ++ [] ≡ before ++ r ∷ below → at ≡ length before → size ≡ length rows - at →
     slice_set rows at (record { shape = shape; size = size; depth = depth }) ≡ before ++ record { shape = shape; size = suc (length all); depth = depth } ∷ below
 sized rows before r shape depth below all at size are e here is =
     let whole : rows ≡ before ++ r ∷ below = sym (append-nil rows) ∙ e in

@@ -55,25 +55,25 @@ turns_a net = sum_by (instructions_of_step net) net.steps + 1
 
 -- a signal is its own operand; of a group each operand is placed, and then set or joined
 abbrev mutual
-  pub rows : Formula → ℕ
-  rows (signal s) = 0
-  rows (all_of es) = rows_below es
-  rows (any_of es) = rows_below es
+  pub equation_rows : Formula → ℕ
+  equation_rows (signal s) = 0
+  equation_rows (all_of es) = equation_rows_below es
+  equation_rows (any_of es) = equation_rows_below es
 
-  pub rows_below : Formulas → ℕ
-  rows_below no_operand = 0
-  rows_below (operand e es) = rows e + 1 + rows_below es
+  pub equation_rows_below : Formulas → ℕ
+  equation_rows_below no_operand = 0
+  equation_rows_below (operand e es) = equation_rows e + 1 + equation_rows_below es
 
 -- all but a value is a constant
-abbrev pub rows_at_pin : Actual → ℕ
-rows_at_pin (wired e) = rows e
-rows_at_pin _ = 0
+abbrev pub equation_rows_at_pin : Actual → ℕ
+equation_rows_at_pin (wired e) = equation_rows e
+equation_rows_at_pin _ = 0
 
 -- a value and the row of its target, or the Boolean pins and the row of the call
-abbrev pub rows_of_step : Network → Action → ℕ
-rows_of_step net (assigns t e) = rows e + 1
-rows_of_step net (calls i args) = sum_by rows_at_pin (take (boolean_count (kind_at net i)) args) + 1
+abbrev pub equation_rows_of_step : Network → Action → ℕ
+equation_rows_of_step net (assigns t e) = equation_rows e + 1
+equation_rows_of_step net (calls i args) = sum_by equation_rows_at_pin (take (boolean_count (kind_at net i)) args) + 1
 
 -- all rows, and the one that ends the scan
 abbrev pub turns_b : Network → ℕ
-turns_b net = sum_by (rows_of_step net) net.steps + 1
+turns_b net = sum_by (equation_rows_of_step net) net.steps + 1

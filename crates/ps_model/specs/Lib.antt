@@ -19,7 +19,7 @@ pub mod Stored
 pub mod Network
 pub mod Values
 pub mod Nodes
-pub mod Rows
+pub mod NodeList
 pub mod Standing
 pub mod Sound
 pub mod Obligations

@@ -17,26 +17,26 @@ abbrev pub first_state : Network → State
 first_state net = record { signals = replicate (signal_count net) false; blocks = replicate (instance_count net) idle }
 
 -- what a scan starts from: nothing where it is the first one or the first after a restart, and else the time and the state of the scan before
-pub data Since : Type 0 where
-  nothing : Since
-  last : (now : ℕ) (w : State) → Since
+pub data Past : Type 0 where
+  nothing : Past
+  last : (now : ℕ) (w : State) → Past
 
-abbrev pub old_state : Network → Since → State
+abbrev pub old_state : Network → Past → State
 old_state net nothing = first_state net
 old_state net (last now w) = w
 
 -- the time that passed since the scan before, in ms
-abbrev pub passed : Since → ℕ → ℕ
+abbrev pub passed : Past → ℕ → ℕ
 passed nothing now = 0
 passed (last before w) now = now - before
 
 -- the states of the scans among these items, each of which solves over the one before, and anew after each restart
-abbrev pub Runs : Network → Since → List Item → List State → Type 0
-Runs net since [] ws = ws ≡ []
-Runs net since (restart ∷ items) ws = Runs net nothing items ws
-Runs net since (scan now ins ∷ items) [] = ⊥
-Runs net since (scan now ins ∷ items) (w ∷ ws) =
-    Solves net (old_state net since) ins (passed since now) w × Runs net (last now w) items ws
+abbrev pub Runs : Network → Past → List Item → List State → Type 0
+Runs net past [] ws = ws ≡ []
+Runs net past (restart ∷ items) ws = Runs net nothing items ws
+Runs net past (scan now ins ∷ items) [] = ⊥
+Runs net past (scan now ins ∷ items) (w ∷ ws) =
+    Solves net (old_state net past) ins (passed past now) w × Runs net (last now w) items ws
 
 -- these states, one for each scan, are what the items mean
 abbrev pub Meaning : Network → List Item → List State → Type 0

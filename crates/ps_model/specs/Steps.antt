@@ -5,7 +5,7 @@ use Rattle.ps_model.specs.declared.step.Step.TheVariants.{Assign, Call}
 use Rattle.ps_model.specs.declared.node.Node.{Node}
 use Rattle.ps_model.specs.Exprs.{formula}
 use Rattle.ps_model.specs.Action.{Action, assigns, calls}
-use Rattle.ps_model.specs.Rows.{rows_of_steps}
+use Rattle.ps_model.specs.NodeList.{listed_of_steps}
 
 -- an assignment or a call, with its expressions as formulas
 abbrev pub action : Step → Action
@@ -14,4 +14,4 @@ action (Call instance args) = calls instance args
 
 -- the rows that are kept beside these steps are those of their nodes
 abbrev pub KeepsNodes : List Action → List Node → Type 0
-KeepsNodes steps rows = rows ≡ rows_of_steps steps
+KeepsNodes steps rows = rows ≡ listed_of_steps steps

@@ -1,6 +1,6 @@
 // An application: what an accepted text of networks stands for.
 
-use crate::budget::{instructions_of_step, rows_of_step};
+use crate::budget::{equation_rows_of_step, instructions_of_step};
 use crate::kind::{Kind, Ty};
 use crate::named::{Instances, Signal, Signals};
 use crate::node::Node;
@@ -44,7 +44,7 @@ impl App {
     ghost use Rattle.ps_model.specs.Sound.{IsSound};
     ghost use Rattle.ps_model.specs.Steps.{action};
     ghost use Rattle.ps_model.specs.Nodes.{app_nodes};
-    ghost use Rattle.ps_model.specs.Rows.{app_rows};
+    ghost use Rattle.ps_model.specs.NodeList.{node_list};
     ghost use Rattle.ps_model.specs.Typing.{signal_type};
     ghost use Rattle.ps_model.specs.Budgets.{turns_a, turns_b};
 
@@ -134,7 +134,7 @@ impl App {
     }
 
     /// The number of expression nodes.
-    #[tactic(auto, using(crate::proofs::NodeRows::row_each))]
+    #[tactic(auto, using(crate::proofs::NodeLists::listed_each))]
     pub fn node_count(&self) -> u32
         ensures { result ≡ length (app_nodes self.now) }
     {
@@ -144,7 +144,7 @@ impl App {
 
     /// The rows of the expression nodes, in the order of steps and pins, each before its operands.
     pub fn nodes(&self) -> &[Node]
-        ensures { result.now ≡ app_rows self.now }
+        ensures { result.now ≡ node_list self.now }
     {
         self.steps.nodes()
     }
@@ -239,7 +239,7 @@ impl App {
         self.sound();
         let mut turns = 1;
         for k in 0..self.step_count() {
-            turns += rows_of_step(self, self.step(k));
+            turns += equation_rows_of_step(self, self.step(k));
         }
         turns
     }

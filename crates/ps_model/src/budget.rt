@@ -7,7 +7,7 @@ ghost use Rattle.ps_model.specs.Steps.{action};
 ghost use Rattle.ps_model.specs.Nodes.{nodes, nodes_of_step, nodes_at_pin};
 ghost use Rattle.ps_model.specs.Network.{instance_count};
 ghost use Rattle.ps_model.specs.Action.{assigns, calls};
-ghost use Rattle.ps_model.specs.Budgets.{instructions, instructions_at_pin, instructions_of_step, rows, rows_at_pin, rows_of_step, boolean_count, IsCall};
+ghost use Rattle.ps_model.specs.Budgets.{instructions, instructions_at_pin, instructions_of_step, equation_rows, equation_rows_at_pin, equation_rows_of_step, boolean_count, IsCall};
 
 use crate::app::App;
 use crate::expr::Expr;
@@ -60,10 +60,10 @@ pub fn instructions(e: &Expr) -> u32
 }
 
 /// How many rows place an expression in the equation code.
-#[tactic(auto, using(crate::proofs::Budgeting::rows_bound))]
-pub fn rows(e: &Expr) -> u32
+#[tactic(auto, using(crate::proofs::Budgeting::equation_rows_bound))]
+pub fn equation_rows(e: &Expr) -> u32
     requires { length (nodes (formula e.now)) ≤ MOST_NODES }
-    ensures count { result ≡ rows (formula e.now) }
+    ensures count { result ≡ equation_rows (formula e.now) }
     ensures few { result ≤ 40000 }
 {
     match e {
@@ -71,14 +71,14 @@ pub fn rows(e: &Expr) -> u32
         Expr::And(es) => {
             let mut below = 0;
             for x in &es.items {
-                below += rows(x) + 1;
+                below += equation_rows(x) + 1;
             }
             below
         }
         Expr::Or(es) => {
             let mut below = 0;
             for x in &es.items {
-                below += rows(x) + 1;
+                below += equation_rows(x) + 1;
             }
             below
         }
@@ -98,13 +98,13 @@ fn instructions_at_pin(arg: &Arg) -> u32
 }
 
 // How many rows give the value at a Boolean pin.
-fn rows_at_pin(arg: &Arg) -> u32
+fn equation_rows_at_pin(arg: &Arg) -> u32
     requires { length (nodes_at_pin (actual arg.now)) ≤ MOST_NODES }
-    ensures count { result ≡ rows_at_pin (actual arg.now) }
+    ensures count { result ≡ equation_rows_at_pin (actual arg.now) }
     ensures few { result ≤ 40000 }
 {
     match arg {
-        Arg::Value(e) => rows(e),
+        Arg::Value(e) => equation_rows(e),
         _ => 0,
     }
 }
@@ -125,16 +125,16 @@ fn instructions_of_pins(args: &Args, count: u8) -> u32
 }
 
 // How many rows give the values at the first pins of a call.
-fn rows_of_pins(args: &Args, count: u8) -> u32
+fn equation_rows_of_pins(args: &Args, count: u8) -> u32
     requires within { count ≤ length args.now }
     requires pins { count ≤ 13 }
     requires nodes { length (flat_map nodes_at_pin args.now) ≤ MOST_NODES }
-    ensures count { result ≡ sum_by rows_at_pin (take count args.now) }
+    ensures count { result ≡ sum_by equation_rows_at_pin (take count args.now) }
     ensures few { result ≤ 520000 }
 {
     let mut total = 0;
     for j in 0..count {
-        total += rows_at_pin(args.at(j as usize));
+        total += equation_rows_at_pin(args.at(j as usize));
     }
     total
 }
@@ -158,17 +158,17 @@ pub fn instructions_of_step(app: &App, step: &Step) -> u32
 
 /// How many rows the equation code of a step has.
 #[tactic(auto, using(crate::proofs::Budgeting::boolean_within))]
-pub fn rows_of_step(app: &App, step: &Step) -> u32
+pub fn equation_rows_of_step(app: &App, step: &Step) -> u32
     requires nodes { length (nodes_of_step (action step.now)) ≤ MOST_NODES }
     requires call { IsCall app.now (action step.now) }
-    ensures count { result ≡ rows_of_step app.now (action step.now) }
+    ensures count { result ≡ equation_rows_of_step app.now (action step.now) }
     ensures few { result ≤ 520001 }
 {
     match step {
-        Step::Assign { value, .. } => rows(value) + 1,
+        Step::Assign { value, .. } => equation_rows(value) + 1,
         Step::Call { instance, args } => {
             let count = boolean_count(app.instance_kind(*instance));
-            rows_of_pins(args, count) + 1
+            equation_rows_of_pins(args, count) + 1
         }
     }
 }

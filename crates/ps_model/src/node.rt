@@ -3,7 +3,7 @@
 ghost use Rattle.std.specs.Prelude.{◌≡◌, ◌++◌, ◌≤◌, OnOk, length};
 ghost use Rattle.ps_model.specs.Exprs.{formula};
 ghost use Rattle.ps_model.specs.Nodes.{nodes};
-ghost use Rattle.ps_model.specs.Rows.{rows_at};
+ghost use Rattle.ps_model.specs.NodeList.{listed_at};
 
 use crate::expr::Expr;
 use ps_base::Memory;
@@ -54,7 +54,7 @@ pub fn node_count(e: &Expr) -> u32
 /// around the expression, `depth` in number, the rows are already written.
 pub fn write_nodes(e: &Expr, depth: usize, rows: &mut Vec<Node>) -> Result<(), Memory>
     requires { depth ≤ length rows.old.items }
-    ensures { OnOk result (rows.new.items ≡ rows.old.items ++ rows_at depth (formula e.now)) }
+    ensures { OnOk result (rows.new.items ≡ rows.old.items ++ listed_at depth (formula e.now)) }
 {
     let at = rows.len();
     match e {

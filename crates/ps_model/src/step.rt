@@ -107,7 +107,7 @@ impl Args {
 impl Steps {
     ghost use Rattle.std.specs.Prelude.{◌≡◌, [], ◌∷◌, ◌++◌, OnOk, OnErr, ◌<◌, ◌≤◌, All, length, map, Some, slice_get};
     ghost use Rattle.ps_model.specs.Steps.{action};
-    ghost use Rattle.ps_model.specs.Rows.{rows_of_steps};
+    ghost use Rattle.ps_model.specs.NodeList.{listed_of_steps};
 
     /// No steps. It takes no memory.
     pub fn new(alloc: Global) -> Steps
@@ -152,7 +152,7 @@ impl Steps {
 
     /// The rows of the nodes of all values, in the order of steps and pins, each before its operands.
     pub fn nodes(&self) -> &[Node]
-        ensures { result.now ≡ rows_of_steps self.now }
+        ensures { result.now ≡ listed_of_steps self.now }
     {
         self.nodes.as_slice()
     }
@@ -161,11 +161,11 @@ impl Steps {
 ghost use Rattle.std.specs.Prelude.{◌≡◌, ◌++◌, OnOk, flat_map};
 ghost use Rattle.ps_model.specs.Args.{actual};
 ghost use Rattle.ps_model.specs.Steps.{action};
-ghost use Rattle.ps_model.specs.Rows.{rows_at_pin, rows_of_step};
+ghost use Rattle.ps_model.specs.NodeList.{listed_at_pin, listed_of_step};
 
 // Writes the nodes of an argument at the end.
 fn write_arg(arg: &Arg, rows: &mut Vec<Node>) -> Result<(), Memory>
-    ensures { OnOk result (rows.new.items ≡ rows.old.items ++ rows_at_pin (actual arg.now)) }
+    ensures { OnOk result (rows.new.items ≡ rows.old.items ++ listed_at_pin (actual arg.now)) }
 {
     match arg {
         Arg::Value(e) => write_nodes(e, 0, rows),
@@ -175,7 +175,7 @@ fn write_arg(arg: &Arg, rows: &mut Vec<Node>) -> Result<(), Memory>
 
 // Writes the nodes of the arguments of a call at the end.
 fn write_args(args: &Args, rows: &mut Vec<Node>) -> Result<(), Memory>
-    ensures { OnOk result (rows.new.items ≡ rows.old.items ++ flat_map rows_at_pin args.now) }
+    ensures { OnOk result (rows.new.items ≡ rows.old.items ++ flat_map listed_at_pin args.now) }
 {
     for j in 0..args.len() {
         write_arg(args.at(j), rows)?;
@@ -185,7 +185,7 @@ fn write_args(args: &Args, rows: &mut Vec<Node>) -> Result<(), Memory>
 
 // Writes the nodes of a step at the end.
 fn write_step(step: &Step, rows: &mut Vec<Node>) -> Result<(), Memory>
-    ensures { OnOk result (rows.new.items ≡ rows.old.items ++ rows_of_step (action step.now)) }
+    ensures { OnOk result (rows.new.items ≡ rows.old.items ++ listed_of_step (action step.now)) }
 {
     match step {
         Step::Assign { value, .. } => write_nodes(value, 0, rows),

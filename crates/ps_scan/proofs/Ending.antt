@@ -7,12 +7,12 @@ use Rattle.std.proofs.Math.ListN as ListN
 use Rattle.std.proofs.lemmas.List.FromFn.{length-map-range_with_len, get_or-map-range_with_len}
 use Rattle.std.proofs.lemmas.Bool.{false≢true, cases_Bool, cond-true, cond-false, or_parts, cases_lt, ltb-false}
 use Rattle.ps_model.specs.Blocks.{Block_state, idle}
-use Rattle.ps_model.specs.Kept.{Kept, StandsBy, Since as SinceTime, fresh}
+use Rattle.ps_model.specs.Kept.{Kept, StandsBy, Since, fresh}
 use Rattle.ps_model.specs.Network.{Network, input_count, instance_count, signal_count, is_call_of, is_driven}
 use Rattle.ps_model.specs.Sound.{IsSound}
 use Rattle.ps_model.specs.Scanning.{State, Solves, signal_in, block_in}
-use Rattle.ps_model.specs.Running.{Memory, begun, is_kept, exec}
-use Rattle.ps_model.specs.Meaning.{Since, nothing, last, old_state, first_state, passed, diag_in}
+use Rattle.ps_model.specs.Running.{Interim, begun, is_kept, exec}
+use Rattle.ps_model.specs.Meaning.{Past, nothing, last, old_state, first_state, passed, diag_in}
 use Rattle.ps_model.specs.Blank.{no_diag}
 use Rattle.ps_model.specs.declared.report.Diag.{Diag}
 use Rattle.ps_model.specs.declared.report.Report.{Report}
@@ -29,42 +29,42 @@ use Rattle.ps_scan.specs.Scanned.{Stands, Scanned, time_of}
 idle_first : (n i : ℕ) → (get_or (replicate n idle) i idle).code ≡ 0
 idle_first n i =
     ⊎_elim (λ inside. ap (λ (b : Block_state). b.code) (get_or-replicate n i idle idle inside))
-    (λ past. ap (λ (b : Block_state). b.code) (get_or_past (replicate n idle) i idle (let e = length-replicate n idle in omega arith)))
+    (λ beyond. ap (λ (b : Block_state). b.code) (get_or_past (replicate n idle) i idle (let e = length-replicate n idle in omega arith)))
     (cases_lt i n)
 
-idle_stands : (now i : ℕ) (w : Cells) (b : Block_state) → length w.instances ≤ i → b ≡ idle → StandsBy (SinceTime now) (kept_at w i) b
+idle_stands : (now i : ℕ) (w : Cells) (b : Block_state) → length w.instances ≤ i → b ≡ idle → StandsBy (Since now) (kept_at w i) b
 idle_stands now i w b past is =
-    subst (λ (z : Block_state). StandsBy (SinceTime now) (kept_at w i) z) (sym is)
-    (subst (λ (z : Held). StandsBy (SinceTime now) z.kept idle) (sym (get_or_past w.instances i (held Equivalent fresh) past))
+    subst (λ (z : Block_state). StandsBy (Since now) (kept_at w i) z) (sym is)
+    (subst (λ (z : Held). StandsBy (Since now) z.kept idle) (sym (get_or_past w.instances i (held Equivalent fresh) past))
     (record { code = refl; last_reset = refl; last_auxiliary = refl; mode = refl; timer = λ on. absurd (on refl) }))
 
 -- what an instance keeps waits for its call
-pub waits_first : (net : Network) (since : Since) (now : ℕ) (k : Kept) (i : ℕ) → StandsBy (SinceTime (time_of since)) k (block_in (old_state net since) i) →
-    Waits (time_of since) (passed since now) now k (block_in (old_state net since) i)
+pub waits_first : (net : Network) (past : Past) (now : ℕ) (k : Kept) (i : ℕ) → StandsBy (Since (time_of past)) k (block_in (old_state net past) i) →
+    Waits (time_of past) (passed past now) now k (block_in (old_state net past) i)
 waits_first net nothing now k i h = record { stands = h; passed = λ on. absurd (on (idle_first (instance_count net) i)) }
 waits_first net (last before w) now k i h = record { stands = h; passed = λ on. refl }
 
-module _ (net : Network) (sound : IsSound net) (since : Since) (now : ℕ) (ins : List Bool) (w w' : Cells) (ds : List Diag)
-    (stands : Stands net since w) where
+module _ (net : Network) (sound : IsSound net) (past : Past) (now : ℕ) (ins : List Bool) (w w' : Cells) (ds : List Diag)
+    (stands : Stands net past w) where
   abbrev pub old : State
-  old = old_state net since
+  old = old_state net past
 
   abbrev pub dt : ℕ
-  dt = passed since now
+  dt = passed past now
 
-  abbrev pub start : Memory
+  abbrev pub start : Interim
   start = begun net old ins
 
-  abbrev pub all : Memory
+  abbrev pub all : Interim
   all = exec net dt net.steps start
 
   -- the inputs are written
   pub begun_from : (begin : Cells) → (signals : (s : ℕ) → signal_at begin s ≡ cond (nat_lt s (input_count net)) (slice_index_or ins s false) (signal_at w s)) →
-      begin.instances ≡ w.instances → Midway net (time_of since) dt now 0 begin ds start
+      begin.instances ≡ w.instances → Midway net (time_of past) dt now 0 begin ds start
   begun_from begin signals instances = record {
     signals = λ s. signals s ∙ ap (λ b. cond (nat_lt s (input_count net)) (slice_index_or ins s false) b) (ap (λ ss. slice_index_or ss s false) stands.signals);
-    waiting = λ i h. subst (λ (z : Kept). Waits (time_of since) dt now z (block_in old i)) (sym (ap (λ is. kept_at (record { signals = begin.signals; instances = is }) i) instances))
-        (waits_first net since now (kept_at w i) i (stands.instances i));
+    waiting = λ i h. subst (λ (z : Kept). Waits (time_of past) dt now z (block_in old i)) (sym (ap (λ is. kept_at (record { signals = begin.signals; instances = is }) i) instances))
+        (waits_first net past now (kept_at w i) i (stands.instances i));
     called = λ i h. absurd (false≢true h);
     reported = λ i h. absurd (false≢true h);
   }
@@ -80,7 +80,7 @@ module _ (net : Network) (sound : IsSound net) (since : Since) (now : ℕ) (ins 
       ap (list_any (is_call_of net i)) (take_all (length net.steps) net.steps (omega arith))
       ∙ any_of_one (is_call_of net i) net.steps (sound.called_once i inside)
 
-  module _ (mid : Midway net (time_of since) dt now (length net.steps) w' ds all) (sizes : IsFor net w') (many : length ds ≡ instance_count net) where
+  module _ (mid : Midway net (time_of past) dt now (length net.steps) w' ds all) (sizes : IsFor net w') (many : length ds ≡ instance_count net) where
     abbrev pub state : State
     state = record { signals = w'.signals; blocks = map all.blocks (range_with_len 0 (instance_count net)) }
 
@@ -88,7 +88,7 @@ module _ (net : Network) (sound : IsSound net) (since : Since) (now : ℕ) (ins 
     block_is i =
         ⊎_elim
         (λ inside. get_or-map-range_with_len all.blocks 0 (instance_count net) i i idle inside (omega arith))
-        (λ past. get_or_past state.blocks i idle (let e = length-map-range_with_len all.blocks 0 (instance_count net) in omega arith)
+        (λ beyond. get_or_past state.blocks i idle (let e = length-map-range_with_len all.blocks 0 (instance_count net) in omega arith)
         ∙ sym (get_or_past old.blocks i idle (let e = stands.instance_each in omega arith))
         ∙ sym (block_stays net dt net.steps start i (uncalled i past)))
         (cases_lt i (instance_count net))
@@ -112,12 +112,12 @@ module _ (net : Network) (sound : IsSound net) (since : Since) (now : ℕ) (ins 
     pub solved : Solves net old ins dt state
     solved = solves_from net sound old ins dt state sizes.signal_each (length-map-range_with_len all.blocks 0 (instance_count net)) kept_or_not block_is
 
-    stands_each : (i : ℕ) → StandsBy (SinceTime now) (kept_at w' i) (block_in state i)
+    stands_each : (i : ℕ) → StandsBy (Since now) (kept_at w' i) (block_in state i)
     stands_each i =
-        subst (λ (b : Block_state). StandsBy (SinceTime now) (kept_at w' i) b) (sym (block_is i))
+        subst (λ (b : Block_state). StandsBy (Since now) (kept_at w' i) b) (sym (block_is i))
         (⊎_elim
         (λ inside. mid.called i (all_called i inside))
-        (λ past. idle_stands now i w' (all.blocks i) (let e = sizes.instance_each in omega arith)
+        (λ beyond. idle_stands now i w' (all.blocks i) (let e = sizes.instance_each in omega arith)
         (sym (block_is i) ∙ get_or_past state.blocks i idle (let e = length-map-range_with_len all.blocks 0 (instance_count net) in omega arith)))
         (cases_lt i (instance_count net)))
 
@@ -142,7 +142,7 @@ module _ (net : Network) (sound : IsSound net) (since : Since) (now : ℕ) (ins 
 
     -- with these outputs the report is that of the state
     pub scanned : (r : Report) → r.outs ≡ map (signal_at w') (range_with_len (input_count net) (length net.outputs)) → r.diags ≡ ds →
-        Scanned net since now ins r w'
+        Scanned net past now ins r w'
     scanned r outs diags = record {
       state = state;
       solves = solved;
@@ -156,7 +156,7 @@ module _ (net : Network) (w : Cells) (signals : w.signals ≡ replicate (signal_
   false_at : (n s : ℕ) → get_or (replicate n false) s false ≡ false
   false_at n s =
       ⊎_elim (λ inside. get_or-replicate n s false false inside)
-      (λ past. get_or_past (replicate n false) s false (let e = length-replicate n false in omega arith)) (cases_lt s n)
+      (λ beyond. get_or_past (replicate n false) s false (let e = length-replicate n false in omega arith)) (cases_lt s n)
 
   fresh_at : (i : ℕ) → kept_at w i ≡ fresh
   fresh_at i =
@@ -166,7 +166,7 @@ module _ (net : Network) (w : Cells) (signals : w.signals ≡ replicate (signal_
   idle_at : (n i : ℕ) → get_or (replicate n idle) i idle ≡ idle
   idle_at n i =
       ⊎_elim (λ inside. get_or-replicate n i idle idle inside)
-      (λ past. get_or_past (replicate n idle) i idle (let e = length-replicate n idle in omega arith)) (cases_lt i n)
+      (λ beyond. get_or_past (replicate n idle) i idle (let e = length-replicate n idle in omega arith)) (cases_lt i n)
 
   pub stands_first : Stands net nothing w
   stands_first = record {
@@ -174,8 +174,8 @@ module _ (net : Network) (w : Cells) (signals : w.signals ≡ replicate (signal_
     undriven = λ s past undriven. ap (λ ss. get_or ss s false) signals ∙ false_at (signal_count net) s;
     instance_each = length-replicate (instance_count net) idle;
     instances = λ i.
-        subst (λ (z : Kept). StandsBy (SinceTime 0) z (block_in (first_state net) i)) (sym (fresh_at i))
-        (subst (λ (z : Block_state). StandsBy (SinceTime 0) fresh z) (sym (idle_at (instance_count net) i))
+        subst (λ (z : Kept). StandsBy (Since 0) z (block_in (first_state net) i)) (sym (fresh_at i))
+        (subst (λ (z : Block_state). StandsBy (Since 0) fresh z) (sym (idle_at (instance_count net) i))
         (record { code = refl; last_reset = refl; last_auxiliary = refl; mode = refl; timer = λ on. absurd (on refl) }));
   }
 

@@ -12,7 +12,7 @@ use Rattle.ps_model.specs.Kept.{Kept, StandsBy, Since, stepped_at}
 use Rattle.ps_model.specs.Network.{Network, kind_at, first_pin, is_call_of}
 use Rattle.ps_model.specs.Sound.{IsSound}
 use Rattle.ps_model.specs.Scanning.{pins_under, limit_of}
-use Rattle.ps_model.specs.Running.{Memory, done, stepped}
+use Rattle.ps_model.specs.Running.{Interim, done, called_state}
 use Rattle.ps_model.specs.Meaning.{diag_in}
 use Rattle.ps_model.specs.Blank.{no_diag}
 use Rattle.ps_model.specs.declared.report.Diag.{Diag}
@@ -49,7 +49,7 @@ or_off true = refl
 or_off false = refl
 
 -- an assignment
-pub assigned_on : (net : Network) (t dt now k g : ℕ) (e : Formula) (w : Cells) (ds : List Diag) (m : Memory) →
+pub assigned_on : (net : Network) (t dt now k g : ℕ) (e : Formula) (w : Cells) (ds : List Diag) (m : Interim) →
     slice_get net.steps k ≡ Some (assigns g e) → g < length w.signals → Midway net t dt now k w ds m →
     Midway net t dt now (k + 1) (record w { signals = set w.signals g (value (signal_at w) e) }) ds (done net dt (assigns g e) m)
 assigned_on net t dt now k g e w ds m at inside mid =
@@ -66,7 +66,7 @@ pub ne_off : (i j : ℕ) → i ≢ j → (i == j) ≡ false
 ne_off i j other = ⊎_elim (λ y. absurd (other (eqb-true i j y))) (λ n. n) (cases_Bool (i == j))
 
 -- a call
-module _ (net : Network) (sound : IsSound net) (t dt now k i : ℕ) (args : List Actual) (w w' : Cells) (ds : List Diag) (d : Diag) (m : Memory)
+module _ (net : Network) (sound : IsSound net) (t dt now k i : ℕ) (args : List Actual) (w w' : Cells) (ds : List Diag) (d : Diag) (m : Interim)
     (at : slice_get net.steps k ≡ Some (calls i args)) (later : t ≤ now) (mid : Midway net t dt now k w ds m)
     (bits : ℕ → Bool) (bits_are : (j : ℕ) → bits j ≡ pins_under (signal_at w) (kind_at net i) args j)
     (moves : kept_at w' i ≡ stepped_at (kind_at net i) (limit_of (kind_at net i) args) bits now (kept_at w i))
@@ -80,28 +80,28 @@ module _ (net : Network) (sound : IsSound net) (t dt now k i : ℕ) (args : List
   pins_are : bits ≡ pins_under m.signals (kind_at net i) args
   pins_are = (λ x j. bits_are j x) ∙ ap (λ (v : ℕ → Bool). pins_under v (kind_at net i) args) (λ x s. mid.signals s x)
 
-  moved_on : StandsBy (Since now) (kept_at w' i) (stepped net dt i args m)
+  moved_on : StandsBy (Since now) (kept_at w' i) (called_state net dt i args m)
   moved_on =
-      subst (λ (z : Kept). StandsBy (Since now) z (stepped net dt i args m)) (sym (moves ∙ ap (λ (v : ℕ → Bool). stepped_at (kind_at net i) (limit_of (kind_at net i) args) v now (kept_at w i)) pins_are))
+      subst (λ (z : Kept). StandsBy (Since now) z (called_state net dt i args m)) (sym (moves ∙ ap (λ (v : ℕ → Bool). stepped_at (kind_at net i) (limit_of (kind_at net i) args) v now (kept_at w i)) pins_are))
       (go_on (kind_at net i) (limit_of (kind_at net i) args) (pins_under m.signals (kind_at net i) args) t now dt (kept_at w i) (m.blocks i) later waits.stands waits.passed)
 
-  abbrev pub after : Memory
+  abbrev pub after : Interim
   after = done net dt (calls i args) m
 
-  here : after.blocks i ≡ stepped net dt i args m
-  here = cond-true (i == i) (stepped net dt i args m) (m.blocks i) (eq-eqb i i refl)
+  here : after.blocks i ≡ called_state net dt i args m
+  here = cond-true (i == i) (called_state net dt i args m) (m.blocks i) (eq-eqb i i refl)
 
   elsewhere : (j : ℕ) → j ≢ i → after.blocks j ≡ m.blocks j
-  elsewhere j other = cond-false (i == j) (stepped net dt i args m) (m.blocks j) (ne_off i j (λ e. other (sym e)))
+  elsewhere j other = cond-false (i == j) (called_state net dt i args m) (m.blocks j) (ne_off i j (λ e. other (sym e)))
 
   written_is : (s : ℕ) → signal_at w' s ≡ after.signals s
   written_is s =
       writes s
       ∙ ap (λ n. cond (nat_le (first_pin net i) s && nat_lt s (first_pin net i + n)) (get_or values (s - first_pin net i) false) (signal_at w s)) many
       ∙ ap (λ vs. cond (nat_le (first_pin net i) s && nat_lt s (first_pin net i + output_count (kind_at net i))) (get_or vs (s - first_pin net i) false) (signal_at w s))
-      (shown ∙ ap (λ q. outs (kind_at net i) q (kept_at w' i).mode) moved_on.code ∙ ap (λ n. outs (kind_at net i) (stepped net dt i args m).code n) moved_on.mode)
+      (shown ∙ ap (λ q. outs (kind_at net i) q (kept_at w' i).mode) moved_on.code ∙ ap (λ n. outs (kind_at net i) (called_state net dt i args m).code n) moved_on.mode)
       ∙ ap (λ b. cond (nat_le (first_pin net i) s && nat_lt s (first_pin net i + output_count (kind_at net i)))
-      (get_or (outs (kind_at net i) (stepped net dt i args m).code (stepped net dt i args m).mode) (s - first_pin net i) false) b) (mid.signals s)
+      (get_or (outs (kind_at net i) (called_state net dt i args m).code (called_state net dt i args m).mode) (s - first_pin net i) false) b) (mid.signals s)
 
   stands_here : (j : ℕ) → i ≡ j → StandsBy (Since now) (kept_at w' j) (after.blocks j)
   stands_here j e = subst (λ n. StandsBy (Since now) (kept_at w' n) (after.blocks n)) e (subst (λ (b : Block_state). StandsBy (Since now) (kept_at w' i) b) (sym here) moved_on)

@@ -4,7 +4,7 @@ use Rattle.std.specs.List.{list_any}
 use Rattle.ps_model.specs.Network.{Network, is_call_of}
 use Rattle.ps_model.specs.Blocks.{Block_state}
 use Rattle.ps_model.specs.Kept.{Kept, StandsBy, Since}
-use Rattle.ps_model.specs.Running.{Memory}
+use Rattle.ps_model.specs.Running.{Interim}
 use Rattle.ps_model.specs.Meaning.{diag_in}
 use Rattle.ps_model.specs.Blank.{no_diag}
 use Rattle.ps_model.specs.declared.report.Diag.{Diag}
@@ -20,7 +20,7 @@ pub record Waits (t dt now : ℕ) (k : Kept) (b : Block_state) : Type 0 where
   pub passed : b.code ≢ 0 → dt ≡ now - t
 
 -- After the first k steps of a scan at time `now` the cells and the diagnoses stand for this memory.
-pub record Midway (net : Network) (t dt now k : ℕ) (w : Cells) (ds : List Diag) (m : Memory) : Type 0 where
+pub record Midway (net : Network) (t dt now k : ℕ) (w : Cells) (ds : List Diag) (m : Interim) : Type 0 where
   pub signals : (s : ℕ) → signal_at w s ≡ m.signals s
   pub waiting : (i : ℕ) → is_called net k i ≡ false → Waits t dt now (kept_at w i) (m.blocks i)
   pub called : (i : ℕ) → is_called net k i ≡ true → StandsBy (Since now) (kept_at w i) (m.blocks i)

@@ -87,7 +87,7 @@ impl Model for Scanner {
 impl Scanner {
     ghost use Rattle.std.specs.Prelude.{◌≡◌, ◌≢◌, ◌+◌, ◌-◌, ◌<◌, ◌≤◌, ◌&&◌, ℕ, cond, nat_le, nat_lt, IfOk, length, slice_set, slice_index_or, false};
     ghost use Rattle.ps_model.specs.Network.{input_count, instance_count};
-    ghost use Rattle.ps_model.specs.Meaning.{Since, nothing};
+    ghost use Rattle.ps_model.specs.Meaning.{Past, nothing};
     ghost use Rattle.ps_model.specs.Kept.{stepped_at};
     ghost use Rattle.ps_block.specs.Pins.{pin_of};
     ghost use Rattle.ps_block.specs.Shown.{Shows};
@@ -163,7 +163,7 @@ impl Scanner {
         ensures sizes { IsFor app.now self.new }
         ensures outputs { length report.new.outs ≡ length app.now.outputs }
         ensures diagnoses { length report.new.diags ≡ instance_count app.now }
-        ensures solves { (since : Since) → Stands app.now since self.old → time_of since ≤ now → Scanned app.now since now ins.now report.new self.new }
+        ensures solves { (past : Past) → Stands app.now past self.old → time_of past ≤ now → Scanned app.now past now ins.now report.new self.new }
     {
         app.sound();
         self.write(0, ins);

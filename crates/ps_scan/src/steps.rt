@@ -6,7 +6,7 @@ ghost use Rattle.ps_model.specs.Action.{Action, assigns, calls};
 ghost use Rattle.ps_model.specs.Blocks.{block};
 ghost use Rattle.ps_model.specs.Exprs.{formula};
 ghost use Rattle.ps_model.specs.Network.{signal_count, instance_count, kind_at};
-ghost use Rattle.ps_model.specs.Running.{Memory, done, exec};
+ghost use Rattle.ps_model.specs.Running.{Interim, done, exec};
 ghost use Rattle.ps_scan.specs.Cells.{IsFor};
 ghost use Rattle.ps_scan.specs.Midway.{Midway};
 
@@ -25,7 +25,7 @@ fn assign(app: &App, k: u16, target: usize, value: &Expr, w: &mut Scanner)
     requires sizes { IsFor app.now w.old }
     requires step { slice_get app.now.steps k ≡ Some (assigns target (formula value.now)) }
     ensures sizes { IsFor app.now w.new }
-    ensures done { (t dt now : ℕ) (ds : List Diag) (m : Memory) → Midway app.now t dt now k w.old ds m →
+    ensures done { (t dt now : ℕ) (ds : List Diag) (m : Interim) → Midway app.now t dt now k w.old ds m →
         Midway app.now t dt now (k + 1) w.new ds (done app.now dt (assigns target (formula value.now)) m) }
 {
     app.sound();
@@ -40,7 +40,7 @@ fn call(app: &App, k: u16, i: u16, args: &Args, now: u32, w: &mut Scanner, diags
     requires diagnoses { length diags.old ≡ instance_count app.now }
     ensures sizes { IsFor app.now w.new }
     ensures diagnoses { length diags.new ≡ instance_count app.now }
-    ensures done { (t dt : ℕ) (m : Memory) → t ≤ now → Midway app.now t dt now k w.old diags.old m →
+    ensures done { (t dt : ℕ) (m : Interim) → t ≤ now → Midway app.now t dt now k w.old diags.old m →
         Midway app.now t dt now (k + 1) w.new diags.new (done app.now dt (calls i args.now) m) }
 {
     app.sound();
@@ -64,7 +64,7 @@ fn do_step(app: &App, k: u16, now: u32, w: &mut Scanner, diags: &mut Diags)
     requires diagnoses { length diags.old ≡ instance_count app.now }
     ensures sizes { IsFor app.now w.new }
     ensures diagnoses { length diags.new ≡ instance_count app.now }
-    ensures done { (t dt : ℕ) (m : Memory) (a : Action) → slice_get app.now.steps k ≡ Some a → t ≤ now → Midway app.now t dt now k w.old diags.old m →
+    ensures done { (t dt : ℕ) (m : Interim) (a : Action) → slice_get app.now.steps k ≡ Some a → t ≤ now → Midway app.now t dt now k w.old diags.old m →
         Midway app.now t dt now (k + 1) w.new diags.new (done app.now dt a m) }
 {
     match app.step(k) {
@@ -79,7 +79,7 @@ pub(crate) fn do_steps(app: &App, now: u32, w: &mut Scanner, diags: &mut Diags)
     requires diagnoses { length diags.old ≡ instance_count app.now }
     ensures sizes { IsFor app.now w.new }
     ensures diagnoses { length diags.new ≡ instance_count app.now }
-    ensures done { (t dt : ℕ) (m : Memory) → t ≤ now → Midway app.now t dt now 0 w.old diags.old m →
+    ensures done { (t dt : ℕ) (m : Interim) → t ≤ now → Midway app.now t dt now 0 w.old diags.old m →
         Midway app.now t dt now (length app.now.steps) w.new diags.new (exec app.now dt app.now.steps m) }
 {
     for k in 0..app.step_count() {

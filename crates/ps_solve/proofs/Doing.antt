@@ -15,7 +15,7 @@ use Rattle.ps_model.specs.Blocks.{Block_state, Pin, idle, moved, outs, output_co
 use Rattle.ps_model.specs.Action.{Actual, free, assigns, calls}
 use Rattle.ps_model.specs.Network.{Network, kind_at, first_pin}
 use Rattle.ps_model.specs.Scanning.{State, signal_in, block_in, pin_value, pins_under, time_value, times_at, limit_of, pin_at, no_pin}
-use Rattle.ps_model.specs.Running.{stepped, done, memory_of}
+use Rattle.ps_model.specs.Running.{called_state, done, interim_of}
 
 -- a list after a write, place by place
 set_reads : {X : Type 0} (xs : List X) (t s : ℕ) (x d : X) → t < length xs → get_or (set xs t x) s d ≡ cond (t == s) x (get_or xs s d)
@@ -26,22 +26,22 @@ set_reads xs t s x d h =
     (cases_Bool (t == s))
 
 pub assign_done : (net : Network) (dt t : ℕ) (e : Formula) (w : State) → t < length w.signals →
-    memory_of (record w { signals = set w.signals t (value (signal_in w) e) }) ≡ done net dt (assigns t e) (memory_of w)
+    interim_of (record w { signals = set w.signals t (value (signal_in w) e) }) ≡ done net dt (assigns t e) (interim_of w)
 assign_done net dt t e w h = λ i. record { signals = λ s. set_reads w.signals t s (value (signal_in w) e) false h i; blocks = block_in w }
 
 pub call_done : (net : Network) (dt i : ℕ) (args : List Actual) (w w' : State) (q : Block_state) (values : List Bool) →
-    q ≡ stepped net dt i args (memory_of w) → values ≡ outs (kind_at net i) q.code q.mode → length values ≡ output_count (kind_at net i) →
+    q ≡ called_state net dt i args (interim_of w) → values ≡ outs (kind_at net i) q.code q.mode → length values ≡ output_count (kind_at net i) →
     ((s : ℕ) → signal_in w' s ≡ cond (nat_le (first_pin net i) s && nat_lt s (first_pin net i + length values)) (get_or values (s - first_pin net i) false) (signal_in w s)) →
     w'.blocks ≡ set w.blocks i q → i < length w.blocks →
-    memory_of w' ≡ done net dt (calls i args) (memory_of w)
+    interim_of w' ≡ done net dt (calls i args) (interim_of w)
 call_done net dt i args w w' q values state shown many each stored inside =
-    let signals_are : (s : ℕ) → signal_in w' s ≡ (done net dt (calls i args) (memory_of w)).signals s =
+    let signals_are : (s : ℕ) → signal_in w' s ≡ (done net dt (calls i args) (interim_of w)).signals s =
     λ s. each s
     ∙ ap (λ n. cond (nat_le (first_pin net i) s && nat_lt s (first_pin net i + n)) (get_or values (s - first_pin net i) false) (signal_in w s)) many
     ∙ ap (λ vs. cond (nat_le (first_pin net i) s && nat_lt s (first_pin net i + output_count (kind_at net i))) (get_or vs (s - first_pin net i) false) (signal_in w s)) shown
     ∙ ap (λ (b : Block_state). cond (nat_le (first_pin net i) s && nat_lt s (first_pin net i + output_count (kind_at net i)))
     (get_or (outs (kind_at net i) b.code b.mode) (s - first_pin net i) false) (signal_in w s)) state in
-    let blocks_are : (j : ℕ) → block_in w' j ≡ (done net dt (calls i args) (memory_of w)).blocks j =
+    let blocks_are : (j : ℕ) → block_in w' j ≡ (done net dt (calls i args) (interim_of w)).blocks j =
     λ j. ap (λ bs. get_or bs j idle) stored ∙ set_reads w.blocks i j q idle inside
     ∙ ap (λ b. cond (i == j) b (block_in w j)) state in
     λ x. record { signals = λ s. signals_are s x; blocks = λ j. blocks_are j x }
@@ -49,7 +49,7 @@ call_done net dt i args w w' q values state shown many each stored inside =
 -- the state that a step of a block makes is the one that the call leaves
 pub stepped_is : (net : Network) (dt i : ℕ) (args : List Actual) (w : State) (pins : List Bool) (limit : ℕ) (q : Block_state) →
     ((j : ℕ) → get_or pins j false ≡ pins_under (signal_in w) (kind_at net i) args j) → limit ≡ limit_of (kind_at net i) args →
-    q ≡ moved (kind_at net i) limit (λ j. get_or pins j false) dt (block_in w i) → q ≡ stepped net dt i args (memory_of w)
+    q ≡ moved (kind_at net i) limit (λ j. get_or pins j false) dt (block_in w i) → q ≡ called_state net dt i args (interim_of w)
 stepped_is net dt i args w pins limit q pins_are limit_is state =
     state ∙ ap (λ n. moved (kind_at net i) n (λ j. get_or pins j false) dt (block_in w i)) limit_is
     ∙ ap (λ ps. moved (kind_at net i) (limit_of (kind_at net i) args) ps dt (block_in w i)) (λ x j. pins_are j x)

@@ -8,7 +8,7 @@ ghost use Rattle.ps_model.specs.Exprs.{formula};
 ghost use Rattle.ps_model.specs.Steps.{action};
 ghost use Rattle.ps_model.specs.Network.{signal_count, instance_count, input_count, kind_at, first_pin, drives, is_driven};
 ghost use Rattle.ps_model.specs.Scanning.{Solves, pin_at, pin_value, pins_under, time_value, limit_of, block_in, signal_in};
-ghost use Rattle.ps_model.specs.Running.{done, exec, memory_of, begun, is_kept};
+ghost use Rattle.ps_model.specs.Running.{done, exec, interim_of, begun, is_kept};
 ghost use Rattle.ps_solve.specs.Evaluating.{HasRoom};
 
 use crate::state::{BlockState, State};
@@ -95,7 +95,7 @@ fn outs_of(alloc: Global, kind: Kind, state: &BlockState) -> Result<Vec<bool>, M
 #[tactic(auto, using(crate::proofs::Doing::assign_done))]
 fn assign(app: &App, target: usize, value: &Expr, w: &mut State)
     requires { target < length w.old.signals }
-    ensures done { (dt : ℕ) → memory_of w.new ≡ done app.now dt (assigns target (formula value.now)) (memory_of w.old) }
+    ensures done { (dt : ℕ) → interim_of w.new ≡ done app.now dt (assigns target (formula value.now)) (interim_of w.old) }
     ensures signals { length w.new.signals ≡ length w.old.signals }
     ensures blocks { w.new.blocks ≡ w.old.blocks }
 {
@@ -110,7 +110,7 @@ fn call(alloc: Global, app: &App, i: u16, args: &Args, w: &mut State, dt: u64) -
     requires signals { length w.old.signals ≡ signal_count app.now }
     requires blocks { length w.old.blocks ≡ instance_count app.now }
     requires ages { (block_in w.old i).age + dt < 2 ^ 64 }
-    ensures done { OnOk result (memory_of w.new ≡ done app.now dt (calls i args.now) (memory_of w.old)) }
+    ensures done { OnOk result (interim_of w.new ≡ done app.now dt (calls i args.now) (interim_of w.old)) }
     ensures signals { length w.new.signals ≡ length w.old.signals }
     ensures blocks { length w.new.blocks ≡ length w.old.blocks }
 {
@@ -130,7 +130,7 @@ fn do_step(alloc: Global, app: &App, k: u16, w: &mut State, dt: u64) -> Result<(
     requires signals { length w.old.signals ≡ signal_count app.now }
     requires blocks { length w.old.blocks ≡ instance_count app.now }
     requires ages { (i : ℕ) (args : List Actual) → slice_get app.now.steps k ≡ Some (calls i args) → (block_in w.old i).age + dt < 2 ^ 64 }
-    ensures done { OnOk result ((a : Action) → slice_get app.now.steps k ≡ Some a → memory_of w.new ≡ done app.now dt a (memory_of w.old)) }
+    ensures done { OnOk result ((a : Action) → slice_get app.now.steps k ≡ Some a → interim_of w.new ≡ done app.now dt a (interim_of w.old)) }
     ensures signals { length w.new.signals ≡ length w.old.signals }
     ensures blocks { length w.new.blocks ≡ length w.old.blocks }
 {
@@ -147,7 +147,7 @@ fn do_step(alloc: Global, app: &App, k: u16, w: &mut State, dt: u64) -> Result<(
 // Does all steps.
 fn do_steps(alloc: Global, app: &App, w: &mut State, dt: u64) -> Result<(), Memory>
     requires room { HasRoom app.now w.old dt }
-    ensures done { OnOk result (memory_of w.new ≡ exec app.now dt app.now.steps (memory_of w.old)) }
+    ensures done { OnOk result (interim_of w.new ≡ exec app.now dt app.now.steps (interim_of w.old)) }
     ensures signals { OnOk result (length w.new.signals ≡ length w.old.signals) }
     ensures blocks { OnOk result (length w.new.blocks ≡ length w.old.blocks) }
 {
@@ -162,7 +162,7 @@ fn do_steps(alloc: Global, app: &App, w: &mut State, dt: u64) -> Result<(), Memo
 fn begin(alloc: Global, old: &State, ins: &[bool], app: &App) -> Result<State, Memory>
     requires ins { length ins.now ≡ input_count app.now }
     requires signals { length old.now.signals ≡ signal_count app.now }
-    ensures done { IfOk result (λ w. memory_of w ≡ begun app.now old.now ins.now) }
+    ensures done { IfOk result (λ w. interim_of w ≡ begun app.now old.now ins.now) }
     ensures signals { IfOk result (λ w. length w.signals ≡ length old.now.signals) }
     ensures blocks { IfOk result (λ w. w.blocks ≡ old.now.blocks) }
 {

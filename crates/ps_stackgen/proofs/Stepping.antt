@@ -12,7 +12,7 @@ use Rattle.ps_model.specs.Blocks.{Block_state, block, moved, outs, output_count,
 use Rattle.ps_model.specs.Budgets.{boolean_count}
 use Rattle.ps_model.specs.Kept.{Kept, StandsBy, Since, stepped_at}
 use Rattle.ps_model.specs.Network.{Network, signal_count, instance_count, kind_at, first_pin, is_call_of}
-use Rattle.ps_model.specs.Running.{Memory, done, exec}
+use Rattle.ps_model.specs.Running.{Interim, done, exec}
 use Rattle.ps_model.specs.Scanning.{pins_under, limit_of}
 use Rattle.ps_model.specs.Stored.{IsKept, stored}
 use Rattle.ps_model.proofs.Keeping.{go_on}
@@ -56,12 +56,12 @@ pub record BlocksStand (net : Network) (t now : ℕ) (rest : List Action) (block
 
 module _ (net : Network) (t now dt : ℕ) (later : t ≤ now) (small : now < 2 ^ 32) (code : List ℕ) where
   -- the code ran, and the cells hold this memory
-  pub record Led (cells : List ℕ) (is : List Instruction) (pc : ℕ) (rest : List Action) (m : Memory) : Type 0 where
+  pub record Led (cells : List ℕ) (is : List Instruction) (pc : ℕ) (rest : List Action) (m : Interim) : Type 0 where
     pub blocks : List ℕ
     pub comes : Comes (signal_count net) (instance_count net) now code blocks cells (length is) (pc + size_all is) [] m.signals
     pub stand : BlocksStand net t now rest blocks m.blocks
 
-  assign_led : (s : ℕ) (e : Formula) (rest : List Action) (m : Memory) (cells : List ℕ) (pc : ℕ) (blocks : List ℕ) → s < signal_count net → IsFine (signal_count net) 34 e →
+  assign_led : (s : ℕ) (e : Formula) (rest : List Action) (m : Interim) (cells : List ℕ) (pc : ℕ) (blocks : List ℕ) → s < signal_count net → IsFine (signal_count net) 34 e →
       HasAt code pc (step_code net (assigns s e)) → Holds (signal_count net) now blocks cells pc [] m.signals → BlocksStand net t now (assigns s e ∷ rest) blocks m.blocks →
       Led cells (step_code net (assigns s e)) pc rest (done net dt (assigns s e) m)
   assign_led s e rest m cells pc blocks low is has h stand =
@@ -96,7 +96,7 @@ module _ (net : Network) (t now dt : ℕ) (later : t ≤ now) (small : now < 2 ^
       ] in
       λ x j. each j x
 
-  call_led : (i : ℕ) (args : List Actual) (rest : List Action) (m : Memory) (cells : List ℕ) (pc : ℕ) (blocks : List ℕ) → CallFits net i args → Once net (calls i args ∷ rest) →
+  call_led : (i : ℕ) (args : List Actual) (rest : List Action) (m : Interim) (cells : List ℕ) (pc : ℕ) (blocks : List ℕ) → CallFits net i args → Once net (calls i args ∷ rest) →
       ((m.blocks i).code ≢ 0 → dt ≡ now - t) → HasAt code pc (step_code net (calls i args)) → Holds (signal_count net) now blocks cells pc [] m.signals →
       BlocksStand net t now (calls i args ∷ rest) blocks m.blocks → Led cells (step_code net (calls i args)) pc rest (done net dt (calls i args) m)
   call_led i args rest m cells pc blocks fits once timely has h stand =
@@ -172,7 +172,7 @@ module _ (net : Network) (t now dt : ℕ) (later : t ≤ now) (small : now < 2 ^
         };
       }
 
-  step_led : (a : Action) (rest : List Action) (m : Memory) (cells : List ℕ) (pc : ℕ) (blocks : List ℕ) → StepFits net a → Once net (a ∷ rest) → Timely net dt (now - t) (a ∷ rest) m →
+  step_led : (a : Action) (rest : List Action) (m : Interim) (cells : List ℕ) (pc : ℕ) (blocks : List ℕ) → StepFits net a → Once net (a ∷ rest) → Timely net dt (now - t) (a ∷ rest) m →
       HasAt code pc (step_code net a) → Holds (signal_count net) now blocks cells pc [] m.signals → BlocksStand net t now (a ∷ rest) blocks m.blocks →
       Led cells (step_code net a) pc rest (done net dt a m)
   step_led (assigns s e) rest m cells pc blocks fits once timely has h stand = assign_led s e rest m cells pc blocks fits.0 fits.1 has h stand
@@ -180,7 +180,7 @@ module _ (net : Network) (t now dt : ℕ) (later : t ≤ now) (small : now < 2 ^
       call_led i args rest m cells pc blocks fits once (λ on. timely i (ap (λ b. b || list_any (is_call_of net i) rest) (eq-eqb i i refl)) on) has h stand
 
   -- the steps in order leave the memory of `exec`
-  pub steps_led : (rest : List Action) (m : Memory) (cells : List ℕ) (pc : ℕ) (blocks : List ℕ) → AllFit net rest → Once net rest → Timely net dt (now - t) rest m →
+  pub steps_led : (rest : List Action) (m : Interim) (cells : List ℕ) (pc : ℕ) (blocks : List ℕ) → AllFit net rest → Once net rest → Timely net dt (now - t) rest m →
       HasAt code pc (flat_map (step_code net) rest) → Holds (signal_count net) now blocks cells pc [] m.signals → BlocksStand net t now rest blocks m.blocks →
       Led cells (flat_map (step_code net) rest) pc [] (exec net dt rest m)
   unfolding exec

@@ -6,7 +6,7 @@ use Rattle.ps_model.specs.declared.channel.Verdict.{Verdict}
 use Rattle.ps_model.specs.Network.{Network}
 use Rattle.ps_model.specs.Sound.{IsSound}
 use Rattle.ps_model.specs.Meaning.Item.{scan, restart}
-use Rattle.ps_model.specs.Meaning.{Item, Since, nothing, last}
+use Rattle.ps_model.specs.Meaning.{Item, Past, nothing, last}
 use Rattle.ps_report.specs.Short.{refusal_text}
 use Rattle.ps_scan.specs.Cells.{Cells}
 use Rattle.ps_scan.specs.Scanned.{Stands, time_of}
@@ -28,50 +28,50 @@ use Rattle.ps_top.proofs.Applied.{no_read_bad, no_memory_bad}
 use Rattle.ps_top.proofs.Scans.{end_rest, refused_rest, scan_rest, restart_rest, rest_of}
 
 -- A run goes on behind an item: from where it then stands, what is to be written of the rest stands behind the item's line.
-record Goes (net : Network) (since : Since) (time : ℕ) (item : Item) (outcome : Outcome Verdict) (w : Cells) : Type 0 where
-  since' : Since
-  stands : Stands net since' w
-  early : time_of since' ≤ time_behind time item
-  goes : (scans rest : Scans) → Begins scans item rest → (a : Answer) → IsRest net since' rest a → IsRest net since scans (behind (outcome_line net outcome) a)
+record Goes (net : Network) (past : Past) (time : ℕ) (item : Item) (outcome : Outcome Verdict) (w : Cells) : Type 0 where
+  past' : Past
+  stands : Stands net past' w
+  early : time_of past' ≤ time_behind time item
+  goes : (scans rest : Scans) → Begins scans item rest → (a : Answer) → IsRest net past' rest a → IsRest net past scans (behind (outcome_line net outcome) a)
 
-goes_on : (net : Network) (since : Since) (time : ℕ) (w : Cells) (item : Item) (outcome : Outcome Verdict) (w' : Cells) →
-    Stands net since w → time_of since ≤ time → IsDue time item → Performs net w item outcome w' → Goes net since time item outcome w'
-goes_on net since time w (scan now ins) outcome w' stands early due performs =
-    let r = performs since stands (omega (arith, early, due)) in record {
-      since' = last now r.state;
+goes_on : (net : Network) (past : Past) (time : ℕ) (w : Cells) (item : Item) (outcome : Outcome Verdict) (w' : Cells) →
+    Stands net past w → time_of past ≤ time → IsDue time item → Performs net w item outcome w' → Goes net past time item outcome w'
+goes_on net past time w (scan now ins) outcome w' stands early due performs =
+    let r = performs past stands (omega (arith, early, due)) in record {
+      past' = last now r.state;
       stands = r.stands;
       early = omega arith;
       goes = λ scans rest begins a right.
-          subst (λ (o : Outcome Verdict). IsRest net since scans (behind (outcome_line net o) a)) (sym r.released) (scan_rest net since now ins r.state scans rest begins r.solves a right);
+          subst (λ (o : Outcome Verdict). IsRest net past scans (behind (outcome_line net o) a)) (sym r.released) (scan_rest net past now ins r.state scans rest begins r.solves a right);
     }
-goes_on net since time w restart outcome w' stands early due performs = record {
-  since' = nothing;
+goes_on net past time w restart outcome w' stands early due performs = record {
+  past' = nothing;
   stands = performs.1;
   early = omega arith;
   goes = λ scans rest begins a right.
-      subst (λ (o : Outcome Verdict). IsRest net since scans (behind (outcome_line net o) a)) (sym performs.0) (restart_rest net since scans rest begins a right);
+      subst (λ (o : Outcome Verdict). IsRest net past scans (behind (outcome_line net o) a)) (sym performs.0) (restart_rest net past scans rest begins a right);
 }
 
 -- these bytes begin what is to be written
-record IsBegun (net : Network) (since : Since) (scans : Scans) (bytes : List ℕ) : Type 0 where
+record IsBegun (net : Network) (past : Past) (scans : Scans) (bytes : List ℕ) : Type 0 where
   answer : Answer
-  right : IsRest net since scans answer
+  right : IsRest net past scans answer
   owed : List ℕ
   whole : bytes ++ owed ≡ answer.bytes
 
 -- these bytes were written of the items: all that is to be written, but for the line of a refusal, or a beginning
-abbrev Tells : Network → Since → Scans → List ℕ → Result (Unit {0}) Cut → Type 0
-Tells net since scans bytes (Ok x) = IsRest net since scans (answer bytes Done)
-Tells net since scans bytes (Err (Refused refusal)) = IsRest net since scans (answer (bytes ++ refusal_text refusal) BadInput)
-Tells net since scans bytes (Err Unread) = IsBegun net since scans bytes
-Tells net since scans bytes (Err Unwritten) = IsBegun net since scans bytes
+abbrev Tells : Network → Past → Scans → List ℕ → Result (Unit {0}) Cut → Type 0
+Tells net past scans bytes (Ok x) = IsRest net past scans (answer bytes Done)
+Tells net past scans bytes (Err (Refused refusal)) = IsRest net past scans (answer (bytes ++ refusal_text refusal) BadInput)
+Tells net past scans bytes (Err Unread) = IsBegun net past scans bytes
+Tells net past scans bytes (Err Unwritten) = IsBegun net past scans bytes
 
-module _ (net : Network) (since : Since) (time : ℕ) (item : Item) (outcome : Outcome Verdict) (w : Cells) (goes : Goes net since time item outcome w)
+module _ (net : Network) (past : Past) (time : ℕ) (item : Item) (outcome : Outcome Verdict) (w : Cells) (goes : Goes net past time item outcome w)
     (scans rest : Scans) (begins : Begins scans item rest) where
   abbrev line : List ℕ
   line = outcome_line net outcome
 
-  begun_behind : (bytes : List ℕ) → IsBegun net (goes.since') rest bytes → IsBegun net since scans (line ++ bytes)
+  begun_behind : (bytes : List ℕ) → IsBegun net (goes.past') rest bytes → IsBegun net past scans (line ++ bytes)
   begun_behind bytes begun = record {
     answer = behind line begun.answer;
     right = goes.goes scans rest begins begun.answer begun.right;
@@ -79,17 +79,17 @@ module _ (net : Network) (since : Since) (time : ℕ) (item : Item) (outcome : O
     whole = append_assoc line bytes begun.owed ∙ ap (λ (more : List ℕ). line ++ more) begun.whole;
   }
 
-  tells_behind : (bytes : List ℕ) (ended : Result (Unit {0}) Cut) → Tells net (goes.since') rest bytes ended → Tells net since scans (line ++ bytes) ended
+  tells_behind : (bytes : List ℕ) (ended : Result (Unit {0}) Cut) → Tells net (goes.past') rest bytes ended → Tells net past scans (line ++ bytes) ended
   tells_behind bytes (Ok x) tells = goes.goes scans rest begins (answer bytes Done) tells
   tells_behind bytes (Err (Refused refusal)) tells =
-      subst (λ (whole : List ℕ). IsRest net since scans (answer whole BadInput)) (sym (append_assoc line bytes (refusal_text refusal)))
+      subst (λ (whole : List ℕ). IsRest net past scans (answer whole BadInput)) (sym (append_assoc line bytes (refusal_text refusal)))
       (goes.goes scans rest begins (answer (bytes ++ refusal_text refusal) BadInput) tells)
   tells_behind bytes (Err Unread) tells = begun_behind bytes tells
   tells_behind bytes (Err Unwritten) tells = begun_behind bytes tells
 
   -- a part of the item's line was written
-  line_begun : IsSound net → (taken : ℕ) → IsBegun net since scans (take taken line)
-  line_begun sound taken = let a = rest_of net sound goes.since' rest in record {
+  line_begun : IsSound net → (taken : ℕ) → IsBegun net past scans (take taken line)
+  line_begun sound taken = let a = rest_of net sound goes.past' rest in record {
     answer = behind line a.0;
     right = goes.goes scans rest begins a.0 a.1;
     owed = drop taken line ++ a.0.bytes;
@@ -97,19 +97,19 @@ module _ (net : Network) (since : Since) (time : ℕ) (item : Item) (outcome : O
   }
 
 -- what a scanner did of items from where a run stands
-tells : {T : Type 0} (net : Network) → IsSound net → (takes : T → Outcome Verdict → T → Type 0) (since : Since) (time : ℕ) (w : Cells) (t : T) (scans : Scans)
-    (bytes : List ℕ) (ended : Result (Unit {0}) Cut) (w' : Cells) (t' : T) → Stands net since w → time_of since ≤ time →
-    Did (Performs net) (outcome_line net) takes time w t scans bytes ended w' t' → Tells net since scans bytes ended
-tells net sound takes since _ _ _ _ _ _ _ _ stands early (all time w t scans is) = end_rest net since scans is
-tells net sound takes since _ _ _ _ _ _ _ _ stands early (refused time w t scans refusal is) = refused_rest net since scans refusal is
-tells net sound takes since _ _ _ _ _ _ _ _ stands early (unread time w t scans) =
-    let a = rest_of net sound since scans in record { answer = a.0; right = a.1; owed = a.0.bytes; whole = refl }
-tells net sound takes since _ _ _ _ _ _ _ _ stands early (unwritten time w t scans item rest outcome w' t' taken begins due performs) =
-    line_begun net since time item outcome w' (goes_on net since time w item outcome w' stands early due performs) scans rest begins sound taken
-tells net sound takes since _ _ _ _ _ _ _ _ stands early (next time w t scans item rest outcome w' t' bytes ended w'' t'' begins due performs took did) =
-    let goes = goes_on net since time w item outcome w' stands early due performs in
-    tells_behind net since time item outcome w' goes scans rest begins bytes ended
-    (tells net sound takes goes.since' (time_behind time item) w' t' rest bytes ended w'' t'' goes.stands goes.early did)
+tells : {T : Type 0} (net : Network) → IsSound net → (takes : T → Outcome Verdict → T → Type 0) (past : Past) (time : ℕ) (w : Cells) (t : T) (scans : Scans)
+    (bytes : List ℕ) (ended : Result (Unit {0}) Cut) (w' : Cells) (t' : T) → Stands net past w → time_of past ≤ time →
+    Did (Performs net) (outcome_line net) takes time w t scans bytes ended w' t' → Tells net past scans bytes ended
+tells net sound takes past _ _ _ _ _ _ _ _ stands early (all time w t scans is) = end_rest net past scans is
+tells net sound takes past _ _ _ _ _ _ _ _ stands early (refused time w t scans refusal is) = refused_rest net past scans refusal is
+tells net sound takes past _ _ _ _ _ _ _ _ stands early (unread time w t scans) =
+    let a = rest_of net sound past scans in record { answer = a.0; right = a.1; owed = a.0.bytes; whole = refl }
+tells net sound takes past _ _ _ _ _ _ _ _ stands early (unwritten time w t scans item rest outcome w' t' taken begins due performs) =
+    line_begun net past time item outcome w' (goes_on net past time w item outcome w' stands early due performs) scans rest begins sound taken
+tells net sound takes past _ _ _ _ _ _ _ _ stands early (next time w t scans item rest outcome w' t' bytes ended w'' t'' begins due performs took did) =
+    let goes = goes_on net past time w item outcome w' stands early due performs in
+    tells_behind net past time item outcome w' goes scans rest begins bytes ended
+    (tells net sound takes goes.past' (time_behind time item) w' t' rest bytes ended w'' t'' goes.stands goes.early did)
 
 -- what is given of a whole trace, once it is told how its items ended
 abbrev pub Gave : Network → Scans → (before after : List ℕ) → Result (Unit {0}) Cut → Type 0

@@ -2,15 +2,15 @@
 use Rattle.std.specs.Prelude.{◌≡◌, ℕ, List, ◌++◌}
 use Rattle.ps_model.specs.Network.{Network}
 use Rattle.ps_model.specs.Scanning.{State}
-use Rattle.ps_model.specs.Meaning.{Since, Runs}
+use Rattle.ps_model.specs.Meaning.{Past, Runs}
 use Rattle.ps_trace.specs.Scans.{Scans}
 use Rattle.ps_top.specs.Asking.{Answer}
 use Rattle.ps_top.specs.Program.{told}
 
 -- This is to be written of these scans: a line for each item, from where a run stands.
-pub record IsRest (net : Network) (since : Since) (scans : Scans) (answer : Answer) : Type 0 where
+pub record IsRest (net : Network) (past : Past) (scans : Scans) (answer : Answer) : Type 0 where
   pub states : List State
-  pub runs : Runs net since scans.items states
+  pub runs : Runs net past scans.items states
   pub is : answer ≡ told net scans states
 
 -- an answer behind a line

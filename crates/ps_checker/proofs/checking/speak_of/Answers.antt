@@ -4,11 +4,11 @@ use Rattle.ps_model.specs.declared.node.Node.{Node}
 use Rattle.std.specs.List.{list_all}
 use Rattle.std.proofs.lemmas.Bool.{and_parts}
 use Rattle.ps_model.specs.Nodes.{app_nodes}
-use Rattle.ps_model.specs.Rows.{app_rows}
+use Rattle.ps_model.specs.NodeList.{node_list}
 use Rattle.ps_model.specs.declared.node.Shape.TheVariants.{Signal}
 use Rattle.ps_flow.proofs.Walk.{rest_or}
 use Rattle.ps_checker.specs.Derives.{is_earlier}
-use Rattle.ps_model.proofs.NodeRows.{row_each}
+use Rattle.ps_model.proofs.NodeLists.{listed_each}
 use Rattle.ps_checker.proofs.Fits.{row_room}
 use Rattle.ps_checker.proofs.Left.{SpeakLeft, speak_past, speak_other, speak_next, speak_end, earlier_line}
 use Rattle.ps_checker.proofs.checking.speak_of.Goals.{then-m-end-via-then-m-end, then-m-end-via-else-m-end+then-lines-p}
@@ -19,17 +19,17 @@ returns-then-m-end c = λ depth es s e.
     let oks = and_parts (is_earlier (length c.args.lines.now) (get_or c.args.premises.now c.loop-p.p-index 0)) (list_all (is_earlier (length c.args.lines.now)) (drop (c.loop-p.p-index + 1) c.args.premises.now))
     (ap (list_all (is_earlier (length c.args.lines.now))) (sym (rest_or c.args.premises.now c.loop-p.p-index 0 c.loop-p-test.true)) ∙ c.loop-p.invariant.earlier) in
     let next = rest_or c.args.premises.now c.loop-p.p-index 0 c.loop-p-test.true in
-    let left = subst (λ r. SpeakLeft (app_rows c.args.app.now) depth c.args.lines.now c.args.at es c.args.premises.now c.args.end c.loop-p.m r) next (c.loop-p.invariant.left depth es s e) in
+    let left = subst (λ r. SpeakLeft (node_list c.args.app.now) depth c.args.lines.now c.args.at es c.args.premises.now c.args.end c.loop-p.m r) next (c.loop-p.invariant.left depth es s e) in
     elim c.then-m-end.branch [
       | then-m-end-via-then-m-end w ↦
-          speak_past (app_rows c.args.app.now) depth c.args.lines.now c.args.at es c.args.premises.now c.args.end c.loop-p.m _ _ left w.if-m-end.true
+          speak_past (node_list c.args.app.now) depth c.args.lines.now c.args.at es c.args.premises.now c.args.end c.loop-p.m _ _ left w.if-m-end.true
       | then-m-end-via-else-m-end+then-lines-p w ↦
-          speak_other (app_rows c.args.app.now) depth c.args.lines.now c.args.at es c.args.premises.now c.args.end c.loop-p.m _ _ left (λ same. w.if-lines-p.true (sym (earlier_line c.args.lines.now _ w.index-lines-p.result oks.0) ∙ same))
+          speak_other (node_list c.args.app.now) depth c.args.lines.now c.args.at es c.args.premises.now c.args.end c.loop-p.m _ _ left (λ same. w.if-lines-p.true (sym (earlier_line c.args.lines.now _ w.index-lines-p.result oks.0) ∙ same))
     ]
 
 pub bounds-nodes-m : goal.bounds-nodes-m
 bounds-nodes-m c =
-    let each : length c.nodes-nodes.result.now ≡ length (app_nodes c.args.app.now) = ap length c.nodes-nodes.ensures ∙ row_each c.args.app.now in
+    let each : length c.nodes-nodes.result.now ≡ length (app_nodes c.args.app.now) = ap length c.nodes-nodes.ensures ∙ listed_each c.args.app.now in
     let inside = c.if-m-end.false in
     omega arith
 
@@ -41,13 +41,13 @@ loop-p-preserved c =
     record {
       earlier = oks.1;
       left = λ depth es s e.
-          let left = subst (λ r. SpeakLeft (app_rows c.args.app.now) depth c.args.lines.now c.args.at es c.args.premises.now c.args.end c.loop-p.m r) next (c.loop-p.invariant.left depth es s e) in
-          speak_next (app_rows c.args.app.now) depth c.args.lines.now c.args.at es c.args.premises.now c.args.end c.loop-p.m _ _ (record { shape = Signal 0; size = 0; depth = 0 }) _ left c.if-m-end.false (earlier_line c.args.lines.now _ c.index-lines-p.result oks.0 ∙ c.if-lines-p.false)
+          let left = subst (λ r. SpeakLeft (node_list c.args.app.now) depth c.args.lines.now c.args.at es c.args.premises.now c.args.end c.loop-p.m r) next (c.loop-p.invariant.left depth es s e) in
+          speak_next (node_list c.args.app.now) depth c.args.lines.now c.args.at es c.args.premises.now c.args.end c.loop-p.m _ _ (record { shape = Signal 0; size = 0; depth = 0 }) _ left c.if-m-end.false (earlier_line c.args.lines.now _ c.index-lines-p.result oks.0 ∙ c.if-lines-p.false)
           (ap (λ (ns : List Node). c.loop-p.m + (get_or ns c.loop-p.m (record { shape = Signal 0; size = 0; depth = 0 })).size) c.nodes-nodes.ensures);
     }
 
 pub returns : goal.returns
-returns c = λ depth es s e. speak_end (app_rows c.args.app.now) depth c.args.lines.now c.args.at es c.args.premises.now c.args.end c.loop-p.m _ (c.loop-p.invariant.left depth es s e) (grind (arith, common_steps))
+returns c = λ depth es s e. speak_end (node_list c.args.app.now) depth c.args.lines.now c.args.at es c.args.premises.now c.args.end c.loop-p.m _ (c.loop-p.invariant.left depth es s e) (grind (arith, common_steps))
 
 pub overflow_add-m : goal.overflow_add-m
 overflow_add-m c =

@@ -4,7 +4,7 @@ use Rattle.std.proofs.lemmas.Option.{same_Some}
 use Rattle.ps_model.specs.Action.{assigns, calls}
 use Rattle.ps_model.specs.Exprs.{formula}
 use Rattle.ps_model.specs.Steps.{action}
-use Rattle.ps_model.specs.Running.{done, memory_of}
+use Rattle.ps_model.specs.Running.{done, interim_of}
 use Rattle.ps_solve.proofs.solve.do_step.Goals as goal
 
 pub call-requires-clause-arguments : goal.call-requires-clause-arguments
@@ -19,4 +19,4 @@ returns-in-Assign-clause-done c =
     let here : slice_get c.args.app.now.steps c.args.k ≡ Some (assigns c.in-Assign.target (formula c.in-Assign.value)) =
     c.step.ensures ∙ ap (λ s. Some (action s)) c.in-Assign.is in
     c.assign.ensures.done c.args.dt
-    ∙ ap (λ b. done c.args.app.now c.args.dt b (memory_of c.args.w.now)) (same_Some (assigns c.in-Assign.target (formula c.in-Assign.value)) a (sym here ∙ at))
+    ∙ ap (λ b. done c.args.app.now c.args.dt b (interim_of c.args.w.now)) (same_Some (assigns c.in-Assign.target (formula c.in-Assign.value)) a (sym here ∙ at))

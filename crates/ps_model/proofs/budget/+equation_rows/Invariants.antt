@@ -2,18 +2,18 @@ use Rattle.std.proofs.Common.{◌≡◌, ◌+◌, ◌≤◌, length, map, drop}
 use Rattle.ps_model.specs.Exprs.{formula, operands}
 use Rattle.ps_model.specs.Formula.{all_of, any_of}
 use Rattle.ps_model.specs.Nodes.{nodes_below}
-use Rattle.ps_model.specs.Budgets.{rows_below}
-use Rattle.ps_model.proofs.budget.+rows.Given as goal
+use Rattle.ps_model.specs.Budgets.{equation_rows_below}
+use Rattle.ps_model.proofs.budget.+equation_rows.Given as goal
 
-abbrev pub decreases-rows : goal.decreases-rows
-decreases-rows l = goal.size-rows l
+abbrev pub decreases-equation_rows : goal.decreases-equation_rows
+decreases-equation_rows l = goal.size-equation_rows l
 
 abbrev pub invariant-loop-x : goal.invariant-loop-x
 invariant-loop-x l = record {
   whole : formula l.fn.e ≡ all_of (operands (map formula l.x-items));
   room : length (nodes_below (operands (map formula (drop l.x-index l.x-items)))) ≤ 20000;
   all : length (nodes_below (operands (map formula l.x-items))) ≤ 20000;
-  counted : l.below + rows_below (operands (map formula (drop l.x-index l.x-items))) ≡ rows_below (operands (map formula l.x-items));
+  counted : l.below + equation_rows_below (operands (map formula (drop l.x-index l.x-items))) ≡ equation_rows_below (operands (map formula l.x-items));
 }
 
 abbrev pub invariant-loop-x-2 : goal.invariant-loop-x-2
@@ -21,5 +21,5 @@ invariant-loop-x-2 l = record {
   whole : formula l.fn.e ≡ any_of (operands (map formula l.x-items));
   room : length (nodes_below (operands (map formula (drop l.x-index l.x-items)))) ≤ 20000;
   all : length (nodes_below (operands (map formula l.x-items))) ≤ 20000;
-  counted : l.below + rows_below (operands (map formula (drop l.x-index l.x-items))) ≡ rows_below (operands (map formula l.x-items));
+  counted : l.below + equation_rows_below (operands (map formula (drop l.x-index l.x-items))) ≡ equation_rows_below (operands (map formula l.x-items));
 }

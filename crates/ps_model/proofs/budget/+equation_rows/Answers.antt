@@ -2,9 +2,9 @@ use Rattle.std.proofs.Common.{◌≡◌, map, refl, arith}
 use Rattle.std.proofs.lemmas.Grind.{common_steps}
 use Rattle.ps_model.specs.Exprs.{formula, operands}
 use Rattle.ps_model.specs.Formula.{all_of, any_of}
-use Rattle.ps_model.proofs.Budgeting.{rows_below_bound}
+use Rattle.ps_model.proofs.Budgeting.{equation_rows_below_bound}
 use Rattle.ps_model.proofs.Formulas.{formula-And, formula-Or}
-use Rattle.ps_model.proofs.budget.+rows.Goals as goal
+use Rattle.ps_model.proofs.budget.+equation_rows.Goals as goal
 
 pub loop-x-init : goal.loop-x-init
 loop-x-init t c =
@@ -18,30 +18,30 @@ loop-x-2-init t c =
 
 pub overflow_add-below : goal.overflow_add-below
 overflow_add-below t c =
-    let all = rows_below_bound (operands (map formula c.deref-x-items.result.now)) in
+    let all = equation_rows_below_bound (operands (map formula c.deref-x-items.result.now)) in
     grind (arith, common_steps)
 
 pub overflow_add-below-in-loop-x : goal.overflow_add-below-in-loop-x
 overflow_add-below-in-loop-x t c =
-    let all = rows_below_bound (operands (map formula c.deref-x-items.result.now)) in
+    let all = equation_rows_below_bound (operands (map formula c.deref-x-items.result.now)) in
     grind (arith, common_steps)
 
 pub overflow_add-below-in-loop-x-2 : goal.overflow_add-below-in-loop-x-2
 overflow_add-below-in-loop-x-2 t c =
-    let all = rows_below_bound (operands (map formula c.deref-x-items-in-Or.result.now)) in
+    let all = equation_rows_below_bound (operands (map formula c.deref-x-items-in-Or.result.now)) in
     grind (arith, common_steps)
 
 pub overflow_add-below-in-loop-x-2-2 : goal.overflow_add-below-in-loop-x-2-2
 overflow_add-below-in-loop-x-2-2 t c =
-    let all = rows_below_bound (operands (map formula c.deref-x-items-in-Or.result.now)) in
+    let all = equation_rows_below_bound (operands (map formula c.deref-x-items-in-Or.result.now)) in
     grind (arith, common_steps)
 
 pub returns-after-loop-x-clause-few : goal.returns-after-loop-x-clause-few
 returns-after-loop-x-clause-few t c =
-    let all = rows_below_bound (operands (map formula c.deref-x-items.result.now)) in
+    let all = equation_rows_below_bound (operands (map formula c.deref-x-items.result.now)) in
     grind (arith, common_steps)
 
 pub returns-after-loop-x-2-clause-few : goal.returns-after-loop-x-2-clause-few
 returns-after-loop-x-2-clause-few t c =
-    let all = rows_below_bound (operands (map formula c.deref-x-items-in-Or.result.now)) in
+    let all = equation_rows_below_bound (operands (map formula c.deref-x-items-in-Or.result.now)) in
     grind (arith, common_steps)

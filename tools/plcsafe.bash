@@ -1,0 +1,12 @@
+# Completion of plcsafe for bash: a command, and then the names of files.
+_plcsafe() {
+  local word=${COMP_WORDS[COMP_CWORD]}
+  local commands="run check cert verify"
+  if [ "$COMP_CWORD" -eq 1 ]; then
+    mapfile -t COMPREPLY < <(compgen -W "$commands" -- "$word")
+  else
+    mapfile -t COMPREPLY < <(compgen -f -- "$word")
+    compopt -o filenames
+  fi
+}
+complete -F _plcsafe plcsafe

@@ -16,3 +16,4 @@ pub mod Placing
 pub mod Budgeting
 pub mod InputRows
 pub mod Sizing
+pub mod CallLimits

@@ -1,9 +1,9 @@
 -- Laws of the blocks, over every kind, state and pin.
-use Rattle.std.specs.Prelude.{◌≡◌, ◌≢◌, ℕ, ◌+◌, ◌-◌, ◌<◌, ◌≤◌, ◌^◌, ◌/◌, ◌==◌, not, Bool, true, false, List, length, slice_index_or, slice_index, Some}
+use Rattle.std.specs.Prelude.{◌≡◌, ◌≢◌, ℕ, ◌+◌, ◌-◌, ◌<◌, ◌≤◌, ◌^◌, Bool, true, false, List, length, slice_index_or, slice_index, Some}
 use Rattle.ps_model.specs.declared.kind.Kind.{Kind}
-use Rattle.ps_model.specs.Blocks.{Block_state, block, moved, outs}
+use Rattle.ps_model.specs.Blocks.{Block_state, block, moved, outs, error_in, ready_in}
 use Rattle.ps_model.specs.Kept.{Kept, StandsBy, Since, Remains, stepped, stepped_at, counted_down, aged, healed}
-use Rattle.ps_model.specs.Stored.{is_state, IsKept, Loads, loaded}
+use Rattle.ps_model.specs.Stored.{IsKept, Loads, loaded}
 use Rattle.ps_model.specs.Demand.{Demands}
 
 -- Each safe output has its demand.
@@ -15,21 +15,18 @@ pub record OffWhereInactive : Type 0 where
   pub code : (kind : Kind) (limit : ℕ) (pins : ℕ → Bool) (dt : ℕ) (s : Block_state) → pins 0 ≡ false → (moved kind limit pins dt s).code ≡ 0
   pub outputs : (kind : Kind) (mode j : ℕ) → slice_index_or (outs kind 0 mode) j false ≡ false
 
--- The code is Cxxx.
-abbrev pub is_error : ℕ → Bool
-is_error q = q / 0x1000 == 0xC
-
--- Behind the safe outputs stand Ready and Error.
+-- behind the safe outputs stands Ready
 abbrev pub ready_of : Kind → List Bool → Bool
 ready_of kind os = slice_index_or os (length (block kind).outputs) false
 
+-- behind the safe outputs and Ready stands Error
 abbrev pub error_of : Kind → List Bool → Bool
 error_of kind os = slice_index_or os (length (block kind).outputs + 1) false
 
--- Error is TRUE exactly in the states Cxxx, and Ready exactly outside Idle.
+-- Of the outputs, Error is TRUE exactly where the code is Cxxx, and Ready exactly outside Idle.
 pub record ErrorsExactly : Type 0 where
-  pub error : (kind : Kind) (q mode : ℕ) → is_state kind q ≡ true → error_of kind (outs kind q mode) ≡ is_error q
-  pub ready : (kind : Kind) (q mode : ℕ) → ready_of kind (outs kind q mode) ≡ not (q == 0)
+  pub error : (kind : Kind) (q mode : ℕ) → error_of kind (outs kind q mode) ≡ error_in q
+  pub ready : (kind : Kind) (q mode : ℕ) → ready_of kind (outs kind q mode) ≡ ready_in q
 
 -- Bytes stand for at most one kept state of a kind.
 abbrev pub StandsForOne : Type 0

@@ -1,5 +1,5 @@
 -- The function blocks: their pins, and one step of each. Profile of this project, after PLCopen TC5.
-use Rattle.std.specs.Prelude.{ℕ, Bool, true, false, List, [], ◌∷◌, ◌++◌, ◌+◌, ◌&&◌, ◌||◌, ◌==◌, not, if◌then◌else◌, length, map, codes, Option, Some, None, nat_le, count_by, slice_index_or}
+use Rattle.std.specs.Prelude.{ℕ, Bool, true, false, List, [], ◌∷◌, ◌++◌, ◌+◌, ◌/◌, ◌&&◌, ◌||◌, ◌==◌, not, if◌then◌else◌, length, map, codes, Option, Some, None, nat_le, count_by, slice_index_or}
 use Rattle.std.specs.List.{list_any, range_with_len}
 use Rattle.ps_model.specs.declared.kind.Kind.{Kind}
 use Rattle.ps_model.specs.declared.kind.Kind.TheVariants.{Equivalent, Antivalent, EmergencyStop, Espe, ModeSelector, TwoHandTwo, TwoHandThree, GuardMonitoring, GuardLocking, EnableSwitch, SafetyRequest, OutControl, Edm}
@@ -23,12 +23,15 @@ pub record Pin : Type 0 where
   pub ty : Ty
   pub free : Bool
 
+-- a SAFEBOOL pin, FALSE where it is free
 abbrev pub safe_pin : List ℕ → Pin
 safe_pin n = record { name = n; ty = Safe; free = false }
 
+-- a BOOL pin, FALSE where it is free
 abbrev pub plain_pin : List ℕ → Pin
 plain_pin n = record { name = n; ty = Plain; free = false }
 
+-- a TIME pin
 abbrev pub time_pin : List ℕ → Pin
 time_pin n = record { name = n; ty = Time; free = false }
 
@@ -56,6 +59,7 @@ pub record Block : Type 0 where
 abbrev pub mode_states : List ℕ
 mode_states = 0x8000 ∷ 0x8004 ∷ []
 
+-- two contacts that are to close together within the discrepancy time
 abbrev pub equivalent : Block
 equivalent = record {
   number = 1;
@@ -70,6 +74,7 @@ equivalent = record {
   rows = equivalent_table.table (pin 1) (pin 2);
 }
 
+-- a normally closed and a normally open contact that are to change together within the discrepancy time
 abbrev pub antivalent : Block
 antivalent = record {
   number = 2;
@@ -84,6 +89,7 @@ antivalent = record {
   rows = equivalent_table.table (pin 1) (no (pin 2));
 }
 
+-- an emergency stop button
 abbrev pub emergency_stop : Block
 emergency_stop = record {
   number = 3;
@@ -98,6 +104,7 @@ emergency_stop = record {
   rows = stop.table;
 }
 
+-- a light curtain or another sensor of that sort (ESPE)
 abbrev pub espe : Block
 espe = record {
   number = 4;
@@ -112,6 +119,7 @@ espe = record {
   rows = stop.table;
 }
 
+-- a switch with up to eight modes, of which one is to be chosen and latched
 abbrev pub mode_selector : Block
 mode_selector = record {
   number = 5;
@@ -132,6 +140,7 @@ mode_selector = record {
   rows = modes.table;
 }
 
+-- two buttons of a two-hand control of type II (EN 574)
 abbrev pub two_hand_two : Block
 two_hand_two = record {
   number = 6;
@@ -145,6 +154,7 @@ two_hand_two = record {
   rows = two_hand.table_two;
 }
 
+-- two buttons of a two-hand control of type III (EN 574), which are to be pressed within 500 ms
 abbrev pub two_hand_three : Block
 two_hand_three = record {
   number = 7;
@@ -158,6 +168,7 @@ two_hand_three = record {
   rows = two_hand.table_three;
 }
 
+-- a guard with two switches that are to close within the discrepancy time
 abbrev pub guard_monitoring : Block
 guard_monitoring = record {
   number = 8;
@@ -173,6 +184,7 @@ guard_monitoring = record {
   rows = guard_monitoring_table.table;
 }
 
+-- a guard with a lock, which is opened on request in a safe state
 abbrev pub guard_locking : Block
 guard_locking = record {
   number = 9;
@@ -188,6 +200,7 @@ guard_locking = record {
   rows = guard_locking_table.table;
 }
 
+-- an enable switch with three positions
 abbrev pub enable_switch : Block
 enable_switch = record {
   number = 10;
@@ -202,6 +215,7 @@ enable_switch = record {
   rows = enable_switch_table.table;
 }
 
+-- a request to a drive to become safe, which it is to acknowledge within the monitoring time
 abbrev pub safety_request : Block
 safety_request = record {
   number = 11;
@@ -216,6 +230,7 @@ safety_request = record {
   rows = safety_request_table.table;
 }
 
+-- a safe output that the process switches while safety allows it
 abbrev pub out_control : Block
 out_control = record {
   number = 12;
@@ -231,6 +246,7 @@ out_control = record {
   rows = out_control_table.table;
 }
 
+-- two actuators whose feedback is to follow the output within the monitoring time
 abbrev pub edm : Block
 edm = record {
   number = 13;
@@ -337,6 +353,7 @@ abbrev pub shown_mode : Kind → ℕ → ℕ → Bool
 shown_mode ModeSelector j mode = j == mode || j == 8
 shown_mode _ j mode = true
 
+-- what stands past the safe outputs of a kind
 abbrev pub no_output : Output
 no_output = record { name = []; states = [] }
 
@@ -345,12 +362,13 @@ abbrev pub safe_output : Kind → ℕ → ℕ → ℕ → Bool
 safe_output kind q mode j =
     list_any (λ x. x == q) (slice_index_or (block kind).outputs j no_output).states && shown_mode kind j mode
 
--- Ready is TRUE in every state but Idle, Error in the states Cxxx.
+-- Ready is TRUE in every state but Idle.
 abbrev pub ready_in : ℕ → Bool
 ready_in q = not (q == 0)
 
+-- Error is TRUE exactly in the states whose code is Cxxx.
 abbrev pub error_in : ℕ → Bool
-error_in q = nat_le 0xC000 q
+error_in q = q / 0x1000 == 0xC
 
 -- How many outputs a kind has, Ready and Error among them.
 unfoldable pub output_count : Kind → ℕ

@@ -60,6 +60,7 @@ abbrev mutual
   equation_rows (all_of es) = equation_rows_below es
   equation_rows (any_of es) = equation_rows_below es
 
+  -- each operand's own rows and one to set or join it
   pub equation_rows_below : Formulas → ℕ
   equation_rows_below no_operand = 0
   equation_rows_below (operand e es) = equation_rows e + 1 + equation_rows_below es

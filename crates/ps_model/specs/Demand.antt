@@ -42,6 +42,7 @@ abbrev pub is_met : (ℕ → Bool) → Need → Bool
 is_met pins (On j) = pins j
 is_met pins (Off j) = not (pins j)
 
+-- Each of these pins is as it has to be.
 abbrev pub are_met : (ℕ → Bool) → List Need → Bool
 are_met pins needs = list_all (is_met pins) needs
 

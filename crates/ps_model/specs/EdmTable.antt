@@ -2,19 +2,23 @@
 use Rattle.std.specs.Prelude.{ℕ, List, [], ◌∷◌, ◌++◌, ◌+◌, map}
 use Rattle.ps_model.specs.Table.{Guard, Row, ◌⇒◌, pin, edge, static, elapsed, ◌and◌, no, in_state}
 
--- S_OutControl, S_EDM1 and S_EDM2
+-- S_OutControl
 abbrev pub s : Guard
 s = pin 1
 
+-- S_EDM1
 abbrev pub e1 : Guard
 e1 = pin 2
 
+-- S_EDM2
 abbrev pub e2 : Guard
 e2 = pin 3
 
+-- S_StartReset
 abbrev pub start : Guard
 start = pin 4
 
+-- Reset
 abbrev pub reset : Guard
 reset = pin 5
 
@@ -30,6 +34,7 @@ static_row q = in_state (q + 1) (no reset ⇒ q ∷ [])
 abbrev pub errors : List ℕ
 errors = 0xC010 ∷ 0xC020 ∷ 0xC030 ∷ 0xC040 ∷ 0xC050 ∷ 0xC060 ∷ 0xC070 ∷ 0xC080 ∷ 0xC090 ∷ []
 
+-- the states of SF_EDM, with the error states behind
 abbrev pub table : List Row
 table =
     (in_state 0x8001 (start ⇒ 0x8010 ∷ edge ⇒ 0x8010 ∷ static ⇒ 0xC001 ∷ [])

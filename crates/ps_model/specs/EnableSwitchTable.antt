@@ -2,32 +2,39 @@
 use Rattle.std.specs.Prelude.{List, [], ◌∷◌}
 use Rattle.ps_model.specs.Table.{Guard, Row, ◌⇒◌, pin, edge, static, otherwise, ◌and◌, ◌or◌, no, in_state}
 
--- S_SafetyActive, S_EnableSwitchCh1 and S_EnableSwitchCh2
+-- S_SafetyActive
 abbrev pub active : Guard
 active = pin 1
 
+-- S_EnableSwitchCh1
 abbrev pub ch1 : Guard
 ch1 = pin 2
 
+-- S_EnableSwitchCh2
 abbrev pub ch2 : Guard
 ch2 = pin 3
 
+-- S_AutoReset
 abbrev pub auto : Guard
 auto = pin 4
 
+-- Reset
 abbrev pub reset : Guard
 reset = pin 5
 
--- the three positions of the switch
+-- position 1: it is not pressed
 abbrev pub p1 : Guard
 p1 = no ch1 and ch2
 
+-- position 2, the middle one, in which the switch enables
 abbrev pub p2 : Guard
 p2 = ch1 and ch2
 
+-- position 3: it is pressed through
 abbrev pub p3 : Guard
 p3 = no ch2
 
+-- the states of SF_EnableSwitch
 abbrev pub table : List Row
 table =
     in_state 0x8004 (active ⇒ 0x8005 ∷ [])

@@ -4,12 +4,15 @@ use Rattle.std.specs.Prelude.{List, [], ◌∷◌}
 use Rattle.ps_model.specs.Table.{Guard, Row, ◌⇒◌, elapsed, ◌and◌, no, in_state}
 
 module _ (a b : Guard) where
+  -- A and B
   abbrev pub both : Guard
   both = a and b
 
+  -- neither A nor B
   abbrev pub none : Guard
   none = no a and no b
 
+  -- the states of both kinds, over A and B
   abbrev pub table : List Row
   table =
       in_state 0x8001 (both ⇒ 0x8000 ∷ a ⇒ 0x8004 ∷ b ⇒ 0x8014 ∷ [])

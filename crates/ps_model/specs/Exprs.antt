@@ -15,6 +15,7 @@ node_formula (Expr-F.Signal s) = signal s
 node_formula (Expr-F.And es) = all_of es
 node_formula (Expr-F.Or es) = any_of es
 
+-- a list of operands, once each is a formula
 abbrev pub group_formulas : Exprs-F Formula Formulas → Formulas
 group_formulas es = operands es.items.items
 

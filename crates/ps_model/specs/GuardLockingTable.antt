@@ -2,28 +2,35 @@
 use Rattle.std.specs.Prelude.{List, [], ◌∷◌}
 use Rattle.ps_model.specs.Table.{Guard, Row, ◌⇒◌, pin, edge, static, otherwise, ◌and◌, ◌or◌, no, in_state}
 
--- S_GuardMonitoring, S_SafetyActive, S_GuardLock and UnlockRequest
+-- S_GuardMonitoring
 abbrev pub m : Guard
 m = pin 1
 
+-- S_SafetyActive
 abbrev pub s : Guard
 s = pin 2
 
+-- S_GuardLock
 abbrev pub l : Guard
 l = pin 3
 
+-- UnlockRequest
 abbrev pub u : Guard
 u = pin 4
 
+-- S_StartReset
 abbrev pub start : Guard
 start = pin 5
 
+-- S_AutoReset
 abbrev pub auto : Guard
 auto = pin 6
 
+-- Reset
 abbrev pub reset : Guard
 reset = pin 7
 
+-- the states of SF_GuardLocking
 abbrev pub table : List Row
 table =
     in_state 0x8001 (m and l and start ⇒ 0x8000 ∷ m and l ⇒ 0x8003 ∷ otherwise ⇒ 0x8014 ∷ [])

@@ -2,27 +2,35 @@
 use Rattle.std.specs.Prelude.{List, [], ◌∷◌}
 use Rattle.ps_model.specs.Table.{Guard, Row, ◌⇒◌, pin, edge, static, elapsed, otherwise, ◌and◌, no, in_state}
 
+-- S_GuardSwitch1
 abbrev pub g1 : Guard
 g1 = pin 1
 
+-- S_GuardSwitch2
 abbrev pub g2 : Guard
 g2 = pin 2
 
+-- S_StartReset
 abbrev pub start : Guard
 start = pin 3
 
+-- S_AutoReset
 abbrev pub auto : Guard
 auto = pin 4
 
+-- Reset
 abbrev pub reset : Guard
 reset = pin 5
 
+-- both switches are closed
 abbrev pub both : Guard
 both = g1 and g2
 
+-- both switches are open
 abbrev pub none : Guard
 none = no g1 and no g2
 
+-- the states of SF_GuardMonitoring
 abbrev pub table : List Row
 table =
     in_state 0x8001 (both and start ⇒ 0x8000 ∷ both ⇒ 0x8003 ∷ otherwise ⇒ 0x8002 ∷ [])

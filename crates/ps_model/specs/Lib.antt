@@ -39,4 +39,5 @@ pub mod Skeleton
 pub mod Demand
 pub mod BlockLaws
 pub mod Pins
+pub mod PinBits
 pub mod StepOf

@@ -21,6 +21,7 @@ pub data Past : Type 0 where
   nothing : Past
   last : (now : ℕ) (w : State) → Past
 
+-- the state that a scan starts from
 abbrev pub old_state : Network → Past → State
 old_state net nothing = first_state net
 old_state net (last now w) = w

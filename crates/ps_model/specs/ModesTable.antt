@@ -6,12 +6,15 @@ use Rattle.ps_model.specs.Table.{Conditions, Guard, Row, ◌⇒◌, pin, edge, s
 abbrev pub mode_count : Conditions → ℕ
 mode_count c = c.modes
 
+-- no mode is TRUE
 abbrev pub none : Guard
 none c = mode_count c == 0
 
+-- exactly one mode is TRUE
 abbrev pub one : Guard
 one c = mode_count c == 1
 
+-- two or more modes are TRUE
 abbrev pub two_or_more : Guard
 two_or_more c = nat_le 2 (mode_count c)
 
@@ -19,15 +22,19 @@ two_or_more c = nat_le 2 (mode_count c)
 abbrev pub exact : Guard
 exact c = c.exact
 
+-- S_Unlock
 abbrev pub unlock : Guard
 unlock = pin 9
 
+-- AutoSetMode
 abbrev pub auto : Guard
 auto = pin 11
 
+-- Reset
 abbrev pub reset : Guard
 reset = pin 12
 
+-- the states of SF_ModeSelector
 abbrev pub table : List Row
 table =
     record {

@@ -23,15 +23,17 @@ abbrev pub made_of : List ℕ → List Signal → List Signal → List Signal �
 made_of name inputs outputs locals instances steps =
     record { name = name; inputs = inputs; outputs = outputs; locals = locals; instances = instances; steps = steps }
 
--- what stands past the declared signals and instances
+-- what stands past the declared signals
 abbrev pub no_signal : Signal
 no_signal = record { name = []; ty = Plain }
 
+-- what stands past the declared instances
 abbrev pub no_instance : Instance
 no_instance = record { name = []; kind = Equivalent }
 
 -- Signals are numbered from 0: inputs, outputs, locals, and then each instance's outputs. Instances are numbered from 0.
 module _ (net : Network) where
+  -- how many inputs there are
   abbrev pub input_count : ℕ
   input_count = length net.inputs
 
@@ -51,9 +53,11 @@ module _ (net : Network) where
   abbrev pub names : List (List ℕ)
   names = map (λ s. s.name) declared_signals ++ map (λ i. i.name) net.instances
 
+  -- how many instances there are
   abbrev pub instance_count : ℕ
   instance_count = length net.instances
 
+  -- the name of an instance
   abbrev pub instance_name : ℕ → List ℕ
   instance_name i = (slice_index_or net.instances i no_instance).name
 

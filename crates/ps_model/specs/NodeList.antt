@@ -26,6 +26,7 @@ abbrev mutual
   listed_at depth (all_of es) = node_of depth (all_of es) ∷ listed_below (depth + 1) es
   listed_at depth (any_of es) = node_of depth (any_of es) ∷ listed_below (depth + 1) es
 
+  -- what is listed of operands, one after another
   pub listed_below : ℕ → Formulas → List Node
   listed_below depth no_operand = []
   listed_below depth (operand e es) = listed_at depth e ++ listed_below depth es

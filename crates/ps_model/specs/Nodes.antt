@@ -13,6 +13,7 @@ abbrev mutual
   nodes (all_of es) = all_of es ∷ nodes_below es
   nodes (any_of es) = any_of es ∷ nodes_below es
 
+  -- the nodes of operands, one after another
   pub nodes_below : Formulas → List Formula
   nodes_below no_operand = []
   nodes_below (operand e es) = nodes e ++ nodes_below es

@@ -31,6 +31,7 @@ module _ (net : Network) where
   obligations_of_step n (assigns t e) = if is_safe_signal net t then record { node = n; value = e } ∷ [] else []
   obligations_of_step n (calls i args) = obligations_at_pins n (block (kind_at net i)).inputs args
 
+  -- those of these steps, the first node of which is n
   abbrev pub obligations_from : ℕ → List Action → List Obligation
   obligations_from n [] = []
   obligations_from n (a ∷ steps) = obligations_of_step n a ++ obligations_from (n + length (nodes_of_step a)) steps

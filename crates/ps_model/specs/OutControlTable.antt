@@ -2,25 +2,31 @@
 use Rattle.std.specs.Prelude.{List, [], ◌∷◌}
 use Rattle.ps_model.specs.Table.{Guard, Row, ◌⇒◌, pin, edge, static, rise, ◌and◌, ◌or◌, no, in_state}
 
--- S_SafeControl, ProcessControl and StaticControl
+-- S_SafeControl
 abbrev pub s : Guard
 s = pin 1
 
+-- ProcessControl
 abbrev pub p : Guard
 p = pin 2
 
+-- StaticControl
 abbrev pub static_control : Guard
 static_control = pin 3
 
+-- S_StartReset
 abbrev pub start : Guard
 start = pin 4
 
+-- S_AutoReset
 abbrev pub auto : Guard
 auto = pin 5
 
+-- Reset
 abbrev pub reset : Guard
 reset = pin 6
 
+-- the states of SF_OutControl
 abbrev pub table : List Row
 table =
     in_state 0x8001 (no s ⇒ 0x8002 ∷ start ⇒ 0x8010 ∷ edge ⇒ 0x8010 ∷ static ⇒ 0xC001 ∷ [])

@@ -2,16 +2,19 @@
 use Rattle.std.specs.Prelude.{List, [], ◌∷◌}
 use Rattle.ps_model.specs.Table.{Guard, Row, ◌⇒◌, pin, edge, static, elapsed, no, in_state}
 
--- S_OpMode and S_Acknowledge
+-- S_OpMode
 abbrev pub o : Guard
 o = pin 1
 
+-- S_Acknowledge
 abbrev pub k : Guard
 k = pin 2
 
+-- Reset
 abbrev pub reset : Guard
 reset = pin 3
 
+-- the states of SF_SafetyRequest
 abbrev pub table : List Row
 table =
     in_state 0x8001 (o ⇒ 0x8012 ∷ no o ⇒ 0x8003 ∷ [])

@@ -14,6 +14,7 @@ mutual
     every : Skeletons → Skeleton
     some : Skeletons → Skeleton
 
+  -- the parts of an AND or OR, in order
   pub data Skeletons : Type 0 where
     none_left : Skeletons
     more : Skeleton → Skeletons → Skeletons
@@ -21,15 +22,18 @@ mutual
 -- the skeleton of a value over the skeletons of its signals: of an AND the safe operands alone, of an OR all
 module _ (net : Network) (leaves : ℕ → Skeleton) where
   abbrev mutual
+    -- the skeleton of a value
     pub skeleton_over : Formula → Skeleton
     skeleton_over (signal s) = leaves s
     skeleton_over (all_of es) = every (safe_skeletons es)
     skeleton_over (any_of es) = some (all_skeletons es)
 
+    -- those of the safe operands alone
     pub safe_skeletons : Formulas → Skeletons
     safe_skeletons no_operand = none_left
     safe_skeletons (operand e es) = if safe net e then more (skeleton_over e) (safe_skeletons es) else safe_skeletons es
 
+    -- those of all operands
     pub all_skeletons : Formulas → Skeletons
     all_skeletons no_operand = none_left
     all_skeletons (operand e es) = more (skeleton_over e) (all_skeletons es)
@@ -57,10 +61,12 @@ abbrev mutual
   holds old new (every ks) = all_hold old new ks
   holds old new (some ks) = some_hold old new ks
 
+  -- every part is TRUE
   pub all_hold : State → State → Skeletons → Bool
   all_hold old new none_left = true
   all_hold old new (more k ks) = holds old new k && all_hold old new ks
 
+  -- at least one part is TRUE
   pub some_hold : State → State → Skeletons → Bool
   some_hold old new none_left = false
   some_hold old new (more k ks) = holds old new k || some_hold old new ks

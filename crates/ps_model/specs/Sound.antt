@@ -2,16 +2,20 @@
 use Rattle.std.specs.Prelude.{◌≡◌, ℕ, true, length, ◌+◌, ◌<◌, ◌≤◌, List, All, AllPairs, count_by, slice_get, Some}
 use Rattle.ps_base.specs.declared.limits.TheConstants.{MOST_INPUTS, MOST_OUTPUTS, MOST_SIGNALS, MOST_INSTANCES, MOST_NODES, MOST_NESTED}
 use Rattle.ps_model.specs.Formula.{Formula}
-use Rattle.ps_model.specs.Action.{Actual, assigns, calls}
+use Rattle.ps_model.specs.Action.{Actual, assigns, calls, FitsTime}
 use Rattle.ps_model.specs.Blocks.{block}
-use Rattle.ps_model.specs.Pins.{SameName}
-use Rattle.ps_model.specs.Network.{Network, names, input_count, declared_count, instance_count, signal_count, kind_at, drives, is_call_of, is_driven}
+use Rattle.ps_base.specs.LetterCase.{SameName}
+use Rattle.ps_model.specs.Network.{Network, names, input_count, declared_count, declared_signals, instance_count, signal_count, kind_at, drives, is_call_of, is_driven}
+use Rattle.ps_model.specs.Named.{AreBoolean}
 use Rattle.ps_model.specs.Values.{values, IsBelow, HasOperands, depth, is_read}
 use Rattle.ps_model.specs.Nodes.{app_nodes}
 
+-- what the front end has found of an application, and every reader of it may rely on
 pub record IsSound (net : Network) : Type 0 where
   -- names differ without letter case
   pub names_differ : AllPairs (λ a b. ¬ (SameName a b)) (names net)
+  -- each declared signal is SAFEBOOL or BOOL
+  pub signals_boolean : AreBoolean (declared_signals net)
   -- the limits
   pub few_inputs : length net.inputs ≤ MOST_INPUTS
   pub few_outputs : length net.outputs ≤ MOST_OUTPUTS
@@ -23,6 +27,8 @@ pub record IsSound (net : Network) : Type 0 where
   -- a called instance is declared, and a call has one argument for each input pin of its kind
   pub instances : (k i : ℕ) (args : List Actual) → slice_get net.steps k ≡ Some (calls i args) → i < instance_count net
   pub arguments : (k i : ℕ) (args : List Actual) → slice_get net.steps k ≡ Some (calls i args) → length args ≡ length (block (kind_at net i)).inputs
+  -- a TIME literal in a call is below 2^32 ms
+  pub times_fit : (k i : ℕ) (args : List Actual) → slice_get net.steps k ≡ Some (calls i args) → All FitsTime args
   -- every signal that a value names exists; AND and OR have two or more operands, and are not nested too deep
   pub values_below : All (IsBelow (signal_count net)) (values net)
   pub values_full : All HasOperands (values net)

@@ -6,15 +6,19 @@ use Rattle.ps_model.specs.Table.{Guard, Row, ◌⇒◌, pin, edge, no, in_state}
 abbrev pub in_ : Guard
 in_ = pin 1
 
+-- S_StartReset
 abbrev pub start : Guard
 start = pin 2
 
+-- S_AutoReset
 abbrev pub auto : Guard
 auto = pin 3
 
+-- Reset
 abbrev pub reset : Guard
 reset = pin 4
 
+-- the states of both kinds
 abbrev pub table : List Row
 table =
     in_state 0x8001 (no start ⇒ 0x8002 ∷ in_ ⇒ 0x8000 ∷ [])

@@ -24,6 +24,7 @@ stored k = to_be_bytes w16 k.code ++ (bit k.last_reset ∷ bit k.last_auxiliary 
 abbrev pub states : Kind → List ℕ
 states kind = 0 ∷ map (λ (r : Row). r.state) (block kind).rows
 
+-- a code is that of a state of the kind
 abbrev pub is_state : Kind → ℕ → Bool
 is_state kind q = list_any (λ x. x == q) (states kind)
 
@@ -37,6 +38,7 @@ abbrev pub is_mode : Kind → ℕ → ℕ → Bool
 is_mode ModeSelector code mode = if list_any (λ x. x == code) mode_states then nat_lt mode 8 else mode == 0
 is_mode _ code mode = mode == 0
 
+-- A kind can keep this: a state of its own, last inputs that it has, a mode of its own, and a timer of 32 bits.
 pub record IsKept (kind : Kind) (k : Kept) : Type 0 where
   pub state : is_state kind k.code ≡ true
   pub last_reset : is_last (block kind).reset (bit k.last_reset) ≡ true
@@ -51,13 +53,15 @@ pub record Loads (kind : Kind) (bytes : List ℕ) (k : Kept) : Type 0 where
 
 -- ---- The same as a reader: what sixteen bytes keep, and None exactly where they load for no state of the kind.
 
--- the number in two and in four bytes at a place
+-- the number in two bytes at a place
 abbrev pub be2 : List ℕ → ℕ → ℕ
 be2 bytes at = from_be_bytes w16 (slice_index bytes at ∷ slice_index bytes (at + 1) ∷ [])
 
+-- the number in four bytes at a place
 abbrev pub be4 : List ℕ → ℕ → ℕ
 be4 bytes at = from_be_bytes w32 (slice_index bytes at ∷ slice_index bytes (at + 1) ∷ slice_index bytes (at + 2) ∷ slice_index bytes (at + 3) ∷ [])
 
+-- what the bytes say, each field at its place
 abbrev pub kept_in : List ℕ → Kept
 kept_in bytes = record {
   code = be2 bytes 0;
@@ -67,6 +71,7 @@ kept_in bytes = record {
   timer = be4 bytes 5;
 }
 
+-- the bytes are those of something that the kind can keep
 abbrev pub does_load : Kind → List ℕ → Bool
 does_load kind bytes =
     is_state kind (be2 bytes 0)
@@ -75,5 +80,6 @@ does_load kind bytes =
     && is_mode kind (be2 bytes 0) (slice_index bytes 4)
     && list_all (λ b. b == 0) (drop 9 bytes)
 
+-- what the bytes keep, where they load
 abbrev pub loaded : Kind → List ℕ → Option Kept
 loaded kind bytes = if does_load kind bytes then Some (kept_in bytes) else None

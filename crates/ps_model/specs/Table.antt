@@ -12,6 +12,7 @@ pub record Conditions : Type 0 where
   pub modes : ℕ
   pub exact : Bool
 
+-- A guard holds of some conditions and not of others.
 abbrev pub Guard : Type 0
 Guard = Conditions → Bool
 
@@ -21,6 +22,7 @@ pub record Rule : Type 0 where
   pub next : ℕ
 
 infix 80 ◌⇒◌
+-- a rule, as the tables write it
 abbrev pub ◌⇒◌ : Guard → ℕ → Rule
 g ⇒ q = record { guard = g; next = q }
 
@@ -30,9 +32,11 @@ pub record Row : Type 0 where
   pub restart : Guard
   pub rules : List Rule
 
+-- the guard that no conditions meet
 abbrev pub never : Guard
 never c = false
 
+-- the guard that all conditions meet
 abbrev pub otherwise : Guard
 otherwise c = true
 
@@ -40,26 +44,33 @@ otherwise c = true
 abbrev pub pin : ℕ → Guard
 pin j c = c.pin j
 
+-- Reset rose
 abbrev pub edge : Guard
 edge c = c.edge
 
+-- Reset is held
 abbrev pub static : Guard
 static c = c.static
 
+-- the auxiliary input rose
 abbrev pub rise : Guard
 rise c = c.rise
 
+-- the limit has elapsed
 abbrev pub elapsed : Guard
 elapsed c = c.elapsed
 
 infixr 90 ◌and◌
 infixr 85 ◌or◌
+-- both hold
 abbrev pub ◌and◌ : Guard → Guard → Guard
 (g and h) c = g c && h c
 
+-- at least one holds
 abbrev pub ◌or◌ : Guard → Guard → Guard
 (g or h) c = g c || h c
 
+-- the guard does not hold
 abbrev pub no : Guard → Guard
 no g c = not (g c)
 

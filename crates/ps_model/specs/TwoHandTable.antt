@@ -2,20 +2,25 @@
 use Rattle.std.specs.Prelude.{List, [], ◌∷◌, ◌++◌}
 use Rattle.ps_model.specs.Table.{Guard, Rule, Row, ◌⇒◌, pin, elapsed, ◌and◌, no, in_state}
 
+-- S_Button1
 abbrev pub b1 : Guard
 b1 = pin 1
 
+-- S_Button2
 abbrev pub b2 : Guard
 b2 = pin 2
 
+-- both buttons are pressed
 abbrev pub both : Guard
 both = b1 and b2
 
+-- both buttons are released
 abbrev pub none : Guard
 none = no b1 and no b2
 
 -- Type II, with further rules before those of 8005 and 8006 and with further rows.
 module _ (late : List Rule) (late_rows : List Row) where
+  -- the states of both kinds, over what type III adds
   abbrev pub rows : List Row
   rows =
       (in_state 0x8001 (both ⇒ 0xC003 ∷ b1 ⇒ 0xC001 ∷ b2 ⇒ 0xC002 ∷ none ⇒ 0x8004 ∷ [])
@@ -32,6 +37,7 @@ module _ (late : List Rule) (late_rows : List Row) where
       ∷ in_state 0x8019 (none ⇒ 0x8004 ∷ [])
       ∷ []) ++ late_rows
 
+-- Type II adds nothing.
 abbrev pub table_two : List Row
 table_two = rows [] []
 

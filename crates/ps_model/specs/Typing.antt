@@ -14,6 +14,7 @@ signal_type net s =
     if nat_lt s (declared_count net) then (slice_index_or (declared_signals net) s no_signal).ty
     else slice_index_or (pin_types net.instances) (s - declared_count net) Plain
 
+-- a type is safe where it is SAFEBOOL
 abbrev pub is_safe_type : Ty → Bool
 is_safe_type Safe = true
 is_safe_type _ = false
@@ -29,10 +30,12 @@ abbrev mutual
   safe net (all_of es) = some_safe net es
   safe net (any_of es) = each_safe net es
 
+  -- at least one operand is safe
   pub some_safe : Network → Formulas → Bool
   some_safe net no_operand = false
   some_safe net (operand e es) = safe net e || some_safe net es
 
+  -- every operand is safe
   pub each_safe : Network → Formulas → Bool
   each_safe net no_operand = true
   each_safe net (operand e es) = safe net e && each_safe net es

@@ -26,6 +26,7 @@ abbrev mutual
   IsBelow n (all_of es) = AreBelow n es
   IsBelow n (any_of es) = AreBelow n es
 
+  -- every signal of each operand is below n
   pub AreBelow : ℕ → Formulas → Type 0
   AreBelow n no_operand = Unit {0}
   AreBelow n (operand e es) = IsBelow n e × AreBelow n es
@@ -42,6 +43,7 @@ abbrev mutual
   HasOperands (all_of es) = (2 ≤ operand_count es) × HaveOperands es
   HasOperands (any_of es) = (2 ≤ operand_count es) × HaveOperands es
 
+  -- every AND and OR of each operand has two or more
   pub HaveOperands : Formulas → Type 0
   HaveOperands no_operand = Unit {0}
   HaveOperands (operand e es) = HasOperands e × HaveOperands es
@@ -53,6 +55,7 @@ abbrev mutual
   depth (all_of es) = deepest es + 1
   depth (any_of es) = deepest es + 1
 
+  -- how deep the deepest operand is
   pub deepest : Formulas → ℕ
   deepest no_operand = 0
   deepest (operand e es) = max (depth e) (deepest es)
@@ -64,6 +67,7 @@ abbrev mutual
   reads s (all_of es) = some_reads s es
   reads s (any_of es) = some_reads s es
 
+  -- whether an operand reads it
   pub some_reads : ℕ → Formulas → Bool
   some_reads s no_operand = false
   some_reads s (operand e es) = reads s e || some_reads s es

@@ -2,7 +2,7 @@
 
 ghost use Rattle.std.specs.Prelude.{◌≡◌, ◌≢◌, IfSome, IfNone, IsTrue, ◌↔◌, ◌≤◌, length};
 ghost use Rattle.ps_model.specs.Blocks.{block, output_count};
-ghost use Rattle.ps_model.specs.Pins.{SameName};
+ghost use Rattle.ps_base.specs.LetterCase.{SameName};
 ghost use Rattle.ps_model.specs.declared.kind.Kind.{Kind};
 
 /// The type of a pin or a signal: SAFEBOOL, BOOL or TIME (PLCopen TC5, IEC 61131-3).

@@ -1,52 +1,61 @@
-// The pin tables of the kinds.
+// What is known of a kind's pins, by their numbers and by their names.
 
 ghost use Rattle.std.specs.Prelude.{◌≡◌, ◌<◌, ℕ, true, false, Some, IfSome, IfNone, slice_get, length};
 ghost use Rattle.ps_model.specs.Blocks.{block};
 ghost use Rattle.ps_model.specs.Pins.{pin_count, pin_names, pin_rows, IsNamed};
 
 use crate::kind::{Kind, Ty};
-use crate::pin_tables;
+use crate::pin_tables::pins;
 
 /// A row of a kind's pin table: the pin's type, whether it is an input, and the value of a free
 /// Boolean input pin.
 #[derive(Clone, Copy, PartialEq, Eq, Debug)]
 pub struct PinRow {
+    /// SAFEBOOL, BOOL or TIME.
     pub ty: Ty,
+    /// Whether a call gives the pin its value; the other pins are outputs.
     pub is_input: bool,
+    /// The value that a Boolean input pin has where a call does not name it; FALSE for the other pins.
     pub free: bool,
 }
 
 impl PinRow {
+    // A SAFEBOOL input, FALSE where it is free.
     pub(crate) const SAFE_INPUT: PinRow = PinRow {
         ty: Ty::Safe,
         is_input: true,
         free: false,
     };
 
+    // A BOOL input, FALSE where it is free.
     pub(crate) const PLAIN_INPUT: PinRow = PinRow {
         ty: Ty::Bool,
         is_input: true,
         free: false,
     };
 
+    // A TIME input.
     pub(crate) const TIME_INPUT: PinRow = PinRow {
         ty: Ty::Time,
         is_input: true,
         free: false,
     };
 
+    // A SAFEBOOL input that is TRUE where it is free.
     pub(crate) const FREE_TRUE: PinRow = PinRow {
         ty: Ty::Safe,
         is_input: true,
         free: true,
     };
 
+    // A safe output.
     pub(crate) const SAFE_OUTPUT: PinRow = PinRow {
         ty: Ty::Safe,
         is_input: false,
         free: false,
     };
 
+    // Ready or Error.
     pub(crate) const PLAIN_OUTPUT: PinRow = PinRow {
         ty: Ty::Bool,
         is_input: false,
@@ -88,52 +97,22 @@ pub fn pin_count(kind: Kind) -> u8
 
 /// The row of pin j of a kind. Pins are numbered from 0: the Boolean input pins, the TIME pin where
 /// there is one, the safe outputs, Ready and Error.
-#[tactic(auto, unfolding(crate::specs::Blocks::block))]
 pub fn pin_row(kind: Kind, j: u8) -> PinRow
     requires { j < pin_count kind }
     ensures { slice_get (pin_rows kind) j ≡ Some result }
 {
-    match kind {
-        Kind::Equivalent => pin_tables::equivalent_row(j),
-        Kind::Antivalent => pin_tables::antivalent_row(j),
-        Kind::EmergencyStop => pin_tables::emergency_stop_row(j),
-        Kind::Espe => pin_tables::espe_row(j),
-        Kind::ModeSelector => pin_tables::mode_selector_row(j),
-        Kind::TwoHandTwo => pin_tables::two_hand_two_row(j),
-        Kind::TwoHandThree => pin_tables::two_hand_three_row(j),
-        Kind::GuardMonitoring => pin_tables::guard_monitoring_row(j),
-        Kind::GuardLocking => pin_tables::guard_locking_row(j),
-        Kind::EnableSwitch => pin_tables::enable_switch_row(j),
-        Kind::SafetyRequest => pin_tables::safety_request_row(j),
-        Kind::OutControl => pin_tables::out_control_row(j),
-        Kind::Edm => pin_tables::edm_row(j),
-    }
+    pins(kind)[j as usize].row
 }
 
 /// The name of pin j of a kind, as PLCopen TC5 spells it.
-#[tactic(auto, unfolding(crate::specs::Blocks::block))]
 pub fn pin_name(kind: Kind, j: u8) -> &'static str
     requires { j < pin_count kind }
     ensures { slice_get (pin_names kind) j ≡ Some result.now }
 {
-    match kind {
-        Kind::Equivalent => pin_tables::equivalent_pin(j),
-        Kind::Antivalent => pin_tables::antivalent_pin(j),
-        Kind::EmergencyStop => pin_tables::emergency_stop_pin(j),
-        Kind::Espe => pin_tables::espe_pin(j),
-        Kind::ModeSelector => pin_tables::mode_selector_pin(j),
-        Kind::TwoHandTwo => pin_tables::two_hand_two_pin(j),
-        Kind::TwoHandThree => pin_tables::two_hand_three_pin(j),
-        Kind::GuardMonitoring => pin_tables::guard_monitoring_pin(j),
-        Kind::GuardLocking => pin_tables::guard_locking_pin(j),
-        Kind::EnableSwitch => pin_tables::enable_switch_pin(j),
-        Kind::SafetyRequest => pin_tables::safety_request_pin(j),
-        Kind::OutControl => pin_tables::out_control_pin(j),
-        Kind::Edm => pin_tables::edm_pin(j),
-    }
+    pins(kind)[j as usize].name
 }
 
-/// Whether pin j of a kind has this name, without letter case.
+// Whether pin j of a kind has this name, without letter case.
 fn has_name(kind: Kind, j: u8, name: &[u8]) -> bool
     requires { j < pin_count kind }
     ensures yes { result ≡ true → IsNamed kind name.now j }

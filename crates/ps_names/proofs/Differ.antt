@@ -11,7 +11,7 @@ use Rattle.std.proofs.lemmas.Slice.Eq.{bytes_eq-Decides}
 use Rattle.ps_lexer.specs.Spelling.{folded}
 use Rattle.ps_base.specs.declared.failing.Rule.TheVariants.{N1}
 use Rattle.ps_model.specs.Network as net
-use Rattle.ps_model.specs.Pins.{SameName}
+use Rattle.ps_base.specs.LetterCase.{SameName}
 use Rattle.ps_parser.specs.Tree.{StatementTree}
 use Rattle.ps_names.specs.declared.entry.Entry.{Entry}
 use Rattle.ps_names.specs.declared.entry.Sort.{Sort}

@@ -9,7 +9,8 @@ use Rattle.ps_lexer.specs.Spelling.{folded}
 use Rattle.ps_model.specs.declared.kind.Kind.{Kind}
 use Rattle.ps_model.specs.declared.kind.Kind.TheVariants.{Equivalent, Antivalent, EmergencyStop, Espe, ModeSelector, TwoHandTwo, TwoHandThree, GuardMonitoring, GuardLocking, EnableSwitch, SafetyRequest, OutControl, Edm}
 use Rattle.ps_model.specs.Blocks.{block}
-use Rattle.ps_model.specs.Pins.{pin_names, pin_count, SameName, IsNamed}
+use Rattle.ps_base.specs.LetterCase.{SameName}
+use Rattle.ps_model.specs.Pins.{pin_names, pin_count, IsNamed}
 use Rattle.ps_parser.specs.declared.name.Name.{Name}
 use Rattle.ps_names.specs.Names.{alike, kinds, kind_called}
 use Rattle.ps_names.specs.Rules.{pin_at}

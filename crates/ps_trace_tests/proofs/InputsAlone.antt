@@ -4,7 +4,7 @@ use Rattle.ps_model.specs.declared.named.Signal.{Signal}
 use Rattle.ps_model.specs.declared.named.Instance.{Instance}
 use Rattle.ps_model.specs.Action.{Action}
 use Rattle.ps_model.specs.Network.{Network, made_of, names}
-use Rattle.ps_model.specs.Pins.{SameName}
+use Rattle.ps_base.specs.LetterCase.{SameName}
 use Rattle.ps_model.specs.Sound.{IsSound}
 use Rattle.ps_trace_tests.specs.Inputs.{three}
 

@@ -1,7 +1,7 @@
 use Rattle.std.proofs.Common.{◌≡◌, arith, ⊎_elim, sym, ◌∙◌, subst}
 use Rattle.std.proofs.lemmas.Bool.{cases_lt, false≢true}
 use Rattle.ps_model.specs.Blocks.{block}
-use Rattle.ps_model.specs.Pins.{SameName}
+use Rattle.ps_base.specs.LetterCase.{SameName}
 use Rattle.ps_model.proofs.KindNumbers.{number_at_least, number_at_most, same_number}
 use Rattle.ps_model.proofs.kind.kind_named.Goals as goal
 

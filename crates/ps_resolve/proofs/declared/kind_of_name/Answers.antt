@@ -1,7 +1,7 @@
 use Rattle.std.proofs.Common.{◌≡◌, ℕ, Option, Some, None, IfSome, IfNone, List, sym, subst}
 use Rattle.ps_model.specs.declared.kind.Kind.{Kind}
 use Rattle.ps_model.specs.Blocks.{block}
-use Rattle.ps_model.specs.Pins.{SameName}
+use Rattle.ps_base.specs.LetterCase.{SameName}
 use Rattle.ps_names.specs.Names.{kind_called}
 use Rattle.ps_names.proofs.Lookups.{kind_found, kind_missing}
 use Rattle.ps_resolve.proofs.declared.kind_of_name.Goals as goal

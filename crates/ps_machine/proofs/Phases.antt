@@ -10,8 +10,9 @@ use Rattle.ps_model.specs.Scanning.{State, Solves, block_in}
 use Rattle.ps_model.specs.Meaning.{Past, nothing, last, old_state, passed, first_state, report}
 use Rattle.ps_machine.specs.Machines.{Machine, turned}
 use Rattle.ps_machine.specs.Keeping.{Passes, Keeps, KeepsExactly}
-use Rattle.ps_machine.specs.Channels.{Channel_state, Own, meets, alone, at_begin, after_turn, new_channel, is_running, ended}
-use Rattle.ps_machine.specs.Phases.{time_of, AtRest, Midway}
+use Rattle.ps_machine.specs.Progressing.{is_running}
+use Rattle.ps_machine.specs.Channels.{Channel_state, Own, begins, makes_turn, closes, restarts, is_remade, meets, alone, ended}
+use Rattle.ps_machine.specs.Phases.{last_time, AtRest, Midway, Phase, IsLawful, lawful_begin, lawful_turn, lawful_close, lawful_restart, lawful_remake}
 
 -- the last of so many turns
 pub turned_next : {X : Type 0} (turn : X → X) (k : ℕ) (x : X) → turned turn (suc k) x ≡ turn (turned turn k x)
@@ -27,6 +28,14 @@ turned_add turn (suc j) k x =
 pub alone_append : (m : Machine) (es fs : List Own) (s : Channel_state) → alone m (es ++ fs) s ≡ alone m fs (alone m es s)
 alone_append m [] fs s = refl
 alone_append m (e ∷ es) fs s = alone_append m es fs (meets m e s)
+
+-- so many turns one after another
+pub turns_alone : (m : Machine) (k : ℕ) (s : Channel_state) →
+    alone m (replicate k makes_turn) s ≡ record { code = s.code; cells = turned (m.turn s.code) k s.cells; turns = s.turns + k }
+turns_alone m zero s = let e : s.turns + zero ≡ s.turns = omega arith in ap (λ n. record { code = s.code; cells = s.cells; turns = n }) (sym e)
+turns_alone m (suc k) s =
+    let e : (s.turns + 1) + k ≡ s.turns + suc k = omega arith in
+    turns_alone m k (meets m makes_turn s) ∙ ap (λ n. record { code = s.code; cells = turned (m.turn s.code) (suc k) s.cells; turns = n }) e
 
 -- a machine whose scans all take the budget keeps the meaning
 pub exactly_keeps : (net : Network) (m : Machine) (Stands : State → ℕ → List ℕ → Type 0) → KeepsExactly net m Stands → Keeps net m Stands
@@ -44,20 +53,20 @@ first_idle net i =
       | inr high ↦ ap (λ (b : Block_state). b.code) (get_or_past (replicate (instance_count net) idle) i idle (omega (arith, length-replicate (instance_count net) idle)))
     ]
 
-pub passes_since : (net : Network) (past : Past) (now : ℕ) → Passes (old_state net past) (time_of past) now (passed past now)
+pub passes_since : (net : Network) (past : Past) (now : ℕ) → Passes (old_state net past) (last_time past) now (passed past now)
 passes_since net nothing now i busy = absurd (busy (first_idle net i))
 passes_since net (last before w) now i busy = refl
 
 module _ (net : Network) (m : Machine) (Stands : State → ℕ → List ℕ → Type 0) where
   pub begins_midway : Keeps net m Stands → (latest : ℕ) (s : Channel_state) (past : Past) (new : State) (ins : List Bool) (now : ℕ) →
       AtRest net m Stands latest s past → latest ≤ now → now < 2 ^ 32 → length ins ≡ input_count net →
-      Solves net (old_state net past) ins (passed past now) new → Midway net m Stands now (at_begin m now ins s) (last now new)
+      Solves net (old_state net past) ins (passed past now) new → Midway net m Stands now (meets m (begins now ins) s) (last now new)
   begins_midway keeps latest s past new ins now rest later small count solves =
       let e = rest.early in
       record {
         code = rest.code;
         from = m.begin now ins s.cells;
-        runs = keeps.scan (old_state net past) new ins (time_of past) now (passed past now) s.cells (omega arith) small count (passes_since net past now) rest.stands solves;
+        runs = keeps.scan (old_state net past) new ins (last_time past) now (passed past now) s.cells (omega arith) small count (passes_since net past now) rest.stands solves;
         at = refl;
         count = omega arith;
         early = omega arith;
@@ -91,7 +100,7 @@ module _ (net : Network) (m : Machine) (Stands : State → ℕ → List ℕ → 
         | inr high ↦ omega (arith, mid.count)
       ]
 
-  pub turn_goes_on : (latest : ℕ) (s : Channel_state) (past : Past) → Midway net m Stands latest s past → ended m s ≡ false → Midway net m Stands latest (after_turn m s) past
+  pub turn_goes_on : (latest : ℕ) (s : Channel_state) (past : Past) → Midway net m Stands latest s past → ended m s ≡ false → Midway net m Stands latest (meets m makes_turn s) past
   turn_goes_on latest s past mid h =
       let low = turns_left latest s past mid h in
       let one : s.turns + 1 ≡ suc s.turns = omega arith in
@@ -115,16 +124,29 @@ module _ (net : Network) (m : Machine) (Stands : State → ℕ → List ℕ → 
       let all = all_turns latest s past mid h in
       let at : s.cells ≡ turned (m.turn m.image) mid.runs.turns mid.from = mid.at ∙ ap (λ k. turned (m.turn m.image) k mid.from) all in
       record {
-        rest = record { code = mid.code; stands = subst (Stands (old_state net past) (time_of past)) (sym at) mid.runs.runs.stands; early = mid.early };
+        rest = record { code = mid.code; stands = subst (Stands (old_state net past) (last_time past)) (sym at) mid.runs.runs.stands; early = mid.early };
         done = ap m.progress at ∙ mid.runs.runs.done;
         reports = ap m.report at ∙ mid.runs.runs.reports;
       }
 
-  -- a channel at its start, or after a restart, is at rest
-  pub starts_at_rest : Keeps net m Stands → (latest : ℕ) → AtRest net m Stands latest (new_channel m) nothing
-  starts_at_rest keeps latest = record { code = refl; stands = keeps.blank; early = omega arith }
+  -- a scan that has ended leaves the channel at rest as it closes
+  pub closes_at_rest : (latest : ℕ) (s : Channel_state) (past : Past) → Midway net m Stands latest s past → ended m s ≡ true → AtRest net m Stands latest (meets m closes s) past
+  closes_at_rest latest s past mid h = (scan_over latest s past mid h).rest
 
-  -- so is one that was given cells that stand for the state of the last scan
-  pub made_at_rest : (latest turns : ℕ) (past : Past) (cells : List ℕ) → Stands (old_state net past) (time_of past) cells → time_of past ≤ latest →
-      AtRest net m Stands latest (record { code = m.image; cells = cells; turns = turns }) past
-  made_at_rest latest turns past cells stands early = record { code = refl; stands = stands; early = early }
+  -- a channel at its start, or after a restart, is at rest
+  pub restarts_at_rest : Keeps net m Stands → (latest : ℕ) (s : Channel_state) → AtRest net m Stands latest (meets m restarts s) nothing
+  restarts_at_rest keeps latest s = record { code = refl; stands = keeps.blank; early = omega arith }
+
+  -- so is one that was given cells that stand for the state of the last scan, wherever it stood
+  pub remade_at_rest : (latest : ℕ) (s : Channel_state) (past : Past) (cells : List ℕ) → Stands (old_state net past) (last_time past) cells → last_time past ≤ latest →
+      AtRest net m Stands latest (meets m (is_remade cells) s) past
+  remade_at_rest latest s past cells stands early = record { code = refl; stands = stands; early = early }
+
+  -- each lawful event of its own takes a channel from one phase to the next
+  pub next_phase : Keeps net m Stands → (s : Channel_state) (begun : Bool) (latest : ℕ) (past : Past) (e : Own) (begun_then : Bool) (latest_then : ℕ) (past_then : Past) →
+      IsLawful net m Stands s begun latest past e begun_then latest_then past_then → Phase net m Stands latest begun s past → Phase net m Stands latest_then begun_then (meets m e s) past_then
+  next_phase keeps s _ latest past _ _ _ _ (lawful_begin now ins new later small count solves) phase = begins_midway keeps latest s past new ins now phase later small count solves
+  next_phase keeps s _ latest past _ _ _ _ (lawful_turn more) phase = turn_goes_on latest s past phase more
+  next_phase keeps s _ latest past _ _ _ _ (lawful_close over) phase = closes_at_rest latest s past phase over
+  next_phase keeps s _ latest past _ _ _ _ lawful_restart phase = restarts_at_rest keeps latest s
+  next_phase keeps s _ latest past _ _ _ _ (lawful_remake cells stands) phase = remade_at_rest latest s past cells stands phase.early

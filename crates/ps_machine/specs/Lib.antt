@@ -1,6 +1,7 @@
 pub mod Bytes
 pub mod Progressing
 pub mod Machines
+pub mod StoredChannel
 pub mod Keeping
 pub mod Standing
 pub mod Reporting

@@ -1,6 +1,21 @@
-// What the machines of all channels have in common: bytes at places, progress, and what it is that a machine keeps an application's meaning.
+//! What the machines of all channels have in common. A machine runs compiled code over cells, in turns;
+//! here stands what it is that a machine keeps an application's meaning, for any number of machines.
+//!
+//! - `machine`: the trait of a machine, over which worlds of channels are written.
+//! - `image`: compiled code.
+//! - `bytes`: bytes at places of a region, and what a progress byte says.
+//! - `calls`: what a call of a block becomes in code, for the channels that look it up in the tables.
+//! - `laws`: what is read after bytes were replaced.
+//!
+//! In specs/ a reader finds a machine (Machines), its channel as callers see it (StoredChannel), its own events
+//! (Channels), and the promise of a compiler (Keeping).
 #![tactic(auto)]
 
 pub mod bytes;
 pub mod calls;
+pub mod image;
 pub mod laws;
+pub mod machine;
+
+pub use image::CodeImage;
+pub use machine::ScanMachine;

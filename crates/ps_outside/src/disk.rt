@@ -1,10 +1,12 @@
 // The files of the system, and an output of the system: the edge that is trusted. They tell no bytes.
 
-ghost use Rattle.std.specs.Prelude.{◌≡◌, ◌≤◌, false, [], None, length, IfOk};
+ghost use Rattle.std.specs.Prelude.{◌≡◌, ◌≤◌, ◌<◌, ◌+◌, false, [], None, ℕ, List, length, min, IsErr, IfOk, OnOk, OnErr};
+ghost use Rattle.std.specs.Io.KnownBytes.{Keeps, WriteAppends};
+ghost use Rattle.ps_outside.specs.Outside.{Rose, last_count};
 
 use crate::{Failed, Files, Sink};
 use std::fs::File;
-use std::io::{Read, Seek, SeekFrom, Write};
+use std::io::{ErrorKind, Read, Seek, SeekFrom, Write};
 use std::marker::Model;
 use std::{io, rt};
 
@@ -42,17 +44,19 @@ impl<'a, R: rt::Files> Files for DiskFiles<'a, R> {
 
     ghost faults = { λ count _. count };
 
-    fn read_at(&mut self, name: &str, at: u64, buf: &mut [u8]) -> Result<usize, Failed> {
-        match read_disk(self.system, name, at, buf) {
-            Ok(n) => Ok(n),
-            Err(_) => {
-                self.faults = self.faults.saturating_add(1);
-                Err(Failed)
-            }
-        }
+    // Answers what the system does. The count rises by one at each failure, and at no other read.
+    fn read_at(&mut self, name: &str, at: u64, buf: &mut [u8]) -> Result<usize, Failed>
+        ensures fits { IfOk result (λ n. n ≤ length buf.new) }
+        ensures failed { OnErr result (Rose self.old self.new) }
+        ensures rises { OnErr result (self.new ≡ min (self.old + 1) last_count) }
+        ensures uncounted { OnOk result (self.new ≡ self.old) }
+        ensures counts { self.old ≤ self.new }
+    {
+        counted(read_disk(self.system, name, at, buf), &mut self.faults)
     }
 }
 
+// Reads bytes of a file of the system, from an offset on, by one read.
 fn read_disk<R: rt::Files>(system: &R, name: &str, at: u64, buf: &mut [u8]) -> io::Result<usize>
     ensures { IfOk result (λ n. n ≤ length buf.new) }
 {
@@ -61,10 +65,10 @@ fn read_disk<R: rt::Files>(system: &R, name: &str, at: u64, buf: &mut [u8]) -> i
     file.read(buf)
 }
 
-/// An output of the system. It never tells its bytes.
+/// An output of the system, over a writer. It never tells its bytes.
 ///
-/// Contracts see of it the count of the writes that failed. A write that takes nothing of a piece that is not empty
-/// counts as such a failure.
+/// Contracts see of it the writer, and the count of the writes and flushes that failed. A write that takes nothing of
+/// a piece that is not empty counts as such a failure.
 #[derive(Drop)]
 pub struct StdSink<W: Write + Drop> {
     out: W,
@@ -72,19 +76,29 @@ pub struct StdSink<W: Write + Drop> {
 }
 
 impl<W: Write + Drop> Model for StdSink<W> {
-    ghost use Rattle.std.specs.Prelude.{ℕ};
+    ghost use Rattle.ps_outside.specs.Output.{Output};
 
-    ghost Value = { ℕ };
+    ghost Value = { Output W };
 
-    ghost view = { λ sink. sink.faults };
+    ghost view = { λ sink. record { writer = sink.out; faults = sink.faults } };
 }
 
 impl<W: Write + Drop> StdSink<W> {
-    /// A sink over this output, of which no write has failed. It takes no memory.
+    /// A sink over this writer, of which no write has failed. It takes no memory.
     pub fn new(out: W) -> StdSink<W>
-        ensures { result ≡ 0 }
+        ensures { result ≡ record { writer = out; faults = 0 } }
     {
         StdSink { out, faults: 0 }
+    }
+
+    /// Hands on what the writer still holds back, by a flush. One that fails counts as a write that failed.
+    pub fn finish(&mut self) -> Result<(), Failed>
+        ensures kept { Keeps (W.contents self.old.writer) (W.contents self.new.writer) }
+        ensures failed { OnErr result (Rose self.old.faults self.new.faults) }
+        ensures rises { OnErr result (self.new.faults ≡ min (self.old.faults + 1) last_count) }
+        ensures uncounted { OnOk result (self.new.faults ≡ self.old.faults) }
+    {
+        counted(self.out.flush(), &mut self.faults)
     }
 }
 
@@ -93,15 +107,41 @@ impl<W: Write + Drop> Sink for StdSink<W> {
 
     ghost taken = { λ _. [] };
 
-    ghost faults = { λ count. count };
+    ghost faults = { λ output. output.faults };
 
-    fn write(&mut self, piece: &[u8]) -> Result<usize, Failed> {
-        match self.out.write(piece) {
-            Ok(n) if n > 0 || piece.is_empty() => Ok(n),
-            _ => {
-                self.faults = self.faults.saturating_add(1);
-                Err(Failed)
-            }
+    // Answers what the writer does: it took just the bytes that are said, and none where the write failed. The count
+    // rises by one at each failure, and at no other write.
+    fn write(&mut self, piece: &[u8]) -> Result<usize, Failed>
+        ensures took { WriteAppends (W.contents self.old.writer) (W.contents self.new.writer) result piece.now }
+        ensures some { 0 < length piece.now → IfOk result (λ n. 0 < n) }
+        ensures fits { IfOk result (λ n. n ≤ length piece.now) }
+        ensures failed { OnErr result (Rose self.old.faults self.new.faults) }
+        ensures rises { OnErr result (self.new.faults ≡ min (self.old.faults + 1) last_count) }
+        ensures uncounted { OnOk result (self.new.faults ≡ self.old.faults) }
+        ensures counts { self.old.faults ≤ self.new.faults }
+    {
+        let answer = match self.out.write(piece) {
+            Ok(0) if !piece.is_empty() => Err(ErrorKind::WriteZero.into()),
+            answer => answer,
+        };
+        counted(answer, &mut self.faults)
+    }
+}
+
+// What an adapter answers where the system answers this: the same value, or a failure, which raises the count.
+fn counted<T>(answer: io::Result<T>, faults: &mut u64) -> Result<T, Failed>
+    ensures same { IfOk answer (λ value. result ≡ Ok value) }
+    ensures uncounted { OnOk answer (faults.new ≡ faults.old) }
+    ensures failed { OnErr answer (IsErr result) }
+    ensures rises { OnErr answer (faults.new ≡ min (faults.old + 1) last_count) }
+    ensures rose { OnErr answer (Rose faults.old faults.new) }
+    ensures counts { faults.old ≤ faults.new }
+{
+    match answer {
+        Ok(value) => Ok(value),
+        Err(_) => {
+            *faults = faults.saturating_add(1);
+            Err(Failed)
         }
     }
 }

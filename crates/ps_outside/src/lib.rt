@@ -1,4 +1,8 @@
 //! The outside world: files that are read by name, and an output that takes bytes.
+//!
+//! `files` and `sink` have the two traits and what every implementation of them promises; `reading` reads a file whole
+//! and `write_all` a piece. `mem_files` and `mem_sink` stand in memory, with failures that are chosen beforehand, and
+//! `disk` is the thin edge over the system's files and a writer of the standard library.
 #![tactic(auto)]
 
 mod disk;

@@ -70,24 +70,24 @@ record IsFixed (kind : Kind) : Type 0 where
   none : are_boolean (block kind).inputs ≡ true
   own : (block kind).fixed_limit ≤ 500
 
-limited : (kind : Kind) → IsLimited kind ⊎ IsFixed kind
+limit_form : (kind : Kind) → IsLimited kind ⊎ IsFixed kind
 unfolding block are_boolean is_one_time
-limited Equivalent = inl (record { one = refl; own = refl })
-limited Antivalent = inl (record { one = refl; own = refl })
-limited EmergencyStop = inl (record { one = refl; own = refl })
-limited Espe = inl (record { one = refl; own = refl })
-limited ModeSelector = inl (record { one = refl; own = refl })
-limited TwoHandTwo = inl (record { one = refl; own = refl })
-limited TwoHandThree = inr (record { none = refl; own = omega arith })
-limited GuardMonitoring = inl (record { one = refl; own = refl })
-limited GuardLocking = inl (record { one = refl; own = refl })
-limited EnableSwitch = inl (record { one = refl; own = refl })
-limited SafetyRequest = inl (record { one = refl; own = refl })
-limited OutControl = inl (record { one = refl; own = refl })
-limited Edm = inl (record { one = refl; own = refl })
+limit_form Equivalent = inl (record { one = refl; own = refl })
+limit_form Antivalent = inl (record { one = refl; own = refl })
+limit_form EmergencyStop = inl (record { one = refl; own = refl })
+limit_form Espe = inl (record { one = refl; own = refl })
+limit_form ModeSelector = inl (record { one = refl; own = refl })
+limit_form TwoHandTwo = inl (record { one = refl; own = refl })
+limit_form TwoHandThree = inr (record { none = refl; own = omega arith })
+limit_form GuardMonitoring = inl (record { one = refl; own = refl })
+limit_form GuardLocking = inl (record { one = refl; own = refl })
+limit_form EnableSwitch = inl (record { one = refl; own = refl })
+limit_form SafetyRequest = inl (record { one = refl; own = refl })
+limit_form OutControl = inl (record { one = refl; own = refl })
+limit_form Edm = inl (record { one = refl; own = refl })
 
 fitting_limit : (kind : Kind) (args : List Actual) → All FitsTime args → limit_of kind args < 2 ^ 32
-fitting_limit kind args fit = elim (limited kind) [
+fitting_limit kind args fit = elim (limit_form kind) [
   | inl l ↦ omega (arith, l.own, times_small (block kind).inputs args l.one fit)
   | inr f ↦ omega (arith, f.own, no_times (block kind).inputs args f.none)
 ]

@@ -84,12 +84,12 @@ module _ {X : Type 0} (p : ℕ → X → Bool) where
 
 -- each step drives a signal, and each signal has at most one driver: there are no more steps than signals
 pub few_steps : (net : Network) → IsSound net → length net.steps ≤ signal_count net
-few_steps net sound = few_elements (drives net) (signal_count net) net.steps sound.one_driver driven
+few_steps net sound = few_elements (drives net) (signal_count net) net.steps sound.one_driver step_drives
   where
-    driven : (k : ℕ) (a : Action) → slice_get net.steps k ≡ Some a → (s : ℕ) × (s < signal_count net) × (drives net s a ≡ true)
-    driven k (assigns t e) at =
+    step_drives : (k : ℕ) (a : Action) → slice_get net.steps k ≡ Some a → (s : ℕ) × (s < signal_count net) × (drives net s a ≡ true)
+    step_drives k (assigns t e) at =
         let range = sound.targets k t e at in (t, omega arith, eq-eqb t t refl)
-    driven k (calls i args) at =
+    step_drives k (calls i args) at =
         let bound = first_pin-bound net i (sound.instances k i args at) in
         let two = two_outputs (kind_at net i) in (
           first_pin net i,

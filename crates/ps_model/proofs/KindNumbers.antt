@@ -41,21 +41,21 @@ number_at_most SafetyRequest = lit≤ tt
 number_at_most OutControl = lit≤ tt
 number_at_most Edm = lit≤ tt
 
-placed : (k : Kind) → slice_get kinds ((block k).number - 1) ≡ Some k
+kind_at_number : (k : Kind) → slice_get kinds ((block k).number - 1) ≡ Some k
 unfolding block kinds
-placed Equivalent = refl
-placed Antivalent = refl
-placed EmergencyStop = refl
-placed Espe = refl
-placed ModeSelector = refl
-placed TwoHandTwo = refl
-placed TwoHandThree = refl
-placed GuardMonitoring = refl
-placed GuardLocking = refl
-placed EnableSwitch = refl
-placed SafetyRequest = refl
-placed OutControl = refl
-placed Edm = refl
+kind_at_number Equivalent = refl
+kind_at_number Antivalent = refl
+kind_at_number EmergencyStop = refl
+kind_at_number Espe = refl
+kind_at_number ModeSelector = refl
+kind_at_number TwoHandTwo = refl
+kind_at_number TwoHandThree = refl
+kind_at_number GuardMonitoring = refl
+kind_at_number GuardLocking = refl
+kind_at_number EnableSwitch = refl
+kind_at_number SafetyRequest = refl
+kind_at_number OutControl = refl
+kind_at_number Edm = refl
 
 pub same_number : (a b : Kind) → (block a).number ≡ (block b).number → a ≡ b
-same_number a b h = same_Some a b (sym (placed a) ∙ ap (λ n. slice_get kinds (n - 1)) h ∙ placed b)
+same_number a b h = same_Some a b (sym (kind_at_number a) ∙ ap (λ n. slice_get kinds (n - 1)) h ∙ kind_at_number b)

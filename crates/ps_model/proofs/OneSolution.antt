@@ -163,8 +163,8 @@ module _ (net : Network) (sound : IsSound net) where
         ∙ cond-true (is_call_of net i (calls i args)) (called_state net dt i args (before k)) ((before k).blocks i) (is_call_itself i args)
 
     -- an instance has its old state up to its call
-    uncalled : (k i : ℕ) (args : List Actual) → slice_get net.steps k ≡ Some (calls i args) → (before k).blocks i ≡ block_in old i
-    uncalled k i args at =
+    old_until_call : (k i : ℕ) (args : List Actual) → slice_get net.steps k ≡ Some (calls i args) → (before k).blocks i ≡ block_in old i
+    old_until_call k i args at =
         let inside = sound.instances k i args at in
         block_stays net dt (take k net.steps) start i
         (alone_before (is_call_of net i) net.steps (one_call i inside) k (calls i args) at (is_call_itself i args))
@@ -204,7 +204,7 @@ module _ (net : Network) (sound : IsSound net) where
         ≡ called_state net dt i args (before k)
     same_step new k i args at agrees =
         ap (λ v. moved (kind_at net i) (limit_of (kind_at net i) args) (pins_under v (kind_at net i) args) dt (block_in old i)) (λ x s. agrees s x)
-        ∙ ap (λ b. moved (kind_at net i) (limit_of (kind_at net i) args) (pins_under (before k).signals (kind_at net i) args) dt b) (sym (uncalled k i args at))
+        ∙ ap (λ b. moved (kind_at net i) (limit_of (kind_at net i) args) (pins_under (before k).signals (kind_at net i) args) dt b) (sym (old_until_call k i args at))
 
     -- ---- the solution
     abbrev pub value_at_end : ℕ → Bool

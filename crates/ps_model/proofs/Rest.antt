@@ -17,13 +17,13 @@ pub set_after : (before : List Node) (r q : Node) (more : List Node) → slice_s
 set_after [] r q more = refl
 set_after (b ∷ before) r q more = ap (λ z. b ∷ z) (set_after before r q more)
 
--- a node's row gets its size once those below it are written
-pub sized : (rows before : List Node) (r : Node) (shape : Shape) (depth : ℕ) (below : List Node) (all : List Formula) (at size : ℕ) →
-    AreListed below all → rows ++ [] ≡ before ++ r ∷ below → at ≡ length before → size ≡ length rows - at →
-    slice_set rows at (record { shape = shape; size = size; depth = depth }) ≡ before ++ record { shape = shape; size = suc (length all); depth = depth } ∷ below
-sized rows before r shape depth below all at size are e here is =
-    let whole : rows ≡ before ++ r ∷ below = sym (append-nil rows) ∙ e in
-    let long : length rows ≡ length before + suc (length below) = ap length whole ∙ length-append before (r ∷ below) in
+-- a node's entry gets its size once those below it are written
+pub node_gets_size : (list before : List Node) (r : Node) (shape : Shape) (depth : ℕ) (below : List Node) (all : List Formula) (at size : ℕ) →
+    AreListed below all → list ++ [] ≡ before ++ r ∷ below → at ≡ length before → size ≡ length list - at →
+    slice_set list at (record { shape = shape; size = size; depth = depth }) ≡ before ++ record { shape = shape; size = suc (length all); depth = depth } ∷ below
+node_gets_size list before r shape depth below all at size are e here is =
+    let whole : list ≡ before ++ r ∷ below = sym (append-nil list) ∙ e in
+    let long : length list ≡ length before + suc (length below) = ap length whole ∙ length-append before (r ∷ below) in
     let each : length below ≡ length all = one_each below all are in
     let count : size ≡ suc (length all) = omega arith in
     ap (λ z. slice_set z at (record { shape = shape; size = size; depth = depth })) whole

@@ -25,24 +25,24 @@ at_each p (x ∷ xs) q h s =
 leads_on : Kind → Row → Bool
 leads_on kind r = list_all (λ (x : Rule). is_state kind x.next) r.rules
 
-closed : Kind → Bool
-closed kind = is_state kind (block kind).first && list_all (leads_on kind) (block kind).rows
+leads_to_states : Kind → Bool
+leads_to_states kind = is_state kind (block kind).first && list_all (leads_on kind) (block kind).rows
 
-is_closed : (kind : Kind) → closed kind ≡ true
-unfolding block closed leads_on
-is_closed Equivalent = refl
-is_closed Antivalent = refl
-is_closed EmergencyStop = refl
-is_closed Espe = refl
-is_closed ModeSelector = refl
-is_closed TwoHandTwo = refl
-is_closed TwoHandThree = refl
-is_closed GuardMonitoring = refl
-is_closed GuardLocking = refl
-is_closed EnableSwitch = refl
-is_closed SafetyRequest = refl
-is_closed OutControl = refl
-is_closed Edm = refl
+rules_lead_to_states : (kind : Kind) → leads_to_states kind ≡ true
+unfolding block leads_to_states leads_on
+rules_lead_to_states Equivalent = refl
+rules_lead_to_states Antivalent = refl
+rules_lead_to_states EmergencyStop = refl
+rules_lead_to_states Espe = refl
+rules_lead_to_states ModeSelector = refl
+rules_lead_to_states TwoHandTwo = refl
+rules_lead_to_states TwoHandThree = refl
+rules_lead_to_states GuardMonitoring = refl
+rules_lead_to_states GuardLocking = refl
+rules_lead_to_states EnableSwitch = refl
+rules_lead_to_states SafetyRequest = refl
+rules_lead_to_states OutControl = refl
+rules_lead_to_states Edm = refl
 
 all_short : (kind : Kind) → list_all (λ x. nat_lt x 65536) (states kind) ≡ true
 unfolding block
@@ -79,9 +79,9 @@ row_leads kind (r ∷ rows) q h =
     (λ n. ap (leads_on kind) (cond-false (r.state == q) r (row_at rows q) n) ∙ row_leads kind rows q both.1) (cases_Bool (r.state == q))
 
 pub next_is_state : (kind : Kind) (q : ℕ) (c : Conditions) → is_state kind q ≡ true → is_state kind (next kind q c) ≡ true
-unfolding next closed leads_on
+unfolding next leads_to_states leads_on
 next_is_state kind q c h =
-    let both = and_parts (is_state kind (block kind).first) (list_all (leads_on kind) (block kind).rows) (is_closed kind) in
+    let both = and_parts (is_state kind (block kind).first) (list_all (leads_on kind) (block kind).rows) (rules_lead_to_states kind) in
     let by_table = decided_is (is_state kind) (row_at (block kind).rows q).rules q c h (row_leads kind (block kind).rows q both.1) in
     let d = decided q (row_at (block kind).rows q).rules c in
     ⊎_elim (λ y. ap (is_state kind) (cond-true (not (c.pin 0)) 0 (cond (q == 0) (block kind).first d) y))
@@ -181,10 +181,10 @@ step_kept kind pins elapsed anew running k h a r =
     }
 
 -- ---- bytes that are read are those that are stored
-sixteen : (xs : List ℕ) → length xs ≡ 16 →
+as_sixteen : (xs : List ℕ) → length xs ≡ 16 →
     xs ≡ get_or xs 0 0 ∷ get_or xs 1 0 ∷ get_or xs 2 0 ∷ get_or xs 3 0 ∷ get_or xs 4 0 ∷ get_or xs 5 0 ∷ get_or xs 6 0 ∷ get_or xs 7 0
     ∷ get_or xs 8 0 ∷ get_or xs 9 0 ∷ get_or xs 10 0 ∷ get_or xs 11 0 ∷ get_or xs 12 0 ∷ get_or xs 13 0 ∷ get_or xs 14 0 ∷ get_or xs 15 0 ∷ []
-sixteen xs h = fill_by_all (λ k. get_or xs k 0) xs 16 0 h (λ k _. refl)
+as_sixteen xs h = fill_by_all (λ k. get_or xs k 0) xs 16 0 h (λ k _. refl)
 
 pub flag : (n : ℕ) → n ≤ 1 → bit (n == 1) ≡ n
 flag zero h = refl
@@ -212,7 +212,7 @@ module _ (xs : List ℕ) (k : Kept) (long : length xs ≡ 16) (bytes : (i : ℕ)
       let codes = be_bytes_2 (get_or xs 0 0 ∷ get_or xs 1 0 ∷ []) k.code refl (two_below _ _ (bytes 0) (bytes 1)) code in
       let times = be_bytes_4 (get_or xs 5 0 ∷ get_or xs 6 0 ∷ get_or xs 7 0 ∷ get_or xs 8 0 ∷ []) k.timer refl (four_below _ _ _ _ (bytes 5) (bytes 6) (bytes 7) (bytes 8)) timer in
       (λ i. codes i ++ (reset i ∷ auxiliary i ∷ mode i ∷ (times i ++ (z9 i ∷ z10 i ∷ z11 i ∷ z12 i ∷ z13 i ∷ z14 i ∷ z15 i ∷ []))))
-      ∙ sym (sixteen xs long)
+      ∙ sym (as_sixteen xs long)
 
 -- what is loaded is what some kind keeps
 small_last : (o : Option ℕ) (n : ℕ) → is_last o n ≡ true → n ≤ 1
@@ -241,7 +241,7 @@ module _ (kind : Kind) (xs : List ℕ) (long : length xs ≡ 16) (bytes : (i : �
       let b = and_parts _ _ a.0 in
       let c = and_parts _ _ b.0 in
       let d = and_parts _ _ c.0 in
-      let z = zeros_of _ _ _ _ _ _ _ (sym (ap (λ ys. list_all (λ x. x == 0) (drop 9 ys)) (sixteen xs long)) ∙ a.1) in
+      let z = zeros_of _ _ _ _ _ _ _ (sym (ap (λ ys. list_all (λ x. x == 0) (drop 9 ys)) (as_sixteen xs long)) ∙ a.1) in
       let reset = flag (get_or xs 2 0) (small_last (block kind).reset (get_or xs 2 0) d.1) in
       let auxiliary = flag (get_or xs 3 0) (small_last (block kind).auxiliary (get_or xs 3 0) c.1) in
       record {

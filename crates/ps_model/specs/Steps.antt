@@ -12,6 +12,6 @@ abbrev pub action : Step → Action
 action (Assign target value) = assigns target (formula value)
 action (Call instance args) = calls instance args
 
--- the rows that are kept beside these steps are those of their nodes
+-- the list that is kept beside these steps is that of their nodes
 abbrev pub KeepsNodes : List Action → List Node → Type 0
-KeepsNodes steps rows = rows ≡ listed_of_steps steps
+KeepsNodes steps list = list ≡ listed_of_steps steps

@@ -142,7 +142,7 @@ impl App {
         self.steps.nodes().len() as u32
     }
 
-    /// The rows of the expression nodes, in the order of steps and pins, each before its operands.
+    /// The list of the expression nodes, in the order of steps and pins, each before its operands.
     pub fn nodes(&self) -> &[Node]
         ensures { result.now ≡ node_list self.now }
     {

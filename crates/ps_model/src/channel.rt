@@ -2,43 +2,56 @@
 
 use ps_base::Bytes;
 
-/// A channel of the world of two: A runs stack code, B runs equation code.
+/// A channel of the world of two.
 #[derive(Clone, Copy, Debug, PartialEq, Eq)]
 pub enum Channel {
+    /// Stack code.
     A,
+    /// Equation code.
     B,
 }
 
 /// A region of a channel's bytes.
 #[derive(Clone, Copy, Debug, PartialEq, Eq)]
 pub enum Region {
+    /// The code image.
     Code,
+    /// The memory cells.
     Cells,
 }
 
-/// Why a scan is tripped: the first field of the report in which the channels differ; a channel that
-/// did not end within its budget; a channel's trap with its number; a channel whose cells hold no report.
+/// Why a scan is tripped.
 #[derive(Clone, Copy, Debug, PartialEq, Eq)]
 pub enum Cause {
+    /// The reports differ, first in the field of this number.
     Differ(u16),
+    /// A channel did not end within its budget.
     Stuck(Channel),
+    /// A channel was trapped, with the trap's number.
     Trap(Channel, u8),
+    /// The cells of a channel hold no report.
     NoReport(Channel),
 }
 
-/// The answer of a comparison: the report is released, the world is tripped now, or it was tripped before.
+/// The answer of a comparison.
 #[derive(Clone, Copy, Debug, PartialEq, Eq)]
 pub enum Verdict {
+    /// The report is released.
     Released,
+    /// The world is tripped by this comparison.
     Tripped(Cause),
+    /// The world was tripped before.
     Down,
 }
 
-/// Where a channel stands in a scan: it runs, it is done, or a trap with this number ended it.
+/// Where a channel stands in a scan.
 #[derive(Clone, Copy, Debug, PartialEq, Eq)]
 pub enum Progress {
+    /// It runs.
     Running,
+    /// It is done.
     Done,
+    /// A trap with this number ended it.
     Trapped(u8),
 }
 
@@ -49,20 +62,29 @@ pub struct OutOfRegion;
 /// The lengths of the code and the cells of both channels, in bytes.
 #[derive(Clone, Copy, Debug, PartialEq, Eq)]
 pub struct ImageSizes {
+    /// Of channel A's code.
     pub a_code: u32,
+    /// Of channel A's cells.
     pub a_cells: u32,
+    /// Of channel B's code.
     pub b_code: u32,
+    /// Of channel B's cells.
     pub b_cells: u32,
 }
 
-/// A line of a fault file: in this scan, counted from 1, before this turn, the bytes from `at` on
-/// of this region are replaced by these. Turn 0 means before the scan begins.
+/// A line of a fault file: at one moment of a run some bytes of a channel are replaced.
 #[derive(Drop, Debug)]
 pub struct Fault {
+    /// In this scan, counted from 1.
     pub scan: u32,
+    /// Before this turn of the scan; 0 means before the scan begins.
     pub turn: u32,
+    /// In this channel.
     pub channel: Channel,
+    /// In this region of it.
     pub region: Region,
+    /// From this byte on, counted from 0.
     pub at: u32,
+    /// What stands there then.
     pub bytes: Bytes,
 }

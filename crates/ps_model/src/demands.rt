@@ -6,10 +6,12 @@ ghost use Rattle.ps_model.specs.Demand.{demand};
 
 use crate::kind::Kind;
 
-/// A part of a demand formula: the input pin of this number is TRUE, or it is FALSE.
+/// A part of a demand formula, which speaks of an input pin by its number.
 #[derive(Clone, Copy, PartialEq, Eq, Debug)]
 pub enum Need {
+    /// The input pin is TRUE.
     On(u8),
+    /// The input pin is FALSE.
     Off(u8),
 }
 

@@ -11,8 +11,11 @@ use std::alloc::Global;
 #[derive(Drop)]
 #[cycle(expr)]
 pub enum Expr {
+    /// A signal, by its number.
     Signal(u16),
+    /// TRUE where each operand is.
     And(Exprs),
+    /// TRUE where an operand is.
     Or(Exprs),
 }
 
@@ -20,6 +23,7 @@ pub enum Expr {
 #[derive(Drop)]
 #[cycle(expr)]
 pub struct Exprs {
+    /// The operands.
     pub items: Vec<Expr>,
 }
 

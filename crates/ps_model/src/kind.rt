@@ -8,26 +8,42 @@ ghost use Rattle.ps_model.specs.declared.kind.Kind.{Kind};
 /// The type of a pin or a signal: SAFEBOOL, BOOL or TIME (PLCopen TC5, IEC 61131-3).
 #[derive(Clone, Copy, PartialEq, Eq, Debug)]
 pub enum Ty {
+    /// SAFEBOOL.
     Safe,
+    /// BOOL.
     Bool,
+    /// TIME, in ms.
     Time,
 }
 
 /// A kind of function block, of the thirteen that PLCopen TC5 names.
 #[derive(Clone, Copy, PartialEq, Eq, Debug)]
 pub enum Kind {
+    /// SF_Equivalent.
     Equivalent,
+    /// SF_Antivalent.
     Antivalent,
+    /// SF_EmergencyStop.
     EmergencyStop,
+    /// SF_ESPE.
     Espe,
+    /// SF_ModeSelector.
     ModeSelector,
+    /// SF_TwoHandControlTypeII.
     TwoHandTwo,
+    /// SF_TwoHandControlTypeIII.
     TwoHandThree,
+    /// SF_GuardMonitoring.
     GuardMonitoring,
+    /// SF_GuardLocking.
     GuardLocking,
+    /// SF_EnableSwitch.
     EnableSwitch,
+    /// SF_SafetyRequest.
     SafetyRequest,
+    /// SF_OutControl.
     OutControl,
+    /// SF_EDM.
     Edm,
 }
 

@@ -5,10 +5,12 @@ use ps_base::{Label, Memory};
 use std::alloc::Global;
 use std::marker::Model;
 
-/// A named input, output or local. Its type is SAFEBOOL (`Safe`) or BOOL (`Bool`).
+/// A named input, output or local.
 #[derive(Drop)]
 pub struct Signal {
+    /// The name as it is declared.
     pub name: Label,
+    /// SAFEBOOL or BOOL.
     pub ty: Ty,
 }
 
@@ -34,7 +36,9 @@ impl Model for Signals {
 /// A named instance of a kind of function block.
 #[derive(Drop)]
 pub struct Instance {
+    /// The name as it is declared.
     pub name: Label,
+    /// Which block it is.
     pub kind: Kind,
 }
 
@@ -69,10 +73,13 @@ impl Model for Instances {
 ghost use Rattle.std.specs.Prelude.{◌≡◌};
 ghost use Rattle.ps_model.specs.Named.{output_types};
 
+// The types of the outputs of a kind with one safe output.
 static OF_ONE: [Ty; 3] = [Ty::Safe, Ty::Bool, Ty::Bool];
 
+// The types of the outputs of a kind with two safe outputs.
 static OF_TWO: [Ty; 4] = [Ty::Safe, Ty::Safe, Ty::Bool, Ty::Bool];
 
+// The types of the outputs of SF_ModeSelector.
 static OF_NINE: [Ty; 11] = [
     Ty::Safe,
     Ty::Safe,
@@ -112,7 +119,7 @@ impl Signals {
         }
     }
 
-    /// One more signal at the end.
+    /// One more signal at the end. `Err` comes only where memory is wanting.
     pub fn push(&mut self, signal: Signal) -> Result<(), Memory>
         requires { signal.ty ≢ Time }
         ensures { OnOk result (self.new ≡ self.old ++ signal ∷ []) }
@@ -152,7 +159,7 @@ impl Instances {
         }
     }
 
-    /// One more instance at the end. Where memory is wanting the instances are as before.
+    /// One more instance at the end. `Err` comes only where memory is wanting, and then the instances are as before.
     pub fn push(&mut self, instance: Instance) -> Result<(), Memory>
         ensures pushed { OnOk result (self.new ≡ self.old ++ instance ∷ []) }
         ensures refused { OnErr result (self.new ≡ self.old) }

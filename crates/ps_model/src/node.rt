@@ -1,4 +1,4 @@
-// The nodes of an expression, as rows.
+// The nodes of an expression, as an application lists them.
 
 ghost use Rattle.std.specs.Prelude.{◌≡◌, ◌++◌, ◌≤◌, OnOk, length};
 ghost use Rattle.ps_model.specs.Exprs.{formula};
@@ -12,17 +12,22 @@ use ps_base::limits::MOST_NODES;
 /// What a node of an expression is.
 #[derive(Clone, Copy, PartialEq, Eq, Debug)]
 pub enum Shape {
+    /// A signal, by its number.
     Signal(u16),
+    /// An AND of two or more operands.
     And,
+    /// An OR of two or more operands.
     Or,
 }
 
-/// The row of a node: what it is, how many nodes it has with all below it, and its depth, which is the number
-/// of AND and OR that stand around it within its value. The root of a value has depth 0.
+/// What an application lists of a node.
 #[derive(Clone, Copy, PartialEq, Eq, Debug)]
 pub struct Node {
+    /// What it is.
     pub shape: Shape,
+    /// How many nodes it has with all below it, itself among them.
     pub size: usize,
+    /// How many AND and OR stand around it within its value; the root of a value has depth 0.
     pub depth: usize,
 }
 
@@ -50,46 +55,46 @@ pub fn node_count(e: &Expr) -> u32
     }
 }
 
-/// Writes the rows of the nodes of an expression at the end, each before its operands. Of the AND and OR that stand
-/// around the expression, `depth` in number, the rows are already written.
-pub fn write_nodes(e: &Expr, depth: usize, rows: &mut Vec<Node>) -> Result<(), Memory>
-    requires { depth ≤ length rows.old.items }
-    ensures { OnOk result (rows.new.items ≡ rows.old.items ++ listed_at depth (formula e.now)) }
+/// Lists the nodes of an expression at the end, each before its operands. The AND and OR that stand around the
+/// expression, `depth` in number, are already listed.
+pub fn write_nodes(e: &Expr, depth: usize, list: &mut Vec<Node>) -> Result<(), Memory>
+    requires { depth ≤ length list.old.items }
+    ensures { OnOk result (list.new.items ≡ list.old.items ++ listed_at depth (formula e.now)) }
 {
-    let at = rows.len();
+    let at = list.len();
     match e {
-        Expr::Signal(s) => rows.push(Node {
+        Expr::Signal(s) => list.push(Node {
             shape: Shape::Signal(*s),
             size: 1,
             depth,
         })?,
         Expr::And(es) => {
-            rows.push(Node {
+            list.push(Node {
                 shape: Shape::And,
                 size: 0,
                 depth,
             })?;
             for x in &es.items {
-                write_nodes(x, depth + 1, rows)?;
+                write_nodes(x, depth + 1, list)?;
             }
-            rows[at] = Node {
+            list[at] = Node {
                 shape: Shape::And,
-                size: rows.len() - at,
+                size: list.len() - at,
                 depth,
             };
         }
         Expr::Or(es) => {
-            rows.push(Node {
+            list.push(Node {
                 shape: Shape::Or,
                 size: 0,
                 depth,
             })?;
             for x in &es.items {
-                write_nodes(x, depth + 1, rows)?;
+                write_nodes(x, depth + 1, list)?;
             }
-            rows[at] = Node {
+            list[at] = Node {
                 shape: Shape::Or,
-                size: rows.len() - at,
+                size: list.len() - at,
                 depth,
             };
         }

@@ -8,15 +8,21 @@ use crate::values::{FirstPins, Kinds};
 use ps_base::Memory;
 use std::alloc::Global;
 
-/// How many signals, instances, inputs and outputs an application has, and of each instance its first
-/// output signal and its kind.
+/// The sizes of an application: how many signals, instances, inputs and outputs it has, and where the outputs of each instance
+/// stand.
 #[derive(Drop, Debug)]
 pub struct Sizes {
+    /// How many signals there are, pin outputs among them.
     pub signals: u16,
+    /// How many instances there are.
     pub instances: u16,
+    /// How many inputs there are.
     pub inputs: u16,
+    /// How many outputs there are.
     pub outputs: u16,
+    /// Of each instance the number of its first output signal.
     pub first_pins: FirstPins,
+    /// Of each instance the kind.
     pub kinds: Kinds,
     ghost places: { ArePlaces signals instances inputs outputs first_pins kinds },
 }
@@ -47,7 +53,7 @@ impl Sizes {
     ghost use Rattle.std.specs.Prelude.{◌≡◌, IfOk};
     ghost use Rattle.ps_model.specs.Sized.{AreSizesOf};
 
-    /// The sizes of an application.
+    /// The sizes of an application. `Err` comes only where memory is wanting.
     pub fn of(alloc: Global, app: &App) -> Result<Sizes, Memory>
         ensures { IfOk result (λ sizes. AreSizesOf app.now sizes) }
     {
@@ -68,7 +74,7 @@ impl Sizes {
         })
     }
 
-    /// A copy of these sizes.
+    /// A copy of these sizes. `Err` comes only where memory is wanting.
     pub fn copy(&self, alloc: Global) -> Result<Sizes, Memory>
         ensures { IfOk result (λ copy. copy ≡ self.now) }
     {

@@ -6,12 +6,16 @@ use ps_base::Memory;
 use std::alloc::Global;
 use std::marker::Model;
 
-/// What stands at an input pin of a call: nothing, a Boolean literal, a TIME literal in ms, or a value.
+/// What stands at an input pin of a call.
 #[derive(Drop)]
 pub enum Arg {
+    /// Nothing: the pin has its free value.
     Free,
+    /// A literal of a Boolean pin.
     Lit(bool),
+    /// A TIME literal in ms.
     Time(u32),
+    /// A value of a Boolean pin.
     Value(Expr),
 }
 
@@ -35,11 +39,23 @@ impl Model for Args {
     ghost view = { λ a. map actual a.items.items };
 }
 
-/// A step of a network: a value assigned to a signal, or an instance called.
+/// A step of a network.
 #[derive(Drop)]
 pub enum Step {
-    Assign { target: u16, value: Expr },
-    Call { instance: u16, args: Args },
+    /// A value is assigned to a signal.
+    Assign {
+        /// The number of the signal.
+        target: u16,
+        /// The value.
+        value: Expr,
+    },
+    /// An instance is called.
+    Call {
+        /// The number of the instance.
+        instance: u16,
+        /// What stands at its input pins.
+        args: Args,
+    },
 }
 
 /// The steps in the order of the text, which contracts see as a list.
@@ -80,7 +96,7 @@ impl Args {
         }
     }
 
-    /// One more argument at the end.
+    /// One more argument at the end. `Err` comes only where memory is wanting.
     pub fn push(&mut self, arg: Arg) -> Result<(), Memory>
         ensures { OnOk result (self.new ≡ self.old ++ actual arg ∷ []) }
     {
@@ -119,7 +135,7 @@ impl Steps {
         }
     }
 
-    /// One more step at the end. Where memory is wanting the steps are as before.
+    /// One more step at the end. `Err` comes only where memory is wanting, and then the steps are as before.
     pub fn push(&mut self, step: Step) -> Result<(), Memory>
         ensures pushed { OnOk result (self.new ≡ self.old ++ action step ∷ []) }
         ensures refused { OnErr result (self.new ≡ self.old) }
@@ -150,7 +166,7 @@ impl Steps {
         &self.items[k]
     }
 
-    /// The rows of the nodes of all values, in the order of steps and pins, each before its operands.
+    /// The nodes of all values as a list, in the order of steps and pins, each before its operands.
     pub fn nodes(&self) -> &[Node]
         ensures { result.now ≡ listed_of_steps self.now }
     {
@@ -163,32 +179,32 @@ ghost use Rattle.ps_model.specs.Args.{actual};
 ghost use Rattle.ps_model.specs.Steps.{action};
 ghost use Rattle.ps_model.specs.NodeList.{listed_at_pin, listed_of_step};
 
-// Writes the nodes of an argument at the end.
-fn write_arg(arg: &Arg, rows: &mut Vec<Node>) -> Result<(), Memory>
-    ensures { OnOk result (rows.new.items ≡ rows.old.items ++ listed_at_pin (actual arg.now)) }
+// Lists the nodes of an argument at the end.
+fn write_arg(arg: &Arg, list: &mut Vec<Node>) -> Result<(), Memory>
+    ensures { OnOk result (list.new.items ≡ list.old.items ++ listed_at_pin (actual arg.now)) }
 {
     match arg {
-        Arg::Value(e) => write_nodes(e, 0, rows),
+        Arg::Value(e) => write_nodes(e, 0, list),
         _ => Ok(()),
     }
 }
 
-// Writes the nodes of the arguments of a call at the end.
-fn write_args(args: &Args, rows: &mut Vec<Node>) -> Result<(), Memory>
-    ensures { OnOk result (rows.new.items ≡ rows.old.items ++ flat_map listed_at_pin args.now) }
+// Lists the nodes of the arguments of a call at the end.
+fn write_args(args: &Args, list: &mut Vec<Node>) -> Result<(), Memory>
+    ensures { OnOk result (list.new.items ≡ list.old.items ++ flat_map listed_at_pin args.now) }
 {
     for j in 0..args.len() {
-        write_arg(args.at(j), rows)?;
+        write_arg(args.at(j), list)?;
     }
     Ok(())
 }
 
-// Writes the nodes of a step at the end.
-fn write_step(step: &Step, rows: &mut Vec<Node>) -> Result<(), Memory>
-    ensures { OnOk result (rows.new.items ≡ rows.old.items ++ listed_of_step (action step.now)) }
+// Lists the nodes of a step at the end.
+fn write_step(step: &Step, list: &mut Vec<Node>) -> Result<(), Memory>
+    ensures { OnOk result (list.new.items ≡ list.old.items ++ listed_of_step (action step.now)) }
 {
     match step {
-        Step::Assign { value, .. } => write_nodes(value, 0, rows),
-        Step::Call { args, .. } => write_args(args, rows),
+        Step::Assign { value, .. } => write_nodes(value, 0, list),
+        Step::Call { args, .. } => write_args(args, list),
     }
 }

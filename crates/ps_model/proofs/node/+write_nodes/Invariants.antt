@@ -11,17 +11,17 @@ decreases-write_nodes l = goal.size-write_nodes l
 abbrev pub invariant-loop-x : goal.invariant-loop-x
 invariant-loop-x l = record {
   whole : formula l.fn.e ≡ all_of (operands (map formula l.x-items));
-  at : l.at ≡ length l.fn.rows.items;
-  deep : l.fn.depth < length l.rows.items;
-  written : l.rows.items ++ listed_below (l.fn.depth + 1) (operands (map formula (drop l.x-index l.x-items)))
-      ≡ l.fn.rows.items ++ record { shape = And; size = 0; depth = l.fn.depth } ∷ listed_below (l.fn.depth + 1) (operands (map formula l.x-items));
+  at : l.at ≡ length l.fn.list.items;
+  deep : l.fn.depth < length l.list.items;
+  written : l.list.items ++ listed_below (l.fn.depth + 1) (operands (map formula (drop l.x-index l.x-items)))
+      ≡ l.fn.list.items ++ record { shape = And; size = 0; depth = l.fn.depth } ∷ listed_below (l.fn.depth + 1) (operands (map formula l.x-items));
 }
 
 abbrev pub invariant-loop-x-2 : goal.invariant-loop-x-2
 invariant-loop-x-2 l = record {
   whole : formula l.fn.e ≡ any_of (operands (map formula l.x-items));
-  at : l.at ≡ length l.fn.rows.items;
-  deep : l.fn.depth < length l.rows.items;
-  written : l.rows.items ++ listed_below (l.fn.depth + 1) (operands (map formula (drop l.x-index l.x-items)))
-      ≡ l.fn.rows.items ++ record { shape = Or; size = 0; depth = l.fn.depth } ∷ listed_below (l.fn.depth + 1) (operands (map formula l.x-items));
+  at : l.at ≡ length l.fn.list.items;
+  deep : l.fn.depth < length l.list.items;
+  written : l.list.items ++ listed_below (l.fn.depth + 1) (operands (map formula (drop l.x-index l.x-items)))
+      ≡ l.fn.list.items ++ record { shape = Or; size = 0; depth = l.fn.depth } ∷ listed_below (l.fn.depth + 1) (operands (map formula l.x-items));
 }

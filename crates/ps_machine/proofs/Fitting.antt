@@ -10,9 +10,9 @@ use Rattle.ps_model.specs.Network.{Network, signal_count, instance_count, kind_a
 use Rattle.ps_model.specs.Scanning.{pins_under, limit_of}
 use Rattle.ps_model.specs.Sound.{IsSound}
 use Rattle.ps_model.specs.Typing.{Accepted}
+use Rattle.ps_model.proofs.CallLimits.{limit_small}
 use Rattle.ps_model.proofs.Once.{none_after, any_at}
 use Rattle.ps_model.proofs.OneSolution.{first_pin_range}
-use Rattle.ps_machine.specs.Limits.{LimitsFit}
 use Rattle.ps_machine.specs.Standing.{limit_from, limit_in}
 use Rattle.ps_machine.proofs.Fine.{IsFine, IsFinePin, fine_value, fine_pin}
 use Rattle.ps_machine.proofs.CalledOnce.{fewer, called_once}
@@ -59,7 +59,7 @@ limit_found net i args (calls j given ∷ rest) (suc k) once at =
           ∙ limit_found net i args rest k (fewer (is_call_of net i) (calls j given) rest once) at
     ]
 
-module _ (net : Network) (sound : IsSound net) (accepted : Accepted net) (limits : LimitsFit net) where
+module _ (net : Network) (sound : IsSound net) (accepted : Accepted net) where
   pub step_fits : (k : ℕ) (a : Action) → slice_get net.steps k ≡ Some a → StepFits net a
   step_fits k (assigns t e) at =
       let range = sound.targets k t e at in
@@ -73,7 +73,7 @@ module _ (net : Network) (sound : IsSound net) (accepted : Accepted net) (limits
         pins = fine_pin net sound k i args at;
         past = past_pin net sound accepted k i args at;
         few = few_pins (kind_at net i);
-        limit = limits k (calls i args) at;
+        limit = limit_small net sound k i args at;
         limit_is = limit_found net i args net.steps k (called_once net sound i) at;
       }
 

@@ -4,16 +4,13 @@ ghost use Rattle.std.specs.Prelude.{◌≡◌, ◌<◌, length};
 ghost use Rattle.ps_model.specs.Blocks.{block};
 ghost use Rattle.ps_model.specs.Scanning.{pin_at, limit_of};
 ghost use Rattle.ps_model.specs.Args.{actual};
-ghost use Rattle.ps_model.specs.Steps.{action};
-ghost use Rattle.ps_model.specs.Budgets.{IsCall};
 ghost use Rattle.ps_machine.specs.Kinds.{kind_of};
-ghost use Rattle.ps_machine.specs.Limits.{literal_time, HasLimit, LimitsFit};
+ghost use Rattle.ps_machine.specs.Limits.{literal_time};
 
-use ps_model::app::App;
 use ps_model::budget::boolean_count;
 use ps_model::kind::{Kind, fixed_limit, kind_numbered};
 use ps_model::pins::pin_row;
-use ps_model::step::{Arg, Args, Step};
+use ps_model::step::{Arg, Args};
 
 /// The kind with a number of code, and None exactly where no kind has it.
 pub fn kind_by_number(number: u8) -> Option<Kind>
@@ -56,26 +53,5 @@ pub fn call_limit(kind: Kind, args: &Args) -> u32
         literal_at(args.at(time_pin))
     } else {
         fixed_limit(kind)
-    }
-}
-
-/// The limit of each call of an application is a number of 32 bits. It looks at each call and changes
-/// nothing.
-pub fn limits_fit(app: &App)
-    ensures { LimitsFit app.now }
-{
-    app.sound();
-    for k in 0..app.step_count() {
-        limit_fits(app, app.step(k));
-    }
-}
-
-// The limit of a step, where it is a call.
-fn limit_fits(app: &App, step: &Step)
-    requires { IsCall app.now (action step.now) }
-    ensures { HasLimit app.now (action step.now) }
-{
-    if let Step::Call { instance, args } = step {
-        let _limit = call_limit(app.instance_kind(*instance), args);
     }
 }

@@ -20,7 +20,6 @@ use Rattle.ps_model.proofs.Once.{any_of_one}
 use Rattle.ps_model.proofs.OneSolution.{other-block}
 use Rattle.ps_machine.specs.Bytes.{bit, replaced}
 use Rattle.ps_machine.specs.Keeping.{Passes, KeepsExactly}
-use Rattle.ps_machine.specs.Limits.{LimitsFit}
 use Rattle.ps_machine.specs.Machines.{turned}
 use Rattle.ps_machine.specs.Progressing.{progress_said}
 use Rattle.ps_machine.specs.Standing.{StandsBlock}
@@ -141,7 +140,7 @@ module _ (net : Network) (sound : IsSound net) where
         (subst (λ b. StandsBlock (Since t) (kind_at net i) b (block_in old i)) (block_is (74 + signal_count net) i cells (drop (74 + signal_count net) cells) refl) (stands.blocks i l));
   }
 
-  module _ (accepted : Accepted net) (limits : LimitsFit net) where
+  module _ (accepted : Accepted net) where
     -- a scan as the machine runs it: so many turns, then done with these cells
     record Scanned (cells : List ℕ) (new : State) (now : ℕ) : Type 0 where
       running : (j : ℕ) → j < length (network_code net) → progress_of (turned (turn (signal_count net) (instance_count net) (code_a net)) j cells) ≡ 0
@@ -154,13 +153,13 @@ module _ (net : Network) (sound : IsSound net) where
         let n = signal_count net in
         let k = instance_count net in
         let code = code_a net in
-        let fit = step_fits net sound accepted limits in
+        let fit = step_fits net sound accepted in
         let sc = flat_map (step_code net) net.steps in
         let q = begin_a now ins cells in
         let m0 = begun net old ins in
-        let has = has_written (network_code net) [] (network_short net sound.few_signals sound.few_instances (all_fit net sound accepted limits)) (code_small net sound fit) in
+        let has = has_written (network_code net) [] (network_short net sound.few_signals sound.few_instances (all_fit net sound accepted)) (code_small net sound fit) in
         let timely : Timely net dt (now - t) net.steps m0 = λ i called on. passes i on in
-        let led = steps_led net t now dt later small code net.steps m0 q 0 (drop (74 + n) cells) (all_fit net sound accepted limits) (called_once net sound) timely
+        let led = steps_led net t now dt later small code net.steps m0 q 0 (drop (74 + n) cells) (all_fit net sound accepted) (called_once net sound) timely
         (has_front code 0 sc (End ∷ []) has) (begins old ins t now cells count small stands) (begins_blocks old t now cells stands) in
         let x = led.comes in
         let cells1 = turned (turn n k code) (length sc) q in
@@ -205,7 +204,7 @@ module _ (net : Network) (sound : IsSound net) where
         let n = signal_count net in
         let k = instance_count net in
         let code = code_a net in
-        let turns : length (network_code net) ≡ turns_a net = turns_are net sound (step_fits net sound accepted limits) in
+        let turns : length (network_code net) ≡ turns_a net = turns_are net sound (step_fits net sound accepted) in
         let same : turn n k code ≡ turn_a z code = λ x cells. carried_out ((sym sizes.signals) x) ((sym sizes.instances) x) (fetched code (pc_of cells)) cells in
         let blank_is : zeros (74 + n + 16 * k) ≡ blank_a z = λ x. replicate (74 + (sym sizes.signals) x + 16 * (sym sizes.instances) x) 0 in
         record {

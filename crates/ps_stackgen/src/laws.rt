@@ -9,19 +9,17 @@ ghost use Rattle.ps_machine.specs.Keeping.{Keeps, KeepsExactly};
 ghost use Rattle.ps_stackvm.specs.Code.{network_code, code_a};
 ghost use Rattle.ps_stackvm.specs.Stands.{machine_a, StandsA};
 
-use ps_machine::calls::limits_fit;
 use ps_model::app::App;
 
 /// Stack code keeps the meaning: from cells that stand for any state, a scan that is not earlier is
 /// Running up to the last of exactly `turns_a` turns, which makes it Done, and none traps. After it the
 /// cells stand for the state that solves the scan, and their report is its report. Cells of 0 stand for
-/// the first state. It looks at each call of the application and changes nothing.
+/// the first state.
 pub fn stack_code_keeps_the_meaning(app: &App)
     ensures exactly { Accepted app.now → (sizes : Sizes) → AreSizesOf app.now sizes → KeepsExactly app.now (machine_a sizes (code_a app.now) (turns_a app.now)) (StandsA app.now) }
     ensures keeps { Accepted app.now → (sizes : Sizes) → AreSizesOf app.now sizes → Keeps app.now (machine_a sizes (code_a app.now) (turns_a app.now)) (StandsA app.now) }
 {
     app.sound();
-    limits_fit(app);
 }
 
 /// The code of an accepted application has `turns_a` instructions, and less than 2^32 bytes.
@@ -30,5 +28,4 @@ pub fn stack_code_is_short(app: &App)
     ensures bytes { Accepted app.now → length (code_a app.now) < 2 ^ 32 }
 {
     app.sound();
-    limits_fit(app);
 }

@@ -6,6 +6,6 @@ pub returns : goal.returns
 returns c =
     let net = c.args.app.now in
     record {
-      turns = λ accepted. turns_are net c.sound.ensures (step_fits net c.sound.ensures accepted c.limits_fit.ensures);
-      bytes = λ accepted. code_small net c.sound.ensures (step_fits net c.sound.ensures accepted c.limits_fit.ensures);
+      turns = λ accepted. turns_are net c.sound.ensures (step_fits net c.sound.ensures accepted);
+      bytes = λ accepted. code_small net c.sound.ensures (step_fits net c.sound.ensures accepted);
     }

@@ -12,7 +12,7 @@ use Rattle.ps_lexer.specs.declared.token.Word.TheVariants as word
 use Rattle.ps_lexer.specs.declared.token.Token.{Token}
 use Rattle.ps_lexer.specs.Spelling.{folded, spelling, begins_name, IsName}
 use Rattle.ps_lexer.specs.TimeLiterals.{IsTimeLiteral, PartsGive}
-use Rattle.ps_lexer.specs.Gaps.{StandsAt, is_blank, place_after}
+use Rattle.ps_lexer.specs.Gaps.{HasBytesAt, is_blank, place_after}
 use Rattle.ps_lexer.specs.Shapes.{SpellsSign, SpellsWord, Spells, OpensComment, IsShape, opening, IsLongest}
 use Rattle.ps_lexer.specs.Reading.{IsToken}
 use Rattle.ps_lexer.specs.Scanning.{one_byte, two_bytes, opens_block, opens_line}
@@ -205,10 +205,10 @@ blank_no_token text i t e b p =
     elim (shape_cases text t.from t.upto p.longest.ahead p.longest.within a.0 p.longest.shape) [ one e h ↦ let n = a.1 in cc | two e h ↦ let n = a.2 in cc | opener e h ↦ let n = a.3 in cc ]
 
 -- nor where a comment is opened
-pub opening_no_token : (text : List ℕ) (i b c : ℕ) (t : Token) → begins_name b ≡ false → two_bytes b c ≡ None → OpensComment (b ∷ c ∷ []) → t.from ≡ i → StandsAt text i (b ∷ c ∷ []) → IsToken text t → ⊥
-opening_no_token text i b c t no_name no_two opens e stands p = at (subst (λ k. StandsAt text k (b ∷ c ∷ [])) (sym e) stands)
+pub opening_no_token : (text : List ℕ) (i b c : ℕ) (t : Token) → begins_name b ≡ false → two_bytes b c ≡ None → OpensComment (b ∷ c ∷ []) → t.from ≡ i → HasBytesAt text i (b ∷ c ∷ []) → IsToken text t → ⊥
+opening_no_token text i b c t no_name no_two opens e stands p = at (subst (λ k. HasBytesAt text k (b ∷ c ∷ [])) (sym e) stands)
   where
-    at : StandsAt text t.from (b ∷ c ∷ []) → ⊥
+    at : HasBytesAt text t.from (b ∷ c ∷ []) → ⊥
     at here =
         let pair = at_pair text t.from b c here in
         let shape : IsShape (slice_range text t.from (t.from + 2)) = opening (subst OpensComment (sym here) opens) in

@@ -13,7 +13,7 @@ use Rattle.ps_lexer.specs.declared.token.Form.{Form}
 use Rattle.ps_lexer.specs.declared.token.Token.{Token}
 use Rattle.ps_lexer.specs.Spelling.{begins_name, IsIdentifier}
 use Rattle.ps_lexer.specs.TimeLiterals.{IsTimeText, IsTimeLiteral}
-use Rattle.ps_lexer.specs.Gaps.{StandsAt, is_blank, IsBlockComment, IsLineComment, IsOpenComment, place_after}
+use Rattle.ps_lexer.specs.Gaps.{HasBytesAt, is_blank, IsBlockComment, IsLineComment, IsOpenComment, place_after}
 use Rattle.ps_lexer.specs.Shapes.{Spells, IsShape, opening, IsLongest}
 use Rattle.ps_lexer.specs.Reading.{IsToken, Reads, nothing, blank, block, line, token, Breaks, BreaksFirst, IsRefused}
 use Rattle.ps_lexer.proofs.Slices.{length-slice_range, slice_first, at_pair}
@@ -51,17 +51,17 @@ module _ {text : List ℕ} where
   blank_no_line : {i j : ℕ} → is_blank (slice_index text i) ≡ true → IsLineComment text i j → ⊥
   blank_no_line {i} b c = let f = ap is_blank (at_pair text i 47 47 c.opens).1 in cc
 
-  block_no_line : {i k : ℕ} → StandsAt text i (codes "(*") → IsLineComment text i k → ⊥
+  block_no_line : {i k : ℕ} → HasBytesAt text i (codes "(*") → IsLineComment text i k → ⊥
   block_no_line {i} c d = let p = (at_pair text i 40 42 c).1 in let q = (at_pair text i 47 47 d.opens).1 in omega arith
 
-  token_no_block : {i : ℕ} (t : Token) → t.from ≡ i → StandsAt text i (codes "(*") → IsToken text t → ⊥
+  token_no_block : {i : ℕ} (t : Token) → t.from ≡ i → HasBytesAt text i (codes "(*") → IsToken text t → ⊥
   token_no_block {i} t e c p = opening_no_token text i 40 42 t refl refl (inl refl) e c p
 
-  token_no_line : {i : ℕ} (t : Token) → t.from ≡ i → StandsAt text i (codes "//") → IsToken text t → ⊥
+  token_no_line : {i : ℕ} (t : Token) → t.from ≡ i → HasBytesAt text i (codes "//") → IsToken text t → ⊥
   token_no_line {i} t e c p = opening_no_token text i 47 47 t refl refl (inr refl) e c p
 
-  moved : {i j k : ℕ} {ts : List Token} → i ≡ j → Reads text i ts k → Reads text j ts k
-  moved {k = k} {ts = ts} e r = subst (λ x. Reads text x ts k) e r
+  reads_from_same : {i j k : ℕ} {ts : List Token} → i ≡ j → Reads text i ts k → Reads text j ts k
+  reads_from_same {k = k} {ts = ts} e r = subst (λ x. Reads text x ts k) e r
 
   more : {t u : Token} {ts us : List Token} {j k : ℕ} → t ≡ u → Meets text ts us j k → Meets text (t ∷ ts) (u ∷ us) j k
   more same (further rest e r) = further rest (λ x. sym same x ∷ e x) r
@@ -78,19 +78,19 @@ module _ {text : List ℕ} where
   meets (blank b r) (line c q) = absurd (blank_no_line b c)
   meets {i} (blank b r) (token t e p q) = absurd (blank_no_token text i t e b p)
   meets (block c r) (blank b q) = absurd (blank_no_block b c)
-  meets {i} (block {k = m} c r) (block {k = n} d q) = meets r (moved (sym (same_end m n (block_not_before text i m n c d) (block_not_before text i n m d c))) q)
+  meets {i} (block {k = m} c r) (block {k = n} d q) = meets r (reads_from_same (sym (same_end m n (block_not_before text i m n c d) (block_not_before text i n m d c))) q)
   meets {i} (block c r) (line d q) = absurd (block_no_line {i = i} c.opens d)
   meets {i} (block c r) (token t e p q) = absurd (token_no_block {i = i} t e c.opens p)
   meets (line c r) (blank b q) = absurd (blank_no_line b c)
   meets {i} (line c r) (block d q) = absurd (block_no_line {i = i} d.opens c)
-  meets {i} (line {k = m} c r) (line {k = n} d q) = meets r (moved (sym (same_end m n (line_not_before text i m n c d) (line_not_before text i n m d c))) q)
+  meets {i} (line {k = m} c r) (line {k = n} d q) = meets r (reads_from_same (sym (same_end m n (line_not_before text i m n c d) (line_not_before text i n m d c))) q)
   meets {i} (line c r) (token t e p q) = absurd (token_no_line {i = i} t e c.opens p)
   meets {i} (token t e p r) (blank b q) = absurd (blank_no_token text i t e b p)
   meets {i} (token t e p r) (block c q) = absurd (token_no_block {i = i} t e c.opens p)
   meets {i} (token t e p r) (line c q) = absurd (token_no_line {i = i} t e c.opens p)
   meets (token t e p r) (token u f o q) =
       let same = one_token text t u (e ∙ sym f) p o in
-      more same (meets r (moved (sym (ap (λ z. z.upto) same)) q))
+      more same (meets r (reads_from_same (sym (ap (λ z. z.upto) same)) q))
 
 -- a text has one list of tokens
 pub one_list : (text : List ℕ) (ts us : List Token) → Reads text 0 ts (length text) → Reads text 0 us (length text) → ts ≡ us
@@ -112,7 +112,7 @@ pub record IsStuck (text : List ℕ) (i : ℕ) : Type 0 where
 
 -- a shape with no form stands at i
 module _ (text : List ℕ) (i j : ℕ) (longest : IsLongest text i j) (begins : begins_name (slice_index text i) ≡ true) (no_word : (f : Form) → WordWay f (slice_range text i j) → ⊥) where
-  no_opening : (b c : ℕ) → begins_name b ≡ false → StandsAt text i (b ∷ c ∷ []) → ⊥
+  no_opening : (b c : ℕ) → begins_name b ≡ false → HasBytesAt text i (b ∷ c ∷ []) → ⊥
   no_opening b c no_name stands = let e = ap begins_name (at_pair text i b c stands).1 in cc
 
   no_form : (f : Form) → Spells f (slice_range text i j) → ⊥
@@ -190,8 +190,8 @@ module _ (text : List ℕ) (i : ℕ) where
       let ahead = b.1.ahead in
       formless text i b.0 b.1 (begins_at b.0 b.1 b.2.begins) (long_no_word (slice_range text i b.0) b.2 (omega (arith, length-slice_range text i b.0 (omega arith) b.1.within)))
 
-  stuck : (rule : Rule) → Breaks rule text i → IsStuck text i
-  stuck rule b = elim (break_way text i rule b) [ no_beginning e w ↦ stuck_byte w | not_closed e w ↦ stuck_open w | no_time e w ↦ stuck_time w | too_long e w ↦ stuck_name w ]
+  stuck_where_broken : (rule : Rule) → Breaks rule text i → IsStuck text i
+  stuck_where_broken rule b = elim (break_way text i rule b) [ no_beginning e w ↦ stuck_byte w | not_closed e w ↦ stuck_open w | no_time e w ↦ stuck_time w | too_long e w ↦ stuck_name w ]
 
 module _ {text : List ℕ} where
   stays : {i j : ℕ} {ts : List Token} → IsStuck text i → Reads text i ts j → i ≡ j
@@ -204,7 +204,7 @@ module _ {text : List ℕ} where
 -- a text that breaks a rule is not read whole
 broken_not_read : (text : List ℕ) (r : Refusal) (ts : List Token) → BreaksFirst text r → Reads text 0 ts (length text) → ⊥
 broken_not_read text r ts b q =
-    let s = stuck text b.at r.rule b.breaks in
+    let s = stuck_where_broken text b.at r.rule b.breaks in
     let room = s.room in
     elim (meets b.read q) [
       | further rest e o ↦ let same = stays s o in omega arith
@@ -261,8 +261,8 @@ module _ (text : List ℕ) (i : ℕ) where
 -- a text breaks a rule first at one place
 one_place : (text : List ℕ) (r q : Refusal) (a : BreaksFirst text r) (b : BreaksFirst text q) → a.at ≡ b.at
 one_place text r q a b = elim (meets a.read b.read) [
-  | further rest e o ↦ stays (stuck text a.at r.rule a.breaks) o
-  | behind rest e o ↦ sym (stays (stuck text b.at q.rule b.breaks) o)
+  | further rest e o ↦ stays (stuck_where_broken text a.at r.rule a.breaks) o
+  | behind rest e o ↦ sym (stays (stuck_where_broken text b.at q.rule b.breaks) o)
 ]
 
 one_break : (text : List ℕ) (r q : Refusal) → BreaksFirst text r → BreaksFirst text q → r ≡ q

@@ -4,7 +4,7 @@ use Rattle.std.proofs.lemmas.Bool.{cases_lt}
 use Rattle.std.proofs.lemmas.List.{get_or-take, get_or-drop, get_or_past, drop-drop}
 use Rattle.std.proofs.Math.Seq.{drop-cons, take-add}
 use Rattle.std.specs.List.{slice_range}
-use Rattle.ps_lexer.specs.Gaps.{StandsAt}
+use Rattle.ps_lexer.specs.Gaps.{HasBytesAt}
 
 -- the byte at k of a part of the text
 pub slice_index-slice_range : (text : List ℕ) (i j k : ℕ) → i + k < j → slice_index (slice_range text i j) k ≡ slice_index text (i + k)
@@ -59,10 +59,10 @@ two_long text i j b c h w e =
     (n, cc, cc)
 
 -- two bytes stand at a place
-pub pair_at : (text : List ℕ) (i b c : ℕ) → i + 2 ≤ length text → slice_index text i ≡ b → slice_index text (i + 1) ≡ c → StandsAt text i (b ∷ c ∷ [])
+pub pair_at : (text : List ℕ) (i b c : ℕ) → i + 2 ≤ length text → slice_index text i ≡ b → slice_index text (i + 1) ≡ c → HasBytesAt text i (b ∷ c ∷ [])
 pair_at text i b c room first second = slice_two text i (i + 2) refl room ∙ (λ t. first t ∷ second t ∷ [])
 
-pub at_pair : (text : List ℕ) (i b c : ℕ) → StandsAt text i (b ∷ c ∷ []) → (i + 2 ≤ length text) × (slice_index text i ≡ b) × (slice_index text (i + 1) ≡ c)
+pub at_pair : (text : List ℕ) (i b c : ℕ) → HasBytesAt text i (b ∷ c ∷ []) → (i + 2 ≤ length text) × (slice_index text i ≡ b) × (slice_index text (i + 1) ≡ c)
 at_pair text i b c e =
     let room : i + 2 ≤ length text = omega (arith, length-take (i + 2 - i) (drop i text), length-drop i text, ap length e) in
     let s = two_long text i (i + 2) b c (omega arith) room e in

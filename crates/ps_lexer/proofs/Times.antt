@@ -97,9 +97,9 @@ begins (more ds ls rest u part le (inl e) t v) = let f = digits_first ds (ls ++ 
 begins (more ds ls rest u part le (inr e) t v) = let f = digits_first ds (ls ++ 95 ∷ rest) part.some part.only_digits in (subst (Stops is_ascii_alphabetic) (sym e) f.0, λ y h. f.1 y (sym e ∙ h))
 
 -- What a literal is, by its first part.
-pub data Parted (least v : ℕ) (ds ls tail : List ℕ) : Type 0 where
-  end : (u : TimeUnit) → IsPart ds ls u → least ≤ rank u → tail ≡ [] → v ≡ number_of ds * milliseconds u → Parted least v ds ls tail
-  goes : (u : TimeUnit) (rest : List ℕ) (w : ℕ) → IsPart ds ls u → least ≤ rank u → (tail ≡ rest) ⊎ (tail ≡ 95 ∷ rest) → PartsGive (suc (rank u)) rest w → v ≡ number_of ds * milliseconds u + w → Parted least v ds ls tail
+pub data FirstPart (least v : ℕ) (ds ls tail : List ℕ) : Type 0 where
+  end : (u : TimeUnit) → IsPart ds ls u → least ≤ rank u → tail ≡ [] → v ≡ number_of ds * milliseconds u → FirstPart least v ds ls tail
+  goes : (u : TimeUnit) (rest : List ℕ) (w : ℕ) → IsPart ds ls u → least ≤ rank u → (tail ≡ rest) ⊎ (tail ≡ 95 ∷ rest) → PartsGive (suc (rank u)) rest w → v ≡ number_of ds * milliseconds u + w → FirstPart least v ds ls tail
 
 module _ {bytes ds ls tail : List ℕ} (split : IsSplit bytes ds ls tail) where
   runs : (ds' ls' x : List ℕ) (u : TimeUnit) → IsPart ds' ls' u → Stops is_ascii_alphabetic x → bytes ≡ ds' ++ (ls' ++ x) → (ds' ≡ ds) × (ls' ≡ ls) × (x ≡ tail)
@@ -112,14 +112,14 @@ module _ {bytes ds ls tail : List ℕ} (split : IsSplit bytes ds ls tail) where
   part_is : (ds' ls' : List ℕ) (u : TimeUnit) → ds' ≡ ds → ls' ≡ ls → IsPart ds' ls' u → IsPart ds ls u
   part_is ds' ls' u e f part = record { some = subst (λ l. 0 < length l) e part.some; only_digits = subst (AllByRecursion (λ b. is_ascii_digit b ≡ true)) e part.only_digits; spells = subst (λ l. folded l ≡ unit_spelling u) f part.spells }
 
-  pub parted : {least v : ℕ} → PartsGive least bytes v → Parted least v ds ls tail
-  parted (last ds' ls' u part le e v) =
+  pub first_part : {least v : ℕ} → PartsGive least bytes v → FirstPart least v ds ls tail
+  first_part (last ds' ls' u part le e v) =
       let r = runs ds' ls' [] u part tt (e ∙ ap (λ l. ds' ++ l) (sym (append-nil ls'))) in
       end u (part_is ds' ls' u r.0 r.1 part) le (sym r.2) (v ∙ ap (λ l. number_of l * milliseconds u) r.0)
-  parted (more {w = w} ds' ls' rest u part le (inl e) t v) =
+  first_part (more {w = w} ds' ls' rest u part le (inl e) t v) =
       let r = runs ds' ls' rest u part (begins t).0 e in
       goes u rest w (part_is ds' ls' u r.0 r.1 part) le (inl (sym r.2)) t (v ∙ ap (λ l. number_of l * milliseconds u + w) r.0)
-  parted (more {w = w} ds' ls' rest u part le (inr e) t v) =
+  first_part (more {w = w} ds' ls' rest u part le (inr e) t v) =
       let r = runs ds' ls' (95 ∷ rest) u part refl e in
       goes u rest w (part_is ds' ls' u r.0 r.1 part) le (inr (sym r.2)) t (v ∙ ap (λ l. number_of l * milliseconds u + w) r.0)
 
@@ -143,20 +143,20 @@ gap_ways tail rest no_line (inr e) = sym (ap gap_rest e)
 
 module _ {bytes ds ls tail : List ℕ} (split : IsSplit bytes ds ls tail) where
   pub not_empty : {least v : ℕ} → length ds ≡ 0 → PartsGive least bytes v → ⊥
-  not_empty none t = elim (parted split t) [ end u part le e v ↦ let s = part.some in omega arith | goes u rest w part le e k v ↦ let s = part.some in omega arith ]
+  not_empty none t = elim (first_part split t) [ end u part le e v ↦ let s = part.some in omega arith | goes u rest w part le e k v ↦ let s = part.some in omega arith ]
 
   pub not_big : {least v : ℕ} → 4294967296 ≤ number_of ds → v < 4294967296 → PartsGive least bytes v → ⊥
-  not_big big small t = elim (parted split t) [ end u part le e v ↦ omega (arith, grows_ms (number_of ds) u) | goes u rest w part le e k v ↦ omega (arith, grows_ms (number_of ds) u) ]
+  not_big big small t = elim (first_part split t) [ end u part le e v ↦ omega (arith, grows_ms (number_of ds) u) | goes u rest w part le e k v ↦ omega (arith, grows_ms (number_of ds) u) ]
 
   pub not_unit : {least v : ℕ} → ((u : TimeUnit) → folded ls ≡ unit_spelling u → ⊥) → PartsGive least bytes v → ⊥
-  not_unit none t = elim (parted split t) [ end u part le e v ↦ none u part.spells | goes u rest w part le e k v ↦ none u part.spells ]
+  not_unit none t = elim (first_part split t) [ end u part le e v ↦ none u part.spells | goes u rest w part le e k v ↦ none u part.spells ]
 
   module _ (u : TimeUnit) (unit : folded ls ≡ unit_spelling u) where
     pub not_early : {least v : ℕ} → rank u < least → PartsGive least bytes v → ⊥
-    not_early early t = elim (parted split t) [ end q part le e v ↦ omega (arith, ap rank (same_unit ls q u part.spells unit)) | goes q rest w part le e k v ↦ omega (arith, ap rank (same_unit ls q u part.spells unit)) ]
+    not_early early t = elim (first_part split t) [ end q part le e v ↦ omega (arith, ap rank (same_unit ls q u part.spells unit)) | goes q rest w part le e k v ↦ omega (arith, ap rank (same_unit ls q u part.spells unit)) ]
 
     pub not_much : {least v : ℕ} → 4294967295 < number_of ds * milliseconds u → v < 4294967296 → PartsGive least bytes v → ⊥
-    not_much much small t = elim (parted split t) [ end q part le e v ↦ omega (arith, ap (λ z. number_of ds * milliseconds z) (same_unit ls q u part.spells unit)) | goes q rest w part le e k v ↦ omega (arith, ap (λ z. number_of ds * milliseconds z) (same_unit ls q u part.spells unit)) ]
+    not_much much small t = elim (first_part split t) [ end q part le e v ↦ omega (arith, ap (λ z. number_of ds * milliseconds z) (same_unit ls q u part.spells unit)) | goes q rest w part le e k v ↦ omega (arith, ap (λ z. number_of ds * milliseconds z) (same_unit ls q u part.spells unit)) ]
 
     the_part : (length ds ≡ 0 → ⊥) → IsPart ds ls u
     the_part some = record { some = omega arith; only_digits = split.only_digits; spells = unit }
@@ -175,7 +175,7 @@ module _ {bytes ds ls tail : List ℕ} (split : IsSplit bytes ds ls tail) where
             (eqb_tells b 95)
 
     pub goes_on : {least v : ℕ} → (tail ≡ [] → ⊥) → PartsGive least bytes v → (w : ℕ) × PartsGive (suc (rank u)) (gap_rest tail) w × (v ≡ number_of ds * milliseconds u + w)
-    goes_on {v = v} some t = elim (parted split t) [
+    goes_on {v = v} some t = elim (first_part split t) [
       | end q part le e k ↦ absurd (some e)
       | goes q rest w part le e k s ↦
           let same = same_unit ls q u part.spells unit in
@@ -225,19 +225,19 @@ split_by bytes ds ls tail u part stops e =
 -- a literal has one value
 pub one_value : {least other v w : ℕ} {bytes : List ℕ} → PartsGive least bytes v → PartsGive other bytes w → v ≡ w
 one_value {bytes = bytes} (last ds ls u part le e v) k =
-    elim (parted (split_by bytes ds ls [] u part tt (e ∙ ap (λ l. ds ++ l) (sym (append-nil ls)))) k) [
+    elim (first_part (split_by bytes ds ls [] u part tt (e ∙ ap (λ l. ds ++ l) (sym (append-nil ls)))) k) [
       | end q part' le' e' v' ↦ v ∙ ap (λ z. number_of ds * milliseconds z) (same_unit ls u q part.spells part'.spells) ∙ sym v'
       | goes q rest w part' le' (inl e') t v' ↦ absurd (no_empty (sym e') t)
       | goes q rest w part' le' (inr e') t v' ↦ absurd (let bad : [] ≡ 95 ∷ rest = e' in cc)
     ]
 one_value {bytes = bytes} (more {w = x} ds ls rest u part le (inl e) t v) k =
-    elim (parted (split_by bytes ds ls rest u part (begins t).0 e) k) [
+    elim (first_part (split_by bytes ds ls rest u part (begins t).0 e) k) [
       | end q part' le' e' v' ↦ absurd (no_empty e' t)
       | goes q rest' w part' le' (inl e') t' v' ↦ v ∙ (λ i. number_of ds * milliseconds (same_unit ls u q part.spells part'.spells i) + one_value t (subst (λ l. PartsGive (suc (rank q)) l w) (sym e') t') i) ∙ sym v'
       | goes q rest' w part' le' (inr e') t' v' ↦ absurd ((begins t).1 rest' e')
     ]
 one_value {bytes = bytes} (more {w = x} ds ls rest u part le (inr e) t v) k =
-    elim (parted (split_by bytes ds ls (95 ∷ rest) u part refl e) k) [
+    elim (first_part (split_by bytes ds ls (95 ∷ rest) u part refl e) k) [
       | end q part' le' e' v' ↦ absurd (let bad : 95 ∷ rest ≡ [] = e' in cc)
       | goes q rest' w part' le' (inl e') t' v' ↦ absurd ((begins t').1 rest (sym e'))
       | goes q rest' w part' le' (inr e') t' v' ↦ v ∙ (λ i. number_of ds * milliseconds (same_unit ls u q part.spells part'.spells i) + one_value t (subst (λ l. PartsGive (suc (rank q)) l w) (sym (tail_of rest rest' e')) t') i) ∙ sym v'

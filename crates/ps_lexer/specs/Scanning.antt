@@ -30,6 +30,7 @@ one_byte b =
 abbrev pub two_bytes : ℕ → ℕ → Option Form
 two_bytes b c = if b == 58 && c == 61 then Some form.Assign else None
 
+-- the sign with its number of bytes
 abbrev pub with_len : ℕ → Option Form → Option (Form × ℕ)
 with_len n None = None
 with_len n (Some f) = Some (f, n)
@@ -38,9 +39,11 @@ with_len n (Some f) = Some (f, n)
 abbrev pub sign_at : ℕ → ℕ → Option (Form × ℕ)
 sign_at b c = if b == 58 && c == 61 then Some (form.Assign, 2) else with_len 1 (one_byte b)
 
+-- whether the two bytes are `(*`
 abbrev pub opens_block : ℕ → ℕ → Bool
 opens_block b c = b == 40 && c == 42
 
+-- whether the two bytes are `//`
 abbrev pub opens_line : ℕ → ℕ → Bool
 opens_line b c = b == 47 && c == 47
 

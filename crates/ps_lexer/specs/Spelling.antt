@@ -2,7 +2,7 @@
 use Rattle.std.specs.Prelude.{◌≡◌, ◌==◌, ℕ, ◌<◌, ◌≤◌, Bool, true, ◌||◌, List, length, map, codes, slice_index}
 use Rattle.std.specs.List.{AllByRecursion}
 use Rattle.std.specs.Char.{is_ascii_alphabetic, is_ascii_digit, to_ascii_lowercase}
-use Rattle.ps_base.specs.declared.limits.TheConstants.{LONGEST_NAME, MOST_TOKENS}
+use Rattle.ps_base.specs.declared.limits.TheConstants.{LONGEST_NAME, LARGEST_TIME, MOST_TOKENS}
 use Rattle.ps_lexer.specs.declared.token.Form.{Form}
 use Rattle.ps_lexer.specs.declared.token.Form.TheVariants as form
 use Rattle.ps_lexer.specs.declared.token.Token.{Token}
@@ -46,12 +46,13 @@ pub record IsName (bytes : List ℕ) : Type 0 where
   pub short : length bytes ≤ LONGEST_NAME
   pub no_keyword : (k : Word) → folded bytes ≡ spelling k → ⊥
 
--- where the form is a name, its bytes are a name of the language
-abbrev pub IsWellNamed : Form → Type 0
-IsWellNamed (form.Name bytes) = IsName bytes
-IsWellNamed _ = Unit {0}
+-- where the form is a name, its bytes are a name of the language, and where it is a TIME literal, its value has its limit
+abbrev pub IsWellFormed : Form → Type 0
+IsWellFormed (form.Name bytes) = IsName bytes
+IsWellFormed (form.Time v) = v ≤ LARGEST_TIME
+IsWellFormed _ = Unit {0}
 
--- each name among the tokens is a name of the language, and there are at most 1,048,576 tokens
+-- each token is well formed, and there are at most 1,048,576 of them
 pub record IsTokenList (tokens : List Token) : Type 0 where
-  pub names : AllByRecursion (λ t. IsWellNamed t.form) tokens
+  pub forms : AllByRecursion (λ t. IsWellFormed t.form) tokens
   pub few : length tokens ≤ MOST_TOKENS

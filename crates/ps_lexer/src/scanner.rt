@@ -13,50 +13,56 @@ use ps_base::limits::{LARGEST_SOURCE, LONGEST_NAME};
 use ps_base::{Bytes, Fail, Memory, Place, Refusal, Rule};
 use std::alloc::Global;
 
-/// The byte at a place, and 0 past the end. No token, blank or comment has a 0.
+// The byte at a place, and 0 past the end. No token, blank or comment has a 0.
 fn byte_at(text: &[u8], i: usize) -> u8
     ensures { result ≡ slice_index text.now i }
 {
     if i < text.len() { text[i] } else { 0 }
 }
 
+// Whether a byte is a space, a tab, CR or LF.
 fn is_blank(b: u8) -> bool
     ensures { result ≡ is_blank b }
 {
     b == b' ' || b == b'\t' || b == b'\r' || b == b'\n'
 }
 
+// Whether a name can begin with a byte.
 fn begins_name(b: u8) -> bool
     ensures { result ≡ begins_name b }
 {
     b.is_ascii_alphabetic() || b == b'_'
 }
 
+// Whether a name can go on with a byte.
 fn continues_name(b: u8) -> bool
     ensures { result ≡ continues_name b }
 {
     begins_name(b) || b.is_ascii_digit()
 }
 
+// Whether a TIME literal can go on with a byte.
 fn continues_time(b: u8) -> bool
     ensures { result ≡ continues_time b }
 {
     continues_name(b) || b == b'.'
 }
 
+// Whether two bytes open a comment up to `*)`.
 fn opens_block(b: u8, next: u8) -> bool
     ensures { result ≡ opens_block b next }
 {
     b == b'(' && next == b'*'
 }
 
+// Whether two bytes open a comment up to LF.
 fn opens_line(b: u8, next: u8) -> bool
     ensures { result ≡ opens_line b next }
 {
     b == b'/' && next == b'/'
 }
 
-/// Where the letters, digits and underscores from a place on end.
+// Where the letters, digits and underscores from a place on end.
 fn name_end(text: &[u8], i: usize) -> usize
     requires { i ≤ length text.now }
     ensures from { i ≤ result }
@@ -71,7 +77,7 @@ fn name_end(text: &[u8], i: usize) -> usize
     j
 }
 
-/// Where the letters, digits, underscores and dots from a place on end.
+// Where the letters, digits, underscores and dots from a place on end.
 fn time_end(text: &[u8], i: usize) -> usize
     requires { i ≤ length text.now }
     ensures from { i ≤ result }
@@ -86,7 +92,7 @@ fn time_end(text: &[u8], i: usize) -> usize
     j
 }
 
-/// Where the comment ends that `(*` at a place opens, if it is closed.
+// Where the comment ends that `(*` at a place opens, if it is closed.
 fn block_end(text: &[u8], i: usize) -> Option<usize>
     requires { opens_block (slice_index text.now i) (slice_index text.now (i + 1)) ≡ true }
     ensures { MatchOption result (IsOpenComment text.now i) (λ j. IsBlockComment text.now i j) }
@@ -101,7 +107,7 @@ fn block_end(text: &[u8], i: usize) -> Option<usize>
     None
 }
 
-/// Where the comment ends that `//` at a place opens.
+// Where the comment ends that `//` at a place opens.
 fn line_end(text: &[u8], i: usize) -> usize
     requires { opens_line (slice_index text.now i) (slice_index text.now (i + 1)) ≡ true }
     ensures { IsLineComment text.now i result }
@@ -113,7 +119,7 @@ fn line_end(text: &[u8], i: usize) -> usize
     k
 }
 
-/// The keyword with this spelling, in any letter case.
+// The keyword with this spelling, in any letter case.
 fn keyword(word: &[u8]) -> Option<Word>
     ensures some { IfSome result (λ k. folded word.now ≡ spelling k) }
     ensures none { IfNone result ((k : Word) → folded word.now ≡ spelling k → ⊥) }
@@ -143,7 +149,7 @@ fn keyword(word: &[u8]) -> Option<Word>
     }
 }
 
-/// The longest sign that begins with these two bytes, and how many of them it has.
+// The longest sign that begins with these two bytes, and how many of them it has.
 fn sign(b: u8, next: u8) -> Option<(Form, usize)>
     ensures { result ≡ sign_at b next }
 {
@@ -168,7 +174,7 @@ fn sign(b: u8, next: u8) -> Option<(Form, usize)>
     }
 }
 
-/// What stands at a place: a blank, a comment up to a place, a token up to a place, or a rule that is broken.
+// What stands at a place: a blank, a comment up to a place, a token up to a place, or a rule that is broken.
 #[derive(Drop)]
 enum Piece {
     Blank,
@@ -177,7 +183,7 @@ enum Piece {
     Broken(Rule),
 }
 
-/// Whether the bytes begin with these, in any letter case.
+// Whether the bytes begin with these, in any letter case.
 fn begins_with(bytes: &[u8], front: &[u8]) -> bool
     ensures { IsTrue result ↔ (folded (take (length front.now) bytes.now) ≡ folded front.now) }
 {
@@ -187,7 +193,7 @@ fn begins_with(bytes: &[u8], front: &[u8]) -> bool
     }
 }
 
-/// How many bytes `T#` or `TIME#` has, where the bytes begin with one of them.
+// How many bytes `T#` or `TIME#` has, where the bytes begin with one of them.
 fn time_head_len(bytes: &[u8]) -> Option<usize>
     ensures some { IfSome result (λ n. (n ≤ length bytes.now) × IsTimeHead (take n bytes.now)) }
     ensures none { IfNone result ((n : ℕ) → IsTimeHead (take n bytes.now) → ⊥) }
@@ -201,7 +207,7 @@ fn time_head_len(bytes: &[u8]) -> Option<usize>
     }
 }
 
-/// The TIME literal at a place, of which the first bytes are `T#` or `TIME#`.
+// The TIME literal at a place, of which the first bytes are `T#` or `TIME#`.
 fn time_at(text: &[u8], i: usize, head_len: usize) -> Piece
     requires room { i + head_len ≤ length text.now }
     requires head { IsTimeHead (take head_len (drop i text.now)) }
@@ -215,7 +221,7 @@ fn time_at(text: &[u8], i: usize, head_len: usize) -> Piece
     }
 }
 
-/// The keyword or name at a place.
+// The keyword or name at a place.
 fn name_at(alloc: Global, text: &[u8], i: usize) -> Result<Piece, Memory>
     requires room { i < length text.now }
     requires begins { begins_name (slice_index text.now i) ≡ true }
@@ -233,7 +239,7 @@ fn name_at(alloc: Global, text: &[u8], i: usize) -> Result<Piece, Memory>
     }
 }
 
-/// What stands at a place of the text.
+// What stands at a place of the text.
 fn piece_at(alloc: Global, text: &[u8], i: usize) -> Result<Piece, Memory>
     requires { i < length text.now }
     ensures { IfOk result (IsPieceAt text.now i) }
@@ -264,7 +270,7 @@ fn piece_at(alloc: Global, text: &[u8], i: usize) -> Result<Piece, Memory>
     }
 }
 
-/// The place behind the bytes from one place up to another.
+// The place behind the bytes from one place up to another.
 fn advance(text: &[u8], from: usize, upto: usize, place: Place) -> Place
     requires size { length text.now ≤ LARGEST_SOURCE }
     requires order { from ≤ upto }
@@ -287,7 +293,7 @@ fn advance(text: &[u8], from: usize, upto: usize, place: Place) -> Place
     Place { line, column }
 }
 
-/// Takes the piece at a place, and says where it ends.
+// Takes the piece at a place, and says where it ends.
 fn take_piece(
     alloc: Global,
     text: &[u8],

@@ -6,7 +6,7 @@ use ps_base::{Fail, Place, Refusal, Rule};
 use std::alloc::Global;
 use std::test::Fail as TestFail;
 
-/// How many tokens a text has, and the place of its end, if it is not refused.
+// How many tokens a text has, and the place of its end, if it is not refused.
 fn count(alloc: Global, text: &[u8]) -> Option<(usize, Place)> {
     match lex(alloc, text) {
         Ok(tokens) => Some((tokens.list.len(), tokens.end)),
@@ -14,7 +14,7 @@ fn count(alloc: Global, text: &[u8]) -> Option<(usize, Place)> {
     }
 }
 
-/// The keyword that is the only token of a text.
+// The keyword that is the only token of a text.
 fn only_word(alloc: Global, text: &[u8]) -> Option<Word> {
     let tokens = lex(alloc, text).ok()?;
     if tokens.list.len() != 1 {
@@ -26,7 +26,7 @@ fn only_word(alloc: Global, text: &[u8]) -> Option<Word> {
     }
 }
 
-/// The value of the TIME literal that is the only token of a text.
+// The value of the TIME literal that is the only token of a text.
 fn only_time(alloc: Global, text: &[u8]) -> Option<u32> {
     let tokens = lex(alloc, text).ok()?;
     if tokens.list.len() != 1 {
@@ -38,7 +38,7 @@ fn only_time(alloc: Global, text: &[u8]) -> Option<u32> {
     }
 }
 
-/// Whether a text is one name, spelt with all its bytes.
+// Whether a text is one name, spelt with all its bytes.
 fn is_name(alloc: Global, text: &[u8]) -> bool {
     match lex(alloc, text) {
         Ok(tokens) if tokens.list.len() == 1 => match &tokens.list.at(0).form {
@@ -49,7 +49,7 @@ fn is_name(alloc: Global, text: &[u8]) -> bool {
     }
 }
 
-/// The refusal of a text, if it is refused.
+// The refusal of a text, if it is refused.
 fn refusal(alloc: Global, text: &[u8]) -> Option<Refusal> {
     match lex(alloc, text) {
         Err(Fail::Refused(refusal)) => Some(refusal),

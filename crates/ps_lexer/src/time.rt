@@ -18,7 +18,7 @@ pub enum TimeUnit {
 }
 
 impl TimeUnit {
-    /// The unit with this spelling, in any letter case.
+    // The unit with this spelling, in any letter case.
     fn from_letters(letters: &[u8]) -> Option<TimeUnit>
         ensures some { IfSome result (λ u. folded letters.now ≡ unit_spelling u) }
         ensures none { IfNone result ((u : TimeUnit) → folded letters.now ≡ unit_spelling u → ⊥) }
@@ -38,7 +38,7 @@ impl TimeUnit {
         }
     }
 
-    /// Its place in the order of the units, from 0.
+    // Its place in the order of the units, from 0.
     fn rank(self) -> u8
         ensures value { result ≡ rank self }
         ensures small { result < 5 }
@@ -52,7 +52,7 @@ impl TimeUnit {
         }
     }
 
-    /// How many ms it has.
+    // How many ms it has.
     fn milliseconds(self) -> u32
         ensures { result ≡ milliseconds self }
     {
@@ -66,7 +66,7 @@ impl TimeUnit {
     }
 }
 
-/// How many digits the bytes begin with.
+// How many digits the bytes begin with.
 fn digits_len(bytes: &[u8]) -> usize
     ensures within { result ≤ length bytes.now }
     ensures digits { (k : ℕ) → k < result → is_ascii_digit (slice_index bytes.now k) ≡ true }
@@ -79,7 +79,7 @@ fn digits_len(bytes: &[u8]) -> usize
     n
 }
 
-/// How many letters the bytes begin with.
+// How many letters the bytes begin with.
 fn letters_len(bytes: &[u8]) -> usize
     ensures within { result ≤ length bytes.now }
     ensures letters { (k : ℕ) → k < result → is_ascii_alphabetic (slice_index bytes.now k) ≡ true }
@@ -92,7 +92,7 @@ fn letters_len(bytes: &[u8]) -> usize
     n
 }
 
-/// The digits that the bytes begin with, the letters behind them, and the rest.
+// The digits that the bytes begin with, the letters behind them, and the rest.
 fn split_part(bytes: &[u8]) -> (&[u8], &[u8], &[u8])
     ensures { IsSplit bytes.now result.0.now result.1.now result.2.now }
 {
@@ -101,7 +101,7 @@ fn split_part(bytes: &[u8]) -> (&[u8], &[u8], &[u8])
     (digits, letters, tail)
 }
 
-/// The number that digits write, with any leading zeros, if it has 32 bits.
+// The number that digits write, with any leading zeros, if it has 32 bits.
 fn number(digits: &[u8]) -> Option<u32>
     requires { AllByRecursion (λ b. is_ascii_digit b ≡ true) digits.now }
     ensures some { IfSome result (λ n. n ≡ number_of digits.now) }
@@ -115,7 +115,7 @@ fn number(digits: &[u8]) -> Option<u32>
     Some(n)
 }
 
-/// What stands behind an underscore, if the bytes begin with one, and else all of them.
+// What stands behind an underscore, if the bytes begin with one, and else all of them.
 fn behind_gap(tail: &[u8]) -> &[u8]
     ensures { result.now ≡ gap_rest tail.now }
 {
@@ -125,8 +125,8 @@ fn behind_gap(tail: &[u8]) -> &[u8]
     }
 }
 
-/// The sum of the parts, whose units come in order from one rank on. Each part calls for the next, so at most five
-/// calls are open.
+// The sum of the parts, whose units come in order from one rank on. Each part calls for the next, so at most five
+// calls are open.
 fn parts(bytes: &[u8], least: u8) -> Option<u32>
     requires { least ≤ 5 }
     ensures some { IfSome result (PartsGive least bytes.now) }

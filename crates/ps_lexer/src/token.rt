@@ -2,7 +2,7 @@
 
 ghost use Rattle.std.specs.Prelude.{◌≡◌, ◌<◌, [], ◌∷◌, ◌++◌, OnOk, OnErr, length, slice_get};
 ghost use Rattle.ps_lexer.specs.declared.token.Token.{Token};
-ghost use Rattle.ps_lexer.specs.Spelling.{IsTokenList, IsWellNamed};
+ghost use Rattle.ps_lexer.specs.Spelling.{IsTokenList, IsWellFormed};
 
 use ps_base::limits::MOST_TOKENS;
 use ps_base::{Bytes, Memory, Place};
@@ -51,7 +51,7 @@ pub struct Token {
 }
 
 /// Tokens in the order of the text, which contracts see as a list. Each name among them is a name of the language,
-/// and there are at most `MOST_TOKENS` of them.
+/// each TIME literal is at most `LARGEST_TIME` ms, and there are at most `MOST_TOKENS` of them.
 #[derive(Drop, Debug)]
 pub struct TokenList {
     items: Vec<Token>,
@@ -89,7 +89,7 @@ impl TokenList {
     /// One more token at the end.
     pub fn push(&mut self, token: Token) -> Result<(), Memory>
         requires few { length self.old < MOST_TOKENS }
-        requires name { IsWellNamed token.form }
+        requires form { IsWellFormed token.form }
         ensures ok { OnOk result (self.new ≡ self.old ++ token ∷ []) }
         ensures err { OnErr result (self.new ≡ self.old) }
     {
@@ -108,7 +108,7 @@ impl TokenList {
     pub fn at(&self, i: usize) -> &Token
         requires { i < length self.now }
         ensures item { slice_get self.now i ≡ Some result.now }
-        ensures name { IsWellNamed result.now.form }
+        ensures form { IsWellFormed result.now.form }
     {
         &self.items[i]
     }

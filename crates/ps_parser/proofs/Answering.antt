@@ -1,6 +1,6 @@
 -- What `parse_from` and `parse` answer, from what is read.
 use Rattle.std.proofs.Common.{◌≡◌, ℕ, ◌+◌, ◌-◌, ◌≤◌, ◌<◌, length, List, [], ◌∷◌, ◌++◌, take, drop, Result, Ok, Err, sym, refl, ap, ◌∙◌, subst, arith, length-append, length-take-le}
-use Rattle.std.proofs.lemmas.List.{append-nil, length-map, take-append-drop, length-drop, take_all}
+use Rattle.std.proofs.lemmas.List.{append-nil, length-map, map-append, take-append-drop, length-drop, take_all}
 use Rattle.std.proofs.Math.Seq.{drop-append-add}
 use Rattle.std.specs.Result.{IsErrAnd}
 use Rattle.ps_base.specs.declared.failing.Fail.{Fail}
@@ -13,18 +13,19 @@ use Rattle.ps_lexer.specs.declared.token.Token.{Token}
 use Rattle.ps_lexer.specs.declared.token.Tokens.{Tokens}
 use Rattle.ps_parser.specs.declared.heads.Heads.{Heads}
 use Rattle.ps_parser.specs.declared.heads.Heads.TheVariants.{Program}
-use Rattle.ps_parser.specs.declared.stop.Fault.{Fault}
+use Rattle.ps_parser.specs.declared.stop.Flaw.{Flaw}
+use Rattle.ps_parser.specs.declared.stop.Flaw.TheVariants.{Unexpected, TooDeep}
 use Rattle.ps_parser.specs.Names.{IsPlainName}
-use Rattle.ps_parser.specs.Symbol.{Symbol, symbol, symbols, AllNamed}
+use Rattle.ps_parser.specs.Symbol.{Symbol, symbol, symbols, AllProper}
 use Rattle.ps_parser.specs.Tree.{SourceTree}
 use Rattle.ps_parser.specs.Spelt.{spelt}
-use Rattle.ps_parser.specs.Phrase.{Reads, Refuses}
+use Rattle.ps_parser.specs.Phrase.{Reads, IsRuledOut, Refuses}
 use Rattle.ps_parser.specs.Grammar.{a_source}
-use Rattle.ps_parser.specs.Parsing.{Breaks, rule_of, place_at, IsRefused, IsSpelt, IsSpeltBetween, Answers, AnswersFrom}
-use Rattle.ps_parser.proofs.Phrases.{ends_between}
+use Rattle.ps_parser.specs.Parsing.{Breaks, rule_of, place_at, IsRefused, IsRefusedFrom, IsSpelt, IsSpeltBetween, Answers, AnswersFrom}
+use Rattle.ps_parser.proofs.Phrases.{never, ends_between}
 use Rattle.ps_parser.proofs.Sentences.{source_law}
 use Rattle.ps_parser.proofs.Fitting.{source_in}
-use Rattle.ps_parser.proofs.Public.{source_spelt, source_within, symbols_front, refused, named_tokens, named_drop}
+use Rattle.ps_parser.proofs.Public.{source_spelt, source_within, symbols_front, refusal_of_left, proper_tokens, proper_drop}
 
 -- what a slice that is open at its end holds
 abbrev pub tail_of : List Token → ℕ → List Token
@@ -33,30 +34,30 @@ tail_of all k = take (length all - k) (drop k all)
 tail_is : (all : List Token) (k : ℕ) → tail_of all k ≡ drop k all
 tail_is all k = take_all (length all - k) (drop k all) (omega (arith, length-drop k all))
 
-pub from_named : (all list : List Token) (k : ℕ) → all ≡ list → IsTokenList list → AllNamed (symbols (tail_of all k))
-from_named all list k e h = subst (λ l. AllNamed (symbols l)) (sym (tail_is all k)) (named_drop k all (subst (λ l. AllNamed (symbols l)) (sym e) (named_tokens list h.names)))
+pub from_proper : (all list : List Token) (k : ℕ) → all ≡ list → IsTokenList list → AllProper (symbols (tail_of all k))
+from_proper all list k e h = subst (λ l. AllProper (symbols l)) (sym (tail_is all k)) (proper_drop k all (subst (λ l. AllProper (symbols l)) (sym e) (proper_tokens list h.forms)))
 
-taken_length : (ts left : List Token) (front : List Symbol) → symbols ts ≡ front ++ symbols left → length left ≤ length ts
-taken_length ts left front e = omega (arith, ap length e, length-map ts symbol, length-map left symbol, length-append front (symbols left))
+rest_is_no_longer : (ts left : List Token) (front : List Symbol) → symbols ts ≡ front ++ symbols left → length left ≤ length ts
+rest_is_no_longer ts left front e = omega (arith, ap length e, length-map ts symbol, length-map left symbol, length-append front (symbols left))
 
 pub from_left : (all left : List Token) (k : ℕ) (front : List Symbol) → symbols (tail_of all k) ≡ front ++ symbols left → length left ≤ length all
 from_left all left k front e =
-    let le = taken_length (drop k all) left front (subst (λ l. symbols l ≡ front ++ symbols left) (tail_is all k) e) in
+    let le = rest_is_no_longer (drop k all) left front (subst (λ l. symbols l ≡ front ++ symbols left) (tail_is all k) e) in
     omega (arith, le, length-drop k all)
 
 pub from_ok : (h : Heads) (all list : List Token) (k : ℕ) (s : SourceTree) (rest : List Token) → all ≡ list → IsTokenList list → k ≤ length list
     → Reads (a_source h) MOST_GROUPS (symbols (tail_of all k)) s (symbols rest) → IsSpeltBetween h list k (length all - length rest) s
 from_ok h all list k s rest e tokens le r =
     let inner : Reads (a_source h) MOST_GROUPS (symbols (drop k all)) s (symbols rest) = subst (λ l. Reads (a_source h) MOST_GROUPS (symbols l) s (symbols rest)) (tail_is all k) r in
-    let named = subst (λ l. AllNamed (symbols l)) (tail_is all k) (from_named all list k e tokens) in
-    let short = taken_length (drop k all) rest ((a_source h).spell s) inner.spelled in
+    let proper = subst (λ l. AllProper (symbols l)) (tail_is all k) (from_proper all list k e tokens) in
+    let short = rest_is_no_longer (drop k all) rest ((a_source h).spell s) inner.spelled in
     let n = length all - length rest in
     let count : n - k ≡ length (drop k all) - length rest = omega (arith, length-drop k all, short) in
     subst (λ l. IsSpeltBetween h l k n s) e (record {
       ahead = omega (arith, length-drop k all, short, le, ap length e);
       inside = omega arith;
       spelling = record {
-        within = source_within h (symbols (drop k all)) (symbols rest) s named inner;
+        within = source_within h (symbols (drop k all)) (symbols rest) s proper inner;
         spelling = ap (λ m. symbols (take m (drop k all))) count ∙ symbols_front (drop k all) rest ((a_source h).spell s) inner.spelled ∙ sym (source_spelt h s);
       };
     })
@@ -66,19 +67,34 @@ drop_more all k m le =
     let short : length (take k all) ≡ k = length-take-le k all le in
     sym (drop-append-add (take k all) (drop k all) m) ∙ ap (λ n. drop (n + m) (take k all ++ drop k all)) short ∙ ap (drop (k + m)) (take-append-drop k all)
 
-pub from_err : (h : Heads) (fault : Fault) (all list : List Token) (k : ℕ) (left : List Token) (end place : Place) → all ≡ list → IsTokenList list → k ≤ length list
-    → Refuses (a_source h) MOST_GROUPS fault (symbols (tail_of all k)) (symbols left) → place ≡ place_at (drop (length all - length left) list) end
-    → IsRefused h (drop k list) end (record { rule = rule_of fault; place = place })
-from_err h fault all list k left end place e tokens le r at =
-    let inner : Refuses (a_source h) MOST_GROUPS fault (symbols (drop k all)) (symbols left) = subst (λ l. Refuses (a_source h) MOST_GROUPS fault (symbols l) (symbols left)) (tail_is all k) r in
-    let named = subst (λ l. AllNamed (symbols l)) (tail_is all k) (from_named all list k e tokens) in
-    let short = taken_length (drop k all) left inner.front inner.split in
+limit_ruled_out : (flaw : Flaw) → IsRuledOut flaw MOST_GROUPS MOST_GROUPS
+limit_ruled_out Unexpected = tt
+limit_ruled_out TooDeep = omega arith
+
+-- where a source is refused, none is spelt at the front
+no_source_at_front : (h : Heads) (flaw : Flaw) (ts : List Token) (left : List Symbol) → Refuses (a_source h) MOST_GROUPS flaw (symbols ts) left
+    → (front rest : List Token) (s : SourceTree) → ts ≡ front ++ rest → IsSpelt h front s → ⊥
+no_source_at_front h flaw ts left r front rest s split spelling =
+    let within = spelling.within in
+    let e : (a_source h).spell s ++ symbols rest ≡ r.front ++ left =
+    ap (λ l. l ++ symbols rest) (sym (source_spelt h s) ∙ sym spelling.spelling) ∙ sym (map-append symbol front rest) ∙ ap symbols (sym split) ∙ r.split in
+    r.blocks MOST_GROUPS (limit_ruled_out flaw) s (symbols rest) left (source_in IsPlainName h MOST_GROUPS s within.grammatical within.nested) (never (symbols rest)) e refl
+
+pub from_err : (h : Heads) (flaw : Flaw) (all list : List Token) (k : ℕ) (left : List Token) (end place : Place) → all ≡ list → IsTokenList list → k ≤ length list
+    → Refuses (a_source h) MOST_GROUPS flaw (symbols (tail_of all k)) (symbols left) → place ≡ place_at (drop (length all - length left) list) end
+    → IsRefusedFrom h (drop k list) end (record { rule = rule_of flaw; place = place })
+from_err h flaw all list k left end place e tokens le r at =
+    let inner : Refuses (a_source h) MOST_GROUPS flaw (symbols (drop k all)) (symbols left) = subst (λ l. Refuses (a_source h) MOST_GROUPS flaw (symbols l) (symbols left)) (tail_is all k) r in
+    let proper = subst (λ l. AllProper (symbols l)) (tail_is all k) (from_proper all list k e tokens) in
+    let short = rest_is_no_longer (drop k all) left inner.front inner.split in
     let within : k ≤ length all = omega (arith, le, ap length e) in
     let count : length all - length left ≡ k + (length (drop k all) - length left) = omega (arith, length-drop k all, short, within) in
     let here : drop (length all - length left) list ≡ drop (length (drop k all) - length left) (drop k all) =
     ap (drop (length all - length left)) (sym e) ∙ ap (λ n. drop n all) count ∙ sym (drop_more all k (length (drop k all) - length left) within) in
-    subst (λ l. IsRefused h (drop k l) end (record { rule = rule_of fault; place = place })) e
-    (refused h fault (drop k all) left end place named inner (at ∙ ap (λ l. place_at l end) here))
+    subst (λ l. IsRefusedFrom h (drop k l) end (record { rule = rule_of flaw; place = place })) e (record {
+      none = no_source_at_front h flaw (drop k all) (symbols left) inner;
+      refused = refusal_of_left h flaw (drop k all) left end place proper inner (at ∙ ap (λ l. place_at l end) here);
+    })
 
 -- the refusal of what stands behind a whole source
 breaks_behind : (h : Heads) (s : SourceTree) (front : List Symbol) (rest : List Token) → (a_source h).fits MOST_GROUPS s → spelt h s ≡ front → 0 < length rest → Breaks P1 h front (symbols rest)
@@ -120,4 +136,4 @@ parse_exit tokens e (Err d) is p = subst (λ z. Answers tokens (Err z)) (sym is)
   where
     same : (e : Fail) → AnswersFrom Program tokens 0 (Err e) → Answers tokens (Err e)
     same Memory p = tt
-    same (Refused refusal) p = p
+    same (Refused refusal) p = p.refused

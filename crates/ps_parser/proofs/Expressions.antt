@@ -2,8 +2,8 @@
 use Rattle.std.proofs.Common.{◌≡◌, ℕ, zero, suc, ◌≤◌, ◌<◌, length, Bool, true, false, ◌||◌, List, [], ◌∷◌, ◌++◌, Some, take, refl, sym, ap, ◌∙◌, subst, append_assoc, arith}
 use Rattle.std.specs.Prelude.{slice_index}
 use Rattle.std.specs.List.{flat_map}
-use Rattle.ps_parser.specs.declared.stop.Fault.{Fault}
-use Rattle.ps_parser.specs.declared.stop.Fault.TheVariants.{Unexpected, TooDeep}
+use Rattle.ps_parser.specs.declared.stop.Flaw.{Flaw}
+use Rattle.ps_parser.specs.declared.stop.Flaw.TheVariants.{Unexpected, TooDeep}
 use Rattle.ps_parser.specs.declared.sign.Sign.TheVariants.{And, Or, LeftBracket, RightBracket, Dot}
 use Rattle.ps_parser.specs.declared.name.Name.{Name}
 use Rattle.ps_parser.specs.declared.statement.Target.{Target}
@@ -12,13 +12,13 @@ use Rattle.ps_base.specs.declared.failing.Place.{Place}
 use Rattle.ps_lexer.specs.Spelling.{IsName, continues_name}
 use Rattle.ps_lexer.specs.declared.token.Word.TheVariants as word
 use Rattle.ps_parser.specs.Names.{IsPlainName}
-use Rattle.ps_parser.specs.Symbol.{Symbol, Mark, Named, Truth, Duration, is_mark, is_named, AllNamed}
+use Rattle.ps_parser.specs.Symbol.{Symbol, Mark, Named, Truth, Duration, is_mark, is_named, AllProper}
 use Rattle.ps_parser.specs.Tree.{FactorTree, Signal, Pin, Literal, Time, Group, ProductTree, no_factor, factor, SumTree, no_product, product, factors, products, product_of, sum_of}
 use Rattle.ps_parser.specs.Spelt.{factor_spelt, product_spelt, more_factors, sum_spelt, more_products, target_spelt}
 use Rattle.ps_parser.specs.Phrase.{Phrase, Stops, next, Reads, Begins, Blocks, IsRuledOut, Deeper, Refuses, goes_on_many, ◌then◌, just, behind, joined}
 use Rattle.ps_parser.specs.Grammar.{FactorFits, never, is_literal, is_other, factor_goes_on, a_factor, a_product, a_sum, a_name, a_target}
 use Rattle.ps_parser.proofs.Signs.{of_mark, not_next}
-use Rattle.ps_parser.proofs.Phrases.{named_append, stops_alike, EndsAt, Lawful, Meets, just_lawful, joined_lawful, reads_just, refuses_here, ends_joined, grows_joined, ReadsSome, row_starts, row_more, row_reads, row_refuses_first, row_refuses, seen_lawful}
+use Rattle.ps_parser.proofs.Phrases.{proper_append, stops_alike, EndsAt, Lawful, Meets, just_lawful, joined_lawful, reads_just, refuses_here, ends_joined, joined_fit_deeper, ReadsSome, row_starts, row_more, row_reads, row_refuses_first, row_refuses, seen_lawful}
 use Rattle.ps_parser.proofs.Joints.{Joint, Carries, in_first, in_second, reads_both}
 
 -- a list of phrases does not go on with what goes on with none of them
@@ -117,17 +117,17 @@ ends_factor (suc n) (Group s) (Group u) r q fx fy sx sy e =
 ends_factor n x y r q fx fy sx sy e = absurd cc
 
 fits_sum_of : (n m : ℕ) → ((f : FactorTree) → FactorFits n f → FactorFits m f) → (s : SumTree) → a_sum.fits n s → a_sum.fits m s
-fits_sum_of n m grows s h =
-    grows_joined (Mark Or) (is_mark Or) a_product refl product_parts tt n m (λ p. grows_joined (Mark And) (is_mark And) a_factor refl factor_parts tt n m grows (factors p)) (products s) h
+fits_sum_of n m fits_deeper s h =
+    joined_fit_deeper (Mark Or) (is_mark Or) a_product refl product_parts tt n m (λ p. joined_fit_deeper (Mark And) (is_mark And) a_factor refl factor_parts tt n m fits_deeper (factors p)) (products s) h
 
-grows_factor : (n m : ℕ) (f : FactorTree) → n ≤ m → FactorFits n f → FactorFits m f
-grows_factor zero m (Group s) le h = absurd h
-grows_factor (suc n) zero (Group s) le h = absurd (omega arith)
-grows_factor (suc n) (suc m) (Group s) le h = fits_sum_of n m (λ f. grows_factor n m f (omega arith)) s h
-grows_factor n m (Signal k) le h = tt
-grows_factor n m (Pin k q) le h = tt
-grows_factor n m (Literal b p) le h = tt
-grows_factor n m (Time b p) le h = tt
+factor_fits_deeper : (n m : ℕ) (f : FactorTree) → n ≤ m → FactorFits n f → FactorFits m f
+factor_fits_deeper zero m (Group s) le h = absurd h
+factor_fits_deeper (suc n) zero (Group s) le h = absurd (omega arith)
+factor_fits_deeper (suc n) (suc m) (Group s) le h = fits_sum_of n m (λ f. factor_fits_deeper n m f (omega arith)) s h
+factor_fits_deeper n m (Signal k) le h = tt
+factor_fits_deeper n m (Pin k q) le h = tt
+factor_fits_deeper n m (Literal b p) le h = tt
+factor_fits_deeper n m (Time b p) le h = tt
 
 -- the name `_`, for phrases that may stand where a text breaks off
 pub some_name : Name
@@ -144,15 +144,15 @@ some_is_name = record {
     one_byte zero h = refl
     one_byte (suc k) h = absurd (omega arith)
 
-pub some_named : IsPlainName some_name.text
+pub some_proper : IsPlainName some_name.text
 unfolding some_name
-some_named = record { name = some_is_name; plain = refl }
+some_proper = record { name = some_is_name; plain = refl }
 
 pub name_law : Lawful a_name
-name_law = record { grows = λ n m x le f. tt; ends = λ n x y r q fx fy sx sy e. (cc, cc); some = some_name; some_fits = tt; some_named = (some_named, tt) }
+name_law = record { fits_deeper = λ n m x le f. tt; ends = λ n x y r q fx fy sx sy e. (cc, cc); some = some_name; some_fits = tt; some_proper = (some_proper, tt) }
 
 pub factor_law : Lawful a_factor
-factor_law = record { grows = λ n m f. grows_factor n m f; ends = ends_factor; some = Signal some_name; some_fits = tt; some_named = (some_named, tt) }
+factor_law = record { fits_deeper = λ n m f. factor_fits_deeper n m f; ends = ends_factor; some = Signal some_name; some_fits = tt; some_proper = (some_proper, tt) }
 
 pub product_law : Lawful a_product
 product_law = seen_lawful factors product_of factors-product_of product_of-factors (joined (Mark And) (is_mark And) a_factor) (joined_lawful (Mark And) (is_mark And) a_factor refl factor_parts tt factor_law)
@@ -167,7 +167,7 @@ ends_target n (target.Pin m j) (target.Name k) r q fx fy sx sy e = absurd (no_do
 ends_target n (target.Pin m j) (target.Pin k l) r q fx fy sx sy e = (cc, cc)
 
 pub target_law : Lawful a_target
-target_law = record { grows = λ n m x le f. tt; ends = ends_target; some = target.Name some_name; some_fits = tt; some_named = (some_named, tt) }
+target_law = record { fits_deeper = λ n m x le f. tt; ends = ends_target; some = target.Name some_name; some_fits = tt; some_proper = (some_proper, tt) }
 
 -- a sum, and the sign behind it
 pub sum_meets : (t : Symbol) → is_mark Dot t ≡ false → is_mark And t ≡ false → is_mark Or t ≡ false → Meets a_sum (just t)
@@ -183,8 +183,8 @@ just_meets t b n x y after f stops = never_stops (b.spell y ++ after)
 pub name_meets : {X : Type 0} (b : Phrase X) → Meets a_name b
 name_meets b n x y after f stops = never_stops (b.spell y ++ after)
 
-pub refuses_just : (t : Symbol) → AllNamed (t ∷ []) → (limit : ℕ) (ts : List Symbol) → (next ts ≡ Some t → ⊥) → Refuses (just t) limit Unexpected ts ts
-refuses_just t named limit ts differs = refuses_here (just t) (just_lawful t named.0) limit ts (λ n x after other f stops e same. differs (sym same ∙ ap next (sym e)))
+pub refuses_just : (t : Symbol) → AllProper (t ∷ []) → (limit : ℕ) (ts : List Symbol) → (next ts ≡ Some t → ⊥) → Refuses (just t) limit Unexpected ts ts
+refuses_just t proper limit ts differs = refuses_here (just t) (just_lawful t proper.0) limit ts (λ n x after other f stops e same. differs (sym same ∙ ap next (sym e)))
 
 pub reads_sign : (t : Symbol) (limit : ℕ) (ts rest : List Symbol) → ts ≡ t ∷ rest → Reads (just t) limit ts tt rest
 reads_sign t limit ts rest e = subst (λ l. Reads (just t) limit l tt rest) (sym e) (reads_just t limit rest)
@@ -211,10 +211,10 @@ reads_pin limit n q ts mid after rest h e k = record {
 }
 
 begins_target : (n : ℕ) (front : List Symbol) → Begins a_name n front → Begins a_target n front
-begins_target n front h = record { tree = target.Name h.tree; more = h.more; whole = tt; named = h.named; spelled = h.spelled }
+begins_target n front h = record { tree = target.Name h.tree; more = h.more; whole = tt; proper = h.proper; spelled = h.spelled }
 
 pub refuses_target : (limit : ℕ) (ts : List Symbol) → Carries a_name a_target limit limit ts ts
-refuses_target limit ts fault rest h = record {
+refuses_target limit ts flaw rest h = record {
   front = h.front;
   split = h.split;
   begins = begins_target limit h.front h.begins;
@@ -222,18 +222,18 @@ refuses_target limit ts fault rest h = record {
     | target.Name m ↦ λ after other f stops e same. h.blocks n out m after other tt (never_stops after) e same
     | target.Pin m q ↦ λ after other f stops e same. h.blocks n out m (Mark Dot ∷ Named q ∷ after) other tt refl e same
   ];
-  stands = h.stands;
-  deeper = elim fault as (λ r. Deeper a_name r limit (h.front ++ take 1 rest) → Deeper a_target r limit (h.front ++ take 1 rest)) [ Unexpected ↦ λ d. tt | TooDeep ↦ λ d. begins_target (suc limit) (h.front ++ take 1 rest) d ] h.deeper;
+  bracket = h.bracket;
+  deeper = elim flaw as (λ r. Deeper a_name r limit (h.front ++ take 1 rest) → Deeper a_target r limit (h.front ++ take 1 rest)) [ Unexpected ↦ λ d. tt | TooDeep ↦ λ d. begins_target (suc limit) (h.front ++ take 1 rest) d ] h.deeper;
 }
 
 begins_pin : (n : ℕ) (m : Name) (front : List Symbol) → Begins a_name n front → Begins a_target n (Named m ∷ Mark Dot ∷ front)
-begins_pin n m front h = record { tree = target.Pin m h.tree; more = h.more; whole = tt; named = h.named; spelled = ap (λ l. Named m ∷ Mark Dot ∷ l) h.spelled }
+begins_pin n m front h = record { tree = target.Pin m h.tree; more = h.more; whole = tt; proper = h.proper; spelled = ap (λ l. Named m ∷ Mark Dot ∷ l) h.spelled }
 
 tail_of : (t u : Symbol) (xs ys : List Symbol) → t ∷ xs ≡ u ∷ ys → xs ≡ ys
 tail_of t u xs ys e = cc
 
 pub refuses_pin : (limit : ℕ) (n : Name) (ts mid after : List Symbol) → Reads a_name limit ts n mid → mid ≡ Mark Dot ∷ after → Carries a_name a_target limit limit after ts
-refuses_pin limit n ts mid after k is fault rest h = record {
+refuses_pin limit n ts mid after k is flaw rest h = record {
   front = Named n ∷ Mark Dot ∷ h.front;
   split = k.spelled ∙ ap (λ l. Named n ∷ l) is ∙ ap (λ l. Named n ∷ Mark Dot ∷ l) h.split;
   begins = begins_pin limit n h.front h.begins;
@@ -241,8 +241,8 @@ refuses_pin limit n ts mid after k is fault rest h = record {
     | target.Name m ↦ λ more other f stops e same. no_dot more (h.front ++ other) stops (tail_of (Named m) (Named n) more (Mark Dot ∷ (h.front ++ other)) e)
     | target.Pin m q ↦ λ more other f stops e same. h.blocks d out q more other tt (never_stops more) (tail_of (Mark Dot) (Mark Dot) (Named q ∷ more) (h.front ++ other) (tail_of (Named m) (Named n) (Mark Dot ∷ Named q ∷ more) (Mark Dot ∷ (h.front ++ other)) e)) same
   ];
-  stands = h.stands;
-  deeper = elim fault as (λ r. Deeper a_name r limit (h.front ++ take 1 rest) → Deeper a_target r limit (Named n ∷ Mark Dot ∷ (h.front ++ take 1 rest))) [ Unexpected ↦ λ d. tt | TooDeep ↦ λ d. begins_pin (suc limit) n (h.front ++ take 1 rest) d ] h.deeper;
+  bracket = h.bracket;
+  deeper = elim flaw as (λ r. Deeper a_name r limit (h.front ++ take 1 rest) → Deeper a_target r limit (Named n ∷ Mark Dot ∷ (h.front ++ take 1 rest))) [ Unexpected ↦ λ d. tt | TooDeep ↦ λ d. begins_pin (suc limit) n (h.front ++ take 1 rest) d ] h.deeper;
 }
 
 or_both : (a b : Bool) → a ≡ false → b ≡ false → a || b ≡ false
@@ -275,8 +275,8 @@ begins_operand : (n : ℕ) (front : List Symbol) → Begins a_target n front →
 begins_operand n front h = of_target h.tree h.spelled
   where
     of_target : (x : Target) → target_spelt x ≡ front ++ h.more → Begins a_factor n front
-    of_target (target.Name m) e = record { tree = Signal m; more = h.more; whole = tt; named = h.named; spelled = e }
-    of_target (target.Pin m q) e = record { tree = Pin m q; more = h.more; whole = tt; named = h.named; spelled = e }
+    of_target (target.Name m) e = record { tree = Signal m; more = h.more; whole = tt; proper = h.proper; spelled = e }
+    of_target (target.Pin m q) e = record { tree = Pin m q; more = h.more; whole = tt; proper = h.proper; spelled = e }
 
 blocks_operand : (n : ℕ) (front rest : List Symbol) → Stops is_other (front ++ rest) → Blocks a_target n front rest → Blocks a_factor n front rest
 blocks_operand n front rest other_stops blocks (Signal k) after other f stops e same = blocks (target.Name k) after other tt stops e same
@@ -286,13 +286,13 @@ blocks_operand n front rest other_stops blocks (Time t p) after other f stops e 
 blocks_operand n front rest other_stops blocks (Group u) after other f stops e same = let s = subst (Stops is_other) (sym e) (stops_alike is_other front rest other other_stops same) in cc
 
 pub refuses_operand : (limit : ℕ) (ts : List Symbol) → Stops is_other ts → Carries a_target a_factor limit limit ts ts
-refuses_operand limit ts other_stops fault rest h = record {
+refuses_operand limit ts other_stops flaw rest h = record {
   front = h.front;
   split = h.split;
   begins = begins_operand limit h.front h.begins;
   blocks = λ n out. blocks_operand n h.front rest (subst (Stops is_other) h.split other_stops) (h.blocks n out);
-  stands = h.stands;
-  deeper = elim fault as (λ r. Deeper a_target r limit (h.front ++ take 1 rest) → Deeper a_factor r limit (h.front ++ take 1 rest)) [ Unexpected ↦ λ d. tt | TooDeep ↦ λ d. begins_operand (suc limit) (h.front ++ take 1 rest) d ] h.deeper;
+  bracket = h.bracket;
+  deeper = elim flaw as (λ r. Deeper a_target r limit (h.front ++ take 1 rest) → Deeper a_factor r limit (h.front ++ take 1 rest)) [ Unexpected ↦ λ d. tt | TooDeep ↦ λ d. begins_operand (suc limit) (h.front ++ take 1 rest) d ] h.deeper;
 }
 
 -- a sum and its closing bracket
@@ -314,7 +314,7 @@ begins_group n front h = record {
   tree = Group h.tree.0;
   more = h.more;
   whole = h.whole.0;
-  named = h.named;
+  proper = h.proper;
   spelled = ap (λ l. Mark LeftBracket ∷ l) (ap (λ l. l ++ (Mark RightBracket ∷ [])) (sum_spelt_lem h.tree.0) ∙ h.spelled);
 }
 
@@ -324,18 +324,18 @@ blocks_group (suc n) front rest blocks (Group s) after other f stops e same =
     blocks n refl (s, tt) after other (f, tt) (never_stops after) (append_assoc (a_sum.spell s) (Mark RightBracket ∷ []) after ∙ tail_equal (Mark LeftBracket) (a_sum.spell s ++ (Mark RightBracket ∷ after)) (front ++ other) (sym (group_spelt s after) ∙ e)) same
 blocks_group n front rest blocks x after other f stops e same = cc
 
-ruled_out : (fault : Fault) (limit n d : ℕ) → suc d ≡ n → IsRuledOut fault (suc limit) n → IsRuledOut fault limit d
+ruled_out : (flaw : Flaw) (limit n d : ℕ) → suc d ≡ n → IsRuledOut flaw (suc limit) n → IsRuledOut flaw limit d
 ruled_out Unexpected limit n d e out = tt
 ruled_out TooDeep limit n d e out = omega arith
 
 refuses_group : (limit : ℕ) (ts inside : List Symbol) → ts ≡ Mark LeftBracket ∷ inside → Carries a_group a_factor limit (suc limit) inside ts
-refuses_group limit ts inside is fault rest h = record {
+refuses_group limit ts inside is flaw rest h = record {
   front = Mark LeftBracket ∷ h.front;
   split = is ∙ ap (λ l. Mark LeftBracket ∷ l) h.split;
   begins = begins_group limit h.front h.begins;
-  blocks = λ n out. blocks_group n h.front rest (λ d e. h.blocks d (ruled_out fault limit n d e out));
-  stands = h.stands;
-  deeper = elim fault as (λ r. Deeper a_group r limit (h.front ++ take 1 rest) → Deeper a_factor r (suc limit) (Mark LeftBracket ∷ (h.front ++ take 1 rest))) [ Unexpected ↦ λ d. tt | TooDeep ↦ λ d. begins_group (suc limit) (h.front ++ take 1 rest) d ] h.deeper;
+  blocks = λ n out. blocks_group n h.front rest (λ d e. h.blocks d (ruled_out flaw limit n d e out));
+  bracket = h.bracket;
+  deeper = elim flaw as (λ r. Deeper a_group r limit (h.front ++ take 1 rest) → Deeper a_factor r (suc limit) (Mark LeftBracket ∷ (h.front ++ take 1 rest))) [ Unexpected ↦ λ d. tt | TooDeep ↦ λ d. begins_group (suc limit) (h.front ++ take 1 rest) d ] h.deeper;
 }
 
 no_group : (n : ℕ) (f : FactorTree) (r : List Symbol) → n ≤ 0 → FactorFits n f → next (factor_spelt f ++ r) ≡ Some (Mark LeftBracket) → ⊥
@@ -348,20 +348,20 @@ refuses_deep : (ts inside : List Symbol) → ts ≡ Mark LeftBracket ∷ inside 
 refuses_deep ts inside is = record {
   front = [];
   split = refl;
-  begins = record { tree = factor_law.some; more = factor_spelt factor_law.some; whole = factor_law.some_fits; named = factor_law.some_named; spelled = refl };
+  begins = record { tree = factor_law.some; more = factor_spelt factor_law.some; whole = factor_law.some_fits; proper = factor_law.some_proper; spelled = refl };
   blocks = λ n out x after other f stops e same. no_group n x after (omega arith) f (ap next e ∙ same ∙ ap next is);
-  stands = ap next is;
+  bracket = ap next is;
   deeper = subst (λ l. Begins a_factor 1 (take 1 l)) (sym is) (begins_group 0 [] (record {
     tree = (sum_law.some, tt);
     more = a_group.spell (sum_law.some, tt);
     whole = (sum_law.some_fits, tt);
-    named = named_group;
+    proper = proper_group;
     spelled = refl;
   }));
 }
   where
-    named_group : AllNamed (a_group.spell (sum_law.some, tt))
-    named_group = named_append (a_sum.spell sum_law.some) (Mark RightBracket ∷ []) sum_law.some_named (tt, tt)
+    proper_group : AllProper (a_group.spell (sum_law.some, tt))
+    proper_group = proper_append (a_sum.spell sum_law.some) (Mark RightBracket ∷ []) sum_law.some_proper (tt, tt)
 
 pub deep_refuses : (limit : ℕ) (ts inside : List Symbol) → limit ≡ 0 → ts ≡ Mark LeftBracket ∷ inside → Refuses a_factor limit TooDeep ts ts
 deep_refuses limit ts inside e opens = subst (λ n. Refuses a_factor n TooDeep ts ts) (sym e) (refuses_deep ts inside opens)
@@ -369,13 +369,13 @@ deep_refuses limit ts inside e opens = subst (λ n. Refuses a_factor n TooDeep t
 -- a group's parts, where one more group is allowed than in them
 module _ (limit k : ℕ) (more : suc k ≡ limit) (ts inside : List Symbol) (opens : ts ≡ Mark LeftBracket ∷ inside) where
   in_group : Carries a_group a_factor k limit inside ts
-  in_group fault left h = subst (λ n. Refuses a_factor n fault ts left) more (refuses_group k ts inside opens fault left h)
+  in_group flaw left h = subst (λ n. Refuses a_factor n flaw ts left) more (refuses_group k ts inside opens flaw left h)
 
   pub group_refuses_sum : Carries a_sum a_factor k limit inside ts
-  group_refuses_sum fault left h = in_group fault left (in_first group_joint k inside fault left h)
+  group_refuses_sum flaw left h = in_group flaw left (in_first group_joint k inside flaw left h)
 
   pub group_refuses_end : (mid : List Symbol) (s : SumTree) → Reads a_sum k inside s mid → Carries (just (Mark RightBracket)) a_factor k limit mid ts
-  group_refuses_end mid s r fault left h = in_group fault left (in_second group_joint k inside mid s r fault left h)
+  group_refuses_end mid s r flaw left h = in_group flaw left (in_second group_joint k inside mid s r flaw left h)
 
   pub group_reads : (mid rest : List Symbol) (s : SumTree) (f : FactorTree) → f ≡ Group s → Reads a_sum k inside s mid → Reads (just (Mark RightBracket)) k mid tt rest → Reads a_factor limit ts f rest
   group_reads mid rest s f e r h = subst (λ z. Reads a_factor limit ts z rest) (sym e) (subst (λ n. Reads a_factor n ts (Group s) rest) more (reads_group k s ts inside rest opens (reads_both group_joint k inside mid rest s tt r h)))
@@ -390,10 +390,10 @@ pub product_reads : (limit : ℕ) (ts rest : List Symbol) (fs : List FactorTree)
 product_reads limit ts rest fs some so_far absent = row_reads (Mark And) (is_mark And) a_factor factor_law refl factor_parts tt factors product_of factors-product_of product_of-factors limit ts rest fs some so_far (not_next And rest absent)
 
 pub product_refuses_first : (limit : ℕ) (ts : List Symbol) → Carries a_factor a_product limit limit ts ts
-product_refuses_first limit ts fault rest h = row_refuses_first (Mark And) (is_mark And) a_factor factor_law refl factor_parts tt factors product_of factors-product_of product_of-factors limit fault ts rest h
+product_refuses_first limit ts flaw rest h = row_refuses_first (Mark And) (is_mark And) a_factor factor_law refl factor_parts tt factors product_of factors-product_of product_of-factors limit flaw ts rest h
 
 pub product_refuses : (limit : ℕ) (ts rest mid : List Symbol) (fs : List FactorTree) → ReadsSome (behind (Mark And) a_factor) limit (Mark And ∷ ts) fs rest → rest ≡ Mark And ∷ mid → Carries a_factor a_product limit limit mid ts
-product_refuses limit ts rest mid fs so_far e fault left h = row_refuses (Mark And) (is_mark And) a_factor factor_law refl factor_parts tt factors product_of factors-product_of product_of-factors limit fault ts rest mid left fs so_far e h
+product_refuses limit ts rest mid fs so_far e flaw left h = row_refuses (Mark And) (is_mark And) a_factor factor_law refl factor_parts tt factors product_of factors-product_of product_of-factors limit flaw ts rest mid left fs so_far e h
 
 pub sum_starts : (limit : ℕ) (ts rest : List Symbol) (p : ProductTree) → Reads a_product limit ts p rest → ReadsSome (behind (Mark Or) a_product) limit (Mark Or ∷ ts) (p ∷ []) rest
 sum_starts = row_starts (Mark Or) (is_mark Or) a_product product_law refl product_parts tt products sum_of products-sum_of sum_of-products
@@ -405,7 +405,7 @@ pub sum_reads : (limit : ℕ) (ts rest : List Symbol) (ps : List ProductTree) �
 sum_reads limit ts rest ps some so_far absent = row_reads (Mark Or) (is_mark Or) a_product product_law refl product_parts tt products sum_of products-sum_of sum_of-products limit ts rest ps some so_far (not_next Or rest absent)
 
 pub sum_refuses_first : (limit : ℕ) (ts : List Symbol) → Carries a_product a_sum limit limit ts ts
-sum_refuses_first limit ts fault rest h = row_refuses_first (Mark Or) (is_mark Or) a_product product_law refl product_parts tt products sum_of products-sum_of sum_of-products limit fault ts rest h
+sum_refuses_first limit ts flaw rest h = row_refuses_first (Mark Or) (is_mark Or) a_product product_law refl product_parts tt products sum_of products-sum_of sum_of-products limit flaw ts rest h
 
 pub sum_refuses : (limit : ℕ) (ts rest mid : List Symbol) (ps : List ProductTree) → ReadsSome (behind (Mark Or) a_product) limit (Mark Or ∷ ts) ps rest → rest ≡ Mark Or ∷ mid → Carries a_product a_sum limit limit mid ts
-sum_refuses limit ts rest mid ps so_far e fault left h = row_refuses (Mark Or) (is_mark Or) a_product product_law refl product_parts tt products sum_of products-sum_of sum_of-products limit fault ts rest mid left ps so_far e h
+sum_refuses limit ts rest mid ps so_far e flaw left h = row_refuses (Mark Or) (is_mark Or) a_product product_law refl product_parts tt products sum_of products-sum_of sum_of-products limit flaw ts rest mid left ps so_far e h

@@ -8,7 +8,7 @@ use Rattle.ps_parser.specs.declared.statement.Target.TheVariants as target
 use Rattle.ps_parser.specs.declared.sign.Sign.TheVariants as sign
 use Rattle.ps_parser.specs.declared.heads.Heads.{Heads}
 use Rattle.ps_parser.specs.Names.{IsPlainName}
-use Rattle.ps_parser.specs.Symbol.{Symbol, Mark, Named, AllNamed}
+use Rattle.ps_parser.specs.Symbol.{Symbol, Mark, Named, AllProper}
 use Rattle.ps_parser.specs.Tree.{FactorTree, Signal, Pin, Literal, Time, Group, ProductTree, no_factor, factor, SumTree, no_product, product, ArgumentTree, StatementTree, Assign, Call, SourceTree, factors, products}
 use Rattle.ps_parser.specs.Spelt.{factor_spelt, product_spelt, more_factors, sum_spelt, more_products, argument_spelt, statement_spelt, name_spelt, declaration_spelt, section_spelt, joined_spell, spelt, foot_sign}
 use Rattle.ps_parser.specs.Whole as whole
@@ -16,13 +16,13 @@ use Rattle.ps_parser.specs.Whole.{factor_nesting, product_nesting, sum_nesting, 
 use Rattle.ps_parser.specs.Phrase.{JoinedFits}
 use Rattle.ps_parser.specs.Grammar.{FactorFits, SumFits, a_sum, an_argument, any_arguments, a_statement, a_declaration, names, a_section, a_source}
 
-pub named_left : (xs ys : List Symbol) → AllNamed (xs ++ ys) → AllNamed xs
-named_left [] ys h = tt
-named_left (x ∷ xs) ys h = (h.0, named_left xs ys h.1)
+pub proper_left : (xs ys : List Symbol) → AllProper (xs ++ ys) → AllProper xs
+proper_left [] ys h = tt
+proper_left (x ∷ xs) ys h = (h.0, proper_left xs ys h.1)
 
-pub named_right : (xs ys : List Symbol) → AllNamed (xs ++ ys) → AllNamed ys
-named_right [] ys h = h
-named_right (x ∷ xs) ys h = named_right xs ys h.1
+pub proper_right : (xs ys : List Symbol) → AllProper (xs ++ ys) → AllProper ys
+proper_right [] ys h = h
+proper_right (x ∷ xs) ys h = proper_right xs ys h.1
 
 max_left : (a b n : ℕ) → max a b ≤ n → a ≤ n
 max_left a b n h = grind arith
@@ -35,90 +35,90 @@ max_both a b n h k = grind arith
 
 -- what fits, and is spelt with names of the grammar, is whole
 module _ (IsNamed : List ℕ → Type 0) (plain : (text : List ℕ) → IsPlainName text → IsNamed text) where
-  module _ (n : ℕ) (factor_out : (f : FactorTree) → FactorFits n f → AllNamed (factor_spelt f) → whole.FactorWhole IsNamed f) where
-    more_factors_out : (p : ProductTree) → AllByRecursion (FactorFits n) (factors p) → AllNamed (more_factors p) → whole.MoreFactorsWhole IsNamed p
-    more_factors_out no_factor h named = tt
-    more_factors_out (factor f fs) h named = (factor_out f h.0 (named_left (factor_spelt f) (more_factors fs) named.1), more_factors_out fs h.1 (named_right (factor_spelt f) (more_factors fs) named.1))
+  module _ (n : ℕ) (factor_out : (f : FactorTree) → FactorFits n f → AllProper (factor_spelt f) → whole.FactorWhole IsNamed f) where
+    more_factors_out : (p : ProductTree) → AllByRecursion (FactorFits n) (factors p) → AllProper (more_factors p) → whole.MoreFactorsWhole IsNamed p
+    more_factors_out no_factor h proper = tt
+    more_factors_out (factor f fs) h proper = (factor_out f h.0 (proper_left (factor_spelt f) (more_factors fs) proper.1), more_factors_out fs h.1 (proper_right (factor_spelt f) (more_factors fs) proper.1))
 
-    product_out : (p : ProductTree) → JoinedFits (FactorFits n) (factors p) → AllNamed (product_spelt p) → whole.ProductWhole IsNamed p
-    product_out no_factor h named = h
-    product_out (factor f fs) h named = (factor_out f h.0 (named_left (factor_spelt f) (more_factors fs) named), more_factors_out fs h.1 (named_right (factor_spelt f) (more_factors fs) named))
+    product_out : (p : ProductTree) → JoinedFits (FactorFits n) (factors p) → AllProper (product_spelt p) → whole.ProductWhole IsNamed p
+    product_out no_factor h proper = h
+    product_out (factor f fs) h proper = (factor_out f h.0 (proper_left (factor_spelt f) (more_factors fs) proper), more_factors_out fs h.1 (proper_right (factor_spelt f) (more_factors fs) proper))
 
-    more_products_out : (s : SumTree) → AllByRecursion (λ p. JoinedFits (FactorFits n) (factors p)) (products s) → AllNamed (more_products s) → whole.MoreProductsWhole IsNamed s
-    more_products_out no_product h named = tt
-    more_products_out (product p ps) h named = (product_out p h.0 (named_left (product_spelt p) (more_products ps) named.1), more_products_out ps h.1 (named_right (product_spelt p) (more_products ps) named.1))
+    more_products_out : (s : SumTree) → AllByRecursion (λ p. JoinedFits (FactorFits n) (factors p)) (products s) → AllProper (more_products s) → whole.MoreProductsWhole IsNamed s
+    more_products_out no_product h proper = tt
+    more_products_out (product p ps) h proper = (product_out p h.0 (proper_left (product_spelt p) (more_products ps) proper.1), more_products_out ps h.1 (proper_right (product_spelt p) (more_products ps) proper.1))
 
-    sum_out_of : (s : SumTree) → SumFits (FactorFits n) s → AllNamed (sum_spelt s) → whole.SumWhole IsNamed s
-    sum_out_of no_product h named = h
-    sum_out_of (product p ps) h named = (product_out p h.0 (named_left (product_spelt p) (more_products ps) named), more_products_out ps h.1 (named_right (product_spelt p) (more_products ps) named))
+    sum_out_of : (s : SumTree) → SumFits (FactorFits n) s → AllProper (sum_spelt s) → whole.SumWhole IsNamed s
+    sum_out_of no_product h proper = h
+    sum_out_of (product p ps) h proper = (product_out p h.0 (proper_left (product_spelt p) (more_products ps) proper), more_products_out ps h.1 (proper_right (product_spelt p) (more_products ps) proper))
 
-  factor_out : (n : ℕ) (f : FactorTree) → FactorFits n f → AllNamed (factor_spelt f) → whole.FactorWhole IsNamed f
-  factor_out n (Signal m) h named = plain m.text named.0
-  factor_out n (Pin m q) h named = (plain m.text named.0, plain q.text named.1.1.0)
-  factor_out n (Literal b p) h named = tt
-  factor_out n (Time t p) h named = tt
-  factor_out zero (Group s) h named = absurd h
-  factor_out (suc n) (Group s) h named = sum_out_of n (factor_out n) s h (named_left (sum_spelt s) (Mark sign.RightBracket ∷ []) named.1)
+  factor_out : (n : ℕ) (f : FactorTree) → FactorFits n f → AllProper (factor_spelt f) → whole.FactorWhole IsNamed f
+  factor_out n (Signal m) h proper = plain m.text proper.0
+  factor_out n (Pin m q) h proper = (plain m.text proper.0, plain q.text proper.1.1.0)
+  factor_out n (Literal b p) h proper = tt
+  factor_out n (Time t p) h proper = proper.0
+  factor_out zero (Group s) h proper = absurd h
+  factor_out (suc n) (Group s) h proper = sum_out_of n (factor_out n) s h (proper_left (sum_spelt s) (Mark sign.RightBracket ∷ []) proper.1)
 
-  sum_out : (n : ℕ) (s : SumTree) → a_sum.fits n s → AllNamed (sum_spelt s) → whole.SumWhole IsNamed s
-  sum_out n s h named = sum_out_of n (factor_out n) s h named
+  sum_out : (n : ℕ) (s : SumTree) → a_sum.fits n s → AllProper (sum_spelt s) → whole.SumWhole IsNamed s
+  sum_out n s h proper = sum_out_of n (factor_out n) s h proper
 
-  argument_out : (n : ℕ) (a : ArgumentTree) → an_argument.fits n a → AllNamed (argument_spelt a) → whole.ArgumentWhole IsNamed a
-  argument_out n a h named = (plain a.pin.text named.0, sum_out n a.value h.1.1 named.1.1)
+  argument_out : (n : ℕ) (a : ArgumentTree) → an_argument.fits n a → AllProper (argument_spelt a) → whole.ArgumentWhole IsNamed a
+  argument_out n a h proper = (plain a.pin.text proper.0, sum_out n a.value h.1.1 proper.1.1)
 
-  more_arguments_out : (n : ℕ) (args : List ArgumentTree) → AllByRecursion (an_argument.fits n) args → AllNamed (flat_map (λ a. Mark sign.Comma ∷ argument_spelt a) args) → AllByRecursion (whole.ArgumentWhole IsNamed) args
-  more_arguments_out n [] h named = tt
-  more_arguments_out n (a ∷ args) h named =
+  more_arguments_out : (n : ℕ) (args : List ArgumentTree) → AllByRecursion (an_argument.fits n) args → AllProper (flat_map (λ a. Mark sign.Comma ∷ argument_spelt a) args) → AllByRecursion (whole.ArgumentWhole IsNamed) args
+  more_arguments_out n [] h proper = tt
+  more_arguments_out n (a ∷ args) h proper =
       let rest = flat_map (λ a. Mark sign.Comma ∷ argument_spelt a) args in
-      (argument_out n a h.0 (named_left (argument_spelt a) rest named.1), more_arguments_out n args h.1 (named_right (argument_spelt a) rest named.1))
+      (argument_out n a h.0 (proper_left (argument_spelt a) rest proper.1), more_arguments_out n args h.1 (proper_right (argument_spelt a) rest proper.1))
 
-  arguments_out : (n : ℕ) (args : List ArgumentTree) → any_arguments.fits n args → AllNamed (joined_spell (Mark sign.Comma) argument_spelt args) → AllByRecursion (whole.ArgumentWhole IsNamed) args
-  arguments_out n [] h named = tt
-  arguments_out n (a ∷ args) h named =
+  arguments_out : (n : ℕ) (args : List ArgumentTree) → any_arguments.fits n args → AllProper (joined_spell (Mark sign.Comma) argument_spelt args) → AllByRecursion (whole.ArgumentWhole IsNamed) args
+  arguments_out n [] h proper = tt
+  arguments_out n (a ∷ args) h proper =
       let rest = flat_map (λ a. Mark sign.Comma ∷ argument_spelt a) args in
-      (argument_out n a h.0 (named_left (argument_spelt a) rest named), more_arguments_out n args h.1 (named_right (argument_spelt a) rest named))
+      (argument_out n a h.0 (proper_left (argument_spelt a) rest proper), more_arguments_out n args h.1 (proper_right (argument_spelt a) rest proper))
 
-  statement_out : (n : ℕ) (s : StatementTree) → a_statement.fits n s → AllNamed (statement_spelt s) → whole.StatementWhole IsNamed s
-  statement_out n (Assign (target.Name m) s) h named = (plain m.text named.0, sum_out n s h.1.1.0 (named_left (sum_spelt s) (Mark sign.Semicolon ∷ []) named.1.1))
-  statement_out n (Assign (target.Pin m q) s) h named = ((plain m.text named.0, plain q.text named.1.1.0), sum_out n s h.1.1.1.1.0 (named_left (sum_spelt s) (Mark sign.Semicolon ∷ []) named.1.1.1.1))
-  statement_out n (Call m args) h named = (plain m.text named.0, arguments_out n args h.1.1.0 (named_left (joined_spell (Mark sign.Comma) argument_spelt args) (Mark sign.RightBracket ∷ Mark sign.Semicolon ∷ []) named.1.1))
+  statement_out : (n : ℕ) (s : StatementTree) → a_statement.fits n s → AllProper (statement_spelt s) → whole.StatementWhole IsNamed s
+  statement_out n (Assign (target.Name m) s) h proper = (plain m.text proper.0, sum_out n s h.1.1.0 (proper_left (sum_spelt s) (Mark sign.Semicolon ∷ []) proper.1.1))
+  statement_out n (Assign (target.Pin m q) s) h proper = ((plain m.text proper.0, plain q.text proper.1.1.0), sum_out n s h.1.1.1.1.0 (proper_left (sum_spelt s) (Mark sign.Semicolon ∷ []) proper.1.1.1.1))
+  statement_out n (Call m args) h proper = (plain m.text proper.0, arguments_out n args h.1.1.0 (proper_left (joined_spell (Mark sign.Comma) argument_spelt args) (Mark sign.RightBracket ∷ Mark sign.Semicolon ∷ []) proper.1.1))
 
-  statements_out : (n : ℕ) (ss : List StatementTree) → AllByRecursion (a_statement.fits n) ss → AllNamed (flat_map statement_spelt ss) → AllByRecursion (whole.StatementWhole IsNamed) ss
-  statements_out n [] h named = tt
-  statements_out n (s ∷ ss) h named = (statement_out n s h.0 (named_left (statement_spelt s) (flat_map statement_spelt ss) named), statements_out n ss h.1 (named_right (statement_spelt s) (flat_map statement_spelt ss) named))
+  statements_out : (n : ℕ) (ss : List StatementTree) → AllByRecursion (a_statement.fits n) ss → AllProper (flat_map statement_spelt ss) → AllByRecursion (whole.StatementWhole IsNamed) ss
+  statements_out n [] h proper = tt
+  statements_out n (s ∷ ss) h proper = (statement_out n s h.0 (proper_left (statement_spelt s) (flat_map statement_spelt ss) proper), statements_out n ss h.1 (proper_right (statement_spelt s) (flat_map statement_spelt ss) proper))
 
-  more_names_out : (ns : List Name) → AllNamed (flat_map (λ m. Mark sign.Comma ∷ name_spelt m) ns) → AllByRecursion (λ m. IsNamed m.text) ns
-  more_names_out [] named = tt
-  more_names_out (m ∷ ns) named = (plain m.text named.1.0, more_names_out ns named.1.1)
+  more_names_out : (ns : List Name) → AllProper (flat_map (λ m. Mark sign.Comma ∷ name_spelt m) ns) → AllByRecursion (λ m. IsNamed m.text) ns
+  more_names_out [] proper = tt
+  more_names_out (m ∷ ns) proper = (plain m.text proper.1.0, more_names_out ns proper.1.1)
 
-  names_out : (n : ℕ) (ns : List Name) → names.fits n ns → AllNamed (joined_spell (Mark sign.Comma) name_spelt ns) → whole.NamesWhole IsNamed ns
-  names_out n [] h named = h
-  names_out n (m ∷ ns) h named = (plain m.text named.0, more_names_out ns named.1)
+  names_out : (n : ℕ) (ns : List Name) → names.fits n ns → AllProper (joined_spell (Mark sign.Comma) name_spelt ns) → whole.NamesWhole IsNamed ns
+  names_out n [] h proper = h
+  names_out n (m ∷ ns) h proper = (plain m.text proper.0, more_names_out ns proper.1)
 
-  declaration_out : (n : ℕ) (d : Declaration) → a_declaration.fits n d → AllNamed (declaration_spelt d) → whole.DeclarationWhole IsNamed d
-  declaration_out n d h named =
+  declaration_out : (n : ℕ) (d : Declaration) → a_declaration.fits n d → AllProper (declaration_spelt d) → whole.DeclarationWhole IsNamed d
+  declaration_out n d h proper =
       let front = joined_spell (Mark sign.Comma) name_spelt d.names in
       let back = Mark sign.Colon ∷ Named d.ty ∷ Mark sign.Semicolon ∷ [] in
-      (names_out n d.names h.0 (named_left front back named), plain d.ty.text (named_right front back named).1.0)
+      (names_out n d.names h.0 (proper_left front back proper), plain d.ty.text (proper_right front back proper).1.0)
 
-  declarations_out : (n : ℕ) (ds : List Declaration) → AllByRecursion (a_declaration.fits n) ds → AllNamed (flat_map declaration_spelt ds) → AllByRecursion (whole.DeclarationWhole IsNamed) ds
-  declarations_out n [] h named = tt
-  declarations_out n (d ∷ ds) h named = (declaration_out n d h.0 (named_left (declaration_spelt d) (flat_map declaration_spelt ds) named), declarations_out n ds h.1 (named_right (declaration_spelt d) (flat_map declaration_spelt ds) named))
+  declarations_out : (n : ℕ) (ds : List Declaration) → AllByRecursion (a_declaration.fits n) ds → AllProper (flat_map declaration_spelt ds) → AllByRecursion (whole.DeclarationWhole IsNamed) ds
+  declarations_out n [] h proper = tt
+  declarations_out n (d ∷ ds) h proper = (declaration_out n d h.0 (proper_left (declaration_spelt d) (flat_map declaration_spelt ds) proper), declarations_out n ds h.1 (proper_right (declaration_spelt d) (flat_map declaration_spelt ds) proper))
 
-  section_out : (n : ℕ) (s : Section) → a_section.fits n s → AllNamed (section_spelt s) → whole.SectionWhole IsNamed s
-  section_out n s h named = declarations_out n s.declarations h.1.0 (named_left (flat_map declaration_spelt s.declarations) (Mark sign.EndVar ∷ []) named.1)
+  section_out : (n : ℕ) (s : Section) → a_section.fits n s → AllProper (section_spelt s) → whole.SectionWhole IsNamed s
+  section_out n s h proper = declarations_out n s.declarations h.1.0 (proper_left (flat_map declaration_spelt s.declarations) (Mark sign.EndVar ∷ []) proper.1)
 
-  sections_out : (n : ℕ) (ss : List Section) → AllByRecursion (a_section.fits n) ss → AllNamed (flat_map section_spelt ss) → AllByRecursion (whole.SectionWhole IsNamed) ss
-  sections_out n [] h named = tt
-  sections_out n (s ∷ ss) h named = (section_out n s h.0 (named_left (section_spelt s) (flat_map section_spelt ss) named), sections_out n ss h.1 (named_right (section_spelt s) (flat_map section_spelt ss) named))
+  sections_out : (n : ℕ) (ss : List Section) → AllByRecursion (a_section.fits n) ss → AllProper (flat_map section_spelt ss) → AllByRecursion (whole.SectionWhole IsNamed) ss
+  sections_out n [] h proper = tt
+  sections_out n (s ∷ ss) h proper = (section_out n s h.0 (proper_left (section_spelt s) (flat_map section_spelt ss) proper), sections_out n ss h.1 (proper_right (section_spelt s) (flat_map section_spelt ss) proper))
 
-  pub source_out : (h : Heads) (n : ℕ) (s : SourceTree) → (a_source h).fits n s → AllNamed (spelt h s) → whole.IsWhole IsNamed s
-  source_out h n s fits named =
+  pub source_out : (h : Heads) (n : ℕ) (s : SourceTree) → (a_source h).fits n s → AllProper (spelt h s) → whole.IsWhole IsNamed s
+  source_out h n s fits proper =
       let foot = Mark (foot_sign h) ∷ [] in
       let body = flat_map statement_spelt s.statements ++ foot in (
-        plain s.name.text named.1.0,
-        sections_out n s.sections fits.1.1.0 (named_left (flat_map section_spelt s.sections) body named.1.1),
-        statements_out n s.statements fits.1.1.1.0 (named_left (flat_map statement_spelt s.statements) foot (named_right (flat_map section_spelt s.sections) body named.1.1)),
+        plain s.name.text proper.1.0,
+        sections_out n s.sections fits.1.1.0 (proper_left (flat_map section_spelt s.sections) body proper.1.1),
+        statements_out n s.statements fits.1.1.1.0 (proper_left (flat_map statement_spelt s.statements) foot (proper_right (flat_map section_spelt s.sections) body proper.1.1)),
       )
 
 -- what fits is nested no deeper

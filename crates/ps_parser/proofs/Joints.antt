@@ -1,6 +1,6 @@
 -- Where a part is refused, the whole is: the steps of which the way to a part is made.
 use Rattle.std.proofs.Common.{◌≡◌, ℕ, List}
-use Rattle.ps_parser.specs.declared.stop.Fault.{Fault}
+use Rattle.ps_parser.specs.declared.stop.Flaw.{Flaw}
 use Rattle.ps_parser.specs.Symbol.{Symbol}
 use Rattle.ps_parser.specs.Phrase.{Phrase, Reads, Refuses, ◌then◌, seen}
 use Rattle.ps_parser.proofs.Phrases.{Lawful, Meets, then_lawful, refuses_first, refuses_second, reads_then, seen_lawful, refuses_seen}
@@ -25,16 +25,16 @@ twin_law {view = view} {g = g} w law = seen_lawful view w.back w.there w.here g 
 
 -- where g is refused at mid, h is refused at ts
 abbrev pub Carries : {X Y : Type 0} → Phrase X → Phrase Y → ℕ → ℕ → List Symbol → List Symbol → Type 0
-Carries g h inner outer mid ts = (fault : Fault) (left : List Symbol) → Refuses g inner fault mid left → Refuses h outer fault ts left
+Carries g h inner outer mid ts = (flaw : Flaw) (left : List Symbol) → Refuses g inner flaw mid left → Refuses h outer flaw ts left
 
 pub in_first : {X Y : Type 0} {a : Phrase X} {b : Phrase Y} (j : Joint a b) (n : ℕ) (ts : List Symbol) → Carries a (a then b) n n ts ts
-in_first {a = a} {b = b} j n ts fault left h = refuses_first a b j.meets j.behind n fault ts left h
+in_first {a = a} {b = b} j n ts flaw left h = refuses_first a b j.meets j.behind n flaw ts left h
 
 pub in_second : {X Y : Type 0} {a : Phrase X} {b : Phrase Y} (j : Joint a b) (n : ℕ) (ts mid : List Symbol) (x : X) → Reads a n ts x mid → Carries b (a then b) n n mid ts
-in_second {a = a} {b = b} j n ts mid x r fault left h = refuses_second a b j.meets j.before n fault ts mid left x r h
+in_second {a = a} {b = b} j n ts mid x r flaw left h = refuses_second a b j.meets j.before n flaw ts mid left x r h
 
 pub in_seen : {X Y : Type 0} {view : Y → X} {g : Phrase X} (w : Twin view) (n : ℕ) (ts : List Symbol) → Carries g (seen view g) n n ts ts
-in_seen {view = view} {g = g} w n ts fault left h = refuses_seen view w.back w.there w.here g n fault ts left h
+in_seen {view = view} {g = g} w n ts flaw left h = refuses_seen view w.back w.there w.here g n flaw ts left h
 
 pub reads_both : {X Y : Type 0} {a : Phrase X} {b : Phrase Y} (j : Joint a b) (n : ℕ) (ts mid rest : List Symbol) (x : X) (y : Y) → Reads a n ts x mid → Reads b n mid y rest → Reads (a then b) n ts (x, y) rest
 reads_both {a = a} {b = b} j n ts mid rest x y ra rb = reads_then a b j.meets n ts mid rest x y ra rb

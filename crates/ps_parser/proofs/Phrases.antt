@@ -3,9 +3,9 @@ use Rattle.std.proofs.Common.{◌≡◌, ℕ, suc, ◌+◌, ◌≤◌, ◌<◌, 
 use Rattle.std.specs.List.{flat_map, AllByRecursion}
 use Rattle.std.proofs.lemmas.List.{append-nil}
 use Rattle.std.proofs.lemmas.Grind.{flat_map-append}
-use Rattle.ps_parser.specs.declared.stop.Fault.{Fault}
-use Rattle.ps_parser.specs.declared.stop.Fault.TheVariants.{Unexpected, TooDeep}
-use Rattle.ps_parser.specs.Symbol.{Symbol, AllNamed, SymbolNamed}
+use Rattle.ps_parser.specs.declared.stop.Flaw.{Flaw}
+use Rattle.ps_parser.specs.declared.stop.Flaw.TheVariants.{Unexpected, TooDeep}
+use Rattle.ps_parser.specs.Symbol.{Symbol, AllProper, IsProper}
 use Rattle.ps_parser.specs.Spelt.{joined_spell}
 use Rattle.ps_parser.specs.Phrase.{next, Stops, Phrase, Reads, Begins, Blocks, Deeper, Refuses, ◌then◌, just, finish, goes_on_many, many, behind, JoinedFits, joined, seen}
 
@@ -21,25 +21,25 @@ stops_alike goes (f ∷ front) rest other h e = h
 abbrev pub EndsAt : {X : Type 0} → Phrase X → ℕ → Type 0
 EndsAt {X} g n = (x y : X) (r q : List Symbol) → g.fits n x → g.fits n y → Stops (g.goes_on x) r → Stops (g.goes_on y) q → g.spell x ++ r ≡ g.spell y ++ q → (x ≡ y) × (r ≡ q)
 
-pub named_append : (xs ys : List Symbol) → AllNamed xs → AllNamed ys → AllNamed (xs ++ ys)
-named_append [] ys h k = k
-named_append (x ∷ xs) ys h k = (h.0, named_append xs ys h.1 k)
+pub proper_append : (xs ys : List Symbol) → AllProper xs → AllProper ys → AllProper (xs ++ ys)
+proper_append [] ys h k = k
+proper_append (x ∷ xs) ys h k = (h.0, proper_append xs ys h.1 k)
 
 -- What a kind of phrase keeps: more groups may be nested, a spelling ends at one place, and there is a phrase.
 pub record Lawful {X : Type 0} (g : Phrase X) : Type 0 where
-  pub grows : (n m : ℕ) (x : X) → n ≤ m → g.fits n x → g.fits m x
+  pub fits_deeper : (n m : ℕ) (x : X) → n ≤ m → g.fits n x → g.fits m x
   pub ends : (n : ℕ) → EndsAt g n
   pub some : X
   pub some_fits : g.fits 0 some
-  pub some_named : AllNamed (g.spell some)
+  pub some_proper : AllProper (g.spell some)
 
 -- the end is the same where the two phrases are nested differently
 pub ends_between : {X : Type 0} {g : Phrase X} (law : Lawful g) (n m : ℕ) (x y : X) (r q : List Symbol) → g.fits n x → g.fits m y → Stops (g.goes_on x) r → Stops (g.goes_on y) q → g.spell x ++ r ≡ g.spell y ++ q → (x ≡ y) × (r ≡ q)
 ends_between law n m x y r q fx fy sx sy e =
-    law.ends (n + m) x y r q (law.grows n (n + m) x (omega arith) fx) (law.grows m (n + m) y (omega arith) fy) sx sy e
+    law.ends (n + m) x y r q (law.fits_deeper n (n + m) x (omega arith) fx) (law.fits_deeper m (n + m) y (omega arith) fy) sx sy e
 
 pub some_at : {X : Type 0} {g : Phrase X} (law : Lawful g) (n : ℕ) → g.fits n law.some
-some_at law n = law.grows 0 n law.some (omega arith) law.some_fits
+some_at law n = law.fits_deeper 0 n law.some (omega arith) law.some_fits
 
 -- no token that goes on with an a begins a b, nor what may follow an empty b
 abbrev pub Meets : {X Y : Type 0} → Phrase X → Phrase Y → Type 0
@@ -55,11 +55,11 @@ module _ {X Y : Type 0} (a : Phrase X) (b : Phrase Y) (meets : Meets a b) where
 
   pub then_lawful : Lawful a → Lawful b → Lawful (a then b)
   then_lawful la lb = record {
-    grows = λ n m p le f. (la.grows n m p.0 le f.0, lb.grows n m p.1 le f.1);
+    fits_deeper = λ n m p le f. (la.fits_deeper n m p.0 le f.0, lb.fits_deeper n m p.1 le f.1);
     ends = λ n. ends_then n (la.ends n) (lb.ends n);
     some = (la.some, lb.some);
     some_fits = (la.some_fits, lb.some_fits);
-    some_named = named_append (a.spell la.some) (b.spell lb.some) la.some_named lb.some_named;
+    some_proper = proper_append (a.spell la.some) (b.spell lb.some) la.some_proper lb.some_proper;
   }
 
   pub reads_then : (limit : ℕ) (ts mid rest : List Symbol) (x : X) (y : Y) → Reads a limit ts x mid → Reads b limit mid y rest → Reads (a then b) limit ts (x, y) rest
@@ -75,27 +75,27 @@ module _ {X Y : Type 0} (a : Phrase X) (b : Phrase Y) (meets : Meets a b) where
         tree = (h.tree, lb.some);
         more = h.more ++ b.spell lb.some;
         whole = (h.whole, some_at lb n);
-        named = named_append h.more (b.spell lb.some) h.named lb.some_named;
+        proper = proper_append h.more (b.spell lb.some) h.proper lb.some_proper;
         spelled = ap (λ l. l ++ b.spell lb.some) h.spelled ∙ append_assoc front h.more (b.spell lb.some);
       }
 
   begins_second : (n : ℕ) (x : X) (front : List Symbol) → a.fits n x → Begins b n front → Begins (a then b) n (a.spell x ++ front)
   begins_second n x front f h =
-      record { tree = (x, h.tree); more = h.more; whole = (f, h.whole); named = h.named; spelled = ap (λ l. a.spell x ++ l) h.spelled ∙ sym (append_assoc (a.spell x) front h.more) }
+      record { tree = (x, h.tree); more = h.more; whole = (f, h.whole); proper = h.proper; spelled = ap (λ l. a.spell x ++ l) h.spelled ∙ sym (append_assoc (a.spell x) front h.more) }
 
-  pub refuses_first : Lawful b → (limit : ℕ) (fault : Fault) (ts rest : List Symbol) → Refuses a limit fault ts rest → Refuses (a then b) limit fault ts rest
-  refuses_first lb limit fault ts rest h = record {
+  pub refuses_first : Lawful b → (limit : ℕ) (flaw : Flaw) (ts rest : List Symbol) → Refuses a limit flaw ts rest → Refuses (a then b) limit flaw ts rest
+  refuses_first lb limit flaw ts rest h = record {
     front = h.front;
     split = h.split;
     begins = begins_first lb limit h.front h.begins;
     blocks = λ n out p after other fits stops e same.
         h.blocks n out p.0 (b.spell p.1 ++ after) other fits.0 (meets n p.0 p.1 after fits.1 stops) (sym (append_assoc (a.spell p.0) (b.spell p.1) after) ∙ e) same;
-    stands = h.stands;
-    deeper = elim fault as (λ r. Deeper a r limit (h.front ++ take 1 rest) → Deeper (a then b) r limit (h.front ++ take 1 rest)) [ Unexpected ↦ λ d. tt | TooDeep ↦ λ d. begins_first lb (suc limit) (h.front ++ take 1 rest) d ] h.deeper;
+    bracket = h.bracket;
+    deeper = elim flaw as (λ r. Deeper a r limit (h.front ++ take 1 rest) → Deeper (a then b) r limit (h.front ++ take 1 rest)) [ Unexpected ↦ λ d. tt | TooDeep ↦ λ d. begins_first lb (suc limit) (h.front ++ take 1 rest) d ] h.deeper;
   }
 
-  pub refuses_second : Lawful a → (limit : ℕ) (fault : Fault) (ts mid rest : List Symbol) (x : X) → Reads a limit ts x mid → Refuses b limit fault mid rest → Refuses (a then b) limit fault ts rest
-  refuses_second la limit fault ts mid rest x ra h = record {
+  pub refuses_second : Lawful a → (limit : ℕ) (flaw : Flaw) (ts mid rest : List Symbol) (x : X) → Reads a limit ts x mid → Refuses b limit flaw mid rest → Refuses (a then b) limit flaw ts rest
+  refuses_second la limit flaw ts mid rest x ra h = record {
     front = a.spell x ++ h.front;
     split = ra.spelled ∙ ap (λ l. a.spell x ++ l) h.split ∙ sym (append_assoc (a.spell x) h.front rest);
     begins = begins_second limit x h.front ra.whole h.begins;
@@ -103,8 +103,8 @@ module _ {X Y : Type 0} (a : Phrase X) (b : Phrase Y) (meets : Meets a b) where
         let assoc : a.spell p.0 ++ (b.spell p.1 ++ after) ≡ a.spell x ++ (h.front ++ other) = sym (append_assoc (a.spell p.0) (b.spell p.1) after) ∙ e ∙ append_assoc (a.spell x) h.front other in
         let here : Stops (a.goes_on x) (h.front ++ other) = stops_alike (a.goes_on x) h.front rest other (subst (Stops (a.goes_on x)) h.split ra.longest) same in
         h.blocks n out p.1 after other fits.1 stops (ends_between la n limit p.0 x (b.spell p.1 ++ after) (h.front ++ other) fits.0 ra.whole (meets n p.0 p.1 after fits.1 stops) here assoc).1 same;
-    stands = h.stands;
-    deeper = elim fault as (λ r. Deeper b r limit (h.front ++ take 1 rest) → Deeper (a then b) r limit ((a.spell x ++ h.front) ++ take 1 rest)) [ Unexpected ↦ λ d. tt | TooDeep ↦ λ d. subst (Begins (a then b) (suc limit)) (sym (append_assoc (a.spell x) h.front (take 1 rest))) (begins_second (suc limit) x (h.front ++ take 1 rest) (la.grows limit (suc limit) x (omega arith) ra.whole) d) ] h.deeper;
+    bracket = h.bracket;
+    deeper = elim flaw as (λ r. Deeper b r limit (h.front ++ take 1 rest) → Deeper (a then b) r limit ((a.spell x ++ h.front) ++ take 1 rest)) [ Unexpected ↦ λ d. tt | TooDeep ↦ λ d. subst (Begins (a then b) (suc limit)) (sym (append_assoc (a.spell x) h.front (take 1 rest))) (begins_second (suc limit) x (h.front ++ take 1 rest) (la.fits_deeper limit (suc limit) x (omega arith) ra.whole) d) ] h.deeper;
   }
 
 -- what nothing goes on with stops everywhere
@@ -112,13 +112,13 @@ pub never : (rest : List Symbol) → Stops (λ _. false) rest
 never [] = tt
 never (r ∷ rest) = refl
 
-pub just_lawful : (t : Symbol) → SymbolNamed t → Lawful (just t)
+pub just_lawful : (t : Symbol) → IsProper t → Lawful (just t)
 just_lawful t plain = record {
-  grows = λ n m x le f. tt;
+  fits_deeper = λ n m x le f. tt;
   ends = λ n x y r q fx fy sx sy e. (refl, cc);
   some = tt;
   some_fits = tt;
-  some_named = (plain, tt);
+  some_proper = (plain, tt);
 }
 
 pub reads_just : (t : Symbol) (limit : ℕ) (rest : List Symbol) → Reads (just t) limit (t ∷ rest) tt rest
@@ -126,11 +126,11 @@ reads_just t limit rest = record { whole = tt; spelled = refl; longest = never r
 
 pub finish_lawful : Lawful finish
 finish_lawful = record {
-  grows = λ n m x le f. tt;
+  fits_deeper = λ n m x le f. tt;
   ends = λ n x y r q fx fy sx sy e. (refl, e);
   some = tt;
   some_fits = tt;
-  some_named = tt;
+  some_proper = tt;
 }
 
 -- a phrase is refused at its first symbol, where none begins so
@@ -138,10 +138,10 @@ pub refuses_here : {X : Type 0} (g : Phrase X) → Lawful g → (limit : ℕ) (t
 refuses_here g law limit ts blocks = record {
   front = [];
   split = refl;
-  begins = record { tree = law.some; more = g.spell law.some; whole = some_at law limit; named = law.some_named; spelled = refl };
+  begins = record { tree = law.some; more = g.spell law.some; whole = some_at law limit; proper = law.some_proper; spelled = refl };
   blocks = λ n out. blocks n;
   deeper = tt;
-  stands = tt;
+  bracket = tt;
 }
 
 -- only the end of the text ends it
@@ -227,18 +227,18 @@ module _ {X : Type 0} (g : Phrase X) (first : Symbol → Bool) (starts : Starts 
       let others = ends_many n ends xs ys r q fx.1 fy.1 (stops_tail first x xs r sx) (stops_tail first y ys q sy) one.1 in
       ((λ i. one.0 i ∷ others.0 i), others.1)
 
-  pub grows_many : (n m : ℕ) → ((x : X) → g.fits n x → g.fits m x) → (xs : List X) → AllByRecursion (g.fits n) xs → AllByRecursion (g.fits m) xs
-  grows_many n m grows [] f = f
-  grows_many n m grows (x ∷ xs) f = (grows x f.0, grows_many n m grows xs f.1)
+  pub many_fit_deeper : (n m : ℕ) → ((x : X) → g.fits n x → g.fits m x) → (xs : List X) → AllByRecursion (g.fits n) xs → AllByRecursion (g.fits m) xs
+  many_fit_deeper n m fits_deeper [] f = f
+  many_fit_deeper n m fits_deeper (x ∷ xs) f = (fits_deeper x f.0, many_fit_deeper n m fits_deeper xs f.1)
 
 module _ {X : Type 0} (g : Phrase X) (first : Symbol → Bool) (starts : Starts g first) (law : Lawful g) where
   pub many_lawful : Lawful (many g first)
   many_lawful = record {
-    grows = λ n m xs le. grows_many g first starts n m (λ x. law.grows n m x le) xs;
+    fits_deeper = λ n m xs le. many_fit_deeper g first starts n m (λ x. law.fits_deeper n m x le) xs;
     ends = λ n. ends_many g first starts n (law.ends n);
     some = [];
     some_fits = tt;
-    some_named = tt;
+    some_proper = tt;
   }
 
   blocks_many : (n m : ℕ) (front rest : List Symbol) (xs : List X) → AllByRecursion (g.fits m) xs → Stops (goes_last g.goes_on xs) (front ++ rest) → IsFirst first (front ++ rest) → Blocks g n front rest
@@ -270,20 +270,20 @@ module _ {X : Type 0} (g : Phrase X) (first : Symbol → Bool) (starts : Starts 
         tree = xs ++ h.tree ∷ [];
         more = h.more;
         whole = all_push n xs h.tree fits h.whole;
-        named = h.named;
+        proper = h.proper;
         spelled = spell_push xs h.tree ∙ ap (λ l. flat_map g.spell xs ++ l) h.spelled ∙ sym (append_assoc (flat_map g.spell xs) front h.more);
       }
 
   -- a list is refused where its next phrase is
-  pub refuses_many : (limit : ℕ) (fault : Fault) (ts mid rest : List Symbol) (xs : List X) → ReadsSome g limit ts xs mid → IsFirst first mid → Refuses g limit fault mid rest → Refuses (many g first) limit fault ts rest
-  refuses_many limit fault ts mid rest xs so_far is_first h = record {
+  pub refuses_many : (limit : ℕ) (flaw : Flaw) (ts mid rest : List Symbol) (xs : List X) → ReadsSome g limit ts xs mid → IsFirst first mid → Refuses g limit flaw mid rest → Refuses (many g first) limit flaw ts rest
+  refuses_many limit flaw ts mid rest xs so_far is_first h = record {
     front = flat_map g.spell xs ++ h.front;
     split = so_far.spelled ∙ ap (λ l. flat_map g.spell xs ++ l) h.split ∙ sym (append_assoc (flat_map g.spell xs) h.front rest);
     begins = begins_many limit xs h.front so_far.whole h.begins;
     blocks = λ n out ys after other fits stops e same.
         blocks_many n limit h.front rest xs so_far.whole (subst (Stops (goes_last g.goes_on xs)) h.split so_far.longest) (subst (IsFirst first) h.split is_first) (h.blocks n out) ys after other fits stops e same;
-    stands = h.stands;
-    deeper = elim fault as (λ r. Deeper g r limit (h.front ++ take 1 rest) → Deeper (many g first) r limit ((flat_map g.spell xs ++ h.front) ++ take 1 rest)) [ Unexpected ↦ λ d. tt | TooDeep ↦ λ d. subst (Begins (many g first) (suc limit)) (sym (append_assoc (flat_map g.spell xs) h.front (take 1 rest))) (begins_many (suc limit) xs (h.front ++ take 1 rest) (grows_many g first starts limit (suc limit) (λ x. law.grows limit (suc limit) x (omega arith)) xs so_far.whole) d) ] h.deeper;
+    bracket = h.bracket;
+    deeper = elim flaw as (λ r. Deeper g r limit (h.front ++ take 1 rest) → Deeper (many g first) r limit ((flat_map g.spell xs ++ h.front) ++ take 1 rest)) [ Unexpected ↦ λ d. tt | TooDeep ↦ λ d. subst (Begins (many g first) (suc limit)) (sym (append_assoc (flat_map g.spell xs) h.front (take 1 rest))) (begins_many (suc limit) xs (h.front ++ take 1 rest) (many_fit_deeper g first starts limit (suc limit) (λ x. law.fits_deeper limit (suc limit) x (omega arith)) xs so_far.whole) d) ] h.deeper;
   }
 
   stops_push : (f : Symbol → Bool) (xs : List X) (x : X) (r : List Symbol) → Stops f r → Stops (g.goes_on x) r → Stops (goes_on_many g.goes_on f (xs ++ x ∷ [])) r
@@ -314,32 +314,32 @@ module _ {X : Type 0} (g : Phrase X) (first : Symbol → Bool) (starts : Starts 
   reads_none limit ts = record { whole = tt; spelled = refl; longest = never ts }
 
 module _ {X : Type 0} (t : Symbol) (g : Phrase X) (law : Lawful g) where
-  pub behind_lawful : SymbolNamed t → Lawful (behind t g)
+  pub behind_lawful : IsProper t → Lawful (behind t g)
   behind_lawful plain = record {
-    grows = law.grows;
+    fits_deeper = law.fits_deeper;
     ends = λ n x y r q fx fy sx sy e. law.ends n x y r q fx fy sx sy (let e' : t ∷ (g.spell x ++ r) ≡ t ∷ (g.spell y ++ q) = e in cc);
     some = law.some;
     some_fits = law.some_fits;
-    some_named = (plain, law.some_named);
+    some_proper = (plain, law.some_proper);
   }
 
   pub reads_behind : (limit : ℕ) (ts rest : List Symbol) (x : X) → Reads g limit ts x rest → Reads (behind t g) limit (t ∷ ts) x rest
   reads_behind limit ts rest x h = record { whole = h.whole; spelled = ap (λ l. t ∷ l) h.spelled; longest = h.longest }
 
   begins_behind : (n : ℕ) (front : List Symbol) → Begins g n front → Begins (behind t g) n (t ∷ front)
-  begins_behind n front h = record { tree = h.tree; more = h.more; whole = h.whole; named = h.named; spelled = ap (λ l. t ∷ l) h.spelled }
+  begins_behind n front h = record { tree = h.tree; more = h.more; whole = h.whole; proper = h.proper; spelled = ap (λ l. t ∷ l) h.spelled }
 
-  pub refuses_behind : (limit : ℕ) (fault : Fault) (ts rest : List Symbol) → Refuses g limit fault ts rest → Refuses (behind t g) limit fault (t ∷ ts) rest
-  refuses_behind limit fault ts rest h = record {
+  pub refuses_behind : (limit : ℕ) (flaw : Flaw) (ts rest : List Symbol) → Refuses g limit flaw ts rest → Refuses (behind t g) limit flaw (t ∷ ts) rest
+  refuses_behind limit flaw ts rest h = record {
     front = t ∷ h.front;
     split = ap (λ l. t ∷ l) h.split;
     begins = begins_behind limit h.front h.begins;
     blocks = λ n out x after other fits stops e same. h.blocks n out x after other fits stops (let e' : t ∷ (g.spell x ++ after) ≡ t ∷ (h.front ++ other) = e in cc) same;
-    stands = h.stands;
-    deeper = elim fault as (λ r. Deeper g r limit (h.front ++ take 1 rest) → Deeper (behind t g) r limit (t ∷ (h.front ++ take 1 rest))) [ Unexpected ↦ λ d. tt | TooDeep ↦ λ d. begins_behind (suc limit) (h.front ++ take 1 rest) d ] h.deeper;
+    bracket = h.bracket;
+    deeper = elim flaw as (λ r. Deeper g r limit (h.front ++ take 1 rest) → Deeper (behind t g) r limit (t ∷ (h.front ++ take 1 rest))) [ Unexpected ↦ λ d. tt | TooDeep ↦ λ d. begins_behind (suc limit) (h.front ++ take 1 rest) d ] h.deeper;
   }
 
-module _ {X : Type 0} (t : Symbol) (is_sign : Symbol → Bool) (g : Phrase X) (sign : is_sign t ≡ true) (parts : (x : X) (u : Symbol) → is_sign u ≡ true → g.goes_on x u ≡ false) (plain : SymbolNamed t) where
+module _ {X : Type 0} (t : Symbol) (is_sign : Symbol → Bool) (g : Phrase X) (sign : is_sign t ≡ true) (parts : (x : X) (u : Symbol) → is_sign u ≡ true → g.goes_on x u ≡ false) (plain : IsProper t) where
   joined_starts : Starts (behind t g) is_sign
   joined_starts = record { begins = λ n x fits. (t, g.spell x, refl, sign); parts = parts }
 
@@ -359,17 +359,17 @@ module _ {X : Type 0} (t : Symbol) (is_sign : Symbol → Bool) (g : Phrase X) (s
       ends_many (behind t g) is_sign joined_starts n (λ x y r' q' fx' fy' sx' sy' e'. ends x y r' q' fx' fy' sx' sy' (let e2 : t ∷ (g.spell x ++ r') ≡ t ∷ (g.spell y ++ q') = e' in cc))
       xs ys r q (joined_all _ xs fx) (joined_all _ ys fy) sx sy (sym (behind_joined_more _ xs r fx) ∙ ap (λ l. t ∷ l) e ∙ behind_joined_more _ ys q fy)
 
-  pub grows_joined : (n m : ℕ) → ((x : X) → g.fits n x → g.fits m x) → (xs : List X) → JoinedFits (g.fits n) xs → JoinedFits (g.fits m) xs
-  grows_joined n m grows [] h = h
-  grows_joined n m grows (x ∷ xs) h = grows_many (behind t g) is_sign joined_starts n m grows (x ∷ xs) h
+  pub joined_fit_deeper : (n m : ℕ) → ((x : X) → g.fits n x → g.fits m x) → (xs : List X) → JoinedFits (g.fits n) xs → JoinedFits (g.fits m) xs
+  joined_fit_deeper n m fits_deeper [] h = h
+  joined_fit_deeper n m fits_deeper (x ∷ xs) h = many_fit_deeper (behind t g) is_sign joined_starts n m fits_deeper (x ∷ xs) h
 
   pub joined_lawful : Lawful g → Lawful (joined t is_sign g)
   joined_lawful law = record {
-    grows = λ n m xs le. grows_joined n m (λ x. law.grows n m x le) xs;
+    fits_deeper = λ n m xs le. joined_fit_deeper n m (λ x. law.fits_deeper n m x le) xs;
     ends = λ n. ends_joined n (law.ends n);
     some = law.some ∷ [];
     some_fits = (law.some_fits, tt);
-    some_named = named_append (g.spell law.some) [] law.some_named tt;
+    some_proper = proper_append (g.spell law.some) [] law.some_proper tt;
   }
 
   -- some phrases so far, of those that begin in ts
@@ -401,59 +401,59 @@ module _ {X : Type 0} (t : Symbol) (is_sign : Symbol → Bool) (g : Phrase X) (s
       }
 
   begins_joined : (n : ℕ) (front : List Symbol) → Begins (many (behind t g) is_sign) n (t ∷ front) → Begins (joined t is_sign g) n front
-  begins_joined n front h = whole_row n front h.more h.named h.tree h.whole h.spelled
+  begins_joined n front h = whole_row n front h.more h.proper h.tree h.whole h.spelled
     where
-      whole_row : (n : ℕ) (front more : List Symbol) → AllNamed more → (xs : List X) → AllByRecursion (g.fits n) xs → flat_map (behind t g).spell xs ≡ (t ∷ front) ++ more → Begins (joined t is_sign g) n front
-      whole_row n front more named [] fits e = let e' : [] ≡ t ∷ (front ++ more) = e in cc
-      whole_row n front more named (x ∷ xs) fits e = record { tree = x ∷ xs; more = more; whole = fits; named = named; spelled = head_equal (joined_spell t g.spell (x ∷ xs)) (front ++ more) e }
+      whole_row : (n : ℕ) (front more : List Symbol) → AllProper more → (xs : List X) → AllByRecursion (g.fits n) xs → flat_map (behind t g).spell xs ≡ (t ∷ front) ++ more → Begins (joined t is_sign g) n front
+      whole_row n front more proper [] fits e = let e' : [] ≡ t ∷ (front ++ more) = e in cc
+      whole_row n front more proper (x ∷ xs) fits e = record { tree = x ∷ xs; more = more; whole = fits; proper = proper; spelled = head_equal (joined_spell t g.spell (x ∷ xs)) (front ++ more) e }
 
-  from_many : (limit : ℕ) (fault : Fault) (ts rest front : List Symbol) (h : Refuses (many (behind t g) is_sign) limit fault (t ∷ ts) rest) → h.front ≡ t ∷ front → Refuses (joined t is_sign g) limit fault ts rest
-  from_many limit fault ts rest front h is = record {
+  from_many : (limit : ℕ) (flaw : Flaw) (ts rest front : List Symbol) (h : Refuses (many (behind t g) is_sign) limit flaw (t ∷ ts) rest) → h.front ≡ t ∷ front → Refuses (joined t is_sign g) limit flaw ts rest
+  from_many limit flaw ts rest front h is = record {
     front = front;
     split = head_equal ts (front ++ rest) (h.split ∙ ap (λ l. l ++ rest) is);
     begins = begins_joined limit front (subst (Begins (many (behind t g) is_sign) limit) is h.begins);
     blocks = λ n out xs after other fits stops e same.
         h.blocks n out xs after other (joined_all _ xs fits) stops (sym (behind_joined_more _ xs after fits) ∙ ap (λ l. t ∷ l) e ∙ ap (λ l. l ++ other) (sym is)) same;
-    stands = h.stands;
-    deeper = elim fault as (λ r. Deeper (many (behind t g) is_sign) r limit (h.front ++ take 1 rest) → Deeper (joined t is_sign g) r limit (front ++ take 1 rest)) [ Unexpected ↦ λ d. tt | TooDeep ↦ λ d. begins_joined (suc limit) (front ++ take 1 rest) (subst (λ l. Begins (many (behind t g) is_sign) (suc limit) (l ++ take 1 rest)) is d) ] h.deeper;
+    bracket = h.bracket;
+    deeper = elim flaw as (λ r. Deeper (many (behind t g) is_sign) r limit (h.front ++ take 1 rest) → Deeper (joined t is_sign g) r limit (front ++ take 1 rest)) [ Unexpected ↦ λ d. tt | TooDeep ↦ λ d. begins_joined (suc limit) (front ++ take 1 rest) (subst (λ l. Begins (many (behind t g) is_sign) (suc limit) (l ++ take 1 rest)) is d) ] h.deeper;
   }
 
-  pub refuses_joined_first : Lawful g → (limit : ℕ) (fault : Fault) (ts rest : List Symbol) → Refuses g limit fault ts rest → Refuses (joined t is_sign g) limit fault ts rest
+  pub refuses_joined_first : Lawful g → (limit : ℕ) (flaw : Flaw) (ts rest : List Symbol) → Refuses g limit flaw ts rest → Refuses (joined t is_sign g) limit flaw ts rest
   unfolding refuses_many refuses_behind
-  refuses_joined_first law limit fault ts rest h =
-      from_many limit fault ts rest h.front (refuses_many (behind t g) is_sign joined_starts (behind_lawful t g law plain) limit fault (t ∷ ts) (t ∷ ts) rest [] (reads_none (behind t g) is_sign joined_starts (behind_lawful t g law plain) limit (t ∷ ts)) (t, refl, sign) (refuses_behind t g law limit fault ts rest h)) refl
+  refuses_joined_first law limit flaw ts rest h =
+      from_many limit flaw ts rest h.front (refuses_many (behind t g) is_sign joined_starts (behind_lawful t g law plain) limit flaw (t ∷ ts) (t ∷ ts) rest [] (reads_none (behind t g) is_sign joined_starts (behind_lawful t g law plain) limit (t ∷ ts)) (t, refl, sign) (refuses_behind t g law limit flaw ts rest h)) refl
 
-  pub refuses_joined : Lawful g → (limit : ℕ) (fault : Fault) (ts mid rest : List Symbol) (xs : List X) → Joins limit ts xs (t ∷ mid) → Refuses g limit fault mid rest → Refuses (joined t is_sign g) limit fault ts rest
+  pub refuses_joined : Lawful g → (limit : ℕ) (flaw : Flaw) (ts mid rest : List Symbol) (xs : List X) → Joins limit ts xs (t ∷ mid) → Refuses g limit flaw mid rest → Refuses (joined t is_sign g) limit flaw ts rest
   unfolding refuses_many refuses_behind
-  refuses_joined law limit fault ts mid rest [] so_far h =
-      from_many limit fault ts rest h.front (refuses_many (behind t g) is_sign joined_starts (behind_lawful t g law plain) limit fault (t ∷ ts) (t ∷ mid) rest [] so_far (t, refl, sign) (refuses_behind t g law limit fault mid rest h)) refl
-  refuses_joined law limit fault ts mid rest (x ∷ xs) so_far h =
-      from_many limit fault ts rest ((g.spell x ++ flat_map (behind t g).spell xs) ++ (t ∷ h.front)) (refuses_many (behind t g) is_sign joined_starts (behind_lawful t g law plain) limit fault (t ∷ ts) (t ∷ mid) rest (x ∷ xs) so_far (t, refl, sign) (refuses_behind t g law limit fault mid rest h)) refl
+  refuses_joined law limit flaw ts mid rest [] so_far h =
+      from_many limit flaw ts rest h.front (refuses_many (behind t g) is_sign joined_starts (behind_lawful t g law plain) limit flaw (t ∷ ts) (t ∷ mid) rest [] so_far (t, refl, sign) (refuses_behind t g law limit flaw mid rest h)) refl
+  refuses_joined law limit flaw ts mid rest (x ∷ xs) so_far h =
+      from_many limit flaw ts rest ((g.spell x ++ flat_map (behind t g).spell xs) ++ (t ∷ h.front)) (refuses_many (behind t g) is_sign joined_starts (behind_lawful t g law plain) limit flaw (t ∷ ts) (t ∷ mid) rest (x ∷ xs) so_far (t, refl, sign) (refuses_behind t g law limit flaw mid rest h)) refl
 
 -- what is proved of one kind of phrase holds of another that is seen as it
 module _ {X Y : Type 0} (view : Y → X) (back : X → Y) (there : (x : X) → view (back x) ≡ x) (here : (y : Y) → back (view y) ≡ y) (g : Phrase X) where
   pub seen_lawful : Lawful g → Lawful (seen view g)
   seen_lawful law = record {
-    grows = λ n m y. law.grows n m (view y);
+    fits_deeper = λ n m y. law.fits_deeper n m (view y);
     ends = λ n x y r q fx fy sx sy e.
         let same = law.ends n (view x) (view y) r q fx fy sx sy e in
         (sym (here x) ∙ ap back same.0 ∙ here y, same.1);
     some = back law.some;
     some_fits = subst (g.fits 0) (sym (there law.some)) law.some_fits;
-    some_named = subst (λ x. AllNamed (g.spell x)) (sym (there law.some)) law.some_named;
+    some_proper = subst (λ x. AllProper (g.spell x)) (sym (there law.some)) law.some_proper;
   }
 
   begins_seen : (n : ℕ) (front : List Symbol) → Begins g n front → Begins (seen view g) n front
-  begins_seen n front h = record { tree = back h.tree; more = h.more; whole = subst (g.fits n) (sym (there h.tree)) h.whole; named = h.named; spelled = ap g.spell (there h.tree) ∙ h.spelled }
+  begins_seen n front h = record { tree = back h.tree; more = h.more; whole = subst (g.fits n) (sym (there h.tree)) h.whole; proper = h.proper; spelled = ap g.spell (there h.tree) ∙ h.spelled }
 
-  pub refuses_seen : (limit : ℕ) (fault : Fault) (ts rest : List Symbol) → Refuses g limit fault ts rest → Refuses (seen view g) limit fault ts rest
-  refuses_seen limit fault ts rest h = record {
+  pub refuses_seen : (limit : ℕ) (flaw : Flaw) (ts rest : List Symbol) → Refuses g limit flaw ts rest → Refuses (seen view g) limit flaw ts rest
+  refuses_seen limit flaw ts rest h = record {
     front = h.front;
     split = h.split;
     begins = begins_seen limit h.front h.begins;
     blocks = λ n out y. h.blocks n out (view y);
-    stands = h.stands;
-    deeper = elim fault as (λ r. Deeper g r limit (h.front ++ take 1 rest) → Deeper (seen view g) r limit (h.front ++ take 1 rest)) [ Unexpected ↦ λ d. tt | TooDeep ↦ λ d. begins_seen (suc limit) (h.front ++ take 1 rest) d ] h.deeper;
+    bracket = h.bracket;
+    deeper = elim flaw as (λ r. Deeper g r limit (h.front ++ take 1 rest) → Deeper (seen view g) r limit (h.front ++ take 1 rest)) [ Unexpected ↦ λ d. tt | TooDeep ↦ λ d. begins_seen (suc limit) (h.front ++ take 1 rest) d ] h.deeper;
   }
 
   pub reads_seen : (limit : ℕ) (ts rest : List Symbol) (y : Y) (x : X) → view y ≡ x → Reads g limit ts x rest → Reads (seen view g) limit ts y rest
@@ -462,7 +462,7 @@ module _ {X Y : Type 0} (view : Y → X) (back : X → Y) (there : (x : X) → v
       record { whole = r.whole; spelled = r.spelled; longest = r.longest }
 
 -- a list of phrases with a sign between them, seen as a tree
-module _ {X Y : Type 0} (t : Symbol) (is_sign : Symbol → Bool) (g : Phrase X) (law : Lawful g) (sign : is_sign t ≡ true) (parts : (x : X) (u : Symbol) → is_sign u ≡ true → g.goes_on x u ≡ false) (plain : SymbolNamed t) (view : Y → List X) (back : List X → Y) (there : (xs : List X) → view (back xs) ≡ xs) (here : (y : Y) → back (view y) ≡ y) where
+module _ {X Y : Type 0} (t : Symbol) (is_sign : Symbol → Bool) (g : Phrase X) (law : Lawful g) (sign : is_sign t ≡ true) (parts : (x : X) (u : Symbol) → is_sign u ≡ true → g.goes_on x u ≡ false) (plain : IsProper t) (view : Y → List X) (back : List X → Y) (there : (xs : List X) → view (back xs) ≡ xs) (here : (y : Y) → back (view y) ≡ y) where
   pub row_starts : (limit : ℕ) (ts rest : List Symbol) (x : X) → Reads g limit ts x rest → ReadsSome (behind t g) limit (t ∷ ts) (x ∷ []) rest
   row_starts limit ts rest x h = joins_first t is_sign g sign parts plain law limit ts rest x h
 
@@ -477,9 +477,9 @@ module _ {X Y : Type 0} (t : Symbol) (is_sign : Symbol → Bool) (g : Phrase X) 
   row_reads limit ts rest xs some so_far stops =
       reads_seen view back there here (joined t is_sign g) limit ts rest (back xs) xs (there xs) (reads_joined t is_sign g sign parts plain law limit ts rest xs (some_joined _ xs some so_far.whole) so_far stops)
 
-  pub row_refuses_first : (limit : ℕ) (fault : Fault) (ts rest : List Symbol) → Refuses g limit fault ts rest → Refuses (seen view (joined t is_sign g)) limit fault ts rest
-  row_refuses_first limit fault ts rest h = refuses_seen view back there here (joined t is_sign g) limit fault ts rest (refuses_joined_first t is_sign g sign parts plain law limit fault ts rest h)
+  pub row_refuses_first : (limit : ℕ) (flaw : Flaw) (ts rest : List Symbol) → Refuses g limit flaw ts rest → Refuses (seen view (joined t is_sign g)) limit flaw ts rest
+  row_refuses_first limit flaw ts rest h = refuses_seen view back there here (joined t is_sign g) limit flaw ts rest (refuses_joined_first t is_sign g sign parts plain law limit flaw ts rest h)
 
-  pub row_refuses : (limit : ℕ) (fault : Fault) (ts rest mid left : List Symbol) (xs : List X) → ReadsSome (behind t g) limit (t ∷ ts) xs rest → rest ≡ t ∷ mid → Refuses g limit fault mid left → Refuses (seen view (joined t is_sign g)) limit fault ts left
-  row_refuses limit fault ts rest mid left xs so_far e h =
-      refuses_seen view back there here (joined t is_sign g) limit fault ts left (refuses_joined t is_sign g sign parts plain law limit fault ts mid left xs (subst (ReadsSome (behind t g) limit (t ∷ ts) xs) e so_far) h)
+  pub row_refuses : (limit : ℕ) (flaw : Flaw) (ts rest mid left : List Symbol) (xs : List X) → ReadsSome (behind t g) limit (t ∷ ts) xs rest → rest ≡ t ∷ mid → Refuses g limit flaw mid left → Refuses (seen view (joined t is_sign g)) limit flaw ts left
+  row_refuses limit flaw ts rest mid left xs so_far e h =
+      refuses_seen view back there here (joined t is_sign g) limit flaw ts left (refuses_joined t is_sign g sign parts plain law limit flaw ts mid left xs (subst (ReadsSome (behind t g) limit (t ∷ ts) xs) e so_far) h)

@@ -6,7 +6,7 @@ use Rattle.std.specs.List.{flat_map, AllByRecursion}
 use Rattle.ps_base.specs.declared.failing.Place.{Place}
 use Rattle.ps_base.specs.declared.failing.Rule.TheVariants.{P1, P2}
 use Rattle.ps_base.specs.declared.limits.TheConstants.{MOST_GROUPS}
-use Rattle.ps_lexer.specs.Spelling.{IsWellNamed, IsName}
+use Rattle.ps_lexer.specs.Spelling.{IsWellFormed, IsName}
 use Rattle.ps_lexer.specs.declared.token.Form.{Form}
 use Rattle.ps_lexer.specs.declared.token.Form.TheVariants as form
 use Rattle.ps_lexer.specs.declared.token.Word.TheVariants as word
@@ -15,19 +15,19 @@ use Rattle.ps_parser.specs.declared.heads.Heads.{Heads}
 use Rattle.ps_parser.specs.declared.sign.Sign.{Sign}
 use Rattle.ps_parser.specs.declared.sign.Sign.TheVariants as sign
 use Rattle.ps_parser.specs.declared.statement.Target.TheVariants as target
-use Rattle.ps_parser.specs.declared.stop.Fault.{Fault}
-use Rattle.ps_parser.specs.declared.stop.Fault.TheVariants.{Unexpected, TooDeep}
+use Rattle.ps_parser.specs.declared.stop.Flaw.{Flaw}
+use Rattle.ps_parser.specs.declared.stop.Flaw.TheVariants.{Unexpected, TooDeep}
 use Rattle.ps_parser.specs.Names.{IsPlainName, IsDottedName, single, block_word}
-use Rattle.ps_parser.specs.Symbol.{Symbol, Mark, Named, symbol, symbol_of, symbols, named_or, SymbolNamed, AllNamed}
+use Rattle.ps_parser.specs.Symbol.{Symbol, Mark, Named, symbol, symbol_of, symbols, named_or, IsProper, AllProper}
 use Rattle.ps_parser.specs.Tree.{ArgumentTree, StatementTree, Assign, Call, SourceTree}
 use Rattle.ps_parser.specs.Spelt.{joined_spell, argument_spelt, statement_spelt, section_spelt, spelt, head_sign, foot_sign}
 use Rattle.ps_parser.specs.Whole.{IsSource}
-use Rattle.ps_parser.specs.Phrase.{Begins, Blocks, Refuses, Reads, Stands}
+use Rattle.ps_parser.specs.Phrase.{Begins, Blocks, Refuses, Reads, BracketIfTooDeep}
 use Rattle.ps_parser.specs.Grammar.{an_argument, any_arguments, a_statement, a_source}
 use Rattle.ps_parser.specs.Parsing.{IsSourceWithin, BeginsSource, Breaks, rule_of, place_at, IsRefused}
-use Rattle.ps_parser.proofs.Phrases.{named_append}
+use Rattle.ps_parser.proofs.Phrases.{proper_append}
 use Rattle.ps_parser.proofs.Expressions.{sum_spelt_lem}
-use Rattle.ps_parser.proofs.Fitting.{named_left, named_right, source_out, source_shallow, source_in}
+use Rattle.ps_parser.proofs.Fitting.{proper_left, proper_right, source_out, source_shallow, source_in}
 
 argument_spelt_lem : (a : ArgumentTree) → argument_spelt a ≡ an_argument.spell a
 argument_spelt_lem a = ap (λ l. Named a.pin ∷ Mark sign.Assign ∷ l) (sum_spelt_lem a.value)
@@ -46,14 +46,14 @@ pub source_spelt : (h : Heads) (s : SourceTree) → spelt h s ≡ (a_source h).s
 source_spelt h s =
     ap (λ f. Mark (head_sign h) ∷ Named s.name ∷ (flat_map section_spelt s.sections ++ (flat_map f s.statements ++ Mark (foot_sign h) ∷ []))) (λ i x. statement_spelt_lem x i)
 
-begins_source : (h : Heads) (depth : ℕ) (front : List Symbol) → AllNamed front → Begins (a_source h) depth front → BeginsSource h depth front
-begins_source h depth front named b =
+begins_source : (h : Heads) (depth : ℕ) (front : List Symbol) → AllProper front → Begins (a_source h) depth front → BeginsSource h depth front
+begins_source h depth front proper b =
     let is = source_spelt h b.tree ∙ b.spelled in
     record {
       source = b.tree;
       more = b.more;
       within = record {
-        grammatical = source_out IsPlainName (λ text p. p) h depth b.tree b.whole (subst AllNamed (sym is) (named_append front b.more named b.named));
+        grammatical = source_out IsPlainName (λ text p. p) h depth b.tree b.whole (subst AllProper (sym is) (proper_append front b.more proper b.proper));
         nested = source_shallow h depth b.tree b.whole;
       };
       spelling = is;
@@ -69,15 +69,15 @@ breaks_p1 : (h : Heads) (front rest : List Symbol) → ((n : ℕ) → Blocks (a_
 breaks_p1 h front [] blocks = λ depth s within e. blocks depth s [] [] (source_in IsPlainName h depth s within.grammatical within.nested) tt (append-nil ((a_source h).spell s) ∙ sym (source_spelt h s) ∙ e ∙ sym (append-nil front)) refl
 breaks_p1 h front (t ∷ rest) blocks = λ depth b. no_longer h depth front rest t (blocks depth) b
 
-breaks_p2 : (h : Heads) (front rest : List Symbol) → AllNamed front → Blocks (a_source h) MOST_GROUPS front rest → Begins (a_source h) (suc MOST_GROUPS) (front ++ take 1 rest) → Stands TooDeep rest → Breaks P2 h front rest
-breaks_p2 h front [] named blocks deeper stands = cc
-breaks_p2 h front (t ∷ rest) named blocks deeper stands =
+breaks_p2 : (h : Heads) (front rest : List Symbol) → AllProper front → Blocks (a_source h) MOST_GROUPS front rest → Begins (a_source h) (suc MOST_GROUPS) (front ++ take 1 rest) → BracketIfTooDeep TooDeep rest → Breaks P2 h front rest
+breaks_p2 h front [] proper blocks deeper bracket = cc
+breaks_p2 h front (t ∷ rest) proper blocks deeper stands =
     let is : t ≡ Mark sign.LeftBracket = cc in
-    (is, begins_source h (suc MOST_GROUPS) (front ++ t ∷ []) (named_append front (t ∷ []) named (subst (λ u. AllNamed (u ∷ [])) (sym is) (tt, tt))) deeper, no_longer h MOST_GROUPS front rest t blocks)
+    (is, begins_source h (suc MOST_GROUPS) (front ++ t ∷ []) (proper_append front (t ∷ []) proper (subst (λ u. AllProper (u ∷ [])) (sym is) (tt, tt))) deeper, no_longer h MOST_GROUPS front rest t blocks)
 
-breaks : (h : Heads) (fault : Fault) (ts rest : List Symbol) (named : AllNamed ts) (r : Refuses (a_source h) MOST_GROUPS fault ts rest) → Breaks (rule_of fault) h r.front rest
-breaks h Unexpected ts rest named r = breaks_p1 h r.front rest (λ n. r.blocks n tt)
-breaks h TooDeep ts rest named r = breaks_p2 h r.front rest (named_left r.front rest (subst AllNamed r.split named)) (r.blocks MOST_GROUPS (omega arith)) r.deeper r.stands
+breaks : (h : Heads) (flaw : Flaw) (ts rest : List Symbol) (proper : AllProper ts) (r : Refuses (a_source h) MOST_GROUPS flaw ts rest) → Breaks (rule_of flaw) h r.front rest
+breaks h Unexpected ts rest proper r = breaks_p1 h r.front rest (λ n. r.blocks n tt)
+breaks h TooDeep ts rest proper r = breaks_p2 h r.front rest (proper_left r.front rest (subst AllProper r.split proper)) (r.blocks MOST_GROUPS (omega arith)) r.deeper r.bracket
 
 -- a list is cut where so much of it is left
 cut_length : {A : Type 0} (xs ys zs : List A) → xs ≡ ys ++ zs → length xs - length zs ≡ length ys
@@ -99,9 +99,9 @@ symbols_front ts left front e = sym (take-map symbol (length ts - length left) t
 symbols_rest : (ts left : List Token) (front : List Symbol) → symbols ts ≡ front ++ symbols left → symbols (drop (length ts - length left) ts) ≡ symbols left
 symbols_rest ts left front e = sym (drop-map symbol (length ts - length left) ts) ∙ ap (λ n. drop n (symbols ts)) (sym (left_over ts left)) ∙ cut_rest (symbols ts) front (symbols left) e
 
-pub refused : (h : Heads) (fault : Fault) (ts left : List Token) (end place : Place) → AllNamed (symbols ts) → Refuses (a_source h) MOST_GROUPS fault (symbols ts) (symbols left)
-    → place ≡ place_at (drop (length ts - length left) ts) end → IsRefused h ts end (record { rule = rule_of fault; place = place })
-refused h fault ts left end place named r at =
+pub refusal_of_left : (h : Heads) (flaw : Flaw) (ts left : List Token) (end place : Place) → AllProper (symbols ts) → Refuses (a_source h) MOST_GROUPS flaw (symbols ts) (symbols left)
+    → place ≡ place_at (drop (length ts - length left) ts) end → IsRefused h ts end (record { rule = rule_of flaw; place = place })
+refusal_of_left h flaw ts left end place proper r at =
     let k = length ts - length left in
     let front_is = symbols_front ts left r.front r.split in
     let rest_is = symbols_rest ts left r.front r.split in
@@ -109,58 +109,58 @@ refused h fault ts left end place named r at =
       front = take k ts;
       rest = drop k ts;
       split = sym (take-append-drop k ts);
-      begins = subst (BeginsSource h MOST_GROUPS) (sym front_is) (begins_source h MOST_GROUPS r.front (named_left r.front (symbols left) (subst AllNamed r.split named)) r.begins);
-      breaks = subst (λ l. Breaks (rule_of fault) h l (symbols (drop k ts))) (sym front_is) (subst (Breaks (rule_of fault) h r.front) (sym rest_is) (breaks h fault (symbols ts) (symbols left) named r));
+      begins = subst (BeginsSource h MOST_GROUPS) (sym front_is) (begins_source h MOST_GROUPS r.front (proper_left r.front (symbols left) (subst AllProper r.split proper)) r.begins);
+      breaks = subst (λ l. Breaks (rule_of flaw) h l (symbols (drop k ts))) (sym front_is) (subst (Breaks (rule_of flaw) h r.front) (sym rest_is) (breaks h flaw (symbols ts) (symbols left) proper r));
       place = at;
     }
 
--- what is read is named as it is spelt
-named_source : (h : Heads) (n : ℕ) (ts rest : List Symbol) (s : SourceTree) → AllNamed ts → Reads (a_source h) n ts s rest → AllNamed (spelt h s)
-named_source h n ts rest s named r = subst AllNamed (sym (source_spelt h s)) (named_left ((a_source h).spell s) rest (subst AllNamed r.spelled named))
+-- what is read is proper as it is spelt
+proper_source : (h : Heads) (n : ℕ) (ts rest : List Symbol) (s : SourceTree) → AllProper ts → Reads (a_source h) n ts s rest → AllProper (spelt h s)
+proper_source h n ts rest s proper r = subst AllProper (sym (source_spelt h s)) (proper_left ((a_source h).spell s) rest (subst AllProper r.spelled proper))
 
-pub source_kept : (h : Heads) (ts rest : List Symbol) (s : SourceTree) → AllNamed ts → Reads (a_source h) MOST_GROUPS ts s rest → IsSource s
-source_kept h ts rest s named r = record {
-  whole = source_out IsDottedName (λ text p. single p.name) h MOST_GROUPS s r.whole (named_source h MOST_GROUPS ts rest s named r);
+pub source_kept : (h : Heads) (ts rest : List Symbol) (s : SourceTree) → AllProper ts → Reads (a_source h) MOST_GROUPS ts s rest → IsSource s
+source_kept h ts rest s proper r = record {
+  whole = source_out IsDottedName (λ text p. single p.name) h MOST_GROUPS s r.whole (proper_source h MOST_GROUPS ts rest s proper r);
   shallow = source_shallow h MOST_GROUPS s r.whole;
 }
 
-pub source_within : (h : Heads) (ts rest : List Symbol) (s : SourceTree) → AllNamed ts → Reads (a_source h) MOST_GROUPS ts s rest → IsSourceWithin MOST_GROUPS s
-source_within h ts rest s named r = record {
-  grammatical = source_out IsPlainName (λ text p. p) h MOST_GROUPS s r.whole (named_source h MOST_GROUPS ts rest s named r);
+pub source_within : (h : Heads) (ts rest : List Symbol) (s : SourceTree) → AllProper ts → Reads (a_source h) MOST_GROUPS ts s rest → IsSourceWithin MOST_GROUPS s
+source_within h ts rest s proper r = record {
+  grammatical = source_out IsPlainName (λ text p. p) h MOST_GROUPS s r.whole (proper_source h MOST_GROUPS ts rest s proper r);
   nested = source_shallow h MOST_GROUPS s r.whole;
 }
 
--- the tokens of a list are named
-named_symbol_or : (text : List ℕ) (place : Place) → IsName text → (o : Option Sign) → block_word text ≡ o → SymbolNamed (named_or o (record { text = text; place = place }))
-named_symbol_or text place h = elim [ None ↦ λ e. record { name = h; plain = e } | Some s ↦ λ e. tt ]
+-- the tokens of a list are proper
+proper_symbol_or : (text : List ℕ) (place : Place) → IsName text → (o : Option Sign) → block_word text ≡ o → IsProper (named_or o (record { text = text; place = place }))
+proper_symbol_or text place h = elim [ None ↦ λ e. record { name = h; plain = e } | Some s ↦ λ e. tt ]
 
-named_symbol : (f : Form) (p : Place) → IsWellNamed f → SymbolNamed (symbol_of f p)
-named_symbol (form.Name text) p h = named_symbol_or text p h (block_word text) refl
-named_symbol (form.Word word.Program) p h = tt
-named_symbol (form.Word word.EndProgram) p h = tt
-named_symbol (form.Word word.VarInput) p h = tt
-named_symbol (form.Word word.VarOutput) p h = tt
-named_symbol (form.Word word.Var) p h = tt
-named_symbol (form.Word word.EndVar) p h = tt
-named_symbol (form.Word word.And) p h = tt
-named_symbol (form.Word word.Or) p h = tt
-named_symbol (form.Word word.True) p h = tt
-named_symbol (form.Word word.False) p h = tt
-named_symbol (form.Time t) p h = tt
-named_symbol form.Assign p h = tt
-named_symbol form.Colon p h = tt
-named_symbol form.Semicolon p h = tt
-named_symbol form.Comma p h = tt
-named_symbol form.LeftBracket p h = tt
-named_symbol form.RightBracket p h = tt
-named_symbol form.Dot p h = tt
+proper_symbol : (f : Form) (p : Place) → IsWellFormed f → IsProper (symbol_of f p)
+proper_symbol (form.Name text) p h = proper_symbol_or text p h (block_word text) refl
+proper_symbol (form.Word word.Program) p h = tt
+proper_symbol (form.Word word.EndProgram) p h = tt
+proper_symbol (form.Word word.VarInput) p h = tt
+proper_symbol (form.Word word.VarOutput) p h = tt
+proper_symbol (form.Word word.Var) p h = tt
+proper_symbol (form.Word word.EndVar) p h = tt
+proper_symbol (form.Word word.And) p h = tt
+proper_symbol (form.Word word.Or) p h = tt
+proper_symbol (form.Word word.True) p h = tt
+proper_symbol (form.Word word.False) p h = tt
+proper_symbol (form.Time t) p h = h
+proper_symbol form.Assign p h = tt
+proper_symbol form.Colon p h = tt
+proper_symbol form.Semicolon p h = tt
+proper_symbol form.Comma p h = tt
+proper_symbol form.LeftBracket p h = tt
+proper_symbol form.RightBracket p h = tt
+proper_symbol form.Dot p h = tt
 
-pub named_tokens : (ts : List Token) → AllByRecursion (λ t. IsWellNamed t.form) ts → AllNamed (symbols ts)
-named_tokens [] h = tt
-named_tokens (t ∷ ts) h = (named_symbol t.form t.place h.0, named_tokens ts h.1)
+pub proper_tokens : (ts : List Token) → AllByRecursion (λ t. IsWellFormed t.form) ts → AllProper (symbols ts)
+proper_tokens [] h = tt
+proper_tokens (t ∷ ts) h = (proper_symbol t.form t.place h.0, proper_tokens ts h.1)
 
-pub named_drop : (k : ℕ) (ts : List Token) → AllNamed (symbols ts) → AllNamed (symbols (drop k ts))
-named_drop k ts h = subst AllNamed (drop-map symbol k ts) (named_right (take k (symbols ts)) (drop k (symbols ts)) (subst AllNamed (sym (take-append-drop k (symbols ts))) h))
+pub proper_drop : (k : ℕ) (ts : List Token) → AllProper (symbols ts) → AllProper (symbols (drop k ts))
+proper_drop k ts h = subst AllProper (drop-map symbol k ts) (proper_right (take k (symbols ts)) (drop k (symbols ts)) (subst AllProper (sym (take-append-drop k (symbols ts))) h))
 
 pub token_place : (ts : List Token) (k : ℕ) (t : Token) (end : Place) → slice_get ts k ≡ Some t → t.place ≡ place_at (drop k ts) end
 token_place [] k t end e = cc

@@ -13,7 +13,7 @@ use Rattle.ps_parser.proofs.Joints.{Carries}
 use Rattle.ps_parser.proofs.Signs.{not_next}
 use Rattle.ps_parser.proofs.Expressions.{name_law}
 use Rattle.ps_parser.proofs.Sentences.{name_ends, argument_law, argument_ends}
-use Rattle.ps_parser.proofs.Reading.{fewer}
+use Rattle.ps_parser.proofs.Reading.{fewer_tokens_left}
 
 -- names with a comma between each two
 pub names_start : (limit : ℕ) (ts rest : List Symbol) (x : Name) → Reads a_name limit ts x rest → ReadsSome (behind (Mark Comma) a_name) limit (Mark Comma ∷ ts) (x ∷ []) rest
@@ -26,10 +26,10 @@ pub names_read : (limit : ℕ) (ts rest : List Symbol) (xs : List Name) → 0 < 
 names_read limit ts rest xs some so_far absent = row_reads (Mark Comma) (is_mark Comma) a_name name_law refl name_ends tt (λ xs. xs) (λ xs. xs) (λ xs. refl) (λ xs. refl) limit ts rest xs some so_far (not_next Comma rest absent)
 
 pub names_refuse_first : (limit : ℕ) (ts : List Symbol) → Carries a_name names limit limit ts ts
-names_refuse_first limit ts fault rest h = row_refuses_first (Mark Comma) (is_mark Comma) a_name name_law refl name_ends tt (λ xs. xs) (λ xs. xs) (λ xs. refl) (λ xs. refl) limit fault ts rest h
+names_refuse_first limit ts flaw rest h = row_refuses_first (Mark Comma) (is_mark Comma) a_name name_law refl name_ends tt (λ xs. xs) (λ xs. xs) (λ xs. refl) (λ xs. refl) limit flaw ts rest h
 
 pub names_refuse : (limit : ℕ) (ts rest mid : List Symbol) (xs : List Name) → ReadsSome (behind (Mark Comma) a_name) limit (Mark Comma ∷ ts) xs rest → rest ≡ Mark Comma ∷ mid → Carries a_name names limit limit mid ts
-names_refuse limit ts rest mid xs so_far e fault left h = row_refuses (Mark Comma) (is_mark Comma) a_name name_law refl name_ends tt (λ xs. xs) (λ xs. xs) (λ xs. refl) (λ xs. refl) limit fault ts rest mid left xs so_far e h
+names_refuse limit ts rest mid xs so_far e flaw left h = row_refuses (Mark Comma) (is_mark Comma) a_name name_law refl name_ends tt (λ xs. xs) (λ xs. xs) (λ xs. refl) (λ xs. refl) limit flaw ts rest mid left xs so_far e h
 
 -- arguments with a comma between each two
 pub arguments_start : (limit : ℕ) (ts rest : List Symbol) (x : ArgumentTree) → Reads an_argument limit ts x rest → ReadsSome (behind (Mark Comma) an_argument) limit (Mark Comma ∷ ts) (x ∷ []) rest
@@ -42,10 +42,10 @@ pub arguments_read : (limit : ℕ) (ts rest : List Symbol) (xs : List ArgumentTr
 arguments_read limit ts rest xs some so_far absent = row_reads (Mark Comma) (is_mark Comma) an_argument argument_law refl argument_ends tt (λ xs. xs) (λ xs. xs) (λ xs. refl) (λ xs. refl) limit ts rest xs some so_far (not_next Comma rest absent)
 
 pub arguments_refuse_first : (limit : ℕ) (ts : List Symbol) → Carries an_argument arguments limit limit ts ts
-arguments_refuse_first limit ts fault rest h = row_refuses_first (Mark Comma) (is_mark Comma) an_argument argument_law refl argument_ends tt (λ xs. xs) (λ xs. xs) (λ xs. refl) (λ xs. refl) limit fault ts rest h
+arguments_refuse_first limit ts flaw rest h = row_refuses_first (Mark Comma) (is_mark Comma) an_argument argument_law refl argument_ends tt (λ xs. xs) (λ xs. xs) (λ xs. refl) (λ xs. refl) limit flaw ts rest h
 
 pub arguments_refuse : (limit : ℕ) (ts rest mid : List Symbol) (xs : List ArgumentTree) → ReadsSome (behind (Mark Comma) an_argument) limit (Mark Comma ∷ ts) xs rest → rest ≡ Mark Comma ∷ mid → Carries an_argument arguments limit limit mid ts
-arguments_refuse limit ts rest mid xs so_far e fault left h = row_refuses (Mark Comma) (is_mark Comma) an_argument argument_law refl argument_ends tt (λ xs. xs) (λ xs. xs) (λ xs. refl) (λ xs. refl) limit fault ts rest mid left xs so_far e h
+arguments_refuse limit ts rest mid xs so_far e flaw left h = row_refuses (Mark Comma) (is_mark Comma) an_argument argument_law refl argument_ends tt (λ xs. xs) (λ xs. xs) (λ xs. refl) (λ xs. refl) limit flaw ts rest mid left xs so_far e h
 
 -- whether a list goes on
 pub first_next : (first : Symbol → Bool) (ts : List Symbol) → stands_next first ts ≡ true → IsFirst first ts
@@ -72,12 +72,12 @@ module _ {X : Type 0} (g : Phrase X) (first : Symbol → Bool) (starts : Starts 
   many_read limit ts rest xs so_far e = reads_many g first starts law limit ts rest xs so_far (stops_next first rest e)
 
   pub many_refuse : (limit : ℕ) (ts mid : List Symbol) (xs : List X) → ReadsSome g limit ts xs mid → stands_next first mid ≡ true → Carries g (many g first) limit limit mid ts
-  many_refuse limit ts mid xs so_far e fault rest h = refuses_many g first starts law limit fault ts mid rest xs so_far (first_next first mid e) h
+  many_refuse limit ts mid xs so_far e flaw rest h = refuses_many g first starts law limit flaw ts mid rest xs so_far (first_next first mid e) h
 
-  some_taken : (front rest : List Symbol) (t : Symbol) (ts : List Symbol) → front ≡ t ∷ ts → length rest < length (front ++ rest)
-  some_taken front rest t ts e = omega (arith, length-append front rest, ap length e)
+  rest_behind_some : (front rest : List Symbol) (t : Symbol) (ts : List Symbol) → front ≡ t ∷ ts → length rest < length (front ++ rest)
+  rest_behind_some front rest t ts e = omega (arith, length-append front rest, ap length e)
 
   pub many_smaller : (limit : ℕ) (mid left : List Token) (x : X) → Reads g limit (symbols mid) x (symbols left) → length left < length mid
   many_smaller limit mid left x h =
       let b = starts.begins limit x h.whole in
-      fewer mid left (subst (λ l. length (symbols left) < length l) (sym h.spelled) (some_taken (g.spell x) (symbols left) b.0 b.1 b.2))
+      fewer_tokens_left mid left (subst (λ l. length (symbols left) < length l) (sym h.spelled) (rest_behind_some (g.spell x) (symbols left) b.0 b.1 b.2))

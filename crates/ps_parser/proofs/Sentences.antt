@@ -1,7 +1,7 @@
 -- The laws of statements, declarations, sections and sources.
 use Rattle.std.proofs.Common.{◌≡◌, ℕ, inl, inr, Bool, true, false, ◌||◌, List, [], ◌∷◌, ◌++◌, Some, refl, sym, ap, ◌∙◌}
 use Rattle.std.specs.List.{flat_map}
-use Rattle.ps_parser.specs.declared.stop.Fault.TheVariants.{Unexpected}
+use Rattle.ps_parser.specs.declared.stop.Flaw.TheVariants.{Unexpected}
 use Rattle.ps_parser.specs.declared.sign.Sign.{Sign}
 use Rattle.ps_parser.specs.declared.sign.Sign.TheVariants.{EndVar, And, Or, Assign, Colon, Semicolon, Comma, LeftBracket, RightBracket, Dot}
 use Rattle.ps_parser.specs.declared.name.Name.{Name}
@@ -235,7 +235,7 @@ ends_part n Local Input r q fx fy sx sy e = cc
 ends_part n Local Output r q fx fy sx sy e = cc
 
 pub part_law : Lawful a_part
-part_law = record { grows = λ n m x le f. tt; ends = ends_part; some = Local; some_fits = tt; some_named = (tt, tt) }
+part_law = record { fits_deeper = λ n m x le f. tt; ends = ends_part; some = Local; some_fits = tt; some_proper = (tt, tt) }
 
 is_part_sign : (p : Part) → is_part (Mark (part_sign p)) ≡ true
 is_part_sign Input = refl

@@ -13,9 +13,9 @@ use Rattle.ps_parser.proofs.Sentences.{pin_twin, pin_joint, call_twin, call_join
 
 -- behind a dot
 pub pin_refuses : (n : ℕ) (ts after : List Symbol) → ts ≡ Mark Dot ∷ after → Carries pin_end a_tail n n after ts
-pin_refuses n ts after e fault left h =
-    refuses_left a_pin_value value_or_call (is_mark Dot) is_value_or_call open_pin open_value_or_call tail_apart n ts (subst (Stops is_value_or_call) (sym e) refl) fault left
-    (in_seen pin_twin n ts fault left (in_second pin_joint n ts after tt (reads_sign (Mark Dot) n ts after e) fault left h))
+pin_refuses n ts after e flaw left h =
+    refuses_left a_pin_value value_or_call (is_mark Dot) is_value_or_call open_pin open_value_or_call tail_apart n ts (subst (Stops is_value_or_call) (sym e) refl) flaw left
+    (in_seen pin_twin n ts flaw left (in_second pin_joint n ts after tt (reads_sign (Mark Dot) n ts after e) flaw left h))
 
 pub pin_reads : (n : ℕ) (ts after rest : List Symbol) (p : Name × SumTree) → ts ≡ Mark Dot ∷ after → Reads pin_end n after p rest → Reads a_tail n ts (inl p) rest
 pin_reads n ts after rest p e h =
@@ -24,10 +24,10 @@ pin_reads n ts after rest p e h =
 
 -- behind an opening bracket
 pub call_refuses : (n : ℕ) (ts after : List Symbol) → ts ≡ Mark LeftBracket ∷ after → Carries call_end a_tail n n after ts
-call_refuses n ts after e fault left h =
-    refuses_right a_pin_value value_or_call (is_mark Dot) is_value_or_call open_pin open_value_or_call tail_apart n ts (subst (Stops (is_mark Dot)) (sym e) refl) fault left
-    (refuses_right a_value a_call (is_mark Assign) (is_mark LeftBracket) open_value open_call value_apart n ts (subst (Stops (is_mark Assign)) (sym e) refl) fault left
-    (in_seen call_twin n ts fault left (in_second call_joint n ts after tt (reads_sign (Mark LeftBracket) n ts after e) fault left h)))
+call_refuses n ts after e flaw left h =
+    refuses_right a_pin_value value_or_call (is_mark Dot) is_value_or_call open_pin open_value_or_call tail_apart n ts (subst (Stops (is_mark Dot)) (sym e) refl) flaw left
+    (refuses_right a_value a_call (is_mark Assign) (is_mark LeftBracket) open_value open_call value_apart n ts (subst (Stops (is_mark Assign)) (sym e) refl) flaw left
+    (in_seen call_twin n ts flaw left (in_second call_joint n ts after tt (reads_sign (Mark LeftBracket) n ts after e) flaw left h)))
 
 pub call_reads : (n : ℕ) (ts after rest : List Symbol) (args : List ArgumentTree) → ts ≡ Mark LeftBracket ∷ after → Reads call_end n after (args, (tt, tt)) rest → Reads a_tail n ts (inr (inr args)) rest
 call_reads n ts after rest args e h =
@@ -37,9 +37,9 @@ call_reads n ts after rest args e h =
 
 -- where neither stands next, `:=` has to
 pub value_refuses : (n : ℕ) (ts : List Symbol) → Stops (is_mark Dot) ts → Stops (is_mark LeftBracket) ts → Carries a_value a_tail n n ts ts
-value_refuses n ts no_dot no_bracket fault left h =
-    refuses_right a_pin_value value_or_call (is_mark Dot) is_value_or_call open_pin open_value_or_call tail_apart n ts no_dot fault left
-    (refuses_left a_value a_call (is_mark Assign) (is_mark LeftBracket) open_value open_call value_apart n ts no_bracket fault left h)
+value_refuses n ts no_dot no_bracket flaw left h =
+    refuses_right a_pin_value value_or_call (is_mark Dot) is_value_or_call open_pin open_value_or_call tail_apart n ts no_dot flaw left
+    (refuses_left a_value a_call (is_mark Assign) (is_mark LeftBracket) open_value open_call value_apart n ts no_bracket flaw left h)
 
 pub value_reads : (n : ℕ) (ts rest : List Symbol) (s : SumTree) → Reads a_value n ts s rest → Reads a_tail n ts (inr (inl s)) rest
 value_reads n ts rest s h =

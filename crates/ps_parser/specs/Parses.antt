@@ -8,7 +8,7 @@ use Rattle.ps_parser.specs.Phrase.{Phrase, Reads, Refuses}
 -- no memory, or what is wrong, and the tokens from the refused one on
 abbrev pub Stopped : {X : Type 0} → Phrase X → ℕ → List Symbol → Stop → Type 0
 Stopped g limit ts Memory = Unit {0}
-Stopped g limit ts (Refused fault left) = Refuses g limit fault ts (symbols left.now)
+Stopped g limit ts (Refused flaw left) = Refuses g limit flaw ts (symbols left.now)
 
 -- the phrase, and the tokens behind it
 abbrev pub Parses : {R X : Type 0} → Phrase X → ℕ → List Symbol → (R → X) → (R → List Symbol) → Result R Stop → Type 0

@@ -13,8 +13,8 @@ use Rattle.ps_lexer.specs.declared.token.Tokens.{Tokens}
 use Rattle.ps_parser.specs.declared.heads.Heads.{Heads}
 use Rattle.ps_parser.specs.declared.heads.Heads.TheVariants.{Program}
 use Rattle.ps_parser.specs.declared.sign.Sign.TheVariants.{LeftBracket}
-use Rattle.ps_parser.specs.declared.stop.Fault.{Fault}
-use Rattle.ps_parser.specs.declared.stop.Fault.TheVariants.{Unexpected, TooDeep}
+use Rattle.ps_parser.specs.declared.stop.Flaw.{Flaw}
+use Rattle.ps_parser.specs.declared.stop.Flaw.TheVariants.{Unexpected, TooDeep}
 use Rattle.ps_parser.specs.Names.{IsPlainName}
 use Rattle.ps_parser.specs.Symbol.{Symbol, Mark, symbols}
 use Rattle.ps_parser.specs.Tree.{SourceTree}
@@ -42,8 +42,8 @@ Breaks P2 h front [] = ⊥
 Breaks P2 h front (t ∷ rest) = (t ≡ Mark LeftBracket) × BeginsSource h (suc MOST_GROUPS) (front ++ t ∷ []) × (BeginsSource h MOST_GROUPS (front ++ t ∷ []) → ⊥)
 Breaks _ h front rest = ⊥
 
--- the rule that a fault breaks
-abbrev pub rule_of : Fault → Rule
+-- the rule that a flaw breaks
+abbrev pub rule_of : Flaw → Rule
 rule_of Unexpected = P1
 rule_of TooDeep = P2
 
@@ -72,13 +72,18 @@ pub record IsSpeltBetween (h : Heads) (tokens : List Token) (at next : ℕ) (s :
   pub inside : next ≤ length tokens
   pub spelling : IsSpelt h (slice_range tokens at next) s
 
--- the source from a number on and the number of the token behind it, or the refusal
+-- No source is spelt at the front of the tokens, and they are refused.
+pub record IsRefusedFrom (h : Heads) (tokens : List Token) (end : Place) (refusal : Refusal) : Type 0 where
+  pub none : (front rest : List Token) (s : SourceTree) → tokens ≡ front ++ rest → IsSpelt h front s → ⊥
+  pub refused : IsRefused h tokens end refusal
+
+-- The source from a number on and the number of the token behind it; or the refusal, where no source is spelt from there.
 abbrev pub AnswersFrom : Heads → Tokens → ℕ → Result (SourceTree × ℕ) Fail → Type 0
 AnswersFrom h tokens at (Ok r) = IsSpeltBetween h tokens.list at r.1 r.0
 AnswersFrom h tokens at (Err Memory) = Unit {0}
-AnswersFrom h tokens at (Err (Refused refusal)) = IsRefused h (drop at tokens.list) tokens.end refusal
+AnswersFrom h tokens at (Err (Refused refusal)) = IsRefusedFrom h (drop at tokens.list) tokens.end refusal
 
--- the program that all tokens spell, or the refusal
+-- The program that all tokens spell, or the refusal.
 abbrev pub Answers : Tokens → Result SourceTree Fail → Type 0
 Answers tokens (Ok s) = IsSpelt Program tokens.list s
 Answers tokens (Err Memory) = Unit {0}

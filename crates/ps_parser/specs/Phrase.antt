@@ -2,10 +2,10 @@
 use Rattle.std.specs.Prelude.{◌≡◌, ℕ, suc, ◌≤◌, ◌⊎◌, Bool, true, false, ◌||◌, List, [], ◌∷◌, ◌++◌, Option, Some, None, take}
 use Rattle.std.proofs.Common.{inl, inr}
 use Rattle.std.specs.List.{flat_map, AllByRecursion}
-use Rattle.ps_parser.specs.declared.stop.Fault.{Fault}
-use Rattle.ps_parser.specs.declared.stop.Fault.TheVariants.{Unexpected, TooDeep}
+use Rattle.ps_parser.specs.declared.stop.Flaw.{Flaw}
+use Rattle.ps_parser.specs.declared.stop.Flaw.TheVariants.{Unexpected, TooDeep}
 use Rattle.ps_parser.specs.declared.sign.Sign.TheVariants.{LeftBracket}
-use Rattle.ps_parser.specs.Symbol.{Symbol, Mark, AllNamed}
+use Rattle.ps_parser.specs.Symbol.{Symbol, Mark, AllProper}
 use Rattle.ps_parser.specs.Spelt.{joined_spell}
 
 -- the first symbol
@@ -36,7 +36,7 @@ pub record Begins {X : Type 0} (g : Phrase X) (limit : ℕ) (front : List Symbol
   pub tree : X
   pub more : List Symbol
   pub whole : g.fits limit tree
-  pub named : AllNamed more
+  pub proper : AllProper more
   pub spelled : g.spell tree ≡ front ++ more
 
 -- no phrase, whatever follows it, is spelt with front and then what stands next in rest
@@ -45,28 +45,28 @@ Blocks {X} g limit front rest =
     (x : X) (after other : List Symbol) → g.fits limit x → Stops (g.goes_on x) after → g.spell x ++ after ≡ front ++ other → next other ≡ next rest → ⊥
 
 -- an unexpected symbol rules out phrases of any depth, one that is too deep those within the limit
-abbrev pub IsRuledOut : Fault → ℕ → ℕ → Type 0
+abbrev pub IsRuledOut : Flaw → ℕ → ℕ → Type 0
 IsRuledOut Unexpected limit depth = Unit {0}
 IsRuledOut TooDeep limit depth = depth ≤ limit
 
 -- where a group is too deep, one more level of groups would go on
-abbrev pub Deeper : {X : Type 0} → Phrase X → Fault → ℕ → List Symbol → Type 0
+abbrev pub Deeper : {X : Type 0} → Phrase X → Flaw → ℕ → List Symbol → Type 0
 Deeper g Unexpected limit front = Unit {0}
 Deeper g TooDeep limit front = Begins g (suc limit) front
 
 -- a group that is too deep begins with its bracket
-abbrev pub Stands : Fault → List Symbol → Type 0
-Stands Unexpected rest = Unit {0}
-Stands TooDeep rest = next rest ≡ Some (Mark LeftBracket)
+abbrev pub BracketIfTooDeep : Flaw → List Symbol → Type 0
+BracketIfTooDeep Unexpected rest = Unit {0}
+BracketIfTooDeep TooDeep rest = next rest ≡ Some (Mark LeftBracket)
 
 -- the first symbol of rest is refused, and all before it is the front of a phrase
-pub record Refuses {X : Type 0} (g : Phrase X) (limit : ℕ) (fault : Fault) (ts rest : List Symbol) : Type 0 where
+pub record Refuses {X : Type 0} (g : Phrase X) (limit : ℕ) (flaw : Flaw) (ts rest : List Symbol) : Type 0 where
   pub front : List Symbol
   pub split : ts ≡ front ++ rest
   pub begins : Begins g limit front
-  pub blocks : (depth : ℕ) → IsRuledOut fault limit depth → Blocks g depth front rest
-  pub deeper : Deeper g fault limit (front ++ take 1 rest)
-  pub stands : Stands fault rest
+  pub blocks : (depth : ℕ) → IsRuledOut flaw limit depth → Blocks g depth front rest
+  pub deeper : Deeper g flaw limit (front ++ take 1 rest)
+  pub bracket : BracketIfTooDeep flaw rest
 
 -- one phrase and then another
 infixl 10 ◌then◌
@@ -103,6 +103,7 @@ many a first = record {
 abbrev pub behind : {X : Type 0} → Symbol → Phrase X → Phrase X
 behind t g = record { fits = g.fits; spell = λ x. t ∷ g.spell x; goes_on = g.goes_on }
 
+-- one at least, and each as asked for
 abbrev pub JoinedFits : {X : Type 0} → (X → Type 0) → List X → Type 0
 JoinedFits P [] = ⊥
 JoinedFits P (x ∷ xs) = P x × AllByRecursion P xs
@@ -115,14 +116,17 @@ joined t is_sign g = record {
   goes_on = goes_on_many g.goes_on is_sign;
 }
 
+-- nothing, or phrases that fit
 abbrev pub fits_optional : {X : Type 0} → (List X → Type 0) → List X → Type 0
 fits_optional P [] = Unit {0}
 fits_optional P (x ∷ xs) = P (x ∷ xs)
 
+-- nothing, or their spelling
 abbrev pub spell_optional : {X : Type 0} → (List X → List Symbol) → List X → List Symbol
 spell_optional spell [] = []
 spell_optional spell (x ∷ xs) = spell (x ∷ xs)
 
+-- one of the first symbols goes on with nothing
 abbrev pub goes_on_optional : {X : Type 0} → (List X → Symbol → Bool) → (Symbol → Bool) → List X → Symbol → Bool
 goes_on_optional goes first [] = first
 goes_on_optional goes first (x ∷ xs) = goes (x ∷ xs)
@@ -135,10 +139,12 @@ optional g first = record {
   goes_on = goes_on_optional g.goes_on first;
 }
 
+-- a phrase of one kind or of another that fits
 abbrev pub fits_either : {X Y : Type 0} → (X → Type 0) → (Y → Type 0) → X ⊎ Y → Type 0
 fits_either P Q (inl x) = P x
 fits_either P Q (inr y) = Q y
 
+-- what one function gives of one kind, or another of the other kind
 abbrev pub of_either : {X Y Z : Type 0} → (X → Z) → (Y → Z) → X ⊎ Y → Z
 of_either f g (inl x) = f x
 of_either f g (inr y) = g y

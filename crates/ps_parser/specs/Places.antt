@@ -31,6 +31,7 @@ abbrev pub place_in : Option (List ℕ) → StatementTree → Option Place
 place_in None s = Some (statement_place s)
 place_in (Some pin) s = pin_place_in pin s
 
+-- that of the statement, where there is one
 abbrev pub place_if : Option (List ℕ) → Option StatementTree → Option Place
 place_if pin None = None
 place_if pin (Some s) = place_in pin s

@@ -21,6 +21,7 @@ joined_spell t spell [] = []
 joined_spell t spell (x ∷ xs) = spell x ++ flat_map (λ y. t ∷ spell y) xs
 
 abbrev mutual
+  -- a factor, of which a group lists its two brackets
   pub factor_spelt : FactorTree → List Symbol
   factor_spelt (Signal n) = Named n ∷ []
   factor_spelt (Pin n q) = Named n ∷ Mark sign.Dot ∷ Named q ∷ []
@@ -46,6 +47,7 @@ abbrev mutual
   more_products no_product = []
   more_products (product p ps) = Mark sign.Or ∷ (product_spelt p ++ more_products ps)
 
+-- a name alone
 abbrev pub name_spelt : Name → List Symbol
 name_spelt n = Named n ∷ []
 
@@ -53,10 +55,12 @@ name_spelt n = Named n ∷ []
 abbrev pub argument_spelt : ArgumentTree → List Symbol
 argument_spelt a = Named a.pin ∷ Mark sign.Assign ∷ sum_spelt a.value
 
+-- a name, or a name, a dot and a name
 abbrev pub target_spelt : Target → List Symbol
 target_spelt (target.Name n) = Named n ∷ []
 target_spelt (target.Pin n q) = Named n ∷ Mark sign.Dot ∷ Named q ∷ []
 
+-- a target, `:=`, a sum and `;`; or a name, its arguments in brackets with a comma between each two, and `;`
 abbrev pub statement_spelt : StatementTree → List Symbol
 statement_spelt (Assign t s) = target_spelt t ++ (Mark sign.Assign ∷ (sum_spelt s ++ Mark sign.Semicolon ∷ []))
 statement_spelt (Call n args) =
@@ -72,14 +76,16 @@ part_sign Input = sign.VarInput
 part_sign Output = sign.VarOutput
 part_sign Local = sign.Var
 
+-- the word of its part, its declarations, and END_VAR
 abbrev pub section_spelt : Section → List Symbol
 section_spelt s = Mark (part_sign s.part) ∷ (flat_map declaration_spelt s.declarations ++ Mark sign.EndVar ∷ [])
 
--- the word that begins a source, and the word that ends it
+-- the word that begins a source
 abbrev pub head_sign : Heads → Sign
 head_sign heads.Program = sign.Program
 head_sign heads.Block = sign.FunctionBlock
 
+-- the word that ends a source
 abbrev pub foot_sign : Heads → Sign
 foot_sign heads.Program = sign.EndProgram
 foot_sign heads.Block = sign.EndFunctionBlock

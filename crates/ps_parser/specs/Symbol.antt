@@ -1,7 +1,8 @@
 -- The tokens as a spelling lists them: each with what is free in its spelling, and with the place of a name and of a literal.
-use Rattle.std.specs.Prelude.{◌==◌, ℕ, Bool, true, false, List, Option, Some, None, map}
+use Rattle.std.specs.Prelude.{◌==◌, ◌≤◌, ℕ, Bool, true, false, List, Option, Some, None, map}
 use Rattle.std.specs.List.{AllByRecursion}
 use Rattle.ps_base.specs.declared.failing.Place.{Place}
+use Rattle.ps_base.specs.declared.limits.TheConstants.{LARGEST_TIME}
 use Rattle.ps_lexer.specs.declared.token.Token.{Token}
 use Rattle.ps_lexer.specs.declared.token.Form.{Form}
 use Rattle.ps_lexer.specs.declared.token.Form.TheVariants as form
@@ -45,19 +46,23 @@ symbol_of form.LeftBracket p = Mark LeftBracket
 symbol_of form.RightBracket p = Mark RightBracket
 symbol_of form.Dot p = Mark Dot
 
+-- a token with its place
 abbrev pub symbol : Token → Symbol
 symbol t = symbol_of t.form t.place
 
+-- the tokens in order
 abbrev pub symbols : List Token → List Symbol
 symbols ts = map symbol ts
 
--- where a symbol is a name, it is a name of the grammar
-abbrev pub SymbolNamed : Symbol → Type 0
-SymbolNamed (Named n) = IsPlainName n.text
-SymbolNamed _ = Unit {0}
+-- where a symbol is a name, it is a name of the grammar, and where it is a TIME literal, its value has its limit
+abbrev pub IsProper : Symbol → Type 0
+IsProper (Named n) = IsPlainName n.text
+IsProper (Duration t p) = t ≤ LARGEST_TIME
+IsProper _ = Unit {0}
 
-abbrev pub AllNamed : List Symbol → Type 0
-AllNamed ts = AllByRecursion SymbolNamed ts
+-- each symbol is proper
+abbrev pub AllProper : List Symbol → Type 0
+AllProper ts = AllByRecursion IsProper ts
 
 -- a number for each sign, by which they are told apart
 abbrev pub rank : Sign → ℕ

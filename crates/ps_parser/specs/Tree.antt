@@ -7,6 +7,7 @@ use Rattle.ps_parser.specs.declared.statement.Target.{Target}
 
 -- A factor; factors joined by AND; products joined by OR.
 mutual
+  -- a name, an output of an instance, a Boolean literal, a TIME literal in ms, or a sum in brackets
   pub data FactorTree : Type 0 where
     Signal : Name → FactorTree
     Pin : Name → Name → FactorTree
@@ -14,10 +15,12 @@ mutual
     Time : ℕ → Place → FactorTree
     Group : SumTree → FactorTree
 
+  -- factors in order
   pub data ProductTree : Type 0 where
     no_factor : ProductTree
     factor : FactorTree → ProductTree → ProductTree
 
+  -- products in order
   pub data SumTree : Type 0 where
     no_product : SumTree
     product : ProductTree → SumTree → SumTree

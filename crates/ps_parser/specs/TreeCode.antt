@@ -7,12 +7,15 @@ use Rattle.ps_base.specs.declared.failing.Place.{Place}
 use Rattle.ps_parser.specs.declared.name.Name.{Name}
 use Rattle.ps_parser.specs.Tree.{FactorTree, Signal, Pin, Literal, Time, Group, ProductTree, no_factor, factor, SumTree, no_product, product}
 
+-- a place as two numbers
 abbrev pub place_code : Coded Place
 place_code = code_by (ℕ × ℕ) (coded× coded_ℕ coded_ℕ) (λ p. (p.line, p.column)) (λ p. record { line = p.0; column = p.1 }) (λ _. refl)
 
+-- a name as its bytes and its place
 abbrev pub name_code : Coded Name
 name_code = code_by (List ℕ × Place) (coded× (coded_list coded_ℕ) place_code) (λ n. (n.text, n.place)) (λ n. record { text = n.0; place = n.1 }) (λ _. refl)
 
+-- the code of each tree: a number for its kind, and the codes of what it holds
 abbrev mutual
   pub factor_stored : FactorTree → Gv
   factor_stored (Signal n) = gcons (gnum 0) (name_code.code n)
@@ -29,6 +32,7 @@ abbrev mutual
   sum_stored no_product = gnil
   sum_stored (product p ps) = gcons (product_stored p) (sum_stored ps)
 
+-- trees with one code are equal
 mutual
   pub factor_inj : (a b : FactorTree) → factor_stored a ≡ factor_stored b → a ≡ b
   factor_inj (Signal n) (Signal m) e = ap Signal (name_code.inj n m (cc))
@@ -84,5 +88,6 @@ mutual
       let rest : ps ≡ qs = sum_inj ps qs (cc) in
       cc
 
+-- sums with one code are equal
 abbrev pub sum_code : Coded SumTree
 sum_code = record { code = sum_stored; inj = sum_inj }

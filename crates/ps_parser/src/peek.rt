@@ -12,7 +12,7 @@ ghost use Rattle.ps_parser.specs.SumView.{factor_tree};
 use crate::expression::Factor;
 use crate::section::Part;
 use crate::sign::Sign;
-use crate::stop::{Fault, Stop};
+use crate::stop::{Flaw, Stop};
 use ps_base::{Bytes, Place};
 use ps_lexer::{Form, Token, Word};
 
@@ -75,7 +75,7 @@ pub fn expect<'a>(tokens: &'a [Token], sign: Sign) -> Result<&'a [Token], Stop<'
 {
     match behind(tokens, sign) {
         Some(rest) => Ok(rest),
-        None => Err(Stop::Refused(Fault::Unexpected, tokens)),
+        None => Err(Stop::Refused(Flaw::Unexpected, tokens)),
     }
 }
 

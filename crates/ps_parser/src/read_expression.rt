@@ -16,7 +16,7 @@ use crate::name::Name;
 use crate::peek::{behind, expect, next_literal, next_name};
 use crate::sign::Sign;
 use crate::statement::Target;
-use crate::stop::{Fault, Stop};
+use crate::stop::{Flaw, Stop};
 use ps_base::Bytes;
 use ps_lexer::Token;
 use std::alloc::Global;
@@ -26,7 +26,7 @@ pub fn name<'a>(alloc: Global, tokens: &'a [Token]) -> Result<(Name, &'a [Token]
     ensures { (limit : ℕ) → Parses a_name limit (symbols tokens.now) (λ r. r.0) (λ r. symbols r.1.now) result }
 {
     let Some((text, place, rest)) = next_name(tokens) else {
-        return Err(Stop::Refused(Fault::Unexpected, tokens));
+        return Err(Stop::Refused(Flaw::Unexpected, tokens));
     };
     let text = Bytes::from_slice(alloc, text.as_slice())?;
     Ok((Name { text, place }, rest))
@@ -62,7 +62,7 @@ pub fn factor<'a>(
     operand(alloc, limit, tokens)
 }
 
-/// A factor that is neither a group nor a literal.
+// A factor that is neither a group nor a literal.
 fn operand<'a>(
     alloc: Global,
     limit: u32,
@@ -78,7 +78,7 @@ fn operand<'a>(
     }
 }
 
-/// A sum in brackets, where one more group is allowed. Its first token is the bracket, behind which it goes on.
+// A sum in brackets, where one more group is allowed. Its first token is the bracket, behind which it goes on.
 #[cycle(expression)]
 fn group<'a>(
     alloc: Global,
@@ -90,14 +90,14 @@ fn group<'a>(
     ensures { Parses a_factor limit (symbols tokens.now) (λ r. factor_tree r.0) (λ r. symbols r.1.now) result }
 {
     if limit == 0 {
-        return Err(Stop::Refused(Fault::TooDeep, tokens));
+        return Err(Stop::Refused(Flaw::TooDeep, tokens));
     }
     let (value, rest) = sum(alloc, limit - 1, inside)?;
     let rest = expect(rest, Sign::RightBracket)?;
     Ok((Factor::Group(value), rest))
 }
 
-/// Factors joined by AND.
+// Factors joined by AND.
 #[cycle(expression)]
 fn product<'a>(
     alloc: Global,

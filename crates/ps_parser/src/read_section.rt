@@ -10,12 +10,12 @@ use crate::peek::{behind, expect, is_name_next, is_part_next, next_part};
 use crate::read_expression::name;
 use crate::section::{Declaration, Declarations, Section, Sections};
 use crate::sign::Sign;
-use crate::stop::{Fault, Stop};
+use crate::stop::{Flaw, Stop};
 use ps_base::limits::MOST_GROUPS;
 use ps_lexer::Token;
 use std::alloc::Global;
 
-/// One name or more, with a comma between each two.
+// One name or more, with a comma between each two.
 fn names<'a>(alloc: Global, tokens: &'a [Token]) -> Result<(Names, &'a [Token]), Stop<'a>>
     ensures { Parses grammar.names MOST_GROUPS (symbols tokens.now) (λ r. r.0) (λ r. symbols r.1.now) result }
 {
@@ -30,7 +30,7 @@ fn names<'a>(alloc: Global, tokens: &'a [Token]) -> Result<(Names, &'a [Token]),
     Ok((names, rest))
 }
 
-/// Names of one type: `names : name ;`.
+// Names of one type: `names : name ;`.
 fn declaration<'a>(
     alloc: Global,
     tokens: &'a [Token],
@@ -44,7 +44,7 @@ fn declaration<'a>(
     Ok((Declaration { names, ty }, rest))
 }
 
-/// Declarations, as long as a name stands next.
+// Declarations, as long as a name stands next.
 fn declarations<'a>(
     alloc: Global,
     tokens: &'a [Token],
@@ -61,12 +61,12 @@ fn declarations<'a>(
     Ok((declarations, rest))
 }
 
-/// A section up to its END_VAR.
+// A section up to its END_VAR.
 fn section<'a>(alloc: Global, tokens: &'a [Token]) -> Result<(Section, &'a [Token]), Stop<'a>>
     ensures { Parses grammar.a_section MOST_GROUPS (symbols tokens.now) (λ r. r.0) (λ r. symbols r.1.now) result }
 {
     let Some((part, rest)) = next_part(tokens) else {
-        return Err(Stop::Refused(Fault::Unexpected, tokens));
+        return Err(Stop::Refused(Flaw::Unexpected, tokens));
     };
     let (declarations, rest) = declarations(alloc, rest)?;
     let rest = expect(rest, Sign::EndVar)?;

@@ -1,7 +1,7 @@
 // Sources, from tokens.
 
 ghost use Rattle.std.specs.Prelude.{◌≡◌, ◌-◌, ◌≤◌, length, drop};
-ghost use Rattle.ps_parser.specs.Symbol.{AllNamed, symbols};
+ghost use Rattle.ps_parser.specs.Symbol.{AllProper, symbols};
 ghost use Rattle.ps_parser.specs.Grammar.{a_source};
 ghost use Rattle.ps_parser.specs.Spelt.{head_sign, foot_sign};
 ghost use Rattle.ps_parser.specs.Parses.{Parses};
@@ -14,13 +14,13 @@ use crate::read_section::sections;
 use crate::read_statement::statements;
 use crate::sign::Sign;
 use crate::source::Source;
-use crate::stop::{Fault, Stop};
+use crate::stop::{Flaw, Stop};
 use ps_base::limits::MOST_GROUPS;
 use ps_base::{Fail, Place, Refusal, Rule};
 use ps_lexer::{Token, Tokens};
 use std::alloc::Global;
 
-/// The word that begins a source.
+// The word that begins a source.
 fn head(heads: Heads) -> Sign
     ensures { result ≡ head_sign heads }
 {
@@ -30,7 +30,7 @@ fn head(heads: Heads) -> Sign
     }
 }
 
-/// The word that ends a source.
+// The word that ends a source.
 fn foot(heads: Heads) -> Sign
     ensures { result ≡ foot_sign heads }
 {
@@ -40,13 +40,13 @@ fn foot(heads: Heads) -> Sign
     }
 }
 
-/// A source between its two words.
+// A source between its two words.
 fn source<'a>(
     alloc: Global,
     heads: Heads,
     tokens: &'a [Token],
 ) -> Result<(Source, &'a [Token]), Stop<'a>>
-    requires { AllNamed (symbols tokens.now) }
+    requires { AllProper (symbols tokens.now) }
     ensures { Parses (a_source heads) MOST_GROUPS (symbols tokens.now) (λ r. r.0) (λ r. symbols r.1.now) result }
 {
     let rest = expect(tokens, head(heads))?;
@@ -62,17 +62,17 @@ fn source<'a>(
     Ok((source, rest))
 }
 
-/// The rule that a fault breaks.
-fn rule(fault: Fault) -> Rule
-    ensures { result ≡ rule_of fault }
+// The rule that a flaw breaks.
+fn rule(flaw: Flaw) -> Rule
+    ensures { result ≡ rule_of flaw }
 {
-    match fault {
-        Fault::Unexpected => Rule::P1,
-        Fault::TooDeep => Rule::P2,
+    match flaw {
+        Flaw::Unexpected => Rule::P1,
+        Flaw::TooDeep => Rule::P2,
     }
 }
 
-/// The place of a token by its number, or the end of the text.
+// The place of a token by its number, or the end of the text.
 fn place(tokens: &Tokens, at: usize) -> Place
     ensures { result ≡ place_at (drop at tokens.now.list) tokens.now.end }
 {
@@ -103,8 +103,8 @@ pub fn parse_from(
     match source(alloc, heads, &all[at as usize..]) {
         Ok((source, rest)) => Ok((source, (all.len() - rest.len()) as u32)),
         Err(Stop::Memory) => Err(Fail::Memory),
-        Err(Stop::Refused(fault, left)) => Err(Fail::Refused(Refusal {
-            rule: rule(fault),
+        Err(Stop::Refused(flaw, left)) => Err(Fail::Refused(Refusal {
+            rule: rule(flaw),
             place: place(tokens, all.len() - left.len()),
         })),
     }

@@ -19,7 +19,7 @@ use ps_base::limits::MOST_GROUPS;
 use ps_lexer::Token;
 use std::alloc::Global;
 
-/// What an assignment gives its target: `:= sum ;`.
+// What an assignment gives its target: `:= sum ;`.
 fn value<'a>(alloc: Global, tokens: &'a [Token]) -> Result<(Sum, &'a [Token]), Stop<'a>>
     ensures { Parses grammar.a_value MOST_GROUPS (symbols tokens.now) (λ r. sum_tree r.0) (λ r. symbols r.1.now) result }
 {
@@ -29,7 +29,7 @@ fn value<'a>(alloc: Global, tokens: &'a [Token]) -> Result<(Sum, &'a [Token]), S
     Ok((value, rest))
 }
 
-/// A pin behind the dot, and what is assigned to it: `name := sum ;`.
+// A pin behind the dot, and what is assigned to it: `name := sum ;`.
 fn pin_value<'a>(alloc: Global, tokens: &'a [Token]) -> Result<((Name, Sum), &'a [Token]), Stop<'a>>
     ensures { Parses grammar.pin_end MOST_GROUPS (symbols tokens.now) (λ r. (r.0.0, sum_tree r.0.1)) (λ r. symbols r.1.now) result }
 {
@@ -38,7 +38,7 @@ fn pin_value<'a>(alloc: Global, tokens: &'a [Token]) -> Result<((Name, Sum), &'a
     Ok(((pin, value), rest))
 }
 
-/// An argument of a call: `name := sum`.
+// An argument of a call: `name := sum`.
 fn argument<'a>(alloc: Global, tokens: &'a [Token]) -> Result<(Argument, &'a [Token]), Stop<'a>>
     ensures { Parses grammar.an_argument MOST_GROUPS (symbols tokens.now) (λ r. argument_tree r.0) (λ r. symbols r.1.now) result }
 {
@@ -48,7 +48,7 @@ fn argument<'a>(alloc: Global, tokens: &'a [Token]) -> Result<(Argument, &'a [To
     Ok((Argument { pin, value }, left))
 }
 
-/// One argument or more, with a comma between each two.
+// One argument or more, with a comma between each two.
 fn some_arguments<'a>(
     alloc: Global,
     tokens: &'a [Token],
@@ -66,7 +66,7 @@ fn some_arguments<'a>(
     Ok((arguments, rest))
 }
 
-/// The arguments of a call, of which there may be none.
+// The arguments of a call, of which there may be none.
 fn any_arguments<'a>(
     alloc: Global,
     tokens: &'a [Token],
@@ -79,7 +79,7 @@ fn any_arguments<'a>(
     Ok((Arguments::new(alloc), tokens))
 }
 
-/// A call behind its opening bracket: `arguments ) ;`.
+// A call behind its opening bracket: `arguments ) ;`.
 fn call_end<'a>(alloc: Global, tokens: &'a [Token]) -> Result<(Arguments, &'a [Token]), Stop<'a>>
     ensures { Parses grammar.call_end MOST_GROUPS (symbols tokens.now) (λ r. (r.0, (tt, tt))) (λ r. symbols r.1.now) result }
 {
@@ -89,7 +89,7 @@ fn call_end<'a>(alloc: Global, tokens: &'a [Token]) -> Result<(Arguments, &'a [T
     Ok((arguments, rest))
 }
 
-/// An assignment or a call.
+// An assignment or a call.
 fn statement<'a>(alloc: Global, tokens: &'a [Token]) -> Result<(Statement, &'a [Token]), Stop<'a>>
     ensures { Parses grammar.a_statement MOST_GROUPS (symbols tokens.now) (λ r. statement_tree r.0) (λ r. symbols r.1.now) result }
 {

@@ -13,7 +13,7 @@ use std::marker::Model;
 
 /// A program or a function block: its name, its sections and its statements, which contracts see as a `SourceTree`.
 ///
-/// Groups are nested at most `MOST_GROUPS` deep. Each name in it is a name of the language, or several names joined by
+/// Groups are nested at most `MOST_GROUPS` deep. Each TIME literal is at most `LARGEST_TIME` ms. Each name in it is a name of the language, or several names joined by
 /// dots as one name. The names of a declaration, the factors of a product and the products of a sum are one at least.
 #[derive(Drop)]
 pub struct Source {

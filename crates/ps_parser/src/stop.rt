@@ -6,7 +6,7 @@ use std::alloc::{AllocError, AllocFailed};
 
 /// What is wrong with a token: none of the language goes on with it, or it opens a group that is nested too deep.
 #[derive(Clone, Copy, Debug, PartialEq, Eq)]
-pub enum Fault {
+pub enum Flaw {
     Unexpected,
     TooDeep,
 }
@@ -15,7 +15,7 @@ pub enum Fault {
 #[derive(Drop)]
 pub enum Stop<'a> {
     Memory,
-    Refused(Fault, &'a [Token]),
+    Refused(Flaw, &'a [Token]),
 }
 
 impl From<Memory> for Stop<'_> {

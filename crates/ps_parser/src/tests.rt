@@ -7,7 +7,7 @@ use ps_lexer::lex;
 use std::alloc::Global;
 use std::test::Fail as TestFail;
 
-/// A program with a block, as a user would write it.
+// A program with a block, as a user would write it.
 const MOTOR: &str = "PROGRAM M
 VAR_INPUT
   S_In : SAFEBOOL;
@@ -20,24 +20,24 @@ S_Motor := E.S_EStopOut AND Run;
 END_PROGRAM
 ";
 
-/// As many opening brackets as groups may be nested.
+// As many opening brackets as groups may be nested.
 const OPEN: &str = "((((((((((((((((";
-/// The brackets that close them.
+// The brackets that close them.
 const CLOSE: &str = "))))))))))))))))";
 
-/// The program that a text is.
+// The program that a text is.
 fn program(alloc: Global, text: &str) -> Result<Source, Fail> {
     let tokens = lex(alloc, text.as_bytes())?;
     parse(alloc, &tokens)
 }
 
-/// How many statements a text has, or its refusal.
+// How many statements a text has, or its refusal.
 fn steps(alloc: Global, text: &str) -> Result<usize, Fail> {
     let source = program(alloc, text)?;
     Ok(source.statements.len())
 }
 
-/// The number of the token behind the source that begins at a token of a text, or its refusal.
+// The number of the token behind the source that begins at a token of a text, or its refusal.
 fn next(alloc: Global, text: &str, at: u32, heads: Heads) -> Result<u32, Fail> {
     let tokens = lex(alloc, text.as_bytes())?;
     if at as usize > tokens.list.len() {
@@ -166,7 +166,7 @@ fn seventeen_groups(rt: HostRuntime) -> Result<(), TestFail> {
     Ok(())
 }
 
-/// How many factors the first product of the first statement's value has.
+// How many factors the first product of the first statement's value has.
 fn first_factors(source: &Source) -> Option<usize> {
     if source.statements.len() == 0 {
         return None;
@@ -208,7 +208,7 @@ fn from_a_token_on(rt: HostRuntime) {
     }
 }
 
-/// The place of a step or of a pin in it, where there is one.
+// The place of a step or of a pin in it, where there is one.
 fn place(source: &Source, step: u16, pin: Option<&str>) -> Option<Place> {
     match source.place_if(step, pin) {
         Some(_) => Some(source.place(step, pin)),

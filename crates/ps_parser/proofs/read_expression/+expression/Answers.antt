@@ -7,7 +7,7 @@ use Rattle.ps_parser.specs.Grammar.{a_factor, a_product, a_sum}
 use Rattle.ps_parser.proofs.Phrases.{ReadsSome}
 use Rattle.ps_parser.proofs.Expressions.{deep_refuses, group_refuses_sum, group_refuses_end, group_reads, product_refuses_first, product_refuses, product_reads, product_more, sum_refuses_first, sum_refuses, sum_reads, sum_more}
 use Rattle.ps_parser.proofs.Views.{factor_tree-Group, product_tree-roll, sum_tree-roll}
-use Rattle.ps_parser.proofs.Reading.{exit, shorter}
+use Rattle.ps_parser.proofs.Reading.{exit, rest_is_shorter}
 use Rattle.ps_parser.proofs.read_expression.+expression.Goals as goal
 
 pub factor-returns-in-Some-next_literal : goal.factor-returns-in-Some-next_literal
@@ -39,7 +39,7 @@ product-returns-in_err-next t c =
     exit a_factor a_product limit limit _ _ (product_refuses limit _ _ _ _ c.each.invariant.reads c.in-Some.ensures.found) _ _ _ _ c.from_residual-in_err-next.ensures.1 c.in_err-next.ensures
 
 pub product-each-smaller : goal.product-each-smaller
-product-each-smaller t c = shorter _ _ _ _ _ c.in-Some.ensures.found c.in_ok-next.ensures.spelled
+product-each-smaller t c = rest_is_shorter _ _ _ _ _ c.in-Some.ensures.found c.in_ok-next.ensures.spelled
 
 pub product-each-preserved : goal.product-each-preserved
 product-each-preserved t c =
@@ -66,7 +66,7 @@ sum-returns-in_err-next t c =
     exit a_product a_sum limit limit _ _ (sum_refuses limit _ _ _ _ c.each.invariant.reads c.in-Some.ensures.found) _ _ _ _ c.from_residual-in_err-next.ensures.1 c.in_err-next.ensures
 
 pub sum-each-smaller : goal.sum-each-smaller
-sum-each-smaller t c = shorter _ _ _ _ _ c.in-Some.ensures.found c.in_ok-next.ensures.spelled
+sum-each-smaller t c = rest_is_shorter _ _ _ _ _ c.in-Some.ensures.found c.in_ok-next.ensures.spelled
 
 pub sum-each-preserved : goal.sum-each-preserved
 sum-each-preserved t c =

@@ -6,7 +6,7 @@ use Rattle.ps_parser.specs.Phrase.{behind}
 use Rattle.ps_parser.specs.Grammar.{a_name, names}
 use Rattle.ps_parser.proofs.Phrases.{ReadsSome}
 use Rattle.ps_parser.proofs.Rows.{names_start, names_more, names_read, names_refuse_first, names_refuse}
-use Rattle.ps_parser.proofs.Reading.{exit, shorter}
+use Rattle.ps_parser.proofs.Reading.{exit, rest_is_shorter}
 use Rattle.ps_parser.proofs.read_section.names.Goals as goal
 
 pub returns-in_err-first : goal.returns-in_err-first
@@ -29,7 +29,7 @@ each-init c =
     }
 
 pub each-smaller : goal.each-smaller
-each-smaller c = let n = MOST_GROUPS in shorter _ _ _ _ (a_name.spell (c.in_ok-next.next)) c.in-Some.ensures.found (c.in_ok-next.ensures n).spelled
+each-smaller c = let n = MOST_GROUPS in rest_is_shorter _ _ _ _ (a_name.spell (c.in_ok-next.next)) c.in-Some.ensures.found (c.in_ok-next.ensures n).spelled
 
 pub each-preserved : goal.each-preserved
 each-preserved c =

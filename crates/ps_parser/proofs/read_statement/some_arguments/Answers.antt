@@ -7,7 +7,7 @@ use Rattle.ps_parser.specs.Phrase.{behind}
 use Rattle.ps_parser.specs.Grammar.{an_argument, arguments}
 use Rattle.ps_parser.proofs.Phrases.{ReadsSome}
 use Rattle.ps_parser.proofs.Rows.{arguments_start, arguments_more, arguments_read, arguments_refuse_first, arguments_refuse}
-use Rattle.ps_parser.proofs.Reading.{exit, shorter}
+use Rattle.ps_parser.proofs.Reading.{exit, rest_is_shorter}
 use Rattle.ps_parser.proofs.read_statement.some_arguments.Goals as goal
 
 pub returns-in_err-first : goal.returns-in_err-first
@@ -30,7 +30,7 @@ each-init c =
     }
 
 pub each-smaller : goal.each-smaller
-each-smaller c = let n = MOST_GROUPS in shorter _ _ _ _ (an_argument.spell (argument_tree c.in_ok-next.next)) c.in-Some.ensures.found c.in_ok-next.ensures.spelled
+each-smaller c = let n = MOST_GROUPS in rest_is_shorter _ _ _ _ (an_argument.spell (argument_tree c.in_ok-next.next)) c.in-Some.ensures.found c.in_ok-next.ensures.spelled
 
 pub each-preserved : goal.each-preserved
 each-preserved c =

@@ -17,3 +17,4 @@ pub mod Budgeting
 pub mod InputRows
 pub mod Sizing
 pub mod CallLimits
+pub mod OutputLengths

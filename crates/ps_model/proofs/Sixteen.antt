@@ -181,7 +181,8 @@ step_kept kind pins elapsed anew running k h a r =
     }
 
 -- ---- bytes that are read are those that are stored
-as_sixteen : (xs : List ℕ) → length xs ≡ 16 →
+-- sixteen bytes one by one
+pub as_sixteen : (xs : List ℕ) → length xs ≡ 16 →
     xs ≡ get_or xs 0 0 ∷ get_or xs 1 0 ∷ get_or xs 2 0 ∷ get_or xs 3 0 ∷ get_or xs 4 0 ∷ get_or xs 5 0 ∷ get_or xs 6 0 ∷ get_or xs 7 0
     ∷ get_or xs 8 0 ∷ get_or xs 9 0 ∷ get_or xs 10 0 ∷ get_or xs 11 0 ∷ get_or xs 12 0 ∷ get_or xs 13 0 ∷ get_or xs 14 0 ∷ get_or xs 15 0 ∷ []
 as_sixteen xs h = fill_by_all (λ k. get_or xs k 0) xs 16 0 h (λ k _. refl)
@@ -214,11 +215,12 @@ module _ (xs : List ℕ) (k : Kept) (long : length xs ≡ 16) (bytes : (i : ℕ)
       (λ i. codes i ++ (reset i ∷ auxiliary i ∷ mode i ∷ (times i ++ (z9 i ∷ z10 i ∷ z11 i ∷ z12 i ∷ z13 i ∷ z14 i ∷ z15 i ∷ []))))
       ∙ sym (as_sixteen xs long)
 
--- what is loaded is what some kind keeps
-small_last : (o : Option ℕ) (n : ℕ) → is_last o n ≡ true → n ≤ 1
+-- a byte of a last input is 0 or 1
+pub small_last : (o : Option ℕ) (n : ℕ) → is_last o n ≡ true → n ≤ 1
 small_last None n h = let e = eqb-true n 0 h in omega arith
 small_last (Some j) n h = leb-true n 1 h
 
+-- what is loaded is what some kind keeps
 big_endian_small : (a b c d : ℕ) → a < 256 → b < 256 → c < 256 → d < 256 → from_be_bytes w32 (a ∷ b ∷ c ∷ d ∷ []) < 2 ^ 32
 big_endian_small a b c d p q r s = omega arith
 

@@ -26,6 +26,11 @@ abbrev pub old_state : Network → Past → State
 old_state net nothing = first_state net
 old_state net (last now w) = w
 
+-- the time of the scan before in ms, 0 where there is none since the start or a restart
+abbrev pub last_time : Past → ℕ
+last_time nothing = 0
+last_time (last before w) = before
+
 -- the time that passed since the scan before, in ms
 abbrev pub passed : Past → ℕ → ℕ
 passed nothing now = 0

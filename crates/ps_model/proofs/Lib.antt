@@ -18,3 +18,6 @@ pub mod InputRows
 pub mod Sizing
 pub mod CallLimits
 pub mod OutputLengths
+pub mod FieldPlaces
+pub mod SkeletonLeaves
+pub mod LongerRuns

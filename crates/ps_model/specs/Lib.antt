@@ -31,8 +31,11 @@ pub mod Steps
 pub mod Apps
 pub mod Scanning
 pub mod Meaning
+pub mod PastAfter
+pub mod Fields
 pub mod Typing
 pub mod Skeleton
+pub mod SkeletonLaws
 pub mod Budgets
 -- Apparatus, in which code and proofs meet the above: how formulas are told apart, how nodes are found by number, where the cells of an
 -- application stand, and what the steps of a scan leave one after another. No meaning stands on these.

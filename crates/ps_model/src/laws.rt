@@ -4,6 +4,8 @@ ghost use Rattle.std.specs.Prelude.{◌≡◌, List, Bool, ℕ};
 ghost use Rattle.ps_model.specs.Scanning.{State, HasOneSolution};
 ghost use Rattle.ps_model.specs.Meaning.{Item, HasOneMeaning};
 ghost use Rattle.ps_model.specs.Skeleton.{ValuesKeepSkeletons};
+ghost use Rattle.ps_model.specs.SkeletonLaws.{LeavesAreSafe, LeavesFollowDrivers};
+ghost use Rattle.ps_model.specs.PastAfter.{RunsAreOfParts};
 ghost use Rattle.ps_model.specs.Typing.{Accepted};
 
 use crate::app::App;
@@ -25,6 +27,27 @@ pub fn one_meaning(app: &App)
 /// In an accepted application a safe value is TRUE only where its skeleton is.
 pub fn safe_values(app: &App)
     ensures { Accepted app.now → ValuesKeepSkeletons app.now }
+{
+    app.sound();
+}
+
+/// In an accepted application no leaf of the skeleton of a safe value is BOOL.
+pub fn safe_leaves(app: &App)
+    ensures { Accepted app.now → LeavesAreSafe app.now }
+{
+    app.sound();
+}
+
+/// A leaf whose driver stands before is its driver's: the skeleton of the assigned value, or the output of this scan.
+pub fn driven_leaves(app: &App)
+    ensures { LeavesFollowDrivers app.now }
+{
+    app.sound();
+}
+
+/// The states of a list of items in two parts are those of the first part, and then those of the second from there on.
+pub fn runs_of_parts(app: &App)
+    ensures { RunsAreOfParts app.now }
 {
     app.sound();
 }

@@ -8,8 +8,8 @@
 //! - Applications: `app` is an accepted text as a value, made of what is declared (`named`), of steps (`step`) over expressions
 //!   (`expr`) and of the list of their nodes (`node`). `typing` asks for the types of signals and pins, `sizes` says where the outputs
 //!   stand, `budget` how many turns a channel needs.
-//! - Scans: `report` has a scan's inputs and its report, `values` the lists that they are made of, `laws` the laws of every
-//!   application: exactly one state solves a scan.
+//! - Scans: `report` has a scan's inputs, its report and where two reports first differ, `values` the lists that they are made
+//!   of, `laws` the laws of every application: exactly one state solves a scan, and a safe value is TRUE only where its skeleton is.
 //! - Channels: `channel` has the words of the machines and of the worlds over them.
 #![tactic(auto)]
 

@@ -43,9 +43,35 @@ pub struct Report {
     pub diags: Diags,
 }
 
-ghost use Rattle.std.specs.Prelude.{◌≡◌, IfOk, false, length, replicate};
-ghost use Rattle.ps_model.specs.Network.{input_count, instance_count};
-ghost use Rattle.ps_model.specs.Blank.{no_diag};
+ghost use Rattle.std.specs.Prelude.{◌≡◌, IfOk, false, replicate};
+ghost use Rattle.ps_model.specs.Network.{input_count};
+
+impl Diag {
+    // What an idle block says of itself.
+    const IDLE: Diag = Diag {
+        ready: false,
+        error: false,
+        code: 0,
+    };
+
+    ghost use Rattle.std.specs.Prelude.{◌≡◌};
+    ghost use Rattle.ps_model.specs.Fields.{diag_fields, first_unequal};
+
+    // Which of the fields Ready, Error and DiagCode, numbered 0 to 2, is the first that differs.
+    fn first_difference(self, other: Diag) -> Option<usize>
+        ensures { result ≡ first_unequal (diag_fields self) (diag_fields other) }
+    {
+        if self.ready != other.ready {
+            Some(0)
+        } else if self.error != other.error {
+            Some(1)
+        } else if self.code != other.code {
+            Some(2)
+        } else {
+            None
+        }
+    }
+}
 
 impl Diags {
     ghost use Rattle.std.specs.Prelude.{◌≡◌, ◌<◌, [], ◌∷◌, ◌++◌, IfOk, OnOk, Some, length, replicate, slice_get, slice_set};
@@ -64,12 +90,7 @@ impl Diags {
     pub fn all_idle(alloc: Global, count: usize) -> Result<Diags, Memory>
         ensures { IfOk result (λ d. d ≡ replicate count no_diag) }
     {
-        let idle = Diag {
-            ready: false,
-            error: false,
-            code: 0,
-        };
-        let items = vec![in alloc; idle; count]?;
+        let items = vec![in alloc; Diag::IDLE; count]?;
         Ok(Diags { items })
     }
 
@@ -103,6 +124,13 @@ impl Diags {
     {
         self.items[i] = diag;
     }
+
+    /// Makes each that of an idle block. It takes no memory.
+    pub fn clear(&mut self)
+        ensures { self.new ≡ replicate (length self.old) no_diag }
+    {
+        self.items.as_mut_slice().fill(Diag::IDLE);
+    }
 }
 
 impl Scan {
@@ -116,12 +144,47 @@ impl Scan {
 }
 
 impl Report {
+    ghost use Rattle.std.specs.Prelude.{◌≡◌, ◌≤◌, ◌+◌, ◌*◌, ◌^◌, ◌↔◌, IfOk, IsNone, length};
+    ghost use Rattle.ps_model.specs.Network.{instance_count};
+    ghost use Rattle.ps_model.specs.Fields.{first_difference, blank_report};
+
     /// A report of the application's sizes, all FALSE and 0.
     pub fn for_app(alloc: Global, app: &App) -> Result<Report, Memory>
-        ensures { IfOk result (λ report. report ≡ record { outs = replicate (length app.now.outputs) false; diags = replicate (instance_count app.now) no_diag }) }
+        ensures { IfOk result (λ report. report ≡ blank_report (length app.now.outputs) (instance_count app.now)) }
     {
         let outs = Bits::all_false(alloc, app.output_count() as usize)?;
         let diags = Diags::all_idle(alloc, app.instance_count() as usize)?;
         Ok(Report { outs, diags })
+    }
+
+    /// Makes every output, Ready and Error FALSE and every code 0. It takes no memory.
+    pub fn clear(&mut self)
+        ensures { self.new ≡ blank_report (length self.old.outs) (length self.old.diags) }
+    {
+        self.outs.clear();
+        self.diags.clear();
+    }
+
+    /// The number of the first field that differs, and None exactly where the reports are equal. The fields are numbered
+    /// from 0: the outputs in order, then Ready, Error and DiagCode of each instance in order. It takes no memory.
+    pub fn first_difference(&self, other: &Report) -> Option<u16>
+        requires outs { length self.now.outs ≡ length other.now.outs }
+        requires diags { length self.now.diags ≡ length other.now.diags }
+        requires few { length self.now.outs + 3 * length self.now.diags ≤ 2 ^ 16 }
+        ensures first { result ≡ first_difference self.now other.now }
+        ensures equal { IsNone result ↔ (self.now ≡ other.now) }
+    {
+        let outputs = self.outs.len();
+        for j in 0..outputs {
+            if self.outs.at(j) != other.outs.at(j) {
+                return Some(j as u16);
+            }
+        }
+        for i in 0..self.diags.len() {
+            if let Some(part) = self.diags.at(i).first_difference(other.diags.at(i)) {
+                return Some((outputs + 3 * i + part) as u16);
+            }
+        }
+        None
     }
 }

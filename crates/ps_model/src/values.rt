@@ -70,6 +70,13 @@ impl Bits {
         self.items[i] = value;
     }
 
+    /// Makes each value FALSE. It takes no memory.
+    pub fn clear(&mut self)
+        ensures { self.new ≡ replicate (length self.old) false }
+    {
+        self.items.as_mut_slice().fill(false);
+    }
+
     /// The values as a slice.
     pub fn as_slice(&self) -> &[bool]
         ensures { result.now ≡ self.now }

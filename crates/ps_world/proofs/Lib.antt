@@ -1,0 +1,6 @@
+pub mod Apart
+pub mod Compared
+pub mod Standing
+pub mod Right
+pub mod Down
+pub mod Bounded

@@ -1,0 +1,5 @@
+pub mod Worlds
+pub mod Verdicts
+pub mod Steps
+pub mod Lists
+pub mod Laws

@@ -42,14 +42,7 @@ pub fn instructions(e: &Expr) -> u32
 {
     match e {
         Expr::Signal(_) => 1,
-        Expr::And(es) => {
-            let mut joined = 0;
-            for x in &es.items {
-                joined += instructions(x) + 1;
-            }
-            joined.saturating_sub(1)
-        }
-        Expr::Or(es) => {
+        Expr::And(es) | Expr::Or(es) => {
             let mut joined = 0;
             for x in &es.items {
                 joined += instructions(x) + 1;
@@ -68,14 +61,7 @@ pub fn equation_rows(e: &Expr) -> u32
 {
     match e {
         Expr::Signal(_) => 0,
-        Expr::And(es) => {
-            let mut below = 0;
-            for x in &es.items {
-                below += equation_rows(x) + 1;
-            }
-            below
-        }
-        Expr::Or(es) => {
+        Expr::And(es) | Expr::Or(es) => {
             let mut below = 0;
             for x in &es.items {
                 below += equation_rows(x) + 1;

@@ -3,7 +3,7 @@
 ghost use Rattle.std.specs.Prelude.{◌≡◌, ◌++◌, ◌≤◌, OnOk, length};
 ghost use Rattle.ps_model.specs.Exprs.{formula};
 ghost use Rattle.ps_model.specs.Nodes.{nodes};
-ghost use Rattle.ps_model.specs.NodeList.{listed_at};
+ghost use Rattle.ps_model.specs.NodeList.{shape_of, listed_at};
 
 use crate::expr::Expr;
 use ps_base::Memory;
@@ -38,14 +38,7 @@ pub fn node_count(e: &Expr) -> u32
 {
     match e {
         Expr::Signal(_) => 1,
-        Expr::And(es) => {
-            let mut count = 1;
-            for x in &es.items {
-                count += node_count(x);
-            }
-            count
-        }
-        Expr::Or(es) => {
+        Expr::And(es) | Expr::Or(es) => {
             let mut count = 1;
             for x in &es.items {
                 count += node_count(x);
@@ -55,49 +48,39 @@ pub fn node_count(e: &Expr) -> u32
     }
 }
 
+// What the root of an expression is.
+fn root_shape(e: &Expr) -> Shape
+    ensures { result ≡ shape_of (formula e.now) }
+{
+    match e {
+        Expr::Signal(s) => Shape::Signal(*s),
+        Expr::And(_) => Shape::And,
+        Expr::Or(_) => Shape::Or,
+    }
+}
+
 /// Lists the nodes of an expression at the end, each before its operands. The AND and OR that stand around the
-/// expression, `depth` in number, are already listed.
+/// expression, `depth` in number, are already listed. `Err` comes only where memory is wanting.
 pub fn write_nodes(e: &Expr, depth: usize, list: &mut Vec<Node>) -> Result<(), Memory>
     requires { depth ≤ length list.old.items }
     ensures { OnOk result (list.new.items ≡ list.old.items ++ listed_at depth (formula e.now)) }
 {
     let at = list.len();
-    match e {
-        Expr::Signal(s) => list.push(Node {
-            shape: Shape::Signal(*s),
-            size: 1,
+    let shape = root_shape(e);
+    list.push(Node {
+        shape,
+        size: 1,
+        depth,
+    })?;
+    if let Expr::And(es) | Expr::Or(es) = e {
+        for x in &es.items {
+            write_nodes(x, depth + 1, list)?;
+        }
+        list[at] = Node {
+            shape,
+            size: list.len() - at,
             depth,
-        })?,
-        Expr::And(es) => {
-            list.push(Node {
-                shape: Shape::And,
-                size: 0,
-                depth,
-            })?;
-            for x in &es.items {
-                write_nodes(x, depth + 1, list)?;
-            }
-            list[at] = Node {
-                shape: Shape::And,
-                size: list.len() - at,
-                depth,
-            };
-        }
-        Expr::Or(es) => {
-            list.push(Node {
-                shape: Shape::Or,
-                size: 0,
-                depth,
-            })?;
-            for x in &es.items {
-                write_nodes(x, depth + 1, list)?;
-            }
-            list[at] = Node {
-                shape: Shape::Or,
-                size: list.len() - at,
-                depth,
-            };
-        }
+        };
     }
     Ok(())
 }

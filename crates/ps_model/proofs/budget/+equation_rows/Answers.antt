@@ -1,4 +1,4 @@
-use Rattle.std.proofs.Common.{◌≡◌, map, refl, arith}
+use Rattle.std.proofs.Common.{◌≡◌, map, refl, inl, inr, arith}
 use Rattle.std.proofs.lemmas.Grind.{common_steps}
 use Rattle.ps_model.specs.Exprs.{formula, operands}
 use Rattle.ps_model.specs.Formula.{all_of, any_of}
@@ -7,14 +7,14 @@ use Rattle.ps_model.proofs.Formulas.{formula-And, formula-Or}
 use Rattle.ps_model.proofs.budget.+equation_rows.Goals as goal
 
 pub loop-x-init : goal.loop-x-init
-loop-x-init t c =
-    let whole : formula c.args.e.now ≡ all_of (operands (map formula c.deref-x-items.result.now)) = rw (c.in-And.is, formula-And, c.deref-x-items.ensures.value) refl in
-    grind (arith, common_steps)
-
-pub loop-x-2-init : goal.loop-x-2-init
-loop-x-2-init t c =
-    let whole : formula c.args.e.now ≡ any_of (operands (map formula c.deref-x-items-in-Or.result.now)) = rw (c.in-Or.is, formula-Or, c.deref-x-items-in-Or.ensures.value) refl in
-    grind (arith, common_steps)
+loop-x-init t c = elim c.in-And.is [
+  | inl is ↦
+      let whole : formula c.args.e.now ≡ all_of (operands (map formula c.deref-x-items.result.now)) = rw (is, formula-And, c.deref-x-items.ensures.value) refl in
+      grind (arith, common_steps)
+  | inr is ↦
+      let whole : formula c.args.e.now ≡ any_of (operands (map formula c.deref-x-items.result.now)) = rw (is, formula-Or, c.deref-x-items.ensures.value) refl in
+      grind (arith, common_steps)
+]
 
 pub overflow_add-below : goal.overflow_add-below
 overflow_add-below t c =
@@ -26,22 +26,7 @@ overflow_add-below-in-loop-x t c =
     let all = equation_rows_below_bound (operands (map formula c.deref-x-items.result.now)) in
     grind (arith, common_steps)
 
-pub overflow_add-below-in-loop-x-2 : goal.overflow_add-below-in-loop-x-2
-overflow_add-below-in-loop-x-2 t c =
-    let all = equation_rows_below_bound (operands (map formula c.deref-x-items-in-Or.result.now)) in
-    grind (arith, common_steps)
-
-pub overflow_add-below-in-loop-x-2-2 : goal.overflow_add-below-in-loop-x-2-2
-overflow_add-below-in-loop-x-2-2 t c =
-    let all = equation_rows_below_bound (operands (map formula c.deref-x-items-in-Or.result.now)) in
-    grind (arith, common_steps)
-
 pub returns-after-loop-x-clause-few : goal.returns-after-loop-x-clause-few
 returns-after-loop-x-clause-few t c =
     let all = equation_rows_below_bound (operands (map formula c.deref-x-items.result.now)) in
-    grind (arith, common_steps)
-
-pub returns-after-loop-x-2-clause-few : goal.returns-after-loop-x-2-clause-few
-returns-after-loop-x-2-clause-few t c =
-    let all = equation_rows_below_bound (operands (map formula c.deref-x-items-in-Or.result.now)) in
     grind (arith, common_steps)

@@ -1,8 +1,7 @@
 use Rattle.std.proofs.Common.{◌≡◌, ◌+◌, ◌≤◌, length, map, drop}
 use Rattle.ps_model.specs.Exprs.{formula, operands}
-use Rattle.ps_model.specs.Formula.{all_of, any_of}
 use Rattle.ps_model.specs.Nodes.{nodes_below}
-use Rattle.ps_model.specs.Budgets.{equation_rows_below}
+use Rattle.ps_model.specs.Budgets.{equation_rows, equation_rows_below}
 use Rattle.ps_model.proofs.budget.+equation_rows.Given as goal
 
 abbrev pub decreases-equation_rows : goal.decreases-equation_rows
@@ -10,15 +9,7 @@ decreases-equation_rows l = goal.size-equation_rows l
 
 abbrev pub invariant-loop-x : goal.invariant-loop-x
 invariant-loop-x l = record {
-  whole : formula l.fn.e ≡ all_of (operands (map formula l.x-items));
-  room : length (nodes_below (operands (map formula (drop l.x-index l.x-items)))) ≤ 20000;
-  all : length (nodes_below (operands (map formula l.x-items))) ≤ 20000;
-  counted : l.below + equation_rows_below (operands (map formula (drop l.x-index l.x-items))) ≡ equation_rows_below (operands (map formula l.x-items));
-}
-
-abbrev pub invariant-loop-x-2 : goal.invariant-loop-x-2
-invariant-loop-x-2 l = record {
-  whole : formula l.fn.e ≡ any_of (operands (map formula l.x-items));
+  code : equation_rows (formula l.fn.e) ≡ equation_rows_below (operands (map formula l.x-items));
   room : length (nodes_below (operands (map formula (drop l.x-index l.x-items)))) ≤ 20000;
   all : length (nodes_below (operands (map formula l.x-items))) ≤ 20000;
   counted : l.below + equation_rows_below (operands (map formula (drop l.x-index l.x-items))) ≡ equation_rows_below (operands (map formula l.x-items));

@@ -57,9 +57,9 @@ held_back {longest} {text} {read} {held} m follows fits =
     ∙ drop-take m (length held - m) (drop (read - length held) text) ∙ ap (take (length held - m)) (drop-drop m (read - length held) text)
 
 -- the line so far with a part of what is held
-grown : {longest : ℕ} {text : List ℕ} {read : ℕ} {held : List ℕ} {count : ℕ} {line : List ℕ} (m : ℕ) → Follows longest text read held count line → count + length held ≤ read → m ≤ length held →
+line_and_more : {longest : ℕ} {text : List ℕ} {read : ℕ} {held : List ℕ} {count : ℕ} {line : List ℕ} (m : ℕ) → Follows longest text read held count line → count + length held ≤ read → m ≤ length held →
     take (count + m) (drop (read - length held - count) text) ≡ take count (drop (read - length held - count) text) ++ take m held
-grown {longest} {text} {read} {held} {count} m follows fits within =
+line_and_more {longest} {text} {read} {held} {count} m follows fits within =
     let place : read - length held - count + count ≡ read - length held = omega arith in
     take-side text (read - length held - count) count m
     ∙ ap (λ (n : ℕ). take count (drop (read - length held - count) text) ++ take m (drop n text)) place
@@ -70,14 +70,14 @@ none_in_both : (xs ys : List ℕ) → HasNoLineFeed xs → HasNoLineFeed ys → 
 none_in_both xs ys first second = let both = list_any-append (λ b. b == 10) xs ys in grind (arith, common_steps)
 
 -- a part of what is held was looked at, and is of the line
-pub looked : {longest : ℕ} {text : List ℕ} {read : ℕ} {held : List ℕ} {count : ℕ} {line : List ℕ} (m : ℕ) (after : List ℕ) → Follows longest text read held count line →
+pub line_goes_on : {longest : ℕ} {text : List ℕ} {read : ℕ} {held : List ℕ} {count : ℕ} {line : List ℕ} (m : ℕ) (after : List ℕ) → Follows longest text read held count line →
     count + length held ≤ read → m ≤ length held → HasNoLineFeed (take m held) → (count + m ≤ longest → take (count + m) after ≡ take count line ++ take m held) →
     Follows longest text read (drop m held) (count + m) after
-looked {longest} {text} {read} {held} {count} {line} m after follows fits within none keeps =
+line_goes_on {longest} {text} {read} {held} {count} {line} m after follows fits within none keeps =
     let size = length-drop m held in
     let place : read - length (drop m held) ≡ read - length held + m = omega arith in
     let same_line : read - length (drop m held) - (count + m) ≡ read - length held - count = omega arith in
-    let whole = grown m follows fits within in
+    let whole = line_and_more m follows fits within in
     record {
       within = follows.within;
       piece = held_back m follows within ∙ sym (ap (λ (n : ℕ). take n (drop (read - length held + m) text)) size)
@@ -128,7 +128,7 @@ raw_lines-held {longest} {text} {read} {held} {count} n follows fits within feed
     let inside : begin + (count + n) < length text = omega (arith, follows.within) in
     let ten : get_or text (begin + (count + n)) 0 ≡ 10 = ap (λ (k : ℕ). get_or text k 0) place ∙ sym (byte_held n follows within) ∙ feed in
     let le : n ≤ length held = omega arith in
-    let whole = grown n follows fits le in
+    let whole = line_and_more n follows fits le in
     let clean : HasNoLineFeed (take (count + n) (drop begin text)) =
     subst HasNoLineFeed (sym whole) (none_in_both (take count (drop begin text)) (take n held) follows.one_line none) in
     ap raw_lines (cut_at text begin (count + n) inside ten) ∙ raw_lines-ended (take (count + n) (drop begin text)) (drop (begin + (count + n + 1)) text) clean
@@ -145,7 +145,7 @@ pub kept_more : {longest : ℕ} {text : List ℕ} {read : ℕ} {held : List ℕ}
     count + length held ≤ read → n ≤ length held → count + n ≤ longest → take (count + n) after ≡ take count line ++ take n held →
     take (count + n) after ≡ take (count + n) (drop (read - length held - count) text)
 kept_more {longest} {text} {read} {held} {count} n after follows fits within short keeps =
-    keeps ∙ ap (λ (t : List ℕ). t ++ take n held) (follows.kept (omega arith)) ∙ sym (grown n follows fits within)
+    keeps ∙ ap (λ (t : List ℕ). t ++ take n held) (follows.kept (omega arith)) ∙ sym (line_and_more n follows fits within)
 
 -- what comes of a line that ends at a line feed that is held, and what is left
 pub lines_at-held : {text : List ℕ} {read : ℕ} {held : List ℕ} {count : ℕ} {line : List ℕ} (largest longest n : ℕ) → Follows longest text read held count line →
@@ -162,18 +162,18 @@ lines_at-held {text} {read} {held} {count} largest longest n follows fits within
     else if nat_lt longest k then Long else Kept (strip_carriage_return (take (count + n) (drop begin text))))
     ∷ lines_from largest longest (begin + (k + 1)) (raw_lines (drop (begin + (count + n + 1)) text))) size
 
--- `line_over` and `looked`, with what is held afterwards as the code writes it
+-- `line_over` and `line_goes_on`, with what is held afterwards as the code writes it
 pub line_over_now : {longest : ℕ} {text : List ℕ} {read : ℕ} {held : List ℕ} {count : ℕ} {line now after : List ℕ} (m : ℕ) → Follows longest text read held count line →
     now ≡ drop m held → length held ≤ read → m ≤ length held → Follows longest text read now 0 after
 line_over_now {longest} {text} {read} {held} {count} {line} {now} {after} m follows same fits within =
     subst (λ (h : List ℕ). Follows longest text read h 0 after) (sym same) (line_over m after follows fits within)
 
-pub looked_now : {longest : ℕ} {text : List ℕ} {read : ℕ} {held : List ℕ} {count grown : ℕ} {line now after : List ℕ} (m : ℕ) → Follows longest text read held count line →
+pub line_goes_on_now : {longest : ℕ} {text : List ℕ} {read : ℕ} {held : List ℕ} {count grown : ℕ} {line now after : List ℕ} (m : ℕ) → Follows longest text read held count line →
     now ≡ drop m held → grown ≡ count + m → count + length held ≤ read → m ≤ length held → HasNoLineFeed (take m held) →
     (count + m ≤ longest → take (count + m) after ≡ take count line ++ take m held) → Follows longest text read now grown after
-looked_now {longest} {text} {read} {held} {count} {grown} {line} {now} {after} m follows same more fits within none keeps =
+line_goes_on_now {longest} {text} {read} {held} {count} {grown} {line} {now} {after} m follows same more fits within none keeps =
     subst (λ (h : List ℕ). Follows longest text read h grown after) (sym same)
-    (subst (λ (k : ℕ). Follows longest text read (drop m held) k after) (sym more) (looked m after follows fits within none keeps))
+    (subst (λ (k : ℕ). Follows longest text read (drop m held) k after) (sym more) (line_goes_on m after follows fits within none keeps))
 
 -- the three cases of `lines_at-held`
 pub lines_at-large : {text : List ℕ} {read : ℕ} {held : List ℕ} {count : ℕ} {line : List ℕ} (largest longest n : ℕ) → Follows longest text read held count line →
@@ -247,7 +247,7 @@ lines_at-past {text} {read} {held} {count} largest longest follows fits none beg
     let le : m ≤ length held = omega arith in
     let all : take m held ≡ held = take_all m held le in
     let seen : List ℕ = take (count + m) (drop begin text) in
-    let clean : HasNoLineFeed seen = subst HasNoLineFeed (sym (grown m follows fits le)) (none_in_both (take count (drop begin text)) (take m held) follows.one_line (subst HasNoLineFeed (sym all) none)) in
+    let clean : HasNoLineFeed seen = subst HasNoLineFeed (sym (line_and_more m follows fits le)) (none_in_both (take count (drop begin text)) (take m held) follows.one_line (subst HasNoLineFeed (sym all) none)) in
     let size : length seen ≡ count + m = omega (arith, length-take (count + m) (drop begin text), length-drop begin text, follows.within) in
     let whole : seen ++ drop (count + m) (drop begin text) ≡ drop begin text = take-append-drop (count + m) (drop begin text) in
     let first : length seen ≤ first_bytes (raw_lines (drop begin text)) = subst (λ (t : List ℕ). length seen ≤ first_bytes (raw_lines t)) whole (first_bytes-from seen (drop (count + m) (drop begin text)) clean) in

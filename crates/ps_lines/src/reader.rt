@@ -15,7 +15,7 @@ const PIECE: usize = 4096;
 
 /// A read that failed. A later call goes on with the same line.
 #[derive(Clone, Copy, Debug, PartialEq, Eq)]
-pub struct Fault;
+pub struct ReadFailed;
 
 /// The limits of a text, in bytes.
 #[derive(Clone, Copy, Debug, PartialEq, Eq)]
@@ -106,12 +106,12 @@ impl LineReader {
         }
     }
 
-    /// The next line. After a `Fault` a later call goes on with the same line. It takes no memory.
+    /// The next line. After a `ReadFailed` a later call goes on with the same line. It takes no memory.
     ///
     /// It reads in pieces, only while the bytes that are held contain no whole line, and goes on after a read that
     /// gave less than was asked for. A line that is too long is read on without being kept, up to its line feed, the
     /// text's end or a byte past the largest text.
-    pub fn next_line<F: Files>(&mut self, files: &mut F) -> Result<Got, Fault>
+    pub fn next_line<F: Files>(&mut self, files: &mut F) -> Result<Got, ReadFailed>
         ensures reads { IsTrue (F.tells files.old) → (text : List ℕ) → F.held files.old (name_of self.old) ≡ Some text →
             IsReading self.old text → IsReading self.new text }
         ensures gives { IsTrue (F.tells files.old) → (text : List ℕ) → F.held files.old (name_of self.old) ≡ Some text →
@@ -146,7 +146,7 @@ impl LineReader {
 
     // Reads the next piece. Most lines want none, so this stands apart from them.
     #[inline(never)]
-    fn fetch<F: Files>(&mut self, files: &mut F) -> Result<usize, Fault>
+    fn fetch<F: Files>(&mut self, files: &mut F) -> Result<usize, ReadFailed>
         requires all_looked_at { self.old.from ≡ self.old.upto }
         requires not_large { self.old.at ≤ self.old.limits.largest }
         ensures reads { IsTrue (F.tells files.old) → (text : List ℕ) → F.held files.old (name_of self.old) ≡ Some text →
@@ -173,7 +173,7 @@ impl LineReader {
                 self.upto = n;
                 Ok(n)
             }
-            Err(Failed) => Err(Fault),
+            Err(Failed) => Err(ReadFailed),
         }
     }
 

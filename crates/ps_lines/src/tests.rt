@@ -1,4 +1,4 @@
-use crate::{Fault, Got, Limits, LineReader};
+use crate::{Got, Limits, LineReader, ReadFailed};
 use ps_outside::MemFiles;
 use std::alloc::Global;
 use std::test::Fail;
@@ -24,7 +24,7 @@ fn lines(alloc: Global, text: &str, most: u32, failing: u32) -> Result<String, F
             Ok(Got::TooLong) => "too long",
             Ok(Got::TooLarge) => "too large",
             Ok(Got::End) => "end",
-            Err(Fault) => "fault",
+            Err(ReadFailed) => "fault",
         };
         out.push_str(format!(in alloc; "{word} {:?};", reader.line())?.as_str())?;
         if word == "end" || word == "too large" {

@@ -61,10 +61,11 @@ abbrev pub trip_text : Network → ℕ → Option Cause → List ℕ
 trip_text net now cause =
     decimal now ++ codes " TRIP" ++ given_cause cause ++ flat_map (λ output. named_value output.name false) net.outputs ++ codes "\n"
 
--- the bytes that suffice for each output and each instance of a line
+-- the bytes that suffice for the outputs of a line
 abbrev pub outputs_room : List Signal → ℕ
 outputs_room outputs = sum_by (λ output. length output.name + 3) outputs
 
+-- the bytes that suffice for its instances
 abbrev pub instances_room : List Instance → ℕ
 instances_room instances = sum_by (λ instance. length instance.name + 10) instances
 

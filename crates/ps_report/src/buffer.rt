@@ -15,7 +15,7 @@ use ps_model::values::Bits;
 use std::alloc::Global;
 use std::marker::Model;
 
-/// The outputs with their values.
+// The outputs with their values.
 fn put_outputs(line: &mut Vec<u8>, app: &App, outs: &Bits)
     requires values { length outs.now ≡ length app.now.outputs }
     requires room { vec_len line.old + outputs_room app.now.outputs ≤ vec_capacity line.old }
@@ -30,7 +30,7 @@ fn put_outputs(line: &mut Vec<u8>, app: &App, outs: &Bits)
     }
 }
 
-/// Every output with the value FALSE.
+// Every output with the value FALSE.
 fn put_false_outputs(line: &mut Vec<u8>, app: &App)
     requires room { vec_len line.old + outputs_room app.now.outputs ≤ vec_capacity line.old }
     ensures bytes { line.new.items ≡ line.old.items ++ flat_map (λ output. named_value output.name false) app.now.outputs }
@@ -44,7 +44,7 @@ fn put_false_outputs(line: &mut Vec<u8>, app: &App)
     }
 }
 
-/// The instances with what they say of themselves.
+// The instances with what they say of themselves.
 fn put_instances(line: &mut Vec<u8>, app: &App, diags: &Diags)
     requires values { length diags.now ≡ instance_count app.now }
     requires room { vec_len line.old + instances_room app.now.instances ≤ vec_capacity line.old }
@@ -57,7 +57,7 @@ fn put_instances(line: &mut Vec<u8>, app: &App, diags: &Diags)
     }
 }
 
-/// A channel's letter.
+// A channel's letter.
 pub(crate) fn letter(channel: Channel) -> &'static str
     ensures letter { result.now ≡ channel_letter channel }
     ensures len { length result.now ≡ 1 }
@@ -68,7 +68,7 @@ pub(crate) fn letter(channel: Channel) -> &'static str
     }
 }
 
-/// Why a scan is tripped, in room for 20 bytes.
+// Why a scan is tripped, in room for 20 bytes.
 fn put_cause(line: &mut Vec<u8>, cause: Cause)
     requires { vec_len line.old + 20 ≤ vec_capacity line.old }
     ensures bytes { line.new.items ≡ line.old.items ++ cause_text cause }
@@ -97,7 +97,7 @@ fn put_cause(line: &mut Vec<u8>, cause: Cause)
     }
 }
 
-/// The cause of the scan that trips, or nothing for a later one.
+// The cause of the scan that trips, or nothing for a later one.
 fn put_given_cause(line: &mut Vec<u8>, cause: Option<Cause>)
     requires { vec_len line.old + 20 ≤ vec_capacity line.old }
     ensures bytes { line.new.items ≡ line.old.items ++ given_cause cause }
@@ -109,7 +109,7 @@ fn put_given_cause(line: &mut Vec<u8>, cause: Option<Cause>)
     }
 }
 
-/// The room of all outputs and instances of an application, in bytes, or None where it passes every number.
+// The room of all outputs and instances of an application, in bytes, or None where it passes every number.
 fn fields_room(app: &App) -> Option<usize>
     ensures { IfSome result (λ n. n ≡ outputs_room app.now.outputs + instances_room app.now.instances) }
 {

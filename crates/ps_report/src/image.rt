@@ -9,10 +9,10 @@ use ps_base::{Bytes, Memory};
 use ps_model::channel::Channel;
 use std::alloc::Global;
 
-/// The bytes of code in a full line.
+// The bytes of code in a full line.
 const CODE_LINE: usize = 32;
 
-/// A word and a number at the end of a text.
+// A word and a number at the end of a text.
 fn add_number(text: &mut Bytes, word: &str, number: u64) -> Result<(), Memory>
     ensures { OnOk result (text.new ≡ text.old ++ word.now ++ decimal number) }
 {
@@ -22,7 +22,7 @@ fn add_number(text: &mut Bytes, word: &str, number: u64) -> Result<(), Memory>
     Ok(())
 }
 
-/// The line `A code 33 memory 97 turns 11` at the end of a text.
+// The line `A code 33 memory 97 turns 11` at the end of a text.
 fn add_size_line(
     text: &mut Bytes,
     channel: Channel,
@@ -40,7 +40,7 @@ fn add_size_line(
     Ok(())
 }
 
-/// The first 32 of these bytes, or all where there are fewer.
+// The first 32 of these bytes, or all where there are fewer.
 #[tactic(auto, using(std::proofs::lemmas::List::take_min))]
 fn front(bytes: &[u8]) -> &[u8]
     ensures { result.now ≡ take 32 bytes.now }
@@ -48,7 +48,7 @@ fn front(bytes: &[u8]) -> &[u8]
     &bytes[..CODE_LINE.min(bytes.len())]
 }
 
-/// Line `i` of a code at the end of a text.
+// Line `i` of a code at the end of a text.
 fn add_code_line(alloc: Global, text: &mut Bytes, code: &[u8], i: usize) -> Result<(), Memory>
     requires { 32 * i < length code.now }
     ensures { OnOk result (text.new ≡ text.old ++ code_line code.now i) }

@@ -1,13 +1,16 @@
 //! Every line that the program writes, made from an application and what is known of it: the lines of a run, of refusals and of
 //! counts, and the text of an image. Each call's contract is the text itself, as `specs/` defines it.
+//!
+//! `buffer` makes the lines of a run in room that is taken before the first scan, from the parts in `line`; `refusal` and
+//! `counts` make short lines, which take no memory; `image` makes the text of an image.
 #![tactic(auto)]
 
-pub mod buffer;
-pub mod counts;
-pub mod image;
+mod buffer;
+mod counts;
+mod image;
 mod line;
-pub mod refusal;
-pub mod short;
+mod refusal;
+mod short;
 #[cfg(test)]
 mod tests;
 
@@ -15,4 +18,4 @@ pub use buffer::LineBuffer;
 pub use counts::{check_line, load_line};
 pub use image::image_text;
 pub use refusal::refusal_line;
-pub use short::ShortLine;
+pub use short::{LONGEST_SHORT_LINE, ShortLine};

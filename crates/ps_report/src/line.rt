@@ -7,7 +7,7 @@ ghost use Rattle.ps_report.specs.Lines.{code_text, named_value, named_diag};
 use itoa::Buffer;
 use ps_model::report::Diag;
 
-/// These bytes at the end of a line that has room for them.
+// These bytes at the end of a line that has room for them.
 pub(crate) fn put(line: &mut Vec<u8>, bytes: &[u8])
     requires { vec_len line.old + length bytes.now ≤ vec_capacity line.old }
     ensures bytes { line.new.items ≡ line.old.items ++ bytes.now }
@@ -20,7 +20,7 @@ pub(crate) fn put(line: &mut Vec<u8>, bytes: &[u8])
     }
 }
 
-/// A number at the end of a line that has room for ten digits.
+// A number at the end of a line that has room for ten digits.
 pub(crate) fn put_number(line: &mut Vec<u8>, number: u32)
     requires { vec_len line.old + 10 ≤ vec_capacity line.old }
     ensures bytes { line.new.items ≡ line.old.items ++ decimal number }
@@ -31,7 +31,7 @@ pub(crate) fn put_number(line: &mut Vec<u8>, number: u32)
     put(line, digits.format(number).as_bytes());
 }
 
-/// The digit of a truth value.
+// The digit of a truth value.
 pub(crate) fn put_truth(line: &mut Vec<u8>, value: bool)
     requires { vec_len line.old + 1 ≤ vec_capacity line.old }
     ensures bytes { line.new.items ≡ line.old.items ++ truth_digit value ∷ [] }
@@ -41,7 +41,7 @@ pub(crate) fn put_truth(line: &mut Vec<u8>, value: bool)
     put(line, if value { b"1" } else { b"0" });
 }
 
-/// A DiagCode in four capital hexadecimal digits.
+// A DiagCode in four capital hexadecimal digits.
 fn code_digits(code: u16) -> [u8; 4]
     ensures { result ≡ code_text code }
 {
@@ -54,7 +54,7 @@ fn code_digits(code: u16) -> [u8; 4]
     digits
 }
 
-/// A name with a truth value, as ` S_Motor=1`.
+// A name with a truth value, as ` S_Motor=1`.
 pub(crate) fn put_named_value(line: &mut Vec<u8>, name: &str, value: bool)
     requires { vec_len line.old + (length name.now + 3) ≤ vec_capacity line.old }
     ensures bytes { line.new.items ≡ line.old.items ++ named_value name.now value }
@@ -67,7 +67,7 @@ pub(crate) fn put_named_value(line: &mut Vec<u8>, name: &str, value: bool)
     put_truth(line, value);
 }
 
-/// A name with Ready, Error and DiagCode, as ` E=1,0,8000`.
+// A name with Ready, Error and DiagCode, as ` E=1,0,8000`.
 pub(crate) fn put_named_diag(line: &mut Vec<u8>, name: &str, diag: Diag)
     requires { vec_len line.old + (length name.now + 10) ≤ vec_capacity line.old }
     ensures bytes { line.new.items ≡ line.old.items ++ named_diag name.now diag }

@@ -6,7 +6,7 @@ ghost use Rattle.ps_report.specs.Short.{rule_text, names_column, column_text, re
 use crate::short::ShortLine;
 use ps_base::{Refusal, Rule};
 
-/// A rule's name, as `L3`.
+// A rule's name, as `L3`.
 fn rule_name(rule: Rule) -> &'static str
     ensures name { result.now ≡ rule_text rule }
     ensures short { length result.now ≤ 3 }
@@ -65,7 +65,7 @@ fn rule_name(rule: Rule) -> &'static str
     }
 }
 
-/// Whether a refusal by this rule names a column beside the line.
+// Whether a refusal by this rule names a column beside the line.
 fn has_column(rule: Rule) -> bool
     ensures { result ≡ names_column rule }
 {
@@ -95,7 +95,7 @@ fn has_column(rule: Rule) -> bool
     }
 }
 
-/// The column at the end of a line, where the rule names one.
+// The column at the end of a line, where the rule names one.
 fn put_column(line: &mut ShortLine, refusal: &Refusal)
     requires { length line.old ≤ 60 }
     ensures bytes { line.new ≡ line.old ++ column_text refusal.now }

@@ -26,7 +26,7 @@ impl Model for ShortLine {
 }
 
 impl ShortLine {
-    /// The line of these bytes.
+    // The line of these bytes.
     pub(crate) fn of(start: &str) -> ShortLine
         requires { length start.now ≤ 128 }
         ensures { result ≡ start.now }
@@ -39,7 +39,7 @@ impl ShortLine {
         line
     }
 
-    /// This text at the end.
+    // This text at the end.
     pub(crate) fn put(&mut self, text: &str)
         requires { length self.old + length text.now ≤ 128 }
         ensures bytes { self.new ≡ self.old ++ text.now }
@@ -50,7 +50,7 @@ impl ShortLine {
         self.len = upto;
     }
 
-    /// A number at the end.
+    // A number at the end.
     pub(crate) fn put_number(&mut self, number: u64)
         requires { length self.old + 20 ≤ 128 }
         ensures bytes { self.new ≡ self.old ++ decimal number }
@@ -60,7 +60,7 @@ impl ShortLine {
         self.put(digits.format(number));
     }
 
-    /// A number of up to ten digits at the end.
+    // A number of up to ten digits at the end.
     pub(crate) fn put_count(&mut self, number: u32)
         requires { length self.old + 10 ≤ 128 }
         ensures bytes { self.new ≡ self.old ++ decimal number }

@@ -15,13 +15,13 @@ use Rattle.ps_trace.specs.declared.fault_file.Before.{Before}
 use Rattle.ps_trace.specs.Words.{fields, number_of}
 use Rattle.ps_trace.specs.Scans.{at_line}
 use Rattle.ps_trace.specs.Feeds.{feeds_of}
-use Rattle.ps_trace.specs.Faults.{FaultList, first_of, others_of, made, channel_of, region_of, bytes_said, target_said, faults_from, words_struck, before_next}
+use Rattle.ps_trace.specs.Faults.{FaultList, first_of, others_of, fault_of_parts, channel_of, region_of, bytes_said, target_said, faults_from, words_struck, before_next}
 use Rattle.ps_trace.specs.Faults.Struck.{skipped, strikes, broken}
 
 -- four words, and no more
 pub target_is : (scan turn : Option ℕ) (words : List (List ℕ)) → 0 < length (first_of (others_of (others_of (others_of words)))) →
     others_of (others_of (others_of (others_of words))) ≡ [] →
-    target_said scan turn words ≡ made scan turn (channel_of (first_of words)) (region_of (first_of (others_of words)))
+    target_said scan turn words ≡ fault_of_parts scan turn (channel_of (first_of words)) (region_of (first_of (others_of words)))
     (number_of (first_of (others_of (others_of words)))) (bytes_said (first_of (others_of (others_of (others_of words)))))
 target_is scan turn [] some none = absurd (omega arith)
 target_is scan turn (a ∷ []) some none = absurd (omega arith)

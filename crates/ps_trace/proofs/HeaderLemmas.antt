@@ -2,7 +2,8 @@
 use Rattle.std.proofs.Common.{◌≡◌, ◌≤◌, ◌<◌, ◌+◌, ◌==◌, ◌↔◌, ℕ, List, [], ◌∷◌, ◌++◌, Bool, not, true, false, IsTrue, Option, Some, if◌then◌else◌, length, drop, get_or, map, slice_index, slice_set, unwrap_or, codes, refl, sym, ◌∙◌, ap, arith}
 use Rattle.std.specs.List.{position_from, list_any, list_all, range_with_len}
 use Rattle.std.specs.Char.{to_ascii_lowercase}
-use Rattle.std.specs.Str.{bytes_eq, str_eq_ignore_ascii_case}
+use Rattle.std.specs.Str.{bytes_eq}
+use Rattle.ps_base.specs.LetterCase.{is_same_name}
 use Rattle.std.proofs.lemmas.Grind.{common_steps}
 use Rattle.std.proofs.lemmas.List.{drop_more, get_or_append_left, get_or-map, length-map, ext_get_or}
 use Rattle.std.proofs.lemmas.Slice.Eq.{bytes_eq-Decides}
@@ -15,7 +16,7 @@ use Rattle.std.proofs.lemmas.List.FromFn.{get_or-map-range_with_len, length-rang
 use Rattle.std.proofs.lemmas.List.Folds.{list_all_at, list_all-map}
 
 -- what a comparison without letter case says
-pub same_name : (found : Bool) (a b : List ℕ) → (IsTrue found ↔ (map to_ascii_lowercase a ≡ map to_ascii_lowercase b)) → str_eq_ignore_ascii_case a b ≡ found
+pub same_name : (found : Bool) (a b : List ℕ) → (IsTrue found ↔ (map to_ascii_lowercase a ≡ map to_ascii_lowercase b)) → is_same_name a b ≡ found
 same_name found a b test = let decides = bytes_eq-Decides (map to_ascii_lowercase a) (map to_ascii_lowercase b) in grind (arith, common_steps)
 
 -- the name of an input
@@ -28,15 +29,15 @@ pub input_names-length : (net : Network) → length (input_names net) ≡ input_
 input_names-length net = length-map net.inputs (λ s. s.name)
 
 -- the name at a place is the one that was looked for, or the search goes on
-pub name_found : (names : List (List ℕ)) (word : List ℕ) (i : ℕ) → i < length names → str_eq_ignore_ascii_case word (get_or names i []) ≡ true →
-    position_from (str_eq_ignore_ascii_case word) i (drop i names) ≡ Some i
+pub name_found : (names : List (List ℕ)) (word : List ℕ) (i : ℕ) → i < length names → is_same_name word (get_or names i []) ≡ true →
+    position_from (is_same_name word) i (drop i names) ≡ Some i
 name_found names word i within same =
-    ap (position_from (str_eq_ignore_ascii_case word) i) (drop_more names i [] within) ∙ grind (arith, common_steps)
+    ap (position_from (is_same_name word) i) (drop_more names i [] within) ∙ grind (arith, common_steps)
 
-pub name_passed : (names : List (List ℕ)) (word : List ℕ) (i : ℕ) → i < length names → str_eq_ignore_ascii_case word (get_or names i []) ≡ false →
-    position_from (str_eq_ignore_ascii_case word) i (drop i names) ≡ position_from (str_eq_ignore_ascii_case word) (i + 1) (drop (i + 1) names)
+pub name_passed : (names : List (List ℕ)) (word : List ℕ) (i : ℕ) → i < length names → is_same_name word (get_or names i []) ≡ false →
+    position_from (is_same_name word) i (drop i names) ≡ position_from (is_same_name word) (i + 1) (drop (i + 1) names)
 name_passed names word i within differs =
-    ap (position_from (str_eq_ignore_ascii_case word) i) (drop_more names i [] within) ∙ grind (arith, common_steps)
+    ap (position_from (is_same_name word) i) (drop_more names i [] within) ∙ grind (arith, common_steps)
 
 -- one word more that names an input
 pub named_more : (names words : List (List ℕ)) (word : List ℕ) (i : ℕ) → input_named names word ≡ Some i →

@@ -5,5 +5,6 @@ pub mod SaidLemmas
 pub mod HeaderLemmas
 pub mod ScanLemmas
 pub mod FaultLemmas
+pub mod FaultOrderLemmas
 pub mod WholeFile
 mod GoingOn

@@ -9,7 +9,7 @@ use Rattle.std.proofs.lemmas.List.{length-map}
 use Rattle.std.proofs.lemmas.Grind.{common_steps}
 use Rattle.ps_base.specs.declared.failing.Rule.TheVariants.{T4, T5}
 use Rattle.ps_trace.specs.Words.{number_of, fields}
-use Rattle.ps_trace.specs.Trace.{value_of, line_said, is_restart, scan_line, timed}
+use Rattle.ps_trace.specs.Trace.{value_of, line_said, is_restart, scan_line, scan_at_time}
 use Rattle.ps_trace.specs.Trace.Said.{breaks}
 use Rattle.ps_trace.specs.LineSays.{word_of, IsPlain}
 use Rattle.ps_trace.proofs.Numbers.{number_of-parts}
@@ -29,9 +29,9 @@ pub said_T5 : (names last : ℕ) (all : List (List ℕ)) (word : List ℕ) (word
 said_T5 names last all word words is plain same bad = scan_said names last all word words is plain ∙ grind (arith, common_steps)
 
 -- a line with its values is judged by its time
-pub timed_said : (names last : ℕ) (all : List (List ℕ)) (word : List ℕ) (words : List (List ℕ)) → all ≡ word ∷ words → is_restart word words ≡ false →
-    length words ≡ names → list_all (λ w. is_some (value_of w)) words ≡ true → line_said names last all ≡ timed last (number_of word) (filter_map value_of words)
-timed_said names last all word words is plain same good = scan_said names last all word words is plain ∙ grind (arith, common_steps)
+pub scan_at_time_said : (names last : ℕ) (all : List (List ℕ)) (word : List ℕ) (words : List (List ℕ)) → all ≡ word ∷ words → is_restart word words ≡ false →
+    length words ≡ names → list_all (λ w. is_some (value_of w)) words ≡ true → line_said names last all ≡ scan_at_time last (number_of word) (filter_map value_of words)
+scan_at_time_said names last all word words is plain same good = scan_said names last all word words is plain ∙ grind (arith, common_steps)
 
 -- a number is another word than `restart`
 restart_differs : (word : List ℕ) (others : List (List ℕ)) (value : ℕ) → number_of word ≡ Some value → is_restart word others ≡ false
@@ -45,13 +45,13 @@ restart_differs (b ∷ word) [] value is =
 
 -- a line with a time and values, one for each name, is judged by its time
 pub plain_said : (names last now : ℕ) (line : List ℕ) (values : List Bool) → IsPlain line now values → length values ≡ names →
-    line_said names last (fields line) ≡ timed last (Some now) values
+    line_said names last (fields line) ≡ scan_at_time last (Some now) values
 plain_said names last now line values plain size =
-    timed_said names last (fields line) plain.time (map word_of values) plain.whole (restart_differs plain.time (map word_of values) now plain.number)
+    scan_at_time_said names last (fields line) plain.time (map word_of values) plain.whole (restart_differs plain.time (map word_of values) now plain.number)
     (length-map values word_of ∙ size) (proper-plain values)
-    ∙ ap (λ (n : Option ℕ). timed last n (filter_map value_of (map word_of values))) plain.number
-    ∙ ap (timed last (Some now)) (values-plain values)
+    ∙ ap (λ (n : Option ℕ). scan_at_time last n (filter_map value_of (map word_of values))) plain.number
+    ∙ ap (scan_at_time last (Some now)) (values-plain values)
 
 -- the same, with the time and the values as the code has them
-pub timed_with : (last : ℕ) {time was : Option ℕ} {values found : List Bool} → time ≡ was → values ≡ found → timed last time values ≡ timed last was found
-timed_with last {time} {was} {values} {found} same put = ap (λ (t : Option ℕ). timed last t values) same ∙ ap (timed last was) put
+pub scan_at_time_with : (last : ℕ) {time was : Option ℕ} {values found : List Bool} → time ≡ was → values ≡ found → scan_at_time last time values ≡ scan_at_time last was found
+scan_at_time_with last {time} {was} {values} {found} same put = ap (λ (t : Option ℕ). scan_at_time last t values) same ∙ ap (scan_at_time last was) put

@@ -13,46 +13,46 @@ use Rattle.ps_trace.specs.Trace.{line_said}
 use Rattle.ps_trace.specs.Trace.Said.{skips, restarts, scans, breaks}
 use Rattle.ps_trace.specs.Header.{header_said}
 use Rattle.ps_trace.specs.Header.Header.{no_header, places, wrong}
-use Rattle.ps_trace.specs.Scans.{scans_from, headed, at_line, inputs_of}
+use Rattle.ps_trace.specs.Scans.{scans_from, header_from, at_line, inputs_of}
 use Rattle.ps_trace.specs.Scans.Headed.{begins, fails}
 use Rattle.ps_trace.specs.Feeds.{feeds_of}
 use Rattle.ps_trace.specs.Reading.{Begins, only_refused}
 
 -- a header's line is skipped
 pub headed_skip : (got : Got) (names : List (List ℕ)) (number feeds : ℕ) (lines rest : List cut.Line) (bytes : List ℕ) → Gives lines got bytes rest → feeds_of got ≡ Ok feeds →
-    header_said names (fields bytes) ≡ no_header → headed names number lines ≡ headed names (number + feeds) rest
-headed_skip Line names number feeds lines rest bytes gives is says = ap (headed names number) gives ∙ grind (arith, common_steps)
-headed_skip LastLine names number feeds lines rest bytes gives is says = ap (headed names number) gives ∙ grind (arith, common_steps)
+    header_said names (fields bytes) ≡ no_header → header_from names number lines ≡ header_from names (number + feeds) rest
+headed_skip Line names number feeds lines rest bytes gives is says = ap (header_from names number) gives ∙ grind (arith, common_steps)
+headed_skip LastLine names number feeds lines rest bytes gives is says = ap (header_from names number) gives ∙ grind (arith, common_steps)
 headed_skip TooLong names number feeds lines rest bytes gives is says = cc
 headed_skip TooLarge names number feeds lines rest bytes gives is says = cc
 headed_skip End names number feeds lines rest bytes gives is says = cc
 
 -- it is refused
 pub headed_wrong : (got : Got) (names : List (List ℕ)) (number feeds : ℕ) (rule : Rule) (lines rest : List cut.Line) (bytes : List ℕ) → Gives lines got bytes rest → feeds_of got ≡ Ok feeds →
-    header_said names (fields bytes) ≡ wrong rule → headed names number lines ≡ fails (at_line rule number)
-headed_wrong Line names number feeds rule lines rest bytes gives is says = ap (headed names number) gives ∙ grind (arith, common_steps)
-headed_wrong LastLine names number feeds rule lines rest bytes gives is says = ap (headed names number) gives ∙ grind (arith, common_steps)
+    header_said names (fields bytes) ≡ wrong rule → header_from names number lines ≡ fails (at_line rule number)
+headed_wrong Line names number feeds rule lines rest bytes gives is says = ap (header_from names number) gives ∙ grind (arith, common_steps)
+headed_wrong LastLine names number feeds rule lines rest bytes gives is says = ap (header_from names number) gives ∙ grind (arith, common_steps)
 headed_wrong TooLong names number feeds rule lines rest bytes gives is says = cc
 headed_wrong TooLarge names number feeds rule lines rest bytes gives is says = cc
 headed_wrong End names number feeds rule lines rest bytes gives is says = cc
 
 -- it is the header
 pub headed_begins : (got : Got) (names : List (List ℕ)) (number feeds : ℕ) (found : List ℕ) (lines rest : List cut.Line) (bytes : List ℕ) → Gives lines got bytes rest → feeds_of got ≡ Ok feeds →
-    header_said names (fields bytes) ≡ places found → headed names number lines ≡ begins found (number + feeds) rest
-headed_begins Line names number feeds found lines rest bytes gives is says = ap (headed names number) gives ∙ grind (arith, common_steps)
-headed_begins LastLine names number feeds found lines rest bytes gives is says = ap (headed names number) gives ∙ grind (arith, common_steps)
+    header_said names (fields bytes) ≡ places found → header_from names number lines ≡ begins found (number + feeds) rest
+headed_begins Line names number feeds found lines rest bytes gives is says = ap (header_from names number) gives ∙ grind (arith, common_steps)
+headed_begins LastLine names number feeds found lines rest bytes gives is says = ap (header_from names number) gives ∙ grind (arith, common_steps)
 headed_begins TooLong names number feeds found lines rest bytes gives is says = cc
 headed_begins TooLarge names number feeds found lines rest bytes gives is says = cc
 headed_begins End names number feeds found lines rest bytes gives is says = cc
 
 -- there is no such line
 pub headed_fails : (got : Got) (names : List (List ℕ)) (number : ℕ) (rule : Rule) (lines rest : List cut.Line) (bytes : List ℕ) → Gives lines got bytes rest → feeds_of got ≡ Err rule →
-    headed names number lines ≡ fails (at_line rule number)
+    header_from names number lines ≡ fails (at_line rule number)
 headed_fails Line names number rule lines rest bytes gives is = cc
 headed_fails LastLine names number rule lines rest bytes gives is = cc
-headed_fails TooLong names number rule lines rest bytes gives is = ap (headed names number) gives ∙ grind (arith, common_steps)
-headed_fails TooLarge names number rule lines rest bytes gives is = ap (headed names number) gives.2 ∙ grind (arith, common_steps)
-headed_fails End names number rule lines rest bytes gives is = ap (headed names number) gives.0 ∙ grind (arith, common_steps)
+headed_fails TooLong names number rule lines rest bytes gives is = ap (header_from names number) gives ∙ grind (arith, common_steps)
+headed_fails TooLarge names number rule lines rest bytes gives is = ap (header_from names number) gives.2 ∙ grind (arith, common_steps)
+headed_fails End names number rule lines rest bytes gives is = ap (header_from names number) gives.0 ∙ grind (arith, common_steps)
 
 -- a line behind the header is skipped
 pub scans_skip : (got : Got) (found : List ℕ) (number last feeds : ℕ) (lines rest : List cut.Line) (bytes : List ℕ) → Gives lines got bytes rest → feeds_of got ≡ Ok feeds →
@@ -101,9 +101,9 @@ scans_fail TooLarge found number last rule lines rest bytes gives is more = ap (
 scans_fail End found number last rule lines rest bytes gives is more = absurd (more refl)
 
 -- a line that came takes the reader on
-pub moved : (got : Got) (old new : LineReader) (feeds : ℕ) → GoesOn got old new → feeds_of got ≡ Ok feeds → begin_of old < begin_of new
-moved Line old new feeds goes is = goes
-moved LastLine old new feeds goes is = goes
-moved TooLong old new feeds goes is = goes
-moved TooLarge old new feeds goes is = cc
-moved End old new feeds goes is = cc
+pub begins_later : (got : Got) (old new : LineReader) (feeds : ℕ) → GoesOn got old new → feeds_of got ≡ Ok feeds → begin_of old < begin_of new
+begins_later Line old new feeds goes is = goes
+begins_later LastLine old new feeds goes is = goes
+begins_later TooLong old new feeds goes is = goes
+begins_later TooLarge old new feeds goes is = cc
+begins_later End old new feeds goes is = cc

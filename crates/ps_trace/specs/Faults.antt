@@ -19,11 +19,12 @@ use Rattle.ps_trace.specs.declared.fault_file.Before.{Before}
 use Rattle.ps_trace.specs.Words.{fields, number_of}
 use Rattle.ps_trace.specs.Scans.{at_line, number_after}
 
--- the first of some words, empty where there is none, and the others
+-- the first of some words, empty where there is none
 abbrev pub first_of : List (List ℕ) → List ℕ
 first_of [] = []
 first_of (word ∷ words) = word
 
+-- the words behind the first
 abbrev pub others_of : List (List ℕ) → List (List ℕ)
 others_of [] = []
 others_of (word ∷ words) = words
@@ -41,6 +42,7 @@ channel_of word = if bytes_eq word (codes "A") then Some A else if bytes_eq word
 abbrev pub region_of : List ℕ → Option Region
 region_of word = if bytes_eq word (codes "code") then Some Code else if bytes_eq word (codes "memory") then Some Cells else None
 
+-- the bytes that hexadecimal digits give, if they give any
 abbrev pub value_if_ok : Result (List ℕ) FromHexError → Option (List ℕ)
 value_if_ok (Ok bytes) = Some bytes
 value_if_ok (Err error) = None
@@ -50,14 +52,14 @@ abbrev pub bytes_said : List ℕ → Option (List ℕ)
 bytes_said word = if nat_lt 0 (length word) && nat_le (length word) (2 * MOST_FAULT_BYTES) then value_if_ok (decode_of word) else None
 
 -- a fault, where each of its parts is right
-abbrev pub made : (scan turn : Option ℕ) → Option Channel → Option Region → Option ℕ → Option (List ℕ) → Option Fault
-made (Some scan) (Some turn) (Some channel) (Some region) (Some at) (Some bytes) =
+abbrev pub fault_of_parts : (scan turn : Option ℕ) → Option Channel → Option Region → Option ℕ → Option (List ℕ) → Option Fault
+fault_of_parts (Some scan) (Some turn) (Some channel) (Some region) (Some at) (Some bytes) =
     Some record { scan = scan; turn = turn; channel = channel; region = region; at = at; bytes = bytes }
-made _ _ _ _ _ _ = None
+fault_of_parts _ _ _ _ _ _ = None
 
 -- the last four words: channel, region, offset and bytes
 abbrev pub target_said : (scan turn : Option ℕ) → List (List ℕ) → Option Fault
-target_said scan turn (channel ∷ region ∷ at ∷ bytes ∷ []) = made scan turn (channel_of channel) (region_of region) (number_of at) (bytes_said bytes)
+target_said scan turn (channel ∷ region ∷ at ∷ bytes ∷ []) = fault_of_parts scan turn (channel_of channel) (region_of region) (number_of at) (bytes_said bytes)
 target_said scan turn _ = None
 
 -- behind the scan: the word `turn` and a turn, or turn 0
@@ -88,6 +90,7 @@ no_fault = record { scan = 0; turn = 0; channel = None }
 abbrev pub falls : Before → (scan turn : ℕ) → Bool
 falls before scan turn = nat_lt scan before.scan || (scan == before.scan && nat_lt turn before.turn)
 
+-- whether a channel is not that of the first fault line
 abbrev pub is_other : Option Channel → Channel → Bool
 is_other None channel = false
 is_other (Some A) A = false
@@ -109,6 +112,7 @@ fault_judged sizes before fault =
     else if is_other before.channel fault.channel then broken F4
     else strikes fault
 
+-- a line, by the fault that its words are: it is refused where they are none
 abbrev pub form_judged : ImageSizes → Before → Option Fault → Struck
 form_judged sizes before None = broken F1
 form_judged sizes before (Some fault) = fault_judged sizes before fault
@@ -140,6 +144,7 @@ pub record FaultList : Type 0 where
   pub faults : List Fault
   pub refusal : Option Refusal
 
+-- what a line with this number says, in front of what the later lines give
 abbrev pub onto_faults : Struck → ℕ → FaultList → FaultList
 onto_faults skipped number later = later
 onto_faults (strikes fault) number later = record { faults = fault ∷ later.faults; refusal = later.refusal }

@@ -1,7 +1,8 @@
 -- The header of a trace.
 use Rattle.std.specs.Prelude.{ℕ, Bool, List, [], ◌∷◌, not, ◌==◌, if◌then◌else◌, Option, is_none, unwrap_or, length, map, count_by, codes}
 use Rattle.std.specs.List.{list_any, filter_map, position_from, range_with_len}
-use Rattle.std.specs.Str.{bytes_eq, str_eq_ignore_ascii_case}
+use Rattle.std.specs.Str.{bytes_eq}
+use Rattle.ps_base.specs.LetterCase.{is_same_name}
 use Rattle.ps_base.specs.declared.failing.Rule.{Rule}
 use Rattle.ps_base.specs.declared.failing.Rule.TheVariants.{T1, T2, T3}
 use Rattle.ps_model.specs.Network.{Network}
@@ -12,7 +13,7 @@ input_names net = map (λ s. s.name) net.inputs
 
 -- the number of the input that a word names, without letter case
 abbrev pub input_named : List (List ℕ) → List ℕ → Option ℕ
-input_named names word = position_from (str_eq_ignore_ascii_case word) 0 names
+input_named names word = position_from (is_same_name word) 0 names
 
 -- the numbers of the inputs that these words name
 abbrev pub inputs_named : List (List ℕ) → List (List ℕ) → List ℕ

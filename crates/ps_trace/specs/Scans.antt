@@ -84,10 +84,10 @@ onto_headed (places found) number next lines later = begins found next lines
 onto_headed (wrong rule) number next lines later = fails (at_line rule number)
 
 -- the header is the first line that isn't skipped
-abbrev pub headed : List (List ℕ) → ℕ → List Line → Headed
-headed names number [] = fails (at_line T1 number)
-headed names number (line ∷ lines) =
-    onto_headed (header_of names line) number (number_after line number) lines (headed names (number_after line number) lines)
+abbrev pub header_from : List (List ℕ) → ℕ → List Line → Headed
+header_from names number [] = fails (at_line T1 number)
+header_from names number (line ∷ lines) =
+    onto_headed (header_of names line) number (number_after line number) lines (header_from names (number_after line number) lines)
 
 -- the scans and restarts behind a header
 abbrev pub scans_behind : Headed → Scans
@@ -100,7 +100,7 @@ trace_lines text = lines_at LARGEST_TRACE LONGEST_TRACE_LINE text 0
 
 -- the header of a trace of an application
 abbrev pub header_in : List ℕ → Network → Headed
-header_in text net = headed (input_names net) 1 (trace_lines text)
+header_in text net = header_from (input_names net) 1 (trace_lines text)
 
 -- the items that a trace gives for an application, and its first refusal or "whole"
 abbrev pub scans_of : List ℕ → Network → Scans

@@ -22,16 +22,16 @@ pub data Said : Type 0 where
   breaks : Rule → Said
 
 -- a scan line with these values: its time is a number, and not less than the last one
-abbrev pub timed : (last : ℕ) → Option ℕ → List Bool → Said
-timed last None values = breaks T6
-timed last (Some now) values = if nat_lt now last then breaks T7 else scans now values
+abbrev pub scan_at_time : (last : ℕ) → Option ℕ → List Bool → Said
+scan_at_time last None values = breaks T6
+scan_at_time last (Some now) values = if nat_lt now last then breaks T7 else scans now values
 
 -- a scan line: a time and one value for each of so many names
 abbrev pub scan_line : (names last : ℕ) (time : List ℕ) (values : List (List ℕ)) → Said
 scan_line names last time values =
     if not (length values == names) then breaks T4
     else if not (list_all (λ word. is_some (value_of word)) values) then breaks T5
-    else timed last (number_of time) (filter_map value_of values)
+    else scan_at_time last (number_of time) (filter_map value_of values)
 
 -- the one word `restart`
 abbrev pub is_restart : List ℕ → List (List ℕ) → Bool

@@ -6,6 +6,7 @@ ghost use Rattle.ps_base.specs.declared.failing.Refusal.{Refusal};
 ghost use Rattle.ps_trace.specs.Words.{fields};
 ghost use Rattle.ps_trace.specs.Faults.{before_next, fault_judged, falls, faults_of, is_other, region_size, words_struck};
 ghost use Rattle.ps_trace.specs.Faults.Struck.{strikes};
+ghost use Rattle.ps_trace.specs.FaultOrder.{AreInOrder, AreOfOneChannel};
 ghost use Rattle.ps_trace.specs.FaultSays.{judged_by, struck_by};
 ghost use Rattle.ps_trace.specs.Reading.{IsRead};
 
@@ -45,7 +46,7 @@ pub(crate) enum FaultSays {
     Broken(Rule),
 }
 
-/// The faults of a fault file, in its order.
+/// The faults of a fault file, in its order, which is the order in which they strike. All strike one channel.
 ///
 /// A line is `before <scan> <A|B> <code|memory> <offset> <bytes>`, or has `turn <turn>` behind the scan. The first
 /// refused line decides: it is line 1,001 (F5); it has over 600 bytes or not this form (F1); its scan or turn is less
@@ -63,6 +64,10 @@ pub fn read_faults<F: Files>(
         (refusal : Refusal) → result ≡ Err (TraceFail.Refused refusal) → (faults_of text sizes.now).refusal ≡ Some refusal }
     ensures found { IsTrue (F.tells files.old) → IsRead result → IsSome (F.held files.old name.now) }
     ensures fault { IsErrOf result TraceFail.Fault → Rose (F.faults files.old name.now) (F.faults files.new name.now) }
+
+    // Whether or not the files tell.
+    ensures ordered { IfOk result AreInOrder }
+    ensures one_channel { IfOk result AreOfOneChannel }
 
     ensures counts { (other : List ℕ) → F.faults files.old other ≤ F.faults files.new other }
     ensures kept { F.held files.new ≡ F.held files.old }

@@ -2,7 +2,7 @@
 
 ghost use Rattle.std.specs.Prelude.{◌≡◌, ◌≤◌, ◌-◌, ◌∷◌, length, take, drop, IfOk};
 ghost use Rattle.ps_trace.specs.Words.{number_of, words};
-ghost use Rattle.ps_trace.specs.Faults.{above_zero, bytes_said, channel_of, fault_said, first_of, made, others_of, region_of, target_said};
+ghost use Rattle.ps_trace.specs.Faults.{above_zero, bytes_said, channel_of, fault_said, first_of, fault_of_parts, others_of, region_of, target_said};
 
 use crate::words::{next_word, number};
 use ps_base::limits::MOST_FAULT_BYTES;
@@ -72,7 +72,7 @@ fn fault(
     at: Option<u32>,
     bytes: Option<Bytes>,
 ) -> Option<Fault>
-    ensures { result ≡ made scan turn channel region at bytes }
+    ensures { result ≡ fault_of_parts scan turn channel region at bytes }
 {
     Some(Fault {
         scan: scan?,

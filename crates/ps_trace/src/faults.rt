@@ -54,4 +54,11 @@ impl Faults {
     {
         &self.items[i]
     }
+
+    /// The faults as a slice.
+    pub fn as_slice(&self) -> &[Fault]
+        ensures { result.now ≡ self.now }
+    {
+        self.items.as_slice()
+    }
 }

@@ -3,7 +3,7 @@
 ghost use Rattle.std.specs.Prelude.{◌≡◌, ◌≤◌, ◌<◌, ℕ, Bool, IsTrue, List, length, drop, is_some, IfSome, slice_set};
 ghost use Rattle.std.specs.List.{list_all, filter_map};
 ghost use Rattle.ps_trace.specs.Words.{fields, words};
-ghost use Rattle.ps_trace.specs.Trace.{value_of, is_restart, line_said, timed};
+ghost use Rattle.ps_trace.specs.Trace.{value_of, is_restart, line_said, scan_at_time};
 ghost use Rattle.ps_trace.specs.LineSays.{said_by};
 
 use crate::plain_line::read_plain;
@@ -63,7 +63,7 @@ fn read_fields(line: &[u8], last: u32, values: &mut [bool]) -> LineSays
 
 // What a line with its values says by its time, where its first word is one.
 fn judge_time(time: Option<u32>, last: u32) -> LineSays
-    ensures says { (values : List Bool) → timed last time values ≡ said_by result values }
+    ensures says { (values : List Bool) → scan_at_time last time values ≡ said_by result values }
     ensures rises { (now : ℕ) → result ≡ LineSays.Scan now → last ≤ now }
 {
     match time {

@@ -20,7 +20,7 @@ use crate::header::{HeaderSays, read_header};
 use crate::scan_line::{LineSays, read_line};
 use ps_base::limits::{LARGEST_TRACE, LONGEST_TRACE_LINE};
 use ps_base::{Memory, Place, Refusal, Rule};
-use ps_lines::{Fault, Got, Limits, LineReader};
+use ps_lines::{Got, Limits, LineReader, ReadFailed};
 use ps_model::app::App;
 use ps_model::report::Scan;
 use ps_outside::Files;
@@ -59,10 +59,10 @@ impl From<AllocError> for TraceFail {
     }
 }
 
-impl From<Fault> for TraceFail {
+impl From<ReadFailed> for TraceFail {
     ghost from_gives = { λ _ fail. fail ≡ IsFault };
 
-    fn from(_fault: Fault) -> TraceFail {
+    fn from(_failed: ReadFailed) -> TraceFail {
         TraceFail::Fault
     }
 }
@@ -243,7 +243,7 @@ impl TraceReader {
     {
         let got = match self.lines.next_line(files) {
             Ok(got) => got,
-            Err(Fault) => return Err(TraceStop::Fault),
+            Err(ReadFailed) => return Err(TraceStop::Fault),
         };
         if got == Got::End {
             return Ok(Some(Next::End));

@@ -14,8 +14,11 @@ use Rattle.ps_trace.specs.Faults.{FaultList, faults_of, faults_from, no_fault, w
 use Rattle.ps_trace.specs.Faults.Struck.{skipped, strikes, broken}
 use Rattle.ps_trace.specs.FaultSays.{struck_by}
 use Rattle.ps_trace.specs.Feeds.{feeds_of}
-use Rattle.ps_trace.proofs.ScanLemmas.{moved}
+use Rattle.ps_trace.proofs.ScanLemmas.{begins_later}
 use Rattle.ps_trace.proofs.FaultLemmas.{faults_skip, faults_strike, faults_break, list_is, found_either}
+use Rattle.std.specs.List.{All}
+use Rattle.ps_trace.specs.FaultOrder.{AreInOrder, AreOfOneChannel}
+use Rattle.ps_trace.proofs.FaultOrderLemmas.{IsUpTo, IsFrom, struck_from, in_order-push, of_one_channel-push, up_to-push}
 use Rattle.ps_trace.proofs.WholeFile.{faults_whole}
 use Rattle.ps_trace.proofs.fault_file.read_faults.Goals as goal
 
@@ -28,6 +31,9 @@ lines-init g c =
       reads = λ tells text is. fresh.reads text;
       faults = λ tells text is. ap (λ (l : FaultList). l.faults) (all text) ∙ ap (λ (t : List Fault). t ++ (first text).faults) (sym c.new-faults.ensures);
       refusal = λ tells text is. ap (λ (l : FaultList). l.refusal) (all text);
+      ordered = subst AreInOrder (sym c.new-faults.ensures) (λ i j d before within. absurd (omega (arith, within)));
+      one_channel = subst AreOfOneChannel (sym c.new-faults.ensures) (λ i j d before within. absurd (omega (arith, within)));
+      upto = subst (All (IsUpTo no_fault)) (sym c.new-faults.ensures) (λ k d within. absurd (omega (arith, within)));
       found = λ tells some. absurd (omega (arith, fresh.nothing));
       fresh = λ none. fresh.nothing;
       few = omega arith;
@@ -53,7 +59,7 @@ returns-then-eq-clause-gives g c = λ tells text is.
 pub lines-preserved-in-Nothing : goal.lines-preserved-in-Nothing
 lines-preserved-in-Nothing g c =
     let feeds : feeds_of c.in_ok-got.got ≡ Ok c.in-Ok.feeds = sym c.feeds.ensures.value ∙ c.in-Ok.is in
-    let on : begin_of c.lines.lines < begin_of c.next_line.new.self = moved c.in_ok-got.got _ _ c.in-Ok.feeds c.in_ok-got.ensures.goes_on feeds in
+    let on : begin_of c.lines.lines < begin_of c.next_line.new.self = begins_later c.in_ok-got.got _ _ c.in-Ok.feeds c.in_ok-got.ensures.goes_on feeds in
     let few : c.lines.number ≤ MOST_FAULT_LINES = omega arith in
     let least : c.in-Ok.feeds ≤ 1 = c.in-Ok.ensures.few in
     let says : words_struck c.args.sizes.now c.lines.before (fields (line_of c.next_line.new.self)) ≡ skipped =
@@ -64,6 +70,9 @@ lines-preserved-in-Nothing g c =
           ∙ ap (λ (l : FaultList). c.lines.faults ++ l.faults) (faults_skip c.in_ok-got.got c.args.sizes.now c.lines.before c.lines.number c.in-Ok.feeds _ _ (line_of c.next_line.new.self) (c.in_ok-got.ensures.gives (subst IsTrue (sym c.lines.invariant.telling) tells) text (grind (arith, common_steps)) (c.lines.invariant.reads tells text is)) feeds few says);
       refusal = λ tells text is. c.lines.invariant.refusal tells text is
           ∙ ap (λ (l : FaultList). l.refusal) (faults_skip c.in_ok-got.got c.args.sizes.now c.lines.before c.lines.number c.in-Ok.feeds _ _ (line_of c.next_line.new.self) (c.in_ok-got.ensures.gives (subst IsTrue (sym c.lines.invariant.telling) tells) text (grind (arith, common_steps)) (c.lines.invariant.reads tells text is)) feeds few says);
+      ordered = c.lines.invariant.ordered;
+      one_channel = c.lines.invariant.one_channel;
+      upto = c.lines.invariant.upto;
       found = λ tells some. found_either (begin_of c.lines.lines) (read_of c.lines.lines) (c.lines.invariant.found tells)
           (λ none. subst IsSome (ap (λ (held : List ℕ → Option (List ℕ)). held (name_of c.lines.lines)) c.lines.invariant.kept ∙ ap (g.F.Files.held c.args.files.now) c.lines.invariant.named) (c.in_ok-got.ensures.found (subst IsTrue (sym c.lines.invariant.telling) tells) none))
           c.lines.invariant.fresh;
@@ -80,19 +89,20 @@ lines-preserved-in-Nothing g c =
 pub lines-smaller : goal.lines-smaller
 lines-smaller g c =
     let feeds : feeds_of c.in_ok-got.got ≡ Ok c.in-Ok.feeds = sym c.feeds.ensures.value ∙ c.in-Ok.is in
-    let on : begin_of c.lines.lines < begin_of c.next_line.new.self = moved c.in_ok-got.got _ _ c.in-Ok.feeds c.in_ok-got.ensures.goes_on feeds in
+    let on : begin_of c.lines.lines < begin_of c.next_line.new.self = begins_later c.in_ok-got.got _ _ c.in-Ok.feeds c.in_ok-got.ensures.goes_on feeds in
     let near = c.lines.invariant.near in
     omega arith
 
 pub lines-preserved : goal.lines-preserved
 lines-preserved g c =
     let feeds : feeds_of c.in_ok-got.got ≡ Ok c.in-Ok.feeds = sym c.feeds.ensures.value ∙ c.in-Ok.is in
-    let on : begin_of c.lines.lines < begin_of c.next_line.new.self = moved c.in_ok-got.got _ _ c.in-Ok.feeds c.in_ok-got.ensures.goes_on feeds in
+    let on : begin_of c.lines.lines < begin_of c.next_line.new.self = begins_later c.in_ok-got.got _ _ c.in-Ok.feeds c.in_ok-got.ensures.goes_on feeds in
     let few : c.lines.number ≤ MOST_FAULT_LINES = omega arith in
     let least : c.in-Ok.feeds ≤ 1 = c.in-Ok.ensures.few in
     let says : words_struck c.args.sizes.now c.lines.before (fields (line_of c.next_line.new.self)) ≡ strikes c.in-Strikes.fault =
     ap (λ (b : List ℕ). words_struck c.args.sizes.now c.lines.before (fields b)) (sym c.line.ensures) ∙ c.in_ok-read_line.ensures ∙ ap struck_by c.in-Strikes.is in
     let later = λ (text : List ℕ) (before : Before). faults_from c.args.sizes.now before (c.lines.number + c.in-Ok.feeds) (left c.next_line.new.self text) in
+    let from : IsFrom c.lines.before c.in-Strikes.fault = struck_from c.args.sizes.now c.lines.before (fields (line_of c.next_line.new.self)) c.in-Strikes.fault says in
     let next : Before = before_next (strikes c.in-Strikes.fault) c.lines.before in
     record {
       reads = λ tells text is. c.next_line.ensures.reads (subst IsTrue (sym c.lines.invariant.telling) tells) text (grind (arith, common_steps)) (c.lines.invariant.reads tells text is);
@@ -104,6 +114,10 @@ lines-preserved g c =
       refusal = λ tells text is. c.lines.invariant.refusal tells text is
           ∙ ap (λ (l : FaultList). l.refusal) (faults_strike c.in_ok-got.got c.args.sizes.now c.lines.before c.lines.number c.in-Ok.feeds c.in-Strikes.fault _ _ (line_of c.next_line.new.self) (c.in_ok-got.ensures.gives (subst IsTrue (sym c.lines.invariant.telling) tells) text (grind (arith, common_steps)) (c.lines.invariant.reads tells text is)) feeds few says)
           ∙ ap (λ (b : Before). (later text b).refusal) (sym c.behind-before.ensures);
+      ordered = subst AreInOrder (sym c.in_ok-push-in-Strikes.ensures) (in_order-push c.lines.before c.lines.faults c.in-Strikes.fault c.lines.invariant.upto from c.lines.invariant.ordered);
+      one_channel = subst AreOfOneChannel (sym c.in_ok-push-in-Strikes.ensures) (of_one_channel-push c.lines.before c.lines.faults c.in-Strikes.fault c.lines.invariant.upto from c.lines.invariant.one_channel);
+      upto = subst (λ (b : Before). All (IsUpTo b) c.push.new.self) (sym c.behind-before.ensures)
+          (subst (All (IsUpTo next)) (sym c.in_ok-push-in-Strikes.ensures) (up_to-push c.lines.before c.lines.faults c.in-Strikes.fault c.lines.invariant.upto from));
       found = λ tells some. found_either (begin_of c.lines.lines) (read_of c.lines.lines) (c.lines.invariant.found tells)
           (λ none. subst IsSome (ap (λ (held : List ℕ → Option (List ℕ)). held (name_of c.lines.lines)) c.lines.invariant.kept ∙ ap (g.F.Files.held c.args.files.now) c.lines.invariant.named) (c.in_ok-got.ensures.found (subst IsTrue (sym c.lines.invariant.telling) tells) none))
           c.lines.invariant.fresh;

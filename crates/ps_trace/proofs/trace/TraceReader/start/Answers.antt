@@ -8,13 +8,13 @@ use Rattle.ps_trace.specs.HeaderSays.{header_by}
 use Rattle.ps_trace.specs.Feeds.{feeds_of}
 use Rattle.ps_trace.specs.Scans.{scans_behind}
 use Rattle.ps_trace.specs.Reading.{IsHeaded}
-use Rattle.ps_trace.proofs.ScanLemmas.{moved, headed_skip, headed_begins}
+use Rattle.ps_trace.proofs.ScanLemmas.{begins_later, headed_skip, headed_begins}
 use Rattle.ps_trace.proofs.trace.TraceReader.start.Goals as goal
 
 pub lines-preserved : goal.lines-preserved
 lines-preserved g c =
     let feeds : feeds_of c.in_ok-got.got ≡ Ok c.in-Ok.feeds = sym c.feeds.ensures.value ∙ c.in-Ok.is in
-    let on : begin_of c.lines.lines < begin_of c.next_line.new.self = moved c.in_ok-got.got _ _ c.in-Ok.feeds c.in_ok-got.ensures.goes_on feeds in
+    let on : begin_of c.lines.lines < begin_of c.next_line.new.self = begins_later c.in_ok-got.got _ _ c.in-Ok.feeds c.in_ok-got.ensures.goes_on feeds in
     let few : c.in-Ok.feeds ≤ 1 = c.in-Ok.ensures.few in
     let says : header_said (input_names c.args.app.now) (fields (line_of c.next_line.new.self)) ≡ no_header =
     ap (λ (b : List ℕ). header_said (input_names c.args.app.now) (fields b)) (sym c.line.ensures) ∙ c.in_ok-read_header.ensures.says ∙ ap header_by c.in-Nothing.is in

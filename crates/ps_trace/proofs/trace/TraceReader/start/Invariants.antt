@@ -2,14 +2,14 @@ use Rattle.std.proofs.Common.{◌≡◌, ◌≤◌, ◌<◌, ◌+◌, ◌-◌, �
 use Rattle.ps_base.specs.declared.limits.TheConstants.{LARGEST_TRACE}
 use Rattle.ps_lines.specs.Reader.{IsReading, left, begin_of, name_of, limits_of, read_of}
 use Rattle.ps_trace.specs.Header.{input_names}
-use Rattle.ps_trace.specs.Scans.{header_in, headed}
+use Rattle.ps_trace.specs.Scans.{header_in, header_from}
 use Rattle.ps_trace.proofs.trace.TraceReader.start.Given as goal
 
 abbrev pub invariant-lines : goal.invariant-lines
 invariant-lines g l = record {
   reads : IsTrue (g.F.Files.tells l.initial.files) → (text : List ℕ) → g.F.Files.held l.initial.files l.name ≡ Some text → IsReading l.lines text;
   headed : IsTrue (g.F.Files.tells l.initial.files) → (text : List ℕ) → g.F.Files.held l.initial.files l.name ≡ Some text →
-      header_in text l.app ≡ headed (input_names l.app) l.number (left l.lines text);
+      header_in text l.app ≡ header_from (input_names l.app) l.number (left l.lines text);
   found : IsTrue (g.F.Files.tells l.initial.files) → 0 < begin_of l.lines → IsSome (g.F.Files.held l.initial.files l.name);
   fresh : begin_of l.lines ≡ 0 → read_of l.lines ≡ 0;
   counted : l.number ≤ begin_of l.lines + 1;

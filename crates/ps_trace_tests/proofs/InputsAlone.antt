@@ -1,9 +1,10 @@
 -- An application of the three inputs alone is sound.
 use Rattle.std.proofs.Common.{◌≡◌, ◌<◌, [], ℕ, zero, suc, List, get_or, ap, arith}
+use Rattle.ps_model.specs.declared.kind.Ty.TheVariants.{Time}
 use Rattle.ps_model.specs.declared.named.Signal.{Signal}
 use Rattle.ps_model.specs.declared.named.Instance.{Instance}
 use Rattle.ps_model.specs.Action.{Action}
-use Rattle.ps_model.specs.Network.{Network, made_of, names}
+use Rattle.ps_model.specs.Network.{Network, made_of, names, declared_signals}
 use Rattle.ps_base.specs.LetterCase.{SameName}
 use Rattle.ps_model.specs.Sound.{IsSound}
 use Rattle.ps_trace_tests.specs.Inputs.{three}
@@ -21,9 +22,17 @@ names_differ (suc zero) (suc (suc zero)) d lt inside same = let first : 97 ≡ 1
 names_differ (suc i) (suc zero) d lt inside same = absurd (omega (arith, lt))
 names_differ (suc (suc i)) (suc (suc zero)) d lt inside same = absurd (omega (arith, lt))
 
+-- each of them is SAFEBOOL
+are_boolean : (k : ℕ) (d : Signal) → k < 3 → (get_or (declared_signals (alone [])) k d).ty ≡ Time → ⊥
+are_boolean zero d lt is = cc
+are_boolean (suc zero) d lt is = cc
+are_boolean (suc (suc zero)) d lt is = cc
+are_boolean (suc (suc (suc k))) d lt is = absurd (omega (arith, lt))
+
 pub alone_sound : (name : List ℕ) → IsSound (alone name)
 alone_sound name = record {
   names_differ = λ i j d lt inside. names_differ i j d lt (omega (arith, inside));
+  signals_boolean = are_boolean;
   few_inputs = omega arith;
   few_outputs = omega arith;
   few_signals = omega arith;
@@ -31,6 +40,7 @@ alone_sound name = record {
   few_nodes = omega arith;
   targets = λ k t e at. absurd (let h : ⊥ = cc in h);
   instances = λ k i args at. absurd (let h : ⊥ = cc in h);
+  times_fit = λ k i args at. absurd (let h : ⊥ = cc in h);
   arguments = λ k i args at. absurd (let h : ⊥ = cc in h);
   values_below = λ k d lt. absurd (omega (arith, lt));
   values_full = λ k d lt. absurd (omega (arith, lt));

@@ -16,20 +16,20 @@ named bs = on bs 0 ∷ on bs 1 ∷ not (on bs 2) ∷ on bs 3 ∷ []
 abbrev chosen : (ℕ → Bool) → Bool → List Bool
 chosen pins elapsed = pins 0 ∷ pins 1 ∷ pins 2 ∷ elapsed ∷ []
 
-passed : decides EQUIVALENT Antivalent named (seen_at nowhere nowhere nowhere nowhere 3) 4 ≡ true
+in_each_state : decides EQUIVALENT Antivalent named (seen_at nowhere nowhere nowhere nowhere 3) 4 ≡ true
 unfolding next block
-passed = refl
+in_each_state = refl
 
 pub antivalent_states : of_states EQUIVALENT Antivalent ≡ true
 unfolding block
 antivalent_states = refl
 
-agrees : (pins : ℕ → Bool) (elapsed : Bool) (k : Kept) →
+table_agrees : (pins : ℕ → Bool) (elapsed : Bool) (k : Kept) →
     TableAgrees (block Antivalent).rows (seen_at nowhere nowhere nowhere nowhere 3 (chosen pins elapsed)) (seen Antivalent pins elapsed k)
 unfolding block
-agrees pins elapsed k = search rules
+table_agrees pins elapsed k = search rules
 
 pub antivalent_decides : RowsDecide Antivalent
 antivalent_decides q pins elapsed k =
-    decides_each EQUIVALENT Antivalent named (seen_at nowhere nowhere nowhere nowhere 3) 4 passed antivalent_states q (chosen pins elapsed) refl
-    ∙ decision_same Antivalent q (seen_at nowhere nowhere nowhere nowhere 3 (chosen pins elapsed)) (seen Antivalent pins elapsed k) refl (agrees pins elapsed k)
+    decides_each EQUIVALENT Antivalent named (seen_at nowhere nowhere nowhere nowhere 3) 4 in_each_state antivalent_states q (chosen pins elapsed) refl
+    ∙ decision_same Antivalent q (seen_at nowhere nowhere nowhere nowhere 3 (chosen pins elapsed)) (seen Antivalent pins elapsed k) refl (table_agrees pins elapsed k)

@@ -7,7 +7,7 @@ use Rattle.ps_model.specs.declared.kind.Kind.{Kind}
 use Rattle.ps_model.specs.Table.{Conditions, Row, Rule, decided, row_at}
 use Rattle.ps_model.specs.Blocks.{next, block}
 use Rattle.ps_model.specs.Stored.{bit, states, is_state}
-use Rattle.ps_rows.specs.declared.row.MaskRow.{MaskRow}
+use Rattle.ps_rows.specs.declared.mask_row.MaskRow.{MaskRow}
 use Rattle.ps_rows.specs.Fitting.{fits, first_fit}
 use Rattle.ps_rows.specs.Names.{complemented}
 use Rattle.ps_rows.specs.Decision.{latches, action, decision}
@@ -50,9 +50,9 @@ at_each p (x ∷ xs) q h s =
     ⊎_elim (λ y. ap p (sym (eqb-true x q y)) ∙ both.0)
     (λ n. at_each p xs q both.1 (sym (ap (λ b. b || list_any (λ y. y == q) xs) n) ∙ s)) (cases_Bool (x == q))
 
-answered : (o : Option (ℕ × ℕ)) (q a : ℕ) → is_answer o q a ≡ true → o ≡ Some (q, a)
-answered None q a h = absurd (false≢true h)
-answered (Some x) q a h =
+answer_is : (o : Option (ℕ × ℕ)) (q a : ℕ) → is_answer o q a ≡ true → o ≡ Some (q, a)
+answer_is None q a h = absurd (false≢true h)
+answer_is (Some x) q a h =
     let both = and_parts (x.0 == q) (x.1 == a) h in
     λ i. Some (eqb-true x.0 q both.0 i, eqb-true x.1 a both.1 i)
 
@@ -72,7 +72,7 @@ decides_each rows kind named seen_by n f w q bs e =
     let c = seen_by bs in
     let o = first_fit rows q (complemented (named bs)) in
     ⊎_elim
-    (λ y. answered o (next kind q c) (action kind q (next kind q c) c)
+    (λ y. answer_is o (next kind q c) (action kind q (next kind q c) c)
     (at_choice n (decides_at rows kind named seen_by q) (at_each (λ x. each_choice n (decides_at rows kind named seen_by x)) (states kind) q f y) bs e)
     ∙ sym (cond-true (is_state kind q) (Some (next kind q c, action kind q (next kind q c) c)) None y))
     (λ no. no_row rows kind q (complemented (named bs)) w no
@@ -92,9 +92,9 @@ abbrev pub TableAgrees : List Row → Conditions → Conditions → Type 0
 TableAgrees [] c d = Unit {0}
 TableAgrees (r ∷ rows) c d = RowAgrees r c d × TableAgrees rows c d
 
-decided_same : (rules : List Rule) (q : ℕ) (c d : Conditions) → RulesAgree rules c d → decided q rules c ≡ decided q rules d
-decided_same [] q c d h = refl
-decided_same (r ∷ rules) q c d h = ap (λ b. cond b r.next (decided q rules c)) h.0 ∙ ap (λ x. cond (r.guard d) r.next x) (decided_same rules q c d h.1)
+rules_same : (rules : List Rule) (q : ℕ) (c d : Conditions) → RulesAgree rules c d → decided q rules c ≡ decided q rules d
+rules_same [] q c d h = refl
+rules_same (r ∷ rules) q c d h = ap (λ b. cond b r.next (decided q rules c)) h.0 ∙ ap (λ x. cond (r.guard d) r.next x) (rules_same rules q c d h.1)
 
 row_agrees : (table : List Row) (q : ℕ) (c d : Conditions) → TableAgrees table c d → RowAgrees (row_at table q) c d
 row_agrees [] q c d h = (refl, tt)
@@ -107,7 +107,7 @@ unfolding next
 next_same kind q c d active h =
     ap (λ b. cond (not b) 0 (cond (q == 0) (block kind).first (decided q (row_at (block kind).rows q).rules c))) active
     ∙ ap (λ x. cond (not (d.pin 0)) 0 (cond (q == 0) (block kind).first x))
-    (decided_same (row_at (block kind).rows q).rules q c d (row_agrees (block kind).rows q c d h).1)
+    (rules_same (row_at (block kind).rows q).rules q c d (row_agrees (block kind).rows q c d h).1)
 
 action_same : (kind : Kind) (q q' : ℕ) (c d : Conditions) → TableAgrees (block kind).rows c d → action kind q q' c ≡ action kind q q' d
 action_same kind q q' c d h = ap (λ b. bit (not (q' == q && not b)) + 2 * bit (latches kind q q')) (row_agrees (block kind).rows q' c d h).0

@@ -9,20 +9,20 @@ use Rattle.ps_rows.specs.Decision.{RowsDecide}
 use Rattle.ps_rows.proofs.Choices.{decides, of_states, decides_each, decision_same, TableAgrees}
 use Rattle.ps_rows.proofs.Seeing.{seen_at, as_chosen, nowhere}
 
-passed : decides OUT_CONTROL OutControl as_chosen (seen_at 6 7 2 8 nowhere) 9 ≡ true
+in_each_state : decides OUT_CONTROL OutControl as_chosen (seen_at 6 7 2 8 nowhere) 9 ≡ true
 unfolding next block
-passed = refl
+in_each_state = refl
 
 pub out_control_states : of_states OUT_CONTROL OutControl ≡ true
 unfolding block
 out_control_states = refl
 
-agrees : (pins : ℕ → Bool) (elapsed : Bool) (k : Kept) →
+table_agrees : (pins : ℕ → Bool) (elapsed : Bool) (k : Kept) →
     TableAgrees (block OutControl).rows (seen_at 6 7 2 8 nowhere (names OutControl pins elapsed k)) (seen OutControl pins elapsed k)
 unfolding block
-agrees pins elapsed k = search rules
+table_agrees pins elapsed k = search rules
 
 pub out_control_decides : RowsDecide OutControl
 out_control_decides q pins elapsed k =
-    decides_each OUT_CONTROL OutControl as_chosen (seen_at 6 7 2 8 nowhere) 9 passed out_control_states q (names OutControl pins elapsed k) refl
-    ∙ decision_same OutControl q (seen_at 6 7 2 8 nowhere (names OutControl pins elapsed k)) (seen OutControl pins elapsed k) refl (agrees pins elapsed k)
+    decides_each OUT_CONTROL OutControl as_chosen (seen_at 6 7 2 8 nowhere) 9 in_each_state out_control_states q (names OutControl pins elapsed k) refl
+    ∙ decision_same OutControl q (seen_at 6 7 2 8 nowhere (names OutControl pins elapsed k)) (seen OutControl pins elapsed k) refl (table_agrees pins elapsed k)

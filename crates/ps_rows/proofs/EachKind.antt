@@ -54,9 +54,9 @@ each_of_states OutControl = out_control_states
 each_of_states Edm = edm_states
 
 -- what the first row that fits gives over the named conditions of a step
-pub decided_by : (kind : Kind) (q c : ℕ) (o : Option (ℕ × ℕ)) → o ≡ first_fit (rows_of kind) q c →
+pub decision_by_rows : (kind : Kind) (q c : ℕ) (o : Option (ℕ × ℕ)) → o ≡ first_fit (rows_of kind) q c →
     (pins : ℕ → Bool) (elapsed : Bool) (k : Kept) → c ≡ complemented (names kind pins elapsed k) → o ≡ decision kind q (seen kind pins elapsed k)
-decided_by kind q c o first pins elapsed k e = first ∙ ap (first_fit (rows_of kind) q) e ∙ each_decides kind q pins elapsed k
+decision_by_rows kind q c o first pins elapsed k e = first ∙ ap (first_fit (rows_of kind) q) e ∙ each_decides kind q pins elapsed k
 
 -- no row fits where the code is of no state
 pub none_fits : (kind : Kind) (q c : ℕ) → is_state kind q ≡ false → None ≡ first_fit (rows_of kind) q c

@@ -9,20 +9,20 @@ use Rattle.ps_rows.specs.Decision.{RowsDecide}
 use Rattle.ps_rows.proofs.Choices.{decides, of_states, decides_each, decision_same, TableAgrees}
 use Rattle.ps_rows.proofs.Seeing.{seen_at, as_chosen, nowhere}
 
-passed : decides GUARD_LOCKING GuardLocking as_chosen (seen_at 7 8 nowhere nowhere nowhere) 9 ≡ true
+in_each_state : decides GUARD_LOCKING GuardLocking as_chosen (seen_at 7 8 nowhere nowhere nowhere) 9 ≡ true
 unfolding next block
-passed = refl
+in_each_state = refl
 
 pub guard_locking_states : of_states GUARD_LOCKING GuardLocking ≡ true
 unfolding block
 guard_locking_states = refl
 
-agrees : (pins : ℕ → Bool) (elapsed : Bool) (k : Kept) →
+table_agrees : (pins : ℕ → Bool) (elapsed : Bool) (k : Kept) →
     TableAgrees (block GuardLocking).rows (seen_at 7 8 nowhere nowhere nowhere (names GuardLocking pins elapsed k)) (seen GuardLocking pins elapsed k)
 unfolding block
-agrees pins elapsed k = search rules
+table_agrees pins elapsed k = search rules
 
 pub guard_locking_decides : RowsDecide GuardLocking
 guard_locking_decides q pins elapsed k =
-    decides_each GUARD_LOCKING GuardLocking as_chosen (seen_at 7 8 nowhere nowhere nowhere) 9 passed guard_locking_states q (names GuardLocking pins elapsed k) refl
-    ∙ decision_same GuardLocking q (seen_at 7 8 nowhere nowhere nowhere (names GuardLocking pins elapsed k)) (seen GuardLocking pins elapsed k) refl (agrees pins elapsed k)
+    decides_each GUARD_LOCKING GuardLocking as_chosen (seen_at 7 8 nowhere nowhere nowhere) 9 in_each_state guard_locking_states q (names GuardLocking pins elapsed k) refl
+    ∙ decision_same GuardLocking q (seen_at 7 8 nowhere nowhere nowhere (names GuardLocking pins elapsed k)) (seen GuardLocking pins elapsed k) refl (table_agrees pins elapsed k)

@@ -9,20 +9,20 @@ use Rattle.ps_rows.specs.Decision.{RowsDecide}
 use Rattle.ps_rows.proofs.Choices.{decides, of_states, decides_each, decision_same, TableAgrees}
 use Rattle.ps_rows.proofs.Seeing.{seen_at, as_chosen, nowhere}
 
-passed : decides GUARD_MONITORING GuardMonitoring as_chosen (seen_at 5 6 nowhere nowhere 7) 8 ≡ true
+in_each_state : decides GUARD_MONITORING GuardMonitoring as_chosen (seen_at 5 6 nowhere nowhere 7) 8 ≡ true
 unfolding next block
-passed = refl
+in_each_state = refl
 
 pub guard_monitoring_states : of_states GUARD_MONITORING GuardMonitoring ≡ true
 unfolding block
 guard_monitoring_states = refl
 
-agrees : (pins : ℕ → Bool) (elapsed : Bool) (k : Kept) →
+table_agrees : (pins : ℕ → Bool) (elapsed : Bool) (k : Kept) →
     TableAgrees (block GuardMonitoring).rows (seen_at 5 6 nowhere nowhere 7 (names GuardMonitoring pins elapsed k)) (seen GuardMonitoring pins elapsed k)
 unfolding block
-agrees pins elapsed k = search rules
+table_agrees pins elapsed k = search rules
 
 pub guard_monitoring_decides : RowsDecide GuardMonitoring
 guard_monitoring_decides q pins elapsed k =
-    decides_each GUARD_MONITORING GuardMonitoring as_chosen (seen_at 5 6 nowhere nowhere 7) 8 passed guard_monitoring_states q (names GuardMonitoring pins elapsed k) refl
-    ∙ decision_same GuardMonitoring q (seen_at 5 6 nowhere nowhere 7 (names GuardMonitoring pins elapsed k)) (seen GuardMonitoring pins elapsed k) refl (agrees pins elapsed k)
+    decides_each GUARD_MONITORING GuardMonitoring as_chosen (seen_at 5 6 nowhere nowhere 7) 8 in_each_state guard_monitoring_states q (names GuardMonitoring pins elapsed k) refl
+    ∙ decision_same GuardMonitoring q (seen_at 5 6 nowhere nowhere 7 (names GuardMonitoring pins elapsed k)) (seen GuardMonitoring pins elapsed k) refl (table_agrees pins elapsed k)

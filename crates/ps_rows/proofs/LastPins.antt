@@ -8,7 +8,7 @@ use Rattle.std.proofs.lemmas.Nat.{pow_pos}
 use Rattle.std.proofs.lemmas.Nat.Bits.{and_pow, bit_at-lt}
 use Rattle.ps_model.specs.Blocks.{at_pin}
 use Rattle.ps_model.specs.Stored.{bit, is_last}
-use Rattle.ps_rows.specs.Viewed.{pin_of}
+use Rattle.ps_model.specs.PinBits.{pin_of}
 use Rattle.ps_rows.specs.Counted.{bit_of}
 
 pow_some : (j : ℕ) → (2 ^ j == 0) ≡ false
@@ -21,9 +21,9 @@ digit_times (suc zero) p h some = let e : 1 * p ≡ p = omega arith in ap (λ x.
 digit_times (suc (suc b)) p h some = absurd (omega arith)
 
 -- the test of a pin by its bit
-pub tested : (o : Option ℕ) (bits pin : ℕ) → pin ≡ bit_of o → not (bit_and bits pin == 0) ≡ at_pin o (pin_of bits)
-tested None bits pin e = ap (λ x. not (bit_and bits x == 0)) e ∙ ap (λ x. not (x == 0)) (and_zero_r bits)
-tested (Some j) bits pin e =
+pub pin_test_is : (o : Option ℕ) (bits pin : ℕ) → pin ≡ bit_of o → not (bit_and bits pin == 0) ≡ at_pin o (pin_of bits)
+pin_test_is None bits pin e = ap (λ x. not (bit_and bits x == 0)) e ∙ ap (λ x. not (x == 0)) (and_zero_r bits)
+pin_test_is (Some j) bits pin e =
     ap (λ x. not (bit_and bits x == 0)) e
     ∙ ap (λ x. not (x == 0)) (and_pow bits j)
     ∙ digit_times (bit_at bits j) (2 ^ j) (bit_at-lt bits j) (pow_some j)

@@ -19,3 +19,4 @@ pub mod Controlling
 pub mod DevicesMonitored
 pub mod EachKind
 pub mod Stepping
+pub mod FreePins

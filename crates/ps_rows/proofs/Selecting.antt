@@ -26,9 +26,9 @@ seen_by bs = record {
   exact = on bs 3;
 }
 
-passed : decides MODES ModeSelector as_chosen seen_by 9 ≡ true
+in_each_state : decides MODES ModeSelector as_chosen seen_by 9 ≡ true
 unfolding next block
-passed = refl
+in_each_state = refl
 
 pub mode_selector_states : of_states MODES ModeSelector ≡ true
 unfolding block
@@ -64,10 +64,10 @@ more_of n =
       ]
     ]
 
-agrees : (pins : ℕ → Bool) (elapsed : Bool) (k : Kept) →
+table_agrees : (pins : ℕ → Bool) (elapsed : Bool) (k : Kept) →
     TableAgrees (block ModeSelector).rows (seen_by (names ModeSelector pins elapsed k)) (seen ModeSelector pins elapsed k)
 unfolding block
-agrees pins elapsed k =
+table_agrees pins elapsed k =
     let n = modes_on pins in
     let none_is = none_of (n == 0) (n == 1) in
     let set = pins 11 || pins 10 && not k.last_auxiliary in (
@@ -77,5 +77,5 @@ agrees pins elapsed k =
 
 pub mode_selector_decides : RowsDecide ModeSelector
 mode_selector_decides q pins elapsed k =
-    decides_each MODES ModeSelector as_chosen seen_by 9 passed mode_selector_states q (names ModeSelector pins elapsed k) refl
-    ∙ decision_same ModeSelector q (seen_by (names ModeSelector pins elapsed k)) (seen ModeSelector pins elapsed k) refl (agrees pins elapsed k)
+    decides_each MODES ModeSelector as_chosen seen_by 9 in_each_state mode_selector_states q (names ModeSelector pins elapsed k) refl
+    ∙ decision_same ModeSelector q (seen_by (names ModeSelector pins elapsed k)) (seen ModeSelector pins elapsed k) refl (table_agrees pins elapsed k)

@@ -9,20 +9,20 @@ use Rattle.ps_rows.specs.Decision.{RowsDecide}
 use Rattle.ps_rows.proofs.Choices.{decides, of_states, decides_each, decision_same, TableAgrees}
 use Rattle.ps_rows.proofs.Seeing.{seen_at, as_chosen, nowhere}
 
-passed : decides STOP Espe as_chosen (seen_at 4 5 nowhere nowhere nowhere) 6 ≡ true
+in_each_state : decides STOP Espe as_chosen (seen_at 4 5 nowhere nowhere nowhere) 6 ≡ true
 unfolding next block
-passed = refl
+in_each_state = refl
 
 pub espe_states : of_states STOP Espe ≡ true
 unfolding block
 espe_states = refl
 
-agrees : (pins : ℕ → Bool) (elapsed : Bool) (k : Kept) →
+table_agrees : (pins : ℕ → Bool) (elapsed : Bool) (k : Kept) →
     TableAgrees (block Espe).rows (seen_at 4 5 nowhere nowhere nowhere (names Espe pins elapsed k)) (seen Espe pins elapsed k)
 unfolding block
-agrees pins elapsed k = search rules
+table_agrees pins elapsed k = search rules
 
 pub espe_decides : RowsDecide Espe
 espe_decides q pins elapsed k =
-    decides_each STOP Espe as_chosen (seen_at 4 5 nowhere nowhere nowhere) 6 passed espe_states q (names Espe pins elapsed k) refl
-    ∙ decision_same Espe q (seen_at 4 5 nowhere nowhere nowhere (names Espe pins elapsed k)) (seen Espe pins elapsed k) refl (agrees pins elapsed k)
+    decides_each STOP Espe as_chosen (seen_at 4 5 nowhere nowhere nowhere) 6 in_each_state espe_states q (names Espe pins elapsed k) refl
+    ∙ decision_same Espe q (seen_at 4 5 nowhere nowhere nowhere (names Espe pins elapsed k)) (seen Espe pins elapsed k) refl (table_agrees pins elapsed k)

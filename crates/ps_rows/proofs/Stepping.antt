@@ -1,4 +1,4 @@
--- What the rows decide makes the step of a block whose timer counts down.
+-- What the rows decide makes the step of a block whose timer step_is down.
 use Rattle.std.proofs.Common.{◌≡◌, ℕ, ◌+◌, ◌*◌, ◌<◌, ◌^◌, Bool, true, false, cond, refl, sym, ap, ◌∙◌, ⊎_elim, ◌&&◌, Some, None, arith}
 use Rattle.std.specs.Prelude.{◌==◌, not, bit_and, nat_lt}
 use Rattle.std.specs.List.{list_any, range_with_len}
@@ -25,9 +25,9 @@ latch_bit true false = refl
 latch_bit false true = refl
 latch_bit false false = refl
 
-flipped : (runs : Bool) (a b : ℕ) → cond (not runs) a b ≡ cond runs b a
-flipped true a b = refl
-flipped false a b = refl
+cond-not : (runs : Bool) (a b : ℕ) → cond (not runs) a b ≡ cond runs b a
+cond-not true a b = refl
+cond-not false a b = refl
 
 same_pair : (x y : ℕ × ℕ) → Some x ≡ Some y → (x.0 ≡ y.0) × (x.1 ≡ y.1)
 same_pair x y h = let e = same_Some x y h in (ap (λ (z : ℕ × ℕ). z.0) e, ap (λ (z : ℕ × ℕ). z.1) e)
@@ -36,11 +36,11 @@ none_some : (x : ℕ × ℕ) → None ≡ Some x → ⊥
 none_some x h = cc
 
 -- ---- The mode.
-selected : (from to : Bool) (lowest mode : ℕ) → cond (from && to) lowest (cond to mode 0) ≡ cond to (cond from lowest mode) 0
-selected true true lowest mode = refl
-selected true false lowest mode = refl
-selected false true lowest mode = refl
-selected false false lowest mode = refl
+mode_selected : (from to : Bool) (lowest mode : ℕ) → cond (from && to) lowest (cond to mode 0) ≡ cond to (cond from lowest mode) 0
+mode_selected true true lowest mode = refl
+mode_selected true false lowest mode = refl
+mode_selected false true lowest mode = refl
+mode_selected false false lowest mode = refl
 
 module _ (pins : ℕ → Bool) (q q' : ℕ) (mode : ℕ) (runs : Bool) where
   mode_is : (kind : Kind) → mode_after kind (bit (not runs) + 2 * bit (latches kind q q')) q' pins mode ≡ latched kind pins q q' mode
@@ -52,7 +52,7 @@ module _ (pins : ℕ → Bool) (q q' : ℕ) (mode : ℕ) (runs : Bool) where
   mode_is ModeSelector =
       let to = list_any (λ x. x == q') mode_states in
       let lowest = lowest_on (range_with_len 0 8) pins in
-      ap (λ b. cond b lowest (cond to mode 0)) (latch_bit runs (q == 0x8005 && to)) ∙ selected (q == 0x8005) to lowest mode
+      ap (λ b. cond b lowest (cond to mode 0)) (latch_bit runs (q == 0x8005 && to)) ∙ mode_selected (q == 0x8005) to lowest mode
   mode_is TwoHandTwo = refl
   mode_is TwoHandThree = refl
   mode_is GuardMonitoring = refl
@@ -124,15 +124,15 @@ names_of_kept Edm pins elapsed k = refl
 
 -- ---- The step.
 module _ (kind : Kind) (pins : ℕ → Bool) (limit left : ℕ) (k : Kept) where
-  decided : is_state kind k.code ≡ true → decision kind k.code (seen kind pins (left == 0) k)
+  decision_is : is_state kind k.code ≡ true → decision kind k.code (seen kind pins (left == 0) k)
       ≡ Some (next kind k.code (seen kind pins (left == 0) k), action kind k.code (next kind k.code (seen kind pins (left == 0) k)) (seen kind pins (left == 0) k))
-  decided is =
+  decision_is is =
       let c = seen kind pins (left == 0) k in
       cond-true (is_state kind k.code) (Some (next kind k.code c, action kind k.code (next kind k.code c) c)) None is
 
   -- what is kept is in a state, and so the rows decide
   pub some_answer : is_state kind k.code ≡ true → None ≡ decision kind k.code (seen kind pins (left == 0) k) → ⊥
-  some_answer is h = none_some _ (h ∙ decided is)
+  some_answer is h = none_some _ (h ∙ decision_is is)
 
   -- and where they decide, the code is that of a state
   pub in_state : (x : ℕ × ℕ) → Some x ≡ decision kind k.code (seen kind pins (left == 0) k) → is_state kind k.code ≡ true
@@ -150,18 +150,18 @@ module _ (kind : Kind) (pins : ℕ → Bool) (limit left : ℕ) (k : Kept) where
       let lasts = and_parts (is_last (block kind).reset (bit k.last_reset)) (is_last (block kind).auxiliary (bit k.last_auxiliary)) both.0 in
       record { state = in_state x h; last_reset = lasts.0; last_auxiliary = lasts.1; mode = both.1; timer = small }
 
-  pub counts : (x : ℕ × ℕ) (mode timer : ℕ) → is_state kind k.code ≡ true → Some x ≡ decision kind k.code (seen kind pins (left == 0) k) →
+  pub step_is : (x : ℕ × ℕ) (mode timer : ℕ) → is_state kind k.code ≡ true → Some x ≡ decision kind k.code (seen kind pins (left == 0) k) →
       mode ≡ mode_after kind x.1 x.0 pins k.mode → timer ≡ cond (bit_and x.1 1 == 1) limit left →
       record { code = x.0; last_reset = at_pin (block kind).reset pins; last_auxiliary = at_pin (block kind).auxiliary pins; mode = mode; timer = timer }
       ≡ stepped kind pins (left == 0) limit left k
-  counts x mode timer is h mode_e timer_e =
+  step_is x mode timer is h mode_e timer_e =
       let c = seen kind pins (left == 0) k in
       let q' = next kind k.code c in
       let runs = runs_on kind k.code q' c in
       let latch = latches kind k.code q' in
-      let e = same_pair x (q', action kind k.code q' c) (h ∙ decided is) in
+      let e = same_pair x (q', action kind k.code q' c) (h ∙ decision_is is) in
       let t : timer ≡ cond runs left limit =
-      timer_e ∙ ap (λ a. cond (bit_and a 1 == 1) limit left) e.1 ∙ ap (λ b. cond b limit left) (timer_bit runs latch) ∙ flipped runs limit left in
+      timer_e ∙ ap (λ a. cond (bit_and a 1 == 1) limit left) e.1 ∙ ap (λ b. cond b limit left) (timer_bit runs latch) ∙ cond-not runs limit left in
       let m : mode ≡ latched kind pins k.code q' k.mode =
       mode_e
       ∙ ap (λ a. mode_after kind a x.0 pins k.mode) e.1

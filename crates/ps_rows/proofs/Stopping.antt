@@ -9,20 +9,20 @@ use Rattle.ps_rows.specs.Decision.{RowsDecide}
 use Rattle.ps_rows.proofs.Choices.{decides, of_states, decides_each, decision_same, TableAgrees}
 use Rattle.ps_rows.proofs.Seeing.{seen_at, as_chosen, nowhere}
 
-passed : decides STOP EmergencyStop as_chosen (seen_at 4 5 nowhere nowhere nowhere) 6 ≡ true
+in_each_state : decides STOP EmergencyStop as_chosen (seen_at 4 5 nowhere nowhere nowhere) 6 ≡ true
 unfolding next block
-passed = refl
+in_each_state = refl
 
 pub emergency_stop_states : of_states STOP EmergencyStop ≡ true
 unfolding block
 emergency_stop_states = refl
 
-agrees : (pins : ℕ → Bool) (elapsed : Bool) (k : Kept) →
+table_agrees : (pins : ℕ → Bool) (elapsed : Bool) (k : Kept) →
     TableAgrees (block EmergencyStop).rows (seen_at 4 5 nowhere nowhere nowhere (names EmergencyStop pins elapsed k)) (seen EmergencyStop pins elapsed k)
 unfolding block
-agrees pins elapsed k = search rules
+table_agrees pins elapsed k = search rules
 
 pub emergency_stop_decides : RowsDecide EmergencyStop
 emergency_stop_decides q pins elapsed k =
-    decides_each STOP EmergencyStop as_chosen (seen_at 4 5 nowhere nowhere nowhere) 6 passed emergency_stop_states q (names EmergencyStop pins elapsed k) refl
-    ∙ decision_same EmergencyStop q (seen_at 4 5 nowhere nowhere nowhere (names EmergencyStop pins elapsed k)) (seen EmergencyStop pins elapsed k) refl (agrees pins elapsed k)
+    decides_each STOP EmergencyStop as_chosen (seen_at 4 5 nowhere nowhere nowhere) 6 in_each_state emergency_stop_states q (names EmergencyStop pins elapsed k) refl
+    ∙ decision_same EmergencyStop q (seen_at 4 5 nowhere nowhere nowhere (names EmergencyStop pins elapsed k)) (seen EmergencyStop pins elapsed k) refl (table_agrees pins elapsed k)

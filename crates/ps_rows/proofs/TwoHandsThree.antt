@@ -9,20 +9,20 @@ use Rattle.ps_rows.specs.Decision.{RowsDecide}
 use Rattle.ps_rows.proofs.Choices.{decides, of_states, decides_each, decision_same, TableAgrees}
 use Rattle.ps_rows.proofs.Seeing.{seen_at, as_chosen, nowhere}
 
-passed : decides TWO_HAND_THREE TwoHandThree as_chosen (seen_at nowhere nowhere nowhere nowhere 3) 4 ≡ true
+in_each_state : decides TWO_HAND_THREE TwoHandThree as_chosen (seen_at nowhere nowhere nowhere nowhere 3) 4 ≡ true
 unfolding next block
-passed = refl
+in_each_state = refl
 
 pub two_hand_three_states : of_states TWO_HAND_THREE TwoHandThree ≡ true
 unfolding block
 two_hand_three_states = refl
 
-agrees : (pins : ℕ → Bool) (elapsed : Bool) (k : Kept) →
+table_agrees : (pins : ℕ → Bool) (elapsed : Bool) (k : Kept) →
     TableAgrees (block TwoHandThree).rows (seen_at nowhere nowhere nowhere nowhere 3 (names TwoHandThree pins elapsed k)) (seen TwoHandThree pins elapsed k)
 unfolding block
-agrees pins elapsed k = search rules
+table_agrees pins elapsed k = search rules
 
 pub two_hand_three_decides : RowsDecide TwoHandThree
 two_hand_three_decides q pins elapsed k =
-    decides_each TWO_HAND_THREE TwoHandThree as_chosen (seen_at nowhere nowhere nowhere nowhere 3) 4 passed two_hand_three_states q (names TwoHandThree pins elapsed k) refl
-    ∙ decision_same TwoHandThree q (seen_at nowhere nowhere nowhere nowhere 3 (names TwoHandThree pins elapsed k)) (seen TwoHandThree pins elapsed k) refl (agrees pins elapsed k)
+    decides_each TWO_HAND_THREE TwoHandThree as_chosen (seen_at nowhere nowhere nowhere nowhere 3) 4 in_each_state two_hand_three_states q (names TwoHandThree pins elapsed k) refl
+    ∙ decision_same TwoHandThree q (seen_at nowhere nowhere nowhere nowhere 3 (names TwoHandThree pins elapsed k)) (seen TwoHandThree pins elapsed k) refl (table_agrees pins elapsed k)

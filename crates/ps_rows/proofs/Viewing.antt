@@ -6,7 +6,7 @@ use Rattle.std.proofs.Math.Nat.{mul_assoc, pow-le-pow_right, mod-lt}
 use Rattle.std.proofs.lemmas.Nat.{pow-add, mod-pow-add, shr-shr, and_mask, and_le_r, one_shl, pow_pos, shl_below}
 use Rattle.ps_model.specs.Stored.{bit}
 use Rattle.ps_rows.specs.Names.{complemented, first_pins}
-use Rattle.ps_rows.specs.Viewed.{pin_of}
+use Rattle.ps_model.specs.PinBits.{pin_of}
 
 -- a bit and its complement
 with_complement : (n : ℕ) → n < 2 → bit (not (n == 1)) + n ≡ 1
@@ -52,9 +52,9 @@ shifted_few others n h few =
 whole : (n : ℕ) → n / 1 ≡ n
 whole n = omega arith
 
-last_step : (c first_field field p more others low masked shifted : ℕ) → c + first_field + 1 ≡ p + more → first_field ≡ field → more ≡ others →
-    low ≡ p - 1 → masked ≡ field → shifted ≡ others → 0 < p → field < p → low - masked + shifted ≡ c
-last_step c first_field field p more others low masked shifted h1 h2 h3 h4 h5 h6 h7 h8 = omega arith
+last_step : (c first_field field p more others low mask_is shifted : ℕ) → c + first_field + 1 ≡ p + more → first_field ≡ field → more ≡ others →
+    low ≡ p - 1 → mask_is ≡ field → shifted ≡ others → 0 < p → field < p → low - mask_is + shifted ≡ c
+last_step c first_field field p more others low mask_is shifted h1 h2 h3 h4 h5 h6 h7 h8 = omega arith
 
 -- ---- What `behind_pins` computes.
 module _ (bits n others : ℕ) (few : n ≤ 8) (small : others < 4) where
@@ -67,8 +67,8 @@ module _ (bits n others : ℕ) (few : n ≤ 8) (small : others < 4) where
   low_is : low ≡ 2 ^ n - 1
   low_is = ap (λ x. x - 1) (shifted_one n few)
 
-  masked : bit_and bits low ≡ bits % 2 ^ n
-  masked = ap (bit_and bits) low_is ∙ and_mask bits n
+  mask_is : bit_and bits low ≡ bits % 2 ^ n
+  mask_is = ap (bit_and bits) low_is ∙ and_mask bits n
 
   shifted_is : shifted ≡ others * 2 ^ n
   shifted_is = let s = shifted_few others n small few in omega arith
@@ -91,7 +91,7 @@ module _ (bits n others : ℕ) (few : n ≤ 8) (small : others < 4) where
       let all = complements n bits 0 bs in
       let more : complemented bs * 2 ^ n ≡ others * 2 ^ n = ap (λ x. x * 2 ^ n) (sym e) in
       let l = low_is in
-      let m = masked in
+      let m = mask_is in
       let s = shifted_is in
       let p = pow_pos n in
       let first : bits / 2 ^ 0 % 2 ^ n ≡ bits % 2 ^ n = ap (λ x. x % 2 ^ n) (whole bits) in

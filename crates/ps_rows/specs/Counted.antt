@@ -8,8 +8,8 @@ use Rattle.ps_model.specs.Kept.{Kept}
 use Rattle.ps_rows.specs.declared.step.CountedBlock.{CountedBlock}
 
 -- The timer is the time that remains.
-abbrev pub kept_by : CountedBlock → Kept
-kept_by b = record { code = b.code; last_reset = b.last_reset; last_auxiliary = b.last_aux; mode = b.mode; timer = b.remains }
+abbrev pub kept_of : CountedBlock → Kept
+kept_of b = record { code = b.code; last_reset = b.last_reset; last_auxiliary = b.last_auxiliary; mode = b.mode; timer = b.remains }
 
 -- the bit of a pin among the pins as bits, and 0 for a pin that a kind lacks
 abbrev pub bit_of : Option ℕ → ℕ

@@ -1,7 +1,7 @@
 -- Mask rows: which row fits, what the first that fits gives, and where the rows of a state stand. Profile.
-use Rattle.std.specs.Prelude.{◌≡◌, ℕ, ◌≤◌, ◌<◌, ◌↔◌, List, [], ◌∷◌, Bool, ◌&&◌, ◌==◌, if◌then◌else◌, bit_and, slice_get, Option, Some, None}
-use Rattle.ps_rows.specs.declared.row.MaskRow.{MaskRow}
-use Rattle.ps_rows.specs.declared.row.RowRange.{RowRange}
+use Rattle.std.specs.Prelude.{◌≡◌, ℕ, ◌≤◌, ◌<◌, ◌↔◌, List, [], ◌∷◌, Bool, ◌&&◌, ◌==◌, if◌then◌else◌, bit_and, length, slice_get, Option, Some, None}
+use Rattle.ps_rows.specs.declared.mask_row.MaskRow.{MaskRow}
+use Rattle.ps_rows.specs.declared.mask_row.RowRange.{RowRange}
 
 -- A row fits in its state where the conditions that it looks at have its value.
 abbrev pub fits : ℕ → ℕ → MaskRow → Bool
@@ -21,3 +21,7 @@ first_match (r ∷ rows) c = if bit_and c r.care == r.value then Some (r.next, r
 abbrev pub HoldsExactly : List MaskRow → ℕ → RowRange → Type 0
 HoldsExactly rows q range =
     (j : ℕ) (r : MaskRow) → slice_get rows j ≡ Some r → (r.state ≡ q) ↔ ((range.from ≤ j) × (j < range.upto))
+
+-- The range has a row, and it ends within the rows.
+abbrev pub IsRangeOf : List MaskRow → RowRange → Type 0
+IsRangeOf rows range = (range.from < range.upto) × (range.upto ≤ length rows)

@@ -1,8 +1,9 @@
 -- The place of a state's rows, as a test that is computed.
 use Rattle.std.specs.Prelude.{ℕ, ◌+◌, Bool, true, List, [], ◌∷◌, ◌&&◌, ◌==◌, not, nat_le, nat_lt, length, if◌then◌else◌}
-use Rattle.ps_rows.specs.declared.row.MaskRow.{MaskRow}
-use Rattle.ps_rows.specs.declared.row.RowRange.{RowRange}
+use Rattle.ps_rows.specs.declared.mask_row.MaskRow.{MaskRow}
+use Rattle.ps_rows.specs.declared.mask_row.RowRange.{RowRange}
 
+-- two truth values are the same
 abbrev pub same : Bool → Bool → Bool
 same a b = if a then b else not b
 

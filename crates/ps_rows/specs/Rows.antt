@@ -2,7 +2,7 @@
 use Rattle.std.specs.Prelude.{List}
 use Rattle.ps_model.specs.declared.kind.Kind.{Kind}
 use Rattle.ps_model.specs.declared.kind.Kind.TheVariants.{Equivalent, Antivalent, EmergencyStop, Espe, ModeSelector, TwoHandTwo, TwoHandThree, GuardMonitoring, GuardLocking, EnableSwitch, SafetyRequest, OutControl, Edm}
-use Rattle.ps_rows.specs.declared.row.MaskRow.{MaskRow}
+use Rattle.ps_rows.specs.declared.mask_row.MaskRow.{MaskRow}
 use Rattle.ps_rows.specs.declared.equivalent.TheConstants.{EQUIVALENT}
 use Rattle.ps_rows.specs.declared.stop.TheConstants.{STOP}
 use Rattle.ps_rows.specs.declared.modes.TheConstants.{MODES}

@@ -1,14 +1,10 @@
 -- What a step reads beside the state, as contracts see it.
-use Rattle.std.specs.Prelude.{ℕ, Bool, List, ◌==◌}
-use Rattle.std.specs.Int.{bit_at}
+use Rattle.std.specs.Prelude.{Bool, List}
+use Rattle.ps_model.specs.PinBits.{pin_of}
 use Rattle.ps_model.specs.declared.kind.Kind.{Kind}
 use Rattle.ps_model.specs.Kept.{Kept}
 use Rattle.ps_rows.specs.declared.view.BlockView.{BlockView}
 use Rattle.ps_rows.specs.Names.{names}
-
--- Pin j is bit j.
-abbrev pub pin_of : ℕ → ℕ → Bool
-pin_of bits j = bit_at bits j == 1
 
 -- the last inputs and the mode of a view; a view has neither state nor timer
 abbrev pub last_of : BlockView → Kept

@@ -3,7 +3,7 @@
 ghost use Rattle.std.specs.Prelude.{◌≡◌, ℕ, Option};
 ghost use Rattle.ps_model.specs.Blocks.{block, at_pin};
 ghost use Rattle.ps_model.specs.Stored.{bit, is_last};
-ghost use Rattle.ps_rows.specs.Viewed.{pin_of};
+ghost use Rattle.ps_model.specs.PinBits.{pin_of};
 ghost use Rattle.ps_rows.specs.Counted.{bit_of};
 
 use ps_model::kind::Kind;

@@ -7,12 +7,12 @@ ghost use Rattle.ps_model.specs.declared.kind.Kind.{Kind};
 ghost use Rattle.ps_model.specs.declared.kind.Kind.TheVariants.{ModeSelector};
 ghost use Rattle.ps_model.specs.Kept.{fresh, seen, stepped, counted_down};
 ghost use Rattle.ps_model.specs.Stored.{bit, is_last, is_mode, IsKept};
-ghost use Rattle.ps_rows.specs.Viewed.{pin_of};
+ghost use Rattle.ps_model.specs.PinBits.{pin_of};
 ghost use Rattle.ps_rows.specs.Decision.{decision};
-ghost use Rattle.ps_rows.specs.Counted.{kept_by, mode_after};
+ghost use Rattle.ps_rows.specs.Counted.{kept_of, mode_after};
 
 use crate::last_pins::{is_on, last_pins, may_keep};
-use crate::row::{ANEW, LATCH};
+use crate::mask_row::{ANEW, LATCH};
 use crate::table::next_of;
 use crate::view::{BlockView, conditions_in, pin};
 use ps_model::kind::Kind;
@@ -26,7 +26,7 @@ pub struct CountedBlock {
     pub last_reset: bool,
     /// S_SetMode of SF_ModeSelector or ProcessControl of SF_OutControl of the last step; FALSE for
     /// other kinds.
-    pub last_aux: bool,
+    pub last_auxiliary: bool,
     /// The mode of SF_ModeSelector while one is latched, and 0 elsewhere.
     pub mode: u8,
     /// The time in ms that remains of the limit.
@@ -37,13 +37,13 @@ impl CountedBlock {
     /// Idle before the first step: everything is FALSE or 0, for any kind.
     #[tactic(auto, using(crate::proofs::Stepping::fresh_kept))]
     pub fn idle() -> CountedBlock
-        ensures fresh { kept_by result ≡ fresh }
-        ensures kept { (kind : Kind) → IsKept kind (kept_by result) }
+        ensures fresh { kept_of result ≡ fresh }
+        ensures kept { (kind : Kind) → IsKept kind (kept_of result) }
     {
         CountedBlock {
             code: 0,
             last_reset: false,
-            last_aux: false,
+            last_auxiliary: false,
             mode: 0,
             remains: 0,
         }
@@ -52,9 +52,9 @@ impl CountedBlock {
     /// The block after a step with these Boolean pins (bit j is pin j) and this limit in ms, `passed`
     /// ms after the last one. The limit has elapsed where nothing remains.
     pub fn stepped(self, kind: Kind, bits: u32, limit: u32, passed: u32) -> CountedBlock
-        requires { IsKept kind (kept_by self) }
-        ensures counted { kept_by result ≡ counted_down kind limit (pin_of bits) passed (kept_by self) }
-        ensures kept { IsKept kind (kept_by result) }
+        requires { IsKept kind (kept_of self) }
+        ensures counted { kept_of result ≡ counted_down kind limit (pin_of bits) passed (kept_of self) }
+        ensures kept { IsKept kind (kept_of result) }
     {
         let remains = self.remains.saturating_sub(passed);
         match self.decided(kind, bits, remains) {
@@ -74,10 +74,10 @@ impl CountedBlock {
         limit: u32,
         passed: u32,
     ) -> Option<CountedBlock>
-        ensures was { IfSome result (λ after. IsKept kind (kept_by self)) }
-        ensures counted { IfSome result (λ after. kept_by after ≡ counted_down kind limit (pin_of bits) passed (kept_by self)) }
-        ensures kept { IfSome result (λ after. IsKept kind (kept_by after)) }
-        ensures none { IfNone result (¬ (IsKept kind (kept_by self))) }
+        ensures was { IfSome result (λ after. IsKept kind (kept_of self)) }
+        ensures counted { IfSome result (λ after. kept_of after ≡ counted_down kind limit (pin_of bits) passed (kept_of self)) }
+        ensures kept { IfSome result (λ after. IsKept kind (kept_of after)) }
+        ensures none { IfNone result (¬ (IsKept kind (kept_of self))) }
     {
         if !self.fits(kind) {
             return None;
@@ -89,11 +89,11 @@ impl CountedBlock {
 
     // Whether the last inputs and the mode are what a kind can keep in this state.
     fn fits(self, kind: Kind) -> bool
-        ensures { result ≡ (is_last (block kind).reset (bit self.last_reset) && is_last (block kind).auxiliary (bit self.last_aux) && is_mode kind self.code self.mode) }
+        ensures { result ≡ (is_last (block kind).reset (bit self.last_reset) && is_last (block kind).auxiliary (bit self.last_auxiliary) && is_mode kind self.code self.mode) }
     {
         let pins = last_pins(kind);
         may_keep(self.last_reset, pins.reset)
-            && may_keep(self.last_aux, pins.auxiliary)
+            && may_keep(self.last_auxiliary, pins.auxiliary)
             && may_latch(kind, self.code, self.mode)
     }
 
@@ -101,12 +101,12 @@ impl CountedBlock {
     // is no state.
     fn decided(self, kind: Kind, bits: u32, remains: u32) -> Option<(u16, u8)>
         requires { self.mode ≤ 7 }
-        ensures { result ≡ decision kind self.code (seen kind (pin_of bits) (remains == 0) (kept_by self)) }
+        ensures { result ≡ decision kind self.code (seen kind (pin_of bits) (remains == 0) (kept_of self)) }
     {
         let view = BlockView {
             bits,
             last_reset: self.last_reset,
-            last_aux: self.last_aux,
+            last_aux: self.last_auxiliary,
             mode: self.mode,
             elapsed: remains == 0,
         };
@@ -122,17 +122,17 @@ impl CountedBlock {
         remains: u32,
         decided: (u16, u8),
     ) -> CountedBlock
-        requires kept { IsKept kind (kept_by self) }
-        requires decides { Some decided ≡ decision kind self.code (seen kind (pin_of bits) (remains == 0) (kept_by self)) }
-        ensures counted { kept_by result ≡ stepped kind (pin_of bits) (remains == 0) limit remains (kept_by self) }
-        ensures kept { IsKept kind (kept_by result) }
+        requires kept { IsKept kind (kept_of self) }
+        requires decides { Some decided ≡ decision kind self.code (seen kind (pin_of bits) (remains == 0) (kept_of self)) }
+        ensures counted { kept_of result ≡ stepped kind (pin_of bits) (remains == 0) limit remains (kept_of self) }
+        ensures kept { IsKept kind (kept_of result) }
     {
         let (code, action) = decided;
         let pins = last_pins(kind);
         CountedBlock {
             code,
             last_reset: is_on(bits, pins.reset),
-            last_aux: is_on(bits, pins.auxiliary),
+            last_auxiliary: is_on(bits, pins.auxiliary),
             mode: mode_after(kind, action, code, bits, self.mode),
             remains: timer_after(action, limit, remains),
         }

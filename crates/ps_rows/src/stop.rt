@@ -6,7 +6,7 @@ ghost use Rattle.ps_model.specs.declared.kind.Kind.TheVariants.{EmergencyStop};
 ghost use Rattle.ps_rows.specs.Fitting.{first_fit};
 ghost use Rattle.ps_rows.specs.Placed.{is_placed};
 
-use crate::row::{ANEW, MaskRow, RowRange, STAYS, first_in, range, row};
+use crate::mask_row::{ANEW, MaskRow, RowRange, STAYS, first_in, range, row};
 
 const ACTIVATE: u32 = 0x1; // Activate
 

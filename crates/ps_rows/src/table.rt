@@ -3,13 +3,13 @@
 ghost use Rattle.std.specs.Prelude.{◌≡◌, ◌<◌, ◌≤◌, ℕ, Bool, true, false, length, slice_get, Some, IfSome, IfNone};
 ghost use Rattle.ps_model.specs.Kept.{Kept, seen};
 ghost use Rattle.ps_model.specs.Stored.{is_state};
-ghost use Rattle.ps_rows.specs.Fitting.{first_fit, HoldsExactly};
+ghost use Rattle.ps_rows.specs.Fitting.{first_fit, HoldsExactly, IsRangeOf};
 ghost use Rattle.ps_rows.specs.Placed.{is_placed};
 ghost use Rattle.ps_rows.specs.Rows.{rows_of};
 ghost use Rattle.ps_rows.specs.Names.{names, complemented};
 ghost use Rattle.ps_rows.specs.Decision.{decision};
 
-use crate::row::{MaskRow, RowRange};
+use crate::mask_row::{MaskRow, RowRange};
 use crate::{
     edm, enable_switch, equivalent, guard_locking, guard_monitoring, modes, out_control,
     safety_request, stop, two_hand_three, two_hand_two,
@@ -31,10 +31,11 @@ pub fn row(kind: Kind, j: u16) -> MaskRow
     rows(kind)[j as usize]
 }
 
-/// Where the rows of a state stand: exactly the rows in the range are of the state. None exactly where
-/// the code is no state of the kind.
+/// Where the rows of a state stand: exactly the rows in the range are of the state, there is one at
+/// least, and the range ends within `row_count`. None exactly where the code is no state of the kind.
 pub fn state_rows(kind: Kind, code: u16) -> Option<RowRange>
     ensures some { IfSome result (HoldsExactly (rows_of kind) code) }
+    ensures within { IfSome result (IsRangeOf (rows_of kind)) }
     ensures state { IfSome result (λ range. is_state kind code ≡ true) }
     ensures none { IfNone result (is_state kind code ≡ false) }
 {

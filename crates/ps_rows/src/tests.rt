@@ -3,8 +3,7 @@
 mod kept;
 mod states;
 
-use crate::table::row;
-use crate::{CountedBlock, MaskRow, RowRange, next_of, row_count, state_rows};
+use crate::{CountedBlock, MaskRow, RowRange, next_of, row, row_count, state_rows};
 use ps_model::kind::Kind;
 use std::process::Abort;
 

@@ -5,7 +5,8 @@ ghost use Rattle.ps_model.specs.Blocks.{modes_on};
 ghost use Rattle.ps_model.specs.Stored.{bit};
 ghost use Rattle.ps_model.specs.declared.kind.Kind.TheVariants.{ModeSelector};
 ghost use Rattle.ps_rows.specs.Names.{complemented, first_pins};
-ghost use Rattle.ps_rows.specs.Viewed.{pin_of, names_in};
+ghost use Rattle.ps_model.specs.PinBits.{pin_of};
+ghost use Rattle.ps_rows.specs.Viewed.{names_in};
 
 use ps_model::kind::Kind;
 
@@ -75,15 +76,15 @@ fn mode_conditions(view: &BlockView) -> u32
 }
 
 // How many modes are TRUE: they are the pins 1 to 8.
-#[tactic(auto, using(crate::proofs::Counting::modes_counted))]
+#[tactic(auto, using(crate::proofs::Counting::count_of_modes))]
 fn mode_count(bits: u32) -> u32
     ensures { result ≡ modes_on (pin_of bits) }
 {
     ((bits >> 1) & 0xFF).count_ones()
 }
 
-/// The value of Boolean input pin j.
-pub fn pin(bits: u32, j: u32) -> bool
+// The value of Boolean input pin j.
+pub(crate) fn pin(bits: u32, j: u32) -> bool
     requires { j < 32 }
     ensures { result ≡ pin_of bits j }
 {

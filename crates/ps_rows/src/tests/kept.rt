@@ -5,11 +5,17 @@ use ps_model::kind::Kind;
 use std::process::Abort;
 
 // The DiagCode after a step with Activate alone, and None where the step is refused.
-fn code_after(kind: Kind, code: u16, last_reset: bool, last_aux: bool, mode: u8) -> Option<u16> {
+fn code_after(
+    kind: Kind,
+    code: u16,
+    last_reset: bool,
+    last_auxiliary: bool,
+    mode: u8,
+) -> Option<u16> {
     let block = CountedBlock {
         code,
         last_reset,
-        last_aux,
+        last_auxiliary,
         mode,
         remains: 0,
     };
@@ -18,8 +24,8 @@ fn code_after(kind: Kind, code: u16, last_reset: bool, last_aux: bool, mode: u8)
 
 // Each row is a kind, a DiagCode, the last Reset, the last auxiliary input, the mode, and what is wanted.
 fn check(rt: &impl Abort, rows: &[(Kind, u16, bool, bool, u8, Option<u16>)]) {
-    for (kind, code, last_reset, last_aux, mode, wanted) in rows {
-        let after = code_after(*kind, *code, *last_reset, *last_aux, *mode);
+    for (kind, code, last_reset, last_auxiliary, mode, wanted) in rows {
+        let after = code_after(*kind, *code, *last_reset, *last_auxiliary, *mode);
         assert_eq!(rt; after, *wanted, "{kind:?} in {code}");
     }
 }

@@ -4,7 +4,8 @@ use Rattle.ps_model.specs.declared.kind.Kind.TheVariants.{Equivalent, Antivalent
 use Rattle.ps_model.specs.Stored.{bit}
 use Rattle.ps_rows.specs.declared.view.BlockView.{BlockView}
 use Rattle.ps_rows.specs.Names.{complemented}
-use Rattle.ps_rows.specs.Viewed.{names_in, pin_of}
+use Rattle.ps_model.specs.PinBits.{pin_of}
+use Rattle.ps_rows.specs.Viewed.{names_in}
 use Rattle.ps_rows.proofs.view.conditions_in.Goals as goal
 
 two : (a b : Bool) (m n : ℕ) → m ≡ bit (not b) + 2 * 0 → n ≡ bit (not a) + 2 * m → n ≡ complemented (a ∷ b ∷ [])

@@ -1,6 +1,6 @@
 use Rattle.std.proofs.Common.{◌≡◌, drop}
 use Rattle.ps_rows.specs.Fitting.{first_match}
-use Rattle.ps_rows.proofs.row.first_match.Given as goal
+use Rattle.ps_rows.proofs.mask_row.first_match.Given as goal
 
 -- the rows that are left decide
 abbrev pub invariant-loop-row : goal.invariant-loop-row

@@ -24,6 +24,7 @@ use Rattle.ps_eqvm.specs.Acting.{trapped, byte_of, is_missing, is_odd, is_on, pi
 use Rattle.ps_eqvm.specs.Turn.{after_row}
 use Rattle.ps_eqgen.proofs.Holding.{Holds}
 use Rattle.ps_eqgen.proofs.Placing.{Reads}
+use Rattle.ps_eqvm.specs.declared.trap.Trap.TheVariants.{PinCount, NotBoolean, OutOfRange, NoInstance}
 
 mapped_range : (h : ℕ → Option ℕ) (f : ℕ → ℕ) (g : ℕ → Option ℕ) (n a : ℕ) → ((i : ℕ) → a ≤ i → i < a + n → h (f i) ≡ g i) →
     map h (map f (range_with_len a n)) ≡ map g (range_with_len a n)
@@ -59,15 +60,15 @@ block_goes n m i o limit next kind codes pins p kept within room reads past load
     ] in
     let there : loaded kind (instance_bytes 0 i p.blocks) ≡ Some kept = ap (loaded kind) (instance_is i p.blocks) ∙ loads in
     let tail4 = stepped_by i o limit kind (pins_on bytes) next (loaded kind (instance_bytes 0 i p.blocks)) p in
-    let tail3 = cond (list_any is_odd bytes) (trapped 4 p) tail4 in
-    let tail2 = cond (not (length bytes == c)) (trapped 3 p) tail3 in
-    cond-false (nat_le m i) (trapped 6 p) (block_by n i o limit (kind_of (block kind).number) (pin_bytes n p.cells (map codes (range_with_len 0 c))) next p) (lt-leb m i within)
+    let tail3 = cond (list_any is_odd bytes) (trapped NotBoolean p) tail4 in
+    let tail2 = cond (not (length bytes == c)) (trapped PinCount p) tail3 in
+    cond-false (nat_le m i) (trapped NoInstance p) (block_by n i o limit (kind_of (block kind).number) (pin_bytes n p.cells (map codes (range_with_len 0 c))) next p) (lt-leb m i within)
     ∙ ap (λ x. block_by n i o limit x (pin_bytes n p.cells (map codes (range_with_len 0 c))) next p) (kind_of-number kind)
     ∙ ap (λ bs. block_as n i o limit kind bs next p) read
-    ∙ cond-false (nat_lt n (o + output_count kind) || list_any is_missing bytes) (trapped 5 p) tail2
+    ∙ cond-false (nat_lt n (o + output_count kind) || list_any is_missing bytes) (trapped OutOfRange p) tail2
     (or_from (nat_lt n (o + output_count kind)) (list_any is_missing bytes) (lt-leb (suc n) (o + output_count kind) (omega arith)) (none_missing pins (range_with_len 0 c)))
-    ∙ cond-false (not (length bytes == c)) (trapped 3 p) tail3 (ap not (eq-eqb (length bytes) c len))
-    ∙ cond-false (list_any is_odd bytes) (trapped 4 p) tail4 (none_odd pins (range_with_len 0 c))
+    ∙ cond-false (not (length bytes == c)) (trapped PinCount p) tail3 (ap not (eq-eqb (length bytes) c len))
+    ∙ cond-false (list_any is_odd bytes) (trapped NotBoolean p) tail4 (none_odd pins (range_with_len 0 c))
     ∙ ap (λ f. stepped_by i o limit kind f next (loaded kind (instance_bytes 0 i p.blocks)) p) (λ x j. on j x)
     ∙ ap (λ x. stepped_by i o limit kind pins next x p) there
 

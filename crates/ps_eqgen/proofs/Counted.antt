@@ -16,7 +16,7 @@ use Rattle.ps_model.proofs.Budgeting.{boolean_within}
 use Rattle.ps_machine.proofs.Fine.{IsFine, AreFine, IsFinePin, first_fine, later_fine}
 use Rattle.ps_machine.proofs.Fitting.{StepFits, AllFit}
 use Rattle.ps_machine.proofs.Totals.{length_of_steps, length_of_pins, steps_small}
-use Rattle.ps_eqvm.specs.Rows.{Row, last_row, set_row, all_row, any_row, size_of}
+use Rattle.ps_eqvm.specs.Rows.{EquationRow, last_row, set_row, all_row, any_row, size_of}
 use Rattle.ps_eqvm.specs.Code.{encoded, bytes_of, work, constant_of, operand_at, expression_rows, group_rows, later_rows, pin_rows, pin_operand, rows_at, operand_of_pin, pins_rows, call_row, step_rows, network_rows, code_b}
 use Rattle.ps_eqgen.proofs.Decoding.{size_all, size_all-append, length-encoded, IsShort, AreShort, Words, short-append}
 
@@ -27,7 +27,7 @@ mutual
   rows_are d (all_of es) = group_are d all_row es
   rows_are d (any_of es) = group_are d any_row es
 
-  group_are : (d : ℕ) (join : ℕ → ℕ → Row) (es : Formulas) → length (group_rows d join es) ≡ equation_rows_below es
+  group_are : (d : ℕ) (join : ℕ → ℕ → EquationRow) (es : Formulas) → length (group_rows d join es) ≡ equation_rows_below es
   group_are d join no_operand = refl
   group_are d join (operand e es) =
       omega (
@@ -37,7 +37,7 @@ mutual
         later_are d join es,
       )
 
-  later_are : (d : ℕ) (join : ℕ → ℕ → Row) (es : Formulas) → length (later_rows d join es) ≡ equation_rows_below es
+  later_are : (d : ℕ) (join : ℕ → ℕ → EquationRow) (es : Formulas) → length (later_rows d join es) ≡ equation_rows_below es
   later_are d join no_operand = refl
   later_are d join (operand e es) =
       omega (
@@ -72,7 +72,7 @@ mutual
   size_bound d (all_of es) = omega (arith, group_bound d all_row (λ t c. refl) es)
   size_bound d (any_of es) = omega (arith, group_bound d any_row (λ t c. refl) es)
 
-  group_bound : (d : ℕ) (join : ℕ → ℕ → Row) → ((t c : ℕ) → size_of (join t c) ≡ 5) → (es : Formulas) → size_all (group_rows d join es) ≤ 5 * length (nodes_below es)
+  group_bound : (d : ℕ) (join : ℕ → ℕ → EquationRow) → ((t c : ℕ) → size_of (join t c) ≡ 5) → (es : Formulas) → size_all (group_rows d join es) ≤ 5 * length (nodes_below es)
   group_bound d join five no_operand = omega arith
   group_bound d join five (operand e es) =
       omega (
@@ -83,7 +83,7 @@ mutual
         length-append (nodes e) (nodes_below es),
       )
 
-  later_bound : (d : ℕ) (join : ℕ → ℕ → Row) → ((t c : ℕ) → size_of (join t c) ≡ 5) → (es : Formulas) → size_all (later_rows d join es) ≤ 5 * length (nodes_below es)
+  later_bound : (d : ℕ) (join : ℕ → ℕ → EquationRow) → ((t c : ℕ) → size_of (join t c) ≡ 5) → (es : Formulas) → size_all (later_rows d join es) ≤ 5 * length (nodes_below es)
   later_bound d join five no_operand = omega arith
   later_bound d join five (operand e es) =
       omega (
@@ -130,7 +130,7 @@ step_bound net sound k (calls i args) at fits =
       length-map-range_with_len (operand_of_pin kind args) 0 (boolean_count kind),
     )
 
-length-bytes : (rs : List Row) → length (bytes_of rs) ≡ size_all rs
+length-bytes : (rs : List EquationRow) → length (bytes_of rs) ≡ size_all rs
 length-bytes [] = refl
 length-bytes (r ∷ rs) = omega (arith, length-append (encoded r) (bytes_of rs), length-encoded r, length-bytes rs)
 
@@ -146,7 +146,7 @@ module _ (n : ℕ) (few : n ≤ 4000) where
   operand_short (all_of es) r d is low = omega arith
   operand_short (any_of es) r d is low = omega arith
 
-  abbrev JoinsShort : (ℕ → ℕ → Row) → Type 0
+  abbrev JoinsShort : (ℕ → ℕ → EquationRow) → Type 0
   JoinsShort join = (t c : ℕ) → t < 2 ^ 16 → c < 2 ^ 16 → IsShort (join t c)
 
   mutual
@@ -161,14 +161,14 @@ module _ (n : ℕ) (few : n ≤ 4000) where
         let fine : AreFine n (r - 1) es = record { below = is.below; full = is.full.1; shallow = omega arith } in
         group_short any_row (λ t c a b. (a, b)) es (r - 1) d fine (omega arith)
 
-    group_short : (join : ℕ → ℕ → Row) → JoinsShort join → (es : Formulas) (r d : ℕ) → AreFine n r es → d + 1 + r ≤ 48 → AreShort (group_rows d join es)
+    group_short : (join : ℕ → ℕ → EquationRow) → JoinsShort join → (es : Formulas) (r d : ℕ) → AreFine n r es → d + 1 + r ≤ 48 → AreShort (group_rows d join es)
     group_short join j no_operand r d is low = tt
     group_short join j (operand e es) r d is low =
         let first = first_fine n r e es is in
         short-append (expression_rows (d + 1) e) (set_row (work d) (operand_at (d + 1) e) ∷ later_rows d join es) (expression_short e r (d + 1) first low)
         ((omega arith, operand_short e r (d + 1) first low), later_short join j es r d (later_fine n r e es is) low)
 
-    later_short : (join : ℕ → ℕ → Row) → JoinsShort join → (es : Formulas) (r d : ℕ) → AreFine n r es → d + 1 + r ≤ 48 → AreShort (later_rows d join es)
+    later_short : (join : ℕ → ℕ → EquationRow) → JoinsShort join → (es : Formulas) (r d : ℕ) → AreFine n r es → d + 1 + r ≤ 48 → AreShort (later_rows d join es)
     later_short join j no_operand r d is low = tt
     later_short join j (operand e es) r d is low =
         let first = first_fine n r e es is in

@@ -8,28 +8,28 @@ use Rattle.std.proofs.lemmas.List.FromFn.{length-map-range_with_len, get_or-map-
 use Rattle.std.proofs.lemmas.Nat.{from_be_bytes-to_be_bytes_2, from_be_bytes-to_be_bytes_4}
 use Rattle.ps_machine.specs.Bytes.{be2, be4}
 use Rattle.ps_machine.proofs.Opcodes.{index_there, has_opcode}
-use Rattle.ps_eqvm.specs.Rows.{Row, last_row, set_row, all_row, any_row, block_row, size_of, fetched, whole, operands}
+use Rattle.ps_eqvm.specs.Rows.{EquationRow, last_row, set_row, all_row, any_row, block_row, size_of, fetched, whole, operands}
 use Rattle.ps_eqvm.specs.Code.{encoded, bytes_of}
 
 -- how many bytes the rows have
-abbrev pub size_all : List Row → ℕ
+abbrev pub size_all : List EquationRow → ℕ
 size_all [] = 0
 size_all (r ∷ rs) = size_of r + size_all rs
 
-pub size_all-append : (a b : List Row) → size_all (a ++ b) ≡ size_all a + size_all b
+pub size_all-append : (a b : List EquationRow) → size_all (a ++ b) ≡ size_all a + size_all b
 size_all-append [] b = sym (zero-add (size_all b))
 size_all-append (r ∷ a) b = ap (λ k. size_of r + k) (size_all-append a b) ∙ sym (add_assoc (size_of r) (size_all a) (size_all b))
 
 -- the code has these rows from an offset on
-abbrev pub HasAt : List ℕ → ℕ → List Row → Type 0
+abbrev pub HasAt : List ℕ → ℕ → List EquationRow → Type 0
 HasAt code at [] = Unit {0}
 HasAt code at (r ∷ rs) = (fetched code at ≡ Ok r) × HasAt code (at + size_of r) rs
 
-pub has_front : (code : List ℕ) (at : ℕ) (a b : List Row) → HasAt code at (a ++ b) → HasAt code at a
+pub has_front : (code : List ℕ) (at : ℕ) (a b : List EquationRow) → HasAt code at (a ++ b) → HasAt code at a
 has_front code at [] b h = tt
 has_front code at (r ∷ a) b h = (h.0, has_front code (at + size_of r) a b h.1)
 
-pub has_back : (code : List ℕ) (at : ℕ) (a b : List Row) → HasAt code at (a ++ b) → HasAt code (at + size_all a) b
+pub has_back : (code : List ℕ) (at : ℕ) (a b : List EquationRow) → HasAt code at (a ++ b) → HasAt code (at + size_all a) b
 has_back code at [] b h = let e : at ≡ at + 0 = omega arith in subst (λ n. HasAt code n b) e h
 has_back code at (r ∷ a) b h =
     let e : at + size_of r + size_all a ≡ at + (size_of r + size_all a) = omega arith in
@@ -41,18 +41,18 @@ Words [] = Unit {0}
 Words (x ∷ xs) = (x < 2 ^ 16) × Words xs
 
 -- the parts of a row are numbers of their bytes
-abbrev pub IsShort : Row → Type 0
+abbrev pub IsShort : EquationRow → Type 0
 IsShort last_row = Unit {0}
 IsShort (set_row t c) = (t < 2 ^ 16) × (c < 2 ^ 16)
 IsShort (all_row t c) = (t < 2 ^ 16) × (c < 2 ^ 16)
 IsShort (any_row t c) = (t < 2 ^ 16) × (c < 2 ^ 16)
 IsShort (block_row i k o limit pins) = (i < 2 ^ 16) × (o < 2 ^ 16) × (limit < 2 ^ 32) × Words pins
 
-abbrev pub AreShort : List Row → Type 0
+abbrev pub AreShort : List EquationRow → Type 0
 AreShort [] = Unit {0}
 AreShort (r ∷ rs) = IsShort r × AreShort rs
 
-pub short-append : (a b : List Row) → AreShort a → AreShort b → AreShort (a ++ b)
+pub short-append : (a b : List EquationRow) → AreShort a → AreShort b → AreShort (a ++ b)
 short-append [] b x y = y
 short-append (r ∷ a) b x y = (x.0, short-append a b x.1 y)
 
@@ -63,7 +63,7 @@ length-words (x ∷ xs) =
     let s : suc (suc (length (flat_map (to_be_bytes w16) xs))) ≡ 2 * suc (length xs) = omega arith in
     s
 
-pub length-encoded : (r : Row) → length (encoded r) ≡ size_of r
+pub length-encoded : (r : EquationRow) → length (encoded r) ≡ size_of r
 length-encoded last_row = refl
 length-encoded (set_row t c) = refl
 length-encoded (all_row t c) = refl
@@ -109,7 +109,7 @@ word_short [] j h = lit< tt
 word_short (x ∷ xs) zero h = h.0
 word_short (x ∷ xs) (suc j) h = word_short xs j h.1
 
-found_at : (pre post : List ℕ) (r : Row) → IsShort r → fetched (pre ++ (encoded r ++ post)) (length pre) ≡ Ok r
+found_at : (pre post : List ℕ) (r : EquationRow) → IsShort r → fetched (pre ++ (encoded r ++ post)) (length pre) ≡ Ok r
 found_at pre post last_row h =
     let s = has_opcode pre [] post 240 1 refl in
     rw (s.in_code, s.is_op, s.room) refl
@@ -173,7 +173,7 @@ found_at pre post (block_row i k o limit pins) h =
     ∙ rw s.room refl)
 
 -- code that was written is there
-pub has_written : (rs : List Row) (pre : List ℕ) → AreShort rs → HasAt (pre ++ bytes_of rs) (length pre) rs
+pub has_written : (rs : List EquationRow) (pre : List ℕ) → AreShort rs → HasAt (pre ++ bytes_of rs) (length pre) rs
 has_written [] pre h = tt
 has_written (r ∷ rs) pre h =
     let here = found_at pre (bytes_of rs) r h.0 in

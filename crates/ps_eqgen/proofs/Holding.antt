@@ -8,10 +8,11 @@ use Rattle.ps_machine.specs.Bytes.{bit, is_no_bit}
 use Rattle.ps_machine.proofs.Bits.{bit_is_bit, bit_and-bit, bit_or-bit}
 use Rattle.ps_eqvm.specs.declared.operand.Operand.TheVariants.{Cell, Constant}
 use Rattle.ps_eqvm.specs.Plain.{Plain}
-use Rattle.ps_eqvm.specs.Rows.{Row, set_row, all_row, any_row, operand_of, size_of, fetched}
+use Rattle.ps_eqvm.specs.Rows.{EquationRow, set_row, all_row, any_row, operand_of, size_of, fetched}
 use Rattle.ps_eqvm.specs.Acting.{trapped, byte_of, target_of, after_set, after_join, with_cell}
 use Rattle.ps_eqvm.specs.Turn.{after_row, carried_out, turn_plain}
 use Rattle.ps_eqvm.specs.Code.{work, constant_of}
+use Rattle.ps_eqvm.specs.declared.trap.Trap.TheVariants.{NotBoolean}
 
 -- Of n signals: the machine runs and is at a row, the signals have these values, and the times and the instances' bytes are these.
 pub record Holds (n last passed : ℕ) (blocks : List ℕ) (p : Plain) (at : ℕ) (v : ℕ → Bool) : Type 0 where
@@ -72,7 +73,7 @@ signal_put n last passed blocks p at next t b v v' h low new same = record {
 }
 
 -- ---- one turn
-pub turn_is : (n k : ℕ) (code : List ℕ) (p : Plain) (at : ℕ) (r : Row) → p.offset ≡ at → fetched code at ≡ Ok r →
+pub turn_is : (n k : ℕ) (code : List ℕ) (p : Plain) (at : ℕ) (r : EquationRow) → p.offset ≡ at → fetched code at ≡ Ok r →
     turn_plain n k code p ≡ after_row n k r (at + size_of r) p
 turn_is n k code p at r place found =
     ap (λ x. carried_out n k (fetched code x) p) place ∙ ap (λ x. carried_out n k x p) found ∙ ap (λ x. after_row n k r (x + size_of r) p) place
@@ -82,10 +83,10 @@ pub set_goes : (n k t c i next : ℕ) (b : Bool) (p : Plain) → operand_of n t 
 set_goes n k t c i next b p target reads =
     ap (λ o. after_set (target_of o) (byte_of p.cells (operand_of n c)) next p) target
     ∙ ap (λ o. after_set (Some i) o next p) reads
-    ∙ ap (λ x. cond x (trapped 4 p) (with_cell i (bit b) next p)) (bit_is_bit b)
+    ∙ ap (λ x. cond x (trapped NotBoolean p) (with_cell i (bit b) next p)) (bit_is_bit b)
 
 -- A row that joins its operand to its target by f, which makes of the operands of a group, one after another, the value of the whole.
-pub record Joins (n k : ℕ) (v : ℕ → Bool) (join : ℕ → ℕ → Row) (f : Bool → Bool → Bool) (whole : Formulas → Bool) : Type 0 where
+pub record Joins (n k : ℕ) (v : ℕ → Bool) (join : ℕ → ℕ → EquationRow) (f : Bool → Bool → Bool) (whole : Formulas → Bool) : Type 0 where
   pub size : (t c : ℕ) → size_of (join t c) ≡ 5
   pub goes : (t c i next : ℕ) (a b : Bool) (p : Plain) → operand_of n t ≡ Cell i → slice_index p.cells i ≡ bit a → byte_of p.cells (operand_of n c) ≡ Some (bit b) →
       after_row n k (join t c) next p ≡ with_cell i (bit (f a b)) next p
@@ -99,7 +100,7 @@ join_goes : (g : ℕ → ℕ → ℕ) (f : Bool → Bool → Bool) (n t c i next
 join_goes g f n t c i next a b p same target was reads =
     ap (λ o. after_join g (target_of o) (byte_of p.cells (operand_of n c)) next p) target
     ∙ ap (λ o. after_join g (Some i) o next p) reads
-    ∙ ap (λ x. cond (is_no_bit (bit b) || is_no_bit x) (trapped 4 p) (with_cell i (g x (bit b)) next p)) was
+    ∙ ap (λ x. cond (is_no_bit (bit b) || is_no_bit x) (trapped NotBoolean p) (with_cell i (g x (bit b)) next p)) was
     ∙ rw (bit_is_bit b, bit_is_bit a, same a b) refl
 
 all_more : (a x y : Bool) → ((a && x) && y) ≡ (a && (x && y))

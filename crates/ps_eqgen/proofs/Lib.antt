@@ -4,7 +4,6 @@ pub mod Placing
 pub mod Calling
 pub mod Stepping
 pub mod Counted
-pub mod StoredRuns
 pub mod Scanning
 pub mod Written
 pub mod Shallow

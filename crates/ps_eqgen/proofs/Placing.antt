@@ -14,7 +14,7 @@ use Rattle.ps_machine.specs.Machines.{turned}
 use Rattle.ps_machine.proofs.Fine.{IsFine, AreFine, IsFinePin, first_fine, later_fine}
 use Rattle.ps_machine.proofs.Phases.{turned_add}
 use Rattle.ps_eqvm.specs.Plain.{Plain}
-use Rattle.ps_eqvm.specs.Rows.{Row, set_row, all_row, any_row, operand_of, size_of, fetched}
+use Rattle.ps_eqvm.specs.Rows.{EquationRow, set_row, all_row, any_row, operand_of, size_of, fetched}
 use Rattle.ps_eqvm.specs.Acting.{byte_of, with_cell}
 use Rattle.ps_eqvm.specs.Turn.{after_row, turn_plain}
 use Rattle.ps_eqvm.specs.Code.{work, constant_of, operand_at, expression_rows, group_rows, later_rows, pin_rows, pin_operand, rows_at, operand_of_pin}
@@ -69,7 +69,7 @@ pub record Placed (n k last passed : ℕ) (code blocks : List ℕ) (p : Plain) (
   pub reads : Reads n (turned (turn_plain n k code) (length (expression_rows d e)) p) (operand_at d e) (value v e)
 
 -- rows ran, and work cell d has a truth value
-record Joined (n k last passed : ℕ) (code blocks : List ℕ) (p : Plain) (rows : List Row) (at d : ℕ) (v : ℕ → Bool) (b : Bool) : Type 0 where
+record Joined (n k last passed : ℕ) (code blocks : List ℕ) (p : Plain) (rows : List EquationRow) (at d : ℕ) (v : ℕ → Bool) (b : Bool) : Type 0 where
   comes : Comes n k last passed code blocks p (length rows) (at + size_all rows) d v
   has : slice_index (turned (turn_plain n k code) (length rows) p).cells d ≡ bit b
 
@@ -78,7 +78,7 @@ module _ (n k : ℕ) (few : n ≤ 4000) (last passed : ℕ) (code blocks : List 
   reads_work p d b low has = ap (byte_of p.cells) (work_operand n d low) ∙ ap Some has
 
   -- one row that writes b to work cell d
-  write_turn : (p : Plain) (at d : ℕ) (r : Row) (b : Bool) → Holds n last passed blocks p at v → fetched code at ≡ Ok r → size_of r ≡ 5 → d < 48 →
+  write_turn : (p : Plain) (at d : ℕ) (r : EquationRow) (b : Bool) → Holds n last passed blocks p at v → fetched code at ≡ Ok r → size_of r ≡ 5 → d < 48 →
       after_row n k r (at + 5) p ≡ with_cell d (bit b) (at + 5) p → Joined n k last passed code blocks p (r ∷ []) at d v b
   write_turn p at d r b h found size low goes =
       let final = with_cell d (bit b) (at + 5) p in
@@ -94,7 +94,7 @@ module _ (n k : ℕ) (few : n ≤ 4000) (last passed : ℕ) (code blocks : List 
         has = ap (λ (x : Plain). slice_index x.cells d) e ∙ get_or-set_same p.cells d (bit b) 0 (omega arith);
       }
 
-  joined_on : (p : Plain) (a b : List Row) (at d : ℕ) (x y : Bool) → Joined n k last passed code blocks p a at d v x →
+  joined_on : (p : Plain) (a b : List EquationRow) (at d : ℕ) (x y : Bool) → Joined n k last passed code blocks p a at d v x →
       Joined n k last passed code blocks (turned (turn_plain n k code) (length a) p) b (at + size_all a) d v y → Joined n k last passed code blocks p (a ++ b) at d v y
   joined_on p a b at d x y first second =
       let turn = turn_plain n k code in
@@ -105,13 +105,13 @@ module _ (n k : ℕ) (few : n ≤ 4000) (last passed : ℕ) (code blocks : List 
         has = ap (λ j. slice_index (turned turn j p).cells d) (sym el) ∙ ap (λ (q : Plain). slice_index q.cells d) (turned_add turn (length a) (length b) p) ∙ second.has;
       }
 
-  held_after : (p : Plain) (at d : ℕ) (r : Row) (b : Bool) → size_of r ≡ 5 → Joined n k last passed code blocks p (r ∷ []) at d v b → Holds n last passed blocks (turn_plain n k code p) (at + 5) v
+  held_after : (p : Plain) (at d : ℕ) (r : EquationRow) (b : Bool) → size_of r ≡ 5 → Joined n k last passed code blocks p (r ∷ []) at d v b → Holds n last passed blocks (turn_plain n k code p) (at + 5) v
   held_after p at d r b size y =
       let e : at + (size_of r + 0) ≡ at + 5 = omega (arith, size) in
       subst (λ x. Holds n last passed blocks (turn_plain n k code p) x v) e y.comes.there
 
   -- an operand's rows, the row that writes it, and the rows of those that follow
-  after_operand : (p : Plain) (at d : ℕ) (re : List Row) (row : Row) (rest : List Row) (b c : Bool) → Comes n k last passed code blocks p (length re) (at + size_all re) (d + 1) v → size_of row ≡ 5 →
+  after_operand : (p : Plain) (at d : ℕ) (re : List EquationRow) (row : EquationRow) (rest : List EquationRow) (b c : Bool) → Comes n k last passed code blocks p (length re) (at + size_all re) (d + 1) v → size_of row ≡ 5 →
       Joined n k last passed code blocks (turned (turn_plain n k code) (length re) p) (row ∷ []) (at + size_all re) d v b →
       Joined n k last passed code blocks (turn_plain n k code (turned (turn_plain n k code) (length re) p)) rest (at + size_all re + 5) d v c →
       Joined n k last passed code blocks p (re ++ row ∷ rest) at d v c
@@ -163,7 +163,7 @@ module _ (n k : ℕ) (few : n ≤ 4000) (last passed : ℕ) (code blocks : List 
           reads = reads_work (turned (turn_plain n k code) (length (group_rows d any_row es)) p) d (any_true v es) low'' x.has;
         }
 
-    group_joined : (join : ℕ → ℕ → Row) (f : Bool → Bool → Bool) (whole : Formulas → Bool) → Joins n k v join f whole → (es : Formulas) (r d : ℕ) (p : Plain) (at : ℕ) →
+    group_joined : (join : ℕ → ℕ → EquationRow) (f : Bool → Bool → Bool) (whole : Formulas → Bool) → Joins n k v join f whole → (es : Formulas) (r d : ℕ) (p : Plain) (at : ℕ) →
         0 < operand_count es → AreFine n r es → d + 1 + r ≤ 48 → d < 48 → HasAt code at (group_rows d join es) → Holds n last passed blocks p at v →
         Joined n k last passed code blocks p (group_rows d join es) at d v (whole es)
     group_joined join f whole j no_operand r d p at some is low low' has h = absurd (omega arith)
@@ -181,7 +181,7 @@ module _ (n k : ℕ) (few : n ≤ 4000) (last passed : ℕ) (code blocks : List 
         let all = after_operand p at d re row rest (value v e) (f (value v e) (whole es)) x.comes refl y w in
         subst (λ b. Joined n k last passed code blocks p (group_rows d join (operand e es)) at d v b) (j.first e es) all
 
-    later_joined : (join : ℕ → ℕ → Row) (f : Bool → Bool → Bool) (whole : Formulas → Bool) → Joins n k v join f whole → (es : Formulas) (a : Bool) (r d : ℕ) (p : Plain) (at : ℕ) →
+    later_joined : (join : ℕ → ℕ → EquationRow) (f : Bool → Bool → Bool) (whole : Formulas → Bool) → Joins n k v join f whole → (es : Formulas) (a : Bool) (r d : ℕ) (p : Plain) (at : ℕ) →
         AreFine n r es → d + 1 + r ≤ 48 → d < 48 → HasAt code at (later_rows d join es) → Holds n last passed blocks p at v → slice_index p.cells d ≡ bit a →
         Joined n k last passed code blocks p (later_rows d join es) at d v (f a (whole es))
     later_joined join f whole j no_operand a r d p at is low low' has h was =

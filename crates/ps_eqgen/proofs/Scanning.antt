@@ -18,7 +18,6 @@ use Rattle.ps_model.specs.Typing.{Accepted}
 use Rattle.ps_model.proofs.OneSolution.{other-block}
 use Rattle.ps_machine.specs.Bytes.{bit, be4}
 use Rattle.ps_machine.specs.Keeping.{Passes, KeepsExactly}
-use Rattle.ps_machine.specs.Limits.{LimitsFit}
 use Rattle.ps_machine.specs.Machines.{turned}
 use Rattle.ps_machine.specs.Progressing.{progress_said}
 use Rattle.ps_machine.specs.Standing.{StandsBlock, StandsIn, limit_in}
@@ -45,7 +44,7 @@ use Rattle.ps_eqgen.proofs.Counted.{turns_are, code_small, network_short}
 use Rattle.ps_eqgen.proofs.Decoding.{HasAt, has_front, has_back, size_all, has_written}
 use Rattle.ps_eqgen.proofs.Holding.{Holds, turn_is}
 use Rattle.ps_eqgen.proofs.Stepping.{BlocksStand, steps_led}
-use Rattle.ps_eqgen.proofs.StoredRuns.{stored_turn, stored_run, run_is}
+use Rattle.ps_eqvm.proofs.StoredRuns.{stored_turn, stored_run, run_is}
 
 -- ---- cells that stand for a state, plain and stored
 
@@ -163,7 +162,7 @@ module _ (net : Network) (sound : IsSound net) where
     done : (turned (turn_plain (signal_count net) (instance_count net) (code_b net)) (length (network_rows net)) p).progress ≡ 1
     stands : StandsPlain net new now (turned (turn_plain (signal_count net) (instance_count net) (code_b net)) (length (network_rows net)) p)
 
-  module _ (accepted : Accepted net) (limits : LimitsFit net) where
+  module _ (accepted : Accepted net) where
     scanned : (old new : State) (ins : List Bool) (t now dt : ℕ) (p : Plain) → length ins ≡ input_count net → Passes old t now dt → StandsPlain net old t p → Solves net old ins dt new →
         Scanned (begin_plain now ins p) new now
     scanned old new ins t now dt p count passes stands solves =
@@ -175,7 +174,7 @@ module _ (net : Network) (sound : IsSound net) where
         let rs = flat_map (step_rows net) net.steps in
         let q = begin_plain now ins p in
         let m0 = begun net old ins in
-        let fit = all_fit net sound accepted limits in
+        let fit = all_fit net sound accepted in
         let has : HasAt code 0 (network_rows net) = has_written (network_rows net) [] (network_short net sound.few_signals sound.few_instances fit) in
         let timely : Timely net dt passed net.steps m0 = λ i called on. passes i on ∙ sym (ap (λ x. now - x) stands.kept_time) in
         let led = steps_led net sound.few_signals dt now passed code net.steps m0 q 0 p.blocks fit (called_once net sound) timely
@@ -220,7 +219,7 @@ module _ (net : Network) (sound : IsSound net) where
         let k = instance_count net in
         let code = code_b net in
         let plain = turn_plain n k code in
-        let small : length code < 2 ^ 32 = code_small net sound (step_fits net sound accepted limits) in
+        let small : length code < 2 ^ 32 = code_small net sound (step_fits net sound accepted) in
         let turns : length (network_rows net) ≡ turns_b net = turns_are net sound in
         let same : stored_turn n k code ≡ turn_b z code =
         λ x cells. laid_out (turn_plain ((sym sizes.signals) x) ((sym sizes.instances) x) code (parsed ((sym sizes.signals) x) cells)) in

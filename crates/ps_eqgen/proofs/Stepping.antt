@@ -24,11 +24,11 @@ use Rattle.ps_machine.proofs.Fitting.{CallFits, StepFits, AllFit}
 use Rattle.ps_machine.proofs.Instances.{bytes_at, bytes_at_same, bytes_at_other}
 use Rattle.ps_machine.proofs.Places.{length-replaced}
 use Rattle.ps_eqvm.specs.Plain.{Plain}
-use Rattle.ps_eqvm.specs.Rows.{Row, set_row, size_of}
+use Rattle.ps_eqvm.specs.Rows.{EquationRow, set_row, size_of}
 use Rattle.ps_eqvm.specs.Acting.{with_cell, settled}
 use Rattle.ps_eqvm.specs.Turn.{turn_plain}
 use Rattle.ps_eqvm.specs.Code.{operand_at, expression_rows, operand_of_pin, pins_rows, call_row, step_rows}
-use Rattle.ps_eqvm.proofs.Lengths.{length-outs}
+use Rattle.ps_model.proofs.OutputLengths.{length-outs}
 use Rattle.ps_eqgen.proofs.Calling.{block_goes, settled_holds}
 use Rattle.ps_eqgen.proofs.Decoding.{HasAt, has_front, has_back, size_all, size_all-append}
 use Rattle.ps_eqgen.proofs.Holding.{Holds, signal_operand, turn_is, set_goes, signal_put}
@@ -41,7 +41,7 @@ pub record BlocksStand (net : Network) (blocks : List ℕ) (b : ℕ → Block_st
 
 module _ (net : Network) (few : signal_count net ≤ 4000) (dt last passed : ℕ) (code : List ℕ) where
   -- the rows ran, and the cells hold this memory
-  pub record Led (p : Plain) (rows : List Row) (at : ℕ) (m : Interim) : Type 0 where
+  pub record Led (p : Plain) (rows : List EquationRow) (at : ℕ) (m : Interim) : Type 0 where
     pub blocks : List ℕ
     pub comes : Comes (signal_count net) (instance_count net) last passed code blocks p (length rows) (at + size_all rows) 0 m.signals
     pub stand : BlocksStand net blocks m.blocks

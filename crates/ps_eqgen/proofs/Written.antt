@@ -5,11 +5,14 @@ use Rattle.std.specs.Int.{w16, to_be_bytes}
 use Rattle.std.proofs.lemmas.List.FromFn.{map-range_with_len_more}
 use Rattle.std.proofs.lemmas.Grind.{flat_map-append}
 use Rattle.ps_model.specs.Formula.{Formulas, no_operand, operand}
-use Rattle.ps_eqvm.specs.Rows.{Row, set_row, block_row}
+use Rattle.ps_eqvm.specs.Rows.{EquationRow, set_row, block_row}
 use Rattle.ps_eqvm.specs.Code.{bytes_of, encoded, work, operand_at, expression_rows, group_rows, later_rows}
-use Rattle.ps_eqgen.specs.declared.emit.Gate.{Gate}
-use Rattle.ps_eqgen.specs.declared.emit.Gate.TheVariants.{Set}
-use Rattle.ps_eqgen.specs.Written.{gate_row, rows_left, block_head}
+use Rattle.ps_eqvm.specs.declared.opcode.Gate.{Gate}
+use Rattle.ps_eqvm.specs.declared.opcode.Gate.TheVariants.{Set, All, Any}
+use Rattle.ps_eqvm.specs.declared.opcode.Opcode.TheVariants.{Target}
+use Rattle.ps_eqvm.specs.Opcodes.{byte_of_opcode}
+use Rattle.ps_eqvm.specs.Gates.{gate_row}
+use Rattle.ps_eqgen.specs.Written.{rows_left, block_head}
 
 later_left : (d : ℕ) (join : Gate) (es : Formulas) → rows_left d join join es ≡ later_rows d (gate_row join) es
 later_left d join no_operand = refl
@@ -21,7 +24,13 @@ all_left d join no_operand = refl
 all_left d join (operand e es) =
     ap (λ l. expression_rows (d + 1) e ++ (set_row (work d) (operand_at (d + 1) e) ∷ l)) (later_left d join es)
 
-pub bytes-append : (a b : List Row) → bytes_of (a ++ b) ≡ bytes_of a ++ bytes_of b
+-- the bytes of a row with a target
+pub gate_bytes : (gate : Gate) (t c : ℕ) → byte_of_opcode (Target gate) ∷ (to_be_bytes w16 t ++ to_be_bytes w16 c) ≡ encoded (gate_row gate t c)
+gate_bytes Set t c = refl
+gate_bytes All t c = refl
+gate_bytes Any t c = refl
+
+pub bytes-append : (a b : List EquationRow) → bytes_of (a ++ b) ≡ bytes_of a ++ bytes_of b
 bytes-append a b = flat_map-append encoded a b
 
 -- one more operand of a call
@@ -40,7 +49,7 @@ block_whole before instance kind first limit count pins many =
     ∙ ap (λ n. before ++ (block_head instance kind first limit n ++ flat_map (to_be_bytes w16) pins)) (sym many)
 
 -- a call is its pins and its BLOCK
-pub call_whole : (before : List ℕ) (pins : List Row) (row : Row) → (before ++ bytes_of pins) ++ encoded row ≡ before ++ bytes_of (pins ++ row ∷ [])
+pub call_whole : (before : List ℕ) (pins : List EquationRow) (row : EquationRow) → (before ++ bytes_of pins) ++ encoded row ≡ before ++ bytes_of (pins ++ row ∷ [])
 call_whole before pins row =
     append_assoc before (bytes_of pins) (encoded row)
     ∙ ap (λ l. before ++ (bytes_of pins ++ l)) (sym (append-nil (encoded row)))

@@ -5,26 +5,22 @@ use Rattle.ps_base.specs.declared.limits.TheConstants.{MOST_NESTED}
 use Rattle.ps_model.specs.Formula.{Formula, Formulas, no_operand, operand}
 use Rattle.ps_model.specs.Action.{Actual, wired}
 use Rattle.ps_model.specs.Values.{depth}
-use Rattle.ps_eqvm.specs.Rows.{Row, set_row, all_row, any_row}
+use Rattle.ps_eqvm.specs.Rows.{EquationRow, set_row, all_row, any_row}
 use Rattle.ps_eqvm.specs.Code.{work, operand_at, expression_rows}
-use Rattle.ps_eqgen.specs.declared.emit.Gate.{Gate}
-use Rattle.ps_eqgen.specs.declared.emit.Gate.TheVariants.{Set, All as Conjunction, Any as Disjunction}
-
--- the row by which a gate gives target t the operand c
-abbrev pub gate_row : Gate → (t c : ℕ) → Row
-gate_row Set = set_row
-gate_row Conjunction = all_row
-gate_row Disjunction = any_row
+use Rattle.ps_eqvm.specs.declared.opcode.Gate.{Gate}
+use Rattle.ps_eqvm.specs.declared.opcode.Opcode.TheVariants.{Block}
+use Rattle.ps_eqvm.specs.Opcodes.{byte_of_opcode}
+use Rattle.ps_eqvm.specs.Gates.{gate_row}
 
 -- the rows of the operands that are left: the next comes to work cell d by one gate, and each later one by another
-abbrev pub rows_left : (d : ℕ) → (next later : Gate) → Formulas → List Row
+abbrev pub rows_left : (d : ℕ) → (next later : Gate) → Formulas → List EquationRow
 rows_left d next later no_operand = []
 rows_left d next later (operand e es) = expression_rows (d + 1) e ++ (gate_row next (work d) (operand_at (d + 1) e) ∷ rows_left d later later es)
 
 -- the bytes of a BLOCK row before its operands, of which there are so many
 abbrev pub block_head : (instance kind first limit count : ℕ) → List ℕ
 block_head instance kind first limit count =
-    0xF4 ∷ (to_be_bytes w16 instance ++ (kind ∷ (to_be_bytes w16 first ++ (to_be_bytes w32 limit ++ count ∷ []))))
+    byte_of_opcode Block ∷ (to_be_bytes w16 instance ++ (kind ∷ (to_be_bytes w16 first ++ (to_be_bytes w32 limit ++ count ∷ []))))
 
 -- how deep the value at a pin is nested
 abbrev pub depth_at_pin : Actual → ℕ

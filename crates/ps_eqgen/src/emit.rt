@@ -1,43 +1,24 @@
-// Rows written as bytes.
+//! Rows written as bytes.
 
 ghost use Rattle.std.specs.Prelude.{◌≡◌, ◌+◌, ◌<◌, ◌≤◌, ◌∷◌, ◌++◌, OnOk, map};
 ghost use Rattle.std.specs.Int.{to_be_bytes, w16};
 ghost use Rattle.ps_model.specs.Exprs.{formula, operands};
 ghost use Rattle.ps_model.specs.Args.{actual};
 ghost use Rattle.ps_model.specs.Values.{depth, deepest};
-ghost use Rattle.ps_eqvm.specs.Code.{encoded, bytes_of, work, constant_of, operand_at, expression_rows, group_rows, pin_rows, pin_operand};
-ghost use Rattle.ps_eqgen.specs.Written.{gate_row, depth_at_pin};
+ghost use Rattle.ps_eqvm.specs.Code.{encoded, bytes_of, operand_at, expression_rows, group_rows, pin_rows, pin_operand};
+ghost use Rattle.ps_eqvm.specs.Gates.{gate_row};
+ghost use Rattle.ps_eqgen.specs.Written.{depth_at_pin};
 
 use ps_base::Memory;
+use ps_eqvm::layout::WORK_CELLS;
+use ps_eqvm::opcode::{Gate, Opcode};
+use ps_eqvm::operand::{constant, work_cell};
 use ps_model::expr::Expr;
 use ps_model::step::Arg;
 
-/// How a row gives its target an operand: the target is set to it, or joined with it by AND or OR.
-#[derive(Clone, Copy, PartialEq, Eq, Debug)]
-pub enum Gate {
-    Set,
-    All,
-    Any,
-}
-
-// The operand that is the work cell of a level.
-fn work_cell(level: u8) -> u16
-    requires { level < 48 }
-    ensures { result ≡ work level }
-{
-    0xF000 + u16::from(level)
-}
-
-// The operand that is a constant.
-fn constant(on: bool) -> u16
-    ensures { result ≡ constant_of on }
-{
-    if on { 0xFFFF } else { 0xFFFE }
-}
-
 /// The operand that has the value of an expression which is placed at a level.
 pub fn operand(e: &Expr, level: u8) -> u16
-    requires { level + depth (formula e.now) ≤ 48 }
+    requires { level + depth (formula e.now) ≤ WORK_CELLS }
     ensures { result ≡ operand_at level (formula e.now) }
 {
     match e {
@@ -50,13 +31,10 @@ pub fn operand(e: &Expr, level: u8) -> u16
 pub fn emit_gate(code: &mut Vec<u8>, gate: Gate, target: u16, operand: u16) -> Result<(), Memory>
     ensures { OnOk result (code.new.items ≡ code.old.items ++ encoded (gate_row gate target operand)) }
 {
-    match gate {
-        Gate::Set => emit_two(code, 0xF1, target, operand),
-        Gate::All => emit_two(code, 0xF2, target, operand),
-        Gate::Any => emit_two(code, 0xF3, target, operand),
-    }
+    emit_two(code, Opcode::Target(gate).byte(), target, operand)
 }
 
+// Writes a row of an opcode, a target and an operand.
 fn emit_two(code: &mut Vec<u8>, opcode: u8, target: u16, operand: u16) -> Result<(), Memory>
     ensures { OnOk result (code.new.items ≡ code.old.items ++ opcode ∷ (to_be_bytes w16 target ++ to_be_bytes w16 operand)) }
 {
@@ -76,7 +54,7 @@ pub fn emit_word(code: &mut Vec<u8>, number: u16) -> Result<(), Memory>
 /// Writes the rows that place an expression at a level. The work cells from that level on are enough for it.
 #[cycle(expr)]
 pub fn emit_expression(code: &mut Vec<u8>, e: &Expr, level: u8) -> Result<(), Memory>
-    requires { level + depth (formula e.now) ≤ 48 }
+    requires { level + depth (formula e.now) ≤ WORK_CELLS }
     ensures { OnOk result (code.new.items ≡ code.old.items ++ bytes_of (expression_rows level (formula e.now))) }
 {
     match e {
@@ -90,7 +68,7 @@ pub fn emit_expression(code: &mut Vec<u8>, e: &Expr, level: u8) -> Result<(), Me
 // joined to it.
 #[cycle(expr)]
 fn emit_group(code: &mut Vec<u8>, join: Gate, all: &[Expr], level: u8) -> Result<(), Memory>
-    requires { level + 1 + deepest (operands (map formula all.now)) ≤ 48 }
+    requires { level + 1 + deepest (operands (map formula all.now)) ≤ WORK_CELLS }
     ensures { OnOk result (code.new.items ≡ code.old.items ++ bytes_of (group_rows level (gate_row join) (operands (map formula all.now)))) }
 {
     let mut gate = Gate::Set;
@@ -104,7 +82,7 @@ fn emit_group(code: &mut Vec<u8>, join: Gate, all: &[Expr], level: u8) -> Result
 
 /// Writes the rows that place what stands at a Boolean pin: those of a value, and none for all else.
 pub fn emit_argument(code: &mut Vec<u8>, arg: &Arg, level: u8) -> Result<(), Memory>
-    requires { level + depth_at_pin (actual arg.now) ≤ 48 }
+    requires { level + depth_at_pin (actual arg.now) ≤ WORK_CELLS }
     ensures { OnOk result (code.new.items ≡ code.old.items ++ bytes_of (pin_rows level (actual arg.now))) }
 {
     match arg {
@@ -116,7 +94,7 @@ pub fn emit_argument(code: &mut Vec<u8>, arg: &Arg, level: u8) -> Result<(), Mem
 /// The operand of what stands at a Boolean pin: that of a value which is placed at a level, and a constant for all else.
 /// A TIME literal is FALSE there.
 pub fn argument_operand(arg: &Arg, free: bool, level: u8) -> u16
-    requires { level + depth_at_pin (actual arg.now) ≤ 48 }
+    requires { level + depth_at_pin (actual arg.now) ≤ WORK_CELLS }
     ensures { result ≡ pin_operand free level (actual arg.now) }
 {
     match arg {

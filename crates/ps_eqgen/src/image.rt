@@ -16,17 +16,18 @@ ghost use Rattle.ps_eqvm.specs.Code.{encoded, bytes_of, pins_rows, pins_operands
 ghost use Rattle.ps_eqvm.specs.Stands.{machine_b, StandsB};
 ghost use Rattle.ps_eqgen.specs.Written.{block_head, AreShallow};
 
+use crate::calls::call_limit;
 use crate::emit::{
-    Gate, argument_operand, emit_argument, emit_expression, emit_gate, emit_word, operand,
+    argument_operand, emit_argument, emit_expression, emit_gate, emit_word, operand,
 };
 use crate::laws::{equation_code_is_short, equation_code_keeps_the_meaning};
 use ps_base::Memory;
 use ps_eqvm::EquationImage;
-use ps_machine::calls::{call_limit, free_value};
+use ps_eqvm::opcode::{Gate, Opcode};
 use ps_model::app::App;
-use ps_model::budget::boolean_count;
-use ps_model::kind::{Kind, kind_number};
+use ps_model::kind::Kind;
 use ps_model::step::{Args, Step};
+use ps_rows::{boolean_pins, free_value, number_of};
 use std::alloc::Global;
 
 /// The equation code of an accepted application: its steps in order, and LAST behind them (profile). Run by
@@ -49,7 +50,7 @@ pub fn emit_pins(code: &mut Vec<u8>, kind: Kind, args: &Args) -> Result<(), Memo
     requires shallow { AreShallow (flat_map values_at_pin args.now) }
     ensures { OnOk result (code.new.items ≡ code.old.items ++ bytes_of (pins_rows kind args.now)) }
 {
-    for j in 0..boolean_count(kind) {
+    for j in 0..boolean_pins(kind) {
         emit_argument(code, args.at(j as usize), j)?;
     }
     Ok(())
@@ -61,7 +62,7 @@ fn emit_operands(code: &mut Vec<u8>, kind: Kind, args: &Args) -> Result<(), Memo
     requires shallow { AreShallow (flat_map values_at_pin args.now) }
     ensures { OnOk result (code.new.items ≡ code.old.items ++ flat_map (to_be_bytes w16) (pins_operands kind args.now)) }
 {
-    for j in 0..boolean_count(kind) {
+    for j in 0..boolean_pins(kind) {
         let operand = argument_operand(args.at(j as usize), free_value(kind, j), j);
         emit_word(code, operand)?;
     }
@@ -79,7 +80,7 @@ fn emit_head(
 ) -> Result<(), Memory>
     ensures { OnOk result (code.new.items ≡ code.old.items ++ block_head instance kind first limit count) }
 {
-    code.push(0xF4)?;
+    code.push(Opcode::Block.byte())?;
     emit_word(code, instance)?;
     code.push(kind)?;
     emit_word(code, first)?;
@@ -101,9 +102,9 @@ pub fn emit_block(
     requires shallow { AreShallow (flat_map values_at_pin args.now) }
     ensures { OnOk result (code.new.items ≡ code.old.items ++ encoded (block_row instance (block kind).number first (limit_of kind args.now) (pins_operands kind args.now))) }
 {
-    let number = kind_number(kind);
+    let number = number_of(kind);
     let limit = call_limit(kind, args);
-    let count = boolean_count(kind);
+    let count = boolean_pins(kind);
     emit_head(code, instance, number, first, limit, count)?;
     emit_operands(code, kind, args)
 }
@@ -136,6 +137,6 @@ fn emit_application(alloc: Global, app: &App) -> Result<Vec<u8>, Memory>
     for k in 0..app.step_count() {
         emit_step(&mut code, app, app.step(k))?;
     }
-    code.push(0xF0)?;
+    code.push(Opcode::Last.byte())?;
     Ok(code)
 }

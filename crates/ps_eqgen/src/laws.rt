@@ -9,19 +9,17 @@ ghost use Rattle.ps_machine.specs.Keeping.{Keeps, KeepsExactly};
 ghost use Rattle.ps_eqvm.specs.Code.{network_rows, code_b};
 ghost use Rattle.ps_eqvm.specs.Stands.{machine_b, StandsB};
 
-use ps_machine::calls::limits_fit;
 use ps_model::app::App;
 
 /// Equation code keeps the meaning: from cells that stand for any state, a scan that is not earlier is
 /// Running up to the last of exactly `turns_b` turns, which makes it Done, and none traps. After it the
 /// cells stand for the state that solves the scan, and their report is its report. Cells of plain value
-/// 0 stand for the first state. It looks at each call of the application and changes nothing.
+/// 0 stand for the first state. It computes nothing.
 pub fn equation_code_keeps_the_meaning(app: &App)
     ensures exactly { Accepted app.now → (sizes : Sizes) → AreSizesOf app.now sizes → KeepsExactly app.now (machine_b sizes (code_b app.now) (turns_b app.now)) (StandsB app.now) }
     ensures keeps { Accepted app.now → (sizes : Sizes) → AreSizesOf app.now sizes → Keeps app.now (machine_b sizes (code_b app.now) (turns_b app.now)) (StandsB app.now) }
 {
     app.sound();
-    limits_fit(app);
 }
 
 /// The code of an accepted application has `turns_b` rows, and less than 2^32 bytes.
@@ -30,5 +28,4 @@ pub fn equation_code_is_short(app: &App)
     ensures bytes { Accepted app.now → length (code_b app.now) < 2 ^ 32 }
 {
     app.sound();
-    limits_fit(app);
 }

@@ -1,6 +1,7 @@
 // The compiler of channel B: from an application to equation code.
 #![tactic(auto)]
 
+mod calls;
 mod emit;
 mod image;
 pub mod laws;

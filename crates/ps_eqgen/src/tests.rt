@@ -5,9 +5,10 @@ ghost use Rattle.std.specs.Prelude.{◌≡◌, IfOk};
 ghost use Rattle.ps_model.specs.Exprs.{formula};
 ghost use Rattle.ps_model.specs.Values.{depth};
 
-use crate::emit::{Gate, emit_expression, emit_gate, operand};
+use crate::emit::{emit_expression, emit_gate, operand};
 use crate::image::{emit_block, emit_pins};
 use ps_base::Memory;
+use ps_eqvm::opcode::Gate;
 use ps_model::expr::{Expr, Exprs};
 use ps_model::kind::Kind;
 use ps_model::step::{Arg, Args};

@@ -9,67 +9,69 @@ use Rattle.ps_model.specs.Blocks.{output_count}
 use Rattle.ps_model.specs.Budgets.{boolean_count}
 use Rattle.ps_model.specs.Stored.{loaded}
 use Rattle.ps_machine.specs.Bytes.{be2, be4, instance_bytes}
-use Rattle.ps_rows.specs.Viewed.{pin_of}
+use Rattle.ps_model.specs.PinBits.{pin_of}
 use Rattle.ps_eqvm.specs.Plain.{Plain}
-use Rattle.ps_eqvm.specs.declared.gates.Gate.{Gate}
-use Rattle.ps_eqvm.specs.declared.gates.Gate.TheVariants.{Set, All, Any}
+use Rattle.ps_eqvm.specs.declared.opcode.Gate.{Gate}
+use Rattle.ps_eqvm.specs.declared.opcode.Gate.TheVariants.{Set, All, Any}
 use Rattle.ps_eqvm.specs.Gates.{gate_row, after_gate}
-use Rattle.ps_eqvm.specs.Rows.{Row, set_row, all_row, any_row, operand_of, operands, size_of, whole, block_at}
+use Rattle.ps_eqvm.specs.Rows.{EquationRow, set_row, all_row, any_row, operand_of, operands, size_of, whole, block_at}
 use Rattle.ps_eqvm.specs.Acting.{trapped, is_missing, is_odd, pins_on, stepped_by, block_as, after_block, target_of, byte_of}
 use Rattle.ps_eqvm.specs.Turn.{after_row, carried_out}
+use Rattle.ps_eqvm.specs.declared.trap.Trap.{Trap}
+use Rattle.ps_eqvm.specs.declared.trap.Trap.TheVariants.{PastEnd, PinCount, NotBoolean, OutOfRange}
 
 module _ (n i o limit next : ℕ) (kind : Kind) (bytes : List (Option ℕ)) (p : Plain) where
   last : Plain
   last = stepped_by i o limit kind (pins_on bytes) next (loaded kind (instance_bytes 0 i p.blocks)) p
 
   judged : Plain
-  judged = cond (list_any is_odd bytes) (trapped 4 p) last
+  judged = cond (list_any is_odd bytes) (trapped NotBoolean p) last
 
   counted : Plain
-  counted = cond (not (length bytes == boolean_count kind)) (trapped 3 p) judged
+  counted = cond (not (length bytes == boolean_count kind)) (trapped PinCount p) judged
 
-  pub no_room : n < o + output_count kind → trapped 5 p ≡ block_as n i o limit kind bytes next p
+  pub no_room : n < o + output_count kind → trapped OutOfRange p ≡ block_as n i o limit kind bytes next p
   unfolding counted judged last
-  no_room h = sym (cond-true (nat_lt n (o + output_count kind) || list_any is_missing bytes) (trapped 5 p) counted (or_left (nat_lt n (o + output_count kind)) (list_any is_missing bytes) (lt-ltb n (o + output_count kind) h)))
+  no_room h = sym (cond-true (nat_lt n (o + output_count kind) || list_any is_missing bytes) (trapped OutOfRange p) counted (or_left (nat_lt n (o + output_count kind)) (list_any is_missing bytes) (lt-ltb n (o + output_count kind) h)))
 
-  with_room : o + output_count kind ≤ n → cond (list_any is_missing bytes) (trapped 5 p) counted ≡ block_as n i o limit kind bytes next p
+  with_room : o + output_count kind ≤ n → cond (list_any is_missing bytes) (trapped OutOfRange p) counted ≡ block_as n i o limit kind bytes next p
   unfolding counted judged last
-  with_room h = sym (ap (λ b. cond (b || list_any is_missing bytes) (trapped 5 p) counted) (le-ltb n (o + output_count kind) h))
+  with_room h = sym (ap (λ b. cond (b || list_any is_missing bytes) (trapped OutOfRange p) counted) (le-ltb n (o + output_count kind) h))
 
-  pub miscounted : o + output_count kind ≤ n → (length bytes ≡ boolean_count kind → ⊥) → cond (list_any is_missing bytes) (trapped 5 p) (trapped 3 p) ≡ block_as n i o limit kind bytes next p
+  pub miscount_traps : o + output_count kind ≤ n → (length bytes ≡ boolean_count kind → ⊥) → cond (list_any is_missing bytes) (trapped OutOfRange p) (trapped PinCount p) ≡ block_as n i o limit kind bytes next p
   unfolding counted
-  miscounted h wrong =
-      ap (cond (list_any is_missing bytes) (trapped 5 p)) (sym (cond-true (not (length bytes == boolean_count kind)) (trapped 3 p) judged (ap not (ne_eqb (length bytes) (boolean_count kind) wrong))))
+  miscount_traps h wrong =
+      ap (cond (list_any is_missing bytes) (trapped OutOfRange p)) (sym (cond-true (not (length bytes == boolean_count kind)) (trapped PinCount p) judged (ap not (ne_eqb (length bytes) (boolean_count kind) wrong))))
       ∙ with_room h
 
   right : length bytes ≡ boolean_count kind → counted ≡ judged
   unfolding counted
-  right count = cond-false (not (length bytes == boolean_count kind)) (trapped 3 p) judged (ap not (eq-eqb (length bytes) (boolean_count kind) count))
+  right count = cond-false (not (length bytes == boolean_count kind)) (trapped PinCount p) judged (ap not (eq-eqb (length bytes) (boolean_count kind) count))
 
-  pub is_bad : o + output_count kind ≤ n → list_any is_missing bytes ≡ true → trapped 5 p ≡ block_as n i o limit kind bytes next p
-  is_bad h missing = sym (cond-true (list_any is_missing bytes) (trapped 5 p) counted missing) ∙ with_room h
+  pub is_bad : o + output_count kind ≤ n → list_any is_missing bytes ≡ true → trapped OutOfRange p ≡ block_as n i o limit kind bytes next p
+  is_bad h missing = sym (cond-true (list_any is_missing bytes) (trapped OutOfRange p) counted missing) ∙ with_room h
 
-  pub is_uneven : o + output_count kind ≤ n → length bytes ≡ boolean_count kind → list_any is_missing bytes ≡ false → list_any is_odd bytes ≡ true → trapped 4 p ≡ block_as n i o limit kind bytes next p
+  pub is_uneven : o + output_count kind ≤ n → length bytes ≡ boolean_count kind → list_any is_missing bytes ≡ false → list_any is_odd bytes ≡ true → trapped NotBoolean p ≡ block_as n i o limit kind bytes next p
   unfolding judged
   is_uneven h count whole odd =
-      sym (cond-false (list_any is_missing bytes) (trapped 5 p) counted whole ∙ right count ∙ cond-true (list_any is_odd bytes) (trapped 4 p) last odd) ∙ with_room h
+      sym (cond-false (list_any is_missing bytes) (trapped OutOfRange p) counted whole ∙ right count ∙ cond-true (list_any is_odd bytes) (trapped NotBoolean p) last odd) ∙ with_room h
 
   pub is_stepped : o + output_count kind ≤ n → length bytes ≡ boolean_count kind → list_any is_missing bytes ≡ false → list_any is_odd bytes ≡ false →
       (bits : ℕ) → pin_of bits ≡ pins_on bytes → stepped_by i o limit kind (pin_of bits) next (loaded kind (instance_bytes 0 i p.blocks)) p ≡ block_as n i o limit kind bytes next p
   unfolding judged last
   is_stepped h count whole odd bits pins =
       ap (λ f. stepped_by i o limit kind f next (loaded kind (instance_bytes 0 i p.blocks)) p) pins
-      ∙ sym (cond-false (list_any is_missing bytes) (trapped 5 p) counted whole ∙ right count ∙ cond-false (list_any is_odd bytes) (trapped 4 p) last odd) ∙ with_room h
+      ∙ sym (cond-false (list_any is_missing bytes) (trapped OutOfRange p) counted whole ∙ right count ∙ cond-false (list_any is_odd bytes) (trapped NotBoolean p) last odd) ∙ with_room h
 
 -- the BLOCK row at a place of the code
 module _ (n k at : ℕ) (code : List ℕ) (p : Plain) where
   size : size_of (block_at code at) ≡ 11 + 2 * slice_index code (at + 10)
   size = ap (λ m. 11 + 2 * m) (length-map-range_with_len (λ j. be2 code (at + 11 + 2 * j)) 0 (slice_index code (at + 10)))
 
-  pub block_cut : length code < at + (11 + 2 * slice_index code (at + 10)) → trapped 2 p ≡ carried_out n k (whole code at (block_at code at)) p
+  pub block_cut : length code < at + (11 + 2 * slice_index code (at + 10)) → trapped PastEnd p ≡ carried_out n k (whole code at (block_at code at)) p
   block_cut h =
       let test : nat_lt (length code) (at + size_of (block_at code at)) ≡ true = ap (λ m. nat_lt (length code) (at + m)) size ∙ lt-ltb (length code) (at + (11 + 2 * slice_index code (at + 10))) h in
-      ap (λ (r : Result Row ℕ). carried_out n k r p) (sym (cond-true (nat_lt (length code) (at + size_of (block_at code at))) (Err 2) (Ok (block_at code at)) test))
+      ap (λ (r : Result EquationRow Trap). carried_out n k r p) (sym (cond-true (nat_lt (length code) (at + size_of (block_at code at))) (Err PastEnd) (Ok (block_at code at)) test))
 
   pub block_whole : p.offset ≡ at → at + (11 + 2 * slice_index code (at + 10)) ≤ length code →
       after_block n k (be2 code (at + 1)) (slice_index code (at + 3)) (be2 code (at + 4)) (be4 code (at + 6)) (operands code (at + 11) (slice_index code (at + 10))) (at + (11 + 2 * slice_index code (at + 10))) p
@@ -78,15 +80,15 @@ module _ (n k at : ℕ) (code : List ℕ) (p : Plain) where
       let test : nat_lt (length code) (at + size_of (block_at code at)) ≡ false = ap (λ m. nat_lt (length code) (at + m)) size ∙ le-ltb (length code) (at + (11 + 2 * slice_index code (at + 10))) h in
       let next : at + (11 + 2 * slice_index code (at + 10)) ≡ p.offset + size_of (block_at code at) = λ x. sym here x + sym size x in
       ap (λ m. after_row n k (block_at code at) m p) next
-      ∙ ap (λ (r : Result Row ℕ). carried_out n k r p) (sym (cond-false (nat_lt (length code) (at + size_of (block_at code at))) (Err 2) (Ok (block_at code at)) test))
+      ∙ ap (λ (r : Result EquationRow Trap). carried_out n k r p) (sym (cond-false (nat_lt (length code) (at + size_of (block_at code at))) (Err PastEnd) (Ok (block_at code at)) test))
 
 -- a row that is whole
-pub row_whole : (n k at size : ℕ) (code : List ℕ) (p : Plain) (row : Row) → size_of row ≡ size → p.offset ≡ at → at + size ≤ length code →
+pub row_whole : (n k at size : ℕ) (code : List ℕ) (p : Plain) (row : EquationRow) → size_of row ≡ size → p.offset ≡ at → at + size ≤ length code →
     after_row n k row (at + size) p ≡ carried_out n k (whole code at row) p
 row_whole n k at size code p row is here h =
     let test : nat_lt (length code) (at + size_of row) ≡ false = ap (λ m. nat_lt (length code) (at + m)) is ∙ le-ltb (length code) (at + size) h in
     let next : at + size ≡ p.offset + size_of row = λ x. sym here x + sym is x in
-    ap (λ m. after_row n k row m p) next ∙ ap (λ (r : Result Row ℕ). carried_out n k r p) (sym (cond-false (nat_lt (length code) (at + size_of row)) (Err 2) (Ok row) test))
+    ap (λ m. after_row n k row m p) next ∙ ap (λ (r : Result EquationRow Trap). carried_out n k r p) (sym (cond-false (nat_lt (length code) (at + size_of row)) (Err PastEnd) (Ok row) test))
 
 -- SET, ALL or ANY that is whole
 pub gate_whole : (how : Gate) (n k at t c : ℕ) (code : List ℕ) (p : Plain) → p.offset ≡ at → at + 5 ≤ length code →
@@ -96,10 +98,10 @@ gate_whole All n k at t c code p here h = row_whole n k at 5 code p (all_row t c
 gate_whole Any n k at t c code p here h = row_whole n k at 5 code p (any_row t c) refl here h
 
 -- SET, ALL or ANY that is cut
-pub gate_cut : (how : Gate) (n k at t c : ℕ) (code : List ℕ) (p : Plain) → length code < at + 5 → trapped 2 p ≡ carried_out n k (whole code at (gate_row how t c)) p
+pub gate_cut : (how : Gate) (n k at t c : ℕ) (code : List ℕ) (p : Plain) → length code < at + 5 → trapped PastEnd p ≡ carried_out n k (whole code at (gate_row how t c)) p
 gate_cut how n k at t c code p h =
     let test : nat_lt (length code) (at + size_of (gate_row how t c)) ≡ true = ap (λ m. nat_lt (length code) (at + m)) (five how) ∙ lt-ltb (length code) (at + 5) h in
-    ap (λ (r : Result Row ℕ). carried_out n k r p) (sym (cond-true (nat_lt (length code) (at + size_of (gate_row how t c))) (Err 2) (Ok (gate_row how t c)) test))
+    ap (λ (r : Result EquationRow Trap). carried_out n k r p) (sym (cond-true (nat_lt (length code) (at + size_of (gate_row how t c))) (Err PastEnd) (Ok (gate_row how t c)) test))
   where
     five : (how : Gate) → size_of (gate_row how t c) ≡ 5
     five Set = refl

@@ -12,3 +12,4 @@ pub mod Reported
 pub mod StaysPlain
 pub mod Runs
 pub mod StoredBytes
+pub mod StoredRuns

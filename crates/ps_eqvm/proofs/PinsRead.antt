@@ -9,7 +9,7 @@ use Rattle.std.proofs.lemmas.List.Folds.{list_any-append}
 use Rattle.std.proofs.lemmas.List.FromFn.{length-map-range_with_len, get_or-map-range_with_len, map-range_with_len_more}
 use Rattle.std.proofs.lemmas.Simd.{map-map}
 use Rattle.ps_machine.specs.Bytes.{bit, is_no_bit}
-use Rattle.ps_rows.specs.Viewed.{pin_of}
+use Rattle.ps_model.specs.PinBits.{pin_of}
 use Rattle.ps_eqvm.specs.declared.operand.Found.TheVariants.{Missing, Odd, Truth}
 use Rattle.ps_eqvm.specs.declared.block.Pins.TheVariants.{Bits, Odd as Odd_pins}
 use Rattle.ps_eqvm.specs.Finding.{found_of}

@@ -14,11 +14,14 @@ use Rattle.ps_model.specs.Stored.{stored, loaded, does_load, kept_in}
 use Rattle.ps_machine.specs.Bytes.{bit, be2, be4, is_no_bit, replaced, instance_bytes}
 use Rattle.ps_machine.specs.Kinds.{kind_of}
 use Rattle.ps_eqvm.specs.Plain.{Plain, IsPlain, complement, parsed}
-use Rattle.ps_eqvm.specs.Rows.{Row, last_row, set_row, all_row, any_row, block_row, operand_of, size_of, whole, block_at, fetched}
+use Rattle.ps_eqvm.specs.Rows.{EquationRow, last_row, set_row, all_row, any_row, block_row, operand_of, size_of, whole, block_at, fetched}
 use Rattle.ps_eqvm.specs.Acting.{trapped, with_cell, byte_of, target_of, after_set, after_join, is_missing, is_odd, pins_on, pin_bytes, settled, stepped_by, block_as, block_by}
 use Rattle.ps_eqvm.specs.Turn.{after_row, carried_out, turn_plain, begin_plain}
 use Rattle.ps_eqvm.proofs.Again.{bytes-append, four, one}
 use Rattle.ps_eqvm.proofs.Complements.{complement_small}
+use Rattle.ps_eqvm.specs.Traps.{number_of}
+use Rattle.ps_eqvm.specs.declared.trap.Trap.{Trap}
+use Rattle.ps_eqvm.specs.declared.trap.Trap.TheVariants.{UnknownOpcode, PastEnd, PinCount, NotBoolean, OutOfRange, NoInstance, NotLoaded}
 
 -- ---- lists of bytes
 abbrev AreBytes : List ℕ → Type 0
@@ -109,18 +112,27 @@ latched_small OutControl pins q q' mode low = lit< tt
 latched_small Edm pins q q' mode low = lit< tt
 
 -- ---- one row
-trap_plain : (t : ℕ) (p : Plain) → t < 8 → IsPlain p → IsPlain (trapped t p)
-trap_plain t p low is = record { offset = is.offset; progress = omega arith; last = is.last; passed = is.passed; cells = is.cells; blocks = is.blocks }
+small_trap : (t : Trap) → number_of t + 1 < 256
+small_trap UnknownOpcode = lit< tt
+small_trap PastEnd = lit< tt
+small_trap PinCount = lit< tt
+small_trap NotBoolean = lit< tt
+small_trap OutOfRange = lit< tt
+small_trap NoInstance = lit< tt
+small_trap NotLoaded = lit< tt
+
+trap_plain : (t : Trap) (p : Plain) → IsPlain p → IsPlain (trapped t p)
+trap_plain t p is = record { offset = is.offset; progress = small_trap t; last = is.last; passed = is.passed; cells = is.cells; blocks = is.blocks }
 
 cell_plain : (i byte next : ℕ) (p : Plain) → byte < 256 → next < 2 ^ 32 → IsPlain p → IsPlain (with_cell i byte next p)
 cell_plain i byte next p low small is =
     record { offset = small; progress = is.progress; last = is.last; passed = is.passed; cells = set_bytes p.cells i byte is.cells low; blocks = is.blocks }
 
 set_plain : (target byte : Option ℕ) (next : ℕ) (p : Plain) → next < 2 ^ 32 → IsPlain p → IsPlain (after_set target byte next p)
-set_plain None byte next p small is = trap_plain 5 p (lit< tt) is
-set_plain (Some i) None next p small is = trap_plain 5 p (lit< tt) is
+set_plain None byte next p small is = trap_plain OutOfRange p is
+set_plain (Some i) None next p small is = trap_plain OutOfRange p is
 set_plain (Some i) (Some byte) next p small is =
-    cond_both (is_no_bit byte) (trapped 4 p) (with_cell i byte next p) IsPlain (λ _. trap_plain 4 p (lit< tt) is)
+    cond_both (is_no_bit byte) (trapped NotBoolean p) (with_cell i byte next p) IsPlain (λ _. trap_plain NotBoolean p is)
     (λ h. let low : byte ≤ 1 = ltb-false 1 byte h in cell_plain i byte next p (omega arith) small is)
 
 -- two bits join to a byte
@@ -146,11 +158,11 @@ or_bits zero (suc (suc y)) p q = absurd (omega arith)
 or_bits (suc zero) (suc (suc y)) p q = absurd (omega arith)
 
 join_plain : (join : ℕ → ℕ → ℕ) → Bits join → (target byte : Option ℕ) (next : ℕ) (p : Plain) → next < 2 ^ 32 → IsPlain p → IsPlain (after_join join target byte next p)
-join_plain join bits None byte next p small is = trap_plain 5 p (lit< tt) is
-join_plain join bits (Some i) None next p small is = trap_plain 5 p (lit< tt) is
+join_plain join bits None byte next p small is = trap_plain OutOfRange p is
+join_plain join bits (Some i) None next p small is = trap_plain OutOfRange p is
 join_plain join bits (Some i) (Some byte) next p small is =
     let there = slice_index p.cells i in
-    cond_both (is_no_bit byte || is_no_bit there) (trapped 4 p) (with_cell i (join there byte) next p) IsPlain (λ _. trap_plain 4 p (lit< tt) is)
+    cond_both (is_no_bit byte || is_no_bit there) (trapped NotBoolean p) (with_cell i (join there byte) next p) IsPlain (λ _. trap_plain NotBoolean p is)
     (λ h. let both = or_parts (is_no_bit byte) (is_no_bit there) h in
     cell_plain i (join there byte) next p (bits there byte (ltb-false 1 there both.1) (ltb-false 1 byte both.0)) small is)
 
@@ -170,64 +182,64 @@ loaded_plain i o limit kind pins next bytes p h small is =
     cond_both (does_load kind bytes) (Some (kept_in bytes)) None (λ kept. IsPlain (stepped_by i o limit kind pins next kept p))
     (λ _. let k' : Kept = counted_down kind limit pins p.passed (kept_in bytes) in
     settled_plain i o kind k' next p (latched_small kind pins (kept_in bytes).code k'.code (slice_index bytes 4) (h 4)) small is)
-    (λ _. trap_plain 7 p (lit< tt) is)
+    (λ _. trap_plain NotLoaded p is)
 
 module _ (n k : ℕ) where
   block_as_plain : (i o limit : ℕ) (kind : Kind) (bytes : List (Option ℕ)) (next : ℕ) (p : Plain) → next < 2 ^ 32 → IsPlain p → IsPlain (block_as n i o limit kind bytes next p)
   block_as_plain i o limit kind bytes next p small is =
       let sixteen = instance_bytes 0 i p.blocks in
       let last : Plain = stepped_by i o limit kind (pins_on bytes) next (loaded kind sixteen) p in
-      let odd : Plain = cond (list_any is_odd bytes) (trapped 4 p) last in
-      let counted : Plain = cond (not (length bytes == boolean_count kind)) (trapped 3 p) odd in
-      cond_both (nat_lt n (o + output_count kind) || list_any is_missing bytes) (trapped 5 p) counted IsPlain (λ _. trap_plain 5 p (lit< tt) is)
-      (λ _. cond_both (not (length bytes == boolean_count kind)) (trapped 3 p) odd IsPlain (λ _. trap_plain 3 p (lit< tt) is)
-      (λ _. cond_both (list_any is_odd bytes) (trapped 4 p) last IsPlain (λ _. trap_plain 4 p (lit< tt) is)
+      let odd : Plain = cond (list_any is_odd bytes) (trapped NotBoolean p) last in
+      let counted : Plain = cond (not (length bytes == boolean_count kind)) (trapped PinCount p) odd in
+      cond_both (nat_lt n (o + output_count kind) || list_any is_missing bytes) (trapped OutOfRange p) counted IsPlain (λ _. trap_plain OutOfRange p is)
+      (λ _. cond_both (not (length bytes == boolean_count kind)) (trapped PinCount p) odd IsPlain (λ _. trap_plain PinCount p is)
+      (λ _. cond_both (list_any is_odd bytes) (trapped NotBoolean p) last IsPlain (λ _. trap_plain NotBoolean p is)
       (λ _. loaded_plain i o limit kind (pins_on bytes) next sixteen p (take_bytes 16 (drop (0 + 16 * i) p.blocks) (drop_bytes (0 + 16 * i) p.blocks is.blocks)) small is)))
 
   block_by_plain : (i o limit : ℕ) (kind : Option Kind) (bytes : List (Option ℕ)) (next : ℕ) (p : Plain) → next < 2 ^ 32 → IsPlain p → IsPlain (block_by n i o limit kind bytes next p)
-  block_by_plain i o limit None bytes next p small is = trap_plain 6 p (lit< tt) is
+  block_by_plain i o limit None bytes next p small is = trap_plain NoInstance p is
   block_by_plain i o limit (Some kind) bytes next p small is = block_as_plain i o limit kind bytes next p small is
 
-  row_plain : (row : Row) (next : ℕ) (p : Plain) → next < 2 ^ 32 → IsPlain p → IsPlain (after_row n k row next p)
+  row_plain : (row : EquationRow) (next : ℕ) (p : Plain) → next < 2 ^ 32 → IsPlain p → IsPlain (after_row n k row next p)
   row_plain last_row next p small is = record { offset = small; progress = lit< tt; last = is.last; passed = is.passed; cells = is.cells; blocks = is.blocks }
   row_plain (set_row t c) next p small is = set_plain (target_of (operand_of n t)) (byte_of p.cells (operand_of n c)) next p small is
   row_plain (all_row t c) next p small is = join_plain bit_and and_bits (target_of (operand_of n t)) (byte_of p.cells (operand_of n c)) next p small is
   row_plain (any_row t c) next p small is = join_plain bit_or or_bits (target_of (operand_of n t)) (byte_of p.cells (operand_of n c)) next p small is
   row_plain (block_row i kind o limit pins) next p small is =
-      cond_both (nat_le k i) (trapped 6 p) (block_by n i o limit (kind_of kind) (pin_bytes n p.cells pins) next p) IsPlain (λ _. trap_plain 6 p (lit< tt) is)
+      cond_both (nat_le k i) (trapped NoInstance p) (block_by n i o limit (kind_of kind) (pin_bytes n p.cells pins) next p) IsPlain (λ _. trap_plain NoInstance p is)
       (λ _. block_by_plain i o limit (kind_of kind) (pin_bytes n p.cells pins) next p small is)
 
   -- a row that was read ends in the code
-  abbrev Fits : List ℕ → ℕ → Result Row ℕ → Type 0
+  abbrev Fits : List ℕ → ℕ → Result EquationRow Trap → Type 0
   Fits code at (Ok row) = at + size_of row ≤ length code
-  Fits code at (Err t) = t < 8
+  Fits code at (Err t) = Unit {0}
 
-  whole_fits : (code : List ℕ) (at : ℕ) (row : Row) → Fits code at (whole code at row)
-  whole_fits code at row = cond_both (nat_lt (length code) (at + size_of row)) (Err 2) (Ok row) (Fits code at) (λ _. lit< tt) (λ h. ltb-false (length code) (at + size_of row) h)
+  whole_fits : (code : List ℕ) (at : ℕ) (row : EquationRow) → Fits code at (whole code at row)
+  whole_fits code at row = cond_both (nat_lt (length code) (at + size_of row)) (Err PastEnd) (Ok row) (Fits code at) (λ _. tt) (λ h. ltb-false (length code) (at + size_of row) h)
 
   fetched_fits : (code : List ℕ) (at : ℕ) → Fits code at (fetched code at)
   fetched_fits code at =
       let opcode = slice_index code at in
-      let r1 : Result Row ℕ = whole code at (set_row (be2 code (at + 1)) (be2 code (at + 3))) in
-      let r2 : Result Row ℕ = whole code at (all_row (be2 code (at + 1)) (be2 code (at + 3))) in
-      let r3 : Result Row ℕ = whole code at (any_row (be2 code (at + 1)) (be2 code (at + 3))) in
-      let r4 : Result Row ℕ = whole code at (block_at code at) in
-      let none : Result Row ℕ = Err 1 in
-      let t4 : Result Row ℕ = cond (opcode == 0xF4) r4 none in
-      let t3 : Result Row ℕ = cond (opcode == 0xF3) r3 t4 in
-      let t2 : Result Row ℕ = cond (opcode == 0xF2) r2 t3 in
-      let t1 : Result Row ℕ = cond (opcode == 0xF1) r1 t2 in
-      let t0 : Result Row ℕ = cond (opcode == 0xF0) (whole code at last_row) t1 in
-      cond_both (nat_le (length code) at) (Err 2) t0 (Fits code at) (λ _. lit< tt)
+      let r1 : Result EquationRow Trap = whole code at (set_row (be2 code (at + 1)) (be2 code (at + 3))) in
+      let r2 : Result EquationRow Trap = whole code at (all_row (be2 code (at + 1)) (be2 code (at + 3))) in
+      let r3 : Result EquationRow Trap = whole code at (any_row (be2 code (at + 1)) (be2 code (at + 3))) in
+      let r4 : Result EquationRow Trap = whole code at (block_at code at) in
+      let none : Result EquationRow Trap = Err UnknownOpcode in
+      let t4 : Result EquationRow Trap = cond (opcode == 0xF4) r4 none in
+      let t3 : Result EquationRow Trap = cond (opcode == 0xF3) r3 t4 in
+      let t2 : Result EquationRow Trap = cond (opcode == 0xF2) r2 t3 in
+      let t1 : Result EquationRow Trap = cond (opcode == 0xF1) r1 t2 in
+      let t0 : Result EquationRow Trap = cond (opcode == 0xF0) (whole code at last_row) t1 in
+      cond_both (nat_le (length code) at) (Err PastEnd) t0 (Fits code at) (λ _. tt)
       (λ _. cond_both (opcode == 0xF0) (whole code at last_row) t1 (Fits code at) (λ _. whole_fits code at last_row)
       (λ _. cond_both (opcode == 0xF1) r1 t2 (Fits code at) (λ _. whole_fits code at (set_row (be2 code (at + 1)) (be2 code (at + 3))))
       (λ _. cond_both (opcode == 0xF2) r2 t3 (Fits code at) (λ _. whole_fits code at (all_row (be2 code (at + 1)) (be2 code (at + 3))))
       (λ _. cond_both (opcode == 0xF3) r3 t4 (Fits code at) (λ _. whole_fits code at (any_row (be2 code (at + 1)) (be2 code (at + 3))))
-      (λ _. cond_both (opcode == 0xF4) r4 none (Fits code at) (λ _. whole_fits code at (block_at code at)) (λ _. lit< tt))))))
+      (λ _. cond_both (opcode == 0xF4) r4 none (Fits code at) (λ _. whole_fits code at (block_at code at)) (λ _. tt))))))
 
-  carried_plain : (code : List ℕ) (row : Result Row ℕ) (p : Plain) → length code < 2 ^ 32 → Fits code p.offset row → IsPlain p → IsPlain (carried_out n k row p)
+  carried_plain : (code : List ℕ) (row : Result EquationRow Trap) (p : Plain) → length code < 2 ^ 32 → Fits code p.offset row → IsPlain p → IsPlain (carried_out n k row p)
   carried_plain code (Ok row) p small fits is = row_plain row (p.offset + size_of row) p (omega arith) is
-  carried_plain code (Err t) p small fits is = trap_plain t p fits is
+  carried_plain code (Err t) p small fits is = trap_plain t p is
 
   pub turn_plain_is : (code : List ℕ) (p : Plain) → length code < 2 ^ 32 → IsPlain p → IsPlain (turn_plain n k code p)
   turn_plain_is code p small is = carried_plain code (fetched code p.offset) p small (fetched_fits code p.offset) is

@@ -15,6 +15,7 @@ words_for count = (count + 63) / 64
 abbrev pub plain_cell : (value odd counted : List ℕ) → ℕ → ℕ
 plain_cell value odd counted i = if bit_in odd i == 1 then slice_index counted i else bit_in value i
 
+-- the plain bytes of all cells in order
 abbrev pub plain_cells : (value odd counted : List ℕ) → List ℕ
 plain_cells value odd counted = map (plain_cell value odd counted) (range_with_len 0 (length counted))
 

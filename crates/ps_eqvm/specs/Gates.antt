@@ -1,21 +1,18 @@
--- SET, ALL and ANY: their opcodes, their rows, and what they leave.
+-- SET, ALL and ANY: their rows, and what they leave.
 use Rattle.std.specs.Prelude.{ℕ, Bool, true, not, Option, bit_and, bit_or}
-use Rattle.ps_eqvm.specs.declared.gates.Gate.{Gate}
-use Rattle.ps_eqvm.specs.declared.gates.Gate.TheVariants.{Set, All, Any}
+use Rattle.ps_eqvm.specs.declared.opcode.Gate.{Gate}
+use Rattle.ps_eqvm.specs.declared.opcode.Gate.TheVariants.{Set, All, Any}
 use Rattle.ps_eqvm.specs.Plain.{Plain}
-use Rattle.ps_eqvm.specs.Rows.{Row, set_row, all_row, any_row}
+use Rattle.ps_eqvm.specs.Rows.{EquationRow, set_row, all_row, any_row}
 use Rattle.ps_eqvm.specs.Acting.{after_set, after_join}
 
-abbrev pub opcode_of : Gate → ℕ
-opcode_of Set = 0xF1
-opcode_of All = 0xF2
-opcode_of Any = 0xF3
-
-abbrev pub gate_row : Gate → (target operand : ℕ) → Row
+-- the row by which a gate gives a target the operand
+abbrev pub gate_row : Gate → (target operand : ℕ) → EquationRow
 gate_row Set = set_row
 gate_row All = all_row
 gate_row Any = any_row
 
+-- what a gate leaves
 abbrev pub after_gate : Gate → (target byte : Option ℕ) → (next : ℕ) → Plain → Plain
 after_gate Set = after_set
 after_gate All = after_join bit_and

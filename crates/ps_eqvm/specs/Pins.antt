@@ -3,7 +3,7 @@ use Rattle.std.specs.Prelude.{◌≡◌, ℕ, ◌+◌, ◌*◌, ◌<◌, ◌≤�
 use Rattle.std.specs.List.{list_any, range_with_len}
 use Rattle.std.specs.Int.{bit_at}
 use Rattle.ps_machine.specs.Bytes.{be2}
-use Rattle.ps_rows.specs.Viewed.{pin_of}
+use Rattle.ps_model.specs.PinBits.{pin_of}
 use Rattle.ps_eqvm.specs.declared.block.Pins.{Pins}
 use Rattle.ps_eqvm.specs.declared.block.Pins.TheVariants.{Missing, Odd, Bits}
 use Rattle.ps_eqvm.specs.Rows.{operand_of}

@@ -2,6 +2,7 @@
 use Rattle.std.specs.Prelude.{◌≡◌, ℕ, ◌+◌, ◌-◌, ◌*◌, ◌^◌, ◌<◌, List, ◌∷◌, ◌++◌, length, take, drop, map, replicate, slice_index}
 use Rattle.std.specs.Int.{w32, to_be_bytes}
 use Rattle.ps_machine.specs.Bytes.{be4}
+use Rattle.ps_eqvm.specs.declared.layout.TheConstants.{OFFSET_AT, PROGRESS_AT, LAST_AT, PASSED_AT, WORK_AT, WORK_CELLS, SIGNALS_AT}
 
 -- The plain content: where the next row stands in the code, the progress, the time of the last scan that began and the time passed in this
 -- one in ms, the 48 work cells and then the signals, and the sixteen bytes of each instance.
@@ -34,12 +35,12 @@ abbrev pub parsed : (signals : ℕ) → List ℕ → Plain
 parsed signals stored =
     let bytes = complement stored in
     record {
-      offset = be4 bytes 0;
-      progress = slice_index bytes 4;
-      last = be4 bytes 5;
-      passed = be4 bytes 9;
-      cells = take (48 + signals) (drop 13 bytes);
-      blocks = drop (61 + signals) bytes;
+      offset = be4 bytes OFFSET_AT;
+      progress = slice_index bytes PROGRESS_AT;
+      last = be4 bytes LAST_AT;
+      passed = be4 bytes PASSED_AT;
+      cells = take (WORK_CELLS + signals) (drop WORK_AT bytes);
+      blocks = drop (SIGNALS_AT + signals) bytes;
     }
 
 -- Its numbers fit their bytes, and its bytes are bytes.
@@ -53,5 +54,5 @@ pub record IsPlain (p : Plain) : Type 0 where
 
 -- It has the cells of an application of these sizes.
 pub record IsSized (signals instances : ℕ) (p : Plain) : Type 0 where
-  pub cells : length p.cells ≡ 48 + signals
+  pub cells : length p.cells ≡ WORK_CELLS + signals
   pub blocks : length p.blocks ≡ 16 * instances

@@ -7,20 +7,21 @@ ghost use Rattle.ps_model.specs.Blocks.{output_count};
 ghost use Rattle.ps_model.specs.Budgets.{boolean_count};
 ghost use Rattle.ps_model.specs.Stored.{loaded};
 ghost use Rattle.ps_machine.specs.Bytes.{bit, instance_bytes};
-ghost use Rattle.ps_rows.specs.Viewed.{pin_of};
+ghost use Rattle.ps_model.specs.PinBits.{pin_of};
 ghost use Rattle.ps_eqvm.specs.Plain.{IsSized};
 ghost use Rattle.ps_eqvm.specs.Rows.{operands};
 ghost use Rattle.ps_eqvm.specs.Acting.{after_block, block_as, trapped, stepped_by, pin_bytes, is_missing};
 ghost use Rattle.ps_eqvm.specs.Pins.{Reads, ReadSoFar};
 ghost use Rattle.ps_eqvm.specs.Finding.{found_of};
 
+use crate::layout::WORK_CELLS;
 use crate::operand::Found;
 use crate::plain::PlainCells;
+use crate::trap::Trap;
 use crate::words::with_bit;
 use ps_machine::bytes::number_in_two;
-use ps_machine::calls::kind_by_number;
-use ps_model::budget::boolean_count;
-use ps_model::kind::{Kind, output_count};
+use ps_model::kind::Kind;
+use ps_rows::{all_outputs, boolean_pins, kind_with_number};
 
 /// What a look at the operands of a row finds.
 #[derive(Clone, Copy)]
@@ -72,7 +73,7 @@ fn with_found(so_far: PinBits, j: u8, found: Found) -> Option<PinBits>
 
 // The pins that so many operands from a place of the code on give, among so many signals.
 fn pins_of(plain: &PlainCells, signals: u16, code: &[u8], from: usize, count: u8) -> Pins
-    requires sized { length plain.now.cells ≡ 48 + signals }
+    requires sized { length plain.now.cells ≡ WORK_CELLS + signals }
     requires whole { from + 2 * count ≤ length code.now }
     requires few { count ≤ 32 }
     ensures { Reads result (pin_bytes signals plain.now.cells (operands code.now from count)) }
@@ -108,7 +109,7 @@ fn was_bad(found: Found) -> bool
 
 // Whether one of so many operands from a place of the code on is bad, among so many signals.
 fn has_bad(plain: &PlainCells, signals: u16, code: &[u8], from: usize, count: u8) -> bool
-    requires sized { length plain.now.cells ≡ 48 + signals }
+    requires sized { length plain.now.cells ≡ WORK_CELLS + signals }
     requires whole { from + 2 * count ≤ length code.now }
     ensures { result ≡ list_any is_missing (pin_bytes signals plain.now.cells (operands code.now from count)) }
 {
@@ -136,30 +137,30 @@ pub fn block(
     ensures { plain.new ≡ after_block site.signals instances site.instance kind site.first site.limit (operands code.now from count) site.next plain.old }
 {
     if site.instance >= instances {
-        return plain.trap(6);
+        return plain.trap(Trap::NoInstance);
     }
-    match kind_by_number(kind) {
+    match kind_with_number(kind) {
         Some(kind) => block_as(plain, kind, site, code, from, count),
-        None => plain.trap(6),
+        None => plain.trap(Trap::NoInstance),
     }
 }
 
 // BLOCK of an instance that is there.
 fn block_as(plain: &mut PlainCells, kind: Kind, site: Site, code: &[u8], from: usize, count: u8)
-    requires cells { length plain.old.cells ≡ 48 + site.signals }
+    requires cells { length plain.old.cells ≡ WORK_CELLS + site.signals }
     requires blocks { 16 * site.instance + 16 ≤ length plain.old.blocks }
     requires whole { from + 2 * count ≤ length code.now }
     ensures { plain.new ≡ block_as site.signals site.instance site.first site.limit kind (pin_bytes site.signals plain.old.cells (operands code.now from count)) site.next plain.old }
 {
-    if u32::from(site.first) + u32::from(output_count(kind)) > u32::from(site.signals) {
-        return plain.trap(5);
+    if u32::from(site.first) + u32::from(all_outputs(kind)) > u32::from(site.signals) {
+        return plain.trap(Trap::OutOfRange);
     }
-    if count != boolean_count(kind) {
-        return miscounted(plain, site.signals, code, from, count);
+    if count != boolean_pins(kind) {
+        return trap_miscount(plain, site.signals, code, from, count);
     }
     match pins_of(plain, site.signals, code, from, count) {
-        Pins::Missing => plain.trap(5),
-        Pins::Odd => plain.trap(4),
+        Pins::Missing => plain.trap(Trap::OutOfRange),
+        Pins::Odd => plain.trap(Trap::NotBoolean),
         Pins::Bits(bits) => step_as(plain, kind, bits, site),
     }
 }
@@ -167,29 +168,29 @@ fn block_as(plain: &mut PlainCells, kind: Kind, site: Site, code: &[u8], from: u
 // BLOCK with a wrong number of operands: all of them are judged first.
 #[cold]
 #[inline(never)]
-fn miscounted(plain: &mut PlainCells, signals: u16, code: &[u8], from: usize, count: u8)
-    requires cells { length plain.old.cells ≡ 48 + signals }
+fn trap_miscount(plain: &mut PlainCells, signals: u16, code: &[u8], from: usize, count: u8)
+    requires cells { length plain.old.cells ≡ WORK_CELLS + signals }
     requires whole { from + 2 * count ≤ length code.now }
-    ensures { plain.new ≡ (if list_any is_missing (pin_bytes signals plain.old.cells (operands code.now from count)) then trapped 5 plain.old else trapped 3 plain.old) }
+    ensures { plain.new ≡ (if list_any is_missing (pin_bytes signals plain.old.cells (operands code.now from count)) then trapped Trap.OutOfRange plain.old else trapped Trap.PinCount plain.old) }
 {
     if has_bad(plain, signals, code, from, count) {
-        plain.trap(5)
+        plain.trap(Trap::OutOfRange)
     } else {
-        plain.trap(3)
+        plain.trap(Trap::PinCount)
     }
 }
 
 // The step of an instance as a kind, with pins that are there.
 fn step_as(plain: &mut PlainCells, kind: Kind, bits: u32, site: Site)
-    requires cells { length plain.old.cells ≡ 48 + site.signals }
+    requires cells { length plain.old.cells ≡ WORK_CELLS + site.signals }
     requires blocks { 16 * site.instance + 16 ≤ length plain.old.blocks }
     requires outs { site.first + output_count kind ≤ site.signals }
     ensures { plain.new ≡ stepped_by site.instance site.first site.limit kind (pin_of bits) site.next (loaded kind (instance_bytes 0 site.instance plain.old.blocks)) plain.old }
 {
     match plain.instance(site.instance as usize) {
-        None => plain.trap(7),
+        None => plain.trap(Trap::NotLoaded),
         Some(block) => match block.stepped_if_kept(kind, bits, site.limit, plain.passed()) {
-            None => plain.trap(7),
+            None => plain.trap(Trap::NotLoaded),
             Some(after) => plain.settle(kind, after, site.instance, site.first, site.next),
         },
     }

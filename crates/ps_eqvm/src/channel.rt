@@ -2,11 +2,12 @@
 
 ghost use Rattle.std.specs.Prelude.{◌≡◌, ◌+◌, ◌*◌, IfOk};
 
-use crate::image::EquationImage;
+use crate::layout::SIGNALS_AT;
 use crate::plain::PlainCells;
 use crate::{report, turn};
 use ps_base::Memory;
-use ps_machine::bytes::{overwrite, progress_of_byte, replace};
+use ps_machine::bytes::{overwrite, progress_of_byte};
+use ps_machine::{CodeImage, ScanMachine};
 use ps_model::channel::{OutOfRegion, Progress, Region};
 use ps_model::report::{Report, Scan};
 use ps_model::sizes::Sizes;
@@ -27,9 +28,9 @@ pub struct EquationChannel {
 impl Model for EquationChannel {
     ghost use Rattle.std.specs.Prelude.{◌≡◌, ◌^◌, ◌<◌, length};
     ghost use Rattle.ps_eqvm.specs.Plain.{laid_out, IsSized};
-    ghost use Rattle.ps_eqvm.specs.Channel.{ChannelB};
+    ghost use Rattle.ps_machine.specs.StoredChannel.{Stored};
 
-    ghost Value = { ChannelB };
+    ghost Value = { Stored };
 
     ghost view = { λ c. record { sizes = c.sizes; code = c.code.items; cells = laid_out c.plain } };
 
@@ -38,27 +39,25 @@ impl Model for EquationChannel {
 
 // How many bytes the cells of an application have.
 fn cells_len(sizes: &Sizes) -> u32
-    ensures { result ≡ 61 + sizes.now.signals + 16 * sizes.now.instances }
+    ensures { result ≡ SIGNALS_AT + sizes.now.signals + 16 * sizes.now.instances }
 {
     let signals = sizes.signals;
     let instances = sizes.instances;
-    61 + signals as u32 + 16 * instances as u32
+    SIGNALS_AT as u32 + signals as u32 + 16 * instances as u32
 }
 
 impl EquationChannel {
-    ghost use Rattle.std.specs.Prelude.{◌≡◌, ℕ, ◌+◌, ◌<◌, ◌==◌, IfOk, None, Some, false, is_err, length, nat_lt, true};
-    ghost use Rattle.ps_machine.specs.Progressing.{progress_said};
+    ghost use Rattle.std.specs.Prelude.{◌≡◌, ℕ, ◌+◌, ◌<◌, ◌≤◌, ◌==◌, IfOk, None, Some, false, is_err, length, nat_lt, true};
+    ghost use Rattle.ps_machine.specs.Progressing.{progress_said, is_running};
     ghost use Rattle.ps_eqvm.specs.Bits.{AreBitsOf};
     ghost use Rattle.ps_eqvm.specs.Turn.{turn_b, begin_b, report_b};
-    ghost use Rattle.ps_eqvm.specs.Channel.{ChannelB, blank_b, progress_of, region_of, spoiled, bit_cells};
+    ghost use Rattle.ps_eqvm.specs.Channel.{blank_b, progress_of, bit_cells};
+    ghost use Rattle.ps_machine.specs.StoredChannel.{region_of, spoiled};
+    ghost use Rattle.ps_machine.specs.Machines.{turned};
 
     /// A channel with its own copy of the code, for an application of these sizes, with cells of plain
     /// value 0.
-    pub fn new(
-        alloc: Global,
-        image: &EquationImage,
-        sizes: &Sizes,
-    ) -> Result<EquationChannel, Memory>
+    pub fn new(alloc: Global, image: &CodeImage, sizes: &Sizes) -> Result<EquationChannel, Memory>
         ensures { IfOk result (λ c. c ≡ record { sizes = sizes.now; code = image.now; cells = blank_b sizes.now }) }
     {
         let sizes = sizes.copy(alloc)?;
@@ -68,7 +67,7 @@ impl EquationChannel {
     }
 
     /// The channel is as `new` makes it from this image.
-    pub fn renew(&mut self, image: &EquationImage)
+    pub fn renew(&mut self, image: &CodeImage)
         requires { length image.now ≡ length self.old.code }
         ensures { self.new ≡ record { sizes = self.old.sizes; code = image.now; cells = blank_b self.old.sizes } }
     {
@@ -108,6 +107,24 @@ impl EquationChannel {
         );
     }
 
+    /// Turns as long as the scan is Running, at most so many. The answer is how many there were: `most`,
+    /// or fewer where the scan is then no longer Running.
+    pub fn turns(&mut self, most: u32) -> u32
+        ensures cells { self.new ≡ record self.old { cells = turned (turn_b self.old.sizes self.old.code) result self.old.cells } }
+        ensures running { (j : ℕ) → j < result → progress_said (progress_of (turned (turn_b self.old.sizes self.old.code) j self.old.cells)) ≡ Progress.Running }
+        ensures most { result ≤ most }
+        ensures stopped { result < most → is_running (progress_said (progress_of self.new.cells)) ≡ false }
+    {
+        self.plain.sound();
+        turn::turns(
+            &mut self.plain,
+            &self.code,
+            self.sizes.signals,
+            self.sizes.instances,
+            most,
+        )
+    }
+
     /// The value words as they are kept: bit i is 1 exactly where the plain byte of work cell i, or
     /// from 48 on of signal i - 48, is 1. There are as many words as these cells need, and the bits
     /// past the last cell are 0.
@@ -141,7 +158,7 @@ impl EquationChannel {
     /// Replaces bytes of a region, as they are stored. OutOfRegion comes exactly where they would pass
     /// its end, and then nothing changed.
     pub fn spoil(&mut self, region: Region, at: u32, bytes: &[u8]) -> Result<(), OutOfRegion>
-        ensures spoiled { self.new ≡ spoiled region at bytes.now self.old }
+        ensures bytes { self.new ≡ spoiled region at bytes.now self.old }
         ensures refused { is_err result ≡ nat_lt (length (region_of region self.old)) (at + length bytes.now) }
     {
         match region {
@@ -158,8 +175,9 @@ impl EquationChannel {
     pub fn report_into(&self, into: &mut Report) -> bool
         requires outs { length into.old.outs ≡ self.now.sizes.outputs }
         requires diags { length into.old.diags ≡ self.now.sizes.instances }
-        ensures some { result ≡ true → report_b self.now.sizes self.now.cells ≡ Some into.new }
-        ensures none { result ≡ false → (report_b self.now.sizes self.now.cells ≡ None) × (into.new ≡ into.old) }
+        ensures report { result ≡ true → report_b self.now.sizes self.now.cells ≡ Some into.new }
+        ensures none { result ≡ false → report_b self.now.sizes self.now.cells ≡ None }
+        ensures kept { result ≡ false → into.new ≡ into.old }
     {
         self.plain.sound();
         if !report::has_report(&self.plain, &self.sizes) {
@@ -168,5 +186,49 @@ impl EquationChannel {
         report::write_outputs(&self.plain, &self.sizes, &mut into.outs);
         report::write_diags(&self.plain, &self.sizes, &mut into.diags);
         true
+    }
+}
+
+impl ScanMachine for EquationChannel {
+    ghost use Rattle.ps_eqvm.specs.Stands.{workings_b};
+
+    ghost stored = { λ channel. channel };
+
+    ghost workings = { workings_b };
+
+    fn new(alloc: Global, image: &CodeImage, sizes: &Sizes) -> Result<EquationChannel, Memory> {
+        EquationChannel::new(alloc, image, sizes)
+    }
+
+    fn renew(&mut self, image: &CodeImage) {
+        self.renew(image);
+    }
+
+    fn begin(&mut self, scan: &Scan) {
+        self.begin(scan);
+    }
+
+    fn progress(&self) -> Progress {
+        self.progress()
+    }
+
+    fn turn(&mut self) {
+        self.turn();
+    }
+
+    fn turns(&mut self, most: u32) -> u32 {
+        self.turns(most)
+    }
+
+    fn report_into(&self, into: &mut Report) -> bool {
+        self.report_into(into)
+    }
+
+    fn region_len(&self, region: Region) -> u32 {
+        self.region_len(region)
+    }
+
+    fn spoil(&mut self, region: Region, at: u32, bytes: &[u8]) -> Result<(), OutOfRegion> {
+        self.spoil(region, at, bytes)
     }
 }

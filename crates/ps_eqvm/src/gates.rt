@@ -6,33 +6,15 @@ ghost use Rattle.ps_eqvm.specs.Rows.{operand_of};
 ghost use Rattle.ps_eqvm.specs.Acting.{byte_of, target_of};
 ghost use Rattle.ps_eqvm.specs.Gates.{after_gate};
 
+use crate::layout::WORK_CELLS;
+use crate::opcode::Gate;
 use crate::operand::{Found, Operand};
 use crate::plain::PlainCells;
-
-/// The rows that give a target the value of an operand, or join it.
-#[derive(Clone, Copy)]
-pub enum Gate {
-    Set,
-    All,
-    Any,
-}
+use crate::trap::Trap;
 
 impl Gate {
-    ghost use Rattle.std.specs.Prelude.{◌≡◌, ◌≢◌, IfSome, IfNone};
-    ghost use Rattle.ps_eqvm.specs.Gates.{opcode_of, decides};
-
-    /// The one with an opcode, and None exactly where none has it.
-    pub fn with_opcode(opcode: u8) -> Option<Gate>
-        ensures some { IfSome result (λ gate. opcode_of gate ≡ opcode) }
-        ensures none { IfNone result ((gate : Gate) → opcode_of gate ≢ opcode) }
-    {
-        match opcode {
-            0xF1 => Some(Gate::Set),
-            0xF2 => Some(Gate::All),
-            0xF3 => Some(Gate::Any),
-            _ => None,
-        }
-    }
+    ghost use Rattle.std.specs.Prelude.{◌≡◌};
+    ghost use Rattle.ps_eqvm.specs.Gates.{decides};
 
     // Whether a value alone decides what becomes of the target: FALSE for ALL, and TRUE for ANY.
     fn is_decided_by(self, on: bool) -> bool
@@ -55,13 +37,13 @@ pub fn set_or_join(
     operand: u16,
     next: u32,
 )
-    requires { length plain.old.cells ≡ 48 + signals }
+    requires { length plain.old.cells ≡ WORK_CELLS + signals }
     ensures { plain.new ≡ after_gate how (target_of (operand_of signals target)) (byte_of plain.old.cells (operand_of signals operand)) next plain.old }
 {
     match Operand::numbered(signals, target) {
         Operand::Cell(i) => set_or_join_cell(plain, signals, how, i, operand, next),
-        Operand::Constant(_) => plain.trap(5),
-        Operand::Bad => plain.trap(5),
+        Operand::Constant(_) => plain.trap(Trap::OutOfRange),
+        Operand::Bad => plain.trap(Trap::OutOfRange),
     }
 }
 
@@ -74,13 +56,13 @@ fn set_or_join_cell(
     operand: u16,
     next: u32,
 )
-    requires cells { length plain.old.cells ≡ 48 + signals }
-    requires within { i < 48 + signals }
+    requires cells { length plain.old.cells ≡ WORK_CELLS + signals }
+    requires within { i < WORK_CELLS + signals }
     ensures { plain.new ≡ after_gate how (Some i) (byte_of plain.old.cells (operand_of signals operand)) next plain.old }
 {
     match plain.find(signals, operand) {
-        Found::Missing => plain.trap(5),
-        Found::Odd => plain.trap(4),
+        Found::Missing => plain.trap(Trap::OutOfRange),
+        Found::Odd => plain.trap(Trap::NotBoolean),
         Found::Truth(on) => match how {
             Gate::Set => plain.put(i as usize, on, next),
             _ => join(plain, how, i as usize, on, next),
@@ -95,7 +77,7 @@ fn join(plain: &mut PlainCells, how: Gate, i: usize, on: bool, next: u32)
     ensures { plain.new ≡ after_gate how (Some i) (Some (bit on)) next plain.old }
 {
     if plain.cell(i).is_none() {
-        return plain.trap(4);
+        return plain.trap(Trap::NotBoolean);
     }
     if how.is_decided_by(on) {
         plain.put_over(i, on, next)

@@ -28,7 +28,7 @@ impl Model for InstanceBytes {
 impl InstanceBytes {
     ghost use Rattle.std.specs.Prelude.{◌≡◌, ℕ, ◌+◌, ◌*◌, ◌<◌, ◌≤◌, ◌^◌, IfOk, IfSome, IfNone, length, replicate, slice_index, slice_set};
     ghost use Rattle.ps_model.specs.Stored.{stored};
-    ghost use Rattle.ps_rows.specs.Counted.{kept_by};
+    ghost use Rattle.ps_rows.specs.Counted.{kept_of};
     ghost use Rattle.ps_eqvm.specs.Instances.{LoadAs, LoadNowhere};
     ghost use Rattle.ps_machine.specs.Bytes.{be2, replaced, instance_bytes};
 
@@ -58,7 +58,7 @@ impl InstanceBytes {
     /// kind.
     pub fn at(&self, i: usize) -> Option<CountedBlock>
         requires { 16 * i + 16 ≤ length self.now }
-        ensures some { IfSome result (λ block. LoadAs (instance_bytes 0 i self.now) (kept_by block)) }
+        ensures some { IfSome result (λ block. LoadAs (instance_bytes 0 i self.now) (kept_of block)) }
         ensures none { IfNone result (LoadNowhere (instance_bytes 0 i self.now)) }
     {
         read(&self.stored, 16 * i)
@@ -75,7 +75,7 @@ impl InstanceBytes {
     /// Instance i keeps this.
     pub fn put(&mut self, i: usize, block: CountedBlock)
         requires { 16 * i + 16 ≤ length self.old }
-        ensures { self.new ≡ replaced self.old (16 * i) (stored (kept_by block)) }
+        ensures { self.new ≡ replaced self.old (16 * i) (stored (kept_of block)) }
     {
         replace(&mut self.stored, 16 * i, &store(block));
     }

@@ -3,7 +3,7 @@
 ghost use Rattle.std.specs.Prelude.{◌≡◌, ◌+◌, ◌≤◌, [], ◌∷◌, IfSome, IfNone, length, slice_index};
 ghost use Rattle.std.specs.Int.{from_be_bytes, w64};
 ghost use Rattle.ps_model.specs.Stored.{stored};
-ghost use Rattle.ps_rows.specs.Counted.{kept_by};
+ghost use Rattle.ps_rows.specs.Counted.{kept_of};
 ghost use Rattle.ps_eqvm.specs.Plain.{complement};
 ghost use Rattle.ps_eqvm.specs.Instances.{sixteen_at, LoadAs, LoadNowhere};
 
@@ -32,19 +32,19 @@ fn number_in_eight(bytes: &[u8], at: usize) -> u64
 /// is not 0.
 pub fn read(stored: &[u8], at: usize) -> Option<CountedBlock>
     requires { at + 16 ≤ length stored.now }
-    ensures some { IfSome result (λ block. LoadAs (sixteen_at at stored.now) (kept_by block)) }
+    ensures some { IfSome result (λ block. LoadAs (sixteen_at at stored.now) (kept_of block)) }
     ensures none { IfNone result (LoadNowhere (sixteen_at at stored.now)) }
 {
     let last_reset = !stored[at + 2];
-    let last_aux = !stored[at + 3];
+    let last_auxiliary = !stored[at + 3];
     let rest = !number_in_eight(stored, at + 8) % (1 << 56);
-    if last_reset > 1 || last_aux > 1 || rest != 0 {
+    if last_reset > 1 || last_auxiliary > 1 || rest != 0 {
         return None;
     }
     Some(CountedBlock {
         code: !number_in_two(stored, at),
         last_reset: last_reset == 1,
-        last_aux: last_aux == 1,
+        last_auxiliary: last_auxiliary == 1,
         mode: !stored[at + 4],
         remains: !number_in_four(stored, at + 5),
     })
@@ -52,12 +52,12 @@ pub fn read(stored: &[u8], at: usize) -> Option<CountedBlock>
 
 /// The sixteen bytes of what an instance keeps, as they are stored.
 pub fn store(block: CountedBlock) -> [u8; 16]
-    ensures { complement result ≡ stored (kept_by block) }
+    ensures { complement result ≡ stored (kept_of block) }
 {
     let [c0, c1] = (!block.code).to_be_bytes();
     let [t0, t1, t2, t3] = (!block.remains).to_be_bytes();
     let reset = !u8::from(block.last_reset);
-    let auxiliary = !u8::from(block.last_aux);
+    let auxiliary = !u8::from(block.last_auxiliary);
     let mode = !block.mode;
     [
         c0, c1, reset, auxiliary, mode, t0, t1, t2, t3, 255, 255, 255, 255, 255, 255, 255,

@@ -1,21 +1,29 @@
-// Channel B: a machine that runs equation code, over cells that are kept as words of bits.
+//! Channel B: a machine that runs equation code (profile), over cells that are kept as words of bits.
+//!
+//! - `channel`: the channel with its calls, as a machine of any world.
+//! - `layout`, `opcode`, `operand`, `trap`: the numbers of the cells, the rows and the traps, which its
+//!   compiler takes from here.
+//! - `turn`, `gates`, `block`, `outputs`: one row, by its kind. `report`: the report of the cells.
+//! - `plain`, `cells`, `words`, `instances`, `kept`: the cells and how they are stored.
 #![tactic(auto)]
 
 mod block;
 mod cells;
 pub mod channel;
 mod gates;
-pub mod image;
 mod instances;
 mod kept;
-mod operand;
+pub mod layout;
+pub mod opcode;
+pub mod operand;
 mod outputs;
 mod plain;
 mod report;
 #[cfg(test)]
 mod tests;
+pub mod trap;
 mod turn;
 mod words;
 
 pub use channel::EquationChannel;
-pub use image::EquationImage;
+pub use ps_machine::CodeImage as EquationImage;

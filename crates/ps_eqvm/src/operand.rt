@@ -1,13 +1,26 @@
 // Operands of rows.
 
-ghost use Rattle.std.specs.Prelude.{◌≡◌, ◌+◌, ◌≤◌, length};
+ghost use Rattle.std.specs.Prelude.{◌≡◌, ◌+◌, ◌<◌, ◌≤◌, length};
+ghost use Rattle.ps_eqvm.specs.Code.{work, constant_of};
 ghost use Rattle.ps_eqvm.specs.Rows.{operand_of};
 ghost use Rattle.ps_eqvm.specs.Acting.{byte_of};
 ghost use Rattle.ps_eqvm.specs.Finding.{found_of, IsWithin};
 
 use crate::cells::BitCells;
+use crate::layout::WORK_CELLS;
+use ps_base::limits::MOST_SIGNALS;
 
-/// What the two bytes of an operand mean (profile). Work cell k is cell k, and signal s is cell 48 + s.
+/// The operand that is work cell 0; those of the other work cells follow it.
+pub const FIRST_WORK_CELL: u16 = 0xF000;
+
+/// The operand that is the constant FALSE.
+pub const FALSE: u16 = 0xFFFE;
+
+/// The operand that is the constant TRUE.
+pub const TRUE: u16 = 0xFFFF;
+
+/// What the two bytes of an operand mean (profile). Work cell k is cell k, and the signals are the cells
+/// behind the work cells.
 #[derive(Clone, Copy)]
 pub enum Operand {
     /// A work cell or a signal.
@@ -34,18 +47,18 @@ impl Operand {
     /// there is one, F000 to F02F work cell 0 to 47, FFFE is FALSE and FFFF is TRUE.
     pub fn numbered(signals: u16, number: u16) -> Operand
         ensures operand { result ≡ operand_of signals number }
-        ensures within { IsWithin (48 + signals) result }
+        ensures within { IsWithin (WORK_CELLS + signals) result }
     {
-        if number < 4000 {
+        if number < MOST_SIGNALS {
             if number < signals {
-                Operand::Cell(48 + number)
+                Operand::Cell(WORK_CELLS + number)
             } else {
                 Operand::Bad
             }
-        } else if number >= 0xFFFE {
-            Operand::Constant(number % 2 == 1)
-        } else if number >= 0xF000 && number < 0xF030 {
-            Operand::Cell(number - 0xF000)
+        } else if number >= FALSE {
+            Operand::Constant(number == TRUE)
+        } else if number >= FIRST_WORK_CELL && number < FIRST_WORK_CELL + WORK_CELLS {
+            Operand::Cell(number - FIRST_WORK_CELL)
         } else {
             Operand::Bad
         }
@@ -65,4 +78,19 @@ pub fn find(cells: &BitCells, operand: Operand) -> Found
         Operand::Constant(on) => Found::Truth(on),
         Operand::Bad => Found::Missing,
     }
+}
+
+/// The operand that is a work cell.
+pub fn work_cell(k: u8) -> u16
+    requires { k < WORK_CELLS }
+    ensures { result ≡ work k }
+{
+    FIRST_WORK_CELL + u16::from(k)
+}
+
+/// The operand that is a constant.
+pub fn constant(on: bool) -> u16
+    ensures { result ≡ constant_of on }
+{
+    if on { TRUE } else { FALSE }
 }

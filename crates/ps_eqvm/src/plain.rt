@@ -7,12 +7,14 @@ ghost use Rattle.ps_machine.specs.Bytes.{bit, replaced};
 
 use crate::cells::BitCells;
 use crate::instances::InstanceBytes;
+use crate::layout::{LAST_AT, PASSED_AT, PROGRESS_AT, SIGNALS_AT, WORK_AT, WORK_CELLS};
 use crate::operand::{Found, Operand, find};
 use crate::outputs::outputs;
+use crate::trap::Trap;
 use ps_base::Memory;
 use ps_model::channel::OutOfRegion;
-use ps_model::kind::{Kind, safe_count};
-use ps_rows::CountedBlock;
+use ps_model::kind::Kind;
+use ps_rows::{CountedBlock, safe_outputs};
 use std::alloc::Global;
 use std::marker::Model;
 
@@ -53,7 +55,7 @@ fn put_outputs(cells: &mut BitCells, at: usize, kind: Kind, code: u16, mode: u8)
     requires room { at + output_count kind ≤ length cells.old }
     ensures { cells.new ≡ replaced cells.old at (map bit (outs kind code mode)) }
 {
-    let safe = safe_count(kind);
+    let safe = safe_outputs(kind);
     cells.put_run(at, safe + 2, outputs(kind, safe, code, mode));
 }
 
@@ -71,7 +73,7 @@ impl PlainCells {
     ghost use Rattle.std.specs.Prelude.{◌≡◌, ◌+◌, ◌-◌, ◌*◌, ◌<◌, ◌≤◌, ◌^◌, ◌==◌, IfOk, IfSome, IfNone, is_err, length, nat_lt, slice_index, slice_set};
     ghost use Rattle.ps_machine.specs.Bytes.{bit, be2, instance_bytes, overwritten, replaced};
     ghost use Rattle.ps_model.specs.Blocks.{output_count};
-    ghost use Rattle.ps_rows.specs.Counted.{kept_by};
+    ghost use Rattle.ps_rows.specs.Counted.{kept_of};
     ghost use Rattle.ps_eqvm.specs.Instances.{LoadAs, LoadNowhere};
     ghost use Rattle.ps_eqvm.specs.Bits.{truth_of, AreBitsOf};
     ghost use Rattle.ps_eqvm.specs.Plain.{plain_bytes, laid_out, blank, IsPlain};
@@ -82,9 +84,9 @@ impl PlainCells {
 
     /// Cells of an application with so many signals and instances, each 0.
     pub fn all_zero(alloc: Global, signals: u16, instances: u16) -> Result<PlainCells, Memory>
-        ensures { IfOk result (λ p. p ≡ blank (48 + signals) (16 * instances)) }
+        ensures { IfOk result (λ p. p ≡ blank (WORK_CELLS + signals) (16 * instances)) }
     {
-        let cells = BitCells::all_zero(alloc, 48 + signals as usize)?;
+        let cells = BitCells::all_zero(alloc, WORK_CELLS as usize + signals as usize)?;
         let blocks = InstanceBytes::all_zero(alloc, instances)?;
         Ok(PlainCells {
             offset: 0,
@@ -151,7 +153,7 @@ impl PlainCells {
 
     /// The value of the operand with a number, among so many signals.
     pub fn find(&self, signals: u16, number: u16) -> Found
-        requires { length self.now.cells ≡ 48 + signals }
+        requires { length self.now.cells ≡ WORK_CELLS + signals }
         ensures { result ≡ found_of (byte_of self.now.cells (operand_of signals number)) }
     {
         find(&self.cells, Operand::numbered(signals, number))
@@ -161,7 +163,7 @@ impl PlainCells {
     /// no kind.
     pub fn instance(&self, i: usize) -> Option<CountedBlock>
         requires { 16 * i + 16 ≤ length self.now.blocks }
-        ensures some { IfSome result (λ block. LoadAs (instance_bytes 0 i self.now.blocks) (kept_by block)) }
+        ensures some { IfSome result (λ block. LoadAs (instance_bytes 0 i self.now.blocks) (kept_of block)) }
         ensures none { IfNone result (LoadNowhere (instance_bytes 0 i self.now.blocks)) }
     {
         self.blocks.at(i)
@@ -169,17 +171,17 @@ impl PlainCells {
 
     /// The truth value of signal s, or None exactly where its byte is neither 0 nor 1.
     pub fn signal(&self, s: u16) -> Option<bool>
-        requires { 48 + s < length self.now.cells }
-        ensures { result ≡ truth_of (slice_index (plain_bytes self.now) (61 + s)) }
+        requires { WORK_CELLS + s < length self.now.cells }
+        ensures { result ≡ truth_of (slice_index (plain_bytes self.now) (SIGNALS_AT + s)) }
     {
-        self.cells.at(48 + s as usize)
+        self.cells.at(WORK_CELLS as usize + s as usize)
     }
 
     /// The DiagCode of instance i, among so many signals.
     pub fn code(&self, signals: u16, i: usize) -> u16
-        requires cells { length self.now.cells ≡ 48 + signals }
+        requires cells { length self.now.cells ≡ WORK_CELLS + signals }
         requires blocks { 16 * i + 16 ≤ length self.now.blocks }
-        ensures { result ≡ be2 (plain_bytes self.now) (61 + signals + 16 * i) }
+        ensures { result ≡ be2 (plain_bytes self.now) (SIGNALS_AT + signals + 16 * i) }
     {
         self.blocks.code(i)
     }
@@ -200,22 +202,21 @@ impl PlainCells {
 
     /// The Begin of a scan at a time in ms, with these inputs.
     pub fn begin(&mut self, now: u32, ins: &[bool])
-        requires { 48 + length ins.now ≤ length self.old.cells }
+        requires { WORK_CELLS + length ins.now ≤ length self.old.cells }
         ensures { self.new ≡ begin_plain now ins.now self.old }
     {
         self.offset = 0;
         self.progress = 0;
         self.passed = now.saturating_sub(self.last);
         self.last = now;
-        put_all(&mut self.cells, 48, ins);
+        put_all(&mut self.cells, WORK_CELLS as usize, ins);
     }
 
-    /// Marks the trap with number n.
-    pub fn trap(&mut self, n: u8)
-        requires { n < 8 }
-        ensures { self.new ≡ trapped n self.old }
+    /// Marks a trap.
+    pub fn trap(&mut self, trap: Trap)
+        ensures { self.new ≡ trapped trap self.old }
     {
-        self.progress = n + 1;
+        self.progress = trap.number() + 1;
     }
 
     /// The scan is done.
@@ -255,13 +256,13 @@ impl PlainCells {
     /// An instance keeps its new state, its outputs are written from a signal on, and the row at `next`
     /// follows.
     pub fn settle(&mut self, kind: Kind, block: CountedBlock, instance: u16, first: u16, next: u32)
-        requires outs { 48 + first + output_count kind ≤ length self.old.cells }
+        requires outs { WORK_CELLS + first + output_count kind ≤ length self.old.cells }
         requires bytes { 16 * instance + 16 ≤ length self.old.blocks }
-        ensures { self.new ≡ settled instance first kind (kept_by block) next self.old }
+        ensures { self.new ≡ settled instance first kind (kept_of block) next self.old }
     {
         put_outputs(
             &mut self.cells,
-            48 + first as usize,
+            WORK_CELLS as usize + first as usize,
             kind,
             block.code,
             block.mode,
@@ -301,29 +302,29 @@ impl PlainCells {
 
     // One of the bytes becomes another, both as they are stored.
     fn poke(&mut self, at: usize, stored: u8)
-        requires { at < 13 + length self.old.cells + length self.old.blocks }
+        requires { at < WORK_AT + length self.old.cells + length self.old.blocks }
         ensures poked { laid_out self.new ≡ slice_set (laid_out self.old) at stored }
         ensures cells { length self.new.cells ≡ length self.old.cells }
         ensures blocks { length self.new.blocks ≡ length self.old.blocks }
     {
         let byte = 255 - stored;
-        if at < 4 {
+        if at < PROGRESS_AT {
             self.offset = with_byte(self.offset, at, byte);
-        } else if at == 4 {
+        } else if at == PROGRESS_AT {
             self.progress = byte;
-        } else if at < 9 {
-            self.last = with_byte(self.last, at - 5, byte);
-        } else if at < 13 {
-            self.passed = with_byte(self.passed, at - 9, byte);
+        } else if at < PASSED_AT {
+            self.last = with_byte(self.last, at - LAST_AT, byte);
+        } else if at < WORK_AT {
+            self.passed = with_byte(self.passed, at - PASSED_AT, byte);
         } else {
-            self.poke_cell(at - 13, byte);
+            self.poke_cell(at - WORK_AT, byte);
         }
     }
 
     // A byte behind the numbers becomes another, by its plain value.
     fn poke_cell(&mut self, at: usize, byte: u8)
         requires { at < length self.old.cells + length self.old.blocks }
-        ensures poked { plain_bytes self.new ≡ slice_set (plain_bytes self.old) (13 + at) byte }
+        ensures poked { plain_bytes self.new ≡ slice_set (plain_bytes self.old) (WORK_AT + at) byte }
         ensures cells { length self.new.cells ≡ length self.old.cells }
         ensures blocks { length self.new.blocks ≡ length self.old.blocks }
     {

@@ -8,11 +8,12 @@ ghost use Rattle.ps_machine.specs.Bytes.{is_no_bit};
 ghost use Rattle.ps_machine.specs.Reporting.{output_byte, ready_byte, error_byte, diag_at, holds_report};
 ghost use Rattle.ps_eqvm.specs.Plain.{plain_bytes, IsSized};
 
+use crate::layout::SIGNALS_AT;
 use crate::plain::PlainCells;
-use ps_model::kind::output_count;
 use ps_model::report::{Diag, Diags};
 use ps_model::sizes::Sizes;
 use ps_model::values::Bits;
+use ps_rows::all_outputs;
 
 // The signal behind the outputs of an instance: Ready and Error are the last two of them.
 #[tactic(auto, using(std::proofs::lemmas::Option::get_or_from_slice_get), unfolding(ps_model::specs::Blocks::output_count))]
@@ -22,14 +23,14 @@ fn past_outputs(sizes: &Sizes, i: u16) -> usize
     ensures low { 2 ≤ result }
     ensures high { result ≤ sizes.now.signals }
 {
-    sizes.first_pins.at(i as usize) as usize + output_count(sizes.kinds.at(i as usize)) as usize
+    sizes.first_pins.at(i as usize) as usize + all_outputs(sizes.kinds.at(i as usize)) as usize
 }
 
 // Whether the byte of a signal is 0 or 1.
 fn holds(plain: &PlainCells, sizes: &Sizes, s: usize) -> bool
     requires sized { IsSized sizes.now.signals sizes.now.instances plain.now }
     requires signal { s < sizes.now.signals }
-    ensures { result ≡ not (is_no_bit (slice_index (plain_bytes plain.now) (61 + s))) }
+    ensures { result ≡ not (is_no_bit (slice_index (plain_bytes plain.now) (SIGNALS_AT + s))) }
 {
     let _signals = sizes.signals;
     plain.signal(s as u16).is_some()
@@ -39,7 +40,7 @@ fn holds(plain: &PlainCells, sizes: &Sizes, s: usize) -> bool
 fn is_on(plain: &PlainCells, sizes: &Sizes, s: usize) -> bool
     requires sized { IsSized sizes.now.signals sizes.now.instances plain.now }
     requires signal { s < sizes.now.signals }
-    ensures { result ≡ (slice_index (plain_bytes plain.now) (61 + s) == 1) }
+    ensures { result ≡ (slice_index (plain_bytes plain.now) (SIGNALS_AT + s) == 1) }
 {
     let _signals = sizes.signals;
     match plain.signal(s as u16) {
@@ -52,7 +53,7 @@ fn is_on(plain: &PlainCells, sizes: &Sizes, s: usize) -> bool
 fn diag_holds(plain: &PlainCells, sizes: &Sizes, i: u16) -> bool
     requires sized { IsSized sizes.now.signals sizes.now.instances plain.now }
     requires instance { i < sizes.now.instances }
-    ensures { result ≡ (not (is_no_bit (ready_byte sizes.now 61 (plain_bytes plain.now) i)) && not (is_no_bit (error_byte sizes.now 61 (plain_bytes plain.now) i))) }
+    ensures { result ≡ (not (is_no_bit (ready_byte sizes.now SIGNALS_AT (plain_bytes plain.now) i)) && not (is_no_bit (error_byte sizes.now SIGNALS_AT (plain_bytes plain.now) i))) }
 {
     let past = past_outputs(sizes, i);
     holds(plain, sizes, past - 2) && holds(plain, sizes, past - 1)
@@ -61,7 +62,7 @@ fn diag_holds(plain: &PlainCells, sizes: &Sizes, i: u16) -> bool
 // Whether each output byte is 0 or 1.
 fn outputs_hold(plain: &PlainCells, sizes: &Sizes) -> bool
     requires { IsSized sizes.now.signals sizes.now.instances plain.now }
-    ensures { result ≡ list_all (λ j. not (is_no_bit (output_byte sizes.now 61 (plain_bytes plain.now) j))) (range_with_len 0 sizes.now.outputs) }
+    ensures { result ≡ list_all (λ j. not (is_no_bit (output_byte sizes.now SIGNALS_AT (plain_bytes plain.now) j))) (range_with_len 0 sizes.now.outputs) }
 {
     for j in 0..sizes.outputs {
         if !holds(plain, sizes, sizes.inputs as usize + j as usize) {
@@ -74,7 +75,7 @@ fn outputs_hold(plain: &PlainCells, sizes: &Sizes) -> bool
 // Whether each Ready and Error byte is 0 or 1.
 fn diags_hold(plain: &PlainCells, sizes: &Sizes) -> bool
     requires { IsSized sizes.now.signals sizes.now.instances plain.now }
-    ensures { result ≡ list_all (λ i. not (is_no_bit (ready_byte sizes.now 61 (plain_bytes plain.now) i)) && not (is_no_bit (error_byte sizes.now 61 (plain_bytes plain.now) i))) (range_with_len 0 sizes.now.instances) }
+    ensures { result ≡ list_all (λ i. not (is_no_bit (ready_byte sizes.now SIGNALS_AT (plain_bytes plain.now) i)) && not (is_no_bit (error_byte sizes.now SIGNALS_AT (plain_bytes plain.now) i))) (range_with_len 0 sizes.now.instances) }
 {
     for i in 0..sizes.instances {
         if !diag_holds(plain, sizes, i) {
@@ -87,7 +88,7 @@ fn diags_hold(plain: &PlainCells, sizes: &Sizes) -> bool
 /// Whether the cells hold a report.
 pub fn has_report(plain: &PlainCells, sizes: &Sizes) -> bool
     requires { IsSized sizes.now.signals sizes.now.instances plain.now }
-    ensures { result ≡ holds_report sizes.now 61 (plain_bytes plain.now) }
+    ensures { result ≡ holds_report sizes.now SIGNALS_AT (plain_bytes plain.now) }
 {
     outputs_hold(plain, sizes) && diags_hold(plain, sizes)
 }
@@ -96,7 +97,7 @@ pub fn has_report(plain: &PlainCells, sizes: &Sizes) -> bool
 pub fn write_outputs(plain: &PlainCells, sizes: &Sizes, outs: &mut Bits)
     requires sized { IsSized sizes.now.signals sizes.now.instances plain.now }
     requires size { length outs.old ≡ sizes.now.outputs }
-    ensures { outs.new ≡ map (λ j. output_byte sizes.now 61 (plain_bytes plain.now) j == 1) (range_with_len 0 sizes.now.outputs) }
+    ensures { outs.new ≡ map (λ j. output_byte sizes.now SIGNALS_AT (plain_bytes plain.now) j == 1) (range_with_len 0 sizes.now.outputs) }
 {
     for j in 0..sizes.outputs {
         outs.set(
@@ -110,7 +111,7 @@ pub fn write_outputs(plain: &PlainCells, sizes: &Sizes, outs: &mut Bits)
 fn diag(plain: &PlainCells, sizes: &Sizes, i: u16) -> Diag
     requires sized { IsSized sizes.now.signals sizes.now.instances plain.now }
     requires instance { i < sizes.now.instances }
-    ensures { result ≡ diag_at sizes.now 61 (plain_bytes plain.now) i }
+    ensures { result ≡ diag_at sizes.now SIGNALS_AT (plain_bytes plain.now) i }
 {
     let past = past_outputs(sizes, i);
     Diag {
@@ -124,7 +125,7 @@ fn diag(plain: &PlainCells, sizes: &Sizes, i: u16) -> Diag
 pub fn write_diags(plain: &PlainCells, sizes: &Sizes, diags: &mut Diags)
     requires sized { IsSized sizes.now.signals sizes.now.instances plain.now }
     requires size { length diags.old ≡ sizes.now.instances }
-    ensures { diags.new ≡ map (diag_at sizes.now 61 (plain_bytes plain.now)) (range_with_len 0 sizes.now.instances) }
+    ensures { diags.new ≡ map (diag_at sizes.now SIGNALS_AT (plain_bytes plain.now)) (range_with_len 0 sizes.now.instances) }
 {
     for i in 0..sizes.instances {
         diags.set(i as usize, diag(plain, sizes, i));

@@ -1,6 +1,7 @@
 // One turn: a row is read from the code and done.
 
-ghost use Rattle.std.specs.Prelude.{◌≡◌, ◌+◌, ◌*◌, ◌<◌, ◌≤◌, ◌^◌, length, slice_index};
+ghost use Rattle.std.specs.Prelude.{◌≡◌, ◌≢◌, ℕ, ◌+◌, ◌*◌, ◌<◌, ◌≤◌, ◌^◌, length, slice_index};
+ghost use Rattle.ps_machine.specs.Machines.{turned};
 ghost use Rattle.ps_machine.specs.Bytes.{be2};
 ghost use Rattle.ps_eqvm.specs.Plain.{IsSized};
 ghost use Rattle.ps_eqvm.specs.Rows.{whole, block_at};
@@ -8,14 +9,11 @@ ghost use Rattle.ps_eqvm.specs.Gates.{gate_row};
 ghost use Rattle.ps_eqvm.specs.Turn.{carried_out, turn_plain};
 
 use crate::block::{Site, block};
-use crate::gates::{Gate, set_or_join};
+use crate::gates::set_or_join;
+use crate::opcode::{Gate, Opcode};
 use crate::plain::PlainCells;
+use crate::trap::Trap;
 use ps_machine::bytes::{number_in_four, number_in_two};
-
-// The opcodes of the other rows.
-const LAST: u8 = 0xF0;
-
-const BLOCK: u8 = 0xF4;
 
 // SET, ALL or ANY at a place of the code.
 fn turn_gate(plain: &mut PlainCells, signals: u16, instances: u16, how: Gate, code: &[u8], at: u32)
@@ -27,7 +25,7 @@ fn turn_gate(plain: &mut PlainCells, signals: u16, instances: u16, how: Gate, co
 {
     let place = at as usize;
     if code.len() - place < 5 {
-        return plain.trap(2);
+        return plain.trap(Trap::PastEnd);
     }
     let target = number_in_two(code, place + 1);
     let operand = number_in_two(code, place + 3);
@@ -46,12 +44,12 @@ fn turn_block(plain: &mut PlainCells, signals: u16, instances: u16, code: &[u8],
     let place = at as usize;
     let room = code.len() - place;
     if room < 11 {
-        return plain.trap(2);
+        return plain.trap(Trap::PastEnd);
     }
     let count = code[place + 10];
     let size = 11 + 2 * usize::from(count);
     if room < size {
-        return plain.trap(2);
+        return plain.trap(Trap::PastEnd);
     }
     let site = Site {
         signals,
@@ -79,15 +77,30 @@ pub fn turn(plain: &mut PlainCells, code: &[u8], signals: u16, instances: u16)
 {
     let at = plain.offset();
     if at as usize >= code.len() {
-        return plain.trap(2);
+        return plain.trap(Trap::PastEnd);
     }
-    let opcode = code[at as usize];
-    match Gate::with_opcode(opcode) {
-        Some(how) => turn_gate(plain, signals, instances, how, code, at),
-        None => match opcode {
-            LAST => plain.end(at + 1),
-            BLOCK => turn_block(plain, signals, instances, code, at),
-            _ => plain.trap(1),
-        },
+    match Opcode::of(code[at as usize]) {
+        None => plain.trap(Trap::UnknownOpcode),
+        Some(Opcode::Last) => plain.end(at + 1),
+        Some(Opcode::Target(how)) => turn_gate(plain, signals, instances, how, code, at),
+        Some(Opcode::Block) => turn_block(plain, signals, instances, code, at),
     }
+}
+
+/// Turns as long as the scan is Running, at most so many, and how many there were.
+pub fn turns(plain: &mut PlainCells, code: &[u8], signals: u16, instances: u16, most: u32) -> u32
+    requires sized { IsSized signals instances plain.old }
+    requires short { length code.now < 2 ^ 32 }
+    ensures cells { plain.new ≡ turned (turn_plain signals instances code.now) result plain.old }
+    ensures running { (j : ℕ) → j < result → (turned (turn_plain signals instances code.now) j plain.old).progress ≡ 0 }
+    ensures most { result ≤ most }
+    ensures stopped { result < most → plain.new.progress ≢ 0 }
+{
+    for count in 0..most {
+        if plain.progress() != 0 {
+            return count;
+        }
+        turn(plain, code, signals, instances);
+    }
+    most
 }

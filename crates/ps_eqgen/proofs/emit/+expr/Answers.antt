@@ -3,7 +3,7 @@ use Rattle.std.proofs.lemmas.Grind.{common_steps}
 use Rattle.ps_model.specs.Exprs.{formula, operands}
 use Rattle.ps_model.proofs.Formulas.{formula-And, formula-Or}
 use Rattle.ps_eqvm.specs.Code.{bytes_of}
-use Rattle.ps_eqgen.specs.declared.emit.Gate.TheVariants.{Set}
+use Rattle.ps_eqvm.specs.declared.opcode.Gate.TheVariants.{Set}
 use Rattle.ps_eqgen.specs.Written.{rows_left}
 use Rattle.ps_eqgen.proofs.Written.{all_left}
 use Rattle.ps_eqgen.proofs.emit.+expr.Goals as goal

@@ -2,7 +2,7 @@ use Rattle.std.proofs.Common.{◌≡◌, ◌+◌, ◌≤◌, ◌++◌, drop, map
 use Rattle.ps_model.specs.Exprs.{formula, operands}
 use Rattle.ps_model.specs.Values.{deepest}
 use Rattle.ps_eqvm.specs.Code.{bytes_of}
-use Rattle.ps_eqgen.specs.declared.emit.Gate.TheVariants.{Set}
+use Rattle.ps_eqvm.specs.declared.opcode.Gate.TheVariants.{Set}
 use Rattle.ps_eqgen.specs.Written.{rows_left}
 use Rattle.ps_eqgen.proofs.emit.+expr.Given as goal
 

@@ -17,11 +17,11 @@ returns c =
     let kind = c.args.kind in
     let first = c.args.first in
     let pins = pins_operands kind c.args.args.now in
-    let many : length pins ≡ c.boolean_count-count.result =
-    length-map-range_with_len (operand_of_pin kind c.args.args.now) 0 (boolean_count kind) ∙ sym c.boolean_count-count.ensures.count in
+    let many : length pins ≡ c.boolean_pins-count.result =
+    length-map-range_with_len (operand_of_pin kind c.args.args.now) 0 (boolean_count kind) ∙ sym c.boolean_pins-count.ensures.count in
     subst (λ l. OnOk c.emit_operands.result (c.emit_operands.new.code.items ≡ l)) (
     ap (λ l. l ++ flat_map (to_be_bytes w16) pins) c.in_ok-emit_head.ensures
-    ∙ block_whole before i c.kind_number-number.result first c.call_limit-limit.result c.boolean_count-count.result pins many
-    ∙ ap (λ k. before ++ encoded (block_row i k first c.call_limit-limit.result pins)) c.kind_number-number.ensures
+    ∙ block_whole before i c.number_of-number.result first c.call_limit-limit.result c.boolean_pins-count.result pins many
+    ∙ ap (λ k. before ++ encoded (block_row i k first c.call_limit-limit.result pins)) c.number_of-number.ensures
     ∙ ap (λ t. before ++ encoded (block_row i (block kind).number first t pins)) c.call_limit-limit.ensures
     ) c.emit_operands.ensures

@@ -12,17 +12,17 @@ use Rattle.ps_eqgen.proofs.Written.{word_next}
 use Rattle.ps_eqgen.proofs.image.emit_operands.Goals as goal
 
 pub at-requires : goal.at-requires
-at-requires c = omega (arith, boolean_within c.args.kind, c.boolean_count-j-end.ensures.count, c.loop-j-test.true, c.requires.arguments)
+at-requires c = omega (arith, boolean_within c.args.kind, c.boolean_pins-j-end.ensures.count, c.loop-j-test.true, c.requires.arguments)
 
 pub free_value-requires : goal.free_value-requires
-free_value-requires c = omega (arith, boolean_within c.args.kind, c.boolean_count-j-end.ensures.count, c.loop-j-test.true)
+free_value-requires c = omega (arith, boolean_within c.args.kind, c.boolean_pins-j-end.ensures.count, c.loop-j-test.true)
 
 pub argument_operand-operand-requires : goal.argument_operand-operand-requires
 argument_operand-operand-requires c =
     omega (
       arith,
       shallow_at c.args.args.now c.requires.shallow c.loop-j.j (actual c.at.result.now) c.at.ensures,
-      c.boolean_count-j-end.ensures.few,
+      c.boolean_pins-j-end.ensures.few,
       c.loop-j-test.true,
     )
 

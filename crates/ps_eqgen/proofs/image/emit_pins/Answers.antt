@@ -10,14 +10,14 @@ use Rattle.ps_eqgen.proofs.Shallow.{shallow_at}
 use Rattle.ps_eqgen.proofs.image.emit_pins.Goals as goal
 
 pub at-requires : goal.at-requires
-at-requires c = omega (arith, boolean_within c.args.kind, c.boolean_count-j-end.ensures.count, c.loop-j-test.true, c.requires.arguments)
+at-requires c = omega (arith, boolean_within c.args.kind, c.boolean_pins-j-end.ensures.count, c.loop-j-test.true, c.requires.arguments)
 
 pub emit_argument-requires : goal.emit_argument-requires
 emit_argument-requires c =
     omega (
       arith,
       shallow_at c.args.args.now c.requires.shallow c.loop-j.j (actual c.at.result.now) c.at.ensures,
-      c.boolean_count-j-end.ensures.few,
+      c.boolean_pins-j-end.ensures.few,
       c.loop-j-test.true,
     )
 

@@ -7,5 +7,5 @@ returns c =
     let net = c.args.app.now in
     record {
       turns = λ accepted. turns_are net c.sound.ensures;
-      bytes = λ accepted. code_small net c.sound.ensures (step_fits net c.sound.ensures accepted c.limits_fit.ensures);
+      bytes = λ accepted. code_small net c.sound.ensures (step_fits net c.sound.ensures accepted);
     }

@@ -9,6 +9,6 @@ pub returns : goal.returns
 returns c =
     let net = c.args.app.now in
     record {
-      exactly = λ accepted sizes are. keeps_exactly net c.sound.ensures accepted c.limits_fit.ensures sizes are;
-      keeps = λ accepted sizes are. exactly_keeps net (machine_b sizes (code_b net) (turns_b net)) (StandsB net) (keeps_exactly net c.sound.ensures accepted c.limits_fit.ensures sizes are);
+      exactly = λ accepted sizes are. keeps_exactly net c.sound.ensures accepted sizes are;
+      keeps = λ accepted sizes are. exactly_keeps net (machine_b sizes (code_b net) (turns_b net)) (StandsB net) (keeps_exactly net c.sound.ensures accepted sizes are);
     }

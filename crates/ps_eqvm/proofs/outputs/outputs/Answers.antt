@@ -13,4 +13,4 @@ returns c =
     let rest = ready_in a.code ∷ error_in a.code ∷ [] in
     let long = length-map-range_with_len (safe_output a.kind a.code a.mode) 0 (length (block a.kind).outputs) in
     let few : length safe + length rest ≤ 32 = omega (arith, long, c.requires.count, c.requires.few) in
-    c.followed.ensures safe rest (long ∙ sym c.requires.count) few c.safe_outputs.ensures c.two_bits-ready_and_error.ensures
+    c.low_then_high.ensures safe rest (long ∙ sym c.requires.count) few c.safe_outputs.ensures c.two_bits-ready_and_error.ensures

@@ -1,17 +1,14 @@
 -- How words and names are spelt. Bytes are ASCII codes.
-use Rattle.std.specs.Prelude.{◌≡◌, ◌==◌, ℕ, ◌<◌, ◌≤◌, Bool, true, ◌||◌, List, length, map, codes, slice_index}
+use Rattle.std.specs.Prelude.{◌≡◌, ◌==◌, ℕ, ◌<◌, ◌≤◌, Bool, true, ◌||◌, List, length, codes, slice_index}
 use Rattle.std.specs.List.{AllByRecursion}
-use Rattle.std.specs.Char.{is_ascii_alphabetic, is_ascii_digit, to_ascii_lowercase}
+use Rattle.std.specs.Char.{is_ascii_alphabetic, is_ascii_digit}
+pub use Rattle.ps_base.specs.LetterCase.{folded}
 use Rattle.ps_base.specs.declared.limits.TheConstants.{LONGEST_NAME, LARGEST_TIME, MOST_TOKENS}
 use Rattle.ps_lexer.specs.declared.token.Form.{Form}
 use Rattle.ps_lexer.specs.declared.token.Form.TheVariants as form
 use Rattle.ps_lexer.specs.declared.token.Token.{Token}
 use Rattle.ps_lexer.specs.declared.token.Word.{Word}
 use Rattle.ps_lexer.specs.declared.token.Word.TheVariants as word
-
--- the bytes in lower case
-abbrev pub folded : List ℕ → List ℕ
-folded bytes = map to_ascii_lowercase bytes
 
 -- a letter or `_`, which a name begins with
 abbrev pub begins_name : ℕ → Bool

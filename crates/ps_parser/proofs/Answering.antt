@@ -1,5 +1,5 @@
 -- What `parse_from` and `parse` answer, from what is read.
-use Rattle.std.proofs.Common.{◌≡◌, ℕ, ◌+◌, ◌-◌, ◌≤◌, ◌<◌, length, List, [], ◌∷◌, ◌++◌, take, drop, Result, Ok, Err, sym, refl, ap, ◌∙◌, subst, arith, length-append, length-take-le}
+use Rattle.std.proofs.Common.{◌≡◌, ◌≢◌, ℕ, ◌+◌, ◌-◌, ◌≤◌, ◌<◌, length, List, [], ◌∷◌, ◌++◌, Some, take, drop, Result, Ok, Err, sym, refl, ap, ◌∙◌, subst, arith, length-append, length-take-le}
 use Rattle.std.proofs.lemmas.List.{append-nil, length-map, map-append, take-append-drop, length-drop, take_all}
 use Rattle.std.proofs.Math.Seq.{drop-append-add}
 use Rattle.std.specs.Result.{IsErrAnd}
@@ -13,15 +13,18 @@ use Rattle.ps_lexer.specs.declared.token.Token.{Token}
 use Rattle.ps_lexer.specs.declared.token.Tokens.{Tokens}
 use Rattle.ps_parser.specs.declared.heads.Heads.{Heads}
 use Rattle.ps_parser.specs.declared.heads.Heads.TheVariants.{Program}
+use Rattle.ps_parser.specs.declared.sign.Sign.{Sign}
 use Rattle.ps_parser.specs.declared.stop.Flaw.{Flaw}
 use Rattle.ps_parser.specs.declared.stop.Flaw.TheVariants.{Unexpected, TooDeep}
 use Rattle.ps_parser.specs.Names.{IsPlainName}
-use Rattle.ps_parser.specs.Symbol.{Symbol, symbol, symbols, AllProper}
+use Rattle.ps_parser.specs.Symbol.{Symbol, Mark, symbol, symbols, AllProper}
 use Rattle.ps_parser.specs.Tree.{SourceTree}
 use Rattle.ps_parser.specs.Spelt.{spelt}
-use Rattle.ps_parser.specs.Phrase.{Reads, IsRuledOut, Refuses}
+use Rattle.ps_parser.specs.Phrase.{next, Reads, IsRuledOut, Refuses}
 use Rattle.ps_parser.specs.Grammar.{a_source}
-use Rattle.ps_parser.specs.Parsing.{Breaks, rule_of, place_at, IsRefused, IsRefusedFrom, IsSpelt, IsSpeltBetween, Answers, AnswersFrom}
+use Rattle.ps_parser.specs.Parses.{rule_of}
+use Rattle.ps_parser.specs.Language.{Breaks, place_at, IsRefused, IsSpelt, Answers}
+use Rattle.ps_parser.specs.Parsing.{sources, IsRefusedFrom, IsSpeltBetween, AnswersFrom}
 use Rattle.ps_parser.proofs.Phrases.{never, ends_between}
 use Rattle.ps_parser.proofs.Sentences.{source_law}
 use Rattle.ps_parser.proofs.Fitting.{source_in}
@@ -33,6 +36,14 @@ tail_of all k = take (length all - k) (drop k all)
 
 tail_is : (all : List Token) (k : ℕ) → tail_of all k ≡ drop k all
 tail_is all k = take_all (length all - k) (drop k all) (omega (arith, length-drop k all))
+
+-- whether a sign stands next, from a number on
+pub sign_is_next : (all list : List Token) (k : ℕ) (s sign : Sign) (rest : List Symbol) → all ≡ list → s ≡ sign → symbols (tail_of all k) ≡ Mark s ∷ rest → next (symbols (drop k list)) ≡ Some (Mark sign)
+sign_is_next all list k s sign rest e is h = ap (λ l. next (symbols (drop k l))) (sym e) ∙ ap (λ l. next (symbols l)) (sym (tail_is all k)) ∙ ap next h ∙ ap (λ t. Some (Mark t)) is
+
+pub sign_is_not_next : (all list : List Token) (k : ℕ) (s sign : Sign) → all ≡ list → s ≡ sign → next (symbols (tail_of all k)) ≢ Some (Mark s) → next (symbols (drop k list)) ≢ Some (Mark sign)
+sign_is_not_next all list k s sign e is h =
+    λ n. h (ap (λ l. next (symbols l)) (tail_is all k) ∙ ap (λ l. next (symbols (drop k l))) e ∙ n ∙ ap (λ t. Some (Mark t)) (sym is))
 
 pub from_proper : (all list : List Token) (k : ℕ) → all ≡ list → IsTokenList list → AllProper (symbols (tail_of all k))
 from_proper all list k e h = subst (λ l. AllProper (symbols l)) (sym (tail_is all k)) (proper_drop k all (subst (λ l. AllProper (symbols l)) (sym e) (proper_tokens list h.forms)))
@@ -73,7 +84,7 @@ limit_ruled_out TooDeep = omega arith
 
 -- where a source is refused, none is spelt at the front
 no_source_at_front : (h : Heads) (flaw : Flaw) (ts : List Token) (left : List Symbol) → Refuses (a_source h) MOST_GROUPS flaw (symbols ts) left
-    → (front rest : List Token) (s : SourceTree) → ts ≡ front ++ rest → IsSpelt h front s → ⊥
+    → (front rest : List Token) (s : SourceTree) → ts ≡ front ++ rest → IsSpelt (sources h) front s → ⊥
 no_source_at_front h flaw ts left r front rest s split spelling =
     let within = spelling.within in
     let e : (a_source h).spell s ++ symbols rest ≡ r.front ++ left =
@@ -97,12 +108,12 @@ from_err h flaw all list k left end place e tokens le r at =
     })
 
 -- the refusal of what stands behind a whole source
-breaks_behind : (h : Heads) (s : SourceTree) (front : List Symbol) (rest : List Token) → (a_source h).fits MOST_GROUPS s → spelt h s ≡ front → 0 < length rest → Breaks P1 h front (symbols rest)
+breaks_behind : (h : Heads) (s : SourceTree) (front : List Symbol) (rest : List Token) → (a_source h).fits MOST_GROUPS s → spelt h s ≡ front → 0 < length rest → Breaks P1 (sources h) front (symbols rest)
 breaks_behind h s front [] fits e some = absurd (omega arith)
 breaks_behind h s front (t ∷ rest) fits e some = λ depth b.
-    let same : (a_source h).spell b.source ++ [] ≡ (a_source h).spell s ++ (symbol t ∷ b.more) =
-    append-nil ((a_source h).spell b.source) ∙ sym (source_spelt h b.source) ∙ b.spelling ∙ append_one front (symbol t) b.more ∙ ap (λ l. l ++ (symbol t ∷ b.more)) (sym e ∙ source_spelt h s) in
-    let ends = ends_between (source_law h) depth MOST_GROUPS b.source s [] (symbol t ∷ b.more) (source_in IsPlainName h depth b.source b.within.grammatical b.within.nested) fits tt refl same in
+    let same : (a_source h).spell b.tree ++ [] ≡ (a_source h).spell s ++ (symbol t ∷ b.more) =
+    append-nil ((a_source h).spell b.tree) ∙ sym (source_spelt h b.tree) ∙ b.spelling ∙ append_one front (symbol t) b.more ∙ ap (λ l. l ++ (symbol t ∷ b.more)) (sym e ∙ source_spelt h s) in
+    let ends = ends_between (source_law h) depth MOST_GROUPS b.tree s [] (symbol t ∷ b.more) (source_in IsPlainName h depth b.tree b.within.grammatical b.within.nested) fits tt refl same in
     let wrong : [] ≡ symbol t ∷ b.more = ends.1 in
     cc
   where
@@ -111,7 +122,7 @@ breaks_behind h s front (t ∷ rest) fits e some = λ depth b.
     append_one (x ∷ xs) y ys = ap (λ l. x ∷ l) (append_one xs y ys)
 
 pub more_refused : (h : Heads) (list : List Token) (next : ℕ) (s : SourceTree) (end place : Place) → IsSpeltBetween h list 0 next s → next < length list
-    → place ≡ place_at (drop next list) end → IsRefused h list end (record { rule = P1; place = place })
+    → place ≡ place_at (drop next list) end → IsRefused (sources h) list end (record { rule = P1; place = place })
 more_refused h list next s end place r lt at =
     let count : next - 0 ≡ next = omega arith in
     let front_is : symbols (take next list) ≡ spelt h s = ap (λ n. symbols (take n list)) (sym count) ∙ r.spelling.spelling in
@@ -120,20 +131,20 @@ more_refused h list next s end place r lt at =
       front = take next list;
       rest = drop next list;
       split = sym (take-append-drop next list);
-      begins = record { source = s; more = []; within = within; spelling = sym front_is ∙ sym (append-nil (symbols (take next list))) };
+      begins = record { tree = s; more = []; within = within; spelling = sym front_is ∙ sym (append-nil (symbols (take next list))) };
       breaks = breaks_behind h s (symbols (take next list)) (drop next list) (source_in IsPlainName h MOST_GROUPS s within.grammatical within.nested) (sym front_is) (omega (arith, length-drop next list));
       place = at;
     }
 
-pub all_spelt : (list : List Token) (next : ℕ) (s : SourceTree) → IsSpeltBetween Program list 0 next s → length list ≤ next → IsSpelt Program list s
+pub all_spelt : (list : List Token) (next : ℕ) (s : SourceTree) → IsSpeltBetween Program list 0 next s → length list ≤ next → IsSpelt (sources Program) list s
 all_spelt list next s r le =
     let all : take (next - 0) list ≡ list = take_all (next - 0) list (omega arith) in
-    subst (λ l. IsSpelt Program l s) all r.spelling
+    subst (λ l. IsSpelt (sources Program) l s) all r.spelling
 
-pub parse_exit : (tokens : Tokens) (e : Fail) (r : Result SourceTree Fail) → IsErrAnd r (λ d. d ≡ e) → AnswersFrom Program tokens 0 (Err e) → Answers tokens r
+pub parse_exit : (tokens : Tokens) (e : Fail) (r : Result SourceTree Fail) → IsErrAnd r (λ d. d ≡ e) → AnswersFrom Program tokens 0 (Err e) → Answers (sources Program) tokens r
 parse_exit tokens e (Ok s) is p = absurd is
-parse_exit tokens e (Err d) is p = subst (λ z. Answers tokens (Err z)) (sym is) (same e p)
+parse_exit tokens e (Err d) is p = subst (λ z. Answers (sources Program) tokens (Err z)) (sym is) (same e p)
   where
-    same : (e : Fail) → AnswersFrom Program tokens 0 (Err e) → Answers tokens (Err e)
+    same : (e : Fail) → AnswersFrom Program tokens 0 (Err e) → Answers (sources Program) tokens (Err e)
     same Memory p = tt
     same (Refused refusal) p = p.refused

@@ -11,4 +11,5 @@ pub mod Tails
 pub mod Fitting
 pub mod Public
 pub mod Answering
+pub mod OneAnswer
 pub mod Uniqueness

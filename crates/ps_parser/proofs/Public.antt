@@ -24,7 +24,9 @@ use Rattle.ps_parser.specs.Spelt.{joined_spell, argument_spelt, statement_spelt,
 use Rattle.ps_parser.specs.Whole.{IsSource}
 use Rattle.ps_parser.specs.Phrase.{Begins, Blocks, Refuses, Reads, BracketIfTooDeep}
 use Rattle.ps_parser.specs.Grammar.{an_argument, any_arguments, a_statement, a_source}
-use Rattle.ps_parser.specs.Parsing.{IsSourceWithin, BeginsSource, Breaks, rule_of, place_at, IsRefused}
+use Rattle.ps_parser.specs.Language.{BeginsTree, Breaks, place_at, IsRefused}
+use Rattle.ps_parser.specs.Parsing.{IsSourceWithin, sources}
+use Rattle.ps_parser.specs.Parses.{rule_of}
 use Rattle.ps_parser.proofs.Phrases.{proper_append}
 use Rattle.ps_parser.proofs.Expressions.{sum_spelt_lem}
 use Rattle.ps_parser.proofs.Fitting.{proper_left, proper_right, source_out, source_shallow, source_in}
@@ -46,11 +48,11 @@ pub source_spelt : (h : Heads) (s : SourceTree) → spelt h s ≡ (a_source h).s
 source_spelt h s =
     ap (λ f. Mark (head_sign h) ∷ Named s.name ∷ (flat_map section_spelt s.sections ++ (flat_map f s.statements ++ Mark (foot_sign h) ∷ []))) (λ i x. statement_spelt_lem x i)
 
-begins_source : (h : Heads) (depth : ℕ) (front : List Symbol) → AllProper front → Begins (a_source h) depth front → BeginsSource h depth front
+begins_source : (h : Heads) (depth : ℕ) (front : List Symbol) → AllProper front → Begins (a_source h) depth front → BeginsTree (sources h) depth front
 begins_source h depth front proper b =
     let is = source_spelt h b.tree ∙ b.spelled in
     record {
-      source = b.tree;
+      tree = b.tree;
       more = b.more;
       within = record {
         grammatical = source_out IsPlainName (λ text p. p) h depth b.tree b.whole (subst AllProper (sym is) (proper_append front b.more proper b.proper));
@@ -60,22 +62,22 @@ begins_source h depth front proper b =
     }
 
 -- nothing that is within begins with the front and what stands next
-no_longer : (h : Heads) (depth : ℕ) (front rest : List Symbol) (t : Symbol) → Blocks (a_source h) depth front (t ∷ rest) → BeginsSource h depth (front ++ t ∷ []) → ⊥
+no_longer : (h : Heads) (depth : ℕ) (front rest : List Symbol) (t : Symbol) → Blocks (a_source h) depth front (t ∷ rest) → BeginsTree (sources h) depth (front ++ t ∷ []) → ⊥
 no_longer h depth front rest t blocks b =
-    blocks b.source [] (t ∷ b.more) (source_in IsPlainName h depth b.source b.within.grammatical b.within.nested) tt
-    (append-nil ((a_source h).spell b.source) ∙ sym (source_spelt h b.source) ∙ b.spelling ∙ append_assoc front (t ∷ []) b.more) refl
+    blocks b.tree [] (t ∷ b.more) (source_in IsPlainName h depth b.tree b.within.grammatical b.within.nested) tt
+    (append-nil ((a_source h).spell b.tree) ∙ sym (source_spelt h b.tree) ∙ b.spelling ∙ append_assoc front (t ∷ []) b.more) refl
 
-breaks_p1 : (h : Heads) (front rest : List Symbol) → ((n : ℕ) → Blocks (a_source h) n front rest) → Breaks P1 h front rest
+breaks_p1 : (h : Heads) (front rest : List Symbol) → ((n : ℕ) → Blocks (a_source h) n front rest) → Breaks P1 (sources h) front rest
 breaks_p1 h front [] blocks = λ depth s within e. blocks depth s [] [] (source_in IsPlainName h depth s within.grammatical within.nested) tt (append-nil ((a_source h).spell s) ∙ sym (source_spelt h s) ∙ e ∙ sym (append-nil front)) refl
 breaks_p1 h front (t ∷ rest) blocks = λ depth b. no_longer h depth front rest t (blocks depth) b
 
-breaks_p2 : (h : Heads) (front rest : List Symbol) → AllProper front → Blocks (a_source h) MOST_GROUPS front rest → Begins (a_source h) (suc MOST_GROUPS) (front ++ take 1 rest) → BracketIfTooDeep TooDeep rest → Breaks P2 h front rest
+breaks_p2 : (h : Heads) (front rest : List Symbol) → AllProper front → Blocks (a_source h) MOST_GROUPS front rest → Begins (a_source h) (suc MOST_GROUPS) (front ++ take 1 rest) → BracketIfTooDeep TooDeep rest → Breaks P2 (sources h) front rest
 breaks_p2 h front [] proper blocks deeper bracket = cc
 breaks_p2 h front (t ∷ rest) proper blocks deeper stands =
     let is : t ≡ Mark sign.LeftBracket = cc in
     (is, begins_source h (suc MOST_GROUPS) (front ++ t ∷ []) (proper_append front (t ∷ []) proper (subst (λ u. AllProper (u ∷ [])) (sym is) (tt, tt))) deeper, no_longer h MOST_GROUPS front rest t blocks)
 
-breaks : (h : Heads) (flaw : Flaw) (ts rest : List Symbol) (proper : AllProper ts) (r : Refuses (a_source h) MOST_GROUPS flaw ts rest) → Breaks (rule_of flaw) h r.front rest
+breaks : (h : Heads) (flaw : Flaw) (ts rest : List Symbol) (proper : AllProper ts) (r : Refuses (a_source h) MOST_GROUPS flaw ts rest) → Breaks (rule_of flaw) (sources h) r.front rest
 breaks h Unexpected ts rest proper r = breaks_p1 h r.front rest (λ n. r.blocks n tt)
 breaks h TooDeep ts rest proper r = breaks_p2 h r.front rest (proper_left r.front rest (subst AllProper r.split proper)) (r.blocks MOST_GROUPS (omega arith)) r.deeper r.bracket
 
@@ -100,7 +102,7 @@ symbols_rest : (ts left : List Token) (front : List Symbol) → symbols ts ≡ f
 symbols_rest ts left front e = sym (drop-map symbol (length ts - length left) ts) ∙ ap (λ n. drop n (symbols ts)) (sym (left_over ts left)) ∙ cut_rest (symbols ts) front (symbols left) e
 
 pub refusal_of_left : (h : Heads) (flaw : Flaw) (ts left : List Token) (end place : Place) → AllProper (symbols ts) → Refuses (a_source h) MOST_GROUPS flaw (symbols ts) (symbols left)
-    → place ≡ place_at (drop (length ts - length left) ts) end → IsRefused h ts end (record { rule = rule_of flaw; place = place })
+    → place ≡ place_at (drop (length ts - length left) ts) end → IsRefused (sources h) ts end (record { rule = rule_of flaw; place = place })
 refusal_of_left h flaw ts left end place proper r at =
     let k = length ts - length left in
     let front_is = symbols_front ts left r.front r.split in
@@ -109,8 +111,8 @@ refusal_of_left h flaw ts left end place proper r at =
       front = take k ts;
       rest = drop k ts;
       split = sym (take-append-drop k ts);
-      begins = subst (BeginsSource h MOST_GROUPS) (sym front_is) (begins_source h MOST_GROUPS r.front (proper_left r.front (symbols left) (subst AllProper r.split proper)) r.begins);
-      breaks = subst (λ l. Breaks (rule_of flaw) h l (symbols (drop k ts))) (sym front_is) (subst (Breaks (rule_of flaw) h r.front) (sym rest_is) (breaks h flaw (symbols ts) (symbols left) proper r));
+      begins = subst (BeginsTree (sources h) MOST_GROUPS) (sym front_is) (begins_source h MOST_GROUPS r.front (proper_left r.front (symbols left) (subst AllProper r.split proper)) r.begins);
+      breaks = subst (λ l. Breaks (rule_of flaw) (sources h) l (symbols (drop k ts))) (sym front_is) (subst (Breaks (rule_of flaw) (sources h) r.front) (sym rest_is) (breaks h flaw (symbols ts) (symbols left) proper r));
       place = at;
     }
 

@@ -1,9 +1,10 @@
--- What a reader believes: which trees there are, how each is spelt, what the parser answers, and the places of steps.
+-- What a reader believes: which trees there are, how each is spelt, what a language and its refusals are, what the parser answers, and the places of steps.
 pub mod Names
 pub mod Tree
 pub mod Symbol
 pub mod Spelt
 pub mod Whole
+pub mod Language
 pub mod Parsing
 pub mod Places
 -- The trees for which the values of the program stand.

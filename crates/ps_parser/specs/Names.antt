@@ -1,6 +1,6 @@
 -- What is a name of the grammar, and of a source.
 use Rattle.std.specs.Prelude.{◌≡◌, ℕ, List, ◌∷◌, ◌++◌, Option, Some, None, codes, if◌then◌else◌}
-use Rattle.std.specs.Str.{str_eq_ignore_ascii_case}
+use Rattle.ps_base.specs.LetterCase.{is_same_name}
 use Rattle.ps_lexer.specs.Spelling.{IsName}
 use Rattle.ps_parser.specs.declared.sign.Sign.{Sign}
 use Rattle.ps_parser.specs.declared.sign.Sign.TheVariants.{FunctionBlock, EndFunctionBlock}
@@ -8,8 +8,8 @@ use Rattle.ps_parser.specs.declared.sign.Sign.TheVariants.{FunctionBlock, EndFun
 -- FUNCTION_BLOCK and END_FUNCTION_BLOCK, in any letter case, are keywords of the grammar
 abbrev pub block_word : List ℕ → Option Sign
 block_word text =
-    if str_eq_ignore_ascii_case text (codes "FUNCTION_BLOCK") then Some FunctionBlock else
-    (if str_eq_ignore_ascii_case text (codes "END_FUNCTION_BLOCK") then Some EndFunctionBlock else None)
+    if is_same_name text (codes "FUNCTION_BLOCK") then Some FunctionBlock else
+    (if is_same_name text (codes "END_FUNCTION_BLOCK") then Some EndFunctionBlock else None)
 
 -- a name of the grammar: a name of the language that is no such keyword
 pub record IsPlainName (text : List ℕ) : Type 0 where

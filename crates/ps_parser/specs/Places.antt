@@ -1,6 +1,6 @@
 -- The place of a step of a source, and of a pin in it.
 use Rattle.std.specs.Prelude.{ℕ, List, [], ◌∷◌, Option, Some, None, slice_get, if◌then◌else◌}
-use Rattle.std.specs.Str.{str_eq_ignore_ascii_case}
+use Rattle.ps_base.specs.LetterCase.{is_same_name}
 use Rattle.ps_base.specs.declared.failing.Place.{Place}
 use Rattle.ps_parser.specs.declared.statement.Target.{Target}
 use Rattle.ps_parser.specs.declared.statement.Target.TheVariants as target
@@ -19,7 +19,7 @@ statement_place (Call n args) = n.place
 -- that of the first argument whose pin has this name, without letter case
 abbrev pub pin_place : List ℕ → List ArgumentTree → Option Place
 pin_place pin [] = None
-pin_place pin (a ∷ args) = if str_eq_ignore_ascii_case a.pin.text pin then Some a.pin.place else pin_place pin args
+pin_place pin (a ∷ args) = if is_same_name a.pin.text pin then Some a.pin.place else pin_place pin args
 
 -- that of a pin that the call names
 abbrev pub pin_place_in : List ℕ → StatementTree → Option Place

@@ -6,12 +6,14 @@ ghost use Rattle.ps_base.specs.declared.failing.Refusal.{Refusal};
 ghost use Rattle.ps_lexer.specs.declared.token.Token.{Token};
 ghost use Rattle.ps_lexer.specs.declared.token.Tokens.{Tokens};
 ghost use Rattle.ps_parser.specs.declared.heads.Heads.{Heads};
+ghost use Rattle.ps_parser.specs.declared.heads.Heads.TheVariants.{Program};
 ghost use Rattle.ps_parser.specs.Names.{IsDottedName};
 ghost use Rattle.ps_parser.specs.Symbol.{Symbol};
 ghost use Rattle.ps_parser.specs.Tree.{SourceTree};
 ghost use Rattle.ps_parser.specs.Spelt.{spelt};
 ghost use Rattle.ps_parser.specs.Whole.{IsWhole};
-ghost use Rattle.ps_parser.specs.Parsing.{IsSpelt, IsRefused, Answers, AnswersFrom};
+ghost use Rattle.ps_parser.specs.Language.{IsSpelt, IsRefused, Answers};
+ghost use Rattle.ps_parser.specs.Parsing.{sources, AnswersFrom};
 
 use ps_base::Fail;
 
@@ -22,7 +24,7 @@ pub fn one_spelling()
 
 /// Tokens that are refused are the spelling of no source whose groups are nested at most `MOST_GROUPS` deep.
 pub fn refused_or_spelt()
-    ensures { (h : Heads) (tokens : List Token) (end : Place) (refusal : Refusal) (s : SourceTree) → IsRefused h tokens end refusal → IsSpelt h tokens s → ⊥ }
+    ensures { (h : Heads) (tokens : List Token) (end : Place) (refusal : Refusal) (s : SourceTree) → IsRefused (sources h) tokens end refusal → IsSpelt (sources h) tokens s → ⊥ }
 {}
 
 /// No whole spelling is a proper front of another: a source that begins with the spelling of a source ends with it.
@@ -33,7 +35,7 @@ pub fn no_spelling_begins_another()
 
 /// Tokens have one answer of `parse`: two answers, neither of which is want of memory, are equal.
 pub fn one_answer()
-    ensures { (tokens : Tokens) (r q : Result SourceTree Fail) → Answers tokens r → Answers tokens q
+    ensures { (tokens : Tokens) (r q : Result SourceTree Fail) → Answers (sources Program) tokens r → Answers (sources Program) tokens q
         → r ≢ Err Fail.Memory → q ≢ Err Fail.Memory → r ≡ q }
 {}
 

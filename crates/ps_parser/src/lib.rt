@@ -24,7 +24,7 @@ mod stop;
 pub use expression::{Factor, Factors, Product, Products, Sum};
 pub use heads::Heads;
 pub use name::{Name, Names};
-pub use read_source::{parse, parse_from};
+pub use read_source::{is_head_at, parse, parse_from};
 pub use section::{Declaration, Declarations, Part, Section, Sections};
 pub use source::Source;
 pub use statement::{Argument, Arguments, Statement, Statements, Target};

@@ -1,14 +1,16 @@
 // Sources, from tokens.
 
-ghost use Rattle.std.specs.Prelude.{◌≡◌, ◌-◌, ◌≤◌, length, drop};
-ghost use Rattle.ps_parser.specs.Symbol.{AllProper, symbols};
+ghost use Rattle.std.specs.Prelude.{◌≡◌, ◌-◌, ◌≤◌, ◌↔◌, length, drop, IsTrue, Some};
+ghost use Rattle.ps_parser.specs.Symbol.{AllProper, Mark, symbols};
+ghost use Rattle.ps_parser.specs.Phrase.{next};
 ghost use Rattle.ps_parser.specs.Grammar.{a_source};
 ghost use Rattle.ps_parser.specs.Spelt.{head_sign, foot_sign};
-ghost use Rattle.ps_parser.specs.Parses.{Parses};
-ghost use Rattle.ps_parser.specs.Parsing.{Answers, AnswersFrom, place_at, rule_of};
+ghost use Rattle.ps_parser.specs.Parses.{Parses, rule_of};
+ghost use Rattle.ps_parser.specs.Language.{Answers, place_at};
+ghost use Rattle.ps_parser.specs.Parsing.{sources, AnswersFrom};
 
 use crate::heads::Heads;
-use crate::peek::expect;
+use crate::peek::{behind, expect};
 use crate::read_expression::name;
 use crate::read_section::sections;
 use crate::read_statement::statements;
@@ -83,6 +85,18 @@ fn place(tokens: &Tokens, at: usize) -> Place
     }
 }
 
+/// Whether the word that begins a source stands at the token with the number `at`: PROGRAM or FUNCTION_BLOCK, by `heads`.
+pub fn is_head_at(tokens: &Tokens, at: u32, heads: Heads) -> bool
+    requires { at ≤ length tokens.now.list }
+    ensures { IsTrue result ↔ (next (symbols (drop at tokens.now.list)) ≡ Some (Mark (head_sign heads))) }
+{
+    let all = tokens.list.as_slice();
+    match behind(&all[at as usize..], head(heads)) {
+        Some(_) => true,
+        None => false,
+    }
+}
+
 /// The source that begins at the token with the number `at`, between the words of `heads`, and the number of the token
 /// behind it. Its groups are nested at most `MOST_GROUPS` deep, and none of its names is FUNCTION_BLOCK or
 /// END_FUNCTION_BLOCK in any letter case. Time is linear in the number of tokens.
@@ -116,7 +130,7 @@ pub fn parse_from(
 /// Otherwise the refusal P1 or P2 at the earliest token, as `parse_from` says; P1 also at the first token behind
 /// END_PROGRAM.
 pub fn parse(alloc: Global, tokens: &Tokens) -> Result<Source, Fail>
-    ensures { Answers tokens.now result }
+    ensures { Answers (sources Heads.Program) tokens.now result }
 {
     let (source, next) = parse_from(alloc, tokens, 0, Heads::Program)?;
     let next = next as usize;

@@ -5,7 +5,8 @@ use Rattle.ps_base.specs.declared.failing.Refusal.{Refusal}
 use Rattle.ps_lexer.specs.declared.token.Tokens.{Tokens}
 use Rattle.ps_lexer.specs.Reading.{tokens}
 use Rattle.ps_parser.specs.declared.heads.Heads.TheVariants.{Program}
-use Rattle.ps_parser.specs.Parsing.{IsSpelt, IsRefused}
+use Rattle.ps_parser.specs.Language.{IsSpelt, IsRefused}
+use Rattle.ps_parser.specs.Parsing.{sources}
 use Rattle.ps_parser.specs.Places.{step_place}
 use Rattle.ps_parser.specs.Tree.{SourceTree}
 use Rattle.ps_names.specs.Offences.{refused}
@@ -25,13 +26,13 @@ pub data Reading : Type 0 where
 pub record IsProgram (source : List ℕ) (p : SourceTree) : Type 0 where
   pub lexed : Tokens
   pub tokens_are : tokens source (Ok lexed)
-  pub spelt : IsSpelt Program lexed.list p
+  pub spelt : IsSpelt (sources Program) lexed.list p
 
 -- the tokens of the text are refused, by the rules P
 pub record BreaksGrammar (source : List ℕ) (refusal : Refusal) : Type 0 where
   pub lexed : Tokens
   pub tokens_are : tokens source (Ok lexed)
-  pub breaks : IsRefused Program lexed.list lexed.end refusal
+  pub breaks : IsRefused (sources Program) lexed.list lexed.end refusal
 
 -- the program breaks a rule N, and this offence is the one that is named
 pub record BreaksNames (source : List ℕ) (refusal : Refusal) : Type 0 where

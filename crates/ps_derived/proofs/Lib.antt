@@ -1,0 +1,4 @@
+pub mod Fronts
+pub mod Refusing
+pub mod Reading
+pub mod OneText

@@ -61,8 +61,8 @@ not_more true b h = refl
 not_more false b h = h
 
 -- one more step makes new what it drives
-pub grown : (net : Network) (k s : ℕ) (a : Action) → slice_get net.steps k ≡ Some a → is_new net (suc k) s ≡ (is_new net k s || drives net s a)
-grown net k s a at =
+pub new_after_step : (net : Network) (k s : ℕ) (a : Action) → slice_get net.steps k ≡ Some a → is_new net (suc k) s ≡ (is_new net k s || drives net s a)
+new_after_step net k s a at =
     ap (λ z. nat_lt s (input_count net) || list_any (drives net s) z) (take_next net.steps k a at)
     ∙ ap (λ b. nat_lt s (input_count net) || b) (list_any-append (drives net s) (take k net.steps) (a ∷ []))
     ∙ regroup (nat_lt s (input_count net)) (list_any (drives net s) (take k net.steps)) (drives net s a)
@@ -320,7 +320,7 @@ module _ (net : Network) (sound : IsSound net) where
       other_agrees (suc k) h s =
           let here = element_at net.steps k (omega arith) in
           let earlier = other_agrees k (omega arith) in
-          let grows : is_new net (suc k) s ≡ (is_new net k s || drives net s here.0) = grown net k s here.0 here.1 in
+          let grows : is_new net (suc k) s ≡ (is_new net k s || drives net s here.0) = new_after_step net k s here.0 here.1 in
           ⊎_elim
           (λ y. cond-true (is_new net (suc k) s) (signal_in new s) (signal_in old s) (grows ∙ or_right (is_new net k s) (drives net s here.0) y)
           ∙ other-written k here.0 s here.1 y earlier

@@ -9,7 +9,7 @@ use Rattle.ps_model.specs.Scanning.{State, Solves, signal_in, read_at}
 use Rattle.ps_model.specs.Typing.{Accepted, safe, is_safe_signal, each_safe}
 use Rattle.ps_model.specs.Skeleton.{Skeleton, now, before, more, skeleton, skeleton_over, safe_skeletons, all_skeletons, after_step, leaf_at, holds, all_hold, some_hold}
 use Rattle.ps_model.proofs.Once.{element_at}
-use Rattle.ps_model.proofs.OneSolution.{grown, not_more}
+use Rattle.ps_model.proofs.OneSolution.{new_after_step, not_more}
 
 module _ (net : Network) (old new : State) (v : ℕ → Bool) (leaves : ℕ → Skeleton)
     (leaf : (s : ℕ) → is_safe_signal net s ≡ true → v s ≡ true → holds old new (leaves s) ≡ true) where
@@ -42,12 +42,12 @@ module _ (net : Network) (old new : State) (v : ℕ → Bool) (leaves : ℕ → 
 module _ (net : Network) (accepted : Accepted net) (old : State) (ins : List Bool) (dt : ℕ) (new : State) (solves : Solves net old ins dt new) where
   driven_now : (k : ℕ) (a : Action) → slice_get net.steps k ≡ Some a → (s : ℕ) → drives net s a ≡ true → read_at net old new (suc k) s ≡ signal_in new s
   driven_now k a at s h =
-      cond-true (is_new net (suc k) s) (signal_in new s) (signal_in old s) (grown net k s a at ∙ or_right (is_new net k s) (drives net s a) h)
+      cond-true (is_new net (suc k) s) (signal_in new s) (signal_in old s) (new_after_step net k s a at ∙ or_right (is_new net k s) (drives net s a) h)
 
   undriven_as_before : (k : ℕ) (a : Action) → slice_get net.steps k ≡ Some a → (s : ℕ) → drives net s a ≡ false →
       read_at net old new (suc k) s ≡ read_at net old new k s
   undriven_as_before k a at s h =
-      ap (λ b. cond b (signal_in new s) (signal_in old s)) (grown net k s a at ∙ not_more (is_new net k s) (drives net s a) h)
+      ap (λ b. cond b (signal_in new s) (signal_in old s)) (new_after_step net k s a at ∙ not_more (is_new net k s) (drives net s a) h)
 
   -- one step
   step_holds : (k : ℕ) (a : Action) → slice_get net.steps k ≡ Some a → (s : ℕ) → is_safe_signal net s ≡ true →

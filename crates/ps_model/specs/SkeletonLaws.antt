@@ -14,6 +14,7 @@ abbrev mutual
   leaf_signals (every ks) = leaf_signals_of ks
   leaf_signals (some ks) = leaf_signals_of ks
 
+  -- those of each part, one after another
   pub leaf_signals_of : Skeletons → List ℕ
   leaf_signals_of none_left = []
   leaf_signals_of (more k ks) = leaf_signals k ++ leaf_signals_of ks

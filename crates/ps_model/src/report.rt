@@ -6,18 +6,23 @@ use ps_base::Memory;
 use std::alloc::Global;
 use std::marker::Model;
 
-/// The inputs of a scan: its time in ms, and one value for each input of the application in order.
+/// What a scan takes in.
 #[derive(Drop, Debug)]
 pub struct Scan {
+    /// The time in ms.
     pub now: u32,
+    /// The values of the inputs, in order.
     pub ins: Bits,
 }
 
-/// What a block says of itself: Ready, Error and DiagCode (PLCopen TC5).
+/// What a block says of itself (PLCopen TC5).
 #[derive(Clone, Copy, Debug, PartialEq, Eq)]
 pub struct Diag {
+    /// Ready: the block is not in Idle.
     pub ready: bool,
+    /// Error: the block is in a state Cxxx.
     pub error: bool,
+    /// DiagCode: the state, 0 to 65,535.
     pub code: u16,
 }
 
@@ -36,10 +41,12 @@ impl Model for Diags {
     ghost view = { λ d. d.items.items };
 }
 
-/// The report of a scan: the values of the outputs, and what each instance says of itself.
+/// The report of a scan.
 #[derive(Drop, Debug)]
 pub struct Report {
+    /// The values of the outputs, in order.
     pub outs: Bits,
+    /// What each instance says of itself, in order.
     pub diags: Diags,
 }
 
@@ -86,7 +93,7 @@ impl Diags {
         }
     }
 
-    /// Those of this many idle blocks.
+    /// Those of this many idle blocks. `Err` comes only where memory is wanting.
     pub fn all_idle(alloc: Global, count: usize) -> Result<Diags, Memory>
         ensures { IfOk result (λ d. d ≡ replicate count no_diag) }
     {
@@ -94,7 +101,7 @@ impl Diags {
         Ok(Diags { items })
     }
 
-    /// One more at the end.
+    /// One more at the end. `Err` comes only where memory is wanting.
     pub fn push(&mut self, diag: Diag) -> Result<(), Memory>
         ensures { OnOk result (self.new ≡ self.old ++ diag ∷ []) }
     {

@@ -5,7 +5,7 @@ use Rattle.ps_actuators.specs.declared.monitoring.Phase.TheVariants.{Idle, Init,
 use Rattle.ps_actuators.specs.declared.monitoring.EdmState.{EdmState}
 use Rattle.ps_model.specs.Kept.{Kept}
 
--- the DiagCode of each state
+-- The DiagCode of each state.
 abbrev pub code_of : Phase → ℕ
 code_of Idle = 0
 code_of Init = 0x8001
@@ -31,6 +31,6 @@ code_of ResetError32 = 0xC081
 code_of EdmError33 = 0xC090
 code_of ResetError33 = 0xC091
 
--- what a state keeps
+-- What a state keeps.
 abbrev pub kept_of : EdmState → Kept
 kept_of s = record { code = code_of s.phase; last_reset = s.last_reset; last_auxiliary = false; mode = 0; timer = s.since }

@@ -5,7 +5,7 @@ use Rattle.ps_actuators.specs.declared.safety_request.Phase.TheVariants.{Idle, I
 use Rattle.ps_actuators.specs.declared.safety_request.SafetyRequestState.{SafetyRequestState}
 use Rattle.ps_model.specs.Kept.{Kept}
 
--- the DiagCode of each state
+-- The DiagCode of each state.
 abbrev pub code_of : Phase → ℕ
 code_of Idle = 0
 code_of Init = 0x8001
@@ -19,6 +19,6 @@ code_of ResetError2 = 0xC004
 code_of ResetError3 = 0xC005
 code_of WaitForOperation = 0x8005
 
--- what a state keeps
+-- What a state keeps.
 abbrev pub kept_of : SafetyRequestState → Kept
 kept_of s = record { code = code_of s.phase; last_reset = s.last_reset; last_auxiliary = false; mode = 0; timer = s.since }

@@ -1,12 +1,16 @@
-// The blocks of actuators: SF_SafetyRequest, SF_OutControl and SF_EDM.
+//! The blocks of actuators (PLCopen TC5, in the profile of this project).
+//!
+//! - `safety_request`: SF_SafetyRequest.
+//! - `out_control`: SF_OutControl.
+//! - `monitoring`: SF_EDM.
 #![tactic(auto)]
 
-pub mod monitoring;
-pub mod out_control;
-pub mod safety_request;
+mod monitoring;
+mod out_control;
+mod safety_request;
 #[cfg(test)]
 mod tests;
 
-pub use monitoring::Edm;
-pub use out_control::OutControl;
-pub use safety_request::SafetyRequest;
+pub use monitoring::{Edm, EdmState};
+pub use out_control::{OutControl, OutControlState};
+pub use safety_request::{SafetyRequest, SafetyRequestState};

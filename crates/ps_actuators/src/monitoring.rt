@@ -1,11 +1,11 @@
-// SF_EDM.
+//! SF_EDM (PLCopen TC5, in the profile of this project).
 
 ghost use Rattle.std.specs.Prelude.{◌≡◌, true, false, IfSome, IfNone, ◌≤◌};
 ghost use Rattle.ps_model.specs.Blocks.{next};
 ghost use Rattle.ps_model.specs.Stored.{is_state};
 ghost use Rattle.ps_model.specs.declared.kind.Kind.TheVariants.{Edm as EdmKind};
 ghost use Rattle.ps_block.specs.Seeing.{conditions_of};
-ghost use Rattle.ps_block.specs.Pins.{pin_of};
+ghost use Rattle.ps_model.specs.PinBits.{pin_of};
 ghost use Rattle.ps_actuators.specs.EdmStates.{code_of};
 
 use ps_block::{Image, Outs, Pins, SafetyBlock, Seen};
@@ -132,7 +132,7 @@ impl Phase {
             _ if !activate => Phase::Idle,
             Phase::Idle => Phase::Init,
             Phase::Init if start || seen.edge => Phase::OutputDisabled,
-            Phase::Init if seen.held => Phase::ResetError,
+            Phase::Init if seen.static_reset => Phase::ResetError,
             Phase::ResetError if !reset => Phase::Init,
             Phase::OutputDisabled if control && edm1 && edm2 => Phase::Enabled,
             Phase::OutputDisabled if control && !edm1 && edm2 => Phase::EdmError21,
@@ -169,15 +169,15 @@ impl Phase {
             | Phase::EdmError32
             | Phase::EdmError33
                 if seen.edge => Phase::OutputDisabled,
-            Phase::EdmError11 if seen.held => Phase::ResetError11,
-            Phase::EdmError12 if seen.held => Phase::ResetError12,
-            Phase::EdmError13 if seen.held => Phase::ResetError13,
-            Phase::EdmError21 if seen.held => Phase::ResetError21,
-            Phase::EdmError22 if seen.held => Phase::ResetError22,
-            Phase::EdmError23 if seen.held => Phase::ResetError23,
-            Phase::EdmError31 if seen.held => Phase::ResetError31,
-            Phase::EdmError32 if seen.held => Phase::ResetError32,
-            Phase::EdmError33 if seen.held => Phase::ResetError33,
+            Phase::EdmError11 if seen.static_reset => Phase::ResetError11,
+            Phase::EdmError12 if seen.static_reset => Phase::ResetError12,
+            Phase::EdmError13 if seen.static_reset => Phase::ResetError13,
+            Phase::EdmError21 if seen.static_reset => Phase::ResetError21,
+            Phase::EdmError22 if seen.static_reset => Phase::ResetError22,
+            Phase::EdmError23 if seen.static_reset => Phase::ResetError23,
+            Phase::EdmError31 if seen.static_reset => Phase::ResetError31,
+            Phase::EdmError32 if seen.static_reset => Phase::ResetError32,
+            Phase::EdmError33 if seen.static_reset => Phase::ResetError33,
             Phase::ResetError11 if !reset => Phase::EdmError11,
             Phase::ResetError12 if !reset => Phase::EdmError12,
             Phase::ResetError13 if !reset => Phase::EdmError13,
@@ -197,7 +197,6 @@ pub struct Edm;
 
 impl SafetyBlock for Edm {
     ghost use Rattle.ps_actuators.specs.EdmStates.{kept_of};
-    ghost use Rattle.ps_actuators.specs.SameEdmStates.{same};
 
     const KIND: Kind = Kind::Edm;
 
@@ -238,7 +237,7 @@ impl SafetyBlock for Edm {
         image.write(into);
     }
 
-    #[tactic(auto, using(ps_block::proofs::Loading::loads_from, ps_block::proofs::Loading::no_state, ps_block::proofs::Loading::not_last), unfolding(ps_model::specs::Blocks::block))]
+    #[tactic(auto, using(crate::proofs::SameEdmStates::same_kept, ps_block::proofs::Loading::loads_from, ps_block::proofs::Loading::no_state, ps_block::proofs::Loading::not_last), unfolding(ps_model::specs::Blocks::block))]
     fn load(from: &[u8; 16]) -> Option<EdmState> {
         let image = Image::read(Kind::Edm, from)?;
         let phase = Phase::with_code(image.code)?;
@@ -248,6 +247,4 @@ impl SafetyBlock for Edm {
             last_reset: image.last_reset,
         })
     }
-
-    ghost same = { same };
 }

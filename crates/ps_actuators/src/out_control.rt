@@ -1,4 +1,4 @@
-// SF_OutControl.
+//! SF_OutControl (PLCopen TC5, in the profile of this project).
 
 ghost use Rattle.std.specs.Prelude.{◌≡◌, true, false, IfSome, IfNone};
 ghost use Rattle.ps_model.specs.Blocks.{next};
@@ -92,12 +92,12 @@ impl Phase {
             Phase::Idle => Phase::Init,
             Phase::Init if !safe => Phase::WaitForSafeControl,
             Phase::Init if start || seen.edge => Phase::OutputDisabled,
-            Phase::Init if seen.held => Phase::ResetError1,
+            Phase::Init if seen.static_reset => Phase::ResetError1,
             Phase::WaitForSafeControl if safe && auto => Phase::OutputDisabled,
             Phase::WaitForSafeControl if safe => Phase::WaitForReset,
             Phase::WaitForReset if !safe => Phase::WaitForSafeControl,
             Phase::WaitForReset if seen.edge => Phase::OutputDisabled,
-            Phase::WaitForReset if seen.held => Phase::ResetError2,
+            Phase::WaitForReset if seen.static_reset => Phase::ResetError2,
             Phase::OutputDisabled | Phase::Enabled | Phase::ControlError if !safe =>
                 Phase::WaitForSafeControl,
             Phase::OutputDisabled if process && (static_control || seen.rise) => Phase::Enabled,
@@ -115,7 +115,6 @@ pub struct OutControl;
 
 impl SafetyBlock for OutControl {
     ghost use Rattle.ps_actuators.specs.OutControlStates.{kept_of};
-    ghost use Rattle.ps_actuators.specs.SameOutControlStates.{same};
 
     const KIND: Kind = Kind::OutControl;
 
@@ -160,7 +159,7 @@ impl SafetyBlock for OutControl {
         image.write(into);
     }
 
-    #[tactic(auto, using(ps_block::proofs::Loading::loads_from, ps_block::proofs::Loading::no_state, ps_block::proofs::Loading::not_last), unfolding(ps_model::specs::Blocks::block))]
+    #[tactic(auto, using(crate::proofs::SameOutControlStates::same_kept, ps_block::proofs::Loading::loads_from, ps_block::proofs::Loading::no_state, ps_block::proofs::Loading::not_last), unfolding(ps_model::specs::Blocks::block))]
     fn load(from: &[u8; 16]) -> Option<OutControlState> {
         let image = Image::read(Kind::OutControl, from)?;
         let phase = Phase::with_code(image.code)?;
@@ -171,6 +170,4 @@ impl SafetyBlock for OutControl {
             last_process: image.last_auxiliary,
         })
     }
-
-    ghost same = { same };
 }

@@ -1,4 +1,4 @@
-// SF_SafetyRequest.
+//! SF_SafetyRequest (PLCopen TC5, in the profile of this project).
 
 ghost use Rattle.std.specs.Prelude.{◌≡◌, true, false, IfSome, IfNone};
 ghost use Rattle.ps_model.specs.Blocks.{next};
@@ -103,9 +103,9 @@ impl Phase {
             Phase::Safe if !acknowledge => Phase::AcknowledgeLost,
             Phase::Safe if operation => Phase::Operation,
             Phase::AcknowledgeLost if seen.edge => Phase::WaitForOperation,
-            Phase::AcknowledgeLost if seen.held => Phase::ResetError2,
+            Phase::AcknowledgeLost if seen.static_reset => Phase::ResetError2,
             Phase::MonitoringError if seen.edge => Phase::WaitForOperation,
-            Phase::MonitoringError if seen.held => Phase::ResetError3,
+            Phase::MonitoringError if seen.static_reset => Phase::ResetError3,
             Phase::ResetError2 if !reset => Phase::AcknowledgeLost,
             Phase::ResetError3 if !reset => Phase::MonitoringError,
             Phase::WaitForOperation if operation => Phase::WaitForReset,
@@ -119,7 +119,6 @@ pub struct SafetyRequest;
 
 impl SafetyBlock for SafetyRequest {
     ghost use Rattle.ps_actuators.specs.SafetyRequestStates.{kept_of};
-    ghost use Rattle.ps_actuators.specs.SameSafetyRequestStates.{same};
 
     const KIND: Kind = Kind::SafetyRequest;
 
@@ -162,7 +161,7 @@ impl SafetyBlock for SafetyRequest {
         image.write(into);
     }
 
-    #[tactic(auto, using(ps_block::proofs::Loading::loads_from, ps_block::proofs::Loading::no_state, ps_block::proofs::Loading::not_last), unfolding(ps_model::specs::Blocks::block))]
+    #[tactic(auto, using(crate::proofs::SameSafetyRequestStates::same_kept, ps_block::proofs::Loading::loads_from, ps_block::proofs::Loading::no_state, ps_block::proofs::Loading::not_last), unfolding(ps_model::specs::Blocks::block))]
     fn load(from: &[u8; 16]) -> Option<SafetyRequestState> {
         let image = Image::read(Kind::SafetyRequest, from)?;
         let phase = Phase::with_code(image.code)?;
@@ -172,6 +171,4 @@ impl SafetyBlock for SafetyRequest {
             last_reset: image.last_reset,
         })
     }
-
-    ghost same = { same };
 }

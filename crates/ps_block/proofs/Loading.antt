@@ -9,9 +9,9 @@ use Rattle.ps_model.specs.Kept.{Kept}
 use Rattle.ps_model.specs.Stored.{Loads, stored, is_state, is_last, is_mode, bit, be2}
 use Rattle.ps_model.proofs.Sixteen.{short_code}
 use Rattle.ps_block.specs.declared.image.Image.{Image}
-use Rattle.ps_block.specs.Images.{Reads, kept_by}
+use Rattle.ps_block.specs.Images.{Reads, kept_of}
 
-loads_image : (kind : Kind) (bytes : List ℕ) (i : Image) → Reads kind bytes i → is_state kind i.code ≡ true → Loads kind bytes (kept_by i)
+loads_image : (kind : Kind) (bytes : List ℕ) (i : Image) → Reads kind bytes i → is_state kind i.code ≡ true → Loads kind bytes (kept_of i)
 loads_image kind bytes i r state = record {
   kept = record { state = state; last_reset = r.last_reset; last_auxiliary = r.last_auxiliary; mode = r.mode; timer = r.time_fits };
   bytes_are = r.bytes_are;
@@ -20,7 +20,7 @@ loads_image kind bytes i r state = record {
 pub loads_from : (kind : Kind) (bytes : List ℕ) (i : Image) (k : Kept) → Reads kind bytes i → is_state kind i.code ≡ true →
     k.code ≡ i.code → k.last_reset ≡ i.last_reset → k.last_auxiliary ≡ i.last_auxiliary → k.mode ≡ i.mode → k.timer ≡ i.time → Loads kind bytes k
 loads_from kind bytes i k r state code reset auxiliary mode time =
-    let same : kept_by i ≡ k = λ x. record { code = sym code x; last_reset = sym reset x; last_auxiliary = sym auxiliary x; mode = sym mode x; timer = sym time x } in
+    let same : kept_of i ≡ k = λ x. record { code = sym code x; last_reset = sym reset x; last_auxiliary = sym auxiliary x; mode = sym mode x; timer = sym time x } in
     subst (λ y. Loads kind bytes y) same (loads_image kind bytes i r state)
 
 pub code_in : (k : Kept) → k.code < 2 ^ 16 → be2 (stored k) 0 ≡ k.code
@@ -29,7 +29,7 @@ code_in k h = from_be_bytes-to_be_bytes_2 k.code h
 pub no_state : (kind : Kind) (bytes : List ℕ) (i : Image) → Reads kind bytes i → is_state kind i.code ≡ false → (k : Kept) → Loads kind bytes k → ⊥
 no_state kind bytes i r none k h =
     let codes : i.code ≡ k.code =
-    sym (code_in (kept_by i) r.code_fits) ∙ ap (λ b. be2 b 0) (sym r.bytes_are ∙ h.bytes_are) ∙ code_in k (short_code kind k.code h.kept.state) in
+    sym (code_in (kept_of i) r.code_fits) ∙ ap (λ b. be2 b 0) (sym r.bytes_are ∙ h.bytes_are) ∙ code_in k (short_code kind k.code h.kept.state) in
     true≢false (sym h.kept.state ∙ ap (is_state kind) (sym codes) ∙ none)
 
 -- a last input that the kind does not have is FALSE
@@ -51,7 +51,7 @@ small_bit true = refl
 small_bit false = refl
 
 -- what is written of an image loads for a kind that keeps it, in a state whose code is the image's
-pub loads_written : (kind : Kind) (bytes : List ℕ) (i : Image) (code : ℕ) → bytes ≡ stored (kept_by i) → i.code ≡ code → is_state kind code ≡ true →
+pub loads_written : (kind : Kind) (bytes : List ℕ) (i : Image) (code : ℕ) → bytes ≡ stored (kept_of i) → i.code ≡ code → is_state kind code ≡ true →
     is_last (block kind).reset (bit i.last_reset) ≡ true → is_last (block kind).auxiliary (bit i.last_auxiliary) ≡ true →
     is_mode kind code i.mode ≡ true → i.time < 2 ^ 32 →
     Loads kind bytes (record { code = code; last_reset = i.last_reset; last_auxiliary = i.last_auxiliary; mode = i.mode; timer = i.time })

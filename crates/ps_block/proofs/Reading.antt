@@ -1,31 +1,20 @@
 -- What is read of sixteen bytes, and which bytes load for no state.
-use Rattle.std.proofs.Common.{◌≡◌, ℕ, zero, suc, ◌≤◌, ◌<◌, ◌^◌, Bool, true, false, List, [], ◌∷◌, length, refl, sym, ap, ◌∙◌, arith, Option, Some, None, get_or}
+use Rattle.std.proofs.Common.{◌≡◌, ℕ, ◌<◌, ◌^◌, Bool, true, false, List, [], ◌∷◌, length, refl, sym, ap, ◌∙◌, get_or}
 use Rattle.std.specs.Prelude.{◌==◌, ◌&&◌, drop}
 use Rattle.std.specs.List.{list_all}
-use Rattle.std.proofs.lemmas.Bool.{and_parts, eqb-true, leb-true, true≢false}
+use Rattle.std.proofs.lemmas.Bool.{and_parts, eqb-true, true≢false}
 use Rattle.ps_model.specs.declared.kind.Kind.{Kind}
 use Rattle.ps_model.specs.Blocks.{block}
 use Rattle.ps_model.specs.Kept.{Kept}
-use Rattle.ps_model.specs.Stored.{Loads, is_last, is_mode, bit, be2, be4}
-use Rattle.ps_model.proofs.Sixteen.{short_code, stored_is}
+use Rattle.ps_model.specs.Stored.{Loads, is_last, is_mode, be2, be4}
+use Rattle.ps_model.proofs.Sixteen.{as_sixteen, short_code, stored_is, small_last, flag}
 use Rattle.ps_block.specs.Images.{Reads}
 use Rattle.ps_block.proofs.Loading.{code_in}
-use Rattle.ps_block.proofs.Zeros.{sixteen}
-
--- a byte of a last input is that of a truth value
-small_last : (o : Option ℕ) (n : ℕ) → is_last o n ≡ true → n ≤ 1
-small_last None n h = let e = eqb-true n 0 h in omega arith
-small_last (Some j) n h = leb-true n 1 h
-
-flag : (n : ℕ) → n ≤ 1 → bit (n == 1) ≡ n
-flag zero h = refl
-flag (suc zero) h = refl
-flag (suc (suc n)) h = absurd (omega arith)
 
 seven_zeros : (xs : List ℕ) → length xs ≡ 16 → list_all (λ b. b == 0) (drop 9 xs) ≡ true →
     (0 ≡ get_or xs 9 0) × (0 ≡ get_or xs 10 0) × (0 ≡ get_or xs 11 0) × (0 ≡ get_or xs 12 0) × (0 ≡ get_or xs 13 0) × (0 ≡ get_or xs 14 0) × (0 ≡ get_or xs 15 0)
 seven_zeros xs long h =
-    let p = and_parts _ _ (sym (ap (λ ys. list_all (λ b. b == 0) (drop 9 ys)) (sixteen xs long)) ∙ h) in
+    let p = and_parts _ _ (sym (ap (λ ys. list_all (λ b. b == 0) (drop 9 ys)) (as_sixteen xs long)) ∙ h) in
     let q = and_parts _ _ p.1 in
     let r = and_parts _ _ q.1 in
     let s = and_parts _ _ r.1 in

@@ -11,7 +11,7 @@ use Rattle.ps_model.specs.Blocks.{block, next, outs, safe_output, ready_in, erro
 use Rattle.ps_model.specs.Kept.{Kept, seen, stepped_at}
 use Rattle.ps_model.specs.Demand.{Demands, demand, are_met}
 use Rattle.ps_block.specs.declared.block.Outs.{Outs}
-use Rattle.ps_block.specs.Pins.{pin_of}
+use Rattle.ps_model.specs.PinBits.{pin_of}
 use Rattle.ps_block.specs.Shown.{Shows, shown}
 
 -- among the first n
@@ -54,8 +54,8 @@ module _ (kind : Kind) (limit now : ℕ) (pins : ℕ → Bool) (k k' : Kept) (o 
       ∙ ap (λ q. slice_index_or (outs kind q k'.mode) j false) (sym shows.code ∙ inactive_code h)
       ∙ off k'.mode j
 
-  pub demanded : Demands kind → (j : ℕ) → j < length (block kind).outputs → pin_of o.safe j ≡ true → are_met pins (demand kind j) ≡ true
-  demanded each j below on =
+  pub demand_met : Demands kind → (j : ℕ) → j < length (block kind).outputs → pin_of o.safe j ≡ true → are_met pins (demand kind j) ≡ true
+  demand_met each j below on =
       let c = seen kind pins (nat_le limit (now - k.timer)) k in
       each k.code k'.mode j c
       (ap (λ q. safe_output kind q k'.mode j) (sym (ap (λ (x : Kept). x.code) moves)) ∙ sym (safe_shown kind o k' shows j below) ∙ on)

@@ -1,10 +1,10 @@
 -- The last seven of eight bytes are 0 exactly where the number in the eight is a multiple of 2 ^ 56.
-use Rattle.std.proofs.Common.{◌≡◌, ℕ, ◌+◌, ◌*◌, ◌%◌, ◌<◌, ◌^◌, Bool, true, List, [], ◌∷◌, length, refl, sym, ap, ◌∙◌, ⊎_elim, arith, get_or}
+use Rattle.std.proofs.Common.{◌≡◌, ℕ, ◌+◌, ◌*◌, ◌%◌, ◌<◌, ◌^◌, Bool, true, List, [], ◌∷◌, length, sym, ap, ◌∙◌, ⊎_elim, arith, get_or}
 use Rattle.std.specs.Prelude.{◌==◌, drop}
 use Rattle.std.specs.List.{list_all}
 use Rattle.std.specs.Int.{w64, from_be_bytes}
 use Rattle.std.proofs.lemmas.Bool.{cases_Bool, and_parts, eqb-true, eq-eqb, true≢false}
-use Rattle.std.proofs.lemmas.List.FromFn.{fill_by_all}
+use Rattle.ps_model.proofs.Sixteen.{as_sixteen}
 
 are_zeros : List ℕ → Bool
 are_zeros bytes = list_all (λ b. b == 0) bytes
@@ -56,24 +56,18 @@ module _ (a b c d e f g h : ℕ) (b-fits : b < 256) (c-fits : c < 256) (d-fits :
       let z = zeros_of b c d e f g h all in
       omega (arith, z.0, z.1, z.2, z.3, z.4, z.5, z.6)
 
-  exactly : (from_be_bytes w64 (a ∷ b ∷ c ∷ d ∷ e ∷ f ∷ g ∷ h ∷ []) % 2 ^ 56 == 0) ≡ are_zeros (b ∷ c ∷ d ∷ e ∷ f ∷ g ∷ h ∷ [])
-  exactly =
+  zeros_exactly : (from_be_bytes w64 (a ∷ b ∷ c ∷ d ∷ e ∷ f ∷ g ∷ h ∷ []) % 2 ^ 56 == 0) ≡ are_zeros (b ∷ c ∷ d ∷ e ∷ f ∷ g ∷ h ∷ [])
+  zeros_exactly =
       ap (λ n. n == 0) rest_is
       ∙ ⊎_elim (λ all. eq-eqb (low b c d e f g h) 0 (none_else all) ∙ sym all)
       (λ some. ⊎_elim (λ y. absurd (true≢false (sym (all_zero (eqb-true (low b c d e f g h) 0 y)) ∙ some))) (λ n. n ∙ sym some) (cases_Bool (low b c d e f g h == 0)))
       (cases_Bool (are_zeros (b ∷ c ∷ d ∷ e ∷ f ∷ g ∷ h ∷ [])))
 
--- sixteen bytes one by one
-pub sixteen : (xs : List ℕ) → length xs ≡ 16 →
-    xs ≡ get_or xs 0 0 ∷ get_or xs 1 0 ∷ get_or xs 2 0 ∷ get_or xs 3 0 ∷ get_or xs 4 0 ∷ get_or xs 5 0 ∷ get_or xs 6 0 ∷ get_or xs 7 0
-    ∷ get_or xs 8 0 ∷ get_or xs 9 0 ∷ get_or xs 10 0 ∷ get_or xs 11 0 ∷ get_or xs 12 0 ∷ get_or xs 13 0 ∷ get_or xs 14 0 ∷ get_or xs 15 0 ∷ []
-sixteen xs h = fill_by_all (λ k. get_or xs k 0) xs 16 0 h (λ k _. refl)
-
 pub last_zeros : (xs last : List ℕ) (n : ℕ) → length xs ≡ 16 → ((i : ℕ) → get_or xs i 0 < 256) → last ≡ drop 8 xs → n ≡ from_be_bytes w64 last →
     (n % 2 ^ 56 == 0) ≡ list_all (λ b. b == 0) (drop 9 xs)
 unfolding are_zeros
 last_zeros xs last n long fits is-last is-n =
-    ap (λ m. m % 2 ^ 56 == 0) (is-n ∙ ap (from_be_bytes w64) (is-last ∙ ap (drop 8) (sixteen xs long)))
-    ∙ exactly (get_or xs 8 0) (get_or xs 9 0) (get_or xs 10 0) (get_or xs 11 0) (get_or xs 12 0) (get_or xs 13 0) (get_or xs 14 0) (get_or xs 15 0)
+    ap (λ m. m % 2 ^ 56 == 0) (is-n ∙ ap (from_be_bytes w64) (is-last ∙ ap (drop 8) (as_sixteen xs long)))
+    ∙ zeros_exactly (get_or xs 8 0) (get_or xs 9 0) (get_or xs 10 0) (get_or xs 11 0) (get_or xs 12 0) (get_or xs 13 0) (get_or xs 14 0) (get_or xs 15 0)
     (fits 9) (fits 10) (fits 11) (fits 12) (fits 13) (fits 14) (fits 15)
-    ∙ sym (ap (λ ys. list_all (λ b. b == 0) (drop 9 ys)) (sixteen xs long))
+    ∙ sym (ap (λ ys. list_all (λ b. b == 0) (drop 9 ys)) (as_sixteen xs long))

@@ -6,13 +6,13 @@ use Rattle.ps_model.specs.Kept.{Kept}
 use Rattle.ps_model.specs.Stored.{bit, stored, is_last, is_mode}
 use Rattle.ps_block.specs.declared.image.Image.{Image}
 
--- what the image keeps
-abbrev pub kept_by : Image → Kept
-kept_by i = record { code = i.code; last_reset = i.last_reset; last_auxiliary = i.last_auxiliary; mode = i.mode; timer = i.time }
+-- What the image keeps.
+abbrev pub kept_of : Image → Kept
+kept_of i = record { code = i.code; last_reset = i.last_reset; last_auxiliary = i.last_auxiliary; mode = i.mode; timer = i.time }
 
 -- The image is stored in these bytes, and it has just what the kind keeps; only its code may be of no state.
 pub record Reads (kind : Kind) (bytes : List ℕ) (i : Image) : Type 0 where
-  pub bytes_are : bytes ≡ stored (kept_by i)
+  pub bytes_are : bytes ≡ stored (kept_of i)
   pub last_reset : is_last (block kind).reset (bit i.last_reset) ≡ true
   pub last_auxiliary : is_last (block kind).auxiliary (bit i.last_auxiliary) ≡ true
   pub mode : is_mode kind i.code i.mode ≡ true

@@ -1,4 +1,5 @@
 pub mod Pins
 pub mod Shown
+pub mod Stepping
 pub mod Images
 pub mod Seeing

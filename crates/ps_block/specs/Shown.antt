@@ -5,13 +5,13 @@ use Rattle.ps_model.specs.declared.kind.Kind.{Kind}
 use Rattle.ps_model.specs.Blocks.{block, outs, ready_in, error_in}
 use Rattle.ps_model.specs.Kept.{Kept}
 use Rattle.ps_block.specs.declared.block.Outs.{Outs}
-use Rattle.ps_block.specs.Pins.{pin_of}
+use Rattle.ps_model.specs.PinBits.{pin_of}
 
--- the answer in the state with this code, with these safe outputs
+-- The answer in the state with this code, with these safe outputs.
 abbrev pub shown_in : ℕ → ℕ → Outs
 shown_in code safe = record { safe = safe; diag = record { ready = ready_in code; error = error_in code; code = code } }
 
--- n safe outputs, Ready and Error
+-- The first n safe outputs, Ready and Error.
 abbrev pub shown : ℕ → Outs → List Bool
 shown n o = map (pin_of o.safe) (range_with_len 0 n) ++ (o.diag.ready ∷ o.diag.error ∷ [])
 

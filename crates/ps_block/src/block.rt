@@ -1,10 +1,10 @@
-// The trait of a block.
+//! The trait of a block.
 
 ghost use Rattle.std.specs.Prelude.{◌≡◌, ◌<◌, IfSome, IfNone};
 ghost use Rattle.ps_model.specs.declared.kind.Kind.{Kind};
 ghost use Rattle.ps_model.specs.Kept.{Kept, fresh, stepped_at};
 ghost use Rattle.ps_model.specs.Stored.{Loads};
-ghost use Rattle.ps_block.specs.Pins.{pin_of};
+ghost use Rattle.ps_model.specs.PinBits.{pin_of};
 
 use ps_model::kind::Kind;
 use ps_model::report::Diag;
@@ -51,7 +51,7 @@ impl Outs {
             safe,
             diag: Diag {
                 ready: code != 0,
-                error: code >= 0xC000,
+                error: code / 0x1000 == 0xC,
                 code,
             },
         }
@@ -89,11 +89,10 @@ pub trait SafetyBlock {
     fn store(state: &Self::State, into: &mut [u8; 16])
         ensures { Loads KIND into.new (kept state.now) };
 
-    /// The state that stores so, and None exactly where none does.
+    /// The state that stores so, and None exactly where none does. There is no further one: what a state keeps is all that
+    /// there is of it.
     fn load(from: &[u8; 16]) -> Option<Self::State>
         ensures some { IfSome result (λ s. Loads KIND from.now (kept s)) }
+        ensures alone { IfSome result (λ s. (other : Self.State) → kept other ≡ kept s → other ≡ s) }
         ensures none { IfNone result ((k : Kept) → ¬ (Loads KIND from.now k)) };
-
-    /// What a state keeps is all that there is of it.
-    ghost same: { (s s' : Self.State) → kept s ≡ kept s' → s ≡ s' };
 }

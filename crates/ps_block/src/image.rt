@@ -1,4 +1,4 @@
-// The sixteen bytes that keep a state.
+//! The sixteen bytes that keep a state.
 
 ghost use Rattle.std.specs.Prelude.{◌≡◌, ◌<◌, ◌^◌, ◌&&◌, ◌==◌, drop, IfSome, IfNone};
 ghost use Rattle.std.specs.List.{list_all};
@@ -60,11 +60,11 @@ fn ends_in_zeros(from: &[u8; 16]) -> bool
 }
 
 impl Image {
-    ghost use Rattle.ps_block.specs.Images.{kept_by, Reads};
+    ghost use Rattle.ps_block.specs.Images.{kept_of, Reads};
 
     /// Writes the sixteen bytes.
     pub fn write(self, into: &mut [u8; 16])
-        ensures bytes { into.new ≡ stored (kept_by self) }
+        ensures bytes { into.new ≡ stored (kept_of self) }
         ensures time { self.time < 2 ^ 32 }
     {
         let [c0, c1] = self.code.to_be_bytes();

@@ -1,7 +1,7 @@
-// What the guards of a table see.
+//! What the guards of a table see.
 
 ghost use Rattle.std.specs.Prelude.{◌≡◌, ◌<◌, ◌-◌, nat_le};
-ghost use Rattle.ps_block.specs.Pins.{pin_of};
+ghost use Rattle.ps_model.specs.PinBits.{pin_of};
 
 use crate::block::Pins;
 
@@ -13,7 +13,7 @@ pub struct Seen {
     /// Reset is TRUE and was FALSE in the last step.
     pub edge: bool,
     /// Reset is TRUE and was TRUE in the last step.
-    pub held: bool,
+    pub static_reset: bool,
     /// The auxiliary input is TRUE and was FALSE in the last step.
     pub rise: bool,
     /// The age of the state is at least the limit.
@@ -31,7 +31,7 @@ impl Seen {
         Seen {
             bits: pins.bits,
             edge: false,
-            held: false,
+            static_reset: false,
             rise: false,
             elapsed: pins.now.saturating_sub(since) >= pins.limit,
         }
@@ -45,7 +45,7 @@ impl Seen {
         let reset = self.pin(j);
         Seen {
             edge: reset && !last,
-            held: reset && last,
+            static_reset: reset && last,
             ..self
         }
     }

@@ -5,7 +5,7 @@ use Rattle.ps_guards.specs.declared.guard_locking.Phase.TheVariants.{Idle, Init,
 use Rattle.ps_guards.specs.declared.guard_locking.GuardLockingState.{GuardLockingState}
 use Rattle.ps_model.specs.Kept.{Kept}
 
--- the DiagCode of each state
+-- The DiagCode of each state.
 abbrev pub code_of : Phase → ℕ
 code_of Idle = 0
 code_of Init = 0x8001
@@ -20,6 +20,6 @@ code_of ResetError2 = 0xC002
 code_of ResetError3 = 0xC003
 code_of SafetyLost = 0xC004
 
--- what a state keeps
+-- What a state keeps.
 abbrev pub kept_of : GuardLockingState → Kept
 kept_of s = record { code = code_of s.phase; last_reset = s.last_reset; last_auxiliary = false; mode = 0; timer = s.since }

@@ -5,7 +5,7 @@ use Rattle.ps_guards.specs.declared.guard_monitoring.Phase.TheVariants.{Idle, In
 use Rattle.ps_guards.specs.declared.guard_monitoring.GuardMonitoringState.{GuardMonitoringState}
 use Rattle.ps_model.specs.Kept.{Kept}
 
--- the DiagCode of each state
+-- The DiagCode of each state.
 abbrev pub code_of : Phase → ℕ
 code_of Idle = 0
 code_of Init = 0x8001
@@ -20,6 +20,6 @@ code_of ResetError = 0xC001
 code_of DiscrepancyError1 = 0xC011
 code_of DiscrepancyError2 = 0xC012
 
--- what a state keeps
+-- What a state keeps.
 abbrev pub kept_of : GuardMonitoringState → Kept
 kept_of s = record { code = code_of s.phase; last_reset = s.last_reset; last_auxiliary = false; mode = 0; timer = s.since }

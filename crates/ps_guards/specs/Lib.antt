@@ -1,4 +1,2 @@
 pub mod GuardLockingStates
-pub mod SameGuardLockingStates
 pub mod GuardMonitoringStates
-pub mod SameGuardMonitoringStates

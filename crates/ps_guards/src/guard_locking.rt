@@ -1,4 +1,4 @@
-// SF_GuardLocking.
+//! SF_GuardLocking (PLCopen TC5, in the profile of this project).
 
 ghost use Rattle.std.specs.Prelude.{◌≡◌, true, false, IfSome, IfNone};
 ghost use Rattle.ps_model.specs.Blocks.{next};
@@ -105,7 +105,7 @@ impl Phase {
             Phase::Locked | Phase::WaitForReset if !closed || !lock => Phase::SafetyLost,
             Phase::Locked | Phase::WaitForReset if request && safe => Phase::ClosedUnlocked,
             Phase::WaitForReset if seen.edge => Phase::Locked,
-            Phase::WaitForReset if seen.held => Phase::ResetError2,
+            Phase::WaitForReset if seen.static_reset => Phase::ResetError2,
             Phase::ClosedUnlocked | Phase::OpenUnlocked if !safe => Phase::SafetyReturn,
             Phase::ClosedUnlocked if !closed => Phase::OpenUnlocked,
             Phase::ClosedUnlocked if !request => Phase::WaitForOperator,
@@ -113,11 +113,11 @@ impl Phase {
             Phase::WaitForOperator if !closed => Phase::SafetyReturn,
             Phase::WaitForOperator if request && safe => Phase::ClosedUnlocked,
             Phase::WaitForOperator if lock && (auto || seen.edge) => Phase::Locked,
-            Phase::WaitForOperator if seen.held => Phase::ResetError3,
+            Phase::WaitForOperator if seen.static_reset => Phase::ResetError3,
             Phase::SafetyReturn if closed && lock => Phase::WaitForReset,
             Phase::SafetyReturn if safe && seen.edge && closed => Phase::ClosedUnlocked,
             Phase::SafetyReturn if safe && seen.edge => Phase::OpenUnlocked,
-            Phase::SafetyReturn if seen.held => Phase::ResetError1,
+            Phase::SafetyReturn if seen.static_reset => Phase::ResetError1,
             Phase::ResetError1 if !reset => Phase::SafetyReturn,
             Phase::ResetError2 if !reset => Phase::WaitForReset,
             Phase::ResetError3 if !reset => Phase::WaitForOperator,
@@ -132,7 +132,6 @@ pub struct GuardLocking;
 
 impl SafetyBlock for GuardLocking {
     ghost use Rattle.ps_guards.specs.GuardLockingStates.{kept_of};
-    ghost use Rattle.ps_guards.specs.SameGuardLockingStates.{same};
 
     const KIND: Kind = Kind::GuardLocking;
 
@@ -175,7 +174,7 @@ impl SafetyBlock for GuardLocking {
         image.write(into);
     }
 
-    #[tactic(auto, using(ps_block::proofs::Loading::loads_from, ps_block::proofs::Loading::no_state, ps_block::proofs::Loading::not_last), unfolding(ps_model::specs::Blocks::block))]
+    #[tactic(auto, using(crate::proofs::SameGuardLockingStates::same_kept, ps_block::proofs::Loading::loads_from, ps_block::proofs::Loading::no_state, ps_block::proofs::Loading::not_last), unfolding(ps_model::specs::Blocks::block))]
     fn load(from: &[u8; 16]) -> Option<GuardLockingState> {
         let image = Image::read(Kind::GuardLocking, from)?;
         let phase = Phase::with_code(image.code)?;
@@ -185,6 +184,4 @@ impl SafetyBlock for GuardLocking {
             last_reset: image.last_reset,
         })
     }
-
-    ghost same = { same };
 }

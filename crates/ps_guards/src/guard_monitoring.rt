@@ -1,4 +1,4 @@
-// SF_GuardMonitoring.
+//! SF_GuardMonitoring (PLCopen TC5, in the profile of this project).
 
 ghost use Rattle.std.specs.Prelude.{◌≡◌, true, false, IfSome, IfNone};
 ghost use Rattle.ps_model.specs.Blocks.{next};
@@ -117,7 +117,7 @@ impl Phase {
             Phase::GuardClosed => Phase::WaitForReset,
             Phase::WaitForReset if !both => Phase::OpenGuardRequest,
             Phase::WaitForReset if seen.edge => Phase::Enabled,
-            Phase::WaitForReset if seen.held => Phase::ResetError,
+            Phase::WaitForReset if seen.static_reset => Phase::ResetError,
             Phase::Enabled if !both => Phase::OpenGuardRequest,
             Phase::ResetError if !reset => Phase::WaitForReset,
             Phase::DiscrepancyError1 | Phase::DiscrepancyError2 if none => Phase::GuardOpened,
@@ -131,7 +131,6 @@ pub struct GuardMonitoring;
 
 impl SafetyBlock for GuardMonitoring {
     ghost use Rattle.ps_guards.specs.GuardMonitoringStates.{kept_of};
-    ghost use Rattle.ps_guards.specs.SameGuardMonitoringStates.{same};
 
     const KIND: Kind = Kind::GuardMonitoring;
 
@@ -172,7 +171,7 @@ impl SafetyBlock for GuardMonitoring {
         image.write(into);
     }
 
-    #[tactic(auto, using(ps_block::proofs::Loading::loads_from, ps_block::proofs::Loading::no_state, ps_block::proofs::Loading::not_last), unfolding(ps_model::specs::Blocks::block))]
+    #[tactic(auto, using(crate::proofs::SameGuardMonitoringStates::same_kept, ps_block::proofs::Loading::loads_from, ps_block::proofs::Loading::no_state, ps_block::proofs::Loading::not_last), unfolding(ps_model::specs::Blocks::block))]
     fn load(from: &[u8; 16]) -> Option<GuardMonitoringState> {
         let image = Image::read(Kind::GuardMonitoring, from)?;
         let phase = Phase::with_code(image.code)?;
@@ -182,6 +181,4 @@ impl SafetyBlock for GuardMonitoring {
             last_reset: image.last_reset,
         })
     }
-
-    ghost same = { same };
 }

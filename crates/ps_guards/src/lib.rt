@@ -1,10 +1,13 @@
-// The blocks of guards: SF_GuardMonitoring and SF_GuardLocking.
+//! The blocks of guards (PLCopen TC5, in the profile of this project).
+//!
+//! - `guard_monitoring`: SF_GuardMonitoring.
+//! - `guard_locking`: SF_GuardLocking.
 #![tactic(auto)]
 
-pub mod guard_locking;
-pub mod guard_monitoring;
+mod guard_locking;
+mod guard_monitoring;
 #[cfg(test)]
 mod tests;
 
-pub use guard_locking::GuardLocking;
-pub use guard_monitoring::GuardMonitoring;
+pub use guard_locking::{GuardLocking, GuardLockingState};
+pub use guard_monitoring::{GuardMonitoring, GuardMonitoringState};

@@ -5,7 +5,7 @@ use Rattle.ps_operator.specs.declared.enable_switch.Phase.TheVariants.{Idle, Bas
 use Rattle.ps_operator.specs.declared.enable_switch.EnableSwitchState.{EnableSwitchState}
 use Rattle.ps_model.specs.Kept.{Kept}
 
--- the DiagCode of each state
+-- The DiagCode of each state.
 abbrev pub code_of : Phase → ℕ
 code_of Idle = 0
 code_of BasicOperation = 0x8004
@@ -20,6 +20,6 @@ code_of OperationError4 = 0xC040
 code_of ResetError1 = 0xC001
 code_of ResetError2 = 0xC002
 
--- what a state keeps
+-- What a state keeps.
 abbrev pub kept_of : EnableSwitchState → Kept
 kept_of s = record { code = code_of s.phase; last_reset = s.last_reset; last_auxiliary = false; mode = 0; timer = s.since }

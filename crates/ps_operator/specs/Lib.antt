@@ -1,8 +1,5 @@
 pub mod EnableSwitchStates
-pub mod SameEnableSwitchStates
 pub mod ModeSelectorStates
-pub mod SameModeSelectorStates
+pub mod TwoHandStates
 pub mod TwoHandThreeStates
-pub mod SameTwoHandThreeStates
 pub mod TwoHandTwoStates
-pub mod SameTwoHandTwoStates

@@ -7,6 +7,7 @@ use Rattle.ps_operator.specs.declared.mode_selector.Phase.TheVariants.{Idle, Mod
 use Rattle.ps_operator.specs.declared.mode_selector.ModeSelectorState.{ModeSelectorState}
 use Rattle.ps_model.specs.Kept.{Kept}
 
+-- The number of each mode.
 abbrev pub number_of : Mode → ℕ
 number_of Mode0 = 0
 number_of Mode1 = 1
@@ -17,7 +18,7 @@ number_of Mode5 = 5
 number_of Mode6 = 6
 number_of Mode7 = 7
 
--- the DiagCode of each state
+-- The DiagCode of each state.
 abbrev pub code_of : Phase → ℕ
 code_of Idle = 0
 code_of ModeChanged = 0x8005
@@ -28,7 +29,7 @@ code_of OpenCircuit = 0xC002
 code_of ResetError1 = 0xC003
 code_of ResetError2 = 0xC004
 
--- the latched mode of each state, and 0 where none is latched
+-- The latched mode of each state, and 0 where none is latched.
 abbrev pub mode_of : Phase → ℕ
 mode_of (Selected m) = number_of m
 mode_of (Locked m) = number_of m
@@ -39,7 +40,7 @@ mode_of OpenCircuit = 0
 mode_of ResetError1 = 0
 mode_of ResetError2 = 0
 
--- the safe outputs as bits: S_Mode m Sel of the latched mode m, and S_AnyModeSel
+-- The safe outputs as bits: S_Mode m Sel of the latched mode m, and S_AnyModeSel.
 abbrev pub bits_of : Phase → ℕ
 bits_of (Selected m) = 2 ^ number_of m + 256
 bits_of (Locked m) = 2 ^ number_of m + 256
@@ -50,6 +51,6 @@ bits_of OpenCircuit = 0
 bits_of ResetError1 = 0
 bits_of ResetError2 = 0
 
--- what a state keeps
+-- What a state keeps.
 abbrev pub kept_of : ModeSelectorState → Kept
 kept_of s = record { code = code_of s.phase; last_reset = s.last_reset; last_auxiliary = s.last_set_mode; mode = mode_of s.phase; timer = s.since }

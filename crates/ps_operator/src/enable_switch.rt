@@ -1,4 +1,4 @@
-// SF_EnableSwitch.
+//! SF_EnableSwitch (PLCopen TC5, in the profile of this project).
 
 ghost use Rattle.std.specs.Prelude.{◌≡◌, true, false, IfSome, IfNone};
 ghost use Rattle.ps_model.specs.Blocks.{next};
@@ -112,11 +112,11 @@ impl Phase {
             Phase::Position3 if position2 => Phase::OperationError3,
             Phase::OperationError1 if position1 => Phase::OperationError2,
             Phase::OperationError2 if !position1 => Phase::OperationError1,
-            Phase::OperationError2 if seen.held => Phase::ResetError1,
+            Phase::OperationError2 if seen.static_reset => Phase::ResetError1,
             Phase::OperationError2 if auto || seen.edge => Phase::Position1,
             Phase::OperationError3 if !position2 => Phase::OperationError4,
             Phase::OperationError4 if position2 => Phase::OperationError3,
-            Phase::OperationError4 if seen.held => Phase::ResetError2,
+            Phase::OperationError4 if seen.static_reset => Phase::ResetError2,
             Phase::OperationError4 if (auto || seen.edge) && position1 => Phase::Position1,
             Phase::OperationError4 if auto || seen.edge => Phase::Position3,
             Phase::ResetError1 if !reset => Phase::OperationError2,
@@ -131,7 +131,6 @@ pub struct EnableSwitch;
 
 impl SafetyBlock for EnableSwitch {
     ghost use Rattle.ps_operator.specs.EnableSwitchStates.{kept_of};
-    ghost use Rattle.ps_operator.specs.SameEnableSwitchStates.{same};
 
     const KIND: Kind = Kind::EnableSwitch;
 
@@ -172,7 +171,7 @@ impl SafetyBlock for EnableSwitch {
         image.write(into);
     }
 
-    #[tactic(auto, using(ps_block::proofs::Loading::loads_from, ps_block::proofs::Loading::no_state, ps_block::proofs::Loading::not_last), unfolding(ps_model::specs::Blocks::block))]
+    #[tactic(auto, using(crate::proofs::SameEnableSwitchStates::same_kept, ps_block::proofs::Loading::loads_from, ps_block::proofs::Loading::no_state, ps_block::proofs::Loading::not_last), unfolding(ps_model::specs::Blocks::block))]
     fn load(from: &[u8; 16]) -> Option<EnableSwitchState> {
         let image = Image::read(Kind::EnableSwitch, from)?;
         let phase = Phase::with_code(image.code)?;
@@ -182,6 +181,4 @@ impl SafetyBlock for EnableSwitch {
             last_reset: image.last_reset,
         })
     }
-
-    ghost same = { same };
 }

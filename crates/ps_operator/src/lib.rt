@@ -1,14 +1,20 @@
-// The blocks of an operator: SF_ModeSelector, SF_TwoHandControlTypeII, SF_TwoHandControlTypeIII and SF_EnableSwitch.
+//! The blocks of an operator (PLCopen TC5, in the profile of this project).
+//!
+//! - `mode_selector`: SF_ModeSelector.
+//! - `two_hand_two`, `two_hand_three`: SF_TwoHandControlTypeII and SF_TwoHandControlTypeIII, and `two_hand`: what both have in
+//!   common.
+//! - `enable_switch`: SF_EnableSwitch.
 #![tactic(auto)]
 
-pub mod enable_switch;
-pub mod mode_selector;
+mod enable_switch;
+mod mode_selector;
 #[cfg(test)]
 mod tests;
-pub mod two_hand_three;
-pub mod two_hand_two;
+mod two_hand;
+mod two_hand_three;
+mod two_hand_two;
 
-pub use enable_switch::EnableSwitch;
-pub use mode_selector::ModeSelector;
-pub use two_hand_three::TwoHandThree;
-pub use two_hand_two::TwoHandTwo;
+pub use enable_switch::{EnableSwitch, EnableSwitchState};
+pub use mode_selector::{ModeSelector, ModeSelectorState};
+pub use two_hand_three::{TwoHandThree, TwoHandThreeState};
+pub use two_hand_two::{TwoHandTwo, TwoHandTwoState};

@@ -1,11 +1,11 @@
-// SF_ModeSelector.
+//! SF_ModeSelector (PLCopen TC5, in the profile of this project).
 
 ghost use Rattle.std.specs.Prelude.{◌≡◌, ◌<◌, true, false, IfSome, IfNone};
 ghost use Rattle.std.specs.List.{range_with_len};
 ghost use Rattle.ps_model.specs.Blocks.{next, latched, modes_on, lowest_on};
 ghost use Rattle.ps_model.specs.Stored.{is_state, is_mode};
 ghost use Rattle.ps_model.specs.declared.kind.Kind.TheVariants.{ModeSelector as ModeSelectorKind};
-ghost use Rattle.ps_block.specs.Pins.{pin_of};
+ghost use Rattle.ps_model.specs.PinBits.{pin_of};
 ghost use Rattle.ps_block.specs.Seeing.{conditions_of};
 ghost use Rattle.ps_operator.specs.ModeSelectorStates.{number_of, code_of, mode_of, bits_of};
 
@@ -213,9 +213,9 @@ impl Phase {
             Phase::Locked(_) if unlock && !exact => Phase::ModeChanged,
             Phase::Locked(mode) if unlock => Phase::Selected(mode),
             Phase::ShortCircuit if seen.edge => Phase::ModeChanged,
-            Phase::ShortCircuit if seen.held => Phase::ResetError1,
+            Phase::ShortCircuit if seen.static_reset => Phase::ResetError1,
             Phase::OpenCircuit if seen.edge => Phase::ModeChanged,
-            Phase::OpenCircuit if seen.held => Phase::ResetError2,
+            Phase::OpenCircuit if seen.static_reset => Phase::ResetError2,
             Phase::ResetError1 if !reset => Phase::ShortCircuit,
             Phase::ResetError2 if !reset => Phase::OpenCircuit,
             _ => self,
@@ -228,7 +228,6 @@ pub struct ModeSelector;
 
 impl SafetyBlock for ModeSelector {
     ghost use Rattle.ps_operator.specs.ModeSelectorStates.{kept_of};
-    ghost use Rattle.ps_operator.specs.SameModeSelectorStates.{same};
 
     const KIND: Kind = Kind::ModeSelector;
 
@@ -274,7 +273,7 @@ impl SafetyBlock for ModeSelector {
         image.write(into);
     }
 
-    #[tactic(auto, using(ps_block::proofs::Loading::loads_from, ps_block::proofs::Loading::no_state), unfolding(ps_model::specs::Blocks::block))]
+    #[tactic(auto, using(crate::proofs::SameModeSelectorStates::same_kept, ps_block::proofs::Loading::loads_from, ps_block::proofs::Loading::no_state), unfolding(ps_model::specs::Blocks::block))]
     fn load(from: &[u8; 16]) -> Option<ModeSelectorState> {
         let image = Image::read(Kind::ModeSelector, from)?;
         let phase = Phase::with_code(image.code, image.mode)?;
@@ -285,6 +284,4 @@ impl SafetyBlock for ModeSelector {
             last_set_mode: image.last_auxiliary,
         })
     }
-
-    ghost same = { same };
 }

@@ -1,32 +1,20 @@
-// SF_TwoHandControlTypeIII.
+//! SF_TwoHandControlTypeIII.
 
-ghost use Rattle.std.specs.Prelude.{◌≡◌, true, false, IfSome, IfNone, ◌≤◌, ◌≢◌};
+ghost use Rattle.std.specs.Prelude.{◌≡◌, true, false, IfSome, IfNone};
 ghost use Rattle.ps_model.specs.Blocks.{next};
 ghost use Rattle.ps_model.specs.Stored.{is_state};
 ghost use Rattle.ps_model.specs.declared.kind.Kind.TheVariants.{TwoHandThree as TwoHandThreeKind};
 ghost use Rattle.ps_block.specs.Seeing.{conditions_of};
-ghost use Rattle.ps_block.specs.Pins.{pin_of};
 ghost use Rattle.ps_operator.specs.TwoHandThreeStates.{code_of};
 
+use crate::two_hand::CommonPhase;
 use ps_block::{Image, Outs, Pins, SafetyBlock, Seen};
 use ps_model::kind::Kind;
 
-/// A state of the table, one for each DiagCode.
+/// A state of the table, one for each DiagCode: those of type II, and three in which the second button came late or not at all.
 #[derive(Clone, Copy, PartialEq, Eq, Debug)]
 pub enum Phase {
-    Idle,
-    Init,
-    Released,
-    Button1Actuated,
-    Button2Actuated,
-    Enabled,
-    Button2Released,
-    Button1Released,
-    LockedOff,
-    LockedOn,
-    ErrorB1,
-    ErrorB2,
-    ErrorBoth,
+    Common(CommonPhase),
     TimeError1,
     TimeError2,
     TimeErrorBoth,
@@ -48,19 +36,7 @@ impl Phase {
         ensures state { is_state TwoHandThreeKind (code_of self) ≡ true }
     {
         match self {
-            Phase::Idle => 0,
-            Phase::Init => 0x8001,
-            Phase::Released => 0x8004,
-            Phase::Button1Actuated => 0x8005,
-            Phase::Button2Actuated => 0x8006,
-            Phase::Enabled => 0x8000,
-            Phase::Button2Released => 0x8007,
-            Phase::Button1Released => 0x8008,
-            Phase::LockedOff => 0x8009,
-            Phase::LockedOn => 0x8019,
-            Phase::ErrorB1 => 0xC001,
-            Phase::ErrorB2 => 0xC002,
-            Phase::ErrorBoth => 0xC003,
+            Phase::Common(common) => common.code(),
             Phase::TimeError1 => 0xC004,
             Phase::TimeError2 => 0xC005,
             Phase::TimeErrorBoth => 0xC006,
@@ -75,125 +51,40 @@ impl Phase {
         ensures none { IfNone result (is_state TwoHandThreeKind code ≡ false) }
     {
         Some(match code {
-            0 => Phase::Idle,
-            0x8001 => Phase::Init,
-            0x8004 => Phase::Released,
-            0x8005 => Phase::Button1Actuated,
-            0x8006 => Phase::Button2Actuated,
-            0x8000 => Phase::Enabled,
-            0x8007 => Phase::Button2Released,
-            0x8008 => Phase::Button1Released,
-            0x8009 => Phase::LockedOff,
-            0x8019 => Phase::LockedOn,
-            0xC001 => Phase::ErrorB1,
-            0xC002 => Phase::ErrorB2,
-            0xC003 => Phase::ErrorBoth,
             0xC004 => Phase::TimeError1,
             0xC005 => Phase::TimeError2,
             0xC006 => Phase::TimeErrorBoth,
-            _ => return None,
+            _ => Phase::Common(CommonPhase::with_code(code)?),
         })
     }
 
-    // The next state, by the table.
+    // The next state, by the table: that of type II, but where the second button is late.
     #[tactic(auto, unfolding(ps_model::specs::Blocks::next, ps_model::specs::Blocks::block))]
     fn next(self, seen: Seen) -> Phase
         ensures { code_of result ≡ next TwoHandThreeKind (code_of self) (conditions_of seen 0) }
     {
         let b1 = seen.pin(1);
         let b2 = seen.pin(2);
-        let hands = (b1, b2);
-        if !seen.pin(0) {
-            return Phase::Idle;
-        }
         match self {
-            Phase::Idle => Phase::Init,
-            Phase::Init => match hands {
-                (true, true) => Phase::ErrorBoth,
-                (true, false) => Phase::ErrorB1,
-                (false, true) => Phase::ErrorB2,
-                (false, false) => Phase::Released,
-            },
-            Phase::ErrorB1 if b1 || b2 => Phase::ErrorB1,
-            Phase::ErrorB2 if b1 || b2 => Phase::ErrorB2,
-            Phase::ErrorBoth if b1 || b2 => Phase::ErrorBoth,
-            Phase::ErrorB1 | Phase::ErrorB2 | Phase::ErrorBoth => Phase::Init,
-            Phase::TimeError1 if b1 || b2 => Phase::TimeError1,
-            Phase::TimeError2 if b1 || b2 => Phase::TimeError2,
-            Phase::TimeErrorBoth if b1 || b2 => Phase::TimeErrorBoth,
-            Phase::TimeError1 | Phase::TimeError2 | Phase::TimeErrorBoth => Phase::Released,
-            Phase::LockedOff if b1 || b2 => Phase::LockedOff,
-            Phase::LockedOn if b1 || b2 => Phase::LockedOn,
-            Phase::LockedOff | Phase::LockedOn => Phase::Released,
-            _ => self.next_in_work(seen),
-        }
-    }
-
-    // The next state, by the table, of an active block that has seen both buttons released and is
-    // neither locked nor in error.
-    #[tactic(auto, unfolding(ps_model::specs::Blocks::next, ps_model::specs::Blocks::block))]
-    fn next_in_work(self, seen: Seen) -> Phase
-        requires active { pin_of seen.bits 0 ≡ true }
-        requires low { 0x8000 ≤ code_of self }
-        requires high { code_of self ≤ 0x8008 }
-        requires begun { code_of self ≢ 0x8001 }
-        ensures { code_of result ≡ next TwoHandThreeKind (code_of self) (conditions_of seen 0) }
-    {
-        let hands = (seen.pin(1), seen.pin(2));
-        match self {
-            Phase::Button1Actuated | Phase::Button2Actuated if seen.elapsed => match hands {
+            _ if !seen.pin(0) => Phase::Common(CommonPhase::Idle),
+            Phase::Common(common) if common.waits_for_second() && seen.elapsed => match (b1, b2) {
                 (true, true) => Phase::TimeErrorBoth,
                 (true, false) => Phase::TimeError1,
                 (false, true) => Phase::TimeError2,
-                (false, false) => Phase::Released,
+                (false, false) => Phase::Common(CommonPhase::Released),
             },
-            Phase::Released => match hands {
-                (true, true) => Phase::Enabled,
-                (true, false) => Phase::Button1Actuated,
-                (false, true) => Phase::Button2Actuated,
-                (false, false) => Phase::Released,
-            },
-            Phase::Button1Actuated => match hands {
-                (true, true) => Phase::Enabled,
-                (true, false) => Phase::Button1Actuated,
-                (false, true) => Phase::LockedOn,
-                (false, false) => Phase::Released,
-            },
-            Phase::Button2Actuated => match hands {
-                (true, true) => Phase::Enabled,
-                (true, false) => Phase::LockedOn,
-                (false, true) => Phase::Button2Actuated,
-                (false, false) => Phase::Released,
-            },
-            Phase::Enabled => match hands {
-                (true, true) => Phase::Enabled,
-                (true, false) => Phase::Button2Released,
-                (false, true) => Phase::Button1Released,
-                (false, false) => Phase::Released,
-            },
-            Phase::Button2Released => match hands {
-                (true, true) => Phase::LockedOff,
-                (true, false) => Phase::Button2Released,
-                (false, true) => Phase::LockedOff,
-                (false, false) => Phase::Released,
-            },
-            Phase::Button1Released => match hands {
-                (true, true) => Phase::LockedOff,
-                (true, false) => Phase::LockedOff,
-                (false, true) => Phase::Button1Released,
-                (false, false) => Phase::Released,
-            },
-            _ => self,
+            Phase::Common(common) => Phase::Common(common.next(seen)),
+            _ if b1 || b2 => self,
+            _ => Phase::Common(CommonPhase::Released),
         }
     }
 }
 
-/// SF_TwoHandControlTypeIII (PLCopen TC5, in the profile of this project).
+/// SF_TwoHandControlTypeIII (EN 574; PLCopen TC5, in the profile of this project).
 pub struct TwoHandThree;
 
 impl SafetyBlock for TwoHandThree {
     ghost use Rattle.ps_operator.specs.TwoHandThreeStates.{kept_of};
-    ghost use Rattle.ps_operator.specs.SameTwoHandThreeStates.{same};
 
     const KIND: Kind = Kind::TwoHandThree;
 
@@ -205,7 +96,7 @@ impl SafetyBlock for TwoHandThree {
 
     fn fresh() -> TwoHandThreeState {
         TwoHandThreeState {
-            phase: Phase::Idle,
+            phase: Phase::Common(CommonPhase::Idle),
             since: 0,
         }
     }
@@ -218,7 +109,10 @@ impl SafetyBlock for TwoHandThree {
             state.since = pins.now;
         }
         state.phase = phase;
-        Outs::of(phase.code(), u16::from(phase == Phase::Enabled))
+        Outs::of(
+            phase.code(),
+            u16::from(phase == Phase::Common(CommonPhase::Enabled)),
+        )
     }
 
     fn store(state: &TwoHandThreeState, into: &mut [u8; 16]) {
@@ -232,7 +126,7 @@ impl SafetyBlock for TwoHandThree {
         image.write(into);
     }
 
-    #[tactic(auto, using(ps_block::proofs::Loading::loads_from, ps_block::proofs::Loading::no_state, ps_block::proofs::Loading::not_last), unfolding(ps_model::specs::Blocks::block))]
+    #[tactic(auto, using(crate::proofs::SameTwoHandThreeStates::same_kept, ps_block::proofs::Loading::loads_from, ps_block::proofs::Loading::no_state, ps_block::proofs::Loading::not_last), unfolding(ps_model::specs::Blocks::block))]
     fn load(from: &[u8; 16]) -> Option<TwoHandThreeState> {
         let image = Image::read(Kind::TwoHandThree, from)?;
         let phase = Phase::with_code(image.code)?;
@@ -241,6 +135,4 @@ impl SafetyBlock for TwoHandThree {
             since: image.time,
         })
     }
-
-    ghost same = { same };
 }

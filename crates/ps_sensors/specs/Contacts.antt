@@ -5,7 +5,7 @@ use Rattle.ps_sensors.specs.declared.contacts.Phase.TheVariants.{Idle, Init, Wai
 use Rattle.ps_sensors.specs.declared.contacts.ContactsState.{ContactsState}
 use Rattle.ps_model.specs.Kept.{Kept}
 
--- the DiagCode of each state
+-- The DiagCode of each state.
 abbrev pub code_of : Phase → ℕ
 code_of Idle = 0
 code_of Init = 0x8001
@@ -17,6 +17,6 @@ code_of Error1 = 0xC001
 code_of Error2 = 0xC002
 code_of Error3 = 0xC003
 
--- what a state keeps
+-- What a state keeps.
 abbrev pub kept_of : ContactsState → Kept
 kept_of s = record { code = code_of s.phase; last_reset = false; last_auxiliary = false; mode = 0; timer = s.since }

@@ -1,4 +1,2 @@
 pub mod Contacts
-pub mod SameContacts
 pub mod Stop
-pub mod SameStop

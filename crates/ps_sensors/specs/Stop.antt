@@ -5,7 +5,7 @@ use Rattle.ps_sensors.specs.declared.stop.Phase.TheVariants.{Idle, Init, WaitFor
 use Rattle.ps_sensors.specs.declared.stop.StopState.{StopState}
 use Rattle.ps_model.specs.Kept.{Kept}
 
--- the DiagCode of each state
+-- The DiagCode of each state.
 abbrev pub code_of : Phase → ℕ
 code_of Idle = 0
 code_of Init = 0x8001
@@ -17,6 +17,6 @@ code_of WaitForReset2 = 0x8005
 code_of ResetError1 = 0xC001
 code_of ResetError2 = 0xC002
 
--- what a state keeps
+-- What a state keeps.
 abbrev pub kept_of : StopState → Kept
 kept_of s = record { code = code_of s.phase; last_reset = s.last_reset; last_auxiliary = false; mode = 0; timer = s.since }

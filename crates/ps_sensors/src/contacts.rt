@@ -1,11 +1,13 @@
-// SF_Equivalent and SF_Antivalent, which share one table.
+//! SF_Equivalent and SF_Antivalent (PLCopen TC5, in the profile of this project), which share one table.
 
 ghost use Rattle.std.specs.Prelude.{◌≡◌, true, false, IfSome, IfNone, not};
 ghost use Rattle.ps_model.specs.Blocks.{next};
-ghost use Rattle.ps_model.specs.Stored.{is_state};
+ghost use Rattle.ps_model.specs.Kept.{fresh};
+ghost use Rattle.ps_model.specs.Stored.{is_state, Loads};
 ghost use Rattle.ps_model.specs.declared.kind.Kind.TheVariants.{Equivalent as EquivalentKind, Antivalent as AntivalentKind};
 ghost use Rattle.ps_block.specs.Seeing.{conditions_of};
-ghost use Rattle.ps_block.specs.Pins.{pin_of};
+ghost use Rattle.ps_block.specs.Stepping.{IsStep};
+ghost use Rattle.ps_model.specs.PinBits.{pin_of};
 ghost use Rattle.ps_sensors.specs.Contacts.{code_of};
 
 use ps_block::{Image, Outs, Pins, SafetyBlock, Seen};
@@ -109,12 +111,69 @@ impl Phase {
     }
 }
 
+impl ContactsState {
+    ghost use Rattle.ps_sensors.specs.Contacts.{kept_of};
+
+    // The state before the first scan.
+    fn fresh() -> ContactsState
+        ensures { kept_of result ≡ fresh }
+    {
+        ContactsState {
+            phase: Phase::Idle,
+            since: 0,
+        }
+    }
+
+    // One step; b is the second contact, the other way round where it is normally open.
+    #[tactic(auto, unfolding(ps_model::specs::Blocks::block, ps_model::specs::Blocks::latched, ps_model::specs::Blocks::outs))]
+    fn step(&mut self, pins: Pins, b: bool) -> Outs
+        ensures equivalent { b ≡ pin_of pins.bits 2 → IsStep EquivalentKind pins (kept_of self.old) (kept_of self.new) result }
+        ensures antivalent { b ≡ not (pin_of pins.bits 2) → IsStep AntivalentKind pins (kept_of self.old) (kept_of self.new) result }
+    {
+        let phase = self.phase.next(Seen::at(pins, self.since), b);
+        if phase != self.phase {
+            self.since = pins.now;
+        }
+        self.phase = phase;
+        Outs::of(phase.code(), u16::from(phase == Phase::Enabled))
+    }
+
+    // Writes the sixteen bytes.
+    fn store(&self, into: &mut [u8; 16])
+        ensures equivalent { Loads EquivalentKind into.new (kept_of self.now) }
+        ensures antivalent { Loads AntivalentKind into.new (kept_of self.now) }
+    {
+        let image = Image {
+            code: self.phase.code(),
+            last_reset: false,
+            last_auxiliary: false,
+            mode: 0,
+            time: self.since,
+        };
+        image.write(into);
+    }
+
+    // The state that an image holds, and None exactly where its code is that of no state.
+    fn from_image(image: Image) -> Option<ContactsState>
+        ensures code { IfSome result (λ s. code_of s.phase ≡ image.code) }
+        ensures time { IfSome result (λ s. s.since ≡ image.time) }
+        ensures state_equivalent { IfSome result (λ s. is_state EquivalentKind image.code ≡ true) }
+        ensures none_equivalent { IfNone result (is_state EquivalentKind image.code ≡ false) }
+        ensures state_antivalent { IfSome result (λ s. is_state AntivalentKind image.code ≡ true) }
+        ensures none_antivalent { IfNone result (is_state AntivalentKind image.code ≡ false) }
+    {
+        Some(ContactsState {
+            phase: Phase::with_code(image.code)?,
+            since: image.time,
+        })
+    }
+}
+
 /// SF_Equivalent (PLCopen TC5, in the profile of this project).
 pub struct Equivalent;
 
 impl SafetyBlock for Equivalent {
     ghost use Rattle.ps_sensors.specs.Contacts.{kept_of};
-    ghost use Rattle.ps_sensors.specs.SameContacts.{same};
 
     const KIND: Kind = Kind::Equivalent;
 
@@ -125,45 +184,21 @@ impl SafetyBlock for Equivalent {
     ghost kept = { kept_of };
 
     fn fresh() -> ContactsState {
-        ContactsState {
-            phase: Phase::Idle,
-            since: 0,
-        }
+        ContactsState::fresh()
     }
 
-    #[tactic(auto, unfolding(ps_model::specs::Blocks::block, ps_model::specs::Blocks::latched, ps_model::specs::Blocks::outs))]
     fn step(state: &mut ContactsState, pins: Pins) -> Outs {
-        let seen = Seen::at(pins, state.since);
-        let phase = state.phase.next(seen, seen.pin(2));
-        if phase != state.phase {
-            state.since = pins.now;
-        }
-        state.phase = phase;
-        Outs::of(phase.code(), u16::from(phase == Phase::Enabled))
+        state.step(pins, pins.at(2))
     }
 
     fn store(state: &ContactsState, into: &mut [u8; 16]) {
-        let image = Image {
-            code: state.phase.code(),
-            last_reset: false,
-            last_auxiliary: false,
-            mode: 0,
-            time: state.since,
-        };
-        image.write(into);
+        state.store(into);
     }
 
-    #[tactic(auto, using(ps_block::proofs::Loading::loads_from, ps_block::proofs::Loading::no_state, ps_block::proofs::Loading::not_last), unfolding(ps_model::specs::Blocks::block))]
+    #[tactic(auto, using(crate::proofs::SameContacts::same_kept, ps_block::proofs::Loading::loads_from, ps_block::proofs::Loading::no_state, ps_block::proofs::Loading::not_last), unfolding(ps_model::specs::Blocks::block))]
     fn load(from: &[u8; 16]) -> Option<ContactsState> {
-        let image = Image::read(Kind::Equivalent, from)?;
-        let phase = Phase::with_code(image.code)?;
-        Some(ContactsState {
-            phase,
-            since: image.time,
-        })
+        ContactsState::from_image(Image::read(Kind::Equivalent, from)?)
     }
-
-    ghost same = { same };
 }
 
 /// SF_Antivalent (PLCopen TC5, in the profile of this project).
@@ -171,7 +206,6 @@ pub struct Antivalent;
 
 impl SafetyBlock for Antivalent {
     ghost use Rattle.ps_sensors.specs.Contacts.{kept_of};
-    ghost use Rattle.ps_sensors.specs.SameContacts.{same};
 
     const KIND: Kind = Kind::Antivalent;
 
@@ -182,43 +216,19 @@ impl SafetyBlock for Antivalent {
     ghost kept = { kept_of };
 
     fn fresh() -> ContactsState {
-        ContactsState {
-            phase: Phase::Idle,
-            since: 0,
-        }
+        ContactsState::fresh()
     }
 
-    #[tactic(auto, unfolding(ps_model::specs::Blocks::block, ps_model::specs::Blocks::latched, ps_model::specs::Blocks::outs))]
     fn step(state: &mut ContactsState, pins: Pins) -> Outs {
-        let seen = Seen::at(pins, state.since);
-        let phase = state.phase.next(seen, !seen.pin(2));
-        if phase != state.phase {
-            state.since = pins.now;
-        }
-        state.phase = phase;
-        Outs::of(phase.code(), u16::from(phase == Phase::Enabled))
+        state.step(pins, !pins.at(2))
     }
 
     fn store(state: &ContactsState, into: &mut [u8; 16]) {
-        let image = Image {
-            code: state.phase.code(),
-            last_reset: false,
-            last_auxiliary: false,
-            mode: 0,
-            time: state.since,
-        };
-        image.write(into);
+        state.store(into);
     }
 
-    #[tactic(auto, using(ps_block::proofs::Loading::loads_from, ps_block::proofs::Loading::no_state, ps_block::proofs::Loading::not_last), unfolding(ps_model::specs::Blocks::block))]
+    #[tactic(auto, using(crate::proofs::SameContacts::same_kept, ps_block::proofs::Loading::loads_from, ps_block::proofs::Loading::no_state, ps_block::proofs::Loading::not_last), unfolding(ps_model::specs::Blocks::block))]
     fn load(from: &[u8; 16]) -> Option<ContactsState> {
-        let image = Image::read(Kind::Antivalent, from)?;
-        let phase = Phase::with_code(image.code)?;
-        Some(ContactsState {
-            phase,
-            since: image.time,
-        })
+        ContactsState::from_image(Image::read(Kind::Antivalent, from)?)
     }
-
-    ghost same = { same };
 }

@@ -1,10 +1,13 @@
-// The blocks of sensors: SF_Equivalent, SF_Antivalent, SF_EmergencyStop and SF_ESPE.
+//! The blocks of sensors (PLCopen TC5, in the profile of this project).
+//!
+//! - `contacts`: SF_Equivalent and SF_Antivalent.
+//! - `stop`: SF_EmergencyStop and SF_ESPE.
 #![tactic(auto)]
 
-pub mod contacts;
-pub mod stop;
+mod contacts;
+mod stop;
 #[cfg(test)]
 mod tests;
 
-pub use contacts::{Antivalent, Equivalent};
-pub use stop::{EmergencyStop, Espe};
+pub use contacts::{Antivalent, ContactsState, Equivalent};
+pub use stop::{EmergencyStop, Espe, StopState};

@@ -1,10 +1,12 @@
-// SF_EmergencyStop and SF_ESPE, which share one table.
+//! SF_EmergencyStop and SF_ESPE (PLCopen TC5, in the profile of this project), which share one table.
 
 ghost use Rattle.std.specs.Prelude.{◌≡◌, true, false, IfSome, IfNone};
 ghost use Rattle.ps_model.specs.Blocks.{next};
-ghost use Rattle.ps_model.specs.Stored.{is_state};
+ghost use Rattle.ps_model.specs.Kept.{fresh};
+ghost use Rattle.ps_model.specs.Stored.{is_state, Loads};
 ghost use Rattle.ps_model.specs.declared.kind.Kind.TheVariants.{EmergencyStop as EmergencyStopKind, Espe as EspeKind};
 ghost use Rattle.ps_block.specs.Seeing.{conditions_of};
+ghost use Rattle.ps_block.specs.Stepping.{IsStep};
 ghost use Rattle.ps_sensors.specs.Stop.{code_of};
 
 use ps_block::{Image, Outs, Pins, SafetyBlock, Seen};
@@ -109,12 +111,74 @@ impl Phase {
     }
 }
 
+impl StopState {
+    ghost use Rattle.ps_sensors.specs.Stop.{kept_of};
+
+    // The state before the first scan.
+    fn fresh() -> StopState
+        ensures { kept_of result ≡ fresh }
+    {
+        StopState {
+            phase: Phase::Idle,
+            since: 0,
+            last_reset: false,
+        }
+    }
+
+    // One step, the same for both kinds.
+    #[tactic(auto, unfolding(ps_model::specs::Blocks::block, ps_model::specs::Blocks::latched, ps_model::specs::Blocks::outs))]
+    fn step(&mut self, pins: Pins) -> Outs
+        ensures emergency_stop { IsStep EmergencyStopKind pins (kept_of self.old) (kept_of self.new) result }
+        ensures espe { IsStep EspeKind pins (kept_of self.old) (kept_of self.new) result }
+    {
+        let seen = Seen::at(pins, self.since).with_reset(4, self.last_reset);
+        let phase = self.phase.next(seen);
+        if phase != self.phase {
+            self.since = pins.now;
+        }
+        self.phase = phase;
+        self.last_reset = seen.pin(4);
+        Outs::of(phase.code(), u16::from(phase == Phase::Enabled))
+    }
+
+    // Writes the sixteen bytes.
+    fn store(&self, into: &mut [u8; 16])
+        ensures emergency_stop { Loads EmergencyStopKind into.new (kept_of self.now) }
+        ensures espe { Loads EspeKind into.new (kept_of self.now) }
+    {
+        let image = Image {
+            code: self.phase.code(),
+            last_reset: self.last_reset,
+            last_auxiliary: false,
+            mode: 0,
+            time: self.since,
+        };
+        image.write(into);
+    }
+
+    // The state that an image holds, and None exactly where its code is that of no state.
+    fn from_image(image: Image) -> Option<StopState>
+        ensures code { IfSome result (λ s. code_of s.phase ≡ image.code) }
+        ensures time { IfSome result (λ s. s.since ≡ image.time) }
+        ensures last_reset { IfSome result (λ s. s.last_reset ≡ image.last_reset) }
+        ensures state_emergency_stop { IfSome result (λ s. is_state EmergencyStopKind image.code ≡ true) }
+        ensures none_emergency_stop { IfNone result (is_state EmergencyStopKind image.code ≡ false) }
+        ensures state_espe { IfSome result (λ s. is_state EspeKind image.code ≡ true) }
+        ensures none_espe { IfNone result (is_state EspeKind image.code ≡ false) }
+    {
+        Some(StopState {
+            phase: Phase::with_code(image.code)?,
+            since: image.time,
+            last_reset: image.last_reset,
+        })
+    }
+}
+
 /// SF_EmergencyStop (PLCopen TC5, in the profile of this project).
 pub struct EmergencyStop;
 
 impl SafetyBlock for EmergencyStop {
     ghost use Rattle.ps_sensors.specs.Stop.{kept_of};
-    ghost use Rattle.ps_sensors.specs.SameStop.{same};
 
     const KIND: Kind = Kind::EmergencyStop;
 
@@ -125,48 +189,21 @@ impl SafetyBlock for EmergencyStop {
     ghost kept = { kept_of };
 
     fn fresh() -> StopState {
-        StopState {
-            phase: Phase::Idle,
-            since: 0,
-            last_reset: false,
-        }
+        StopState::fresh()
     }
 
-    #[tactic(auto, unfolding(ps_model::specs::Blocks::block, ps_model::specs::Blocks::latched, ps_model::specs::Blocks::outs))]
     fn step(state: &mut StopState, pins: Pins) -> Outs {
-        let seen = Seen::at(pins, state.since).with_reset(4, state.last_reset);
-        let phase = state.phase.next(seen);
-        if phase != state.phase {
-            state.since = pins.now;
-        }
-        state.phase = phase;
-        state.last_reset = seen.pin(4);
-        Outs::of(phase.code(), u16::from(phase == Phase::Enabled))
+        state.step(pins)
     }
 
     fn store(state: &StopState, into: &mut [u8; 16]) {
-        let image = Image {
-            code: state.phase.code(),
-            last_reset: state.last_reset,
-            last_auxiliary: false,
-            mode: 0,
-            time: state.since,
-        };
-        image.write(into);
+        state.store(into);
     }
 
-    #[tactic(auto, using(ps_block::proofs::Loading::loads_from, ps_block::proofs::Loading::no_state, ps_block::proofs::Loading::not_last), unfolding(ps_model::specs::Blocks::block))]
+    #[tactic(auto, using(crate::proofs::SameStop::same_kept, ps_block::proofs::Loading::loads_from, ps_block::proofs::Loading::no_state, ps_block::proofs::Loading::not_last), unfolding(ps_model::specs::Blocks::block))]
     fn load(from: &[u8; 16]) -> Option<StopState> {
-        let image = Image::read(Kind::EmergencyStop, from)?;
-        let phase = Phase::with_code(image.code)?;
-        Some(StopState {
-            phase,
-            since: image.time,
-            last_reset: image.last_reset,
-        })
+        StopState::from_image(Image::read(Kind::EmergencyStop, from)?)
     }
-
-    ghost same = { same };
 }
 
 /// SF_ESPE (PLCopen TC5, in the profile of this project).
@@ -174,7 +211,6 @@ pub struct Espe;
 
 impl SafetyBlock for Espe {
     ghost use Rattle.ps_sensors.specs.Stop.{kept_of};
-    ghost use Rattle.ps_sensors.specs.SameStop.{same};
 
     const KIND: Kind = Kind::Espe;
 
@@ -185,46 +221,19 @@ impl SafetyBlock for Espe {
     ghost kept = { kept_of };
 
     fn fresh() -> StopState {
-        StopState {
-            phase: Phase::Idle,
-            since: 0,
-            last_reset: false,
-        }
+        StopState::fresh()
     }
 
-    #[tactic(auto, unfolding(ps_model::specs::Blocks::block, ps_model::specs::Blocks::latched, ps_model::specs::Blocks::outs))]
     fn step(state: &mut StopState, pins: Pins) -> Outs {
-        let seen = Seen::at(pins, state.since).with_reset(4, state.last_reset);
-        let phase = state.phase.next(seen);
-        if phase != state.phase {
-            state.since = pins.now;
-        }
-        state.phase = phase;
-        state.last_reset = seen.pin(4);
-        Outs::of(phase.code(), u16::from(phase == Phase::Enabled))
+        state.step(pins)
     }
 
     fn store(state: &StopState, into: &mut [u8; 16]) {
-        let image = Image {
-            code: state.phase.code(),
-            last_reset: state.last_reset,
-            last_auxiliary: false,
-            mode: 0,
-            time: state.since,
-        };
-        image.write(into);
+        state.store(into);
     }
 
-    #[tactic(auto, using(ps_block::proofs::Loading::loads_from, ps_block::proofs::Loading::no_state, ps_block::proofs::Loading::not_last), unfolding(ps_model::specs::Blocks::block))]
+    #[tactic(auto, using(crate::proofs::SameStop::same_kept, ps_block::proofs::Loading::loads_from, ps_block::proofs::Loading::no_state, ps_block::proofs::Loading::not_last), unfolding(ps_model::specs::Blocks::block))]
     fn load(from: &[u8; 16]) -> Option<StopState> {
-        let image = Image::read(Kind::Espe, from)?;
-        let phase = Phase::with_code(image.code)?;
-        Some(StopState {
-            phase,
-            since: image.time,
-            last_reset: image.last_reset,
-        })
+        StopState::from_image(Image::read(Kind::Espe, from)?)
     }
-
-    ghost same = { same };
 }

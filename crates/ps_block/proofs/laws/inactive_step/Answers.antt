@@ -1,6 +1,9 @@
-use Rattle.ps_block.specs.Pins.{pin_of}
+use Rattle.ps_model.specs.PinBits.{pin_of}
 use Rattle.ps_block.proofs.Showing.{inactive_code, inactive_off}
 use Rattle.ps_block.proofs.laws.inactive_step.Goals as goal
+
+pub returns-clause-step : goal.returns-clause-step
+returns-clause-step g c = record { moves = c.step.ensures.moves; shows = c.step.ensures.shows }
 
 pub returns-clause-code : goal.returns-clause-code
 returns-clause-code g c =

@@ -1,4 +1,4 @@
--- A state of SF_GuardLocking is all that it keeps.
+-- Two states of SF_GuardLocking that keep the same are the same.
 use Rattle.std.proofs.Common.{◌≡◌, List, [], ◌∷◌, refl, ap, Option, Some}
 use Rattle.ps_model.specs.Kept.{Kept}
 use Rattle.ps_block.proofs.Codes.{with_code, same_state}
@@ -10,22 +10,22 @@ use Rattle.ps_guards.specs.GuardLockingStates.{code_of, kept_of}
 phases : List Phase
 phases = Idle ∷ Init ∷ Locked ∷ WaitForReset ∷ ClosedUnlocked ∷ OpenUnlocked ∷ WaitForOperator ∷ SafetyReturn ∷ ResetError1 ∷ ResetError2 ∷ ResetError3 ∷ SafetyLost ∷ []
 
-found : (p : Phase) → with_code code_of phases (code_of p) ≡ Some p
+found_by_code : (p : Phase) → with_code code_of phases (code_of p) ≡ Some p
 unfolding phases
-found Idle = refl
-found Init = refl
-found Locked = refl
-found WaitForReset = refl
-found ClosedUnlocked = refl
-found OpenUnlocked = refl
-found WaitForOperator = refl
-found SafetyReturn = refl
-found ResetError1 = refl
-found ResetError2 = refl
-found ResetError3 = refl
-found SafetyLost = refl
+found_by_code Idle = refl
+found_by_code Init = refl
+found_by_code Locked = refl
+found_by_code WaitForReset = refl
+found_by_code ClosedUnlocked = refl
+found_by_code OpenUnlocked = refl
+found_by_code WaitForOperator = refl
+found_by_code SafetyReturn = refl
+found_by_code ResetError1 = refl
+found_by_code ResetError2 = refl
+found_by_code ResetError3 = refl
+found_by_code SafetyLost = refl
 
-pub same : (s s' : GuardLockingState) → kept_of s ≡ kept_of s' → s ≡ s'
-same s s' e =
-    let phase : s.phase ≡ s'.phase = same_state code_of phases found s.phase s'.phase (ap (λ (k : Kept). k.code) e) in
+pub same_kept : (s s' : GuardLockingState) → kept_of s ≡ kept_of s' → s ≡ s'
+same_kept s s' e =
+    let phase : s.phase ≡ s'.phase = same_state code_of phases found_by_code s.phase s'.phase (ap (λ (k : Kept). k.code) e) in
     λ i. record { phase = phase i; since = (e i).timer; last_reset = (e i).last_reset }

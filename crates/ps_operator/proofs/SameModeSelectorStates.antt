@@ -1,4 +1,4 @@
--- A state of SF_ModeSelector is all that it keeps.
+-- Two states of SF_ModeSelector that keep the same are the same.
 use Rattle.std.proofs.Common.{◌≡◌, ℕ, List, [], ◌∷◌, refl, ap, Option, Some}
 use Rattle.std.specs.Prelude.{◌+◌, ◌*◌}
 use Rattle.ps_model.specs.Kept.{Kept}
@@ -13,37 +13,37 @@ use Rattle.ps_operator.specs.ModeSelectorStates.{code_of, mode_of, kept_of}
 phases : List Phase
 phases = Idle ∷ ModeChanged ∷ (Selected Mode0) ∷ (Selected Mode1) ∷ (Selected Mode2) ∷ (Selected Mode3) ∷ (Selected Mode4) ∷ (Selected Mode5) ∷ (Selected Mode6) ∷ (Selected Mode7) ∷ (Locked Mode0) ∷ (Locked Mode1) ∷ (Locked Mode2) ∷ (Locked Mode3) ∷ (Locked Mode4) ∷ (Locked Mode5) ∷ (Locked Mode6) ∷ (Locked Mode7) ∷ ShortCircuit ∷ OpenCircuit ∷ ResetError1 ∷ ResetError2 ∷ []
 
--- code and mode together
+-- Code and mode together.
 key : Phase → ℕ
 key p = code_of p * 8 + mode_of p
 
-found : (p : Phase) → with_code key phases (key p) ≡ Some p
+found_by_code : (p : Phase) → with_code key phases (key p) ≡ Some p
 unfolding phases key
-found Idle = refl
-found ModeChanged = refl
-found (Selected Mode0) = refl
-found (Selected Mode1) = refl
-found (Selected Mode2) = refl
-found (Selected Mode3) = refl
-found (Selected Mode4) = refl
-found (Selected Mode5) = refl
-found (Selected Mode6) = refl
-found (Selected Mode7) = refl
-found (Locked Mode0) = refl
-found (Locked Mode1) = refl
-found (Locked Mode2) = refl
-found (Locked Mode3) = refl
-found (Locked Mode4) = refl
-found (Locked Mode5) = refl
-found (Locked Mode6) = refl
-found (Locked Mode7) = refl
-found ShortCircuit = refl
-found OpenCircuit = refl
-found ResetError1 = refl
-found ResetError2 = refl
+found_by_code Idle = refl
+found_by_code ModeChanged = refl
+found_by_code (Selected Mode0) = refl
+found_by_code (Selected Mode1) = refl
+found_by_code (Selected Mode2) = refl
+found_by_code (Selected Mode3) = refl
+found_by_code (Selected Mode4) = refl
+found_by_code (Selected Mode5) = refl
+found_by_code (Selected Mode6) = refl
+found_by_code (Selected Mode7) = refl
+found_by_code (Locked Mode0) = refl
+found_by_code (Locked Mode1) = refl
+found_by_code (Locked Mode2) = refl
+found_by_code (Locked Mode3) = refl
+found_by_code (Locked Mode4) = refl
+found_by_code (Locked Mode5) = refl
+found_by_code (Locked Mode6) = refl
+found_by_code (Locked Mode7) = refl
+found_by_code ShortCircuit = refl
+found_by_code OpenCircuit = refl
+found_by_code ResetError1 = refl
+found_by_code ResetError2 = refl
 
-pub same : (s s' : ModeSelectorState) → kept_of s ≡ kept_of s' → s ≡ s'
+pub same_kept : (s s' : ModeSelectorState) → kept_of s ≡ kept_of s' → s ≡ s'
 unfolding key
-same s s' e =
-    let phase : s.phase ≡ s'.phase = same_state key phases found s.phase s'.phase (ap (λ (k : Kept). k.code * 8 + k.mode) e) in
+same_kept s s' e =
+    let phase : s.phase ≡ s'.phase = same_state key phases found_by_code s.phase s'.phase (ap (λ (k : Kept). k.code * 8 + k.mode) e) in
     λ i. record { phase = phase i; since = (e i).timer; last_reset = (e i).last_reset; last_set_mode = (e i).last_auxiliary }

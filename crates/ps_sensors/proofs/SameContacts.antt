@@ -1,4 +1,4 @@
--- A state of SF_Equivalent and SF_Antivalent is all that it keeps.
+-- Two states of SF_Equivalent and SF_Antivalent that keep the same are the same.
 use Rattle.std.proofs.Common.{◌≡◌, List, [], ◌∷◌, refl, ap, Option, Some}
 use Rattle.ps_model.specs.Kept.{Kept}
 use Rattle.ps_block.proofs.Codes.{with_code, same_state}
@@ -10,19 +10,19 @@ use Rattle.ps_sensors.specs.Contacts.{code_of, kept_of}
 phases : List Phase
 phases = Idle ∷ Init ∷ WaitForB ∷ WaitForA ∷ Enabled ∷ FromActiveWait ∷ Error1 ∷ Error2 ∷ Error3 ∷ []
 
-found : (p : Phase) → with_code code_of phases (code_of p) ≡ Some p
+found_by_code : (p : Phase) → with_code code_of phases (code_of p) ≡ Some p
 unfolding phases
-found Idle = refl
-found Init = refl
-found WaitForB = refl
-found WaitForA = refl
-found Enabled = refl
-found FromActiveWait = refl
-found Error1 = refl
-found Error2 = refl
-found Error3 = refl
+found_by_code Idle = refl
+found_by_code Init = refl
+found_by_code WaitForB = refl
+found_by_code WaitForA = refl
+found_by_code Enabled = refl
+found_by_code FromActiveWait = refl
+found_by_code Error1 = refl
+found_by_code Error2 = refl
+found_by_code Error3 = refl
 
-pub same : (s s' : ContactsState) → kept_of s ≡ kept_of s' → s ≡ s'
-same s s' e =
-    let phase : s.phase ≡ s'.phase = same_state code_of phases found s.phase s'.phase (ap (λ (k : Kept). k.code) e) in
+pub same_kept : (s s' : ContactsState) → kept_of s ≡ kept_of s' → s ≡ s'
+same_kept s s' e =
+    let phase : s.phase ≡ s'.phase = same_state code_of phases found_by_code s.phase s'.phase (ap (λ (k : Kept). k.code) e) in
     λ i. record { phase = phase i; since = (e i).timer }

@@ -1,4 +1,4 @@
--- A state of SF_SafetyRequest is all that it keeps.
+-- Two states of SF_SafetyRequest that keep the same are the same.
 use Rattle.std.proofs.Common.{◌≡◌, List, [], ◌∷◌, refl, ap, Option, Some}
 use Rattle.ps_model.specs.Kept.{Kept}
 use Rattle.ps_block.proofs.Codes.{with_code, same_state}
@@ -10,21 +10,21 @@ use Rattle.ps_actuators.specs.SafetyRequestStates.{code_of, kept_of}
 phases : List Phase
 phases = Idle ∷ Init ∷ WaitForReset ∷ Operation ∷ WaitForAcknowledge ∷ Safe ∷ AcknowledgeLost ∷ MonitoringError ∷ ResetError2 ∷ ResetError3 ∷ WaitForOperation ∷ []
 
-found : (p : Phase) → with_code code_of phases (code_of p) ≡ Some p
+found_by_code : (p : Phase) → with_code code_of phases (code_of p) ≡ Some p
 unfolding phases
-found Idle = refl
-found Init = refl
-found WaitForReset = refl
-found Operation = refl
-found WaitForAcknowledge = refl
-found Safe = refl
-found AcknowledgeLost = refl
-found MonitoringError = refl
-found ResetError2 = refl
-found ResetError3 = refl
-found WaitForOperation = refl
+found_by_code Idle = refl
+found_by_code Init = refl
+found_by_code WaitForReset = refl
+found_by_code Operation = refl
+found_by_code WaitForAcknowledge = refl
+found_by_code Safe = refl
+found_by_code AcknowledgeLost = refl
+found_by_code MonitoringError = refl
+found_by_code ResetError2 = refl
+found_by_code ResetError3 = refl
+found_by_code WaitForOperation = refl
 
-pub same : (s s' : SafetyRequestState) → kept_of s ≡ kept_of s' → s ≡ s'
-same s s' e =
-    let phase : s.phase ≡ s'.phase = same_state code_of phases found s.phase s'.phase (ap (λ (k : Kept). k.code) e) in
+pub same_kept : (s s' : SafetyRequestState) → kept_of s ≡ kept_of s' → s ≡ s'
+same_kept s s' e =
+    let phase : s.phase ≡ s'.phase = same_state code_of phases found_by_code s.phase s'.phase (ap (λ (k : Kept). k.code) e) in
     λ i. record { phase = phase i; since = (e i).timer; last_reset = (e i).last_reset }

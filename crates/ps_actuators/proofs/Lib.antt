@@ -1,0 +1,3 @@
+pub mod SameEdmStates
+pub mod SameOutControlStates
+pub mod SameSafetyRequestStates

@@ -1,0 +1,2 @@
+pub mod SameGuardLockingStates
+pub mod SameGuardMonitoringStates

@@ -1,0 +1,2 @@
+pub mod SameContacts
+pub mod SameStop

@@ -19,3 +19,4 @@ pub mod Scans
 pub mod Totals
 pub mod Motor
 pub mod CalledSignals
+pub mod Progressing

@@ -7,12 +7,12 @@ use Rattle.ps_model.specs.declared.channel.Progress.TheVariants.{Running, Done}
 use Rattle.ps_model.specs.Blocks.{Block_state, idle}
 use Rattle.ps_model.specs.Network.{Network, input_count, instance_count}
 use Rattle.ps_model.specs.Scanning.{State, Solves, block_in}
-use Rattle.ps_model.specs.Meaning.{Past, nothing, last, old_state, passed, first_state, report}
+use Rattle.ps_model.specs.Meaning.{Past, nothing, last, last_time, old_state, passed, first_state, report}
 use Rattle.ps_machine.specs.Machines.{Machine, turned}
 use Rattle.ps_machine.specs.Keeping.{Passes, Keeps, KeepsExactly}
 use Rattle.ps_machine.specs.Progressing.{is_running}
 use Rattle.ps_machine.specs.Channels.{Channel_state, Own, begins, makes_turn, closes, restarts, is_remade, meets, alone, ended}
-use Rattle.ps_machine.specs.Phases.{last_time, AtRest, Midway, Phase, IsLawful, lawful_begin, lawful_turn, lawful_close, lawful_restart, lawful_remake}
+use Rattle.ps_machine.specs.Phases.{AtRest, Midway}
 
 -- the last of so many turns
 pub turned_next : {X : Type 0} (turn : X → X) (k : ℕ) (x : X) → turned turn (suc k) x ≡ turn (turned turn k x)
@@ -141,12 +141,3 @@ module _ (net : Network) (m : Machine) (Stands : State → ℕ → List ℕ → 
   pub remade_at_rest : (latest : ℕ) (s : Channel_state) (past : Past) (cells : List ℕ) → Stands (old_state net past) (last_time past) cells → last_time past ≤ latest →
       AtRest net m Stands latest (meets m (is_remade cells) s) past
   remade_at_rest latest s past cells stands early = record { code = refl; stands = stands; early = early }
-
-  -- each lawful event of its own takes a channel from one phase to the next
-  pub next_phase : Keeps net m Stands → (s : Channel_state) (begun : Bool) (latest : ℕ) (past : Past) (e : Own) (begun_then : Bool) (latest_then : ℕ) (past_then : Past) →
-      IsLawful net m Stands s begun latest past e begun_then latest_then past_then → Phase net m Stands latest begun s past → Phase net m Stands latest_then begun_then (meets m e s) past_then
-  next_phase keeps s _ latest past _ _ _ _ (lawful_begin now ins new later small count solves) phase = begins_midway keeps latest s past new ins now phase later small count solves
-  next_phase keeps s _ latest past _ _ _ _ (lawful_turn more) phase = turn_goes_on latest s past phase more
-  next_phase keeps s _ latest past _ _ _ _ (lawful_close over) phase = closes_at_rest latest s past phase over
-  next_phase keeps s _ latest past _ _ _ _ lawful_restart phase = restarts_at_rest keeps latest s
-  next_phase keeps s _ latest past _ _ _ _ (lawful_remake cells stands) phase = remade_at_rest latest s past cells stands phase.early

@@ -23,6 +23,7 @@ use Rattle.ps_model.specs.Sized.{AreSizesOf}
 use Rattle.ps_model.specs.Sound.{IsSound}
 use Rattle.ps_model.proofs.Sixteen.{short_code, bit_is_one}
 use Rattle.ps_model.proofs.OneSolution.{first_pin_range}
+use Rattle.ps_model.proofs.OutputLengths.{output_count_is}
 use Rattle.ps_machine.specs.Bytes.{bit, be2, is_no_bit, instance_bytes}
 use Rattle.ps_machine.specs.Standing.{StandsIn}
 use Rattle.ps_machine.specs.Reporting.{output_byte, past_outputs, ready_byte, error_byte, code_in, holds_report, diag_at, report_in}
@@ -56,10 +57,6 @@ outs_error kind q mode =
     let len : length safe ≡ n = length-map-range_with_len (safe_output kind q mode) 0 n in
     get_or-append_right safe (ready_in q ∷ error_in q ∷ []) n (n + 1) false len (omega arith)
     ∙ (let e : n + 1 - n ≡ 1 = omega arith in ap (λ k. get_or (ready_in q ∷ error_in q ∷ []) k false) e)
-
-output_count_is : (kind : Kind) → output_count kind ≡ length (block kind).outputs + 2
-unfolding output_count
-output_count_is kind = refl
 
 -- the code of sixteen bytes that load
 pub code_of_bytes : (kind : Kind) (cells : List ℕ) (blocks i : ℕ) (k : Kept) → Loads kind (instance_bytes blocks i cells) k → be2 cells (blocks + 16 * i) ≡ k.code

@@ -9,6 +9,7 @@ use Rattle.ps_model.specs.Blocks.{output_count}
 use Rattle.ps_machine.specs.Bytes.{be2, is_no_bit}
 
 module _ (z : Sizes) (first : ℕ) (cells : List ℕ) where
+  -- the byte of signal s
   abbrev pub signal_byte : ℕ → ℕ
   signal_byte s = slice_index cells (first + s)
 
@@ -20,9 +21,11 @@ module _ (z : Sizes) (first : ℕ) (cells : List ℕ) where
   abbrev pub past_outputs : ℕ → ℕ
   past_outputs i = slice_index_or z.first_pins i 0 + output_count (slice_index_or z.kinds i Equivalent)
 
+  -- the byte of an instance's Ready
   abbrev pub ready_byte : ℕ → ℕ
   ready_byte i = signal_byte (past_outputs i - 2)
 
+  -- the byte of its Error
   abbrev pub error_byte : ℕ → ℕ
   error_byte i = signal_byte (past_outputs i - 1)
 
@@ -36,6 +39,7 @@ module _ (z : Sizes) (first : ℕ) (cells : List ℕ) where
       list_all (λ j. not (is_no_bit (output_byte j))) (range_with_len 0 z.outputs)
       && list_all (λ i. not (is_no_bit (ready_byte i)) && not (is_no_bit (error_byte i))) (range_with_len 0 z.instances)
 
+  -- what an instance says of itself
   abbrev pub diag_at : ℕ → Diag
   diag_at i = record { ready = ready_byte i == 1; error = error_byte i == 1; code = code_in i }
 

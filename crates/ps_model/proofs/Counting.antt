@@ -16,7 +16,7 @@ use Rattle.ps_model.specs.Blocks.{block, output_count}
 use Rattle.ps_model.specs.Named.{output_types, pin_types}
 
 -- a kind has a type for each output
-length-output_types : (kind : Kind) → length (output_types kind) ≡ output_count kind
+pub length-output_types : (kind : Kind) → length (output_types kind) ≡ output_count kind
 unfolding output_types output_count
 length-output_types kind = omega (arith, length-append (replicate (length (block kind).outputs) Safe) (Plain ∷ Plain ∷ []), length-replicate (length (block kind).outputs) Safe)
 

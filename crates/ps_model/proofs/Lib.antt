@@ -19,5 +19,9 @@ pub mod Sizing
 pub mod CallLimits
 pub mod OutputLengths
 pub mod FieldPlaces
+pub mod Positions
+pub mod Noting
+pub mod Owners
+pub mod DriversFound
 pub mod SkeletonLeaves
 pub mod LongerRuns

@@ -1,5 +1,5 @@
 -- The leaves of skeletons: none is BOOL, and each follows the driver of its signal.
-use Rattle.std.proofs.Common.{◌≡◌, ℕ, suc, zero, ◌≤◌, ◌<◌, Bool, true, false, List, [], ◌∷◌, take, drop, Option, Some, None, sym, ap, ◌∙◌, refl, subst, inl, inr, ⊎_elim, arith}
+use Rattle.std.proofs.Common.{◌≡◌, ℕ, suc, zero, ◌≤◌, ◌<◌, true, false, [], ◌∷◌, take, Option, Some, None, sym, ap, ◌∙◌, refl, subst, inl, inr, ⊎_elim, arith}
 use Rattle.std.specs.Prelude.{All, slice_get, nat_lt, ◌==◌}
 use Rattle.std.specs.List.{list_any}
 use Rattle.std.proofs.lemmas.Bool.{cases_Bool, or_parts, and_parts, cond-true, cond-false, cases_lt, eqb-true, eq-eqb, lt-ltb}
@@ -12,6 +12,7 @@ use Rattle.ps_model.specs.Typing.{Accepted, safe, is_safe_signal, each_safe}
 use Rattle.ps_model.specs.Skeleton.{Skeleton, now, before, more, skeleton_over, safe_skeletons, all_skeletons, after_step, leaf_at}
 use Rattle.ps_model.specs.SkeletonLaws.{leaf_signals, leaf_signals_of, LeavesAreSafe, LeavesFollowDrivers}
 use Rattle.ps_model.proofs.Once.{alone_after, none_of_first}
+use Rattle.ps_model.proofs.Positions.{fails_later, fails_before}
 use Rattle.ps_model.proofs.OneSolution.{inputs_undriven}
 
 abbrev IsSafeIn : Network → ℕ → Type 0
@@ -76,25 +77,6 @@ module _ (net : Network) (accepted : Accepted net) where
   leaves_are_safe k e is = over_safe_leaves net (leaf_at net k) (leaf_is_safe k) e is
 
 -- ---- Each leaf follows its driver.
-
--- what no element passes from a place on, none at a later place does
-fails_later : {X : Type 0} (p : X → Bool) (xs : List X) (j m : ℕ) (x : X) → list_any p (drop j xs) ≡ false → j ≤ m → slice_get xs m ≡ Some x → p x ≡ false
-fails_later p [] j m x none later at = cc
-fails_later p (y ∷ xs) zero zero x none later at =
-    let e : y ≡ x = cc in ap p (sym e) ∙ (or_parts (p y) (list_any p xs) none).0
-fails_later p (y ∷ xs) zero (suc m) x none later at =
-    fails_later p xs zero m x ((or_parts (p y) (list_any p xs) none).1) (omega arith) at
-fails_later p (y ∷ xs) (suc j) zero x none later at = absurd (omega arith)
-fails_later p (y ∷ xs) (suc j) (suc m) x none later at = fails_later p xs j m x none (omega arith) at
-
--- what no element passes up to a place, none at an earlier place does
-fails_before : {X : Type 0} (p : X → Bool) (xs : List X) (k m : ℕ) (x : X) → list_any p (take k xs) ≡ false → m < k → slice_get xs m ≡ Some x → p x ≡ false
-fails_before p [] k m x none earlier at = cc
-fails_before p (y ∷ xs) zero m x none earlier at = absurd (omega arith)
-fails_before p (y ∷ xs) (suc k) zero x none earlier at =
-    let e : y ≡ x = cc in ap p (sym e) ∙ (or_parts (p y) (list_any p (take k xs)) none).0
-fails_before p (y ∷ xs) (suc k) (suc m) x none earlier at =
-    fails_before p xs k m x ((or_parts (p y) (list_any p (take k xs)) none).1) (omega arith) at
 
 module _ (net : Network) where
   -- a step that doesn't drive a signal leaves its leaf

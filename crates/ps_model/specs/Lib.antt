@@ -22,6 +22,7 @@ pub mod Formula
 pub mod Action
 pub mod Named
 pub mod Network
+pub mod Drivers
 pub mod Values
 pub mod Nodes
 pub mod Sound
@@ -37,10 +38,11 @@ pub mod Typing
 pub mod Skeleton
 pub mod SkeletonLaws
 pub mod Budgets
--- Apparatus, in which code and proofs meet the above: how formulas are told apart, how nodes are found by number, where the cells of an
+-- Apparatus, in which code and proofs meet the above: how formulas are told apart, how nodes and drivers are found by number, where the cells of an
 -- application stand, and what the steps of a scan leave one after another. No meaning stands on these.
 pub mod FormulaCode
 pub mod NodeList
+pub mod FirstSteps
 pub mod Standing
 pub mod Obligations
 pub mod Blank

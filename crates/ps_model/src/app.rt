@@ -1,6 +1,7 @@
 // An application: what an accepted text of networks stands for.
 
 use crate::budget::{equation_rows_of_step, instructions_of_step};
+use crate::driver::Driver;
 use crate::kind::{Kind, Ty};
 use crate::named::{Instances, Signal, Signals};
 use crate::node::Node;
@@ -46,6 +47,7 @@ impl App {
     ghost use Rattle.ps_model.specs.Nodes.{app_nodes};
     ghost use Rattle.ps_model.specs.NodeList.{node_list};
     ghost use Rattle.ps_model.specs.Typing.{signal_type};
+    ghost use Rattle.ps_model.specs.Drivers.{driver};
     ghost use Rattle.ps_model.specs.Budgets.{turns_a, turns_b};
 
     /// The application of these parts. It takes no memory.
@@ -218,6 +220,29 @@ impl App {
         } else {
             self.instances.output_types()[(s - declared) as usize]
         }
+    }
+
+    /// What drives a signal: the step that assigns it, or the call of the instance whose output it is. None for an input, and
+    /// for a local that no step assigns.
+    pub fn driver(&self, s: u16) -> Option<Driver>
+        requires { s < signal_count self.now }
+        ensures { result ≡ driver self.now s }
+    {
+        self.sound();
+        let declared = self.declared_count();
+        if s < declared {
+            let step = self.steps.first_assigning(s)? as u16;
+            return Some(Driver::Assigned { step });
+        }
+        let place = (s - declared) as usize;
+        let instance = self.instances.owner(place) as u16;
+        let output = (place - self.instances.outputs_before(instance as usize)) as u16;
+        let step = self.steps.first_calling(instance)? as u16;
+        Some(Driver::Output {
+            instance,
+            output,
+            step,
+        })
     }
 
     /// The number of turns of channel A in a scan: the instructions of its code.

@@ -50,11 +50,12 @@ struct Placed {
 }
 
 /// Instances in order of declaration, which contracts see as a list.
-/// The numbers and the types of their outputs are kept beside them, so that no reader of an application adds them up.
+/// The numbers, the types and the instances of their outputs are kept beside them, so that no reader of an application adds them up.
 #[derive(Drop)]
 pub struct Instances {
     items: Vec<Placed>,
     types: Vec<Ty>,
+    owners: Vec<usize>,
 }
 
 impl Model for Instances {
@@ -67,10 +68,10 @@ impl Model for Instances {
 
     ghost view = { λ s. instances_of s.items.items };
 
-    ghost invariant = { λ s. KeepsPlaces s.items.items s.types.items };
+    ghost invariant = { λ s. KeepsPlaces s.items.items s.types.items s.owners.items };
 }
 
-ghost use Rattle.std.specs.Prelude.{◌≡◌};
+ghost use Rattle.std.specs.Prelude.{◌≡◌, ◌++◌, OnErr, OnOk, length, replicate};
 ghost use Rattle.ps_model.specs.Named.{output_types};
 
 // The types of the outputs of a kind with one safe output.
@@ -104,6 +105,28 @@ fn output_types(kind: Kind) -> &'static [Ty]
         Kind::GuardLocking | Kind::SafetyRequest => &OF_TWO,
         _ => &OF_ONE,
     }
+}
+
+// The types of the outputs of one more instance, and its number for each of them. Where memory is wanting all is as before.
+fn push_outputs(
+    types: &mut Vec<Ty>,
+    owners: &mut Vec<usize>,
+    kind: Kind,
+    instance: usize,
+) -> Result<(), Memory>
+    ensures types { OnOk result (types.new.items ≡ types.old.items ++ output_types kind) }
+    ensures owners { OnOk result (owners.new.items ≡ owners.old.items ++ replicate (length (output_types kind)) instance) }
+    ensures types_kept { OnErr result (types.new.items ≡ types.old.items) }
+    ensures owners_kept { OnErr result (owners.new.items ≡ owners.old.items) }
+{
+    let outputs = output_types(kind);
+    let before = owners.len();
+    owners.resize(before + outputs.len(), instance)?;
+    if types.extend_from_slice(outputs).is_err() {
+        owners.truncate(before);
+        return Err(Memory);
+    }
+    Ok(())
 }
 
 impl Signals {
@@ -145,9 +168,9 @@ impl Signals {
 }
 
 impl Instances {
-    ghost use Rattle.std.specs.Prelude.{◌≡◌, ◌<◌, [], ◌∷◌, ◌++◌, OnOk, OnErr, length, take, sum_by, flat_map, Some, slice_get};
+    ghost use Rattle.std.specs.Prelude.{◌≡◌, ◌<◌, [], ◌∷◌, ◌++◌, OnOk, OnErr, length, take, sum_by, flat_map, Some, slice_get, slice_index};
     ghost use Rattle.ps_model.specs.Blocks.{output_count};
-    ghost use Rattle.ps_model.specs.Named.{pin_types};
+    ghost use Rattle.ps_model.specs.Named.{pin_types, pin_owners};
 
     /// No instances. It takes no memory.
     pub fn new(alloc: Global) -> Instances
@@ -156,6 +179,7 @@ impl Instances {
         Instances {
             items: Vec::new(alloc),
             types: Vec::new(alloc),
+            owners: Vec::new(alloc),
         }
     }
 
@@ -165,9 +189,16 @@ impl Instances {
         ensures refused { OnErr result (self.new ≡ self.old) }
     {
         let first = self.types.len();
-        self.types.extend_from_slice(output_types(instance.kind))?;
+        let owned = self.owners.len();
+        push_outputs(
+            &mut self.types,
+            &mut self.owners,
+            instance.kind,
+            self.items.len(),
+        )?;
         if self.items.push(Placed { instance, first }).is_err() {
             self.types.truncate(first);
+            self.owners.truncate(owned);
             return Err(Memory);
         }
         Ok(())
@@ -201,5 +232,13 @@ impl Instances {
         ensures { result.now ≡ pin_types self.now }
     {
         self.types.as_slice()
+    }
+
+    /// The instance of a pin output, by the output's place among those of all instances.
+    pub fn owner(&self, n: usize) -> usize
+        requires { n < length (pin_types self.now) }
+        ensures { result ≡ slice_index (pin_owners self.now) n }
+    {
+        self.owners[n]
     }
 }

@@ -1,5 +1,6 @@
 // The steps of a network: assignments and calls.
 
+use crate::driver::{make_room, note, step_noted};
 use crate::expr::Expr;
 use crate::node::{Node, write_nodes};
 use ps_base::Memory;
@@ -59,11 +60,14 @@ pub enum Step {
 }
 
 /// The steps in the order of the text, which contracts see as a list.
-/// The nodes of their values are kept beside them, so that no reader of an application walks its expressions.
+/// Beside them are kept the nodes of their values, the first step that assigns each signal and the first that calls each
+/// instance, so that no reader of an application walks its expressions or its steps.
 #[derive(Drop)]
 pub struct Steps {
     items: Vec<Step>,
     nodes: Vec<Node>,
+    assigning: Vec<Option<usize>>,
+    calling: Vec<Option<usize>>,
 }
 
 impl Model for Steps {
@@ -76,11 +80,11 @@ impl Model for Steps {
 
     ghost coded = { Prim.hlevel (codes, formula_code) };
 
-    ghost use Rattle.ps_model.specs.Steps.{action, KeepsNodes};
+    ghost use Rattle.ps_model.specs.Steps.{action, KeepsBeside};
 
     ghost view = { λ s. map action s.items.items };
 
-    ghost invariant = { λ s. KeepsNodes (map action s.items.items) s.nodes.items };
+    ghost invariant = { λ s. KeepsBeside (map action s.items.items) s.nodes.items s.assigning.items s.calling.items };
 }
 
 impl Args {
@@ -121,7 +125,8 @@ impl Args {
 }
 
 impl Steps {
-    ghost use Rattle.std.specs.Prelude.{◌≡◌, [], ◌∷◌, ◌++◌, OnOk, OnErr, ◌<◌, ◌≤◌, All, length, map, Some, slice_get};
+    ghost use Rattle.std.specs.Prelude.{◌≡◌, [], ◌∷◌, ◌++◌, OnOk, OnErr, ◌<◌, ◌≤◌, All, length, map, position, Some, slice_get};
+    ghost use Rattle.ps_model.specs.FirstSteps.{is_assignment_to, is_call};
     ghost use Rattle.ps_model.specs.Steps.{action};
     ghost use Rattle.ps_model.specs.NodeList.{listed_of_steps};
 
@@ -132,6 +137,8 @@ impl Steps {
         Steps {
             items: Vec::new(alloc),
             nodes: Vec::new(alloc),
+            assigning: Vec::new(alloc),
+            calling: Vec::new(alloc),
         }
     }
 
@@ -143,11 +150,19 @@ impl Steps {
         let kept = self.nodes.len();
         let mut nodes = Vec::new(*self.nodes.allocator());
         write_step(&step, &mut nodes)?;
+        make_room_for_step(&step, &mut self.assigning, &mut self.calling)?;
         self.nodes.extend_from_slice(&nodes)?;
+        let place = self.items.len();
         if self.items.push(step).is_err() {
             self.nodes.truncate(kept);
             return Err(Memory);
         }
+        note_step(
+            &self.items[place],
+            place,
+            &mut self.assigning,
+            &mut self.calling,
+        );
         Ok(())
     }
 
@@ -172,9 +187,24 @@ impl Steps {
     {
         self.nodes.as_slice()
     }
+
+    /// The first step that assigns to a signal, if one does.
+    pub fn first_assigning(&self, signal: u16) -> Option<usize>
+        ensures { result ≡ position (is_assignment_to signal) self.now }
+    {
+        step_noted(&self.assigning, signal)
+    }
+
+    /// The first step that calls an instance, if one does.
+    pub fn first_calling(&self, instance: u16) -> Option<usize>
+        ensures { result ≡ position (is_call instance) self.now }
+    {
+        step_noted(&self.calling, instance)
+    }
 }
 
-ghost use Rattle.std.specs.Prelude.{◌≡◌, ◌++◌, OnOk, flat_map};
+ghost use Rattle.std.specs.Prelude.{◌≡◌, ℕ, ◌++◌, OnOk, flat_map};
+ghost use Rattle.ps_model.specs.FirstSteps.{step_noted, with_step, is_assignment_to, is_call, HasRoomFor};
 ghost use Rattle.ps_model.specs.Args.{actual};
 ghost use Rattle.ps_model.specs.Steps.{action};
 ghost use Rattle.ps_model.specs.NodeList.{listed_at_pin, listed_of_step};
@@ -206,5 +236,38 @@ fn write_step(step: &Step, list: &mut Vec<Node>) -> Result<(), Memory>
     match step {
         Step::Assign { value, .. } => write_nodes(value, 0, list),
         Step::Call { args, .. } => write_args(args, list),
+    }
+}
+
+// Makes room to note a step. What is noted stays, also where memory is wanting.
+fn make_room_for_step(
+    step: &Step,
+    assigning: &mut Vec<Option<usize>>,
+    calling: &mut Vec<Option<usize>>,
+) -> Result<(), Memory>
+    ensures assigning_kept { (n : ℕ) → step_noted assigning.new.items n ≡ step_noted assigning.old.items n }
+    ensures calling_kept { (n : ℕ) → step_noted calling.new.items n ≡ step_noted calling.old.items n }
+    ensures room { OnOk result (HasRoomFor (action step.now) assigning.new.items calling.new.items) }
+{
+    match step {
+        Step::Assign { target, .. } => make_room(assigning, *target),
+        Step::Call { instance, .. } => make_room(calling, *instance),
+    }
+}
+
+// Notes a step that stands behind all that were noted: for the signal that it assigns, or the instance that it calls.
+fn note_step(
+    step: &Step,
+    place: usize,
+    assigning: &mut Vec<Option<usize>>,
+    calling: &mut Vec<Option<usize>>,
+)
+    requires { HasRoomFor (action step.now) assigning.old.items calling.old.items }
+    ensures assigning { (n : ℕ) → step_noted assigning.new.items n ≡ with_step (is_assignment_to n (action step.now)) place (step_noted assigning.old.items n) }
+    ensures calling { (n : ℕ) → step_noted calling.new.items n ≡ with_step (is_call n (action step.now)) place (step_noted calling.old.items n) }
+{
+    match step {
+        Step::Assign { target, .. } => note(assigning, *target, place),
+        Step::Call { instance, .. } => note(calling, *instance, place),
     }
 }

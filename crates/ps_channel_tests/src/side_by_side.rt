@@ -1,4 +1,4 @@
-// Both channels and the plain evaluator, which make the same scans.
+//! Both channels and the plain evaluator, which make the same scans.
 
 ghost use Rattle.std.specs.Prelude.{◌≡◌, ◌≤◌, length, IfOk};
 ghost use Rattle.ps_model.specs.Network.{input_count};
@@ -11,21 +11,20 @@ use ps_eqgen::equation_image;
 use ps_eqvm::EquationChannel;
 use ps_model::app::App;
 use ps_model::channel::Progress;
-use ps_model::report::{Diag, Report, Scan};
+use ps_model::report::{Diags, Report, Scan};
 use ps_model::sizes::Sizes;
-use ps_solve::state::{BlockState, State};
-use ps_solve_tests::tables::solved;
+use ps_scan::Scanner;
 use ps_stackgen::stack_image;
 use ps_stackvm::StackChannel;
 use std::alloc::Global;
 
-/// Channels A and B of an application and the state of the plain evaluator, after a scan at the time `now` in ms.
+/// Channels A and B of an application and the plain evaluator, with the plain evaluator's report of the last scan.
 #[derive(Drop)]
 pub struct SideBySide {
     stack: StackChannel,
     equation: EquationChannel,
-    state: State,
-    now: u32,
+    plain: Scanner,
+    report: Report,
 }
 
 // Whether a scan is done.
@@ -36,40 +35,22 @@ fn is_done(progress: Progress) -> bool {
     }
 }
 
-// What a block in a state says of itself: it is Ready where it is not Idle, and codes from C000 on are errors.
-fn diag_of(block: &BlockState) -> Diag {
-    Diag {
-        ready: block.code() != 0,
-        error: block.code() >= 0xC000,
-        code: block.code(),
-    }
-}
-
-// Whether the outputs of a report are these.
-fn has_outputs(report: &Report, outputs: &[bool]) -> bool {
-    report.outs.as_slice() == outputs
-}
-
-// Whether a report says of the blocks what they say of themselves in these states.
-fn has_diags(report: &Report, blocks: &[BlockState]) -> bool {
-    if report.diags.len() != blocks.len() {
+// Whether both say the same of each instance.
+fn same_diags(one: &Diags, other: &Diags) -> bool {
+    if one.len() != other.len() {
         return false;
     }
-    for (i, block) in blocks.iter().enumerate() {
-        if report.diags.at(i) != diag_of(block) {
+    for i in 0..one.len() {
+        if one.at(i) != other.at(i) {
             return false;
         }
     }
     true
 }
 
-/// Whether a report is that of a state of the plain evaluator.
-pub fn is_report_of(report: &Report, app: &App, state: &State) -> bool {
-    let first = app.input_count() as usize;
-    let past = first + app.output_count() as usize;
-    past <= state.signals().len()
-        && has_outputs(report, &state.signals()[first..past])
-        && has_diags(report, state.blocks())
+/// Whether two reports are the same.
+pub fn same_report(one: &Report, other: &Report) -> bool {
+    one.outs.as_slice() == other.outs.as_slice() && same_diags(&one.diags, &other.diags)
 }
 
 impl SideBySide {
@@ -81,19 +62,17 @@ impl SideBySide {
         let sizes = Sizes::of(alloc, app)?;
         let stack_code = stack_image(alloc, app)?;
         let equation_code = equation_image(alloc, app)?;
-        let signals = app.signal_count() as usize;
-        let instances = app.instance_count() as usize;
         Ok(SideBySide {
             stack: StackChannel::new(alloc, &stack_code, &sizes)?,
             equation: EquationChannel::new(alloc, &equation_code, &sizes)?,
-            state: State::first(alloc, signals, instances)?,
-            now: 0,
+            plain: Scanner::new(alloc, app)?,
+            report: Report::for_app(alloc, app)?,
         })
     }
 
-    /// The state of the plain evaluator.
-    pub fn state(&self) -> &State {
-        &self.state
+    /// The plain evaluator's report of the last scan, all FALSE and 0 before the first.
+    pub fn report(&self) -> &Report {
+        &self.report
     }
 
     // Makes a scan of both channels. Whether each of them is done after exactly its budget of turns.
@@ -110,7 +89,7 @@ impl SideBySide {
             && is_done(self.equation.progress())
     }
 
-    // Whether both channels have a report, and report what the plain evaluator's state shows.
+    // Whether both channels have a report, and it is that of the plain evaluator.
     fn agree(&self, alloc: Global, app: &App) -> Result<bool, Memory>
         requires { IsOf app.now self.now }
     {
@@ -119,24 +98,20 @@ impl SideBySide {
         Ok(
             self.stack.report_into(&mut stack)
                 && self.equation.report_into(&mut equation)
-                && is_report_of(&stack, app, &self.state)
-                && is_report_of(&equation, app, &self.state),
+                && same_report(&stack, &self.report)
+                && same_report(&equation, &self.report),
         )
     }
 
     /// Makes a scan of all three. True exactly where each channel is done after exactly its budget of turns, and both
-    /// report what the plain evaluator finds. A scan that is earlier than the last one counts as 0 ms behind it.
+    /// report what the plain evaluator reports. A scan that is earlier than the last one counts as 0 ms behind it.
     pub fn scan(&mut self, alloc: Global, app: &App, scan: &Scan) -> Result<bool, Memory>
         requires of { IsOf app.now self.old }
         requires ins { length scan.now.ins ≡ input_count app.now }
         ensures { IsOf app.now self.new }
     {
-        let dt = scan.now.saturating_sub(self.now) as u64;
-        match solved(alloc, app, &self.state, scan.ins.as_slice(), dt)? {
-            Some(new) => self.state = new,
-            None => return Ok(false),
-        }
-        self.now = scan.now;
+        let ins = scan.ins.as_slice();
+        self.plain.scan(app, scan.now, ins, &mut self.report);
         Ok(self.run(app, scan) && self.agree(alloc, app)?)
     }
 }

@@ -31,7 +31,7 @@ fn row_met(alloc: Global, app: &App, all: &mut SideBySide, row: &Row) -> Result<
     if scan.ins.len() != app.input_count() as usize {
         return Ok(false);
     }
-    Ok(all.scan(alloc, app, &scan)? && shows(app, all.state(), row))
+    Ok(all.scan(alloc, app, &scan)? && shows(all.report(), row))
 }
 
 // How many rows of a table are met, one after the other, before the first that is not.

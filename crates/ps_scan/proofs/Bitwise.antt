@@ -10,7 +10,7 @@ use Rattle.ps_model.specs.declared.kind.Kind.{Kind}
 use Rattle.ps_model.specs.Blocks.{Pin, block}
 use Rattle.ps_model.specs.Action.{Actual, free}
 use Rattle.ps_model.specs.Scanning.{pin_at, no_pin, pin_value, pins_under}
-use Rattle.ps_block.specs.Pins.{pin_of}
+use Rattle.ps_model.specs.PinBits.{pin_of}
 
 -- no pin is on at first
 pub none_on : (k : ℕ) (f : ℕ → Bool) → pin_of 0 k ≡ cond (nat_lt k 0) (f k) false

@@ -19,8 +19,8 @@ use Rattle.ps_model.specs.declared.report.Diag.{Diag}
 use Rattle.ps_model.proofs.Once.{take_next, alone_before}
 use Rattle.ps_model.proofs.OneSolution.{one_call, is_call_itself}
 use Rattle.ps_model.proofs.Keeping.{go_on}
-use Rattle.ps_scan.specs.Instances.{Held}
-use Rattle.ps_scan.specs.Cells.{Cells, signal_at, held_at, kept_at}
+use Rattle.ps_scan.specs.Instances.{KeptInstance}
+use Rattle.ps_scan.specs.Cells.{Cells, signal_at, instance_at, kept_at}
 use Rattle.ps_scan.specs.Midway.{is_called, Waits, Midway}
 
 set_reads : {X : Type 0} (xs : List X) (t s : ℕ) (x d : X) → t < length xs → get_or (set xs t x) s d ≡ cond (t == s) x (get_or xs s d)
@@ -70,7 +70,7 @@ module _ (net : Network) (sound : IsSound net) (t dt now k i : ℕ) (args : List
     (at : slice_get net.steps k ≡ Some (calls i args)) (later : t ≤ now) (mid : Midway net t dt now k w ds m)
     (bits : ℕ → Bool) (bits_are : (j : ℕ) → bits j ≡ pins_under (signal_at w) (kind_at net i) args j)
     (moves : kept_at w' i ≡ stepped_at (kind_at net i) (limit_of (kind_at net i) args) bits now (kept_at w i))
-    (others : (j : ℕ) → j ≢ i → held_at w' j ≡ held_at w j)
+    (others : (j : ℕ) → j ≢ i → instance_at w' j ≡ instance_at w j)
     (values : List Bool) (shown : values ≡ outs (kind_at net i) (kept_at w' i).code (kept_at w' i).mode) (many : length values ≡ output_count (kind_at net i))
     (writes : (s : ℕ) → signal_at w' s ≡ cond (nat_le (first_pin net i) s && nat_lt s (first_pin net i + length values)) (get_or values (s - first_pin net i) false) (signal_at w s))
     (diagnosed : d ≡ diag_in (kept_at w' i).code) where
@@ -117,7 +117,7 @@ module _ (net : Network) (sound : IsSound net) (t dt now k i : ℕ) (args : List
 
   keeps_elsewhere : (P : Kept → Block_state → Type 0) (j : ℕ) → i ≢ j → P (kept_at w j) (m.blocks j) → P (kept_at w' j) (after.blocks j)
   keeps_elsewhere P j other p =
-      subst (λ (z : Kept). P z (after.blocks j)) (sym (ap (λ (h : Held). h.kept) (others j (λ e. other (sym e)))))
+      subst (λ (z : Kept). P z (after.blocks j)) (sym (ap (λ (h : KeptInstance). h.kept) (others j (λ e. other (sym e)))))
       (subst (λ (b : Block_state). P (kept_at w j) b) (sym (elsewhere j (λ e. other (sym e)))) p)
 
   diag_here : (j : ℕ) → i ≡ j → i < length ds → get_or (set ds i d) j no_diag ≡ diag_in (after.blocks j).code

@@ -1,21 +1,16 @@
 -- What a scanner holds after a write to one instance.
 use Rattle.std.proofs.Common.{◌≡◌, ◌≢◌, ◌<◌, ℕ, List, length, map, set, get_or, sym, ap, ◌∙◌, arith}
 use Rattle.std.proofs.lemmas.List.{get_or-set_same, get_or-set_other, get_or-map, length-map, map-set}
-use Rattle.ps_model.specs.declared.kind.Kind.TheVariants.{Equivalent}
-use Rattle.ps_model.specs.Kept.{fresh}
-use Rattle.ps_scan.specs.Instances.{Held, held, held_by}
+use Rattle.ps_scan.specs.Instances.{KeptInstance, no_kept_instance, instance_of}
 use Rattle.ps_scan.specs.declared.instance.Instance.{Instance}
 
-abbrev pub no_held : Held
-no_held = held Equivalent fresh
+pub view_other : (xs : List Instance) (i j : ℕ) (x : Instance) → j ≢ i → get_or (map instance_of (set xs i x)) j no_kept_instance ≡ get_or (map instance_of xs) j no_kept_instance
+view_other xs i j x other = ap (λ (hs : List KeptInstance). get_or hs j no_kept_instance) (map-set instance_of xs i x) ∙ get_or-set_other (map instance_of xs) i j (instance_of x) no_kept_instance other
 
-pub view_other : (xs : List Instance) (i j : ℕ) (x : Instance) → j ≢ i → get_or (map held_by (set xs i x)) j no_held ≡ get_or (map held_by xs) j no_held
-view_other xs i j x other = ap (λ (hs : List Held). get_or hs j no_held) (map-set held_by xs i x) ∙ get_or-set_other (map held_by xs) i j (held_by x) no_held other
-
-pub view_same : (xs : List Instance) (i : ℕ) (x : Instance) → i < length xs → get_or (map held_by (set xs i x)) i no_held ≡ held_by x
+pub view_same : (xs : List Instance) (i : ℕ) (x : Instance) → i < length xs → get_or (map instance_of (set xs i x)) i no_kept_instance ≡ instance_of x
 view_same xs i x inside =
-    ap (λ (hs : List Held). get_or hs i no_held) (map-set held_by xs i x)
-    ∙ get_or-set_same (map held_by xs) i (held_by x) no_held (omega (arith, length-map xs held_by, inside))
+    ap (λ (hs : List KeptInstance). get_or hs i no_kept_instance) (map-set instance_of xs i x)
+    ∙ get_or-set_same (map instance_of xs) i (instance_of x) no_kept_instance (omega (arith, length-map xs instance_of, inside))
 
-pub view_at : (xs : List Instance) (i : ℕ) (x : Instance) → i < length xs → x ≡ get_or xs i x → held_by x ≡ get_or (map held_by xs) i no_held
-view_at xs i x inside is = ap held_by is ∙ sym (get_or-map held_by xs i x no_held inside)
+pub view_at : (xs : List Instance) (i : ℕ) (x : Instance) → i < length xs → x ≡ get_or xs i x → instance_of x ≡ get_or (map instance_of xs) i no_kept_instance
+view_at xs i x inside is = ap instance_of is ∙ sym (get_or-map instance_of xs i x no_kept_instance inside)

@@ -11,24 +11,10 @@ use Rattle.ps_model.specs.Kept.{Kept}
 use Rattle.ps_model.specs.Meaning.{diag_in}
 use Rattle.ps_model.specs.Network.{Network, kind_at}
 use Rattle.ps_block.specs.declared.block.Outs.{Outs}
-use Rattle.ps_block.specs.Pins.{pin_of}
+use Rattle.ps_model.specs.PinBits.{pin_of}
 use Rattle.ps_block.specs.Shown.{Shows}
-use Rattle.ps_scan.specs.Instances.{Held, held}
-use Rattle.ps_scan.specs.Cells.{Cells, held_at}
-
--- a kind's outputs are its safe ones, Ready and Error
-pub output_count_is : (kind : Kind) → output_count kind ≡ length (block kind).outputs + 2
-unfolding output_count
-output_count_is kind = refl
-
-pub length-outs : (kind : Kind) (q mode : ℕ) → length (outs kind q mode) ≡ output_count kind
-unfolding outs output_count
-length-outs kind q mode =
-    omega (
-      arith,
-      length-append (map (safe_output kind q mode) (range_with_len 0 (length (block kind).outputs))) (ready_in q ∷ error_in q ∷ []),
-      length-map-range_with_len (safe_output kind q mode) 0 (length (block kind).outputs),
-    )
+use Rattle.ps_scan.specs.Instances.{KeptInstance, kept_instance}
+use Rattle.ps_scan.specs.Cells.{Cells, instance_at}
 
 same_ends : (xs ys : List Bool) (r e r' e' : Bool) → length xs ≡ length ys → xs ++ (r ∷ e ∷ []) ≡ ys ++ (r' ∷ e' ∷ []) → (r ≡ r') × (e ≡ e')
 same_ends [] [] r e r' e' same is = (ap (λ bs. get_or bs 0 r) is, ap (λ bs. get_or bs 1 e) is)
@@ -46,12 +32,12 @@ diag_shown kind o k h =
     λ i. record { ready = ends.0 i; error = ends.1 i; code = h.code i }
 
 -- after the step of one instance each has its kind
-pub kinds_kept : (net : Network) (w w' : Cells) (i : ℕ) (k : Kept) → ((j : ℕ) → (held_at w j).kind ≡ kind_at net j) → ((j : ℕ) → j ≢ i → held_at w' j ≡ held_at w j) →
-    held_at w' i ≡ held (held_at w i).kind k → (j : ℕ) → (held_at w' j).kind ≡ kind_at net j
+pub kinds_kept : (net : Network) (w w' : Cells) (i : ℕ) (k : Kept) → ((j : ℕ) → (instance_at w j).kind ≡ kind_at net j) → ((j : ℕ) → j ≢ i → instance_at w' j ≡ instance_at w j) →
+    instance_at w' i ≡ kept_instance (instance_at w i).kind k → (j : ℕ) → (instance_at w' j).kind ≡ kind_at net j
 kinds_kept net w w' i k kinds others here j =
     ⊎_elim
-    (λ y. let e : i ≡ j = eqb-true i j y in ap (λ n. (held_at w' n).kind) (sym e) ∙ ap (λ (h : Held). h.kind) here ∙ ap (λ n. (held_at w n).kind) e ∙ kinds j)
-    (λ n. ap (λ (h : Held). h.kind) (others j (λ e. not_same i j n (sym e))) ∙ kinds j)
+    (λ y. let e : i ≡ j = eqb-true i j y in ap (λ n. (instance_at w' n).kind) (sym e) ∙ ap (λ (h : KeptInstance). h.kind) here ∙ ap (λ n. (instance_at w n).kind) e ∙ kinds j)
+    (λ n. ap (λ (h : KeptInstance). h.kind) (others j (λ e. not_same i j n (sym e))) ∙ kinds j)
     (cases_Bool (i == j))
   where
     not_same : (i j : ℕ) → (i == j) ≡ false → i ≢ j

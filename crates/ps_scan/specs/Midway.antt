@@ -10,7 +10,7 @@ use Rattle.ps_model.specs.Blank.{no_diag}
 use Rattle.ps_model.specs.declared.report.Diag.{Diag}
 use Rattle.ps_scan.specs.Cells.{Cells, signal_at, kept_at}
 
--- one of the first k steps calls the instance
+-- One of the first k steps calls the instance.
 abbrev pub is_called : Network → ℕ → ℕ → Bool
 is_called net k i = list_any (is_call_of net i) (take k net.steps)
 

@@ -1,28 +1,20 @@
-// What is kept of an instance between its steps.
+//! What is kept of an instance between its steps.
 
 ghost use Rattle.std.specs.Prelude.{◌≡◌};
 ghost use Rattle.ps_model.specs.Kept.{fresh, stepped_at};
-ghost use Rattle.ps_block.specs.Pins.{pin_of};
+ghost use Rattle.ps_model.specs.PinBits.{pin_of};
 ghost use Rattle.ps_block.specs.Shown.{Shows};
-ghost use Rattle.ps_scan.specs.Instances.{held, held_by};
+ghost use Rattle.ps_scan.specs.Instances.{kept_instance, instance_of};
 
-use ps_actuators::monitoring::EdmState;
-use ps_actuators::out_control::OutControlState;
-use ps_actuators::safety_request::SafetyRequestState;
-use ps_actuators::{Edm, OutControl, SafetyRequest};
+use ps_actuators::{Edm, EdmState, OutControl, OutControlState, SafetyRequest, SafetyRequestState};
 use ps_block::{Outs, Pins, SafetyBlock};
-use ps_guards::guard_locking::GuardLockingState;
-use ps_guards::guard_monitoring::GuardMonitoringState;
-use ps_guards::{GuardLocking, GuardMonitoring};
+use ps_guards::{GuardLocking, GuardLockingState, GuardMonitoring, GuardMonitoringState};
 use ps_model::kind::Kind;
-use ps_operator::enable_switch::EnableSwitchState;
-use ps_operator::mode_selector::ModeSelectorState;
-use ps_operator::two_hand_three::TwoHandThreeState;
-use ps_operator::two_hand_two::TwoHandTwoState;
-use ps_operator::{EnableSwitch, ModeSelector, TwoHandThree, TwoHandTwo};
-use ps_sensors::contacts::ContactsState;
-use ps_sensors::stop::StopState;
-use ps_sensors::{Antivalent, EmergencyStop, Equivalent, Espe};
+use ps_operator::{
+    EnableSwitch, EnableSwitchState, ModeSelector, ModeSelectorState, TwoHandThree,
+    TwoHandThreeState, TwoHandTwo, TwoHandTwoState,
+};
+use ps_sensors::{Antivalent, ContactsState, EmergencyStop, Equivalent, Espe, StopState};
 
 /// The state of an instance's block, by its kind.
 #[derive(Clone, Copy)]
@@ -45,7 +37,7 @@ pub(crate) enum Instance {
 impl Instance {
     /// An instance of a kind before its first step.
     pub(crate) fn fresh(kind: Kind) -> Instance
-        ensures { held_by result ≡ held kind fresh }
+        ensures { instance_of result ≡ kept_instance kind fresh }
     {
         match kind {
             Kind::Equivalent => Instance::Equivalent(Equivalent::fresh()),
@@ -66,8 +58,8 @@ impl Instance {
 
     /// One step of the instance's block.
     pub(crate) fn step(&mut self, pins: Pins) -> Outs
-        ensures moves { held_by self.new ≡ held (held_by self.old).kind (stepped_at (held_by self.old).kind pins.limit (pin_of pins.bits) pins.now (held_by self.old).kept) }
-        ensures shows { Shows (held_by self.old).kind result (held_by self.new).kept }
+        ensures moves { instance_of self.new ≡ kept_instance (instance_of self.old).kind (stepped_at (instance_of self.old).kind pins.limit (pin_of pins.bits) pins.now (instance_of self.old).kept) }
+        ensures shows { Shows (instance_of self.old).kind result (instance_of self.new).kept }
     {
         match self {
             Instance::Equivalent(state) => Equivalent::step(state, pins),

@@ -1,10 +1,10 @@
-// The scans of an application.
+//! What is kept between the scans of an application, and a scan.
 
 ghost use Rattle.std.specs.Prelude.{◌≡◌, ◌+◌, ◌<◌, ◌≤◌, ℕ, length, map, false, replicate, slice_index_or, IfOk};
 ghost use Rattle.std.specs.List.{range_with_len};
 ghost use Rattle.ps_model.specs.Network.{instance_count, signal_count};
-ghost use Rattle.ps_scan.specs.Instances.{held_by};
-ghost use Rattle.ps_scan.specs.Cells.{held_first};
+ghost use Rattle.ps_scan.specs.Instances.{instance_of};
+ghost use Rattle.ps_scan.specs.Cells.{first_instances};
 
 use crate::instance::Instance;
 use crate::pins::write_at;
@@ -19,7 +19,7 @@ use std::marker::Model;
 
 // Each instance of an application before its first step.
 fn fresh_instances(alloc: Global, app: &App) -> Result<Vec<Instance>, Memory>
-    ensures { IfOk result (λ instances. map held_by instances.items ≡ held_first app.now.instances) }
+    ensures { IfOk result (λ instances. map instance_of instances.items ≡ first_instances app.now.instances) }
 {
     let mut instances = Vec::with_capacity(alloc, app.instance_count() as usize)?;
     for i in 0..app.instance_count() {
@@ -48,7 +48,7 @@ fn clear(signals: &mut [bool])
 // Makes each instance of an application as it is before its first step.
 fn renew(app: &App, instances: &mut [Instance])
     requires { length instances.old ≡ instance_count app.now }
-    ensures held { map held_by instances.new ≡ held_first app.now.instances }
+    ensures instances { map instance_of instances.new ≡ first_instances app.now.instances }
     ensures len { length instances.new ≡ length instances.old }
 {
     for i in 0..app.instance_count() {
@@ -76,29 +76,29 @@ pub struct Scanner {
 
 impl Model for Scanner {
     ghost use Rattle.std.specs.Prelude.{map};
-    ghost use Rattle.ps_scan.specs.Instances.{held_by};
+    ghost use Rattle.ps_scan.specs.Instances.{instance_of};
     ghost use Rattle.ps_scan.specs.Cells.{Cells};
 
     ghost Value = { Cells };
 
-    ghost view = { λ s. record { signals = s.signals.items; instances = map held_by s.instances.items } };
+    ghost view = { λ s. record { signals = s.signals.items; instances = map instance_of s.instances.items } };
 }
 
 impl Scanner {
     ghost use Rattle.std.specs.Prelude.{◌≡◌, ◌≢◌, ◌+◌, ◌-◌, ◌<◌, ◌≤◌, ◌&&◌, ℕ, cond, nat_le, nat_lt, IfOk, length, slice_set, slice_index_or, false};
     ghost use Rattle.ps_model.specs.Network.{input_count, instance_count};
-    ghost use Rattle.ps_model.specs.Meaning.{Past, nothing};
+    ghost use Rattle.ps_model.specs.Meaning.{Past, nothing, last_time};
     ghost use Rattle.ps_model.specs.Kept.{stepped_at};
-    ghost use Rattle.ps_block.specs.Pins.{pin_of};
+    ghost use Rattle.ps_model.specs.PinBits.{pin_of};
     ghost use Rattle.ps_block.specs.Shown.{Shows};
-    ghost use Rattle.ps_scan.specs.Instances.{held};
-    ghost use Rattle.ps_scan.specs.Cells.{IsFor, signal_at, held_at, kept_at};
-    ghost use Rattle.ps_scan.specs.Scanned.{Stands, Scanned, time_of};
+    ghost use Rattle.ps_scan.specs.Instances.{kept_instance};
+    ghost use Rattle.ps_scan.specs.Cells.{IsFor, signal_at, instance_at, kept_at};
+    ghost use Rattle.ps_scan.specs.Scan.{CellsStand, IsScan};
 
     /// A scanner of an application before its first scan. It takes all memory that its scans will use.
     pub fn new(alloc: Global, app: &App) -> Result<Scanner, Memory>
         ensures sizes { IfOk result (IsFor app.now) }
-        ensures first { IfOk result (Stands app.now nothing) }
+        ensures first { IfOk result (CellsStand app.now nothing) }
     {
         Ok(Scanner {
             signals: false_signals(alloc, app)?,
@@ -110,14 +110,14 @@ impl Scanner {
     pub fn restart(&mut self, app: &App)
         requires sizes { IsFor app.now self.old }
         ensures sizes { IsFor app.now self.new }
-        ensures first { Stands app.now nothing self.new }
+        ensures first { CellsStand app.now nothing self.new }
     {
         clear(self.signals.as_mut_slice());
         renew(app, self.instances.as_mut_slice());
     }
 
-    /// The signals.
-    pub(crate) fn signals(&self) -> &[bool]
+    /// The value of every signal after the last scan, in the order of their numbers.
+    pub fn signals(&self) -> &[bool]
         ensures { result.now ≡ self.now.signals }
     {
         self.signals.as_slice()
@@ -146,9 +146,9 @@ impl Scanner {
         requires { i < length self.old.instances }
         ensures signals { self.new.signals ≡ self.old.signals }
         ensures len { length self.new.instances ≡ length self.old.instances }
-        ensures other { (j : ℕ) → j ≢ i → held_at self.new j ≡ held_at self.old j }
-        ensures moves { held_at self.new i ≡ held (held_at self.old i).kind (stepped_at (held_at self.old i).kind pins.limit (pin_of pins.bits) pins.now (kept_at self.old i)) }
-        ensures shows { Shows (held_at self.old i).kind result (kept_at self.new i) }
+        ensures other { (j : ℕ) → j ≢ i → instance_at self.new j ≡ instance_at self.old j }
+        ensures moves { instance_at self.new i ≡ kept_instance (instance_at self.old i).kind (stepped_at (instance_at self.old i).kind pins.limit (pin_of pins.bits) pins.now (kept_at self.old i)) }
+        ensures shows { Shows (instance_at self.old i).kind result (kept_at self.new i) }
     {
         self.instances[i].step(pins)
     }
@@ -163,7 +163,7 @@ impl Scanner {
         ensures sizes { IsFor app.now self.new }
         ensures outputs { length report.new.outs ≡ length app.now.outputs }
         ensures diagnoses { length report.new.diags ≡ instance_count app.now }
-        ensures solves { (past : Past) → Stands app.now past self.old → time_of past ≤ now → Scanned app.now past now ins.now report.new self.new }
+        ensures solves { (past : Past) → CellsStand app.now past self.old → last_time past ≤ now → IsScan app.now past now ins.now report.new self.new }
     {
         app.sound();
         self.write(0, ins);

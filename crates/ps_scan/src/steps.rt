@@ -1,4 +1,4 @@
-// The steps of a scan.
+//! The steps of a scan.
 
 ghost use Rattle.std.specs.Prelude.{◌≡◌, ◌+◌, ◌<◌, ◌≤◌, ℕ, List, length, slice_get, Some};
 ghost use Rattle.ps_model.specs.declared.report.Diag.{Diag};

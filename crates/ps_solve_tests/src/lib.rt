@@ -1,4 +1,4 @@
-// Worked examples: a text, its scans, and what each of them is to show; and the plain evaluator that makes the scans.
+//! Worked examples: a text, its scans, and what each of them is to show; and the plain evaluator that makes the scans.
 #![tactic(auto)]
 
 pub mod blocks;

@@ -1,16 +1,17 @@
-// A worked table: the text of an application, and scans with what they are to show.
+//! A worked table: the text of an application, and scans with what they are to show.
 
-ghost use Rattle.std.specs.Prelude.{◌≡◌, ◌<◌, ◌+◌, ◌^◌, ℕ, true, slice_index_or};
-ghost use Rattle.ps_model.specs.Blocks.{idle};
-ghost use Rattle.ps_solve.specs.Evaluating.{HasRoom};
+ghost use Rattle.std.specs.Prelude.{◌≡◌, length};
+ghost use Rattle.ps_model.specs.Network.{input_count, instance_count};
+ghost use Rattle.ps_scan.specs.Cells.{IsFor};
 
 use ps_base::{Fail, Memory};
 use ps_lexer::lex;
 use ps_model::app::App;
+use ps_model::report::{Diags, Report};
+use ps_model::values::Bits;
 use ps_parser::parse;
-use ps_resolve::resolution::resolve;
-use ps_solve::solve::solve;
-use ps_solve::state::{BlockState, State};
+use ps_resolve::resolve;
+use ps_scan::Scanner;
 use std::alloc::Global;
 
 /// A scan: its time in ms and its inputs, a digit each, and what is to come: the outputs, a digit each, and the DiagCode
@@ -44,118 +45,74 @@ pub fn bits(alloc: Global, digits: &str) -> Result<Vec<bool>, Memory> {
     Ok(bits)
 }
 
-// Whether no age of these blocks passes 64 bits after dt more ms.
-fn ages_fit(blocks: &[BlockState], dt: u64) -> bool
-    ensures { result ≡ true → (i : ℕ) → (slice_index_or blocks.now i idle).age + dt < 2 ^ 64 }
-{
-    for block in blocks {
-        if block.age().checked_add(dt).is_none() {
-            return false;
-        }
-    }
-    true
-}
-
-// Whether a state has the application's sizes, and room for dt more ms.
-fn has_room(app: &App, state: &State, dt: u64) -> bool
-    ensures { result ≡ true → HasRoom app.now state.now dt }
-{
-    state.signals().len() == app.signal_count() as usize
-        && state.blocks().len() == app.instance_count() as usize
-        && ages_fit(state.blocks(), dt)
-}
-
-// Whether the outputs of a state are these digits.
-fn shows_outputs(app: &App, state: &State, digits: &[u8]) -> bool {
-    let first = app.input_count() as usize;
-    let signals = state.signals();
-    if digits.len() != app.output_count() as usize {
+// Whether the outputs are these digits.
+fn shows_outputs(outs: &Bits, digits: &[u8]) -> bool {
+    if outs.len() != digits.len() {
         return false;
     }
     for (j, digit) in digits.iter().enumerate() {
-        let at = first + j;
-        if at >= signals.len() || signals[at] != (*digit == b'1') {
+        if outs.at(j) != (*digit == b'1') {
             return false;
         }
     }
     true
 }
 
-// Whether the instances of a state are in these states.
-fn shows_codes(blocks: &[BlockState], codes: &[u16]) -> bool {
-    if blocks.len() != codes.len() {
+// Whether the instances are in these states.
+fn shows_codes(diags: &Diags, codes: &[u16]) -> bool {
+    if diags.len() != codes.len() {
         return false;
     }
-    for (block, code) in blocks.iter().zip(codes) {
-        if block.code() != *code {
+    for (i, code) in codes.iter().enumerate() {
+        if diags.at(i).code != *code {
             return false;
         }
     }
     true
 }
 
-/// Whether a state shows what a row is to show.
-pub fn shows(app: &App, state: &State, row: &Row) -> bool {
-    shows_outputs(app, state, row.outs.as_bytes()) && shows_codes(state.blocks(), row.codes)
+/// Whether a report shows what a row is to show.
+pub fn shows(report: &Report, row: &Row) -> bool {
+    shows_outputs(&report.outs, row.outs.as_bytes()) && shows_codes(&report.diags, row.codes)
 }
 
-/// The state after a scan with these inputs, dt ms after the old one. None where these are not as many inputs as the
-/// application has, where the old state is not of its sizes, or where an age would pass 64 bits.
-pub fn solved(
+// Makes the scan of a row. Whether it shows what the row is to show; it does not where the row has not as many inputs as
+// the application.
+fn row_met(
     alloc: Global,
     app: &App,
-    old: &State,
-    ins: &[bool],
-    dt: u64,
-) -> Result<Option<State>, Memory> {
-    if ins.len() != app.input_count() as usize || !has_room(app, old, dt) {
-        return Ok(None);
-    }
-    Ok(Some(solve(alloc, app, old, ins, dt)?))
-}
-
-// The state after a row's scan, if it shows what it is to show.
-fn after(
-    alloc: Global,
-    app: &App,
-    old: &State,
+    scanner: &mut Scanner,
     row: &Row,
-    dt: u64,
-) -> Result<Option<State>, Memory> {
+    report: &mut Report,
+) -> Result<bool, Memory>
+    requires scanner { IsFor app.now scanner.old }
+    requires outputs { length report.old.outs ≡ length app.now.outputs }
+    requires diagnoses { length report.old.diags ≡ instance_count app.now }
+    ensures scanner { IsFor app.now scanner.new }
+    ensures outputs { length report.new.outs ≡ length app.now.outputs }
+    ensures diagnoses { length report.new.diags ≡ instance_count app.now }
+{
     let ins = bits(alloc, row.ins)?;
-    match solved(alloc, app, old, &ins, dt)? {
-        Some(new) => Ok(if shows(app, &new, row) {
-            Some(new)
-        } else {
-            None
-        }),
-        None => Ok(None),
+    if ins.len() != app.input_count() as usize {
+        return Ok(false);
     }
+    scanner.scan(app, row.now, &ins, report);
+    Ok(shows(report, row))
 }
 
 // How many rows of a table are met, one after the other, before the first that is not.
 fn rows_met(alloc: Global, app: &App, rows: &[Row]) -> Result<usize, Memory> {
-    let mut state = State::first(
-        alloc,
-        app.signal_count() as usize,
-        app.instance_count() as usize,
-    )?;
-    let mut before = match rows.first() {
-        Some(row) => row.now,
-        None => 0,
-    };
+    let mut scanner = Scanner::new(alloc, app)?;
+    let mut report = Report::for_app(alloc, app)?;
     for (k, row) in rows.iter().enumerate() {
-        let dt = row.now.saturating_sub(before) as u64;
-        match after(alloc, app, &state, row, dt)? {
-            Some(new) => state = new,
-            None => return Ok(k),
+        if !row_met(alloc, app, &mut scanner, row, &mut report)? {
+            return Ok(k);
         }
-        before = row.now;
     }
     Ok(rows.len())
 }
 
-/// How many rows of a table the application of a text meets, before the first that it does not.
+/// How many rows of a table the application of a text meets by the plain evaluator, before the first that it does not.
 pub fn met(alloc: Global, text: &str, rows: &[Row]) -> Result<usize, Fail> {
     let tokens = lex(alloc, text.as_bytes())?;
     let source = parse(alloc, &tokens)?;

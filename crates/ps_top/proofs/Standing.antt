@@ -6,10 +6,10 @@ use Rattle.ps_model.specs.declared.channel.Verdict.{Verdict}
 use Rattle.ps_model.specs.Network.{Network}
 use Rattle.ps_model.specs.Sound.{IsSound}
 use Rattle.ps_model.specs.Meaning.Item.{scan, restart}
-use Rattle.ps_model.specs.Meaning.{Item, Past, nothing, last}
+use Rattle.ps_model.specs.Meaning.{Item, Past, nothing, last, last_time}
 use Rattle.ps_report.specs.Short.{refusal_text}
 use Rattle.ps_scan.specs.Cells.{Cells}
-use Rattle.ps_scan.specs.Scanned.{Stands, time_of}
+use Rattle.ps_scan.specs.Scan.{CellsStand}
 use Rattle.ps_trace.specs.Scans.{Scans}
 use Rattle.ps_trace.specs.Reading.{Begins, only_refused}
 use Rattle.ps_top.specs.Asking.{Answer, IsAnswer}
@@ -30,12 +30,12 @@ use Rattle.ps_top.proofs.Scans.{end_rest, refused_rest, scan_rest, restart_rest,
 -- A run goes on behind an item: from where it then stands, what is to be written of the rest stands behind the item's line.
 record Goes (net : Network) (past : Past) (time : ℕ) (item : Item) (outcome : Outcome Verdict) (w : Cells) : Type 0 where
   past' : Past
-  stands : Stands net past' w
-  early : time_of past' ≤ time_behind time item
+  stands : CellsStand net past' w
+  early : last_time past' ≤ time_behind time item
   goes : (scans rest : Scans) → Begins scans item rest → (a : Answer) → IsRest net past' rest a → IsRest net past scans (behind (outcome_line net outcome) a)
 
 goes_on : (net : Network) (past : Past) (time : ℕ) (w : Cells) (item : Item) (outcome : Outcome Verdict) (w' : Cells) →
-    Stands net past w → time_of past ≤ time → IsDue time item → Performs net w item outcome w' → Goes net past time item outcome w'
+    CellsStand net past w → last_time past ≤ time → IsDue time item → Performs net w item outcome w' → Goes net past time item outcome w'
 goes_on net past time w (scan now ins) outcome w' stands early due performs =
     let r = performs past stands (omega (arith, early, due)) in record {
       past' = last now r.state;
@@ -98,7 +98,7 @@ module _ (net : Network) (past : Past) (time : ℕ) (item : Item) (outcome : Out
 
 -- what a scanner did of items from where a run stands
 tells : {T : Type 0} (net : Network) → IsSound net → (takes : T → Outcome Verdict → T → Type 0) (past : Past) (time : ℕ) (w : Cells) (t : T) (scans : Scans)
-    (bytes : List ℕ) (ended : Result (Unit {0}) Cut) (w' : Cells) (t' : T) → Stands net past w → time_of past ≤ time →
+    (bytes : List ℕ) (ended : Result (Unit {0}) Cut) (w' : Cells) (t' : T) → CellsStand net past w → last_time past ≤ time →
     Did (Performs net) (outcome_line net) takes time w t scans bytes ended w' t' → Tells net past scans bytes ended
 tells net sound takes past _ _ _ _ _ _ _ _ stands early (all time w t scans is) = end_rest net past scans is
 tells net sound takes past _ _ _ _ _ _ _ _ stands early (refused time w t scans refusal is) = refused_rest net past scans refusal is
@@ -134,7 +134,7 @@ gave_told net scans bytes before after (Err Unwritten) wrote told = part_given (
 
 -- the items of a trace were done from the first one on
 pub gave : {T : Type 0} (net : Network) → IsSound net → (takes : T → Outcome Verdict → T → Type 0) (time : ℕ) (w : Cells) (t : T) (scans : Scans) (bytes before after : List ℕ)
-    (ended : Result (Unit {0}) Cut) (w' : Cells) (t' : T) → Stands net nothing w → Did (Performs net) (outcome_line net) takes time w t scans bytes ended w' t' →
+    (ended : Result (Unit {0}) Cut) (w' : Cells) (t' : T) → CellsStand net nothing w → Did (Performs net) (outcome_line net) takes time w t scans bytes ended w' t' →
     after ≡ before ++ bytes → Gave net scans before after ended
 gave net sound takes time w t scans bytes before after ended w' t' stands did wrote =
     gave_told net scans bytes before after ended wrote (tells net sound takes nothing time w t scans bytes ended w' t' stands (omega arith) did)

@@ -6,7 +6,7 @@ ghost use Rattle.ps_model.specs.Network.{input_count};
 ghost use Rattle.ps_outside.specs.Outside.{Rose};
 ghost use Rattle.ps_report.specs.Lines.{line_room};
 ghost use Rattle.ps_scan.specs.Cells.{IsFor};
-ghost use Rattle.ps_scan.specs.Scanned.{Stands};
+ghost use Rattle.ps_scan.specs.Scan.{CellsStand};
 ghost use Rattle.ps_top.specs.Asking.{IsLeft};
 ghost use Rattle.ps_top.specs.Meets.{IsCut, Gives, Meets};
 ghost use Rattle.ps_top.specs.Program as program;
@@ -33,7 +33,7 @@ impl Runner<Scanner, LineBuffer> {
     // What the scans of an application are done with, before the first. It takes all their memory.
     fn for_app(alloc: Global, app: &App) -> Result<Runner<Scanner, LineBuffer>, Memory>
         ensures fits { IfOk result (Fits (IsFor app.now) (λ room. line_room app.now ≤ room) app.now) }
-        ensures first { IfOk result (λ r. Stands app.now nothing r.performer) }
+        ensures first { IfOk result (λ r. CellsStand app.now nothing r.performer) }
     {
         Ok(Runner {
             performer: Scanner::new(alloc, app)?,
@@ -55,7 +55,7 @@ fn answer_scans<F: Files, S: Sink>(
     requires fits { Fits (IsFor app.now) (λ room. line_room app.now ≤ room) app.now runner.old }
     requires inputs { input_count_of trace.old ≡ input_count app.now }
     ensures gives { IsTrue (F.tells files.old) → IsTrue (S.tells out.old) → (text : List ℕ) → F.held files.old (file_of trace.old) ≡ Some text →
-        IsReadingTrace trace.old text → Stands app.now nothing runner.old.performer →
+        IsReadingTrace trace.old text → CellsStand app.now nothing runner.old.performer →
         Gives (IsRest app.now nothing (items_left trace.old text)) (S.taken out.old) (S.taken out.new) result }
     ensures no_memory { result ≢ Status.Memory }
     ensures no_usage { result ≢ Status.Usage }

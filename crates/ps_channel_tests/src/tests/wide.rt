@@ -73,7 +73,7 @@ fn output_after(alloc: Global, app: &App, scan: &Scan) -> Result<Option<bool>, M
     if scan.ins.len() != app.input_count() as usize || !all.scan(alloc, app, scan)? {
         return Ok(None);
     }
-    Ok(all.state().signals().get(512).copied())
+    Ok(all.report().outs.as_slice().first().copied())
 }
 
 // The output of the application of 512 inputs where all of them but one are TRUE. None where the channels and the plain

@@ -10,14 +10,14 @@ use Rattle.ps_model.specs.Network.{instance_count, kind_at, first_pin}
 use Rattle.ps_model.specs.Running.{done}
 use Rattle.ps_model.specs.Scanning.{pins_under, limit_of}
 use Rattle.ps_model.proofs.FirstPins.{first_pin-bound}
-use Rattle.ps_block.specs.Pins.{pin_of}
+use Rattle.ps_model.specs.PinBits.{pin_of}
 use Rattle.ps_block.specs.Shown.{Shows, shown}
-use Rattle.ps_scan.specs.Instances.{Held}
-use Rattle.ps_scan.specs.Cells.{Cells, signal_at, held_at, kept_at}
+use Rattle.ps_scan.specs.Instances.{KeptInstance, no_kept_instance}
+use Rattle.ps_scan.specs.Cells.{Cells, signal_at, instance_at, kept_at}
 use Rattle.ps_scan.specs.Midway.{Midway}
 use Rattle.ps_scan.proofs.Going.{called_on}
-use Rattle.ps_scan.proofs.Holding.{no_held}
-use Rattle.ps_scan.proofs.Showing.{output_count_is, length-outs, diag_shown, kinds_kept}
+use Rattle.ps_model.proofs.OutputLengths.{output_count_is, length-outs}
+use Rattle.ps_scan.proofs.Showing.{diag_shown, kinds_kept}
 use Rattle.ps_scan.proofs.steps.call.Goals as goal
 
 pub write-requires : goal.write-requires
@@ -43,10 +43,10 @@ returns-clause-sizes c =
     let net = c.args.app.now in
     let w : Cells = c.args.w.now in
     let w' : Cells = c.write.new.self in
-    let same : (j : ℕ) → held_at w' j ≡ held_at c.step-outs.new.self j = λ j. ap (λ (hs : List Held). get_or hs j no_held) c.write.ensures.instances in
+    let same : (j : ℕ) → instance_at w' j ≡ instance_at c.step-outs.new.self j = λ j. ap (λ (hs : List KeptInstance). get_or hs j no_kept_instance) c.write.ensures.instances in
     record {
       signal_each = c.write.ensures.len ∙ ap (λ (ss : List Bool). length ss) c.step-outs.ensures.signals ∙ c.requires.sizes.signal_each;
-      instance_each = ap (λ (hs : List Held). length hs) c.write.ensures.instances ∙ c.step-outs.ensures.len ∙ c.requires.sizes.instance_each;
+      instance_each = ap (λ (hs : List KeptInstance). length hs) c.write.ensures.instances ∙ c.step-outs.ensures.len ∙ c.requires.sizes.instance_each;
       kinds = kinds_kept net w w' c.args.i _ c.requires.sizes.kinds (λ j other. same j ∙ c.step-outs.ensures.other j other) (same c.args.i ∙ c.step-outs.ensures.moves);
     }
 
@@ -64,18 +64,18 @@ returns-clause-done c =
     let values = take (c.safe_count-count.result + 2) c.shown_values-values.result in
     let inside : i < instance_count net = c.sound.ensures.instances c.args.k i args c.requires.step in
     let here = c.instance_kind-kind.ensures in
-    let same : (j : ℕ) → held_at w' j ≡ held_at c.step-outs.new.self j = λ j. ap (λ (hs : List Held). get_or hs j no_held) c.write.ensures.instances in
+    let same : (j : ℕ) → instance_at w' j ≡ instance_at c.step-outs.new.self j = λ j. ap (λ (hs : List KeptInstance). get_or hs j no_kept_instance) c.write.ensures.instances in
     let bits_are : (j : ℕ) → bits j ≡ pins_under (signal_at w) kind args j =
     λ j. c.pin_bits.ensures j
     ∙ ap (λ (ss : List Bool). pins_under (λ s. get_or ss s false) c.instance_kind-kind.result args j) c.signals.ensures
     ∙ ap (λ (kd : Kind). pins_under (signal_at w) kd args j) here in
     let moves : kept_at w' i ≡ stepped_at kind (limit_of kind args) bits now (kept_at w i) =
-    ap (λ (h : Held). h.kept) (same i ∙ c.step-outs.ensures.moves)
+    ap (λ (h : KeptInstance). h.kept) (same i ∙ c.step-outs.ensures.moves)
     ∙ ap (λ (kd : Kind). stepped_at kd c.call_limit.result bits now (kept_at w i)) (c.requires.sizes.kinds i)
     ∙ ap (λ (n : ℕ). stepped_at kind n bits now (kept_at w i)) (c.call_limit.ensures ∙ ap (λ (kd : Kind). limit_of kd args) here) in
     let shows : Shows kind o (kept_at w' i) =
     subst (λ (kd : Kind). Shows kd o (kept_at w' i)) (c.requires.sizes.kinds i)
-    (subst (λ (h : Held). Shows (held_at w i).kind o h.kept) (sym (same i)) c.step-outs.ensures.shows) in
+    (subst (λ (h : KeptInstance). Shows (instance_at w i).kind o h.kept) (sym (same i)) c.step-outs.ensures.shows) in
     let shown_is : values ≡ outs kind (kept_at w' i).code (kept_at w' i).mode =
     c.shown_values-values.ensures
     ∙ ap (λ (n : ℕ). shown n o) (c.safe_count-count.ensures.count ∙ ap (λ (kd : Kind). length (block kd).outputs) here)

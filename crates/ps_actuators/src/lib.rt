@@ -8,8 +8,6 @@
 mod monitoring;
 mod out_control;
 mod safety_request;
-#[cfg(test)]
-mod tests;
 
 pub use monitoring::{Edm, EdmState};
 pub use out_control::{OutControl, OutControlState};

@@ -6,8 +6,6 @@
 
 mod guard_locking;
 mod guard_monitoring;
-#[cfg(test)]
-mod tests;
 
 pub use guard_locking::{GuardLocking, GuardLockingState};
 pub use guard_monitoring::{GuardMonitoring, GuardMonitoringState};

@@ -8,8 +8,6 @@
 
 mod enable_switch;
 mod mode_selector;
-#[cfg(test)]
-mod tests;
 mod two_hand;
 mod two_hand_three;
 mod two_hand_two;

@@ -25,8 +25,6 @@ mod safety_request;
 mod step;
 mod stop;
 mod table;
-#[cfg(test)]
-mod tests;
 mod two_hand_three;
 mod two_hand_two;
 mod view;

@@ -6,8 +6,6 @@
 
 mod contacts;
 mod stop;
-#[cfg(test)]
-mod tests;
 
 pub use contacts::{Antivalent, ContactsState, Equivalent};
 pub use stop::{EmergencyStop, Espe, StopState};

@@ -1,7 +1,7 @@
-// A step of what may be nothing that the kind keeps.
+// Rows and their places, and a step by rows of what may be nothing that the kind keeps.
 
-use crate::CountedBlock;
 use ps_model::kind::Kind;
+use ps_rows::{CountedBlock, MaskRow, RowRange, next_of, row, row_count, state_rows};
 use std::process::Abort;
 
 // The DiagCode after a step with Activate alone, and None where the step is refused.
@@ -68,4 +68,21 @@ fn modes(rt: HostRuntime) {
         (Kind::OutControl, 0x8000, false, false, 1, None),
     ];
     check(&rt, &rows);
+}
+
+#[test]
+fn rows_of_a_state(rt: HostRuntime) {
+    let both = MaskRow {
+        state: 0x8001,
+        care: 0b110,
+        value: 0,
+        next: 0x8000,
+        action: 1,
+    };
+    assert_eq!(rt; row_count(Kind::Edm), 89);
+    assert_eq!(rt; row(Kind::Antivalent, 3), both);
+    let range = RowRange { from: 2, upto: 7 };
+    assert_eq!(rt; state_rows(Kind::Equivalent, 0x8001), Some(range));
+    assert_eq!(rt; state_rows(Kind::Equivalent, 0x8002), None);
+    assert_eq!(rt; next_of(Kind::Equivalent, 0x8002, 0), None);
 }

@@ -1,7 +1,10 @@
 // The states that the worked walks leave out, and both sides of each limit.
 
-use super::walk;
-use ps_model::kind::Kind;
+use crate::walk::walk_codes;
+use ps_actuators::{Edm, OutControl, SafetyRequest};
+use ps_guards::{GuardLocking, GuardMonitoring};
+use ps_operator::{EnableSwitch, ModeSelector, TwoHandThree, TwoHandTwo};
+use ps_sensors::{Antivalent, EmergencyStop, Equivalent, Espe};
 
 #[test]
 fn equivalent_with_channel_b_first(rt: HostRuntime) {
@@ -17,7 +20,7 @@ fn equivalent_with_channel_b_first(rt: HostRuntime) {
         (140, 0b00011, 0xC003),
         (150, 0b00000, 0x0000),
     ];
-    walk(&rt, Kind::Equivalent, 50, &scans);
+    walk_codes::<Equivalent>(&rt, 50, &scans);
 }
 
 #[test]
@@ -38,7 +41,7 @@ fn antivalent_at_the_limit(rt: HostRuntime) {
         (210, 0b00001, 0xC003),
         (220, 0b00100, 0x0000),
     ];
-    walk(&rt, Kind::Antivalent, 50, &scans);
+    walk_codes::<Antivalent>(&rt, 50, &scans);
 }
 
 #[test]
@@ -52,7 +55,7 @@ fn emergency_stop_stops_again(rt: HostRuntime) {
         (50, 0b00111, 0x8005),
         (60, 0b01111, 0x8000),
     ];
-    walk(&rt, Kind::EmergencyStop, 0, &scans);
+    walk_codes::<EmergencyStop>(&rt, 0, &scans);
 }
 
 #[test]
@@ -63,7 +66,7 @@ fn espe_without_activate(rt: HostRuntime) {
         (20, 0b00110, 0x0000),
         (30, 0b00111, 0x8001),
     ];
-    walk(&rt, Kind::Espe, 0, &scans);
+    walk_codes::<Espe>(&rt, 0, &scans);
 }
 
 #[test]
@@ -77,7 +80,7 @@ fn mode_selector_without_a_mode(rt: HostRuntime) {
         (1030, 0b1000000000001, 0x8005),
         (1040, 0b0000000000000, 0x0000),
     ];
-    walk(&rt, Kind::ModeSelector, 1000, &scans);
+    walk_codes::<ModeSelector>(&rt, 1000, &scans);
 }
 
 #[test]
@@ -95,7 +98,7 @@ fn two_hand_two_one_button(rt: HostRuntime) {
         (90, 0b00111, 0x8000),
         (100, 0b00101, 0x8008),
     ];
-    walk(&rt, Kind::TwoHandTwo, 0, &scans);
+    walk_codes::<TwoHandTwo>(&rt, 0, &scans);
 }
 
 #[test]
@@ -116,7 +119,7 @@ fn two_hand_three_one_button(rt: HostRuntime) {
         (120, 0b00011, 0x8007),
         (130, 0b00000, 0x0000),
     ];
-    walk(&rt, Kind::TwoHandThree, 500, &scans);
+    walk_codes::<TwoHandThree>(&rt, 500, &scans);
 }
 
 #[test]
@@ -133,7 +136,7 @@ fn two_hand_three_one_button_just_in_time(rt: HostRuntime) {
         (1060, 0b00101, 0x8006),
         (1559, 0b00011, 0x8019),
     ];
-    walk(&rt, Kind::TwoHandThree, 500, &scans);
+    walk_codes::<TwoHandThree>(&rt, 500, &scans);
 }
 
 #[test]
@@ -158,7 +161,7 @@ fn two_hand_three_one_button_too_long(rt: HostRuntime) {
         (2100, 0b00101, 0x8006),
         (2600, 0b00111, 0xC006),
     ];
-    walk(&rt, Kind::TwoHandThree, 500, &scans);
+    walk_codes::<TwoHandThree>(&rt, 500, &scans);
 }
 
 #[test]
@@ -172,7 +175,7 @@ fn guard_monitoring_with_guard_2_first(rt: HostRuntime) {
         (130, 0b000101, 0xC012),
         (140, 0b000000, 0x0000),
     ];
-    walk(&rt, Kind::GuardMonitoring, 100, &scans);
+    walk_codes::<GuardMonitoring>(&rt, 100, &scans);
 }
 
 #[test]
@@ -192,7 +195,7 @@ fn guard_locking_with_held_reset(rt: HostRuntime) {
         (110, 0b00001111, 0x8011),
         (120, 0b00000000, 0x0000),
     ];
-    walk(&rt, Kind::GuardLocking, 0, &scans);
+    walk_codes::<GuardLocking>(&rt, 0, &scans);
 }
 
 #[test]
@@ -212,7 +215,7 @@ fn enable_switch_with_held_reset(rt: HostRuntime) {
         (110, 0b010111, 0xC040),
         (120, 0b000000, 0x0000),
     ];
-    walk(&rt, Kind::EnableSwitch, 0, &scans);
+    walk_codes::<EnableSwitch>(&rt, 0, &scans);
 }
 
 #[test]
@@ -226,7 +229,7 @@ fn safety_request_with_held_reset(rt: HostRuntime) {
         (130, 0b00001, 0xC003),
         (140, 0b00000, 0x0000),
     ];
-    walk(&rt, Kind::SafetyRequest, 100, &scans);
+    walk_codes::<SafetyRequest>(&rt, 100, &scans);
 }
 
 #[test]
@@ -241,7 +244,7 @@ fn out_control_with_held_reset(rt: HostRuntime) {
         (60, 0b0000011, 0x8003),
         (70, 0b0000000, 0x0000),
     ];
-    walk(&rt, Kind::OutControl, 0, &scans);
+    walk_codes::<OutControl>(&rt, 0, &scans);
 }
 
 #[test]
@@ -264,7 +267,7 @@ fn edm_contacts_without_output(rt: HostRuntime) {
         (239, 0b111001, 0x8010),
         (240, 0b111001, 0xC010),
     ];
-    walk(&rt, Kind::Edm, 50, &scans);
+    walk_codes::<Edm>(&rt, 50, &scans);
 }
 
 #[test]
@@ -285,7 +288,7 @@ fn edm_contacts_with_output(rt: HostRuntime) {
         (120, 0b010011, 0xC060),
         (130, 0b110011, 0x8010),
     ];
-    walk(&rt, Kind::Edm, 50, &scans);
+    walk_codes::<Edm>(&rt, 50, &scans);
 }
 
 #[test]
@@ -311,5 +314,5 @@ fn edm_contacts_of_8000(rt: HostRuntime) {
         (260, 0b110111, 0xC071),
         (270, 0b000000, 0x0000),
     ];
-    walk(&rt, Kind::Edm, 50, &scans);
+    walk_codes::<Edm>(&rt, 50, &scans);
 }

@@ -1,24 +1,7 @@
-// Walks through the tables.
+// Walks through the tables of the blocks of sensors, and what loads as their states.
 
-use crate::{Antivalent, EmergencyStop, Equivalent, Espe};
-use ps_block::{Pins, SafetyBlock};
-use std::process::Abort;
-
-// Steps a block from its first state, and asserts DiagCode and safe outputs of each step. A scan is
-// its time, the Boolean pins, and what is wanted.
-fn walk<B: SafetyBlock>(rt: &impl Abort, limit: u32, scans: &[(u32, u32, u16, u16)]) {
-    let mut state = B::fresh();
-    for (now, bits, code, safe) in scans {
-        let pins = Pins {
-            bits: *bits,
-            limit,
-            now: *now,
-        };
-        let outs = B::step(&mut state, pins);
-        assert_eq!(rt; outs.diag.code, *code, "at {now}");
-        assert_eq!(rt; outs.safe, *safe, "at {now}");
-    }
-}
+use crate::walk::{load_each, walk};
+use ps_sensors::{Antivalent, EmergencyStop, Equivalent, Espe};
 
 #[test]
 fn equivalent_before_the_limit(rt: HostRuntime) {
@@ -108,15 +91,6 @@ fn espe_with_held_reset(rt: HostRuntime) {
         (95, 0b01011, 0x8000, 1),
     ];
     walk::<Espe>(&rt, 0, &scans);
-}
-
-// Asserts of each sixteen bytes whether they load: the DiagCode, the last Reset, the last auxiliary input, the
-// latched mode, the time, and seven bytes that are 0.
-fn load_each<B: SafetyBlock>(rt: &impl Abort, rows: &[(u128, bool)]) {
-    for (bytes, loads) in rows {
-        let state = B::load(&bytes.to_be_bytes());
-        assert_eq!(rt; state.is_some(), *loads, "at {bytes:x}");
-    }
 }
 
 #[test]

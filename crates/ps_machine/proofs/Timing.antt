@@ -28,17 +28,17 @@ at_time (time t) = refl
 at_time (wired e) = refl
 
 -- Boolean pins give no limit
-skipped : (n : ℕ) (ps : List Pin) (args : List Actual) → list_all (λ (p : Pin). is_boolean p.ty) (take n ps) ≡ true → times_at ps args ≡ times_at (drop n ps) (drop n args)
-skipped zero ps args h = refl
-skipped (suc n) [] args h = refl
-skipped (suc n) (p ∷ ps) [] h = none (drop n ps)
+times_behind : (n : ℕ) (ps : List Pin) (args : List Actual) → list_all (λ (p : Pin). is_boolean p.ty) (take n ps) ≡ true → times_at ps args ≡ times_at (drop n ps) (drop n args)
+times_behind zero ps args h = refl
+times_behind (suc n) [] args h = refl
+times_behind (suc n) (p ∷ ps) [] h = none (drop n ps)
   where
     none : (qs : List Pin) → 0 ≡ times_at qs []
     none [] = refl
     none (q ∷ qs) = refl
-skipped (suc n) (p ∷ ps) (a ∷ args) h =
+times_behind (suc n) (p ∷ ps) (a ∷ args) h =
     let both = and_parts (is_boolean p.ty) (list_all (λ (p : Pin). is_boolean p.ty) (take n ps)) h in
-    omega (arith, no_time p.ty a both.0, skipped n ps args both.1)
+    omega (arith, no_time p.ty a both.0, times_behind n ps args both.1)
 
 -- the first pins of a kind are Boolean
 first_boolean : (kind : Kind) → list_all (λ (p : Pin). is_boolean p.ty) (take (boolean_count kind) (block kind).inputs) ≡ true
@@ -64,30 +64,30 @@ record IsTimed (kind : Kind) : Type 0 where
   name : List ℕ
   last : drop (boolean_count kind) (block kind).inputs ≡ time_pin name ∷ []
 
-timed : (kind : Kind) → IsTimed kind ⊎ (boolean_count kind ≡ length (block kind).inputs)
+time_pin_or_none : (kind : Kind) → IsTimed kind ⊎ (boolean_count kind ≡ length (block kind).inputs)
 unfolding block boolean_count
-timed Equivalent = inl (record { own = refl; long = refl; name = codes "DiscrepancyTime"; last = refl })
-timed Antivalent = inl (record { own = refl; long = refl; name = codes "DiscrepancyTime"; last = refl })
-timed EmergencyStop = inr refl
-timed Espe = inr refl
-timed ModeSelector = inl (record { own = refl; long = refl; name = codes "ModeMonitorTime"; last = refl })
-timed TwoHandTwo = inr refl
-timed TwoHandThree = inr refl
-timed GuardMonitoring = inl (record { own = refl; long = refl; name = codes "DiscrepancyTime"; last = refl })
-timed GuardLocking = inr refl
-timed EnableSwitch = inr refl
-timed SafetyRequest = inl (record { own = refl; long = refl; name = codes "MonitoringTime"; last = refl })
-timed OutControl = inr refl
-timed Edm = inl (record { own = refl; long = refl; name = codes "MonitoringTime"; last = refl })
+time_pin_or_none Equivalent = inl (record { own = refl; long = refl; name = codes "DiscrepancyTime"; last = refl })
+time_pin_or_none Antivalent = inl (record { own = refl; long = refl; name = codes "DiscrepancyTime"; last = refl })
+time_pin_or_none EmergencyStop = inr refl
+time_pin_or_none Espe = inr refl
+time_pin_or_none ModeSelector = inl (record { own = refl; long = refl; name = codes "ModeMonitorTime"; last = refl })
+time_pin_or_none TwoHandTwo = inr refl
+time_pin_or_none TwoHandThree = inr refl
+time_pin_or_none GuardMonitoring = inl (record { own = refl; long = refl; name = codes "DiscrepancyTime"; last = refl })
+time_pin_or_none GuardLocking = inr refl
+time_pin_or_none EnableSwitch = inr refl
+time_pin_or_none SafetyRequest = inl (record { own = refl; long = refl; name = codes "MonitoringTime"; last = refl })
+time_pin_or_none OutControl = inr refl
+time_pin_or_none Edm = inl (record { own = refl; long = refl; name = codes "MonitoringTime"; last = refl })
 
 pub limit_timed : (kind : Kind) (args : List Actual) (a : Actual) → length args ≡ length (block kind).inputs → slice_get args (boolean_count kind) ≡ Some a → limit_of kind args ≡ literal_time a
 limit_timed kind args a many at =
     let n = boolean_count kind in
     let inside : n < length args = slice_get_within args n a at in
-    elim (timed kind) [
+    elim (time_pin_or_none kind) [
       | inl t ↦
           let rest : times_at (block kind).inputs args ≡ literal_time a =
-          skipped n (block kind).inputs args (first_boolean kind)
+          times_behind n (block kind).inputs args (first_boolean kind)
           ∙ ap (λ ps. times_at ps (drop n args)) t.last
           ∙ ap (times_at (time_pin t.name ∷ [])) (rest_found args n a at)
           ∙ (let e = at_time a in omega arith) in
@@ -98,10 +98,10 @@ limit_timed kind args a many at =
 pub limit_own : (kind : Kind) (args : List Actual) → length args ≡ length (block kind).inputs → length args ≤ boolean_count kind → limit_of kind args ≡ (block kind).fixed_limit
 limit_own kind args many past =
     let n = boolean_count kind in
-    elim (timed kind) [
+    elim (time_pin_or_none kind) [
       | inl t ↦ absurd (omega (arith, t.long))
       | inr none ↦
           let rest : times_at (block kind).inputs args ≡ 0 =
-          skipped n (block kind).inputs args (first_boolean kind) ∙ ap (λ ps. times_at ps (drop n args)) (drop_all n (block kind).inputs (omega arith)) in
+          times_behind n (block kind).inputs args (first_boolean kind) ∙ ap (λ ps. times_at ps (drop n args)) (drop_all n (block kind).inputs (omega arith)) in
           omega (arith, rest)
     ]

@@ -18,10 +18,11 @@ use Rattle.ps_machine.proofs.Instances.{bytes_at, block_is}
 use Rattle.ps_machine.proofs.KindsByNumber.{kind_of-number}
 use Rattle.ps_machine.proofs.Places.{length-replaced, index_before, index_within, index_after}
 use Rattle.ps_stackvm.specs.declared.instruction.Instruction.TheVariants.{Call}
-use Rattle.ps_stackvm.specs.Cells.{height_of, time_of, block_bytes, with_pc, with_height}
+use Rattle.ps_stackvm.specs.Cells.{height_of, scan_time, block_bytes, with_pc, with_height}
 use Rattle.ps_stackvm.specs.Calling.{topmost, pins_in, stepped_to, called_with, called_by, after_call}
+use Rattle.ps_stackvm.specs.Turn.{turn_of}
 use Rattle.ps_stackgen.proofs.Instructions.{Has}
-use Rattle.ps_stackgen.proofs.Holding.{Holds, turn, turn_is, time_same, pc_of-with_pc, index-with_pc, length-with_pc}
+use Rattle.ps_stackgen.proofs.Holding.{Holds, turn_is, time_same, pc_of-with_pc, index-with_pc, length-with_pc}
 
 -- the stack is just the pins
 pins_on_top : (n now : ℕ) (blocks cells : List ℕ) (pc : ℕ) (pins : List Bool) (v : ℕ → Bool) → Holds n now blocks cells pc pins v → length pins ≤ 64 →
@@ -70,7 +71,7 @@ call_goes n m i o limit next now kind blocks cells pc pins v kept h within room 
     ∙ cond-false (nat_lt 64 (height_of cells) || nat_lt (height_of cells) (boolean_count kind)) _ _ (ap (λ b. b || nat_lt (height_of cells) (boolean_count kind)) e3 ∙ e4)
     ∙ cond-false (list_any is_no_bit (topmost (boolean_count kind) cells)) _ _ odd
     ∙ ap (λ k. called_with n i o limit next kind k cells) found
-    ∙ ap (λ p. stepped_to n i o next kind (stepped_at kind limit p (time_of cells) kept) cells) pins_are
+    ∙ ap (λ p. stepped_to n i o next kind (stepped_at kind limit p (scan_time cells) kept) cells) pins_are
     ∙ ap (λ t. stepped_to n i o next kind (stepped_at kind limit (λ j. slice_index_or pins j false) t kept) cells) h.time
 
 -- the numbers that a CALL's writes leave where they are: the height, the sixteen bytes, and the outputs
@@ -226,7 +227,7 @@ pub call_turn : (n m now : ℕ) (blocks code cells : List ℕ) (pc i o limit : �
     Has code pc (Call i (block kind).number o limit) → Holds n now blocks cells pc pins v → length pins ≡ boolean_count kind → length pins ≤ 64 → i < m →
     length (outs kind (stepped_at kind limit (λ j. slice_index_or pins j false) now kept).code (stepped_at kind limit (λ j. slice_index_or pins j false) now kept).mode) ≡ output_count kind →
     o + output_count kind ≤ n → 16 * i + 16 ≤ length blocks → loaded kind (bytes_at i blocks) ≡ Some kept →
-    Holds n now (replaced blocks (16 * i) (stored (stepped_at kind limit (λ j. slice_index_or pins j false) now kept))) (turn n m code cells) (pc + 10) []
+    Holds n now (replaced blocks (16 * i) (stored (stepped_at kind limit (λ j. slice_index_or pins j false) now kept))) (turn_of n m code cells) (pc + 10) []
     (called_signals o (output_count kind) (outs kind (stepped_at kind limit (λ j. slice_index_or pins j false) now kept).code (stepped_at kind limit (λ j. slice_index_or pins j false) now kept).mode) v)
 call_turn n m now blocks code cells pc i o limit kind pins v kept has h many low within shown room inside there =
     let k' : Kept = stepped_at kind limit (λ j. slice_index_or pins j false) now kept in

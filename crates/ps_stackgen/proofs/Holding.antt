@@ -11,15 +11,11 @@ use Rattle.ps_machine.proofs.Bits.{bit_is_bit, bit_and-bit, bit_or-bit}
 use Rattle.ps_machine.proofs.Places.{length-replaced, index_after, be4_within}
 use Rattle.ps_stackvm.specs.declared.instruction.Instruction.{Instruction}
 use Rattle.ps_stackvm.specs.declared.instruction.Instruction.TheVariants.{Load, Store, Const, And, Or}
-use Rattle.ps_stackvm.specs.Cells.{pc_of, height_of, progress_of, time_of, stack_byte, signal_byte, with_pc, with_height}
+use Rattle.ps_stackvm.specs.Cells.{pc_of, height_of, progress_of, scan_time, stack_byte, signal_byte, with_pc, with_height}
 use Rattle.ps_stackvm.specs.Instructions.{size_of, fetched}
 use Rattle.ps_stackvm.specs.Stack.{top, second, after_load, after_store, after_const, after_join, pushed}
-use Rattle.ps_stackvm.specs.Turn.{after, carried_out}
+use Rattle.ps_stackvm.specs.Turn.{after, carried_out, turn_of}
 use Rattle.ps_stackgen.proofs.Instructions.{Has}
-
--- one turn with so many signals and instances
-abbrev pub turn : (n m : ℕ) → (code cells : List ℕ) → List ℕ
-turn n m code cells = carried_out n m (fetched code (pc_of cells)) cells
 
 -- reads after the place of the next instruction was written
 pub pc_of-with_pc : (pc : ℕ) (cells : List ℕ) → pc < 2 ^ 32 → pc_of (with_pc pc cells) ≡ pc
@@ -37,7 +33,7 @@ pub record Holds (n : ℕ) (now : ℕ) (blocks : List ℕ) (cells : List ℕ) (p
   pub at : pc_of cells ≡ pc
   pub height : height_of cells ≡ length stack
   pub running : progress_of cells ≡ 0
-  pub time : time_of cells ≡ now
+  pub time : scan_time cells ≡ now
   pub holds : (k : ℕ) → k < length stack → stack_byte cells k ≡ bit (slice_index_or stack k false)
   pub signals : (s : ℕ) → s < n → signal_byte cells s ≡ bit (v s)
   pub rest : drop (74 + n) cells ≡ blocks
@@ -52,7 +48,7 @@ drop_ext k xs ys size same =
     let past : k ≤ k + j = omega arith in
     get_or_default (drop k xs) j d 0 low ∙ get_or-drop k xs j 0 ∙ same (k + j) past ∙ sym (get_or-drop k ys j 0) ∙ sym (get_or_default (drop k ys) j d 0 low'))
 
-pub time_same : (cells new : List ℕ) → ((k : ℕ) → 6 ≤ k → k < 10 → slice_index new k ≡ slice_index cells k) → time_of new ≡ time_of cells
+pub time_same : (cells new : List ℕ) → ((k : ℕ) → 6 ≤ k → k < 10 → slice_index new k ≡ slice_index cells k) → scan_time new ≡ scan_time cells
 time_same cells new same =
     let h6 = same 6 (lit≤ tt) (lit< tt) in
     let h7 = same 7 (lit≤ tt) (lit< tt) in
@@ -188,7 +184,7 @@ const_goes next cells b low =
     let e2 = lt-leb 64 (height_of cells) low in
     rw (e2, bit_is_bit b) refl
 
-pub turn_is : (n m : ℕ) (code cells : List ℕ) (pc : ℕ) (i : Instruction) → pc_of cells ≡ pc → Has code pc i → turn n m code cells ≡ after n m i (pc + size_of i) cells
+pub turn_is : (n m : ℕ) (code cells : List ℕ) (pc : ℕ) (i : Instruction) → pc_of cells ≡ pc → Has code pc i → turn_of n m code cells ≡ after n m i (pc + size_of i) cells
 turn_is n m code cells pc i at has =
     ap (λ p. carried_out n m (fetched code p) cells) at
     ∙ ap (λ r. carried_out n m r cells) has.found
@@ -202,23 +198,23 @@ pub record TwoOnTop (cells : List ℕ) (a b : Bool) : Type 0 where
 
 -- the instruction joins the two topmost values by f
 abbrev pub Joins : (n m : ℕ) → ℕ → List ℕ → List ℕ → Instruction → (Bool → Bool → Bool) → Type 0
-Joins n m now blocks code i f = (cells : List ℕ) (pc : ℕ) (stack : List Bool) (v : ℕ → Bool) (a b : Bool) → Has code pc i → Holds n now blocks cells pc ((stack ++ a ∷ []) ++ b ∷ []) v → length stack < 63 → Holds n now blocks (turn n m code cells) (pc + size_of i) (stack ++ f a b ∷ []) v
+Joins n m now blocks code i f = (cells : List ℕ) (pc : ℕ) (stack : List Bool) (v : ℕ → Bool) (a b : Bool) → Has code pc i → Holds n now blocks cells pc ((stack ++ a ∷ []) ++ b ∷ []) v → length stack < 63 → Holds n now blocks (turn_of n m code cells) (pc + size_of i) (stack ++ f a b ∷ []) v
 
 module _ (n m : ℕ) (now : ℕ) (blocks code : List ℕ) where
   -- one turn at each instruction
-  pub load_turn : (cells : List ℕ) (pc c : ℕ) (stack : List Bool) (v : ℕ → Bool) → Has code pc (Load c) → Holds n now blocks cells pc stack v → length stack < 64 → c < n → Holds n now blocks (turn n m code cells) (pc + 3) (stack ++ v c ∷ []) v
+  pub load_turn : (cells : List ℕ) (pc c : ℕ) (stack : List Bool) (v : ℕ → Bool) → Has code pc (Load c) → Holds n now blocks cells pc stack v → length stack < 64 → c < n → Holds n now blocks (turn_of n m code cells) (pc + 3) (stack ++ v c ∷ []) v
   load_turn cells pc c stack v has h low within =
       let tall : height_of cells < 64 = omega (arith, h.height) in
       let e = turn_is n m code cells pc (Load c) h.at has ∙ load_goes n c (pc + 3) cells (v c) within tall (h.signals c within) in
       subst (λ x. Holds n now blocks x (pc + 3) (stack ++ v c ∷ []) v) (sym e) (push_holds n now blocks cells pc (pc + 3) stack v (v c) h has.small low)
 
-  pub const_turn : (cells : List ℕ) (pc : ℕ) (b : Bool) (stack : List Bool) (v : ℕ → Bool) → Has code pc (Const (bit b)) → Holds n now blocks cells pc stack v → length stack < 64 → Holds n now blocks (turn n m code cells) (pc + 2) (stack ++ b ∷ []) v
+  pub const_turn : (cells : List ℕ) (pc : ℕ) (b : Bool) (stack : List Bool) (v : ℕ → Bool) → Has code pc (Const (bit b)) → Holds n now blocks cells pc stack v → length stack < 64 → Holds n now blocks (turn_of n m code cells) (pc + 2) (stack ++ b ∷ []) v
   const_turn cells pc b stack v has h low =
       let tall : height_of cells < 64 = omega (arith, h.height) in
       let e = turn_is n m code cells pc (Const (bit b)) h.at has ∙ const_goes (pc + 2) cells b tall in
       subst (λ x. Holds n now blocks x (pc + 2) (stack ++ b ∷ []) v) (sym e) (push_holds n now blocks cells pc (pc + 2) stack v b h has.small low)
 
-  pub store_turn : (cells : List ℕ) (pc c : ℕ) (stack : List Bool) (v v' : ℕ → Bool) (b : Bool) → Has code pc (Store c) → Holds n now blocks cells pc (stack ++ b ∷ []) v → length stack < 64 → c < n → v' c ≡ b → ((s : ℕ) → s ≢ c → v' s ≡ v s) → Holds n now blocks (turn n m code cells) (pc + 3) stack v'
+  pub store_turn : (cells : List ℕ) (pc c : ℕ) (stack : List Bool) (v v' : ℕ → Bool) (b : Bool) → Has code pc (Store c) → Holds n now blocks cells pc (stack ++ b ∷ []) v → length stack < 64 → c < n → v' c ≡ b → ((s : ℕ) → s ≢ c → v' s ≡ v s) → Holds n now blocks (turn_of n m code cells) (pc + 3) stack v'
   store_turn cells pc c stack v v' b has h low within new same =
       let tall : height_of cells ≡ suc (length stack) = omega (arith, h.height, length-append stack (b ∷ [])) in
       let place : height_of cells - 1 ≡ length stack = omega arith in

@@ -17,35 +17,36 @@ use Rattle.ps_stackvm.specs.declared.instruction.Instruction.TheVariants.{Const,
 use Rattle.ps_stackvm.specs.Cells.{progress_of}
 use Rattle.ps_stackvm.specs.Instructions.{size_of}
 use Rattle.ps_stackvm.specs.Code.{expression_code, group_code, later_code, pin_code, code_at_pin}
+use Rattle.ps_stackvm.specs.Turn.{turn_of}
 use Rattle.ps_stackgen.proofs.Instructions.{HasAt, has_front, has_back, size_all, size_all-append}
-use Rattle.ps_stackgen.proofs.Holding.{Holds, Joins, turn, load_turn, const_turn, and_joins, or_joins}
+use Rattle.ps_stackgen.proofs.Holding.{Holds, Joins, load_turn, const_turn, and_joins, or_joins}
 
 module _ (n m now : ℕ) (code : List ℕ) where
   -- after so many turns, all of them of a running machine, the cells hold this
   pub record Comes (blocks cells : List ℕ) (turns pc : ℕ) (stack : List Bool) (v : ℕ → Bool) : Type 0 where
-    pub there : Holds n now blocks (turned (turn n m code) turns cells) pc stack v
-    pub running : (j : ℕ) → j < turns → progress_of (turned (turn n m code) j cells) ≡ 0
+    pub there : Holds n now blocks (turned (turn_of n m code) turns cells) pc stack v
+    pub running : (j : ℕ) → j < turns → progress_of (turned (turn_of n m code) j cells) ≡ 0
 
   pub stays : (blocks cells : List ℕ) (pc : ℕ) (stack : List Bool) (v : ℕ → Bool) → Holds n now blocks cells pc stack v → Comes blocks cells 0 pc stack v
   stays blocks cells pc stack v h = record { there = h; running = λ j l. absurd (omega arith) }
 
   pub one_turn : (blocks blocks' cells : List ℕ) (pc pc' : ℕ) (stack stack' : List Bool) (v v' : ℕ → Bool) → Holds n now blocks cells pc stack v →
-      Holds n now blocks' (turn n m code cells) pc' stack' v' → Comes blocks' cells 1 pc' stack' v'
+      Holds n now blocks' (turn_of n m code cells) pc' stack' v' → Comes blocks' cells 1 pc' stack' v'
   one_turn blocks blocks' cells pc pc' stack stack' v v' h g =
       record { there = g; running = λ j l. let e : j ≡ 0 = omega arith in rw e h.running }
 
   pub comes_on : (blocks blocks' cells : List ℕ) (j k pc pc' : ℕ) (stack stack' : List Bool) (v v' : ℕ → Bool) → Comes blocks cells j pc stack v →
-      Comes blocks' (turned (turn n m code) j cells) k pc' stack' v' → Comes blocks' cells (j + k) pc' stack' v'
+      Comes blocks' (turned (turn_of n m code) j cells) k pc' stack' v' → Comes blocks' cells (j + k) pc' stack' v'
   comes_on blocks blocks' cells j k pc pc' stack stack' v v' a b =
       record {
-        there = rw (turned_add (turn n m code) j k cells) b.there;
+        there = rw (turned_add (turn_of n m code) j k cells) b.there;
         running = λ i l. elim (cases_lt i j) [
           | inl early ↦ a.running i early
           | inr late ↦
               let e : i ≡ j + (i - j) = omega arith in
               let h : i - j < k = omega arith in
               let r = b.running (i - j) h in
-              ap (λ x. progress_of (turned (turn n m code) x cells)) e ∙ ap progress_of (turned_add (turn n m code) j (i - j) cells) ∙ r
+              ap (λ x. progress_of (turned (turn_of n m code) x cells)) e ∙ ap progress_of (turned_add (turn_of n m code) j (i - j) cells) ∙ r
         ];
       }
 
@@ -60,17 +61,17 @@ abbrev folded : (Bool → Bool → Bool) → Bool → (ℕ → Bool) → Formula
 folded f a v no_operand = a
 folded f a v (operand e es) = folded f (f a (value v e)) v es
 
-all_folded : (a : Bool) (v : ℕ → Bool) (es : Formulas) → folded (λ x y. x && y) a v es ≡ (a && all_true v es)
-all_folded true v no_operand = refl
-all_folded false v no_operand = refl
-all_folded true v (operand e es) = all_folded (value v e) v es
-all_folded false v (operand e es) = all_folded false v es
+fold_is_all : (a : Bool) (v : ℕ → Bool) (es : Formulas) → folded (λ x y. x && y) a v es ≡ (a && all_true v es)
+fold_is_all true v no_operand = refl
+fold_is_all false v no_operand = refl
+fold_is_all true v (operand e es) = fold_is_all (value v e) v es
+fold_is_all false v (operand e es) = fold_is_all false v es
 
-any_folded : (a : Bool) (v : ℕ → Bool) (es : Formulas) → folded (λ x y. x || y) a v es ≡ (a || any_true v es)
-any_folded true v no_operand = refl
-any_folded false v no_operand = refl
-any_folded true v (operand e es) = any_folded true v es
-any_folded false v (operand e es) = any_folded (value v e) v es
+fold_is_any : (a : Bool) (v : ℕ → Bool) (es : Formulas) → folded (λ x y. x || y) a v es ≡ (a || any_true v es)
+fold_is_any true v no_operand = refl
+fold_is_any false v no_operand = refl
+fold_is_any true v (operand e es) = fold_is_any true v es
+fold_is_any false v (operand e es) = fold_is_any (value v e) v es
 
 -- the operands joined one after another
 abbrev group_folded : (Bool → Bool → Bool) → (ℕ → Bool) → Formulas → Bool
@@ -79,11 +80,11 @@ group_folded f v (operand e es) = folded f (value v e) v es
 
 all_group : (v : ℕ → Bool) (es : Formulas) → 0 < operand_count es → group_folded (λ x y. x && y) v es ≡ all_true v es
 all_group v no_operand h = absurd (omega arith)
-all_group v (operand e es) h = all_folded (value v e) v es
+all_group v (operand e es) h = fold_is_all (value v e) v es
 
 any_group : (v : ℕ → Bool) (es : Formulas) → 0 < operand_count es → group_folded (λ x y. x || y) v es ≡ any_true v es
 any_group v no_operand h = absurd (omega arith)
-any_group v (operand e es) h = any_folded (value v e) v es
+any_group v (operand e es) h = fold_is_any (value v e) v es
 
 module _ (n m now : ℕ) (blocks code : List ℕ) (v : ℕ → Bool) where
   mutual
@@ -118,7 +119,7 @@ module _ (n m now : ℕ) (blocks code : List ℕ) (v : ℕ → Bool) where
         let cr = later_code i es in
         let low' : length stack + d < 64 = omega arith in
         let x = expression_runs e d cells pc stack (first_fine n d e es is) (has_front code pc ce cr has) h low' in
-        let w = later_runs i f j es (value v e) d (turned (turn n m code) (length ce) cells) (pc + size_all ce) stack (later_fine n d e es is) (has_back code pc ce cr has) x.there low in
+        let w = later_runs i f j es (value v e) d (turned (turn_of n m code) (length ce) cells) (pc + size_all ce) stack (later_fine n d e es is) (has_back code pc ce cr has) x.there low in
         let el : length ce + length cr ≡ length (ce ++ cr) = sym (length-append ce cr) in
         let ep : pc + size_all ce + size_all cr ≡ pc + size_all (ce ++ cr) = omega (arith, size_all-append ce cr) in
         comes_as n m now code blocks cells _ _ _ _ _ _ v el ep refl (comes_on n m now code blocks blocks cells (length ce) (length cr) _ _ _ _ v v x w)
@@ -137,10 +138,10 @@ module _ (n m now : ℕ) (blocks code : List ℕ) (v : ℕ → Bool) where
         let low2 : length stack < 63 = omega arith in
         let x = expression_runs e d cells pc (stack ++ a ∷ []) (first_fine n d e es is) (has_front code pc ce (i ∷ cr) has) h low1 in
         let back = has_back code pc ce (i ∷ cr) has in
-        let cells1 = turned (turn n m code) (length ce) cells in
+        let cells1 = turned (turn_of n m code) (length ce) cells in
         let t = j cells1 pc1 stack v a (value v e) back.0 x.there low2 in
         let y = one_turn n m now code blocks blocks cells1 pc1 (pc1 + size_of i) ((stack ++ a ∷ []) ++ value v e ∷ []) (stack ++ f a (value v e) ∷ []) v v x.there t in
-        let w = later_runs i f j es (f a (value v e)) d (turn n m code cells1) (pc1 + size_of i) stack (later_fine n d e es is) back.1 t low in
+        let w = later_runs i f j es (f a (value v e)) d (turn_of n m code cells1) (pc1 + size_of i) stack (later_fine n d e es is) back.1 t low in
         let yz = comes_on n m now code blocks blocks cells1 1 (length cr) _ _ _ _ v v y w in
         let el : length ce + (1 + length cr) ≡ length (ce ++ i ∷ cr) = omega (arith, length-append ce (i ∷ cr)) in
         let ep : pc1 + size_of i + size_all cr ≡ pc + size_all (ce ++ i ∷ cr) = omega (arith, size_all-append ce (i ∷ cr)) in
@@ -176,7 +177,7 @@ module _ (n m now : ℕ) (blocks code : List ℕ) (v : ℕ → Bool) where
       let bs = map (pins_under v kind args) (range_with_len (j + 1) count) in
       let x = pin_runs (pin_at kind j).free (slice_index_or args j free) cells pc stack (is j) (has_front code pc cj cr has) h (omega arith) in
       let low' : length (stack ++ b ∷ []) + count < 30 = omega (arith, length-append stack (b ∷ [])) in
-      let w = pins_run kind args count (j + 1) (turned (turn n m code) (length cj) cells) (pc + size_all cj) (stack ++ b ∷ []) is (has_back code pc cj cr has) x.there low' in
+      let w = pins_run kind args count (j + 1) (turned (turn_of n m code) (length cj) cells) (pc + size_all cj) (stack ++ b ∷ []) is (has_back code pc cj cr has) x.there low' in
       let el : length cj + length cr ≡ length (cj ++ cr) = sym (length-append cj cr) in
       let ep : pc + size_all cj + size_all cr ≡ pc + size_all (cj ++ cr) = omega (arith, size_all-append cj cr) in
       comes_as n m now code blocks cells _ _ _ _ _ _ v el ep (append_assoc stack (b ∷ []) bs) (comes_on n m now code blocks blocks cells (length cj) (length cr) _ _ _ _ v v x w)

@@ -32,14 +32,14 @@ use Rattle.ps_machine.proofs.Places.{length-replaced, index_before, index_within
 use Rattle.ps_machine.proofs.Reports.{reported}
 use Rattle.ps_machine.proofs.Scans.{begun_input, begun_other, ends}
 use Rattle.ps_stackvm.specs.declared.instruction.Instruction.TheVariants.{End}
-use Rattle.ps_stackvm.specs.Cells.{pc_of, progress_of, time_of, with_pc, with_progress}
-use Rattle.ps_stackvm.specs.Channel.{blank_a}
+use Rattle.ps_stackvm.specs.Cells.{pc_of, progress_of, scan_time, with_pc, with_progress}
+use Rattle.ps_stackvm.specs.Channel.{blank_a, machine_a}
 use Rattle.ps_stackvm.specs.Code.{step_code, network_code, code_a}
 use Rattle.ps_stackvm.specs.Instructions.{fetched}
-use Rattle.ps_stackvm.specs.Stands.{machine_a, StandsA}
-use Rattle.ps_stackvm.specs.Turn.{turn_a, begin_a, carried_out}
+use Rattle.ps_stackvm.specs.Stands.{StandsA}
+use Rattle.ps_stackvm.specs.Turn.{turn_of, turn_a, begin_a, carried_out}
 use Rattle.ps_stackgen.proofs.Instructions.{has_front, has_back, size_all, has_written}
-use Rattle.ps_stackgen.proofs.Holding.{Holds, turn, turn_is, drop_ext, index-with_pc, length-with_pc}
+use Rattle.ps_stackgen.proofs.Holding.{Holds, turn_is, drop_ext, index-with_pc, length-with_pc}
 use Rattle.ps_stackgen.proofs.Stepping.{clock, BlocksStand, steps_led}
 use Rattle.ps_stackgen.proofs.Counted.{turns_are, code_small, network_short}
 
@@ -97,7 +97,7 @@ module _ (n now : ℕ) (ins : List Bool) (cells : List ℕ) (few : length ins �
       let h0 = head 0 (lit< tt) in let h1 = head 1 (lit< tt) in let h2 = head 2 (lit< tt) in let h3 = head 3 (lit< tt) in
       λ x. from_be_bytes w32 (h0 x ∷ h1 x ∷ h2 x ∷ h3 x ∷ [])
 
-  time_now : now < 2 ^ 32 → time_of (begin_a now ins cells) ≡ now
+  time_now : now < 2 ^ 32 → scan_time (begin_a now ins cells) ≡ now
   time_now small =
       let h0 = clock_byte 0 (lit< tt) in let h1 = clock_byte 1 (lit< tt) in let h2 = clock_byte 2 (lit< tt) in let h3 = clock_byte 3 (lit< tt) in
       (λ x. from_be_bytes w32 (h0 x ∷ h1 x ∷ h2 x ∷ h3 x ∷ [])) ∙ from_be_bytes-to_be_bytes_4 now small
@@ -143,9 +143,9 @@ module _ (net : Network) (sound : IsSound net) where
   module _ (accepted : Accepted net) where
     -- a scan as the machine runs it: so many turns, then done with these cells
     record Scanned (cells : List ℕ) (new : State) (now : ℕ) : Type 0 where
-      running : (j : ℕ) → j < length (network_code net) → progress_of (turned (turn (signal_count net) (instance_count net) (code_a net)) j cells) ≡ 0
-      done : progress_of (turned (turn (signal_count net) (instance_count net) (code_a net)) (length (network_code net)) cells) ≡ 1
-      stands : StandsA net new now (turned (turn (signal_count net) (instance_count net) (code_a net)) (length (network_code net)) cells)
+      running : (j : ℕ) → j < length (network_code net) → progress_of (turned (turn_of (signal_count net) (instance_count net) (code_a net)) j cells) ≡ 0
+      done : progress_of (turned (turn_of (signal_count net) (instance_count net) (code_a net)) (length (network_code net)) cells) ≡ 1
+      stands : StandsA net new now (turned (turn_of (signal_count net) (instance_count net) (code_a net)) (length (network_code net)) cells)
 
     scanned : (old new : State) (ins : List Bool) (t now dt : ℕ) (cells : List ℕ) → t ≤ now → now < 2 ^ 32 → length ins ≡ input_count net →
         Passes old t now dt → StandsA net old t cells → Solves net old ins dt new → Scanned (begin_a now ins cells) new now
@@ -162,7 +162,7 @@ module _ (net : Network) (sound : IsSound net) where
         let led = steps_led net t now dt later small code net.steps m0 q 0 (drop (74 + n) cells) (all_fit net sound accepted) (called_once net sound) timely
         (has_front code 0 sc (End ∷ []) has) (begins old ins t now cells count small stands) (begins_blocks old t now cells stands) in
         let x = led.comes in
-        let cells1 = turned (turn n k code) (length sc) q in
+        let cells1 = turned (turn_of n k code) (length sc) q in
         let pc1 = 0 + size_all sc in
         let back = has_back code 0 sc (End ∷ []) has in
         let marked = with_progress 1 cells1 in
@@ -174,8 +174,8 @@ module _ (net : Network) (sound : IsSound net) where
         let lr = ap length x.there.rest in
         let ld = length-drop (74 + n) cells1 in
         let count_is : length (sc ++ End ∷ []) ≡ length sc + 1 = length-append sc (End ∷ []) in
-        let last : turned (turn n k code) (length (network_code net)) q ≡ final =
-        ap (λ j. turned (turn n k code) j q) count_is ∙ turned_add (turn n k code) (length sc) 1 q ∙ turn_is n k code cells1 pc1 End x.there.at back.0 in
+        let last : turned (turn_of n k code) (length (network_code net)) q ≡ final =
+        ap (λ j. turned (turn_of n k code) j q) count_is ∙ turned_add (turn_of n k code) (length sc) 1 q ∙ turn_is n k code cells1 pc1 End x.there.at back.0 in
         let p1 : progress_of final ≡ 1 = index-with_pc (pc1 + 1) marked 5 (lit≤ tt) ∙ get_or-set_same cells1 5 1 0 (omega arith) in
         let past : (j : ℕ) → 74 ≤ j → slice_index final j ≡ slice_index cells1 j = λ j from.
         index-with_pc (pc1 + 1) marked j (omega arith) ∙ get_or-set_other cells1 5 j 1 0 (λ p. omega arith) in
@@ -185,7 +185,7 @@ module _ (net : Network) (sound : IsSound net) where
             | inl early ↦ x.running j early
             | inr end ↦
                 let e : j ≡ length sc = omega arith in
-                ap (λ i. progress_of (turned (turn n k code) i q)) e ∙ x.there.running
+                ap (λ i. progress_of (turned (turn_of n k code) i q)) e ∙ x.there.running
           ];
           done = ap progress_of last ∙ p1;
           stands = subst (StandsA net new now) (sym last) (record {
@@ -205,7 +205,7 @@ module _ (net : Network) (sound : IsSound net) where
         let k = instance_count net in
         let code = code_a net in
         let turns : length (network_code net) ≡ turns_a net = turns_are net sound (step_fits net sound accepted) in
-        let same : turn n k code ≡ turn_a z code = λ x cells. carried_out ((sym sizes.signals) x) ((sym sizes.instances) x) (fetched code (pc_of cells)) cells in
+        let same : turn_of n k code ≡ turn_a z code = λ x cells. carried_out ((sym sizes.signals) x) ((sym sizes.instances) x) (fetched code (pc_of cells)) cells in
         let blank_is : zeros (74 + n + 16 * k) ≡ blank_a z = λ x. replicate (74 + (sym sizes.signals) x + 16 * (sym sizes.instances) x) 0 in
         record {
           blank = subst (StandsA net (first_state net) 0) blank_is (blank_stands net (λ i. Since 0) 74);
@@ -213,9 +213,9 @@ module _ (net : Network) (sound : IsSound net) where
               let s = scanned old new ins t now dt cells later small count passes stands solves in
               let q = begin_a now ins cells in
               let done : progress_of (turned (turn_a z code) (turns_a net) q) ≡ 1 =
-              subst (λ f. progress_of (turned f (turns_a net) q) ≡ 1) same (subst (λ j. progress_of (turned (turn n k code) j q) ≡ 1) turns s.done) in
+              subst (λ f. progress_of (turned f (turns_a net) q) ≡ 1) same (subst (λ j. progress_of (turned (turn_of n k code) j q) ≡ 1) turns s.done) in
               let held : StandsA net new now (turned (turn_a z code) (turns_a net) q) =
-              subst (λ f. StandsA net new now (turned f (turns_a net) q)) same (subst (λ j. StandsA net new now (turned (turn n k code) j q)) turns s.stands) in
+              subst (λ f. StandsA net new now (turned f (turns_a net) q)) same (subst (λ j. StandsA net new now (turned (turn_of n k code) j q)) turns s.stands) in
               record {
                 running = λ j l.
                     ap progress_said (subst (λ f. progress_of (turned f j q) ≡ 0) same (s.running j (omega (arith, turns))));

@@ -8,7 +8,7 @@ use Rattle.std.proofs.lemmas.List.FromFn.{length-map-range_with_len, get_or-map-
 use Rattle.ps_model.specs.declared.kind.Kind.{Kind}
 use Rattle.ps_model.specs.Formula.{Formula, value}
 use Rattle.ps_model.specs.Action.{Action, Actual, assigns, calls}
-use Rattle.ps_model.specs.Blocks.{Block_state, block, moved, outs, output_count, safe_output, ready_in, error_in}
+use Rattle.ps_model.specs.Blocks.{Block_state, block, moved, outs, output_count}
 use Rattle.ps_model.specs.Budgets.{boolean_count}
 use Rattle.ps_model.specs.Kept.{Kept, StandsBy, Since, stepped_at}
 use Rattle.ps_model.specs.Network.{Network, signal_count, instance_count, kind_at, first_pin, is_call_of}
@@ -18,6 +18,7 @@ use Rattle.ps_model.specs.Stored.{IsKept, stored}
 use Rattle.ps_model.proofs.Keeping.{go_on}
 use Rattle.ps_model.proofs.Once.{none_after}
 use Rattle.ps_model.proofs.Sixteen.{loads_loaded, step_kept}
+use Rattle.ps_model.proofs.OutputLengths.{length-outs}
 use Rattle.ps_machine.specs.Bytes.{replaced}
 use Rattle.ps_machine.specs.Machines.{turned}
 use Rattle.ps_machine.specs.Standing.{StandsBlock}
@@ -30,20 +31,11 @@ use Rattle.ps_machine.proofs.Places.{length-replaced}
 use Rattle.ps_stackvm.specs.declared.instruction.Instruction.{Instruction}
 use Rattle.ps_stackvm.specs.declared.instruction.Instruction.TheVariants.{Store, Call}
 use Rattle.ps_stackvm.specs.Code.{expression_code, pins_code, step_code}
+use Rattle.ps_stackvm.specs.Turn.{turn_of}
 use Rattle.ps_stackgen.proofs.Instructions.{HasAt, has_front, has_back, size_all, size_all-append}
-use Rattle.ps_stackgen.proofs.Holding.{Holds, turn, store_turn}
+use Rattle.ps_stackgen.proofs.Holding.{Holds, store_turn}
 use Rattle.ps_stackgen.proofs.Running.{Comes, stays, one_turn, comes_on, comes_as, expression_runs, pins_run}
 use Rattle.ps_stackgen.proofs.Calling.{call_turn}
-
--- how many outputs there are
-length-outs : (kind : Kind) (q mode : ℕ) → length (outs kind q mode) ≡ output_count kind
-unfolding outs output_count
-length-outs kind q mode =
-    omega (
-      arith,
-      length-append (map (safe_output kind q mode) (range_with_len 0 (length (block kind).outputs))) (ready_in q ∷ error_in q ∷ []),
-      length-map-range_with_len (safe_output kind q mode) 0 (length (block kind).outputs),
-    )
 
 -- the time up to which the bytes of an instance speak: that of the last scan until it is called in this one
 abbrev pub clock : Network → (t now : ℕ) → List Action → ℕ → ℕ
@@ -71,7 +63,7 @@ module _ (net : Network) (t now dt : ℕ) (later : t ≤ now) (small : now < 2 ^
       let v' = (done net dt (assigns s e) m).signals in
       let b = value m.signals e in
       let x = expression_runs n k now blocks code m.signals e 34 cells pc [] is (has_front code pc ce (Store s ∷ []) has) h (lit< tt) in
-      let cells1 = turned (turn n k code) (length ce) cells in
+      let cells1 = turned (turn_of n k code) (length ce) cells in
       let pc1 = pc + size_all ce in
       let back = has_back code pc ce (Store s ∷ []) has in
       let turn = store_turn n k now blocks code cells1 pc1 s [] m.signals v' b back.0 x.there (lit< tt) low
@@ -114,7 +106,7 @@ module _ (net : Network) (t now dt : ℕ) (later : t ≤ now) (small : now < 2 ^
       let many : length list ≡ count = length-map-range_with_len pins 0 count in
       let some : count ≤ 13 = fits.few in
       let x = pins_run n k now blocks code m.signals kind args count 0 cells pc [] fits.pins (has_front code pc cp (call ∷ []) has) h (omega arith) in
-      let cells1 = turned (turn n k code) (length cp) cells in
+      let cells1 = turned (turn_of n k code) (length cp) cells in
       let pc1 = pc + size_all cp in
       let back = has_back code pc cp (call ∷ []) has in
       let within = fits.within in
@@ -133,13 +125,13 @@ module _ (net : Network) (t now dt : ℕ) (later : t ≤ now) (small : now < 2 ^
       let k1 : Kept = stepped_at kind limit (λ j. slice_index_or list j false) now kept in
       let turn1 = call_turn n k now blocks code cells1 pc1 i o limit kind list m.signals kept back.0 x.there many (omega (arith, many)) within
       (length-outs kind k1.code k1.mode) fits.room space (loads_loaded kind (bytes_at i blocks) kept sb.loads) in
-      let turn2 : Holds n now blocks' (turn n k code cells1) (pc1 + 10) [] (called_signals o (output_count kind) (outs kind k'.code k'.mode) m.signals) =
-      subst (λ (p : ℕ → Bool). Holds n now (replaced blocks (16 * i) (stored (stepped_at kind limit p now kept))) (turn n k code cells1) (pc1 + 10) []
+      let turn2 : Holds n now blocks' (turn_of n k code cells1) (pc1 + 10) [] (called_signals o (output_count kind) (outs kind k'.code k'.mode) m.signals) =
+      subst (λ (p : ℕ → Bool). Holds n now (replaced blocks (16 * i) (stored (stepped_at kind limit p now kept))) (turn_of n k code cells1) (pc1 + 10) []
       (called_signals o (output_count kind) (outs kind (stepped_at kind limit p now kept).code (stepped_at kind limit p now kept).mode) m.signals)) same_pins turn1 in
       let os_are : outs kind k'.code k'.mode ≡ outs kind b'.code b'.mode = λ z. outs kind (goes.code z) (goes.mode z) in
       let v_is : called_signals o (output_count kind) (outs kind k'.code k'.mode) m.signals ≡ m'.signals =
       ap (λ os. called_signals o (output_count kind) os m.signals) os_are in
-      let turn3 : Holds n now blocks' (turn n k code cells1) (pc1 + 10) [] m'.signals = subst (Holds n now blocks' (turn n k code cells1) (pc1 + 10) []) v_is turn2 in
+      let turn3 : Holds n now blocks' (turn_of n k code cells1) (pc1 + 10) [] m'.signals = subst (Holds n now blocks' (turn_of n k code cells1) (pc1 + 10) []) v_is turn2 in
       let y = one_turn n k now code blocks blocks' cells1 pc1 (pc1 + 10) list [] m.signals m'.signals x.there turn3 in
       let el : length cp + 1 ≡ length (cp ++ call ∷ []) = sym (length-append cp (call ∷ [])) in
       let ep : pc1 + 10 ≡ pc + size_all (cp ++ call ∷ []) = omega (arith, size_all-append cp (call ∷ [])) in
@@ -199,7 +191,7 @@ module _ (net : Network) (t now dt : ℕ) (later : t ≤ now) (small : now < 2 ^
       let ca = step_code net a in
       let cr = flat_map (step_code net) rest in
       let x = step_led a rest m cells pc blocks fits.0 once timely (has_front code pc ca cr has) h stand in
-      let cells1 = turned (turn n k code) (length ca) cells in
+      let cells1 = turned (turn_of n k code) (length ca) cells in
       let pc1 = pc + size_all ca in
       let y = steps_led rest (done net dt a m) cells1 pc1 x.blocks fits.1 (once_after net a rest once) (timely_after net dt (now - t) a rest m once timely) (has_back code pc ca cr has) x.comes.there x.stand in
       let el : length ca + length cr ≡ length (ca ++ cr) = sym (length-append ca cr) in

@@ -9,9 +9,10 @@ ghost use Rattle.ps_model.specs.Sized.{AreSizesOf};
 ghost use Rattle.ps_model.specs.Typing.{Accepted};
 ghost use Rattle.ps_machine.specs.Keeping.{KeepsExactly};
 ghost use Rattle.ps_stackvm.specs.Code.{bytes_of, pins_code, step_code, code_a};
-ghost use Rattle.ps_stackvm.specs.Stands.{machine_a, StandsA};
+ghost use Rattle.ps_stackvm.specs.Channel.{machine_a};
+ghost use Rattle.ps_stackvm.specs.Stands.{StandsA};
 
-use crate::emit::{emit, emit_expression, emit_pin};
+use crate::emit::{emit_expression, emit_pin};
 use crate::laws::{stack_code_is_short, stack_code_keeps_the_meaning};
 use ps_base::Memory;
 use ps_machine::calls::{call_limit, free_value};
@@ -55,7 +56,7 @@ fn emit_step(code: &mut Vec<u8>, app: &App, step: &Step) -> Result<(), Memory>
     match step {
         Step::Assign { target, value } => {
             emit_expression(code, value)?;
-            emit(code, Instruction::Store(*target))
+            Instruction::Store(*target).write(code)
         }
         Step::Call { instance, args } => {
             let kind = app.instance_kind(*instance);
@@ -66,7 +67,7 @@ fn emit_step(code: &mut Vec<u8>, app: &App, step: &Step) -> Result<(), Memory>
                 first: app.first_pin(*instance),
                 limit: call_limit(kind, args),
             };
-            emit(code, call)
+            call.write(code)
         }
     }
 }
@@ -80,6 +81,6 @@ fn emit_application(alloc: Global, app: &App) -> Result<Vec<u8>, Memory>
     for k in 0..app.step_count() {
         emit_step(&mut code, app, app.step(k))?;
     }
-    emit(&mut code, Instruction::End)?;
+    Instruction::End.write(&mut code)?;
     Ok(code)
 }

@@ -7,7 +7,8 @@ ghost use Rattle.ps_model.specs.Sized.{AreSizesOf};
 ghost use Rattle.ps_model.specs.Typing.{Accepted};
 ghost use Rattle.ps_machine.specs.Keeping.{Keeps, KeepsExactly};
 ghost use Rattle.ps_stackvm.specs.Code.{network_code, code_a};
-ghost use Rattle.ps_stackvm.specs.Stands.{machine_a, StandsA};
+ghost use Rattle.ps_stackvm.specs.Channel.{machine_a};
+ghost use Rattle.ps_stackvm.specs.Stands.{StandsA};
 
 use ps_model::app::App;
 

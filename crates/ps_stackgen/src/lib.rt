@@ -1,4 +1,7 @@
-// The compiler of channel A: from an application to stack code.
+//! The compiler of channel A: from an accepted application to stack code, which keeps its meaning.
+//!
+//! - `image`: the code of an application; `emit` writes the code of its expressions and pins.
+//! - `laws`: what the code promises, and how long it is.
 #![tactic(auto)]
 
 mod emit;

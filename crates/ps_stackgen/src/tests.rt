@@ -1,7 +1,7 @@
 // Code whose bytes are worked out by hand. M calls a block of SF_EmergencyStop and drives its motor:
 // `E(Activate := TRUE, S_EStopIn := S_In, Reset := Ack);` and `S_Motor := E.S_EStopOut AND Run;`.
 
-use crate::emit::{emit, emit_expression};
+use crate::emit::emit_expression;
 use crate::image::emit_pins;
 use ps_base::Memory;
 use ps_model::expr::{Expr, Exprs};
@@ -24,8 +24,8 @@ fn the_assignment_of_m(rt: HostRuntime) -> Result<(), Fail> {
     let value = and(rt.alloc(), Expr::Signal(4), Expr::Signal(2))?;
     let mut code = Vec::new(rt.alloc());
     emit_expression(&mut code, &value)?;
-    emit(&mut code, Instruction::Store(3))?;
-    emit(&mut code, Instruction::End)?;
+    Instruction::Store(3).write(&mut code)?;
+    Instruction::End.write(&mut code)?;
     assert_eq!(rt;
         code.as_slice(),
         [1, 0, 4, 1, 0, 2, 4, 2, 0, 3, 7].as_slice()
@@ -55,7 +55,7 @@ fn the_call_of_m(rt: HostRuntime) -> Result<(), Fail> {
         first: 4,
         limit: 0,
     };
-    emit(&mut code, call)?;
+    call.write(&mut code)?;
     assert_eq!(rt; code.as_slice(), CALL.as_slice());
     Ok(())
 }

@@ -15,11 +15,13 @@ use Rattle.ps_machine.specs.Bytes.{bit, replaced}
 use Rattle.ps_machine.proofs.Places.{index_before}
 use Rattle.ps_block.specs.declared.block.Outs.{Outs}
 use Rattle.ps_block.specs.declared.block.Pins.{Pins}
-use Rattle.ps_block.specs.Pins.{pin_of}
+use Rattle.ps_model.specs.PinBits.{pin_of}
 use Rattle.ps_block.specs.Shown.{Shows, shown}
-use Rattle.ps_stackvm.specs.Cells.{time_of, block_bytes, with_pc, with_height, trapped}
+use Rattle.ps_stackvm.specs.declared.trap.Trap.TheVariants.{NoState}
+use Rattle.ps_stackvm.specs.Cells.{scan_time, block_bytes, with_pc, with_height, trapped}
 use Rattle.ps_stackvm.specs.Calling.{topmost, pins_in, stepped_to, called_with}
-use Rattle.ps_stackvm.specs.Stepping.{Steps, stepped_by}
+use Rattle.ps_block.specs.Stepping.{stepped_by}
+use Rattle.ps_stackvm.specs.Stepping.{Steps}
 
 -- bytes for which no state of the kind is stored do not load
 pub not_loaded : LoadsExactly → (kind : Kind) (bytes : List ℕ) → AreBytes bytes → ((k : Kept) → Loads kind bytes k → ⊥) →
@@ -63,15 +65,15 @@ shown_after first next kind o c =
 
 module _ (signals i first limit next : ℕ) (kind : Kind) (cells : List ℕ) (p : ℕ) (is-place : p ≡ 74 + signals + 16 * i) where
   pub called_none : (new : List ℕ) → new ≡ take (p + 16 - p) (drop p cells) → loaded kind (take (p + 16 - p) (drop p cells)) ≡ None →
-      trapped 7 (put_mid p (p + 16 - p) cells new) ≡ called_with signals i first limit next kind (loaded kind (block_bytes signals i cells)) cells
+      trapped NoState (put_mid p (p + 16 - p) cells new) ≡ called_with signals i first limit next kind (loaded kind (block_bytes signals i cells)) cells
   called_none new kept none =
-      ap (λ l. trapped 7 (put_mid p (p + 16 - p) cells l)) kept
-      ∙ ap (trapped 7) (put_same p (p + 16 - p) cells)
+      ap (λ l. trapped NoState (put_mid p (p + 16 - p) cells l)) kept
+      ∙ ap (trapped NoState) (put_same p (p + 16 - p) cells)
       ∙ ap (λ s. called_with signals i first limit next kind s cells)
       (sym (ap (loaded kind) (sym (part_is cells p (74 + signals + 16 * i) is-place)) ∙ none))
 
   step_is : (pins : Pins) (new now-cells : List ℕ) (o : Outs) → 74 + signals + 16 * i + 16 ≤ length cells → Steps kind pins (block_bytes signals i cells) new o →
-      pins.limit ≡ limit → pins.now ≡ time_of cells → ((j : ℕ) → pin_of pins.bits j ≡ pins_in (topmost (boolean_count kind) cells) j) →
+      pins.limit ≡ limit → pins.now ≡ scan_time cells → ((j : ℕ) → pin_of pins.bits j ≡ pins_in (topmost (boolean_count kind) cells) j) →
       now-cells ≡ replaced cells (74 + signals + 16 * i) new →
       shown_after first next kind o now-cells ≡ called_with signals i first limit next kind (loaded kind (block_bytes signals i cells)) cells
   step_is pins new now-cells o end steps same-limit same-now same-pins is-now =
@@ -86,7 +88,7 @@ module _ (signals i first limit next : ℕ) (kind : Kind) (cells : List ℕ) (p 
       ∙ ap (with_height height) is-now
       ∙ set_replaced cells 4 place height new (omega arith) (omega arith) in
       let pins-are : pin_of pins.bits ≡ top = λ x j. same-pins j x in
-      let state : kept' ≡ stepped_at kind limit top (time_of cells) steps.kept =
+      let state : kept' ≡ stepped_at kind limit top (scan_time cells) steps.kept =
       ap (λ l. stepped_at kind l (pin_of pins.bits) pins.now steps.kept) same-limit
       ∙ ap (λ q. stepped_at kind limit q pins.now steps.kept) pins-are
       ∙ ap (λ t. stepped_at kind limit top t steps.kept) same-now in
@@ -98,7 +100,7 @@ module _ (signals i first limit next : ℕ) (kind : Kind) (cells : List ℕ) (p 
 
   pub called_some : (kind' : Kind) → kind' ≡ kind → (pins : Pins) (new : List ℕ) (o : Outs) → 74 + signals + 16 * i + 16 ≤ length cells →
       Steps kind pins (take (p + 16 - p) (drop p cells)) new o →
-      pins.limit ≡ limit → pins.now ≡ time_of cells → ((j : ℕ) → pin_of pins.bits j ≡ pins_in (topmost (boolean_count kind) cells) j) →
+      pins.limit ≡ limit → pins.now ≡ scan_time cells → ((j : ℕ) → pin_of pins.bits j ≡ pins_in (topmost (boolean_count kind) cells) j) →
       shown_after first next kind' o (put_mid p (p + 16 - p) cells new) ≡ called_with signals i first limit next kind (loaded kind (block_bytes signals i cells)) cells
   called_some kind' same-kind pins new o end steps same-limit same-now same-pins =
       let place = 74 + signals + 16 * i in

@@ -144,8 +144,8 @@ bits_eight (a ∷ b ∷ c ∷ d ∷ e ∷ f ∷ g ∷ []) l = refl
 bits_eight (a ∷ b ∷ c ∷ d ∷ e ∷ f ∷ g ∷ h ∷ []) l = refl
 bits_eight (a ∷ b ∷ c ∷ d ∷ e ∷ f ∷ g ∷ h ∷ i ∷ xs) l = absurd (omega arith)
 
-pub gathered : (xs : List ℕ) → length xs ≤ 8 → list_any is_no_bit xs ≡ false → word xs * 72624976668147840 % 2 ^ 64 / 2 ^ 56 ≡ bits_of xs
-gathered xs l h =
+pub gathers_bits : (xs : List ℕ) → length xs ≤ 8 → list_any is_no_bit xs ≡ false → word xs * 72624976668147840 % 2 ^ 64 / 2 ^ 56 ≡ bits_of xs
+gathers_bits xs l h =
     let s = each_small xs h in
     ap (λ n. n * 72624976668147840 % 2 ^ 64 / 2 ^ 56) (sym (word_eight xs l))
     ∙ gather_eight (get_or xs 0 0) (get_or xs 1 0) (get_or xs 2 0) (get_or xs 3 0) (get_or xs 4 0) (get_or xs 5 0) (get_or xs 6 0) (get_or xs 7 0) (s 0) (s 1) (s 2) (s 3) (s 4) (s 5) (s 6) (s 7)

@@ -6,7 +6,7 @@ use Rattle.std.proofs.lemmas.List.{length-map, map-append}
 use Rattle.std.proofs.lemmas.List.FromFn.{length-map-range_with_len, map-range_with_len_more}
 use Rattle.ps_machine.specs.Bytes.{bit, replaced}
 use Rattle.ps_machine.proofs.Places.{replaced_more}
-use Rattle.ps_block.specs.Pins.{pin_of}
+use Rattle.ps_model.specs.PinBits.{pin_of}
 
 -- one more safe output
 pub output_more : (now c : List ℕ) (a j b safe : ℕ) → a + j < length c → now ≡ replaced c a (map bit (map (pin_of safe) (range_with_len 0 j))) →

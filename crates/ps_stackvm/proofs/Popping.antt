@@ -8,10 +8,10 @@ use Rattle.std.proofs.lemmas.List.{drop-take, drop-drop, take-append-drop, get_o
 use Rattle.std.proofs.lemmas.List.Folds.{list_any-append}
 use Rattle.std.proofs.lemmas.Nat.Bits.{bit_at_cat_low, bit_at_cat_high}
 use Rattle.ps_machine.specs.Bytes.{is_no_bit}
-use Rattle.ps_block.specs.Pins.{pin_of}
+use Rattle.ps_model.specs.PinBits.{pin_of}
 use Rattle.ps_stackvm.specs.Cells.{height_of}
 use Rattle.ps_stackvm.specs.Calling.{pins_in, topmost}
-use Rattle.ps_stackvm.proofs.Gathering.{word, word_is, word_shifted, none_odd, odd_none, gathered, bit_of}
+use Rattle.ps_stackvm.proofs.Gathering.{word, word_is, word_shifted, none_odd, odd_none, gathers_bits, bit_of}
 
 -- at most eight bytes, as one number
 pub record IsNumberOf (xs : List ℕ) (number : ℕ) : Type 0 where
@@ -76,7 +76,7 @@ pub pins_found : (xs : List ℕ) (number bits : ℕ) → IsNumberOf xs number �
     bits ≡ number * 72624976668147840 % 2 ^ 64 / 2 ^ 56 → (j : ℕ) → pin_of bits j ≡ pins_in xs j
 pins_found xs number bits h none bits-are j =
     let all = none_found xs number h none in
-    ap (λ b. bit_at b j == 1) (bits-are ∙ ap (λ m. m * 72624976668147840 % 2 ^ 64 / 2 ^ 56) h.is ∙ gathered xs h.long all)
+    ap (λ b. bit_at b j == 1) (bits-are ∙ ap (λ m. m * 72624976668147840 % 2 ^ 64 / 2 ^ 56) h.is ∙ gathers_bits xs h.long all)
     ∙ ap (λ y. y == 1) (bit_of xs all j)
 
 -- ---- More than eight bytes: the first eight of them, and those behind.
@@ -103,24 +103,24 @@ module _ (bytes : List ℕ) (n : ℕ) (long : n ≤ length bytes) (more : 9 ≤ 
       let at : length bytes - (n - 8) ≡ (length bytes - n) + 8 = omega arith in
       ap (λ k. drop k bytes) at ∙ sym (drop-drop 8 (length bytes - n) bytes)
 
-  parts : list_any is_no_bit all_pins ≡ (list_any is_no_bit (take 8 all_pins) || list_any is_no_bit (drop 8 all_pins))
-  parts = ap (list_any is_no_bit) (sym (take-append-drop 8 all_pins)) ∙ list_any-append is_no_bit (take 8 all_pins) (drop 8 all_pins)
+  odd_in_halves : list_any is_no_bit all_pins ≡ (list_any is_no_bit (take 8 all_pins) || list_any is_no_bit (drop 8 all_pins))
+  odd_in_halves = ap (list_any is_no_bit) (sym (take-append-drop 8 all_pins)) ∙ list_any-append is_no_bit (take 8 all_pins) (drop 8 all_pins)
 
   pub none_at_first : list_any is_no_bit (drop (length (take (length bytes - (n - 8)) bytes) - 8) (take (length bytes - (n - 8)) bytes)) ≡ true →
       list_any is_no_bit (drop (length bytes - n) bytes) ≡ true
   unfolding all_pins
-  none_at_first h = parts ∙ ap (λ b. b || list_any is_no_bit (drop 8 all_pins)) (ap (list_any is_no_bit) (sym first_is) ∙ h)
+  none_at_first h = odd_in_halves ∙ ap (λ b. b || list_any is_no_bit (drop 8 all_pins)) (ap (list_any is_no_bit) (sym first_is) ∙ h)
 
   pub none_behind : list_any is_no_bit (drop (length bytes - (n - 8)) bytes) ≡ true → list_any is_no_bit (drop (length bytes - n) bytes) ≡ true
   unfolding all_pins
   none_behind h =
-      parts ∙ ap (λ b. list_any is_no_bit (take 8 all_pins) || b) (ap (list_any is_no_bit) (sym behind_is) ∙ h) ∙ or_true (list_any is_no_bit (take 8 all_pins))
+      odd_in_halves ∙ ap (λ b. list_any is_no_bit (take 8 all_pins) || b) (ap (list_any is_no_bit) (sym behind_is) ∙ h) ∙ or_true (list_any is_no_bit (take 8 all_pins))
 
   pub all_are : list_any is_no_bit (drop (length (take (length bytes - (n - 8)) bytes) - 8) (take (length bytes - (n - 8)) bytes)) ≡ false →
       list_any is_no_bit (drop (length bytes - (n - 8)) bytes) ≡ false → list_any is_no_bit (drop (length bytes - n) bytes) ≡ false
   unfolding all_pins
   all_are f b =
-      parts
+      odd_in_halves
       ∙ or_from (list_any is_no_bit (take 8 all_pins)) (list_any is_no_bit (drop 8 all_pins))
       (ap (list_any is_no_bit) (sym first_is) ∙ f) (ap (list_any is_no_bit) (sym behind_is) ∙ b)
 

@@ -9,11 +9,13 @@ use Rattle.ps_model.specs.Kept.{Kept, stepped_at}
 use Rattle.ps_model.specs.Stored.{stored, loaded}
 use Rattle.ps_machine.specs.Bytes.{bit, is_no_bit, replaced}
 use Rattle.ps_machine.specs.Kinds.{kind_of}
-use Rattle.ps_stackvm.specs.Cells.{height_of, time_of, block_bytes, with_pc, with_height, trapped}
+use Rattle.ps_stackvm.specs.declared.trap.Trap.TheVariants.{StackHeight, NotBoolean, NoSignal, NoInstance, NoState}
+use Rattle.ps_stackvm.specs.declared.layout.TheConstants.{STACK_AT, STACK_SIZE, SIGNALS_AT, INSTANCE_SIZE}
+use Rattle.ps_stackvm.specs.Cells.{height_of, scan_time, block_bytes, with_pc, with_height, trapped}
 
 -- the topmost n bytes of the stack, the lowest first
 abbrev pub topmost : ℕ → List ℕ → List ℕ
-topmost n cells = take n (drop (10 + (height_of cells - n)) cells)
+topmost n cells = take n (drop (STACK_AT + (height_of cells - n)) cells)
 
 -- pin j is TRUE where byte j is 1
 abbrev pub pins_in : List ℕ → ℕ → Bool
@@ -23,31 +25,31 @@ pins_in bytes j = slice_index bytes j == 1
 abbrev pub stepped_to : (signals instance first next : ℕ) → Kind → Kept → List ℕ → List ℕ
 stepped_to signals instance first next kind kept cells =
     let popped = with_height (height_of cells - boolean_count kind) cells in
-    let with_state = replaced popped (74 + signals + 16 * instance) (stored kept) in
-    with_pc next (replaced with_state (74 + first) (map bit (outs kind kept.code kept.mode)))
+    let with_state = replaced popped (SIGNALS_AT + signals + INSTANCE_SIZE * instance) (stored kept) in
+    with_pc next (replaced with_state (SIGNALS_AT + first) (map bit (outs kind kept.code kept.mode)))
 
 -- a step of what the instance's bytes keep, at the time of the scan, with the popped pins
 abbrev pub called_with : (signals instance first limit next : ℕ) → Kind → Option Kept → List ℕ → List ℕ
-called_with signals instance first limit next kind None cells = trapped 7 cells
+called_with signals instance first limit next kind None cells = trapped NoState cells
 called_with signals instance first limit next kind (Some kept) cells =
     let pins = pins_in (topmost (boolean_count kind) cells) in
-    stepped_to signals instance first next kind (stepped_at kind limit pins (time_of cells) kept) cells
+    stepped_to signals instance first next kind (stepped_at kind limit pins (scan_time cells) kept) cells
 
 -- a call of an instance as a kind
 abbrev pub called_as : (signals instance first limit next : ℕ) → Kind → List ℕ → List ℕ
 called_as signals instance first limit next kind cells =
-    if nat_lt signals (first + output_count kind) then trapped 5 cells
-    else (if nat_lt 64 (height_of cells) || nat_lt (height_of cells) (boolean_count kind) then trapped 3 cells
-    else (if list_any is_no_bit (topmost (boolean_count kind) cells) then trapped 4 cells
+    if nat_lt signals (first + output_count kind) then trapped NoSignal cells
+    else (if nat_lt STACK_SIZE (height_of cells) || nat_lt (height_of cells) (boolean_count kind) then trapped StackHeight cells
+    else (if list_any is_no_bit (topmost (boolean_count kind) cells) then trapped NotBoolean cells
     else called_with signals instance first limit next kind (loaded kind (block_bytes signals instance cells)) cells))
 
 -- the same where the number is that of a kind
 abbrev pub called_by : (signals instance first limit next : ℕ) → Option Kind → List ℕ → List ℕ
-called_by signals instance first limit next None cells = trapped 6 cells
+called_by signals instance first limit next None cells = trapped NoInstance cells
 called_by signals instance first limit next (Some kind) cells = called_as signals instance first limit next kind cells
 
 -- CALL steps an instance.
 abbrev pub after_call : (signals instances instance kind first limit next : ℕ) → List ℕ → List ℕ
 after_call signals instances instance kind first limit next cells =
-    if nat_le instances instance then trapped 6 cells
+    if nat_le instances instance then trapped NoInstance cells
     else called_by signals instance first limit next (kind_of kind) cells

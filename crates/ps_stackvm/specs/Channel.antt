@@ -1,25 +1,26 @@
--- Channel A as its callers see it.
+-- Channel A as a machine.
 use Rattle.std.specs.Prelude.{ℕ, ◌+◌, ◌*◌, List, replicate}
-use Rattle.ps_model.specs.declared.channel.Region.{Region}
-use Rattle.ps_model.specs.declared.channel.Region.TheVariants.{Code, Cells}
 use Rattle.ps_model.specs.declared.sizes.Sizes.{Sizes}
-use Rattle.ps_machine.specs.Bytes.{overwritten}
-
--- its code and its cells, and the sizes of the application
-pub record ChannelA : Type 0 where
-  pub sizes : Sizes
-  pub code : List ℕ
-  pub cells : List ℕ
+use Rattle.ps_machine.specs.Machines.{Workings, Machine, machine_of}
+use Rattle.ps_machine.specs.Progressing.{progress_said}
+use Rattle.ps_stackvm.specs.declared.layout.TheConstants.{SIGNALS_AT, INSTANCE_SIZE}
+use Rattle.ps_stackvm.specs.Cells.{progress_of}
+use Rattle.ps_stackvm.specs.Turn.{turn_a, begin_a, report_a}
 
 -- the cells at the start: all 0, of the length that the sizes give
 abbrev pub blank_a : Sizes → List ℕ
-blank_a sizes = replicate (74 + sizes.signals + 16 * sizes.instances) 0
+blank_a sizes = replicate (SIGNALS_AT + sizes.signals + INSTANCE_SIZE * sizes.instances) 0
 
-abbrev pub region_of : Region → ChannelA → List ℕ
-region_of Code channel = channel.code
-region_of Cells channel = channel.cells
+-- how channel A's cells change and what they say, for an application of these sizes
+abbrev pub workings_a : Sizes → Workings
+workings_a sizes = record {
+  begin = begin_a;
+  turn = turn_a sizes;
+  progress = λ cells. progress_said (progress_of cells);
+  report = report_a sizes;
+  blank = blank_a sizes;
+}
 
--- bytes of a region are replaced where they lie within it
-abbrev pub spoiled : Region → (at : ℕ) → (bytes : List ℕ) → ChannelA → ChannelA
-spoiled Code at bytes channel = record channel { code = overwritten channel.code at bytes }
-spoiled Cells at bytes channel = record channel { cells = overwritten channel.cells at bytes }
+-- channel A as a machine, with this code and this budget of turns
+abbrev pub machine_a : Sizes → (image : List ℕ) → (budget : ℕ) → Machine
+machine_a sizes image budget = machine_of (workings_a sizes) image budget

@@ -23,6 +23,7 @@ encoded Or = 5 ∷ []
 encoded (Call instance kind first limit) = 6 ∷ (to_be_bytes w16 instance ++ (kind ∷ (to_be_bytes w16 first ++ to_be_bytes w32 limit)))
 encoded End = 7 ∷ []
 
+-- the bytes of instructions one after another
 abbrev pub bytes_of : List Instruction → List ℕ
 bytes_of is = flat_map encoded is
 

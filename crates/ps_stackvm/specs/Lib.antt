@@ -1,9 +1,12 @@
+-- What a reader must believe: what channel A's bytes are, what a turn does, what the compiler writes, and when cells stand for a state.
+pub mod Traps
 pub mod Cells
 pub mod Instructions
 pub mod Stack
 pub mod Calling
-pub mod Stepping
 pub mod Turn
 pub mod Channel
 pub mod Code
 pub mod Stands
+-- Apparatus of contracts: one step of an instance in its sixteen bytes.
+pub mod Stepping

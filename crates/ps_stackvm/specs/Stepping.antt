@@ -1,16 +1,12 @@
 -- One step of an instance in its sixteen bytes.
 use Rattle.std.specs.Prelude.{◌≡◌, ℕ, List, Some}
 use Rattle.ps_model.specs.declared.kind.Kind.{Kind}
-use Rattle.ps_model.specs.Kept.{Kept, stepped_at}
+use Rattle.ps_model.specs.Kept.{Kept}
 use Rattle.ps_model.specs.Stored.{loaded, stored}
 use Rattle.ps_block.specs.declared.block.Outs.{Outs}
 use Rattle.ps_block.specs.declared.block.Pins.{Pins}
-use Rattle.ps_block.specs.Pins.{pin_of}
 use Rattle.ps_block.specs.Shown.{Shows}
-
--- what the kind keeps after a step with these pins
-abbrev pub stepped_by : Kind → Pins → Kept → Kept
-stepped_by kind pins kept = stepped_at kind pins.limit (pin_of pins.bits) pins.now kept
+use Rattle.ps_block.specs.Stepping.{stepped_by}
 
 -- The bytes before load, those after are stored by the step, and the answer shows it.
 pub record Steps (kind : Kind) (pins : Pins) (before after : List ℕ) (outs : Outs) : Type 0 where

@@ -6,14 +6,16 @@ ghost use Rattle.ps_model.specs.BlockLaws.{AreBytes};
 ghost use Rattle.ps_model.specs.Budgets.{boolean_count};
 ghost use Rattle.ps_model.specs.Stored.{loaded};
 ghost use Rattle.ps_machine.specs.Bytes.{bit, replaced};
-ghost use Rattle.ps_block.specs.Pins.{pin_of};
+ghost use Rattle.ps_model.specs.PinBits.{pin_of};
 ghost use Rattle.ps_block.specs.Shown.{shown};
 ghost use Rattle.ps_stackvm.specs.Cells.{block_bytes, with_pc, with_height};
 ghost use Rattle.ps_stackvm.specs.Calling.{after_call, called_as, called_with, pins_in, topmost};
 ghost use Rattle.ps_stackvm.specs.Stepping.{Steps};
 
 use crate::cells::{set_pc, time, trap};
+use crate::layout::{HEIGHT_AT, INSTANCE_SIZE, SIGNALS_AT, STACK_SIZE};
 use crate::pins::{pins_on_stack, put_outputs};
+use crate::trap::Trap;
 use ps_actuators::{Edm, OutControl, SafetyRequest};
 use ps_block::{Outs, Pins, SafetyBlock};
 use ps_guards::{GuardLocking, GuardMonitoring};
@@ -38,29 +40,29 @@ pub(crate) struct Site {
 impl Site {
     // Where the sixteen bytes of the instance begin.
     fn place(self) -> usize
-        ensures { result ≡ 74 + self.signals + 16 * self.instance }
+        ensures { result ≡ SIGNALS_AT + self.signals + INSTANCE_SIZE * self.instance }
     {
-        74 + self.signals as usize + 16 * self.instance as usize
+        SIGNALS_AT + self.signals as usize + INSTANCE_SIZE * self.instance as usize
     }
 }
 
 // CALL of an instance, of which there are so many, as the kind with a number.
 pub(crate) fn call(cells: &mut [u8], instances: u16, kind: u8, site: Site)
-    requires { 74 + site.signals + 16 * instances ≤ length cells.old }
+    requires { SIGNALS_AT + site.signals + INSTANCE_SIZE * instances ≤ length cells.old }
     ensures { cells.new ≡ after_call site.signals instances site.instance kind site.first site.limit site.next cells.old }
 {
     if site.instance >= instances {
-        return trap(cells, 6);
+        return trap(cells, Trap::NoInstance);
     }
     match kind_by_number(kind) {
         Some(kind) => call_as(cells, kind, site),
-        None => trap(cells, 6),
+        None => trap(cells, Trap::NoInstance),
     }
 }
 
 // CALL of an instance that is there.
 fn call_as(cells: &mut [u8], kind: Kind, site: Site)
-    requires { 74 + site.signals + 16 * site.instance + 16 ≤ length cells.old }
+    requires { SIGNALS_AT + site.signals + INSTANCE_SIZE * site.instance + 16 ≤ length cells.old }
     ensures { cells.new ≡ called_as site.signals site.instance site.first site.limit site.next kind cells.old }
 {
     match kind {
@@ -83,7 +85,7 @@ fn call_as(cells: &mut [u8], kind: Kind, site: Site)
 // The same as a block. What the site has is passed part by part, in registers: a struct would go through memory.
 #[inline(always)]
 fn call_block<B: SafetyBlock>(cells: &mut [u8], site: Site)
-    requires { 74 + site.signals + 16 * site.instance + 16 ≤ length cells.old }
+    requires { SIGNALS_AT + site.signals + INSTANCE_SIZE * site.instance + 16 ≤ length cells.old }
     ensures { cells.new ≡ called_as site.signals site.instance site.first site.limit site.next B.KIND cells.old }
 {
     call_apart::<B>(
@@ -108,15 +110,15 @@ fn call_apart<B: SafetyBlock>(
     limit: u32,
     next: u32,
 )
-    requires { 74 + signals + 16 * instance + 16 ≤ length cells.old }
+    requires { SIGNALS_AT + signals + INSTANCE_SIZE * instance + 16 ≤ length cells.old }
     ensures { cells.new ≡ called_as signals instance first limit next B.KIND cells.old }
 {
     if u32::from(first) + u32::from(output_count(B::KIND)) > u32::from(signals) {
-        return trap(cells, 5);
+        return trap(cells, Trap::NoSignal);
     }
     let count = boolean_count(B::KIND);
-    if cells[4] > 64 || cells[4] < count {
-        return trap(cells, 3);
+    if cells[HEIGHT_AT] > STACK_SIZE || cells[HEIGHT_AT] < count {
+        return trap(cells, Trap::StackHeight);
     }
     match pins_on_stack(cells, count) {
         Some(bits) => {
@@ -129,16 +131,16 @@ fn call_apart<B: SafetyBlock>(
             };
             step_block::<B>(cells, bits, site)
         }
-        None => trap(cells, 4),
+        None => trap(cells, Trap::NotBoolean),
     }
 }
 
 // The step of an instance as a block, with pins that are there.
 fn step_block<B: SafetyBlock>(cells: &mut [u8], bits: u32, site: Site)
-    requires end { 74 + site.signals + 16 * site.instance + 16 ≤ length cells.old }
+    requires end { SIGNALS_AT + site.signals + INSTANCE_SIZE * site.instance + 16 ≤ length cells.old }
     requires outs { site.first + output_count B.KIND ≤ site.signals }
-    requires low { slice_index cells.old 4 ≤ 64 }
-    requires tall { boolean_count B.KIND ≤ slice_index cells.old 4 }
+    requires low { slice_index cells.old HEIGHT_AT ≤ STACK_SIZE }
+    requires tall { boolean_count B.KIND ≤ slice_index cells.old HEIGHT_AT }
     requires pins { (j : ℕ) → pin_of bits j ≡ pins_in (topmost (boolean_count B.KIND) cells.old) j }
     ensures { cells.new ≡ called_with site.signals site.instance site.first site.limit site.next B.KIND (loaded B.KIND (block_bytes site.signals site.instance cells.old)) cells.old }
 {
@@ -150,7 +152,7 @@ fn step_block<B: SafetyBlock>(cells: &mut [u8], bits: u32, site: Site)
     };
     match step_here::<B>(&mut cells[place..place + 16], pins) {
         Some(outs) => show(cells, B::KIND, outs, site),
-        None => trap(cells, 7),
+        None => trap(cells, Trap::NoState),
     }
 }
 
@@ -189,12 +191,17 @@ fn are_bytes(bytes: &[u8; 16])
 
 // The pins are popped, and the outputs are written.
 fn show(cells: &mut [u8], kind: Kind, outs: Outs, site: Site)
-    requires end { 74 + site.signals ≤ length cells.old }
+    requires end { SIGNALS_AT + site.signals ≤ length cells.old }
     requires outs { site.first + output_count kind ≤ site.signals }
-    requires tall { boolean_count kind ≤ slice_index cells.old 4 }
-    ensures { cells.new ≡ with_pc site.next (replaced (with_height (slice_index cells.old 4 - boolean_count kind) cells.old) (74 + site.first) (map bit (shown (length (block kind).outputs) outs))) }
+    requires tall { boolean_count kind ≤ slice_index cells.old HEIGHT_AT }
+    ensures { cells.new ≡ with_pc site.next (replaced (with_height (slice_index cells.old HEIGHT_AT - boolean_count kind) cells.old) (SIGNALS_AT + site.first) (map bit (shown (length (block kind).outputs) outs))) }
 {
-    cells[4] -= boolean_count(kind);
-    put_outputs(cells, 74 + site.first as usize, safe_count(kind), outs);
+    cells[HEIGHT_AT] -= boolean_count(kind);
+    put_outputs(
+        cells,
+        SIGNALS_AT + site.first as usize,
+        safe_count(kind),
+        outs,
+    );
     set_pc(cells, site.next);
 }

@@ -1,14 +1,14 @@
 // Channel A: its code and its cells.
 
-ghost use Rattle.std.specs.Prelude.{◌≡◌, ◌<◌, ◌+◌, ◌*◌, ◌≤◌, ◌^◌, IfOk, length};
-ghost use Rattle.ps_machine.specs.Bytes.{overwritten};
+ghost use Rattle.std.specs.Prelude.{◌≡◌, ◌+◌, ◌*◌};
 
-use crate::cells::begin;
-use crate::image::StackImage;
+use crate::cells::{begin, progress};
+use crate::layout::{INSTANCE_SIZE, SIGNALS_AT};
 use crate::report::{has_report, write_diags, write_outputs};
-use crate::turn::turn;
+use crate::turn::{turn, turns};
 use ps_base::Memory;
-use ps_machine::bytes::{overwrite, progress_of_byte};
+use ps_machine::bytes::overwrite;
+use ps_machine::{CodeImage, ScanMachine};
 use ps_model::channel::{OutOfRegion, Progress, Region};
 use ps_model::report::{Report, Scan};
 use ps_model::sizes::Sizes;
@@ -27,30 +27,43 @@ pub struct StackChannel {
 
 impl Model for StackChannel {
     ghost use Rattle.std.specs.Prelude.{◌≡◌, ◌+◌, ◌*◌, ◌^◌, ◌<◌, length};
-    ghost use Rattle.ps_stackvm.specs.Channel.{ChannelA};
+    ghost use Rattle.ps_machine.specs.StoredChannel.{Stored};
+    ghost use Rattle.ps_stackvm.specs.declared.layout.TheConstants.{INSTANCE_SIZE, SIGNALS_AT};
 
-    ghost Value = { ChannelA };
+    ghost Value = { Stored };
 
     ghost view = { λ c. record { sizes = c.sizes; code = c.code.items; cells = c.cells.items } };
 
-    ghost invariant = { λ c. (length c.cells.items ≡ 74 + c.sizes.signals + 16 * c.sizes.instances) × (length c.cells.items < 2 ^ 32) × (length c.code.items < 2 ^ 32) };
+    ghost invariant = { λ c. (length c.cells.items ≡ SIGNALS_AT + c.sizes.signals + INSTANCE_SIZE * c.sizes.instances) × (length c.cells.items < 2 ^ 32) × (length c.code.items < 2 ^ 32) };
 }
 
 impl StackChannel {
-    ghost use Rattle.std.specs.Prelude.{◌≡◌, ◌+◌, ◌<◌, length, slice_index, true, false, IfOk, Some, None, is_err, nat_lt};
-    ghost use Rattle.ps_machine.specs.Progressing.{progress_said};
+    ghost use Rattle.std.specs.Prelude.{◌≡◌, ℕ, ◌+◌, ◌<◌, ◌≤◌, length, slice_index, true, false, IfOk, Some, None, is_err, nat_lt};
+    ghost use Rattle.ps_machine.specs.Machines.{turned};
+    ghost use Rattle.ps_machine.specs.Progressing.{progress_said, is_running};
+    ghost use Rattle.ps_machine.specs.StoredChannel.{region_of, spoiled};
     ghost use Rattle.ps_stackvm.specs.Cells.{progress_of};
     ghost use Rattle.ps_stackvm.specs.Turn.{begin_a, turn_a, report_a};
-    ghost use Rattle.ps_stackvm.specs.Channel.{ChannelA, blank_a, region_of, spoiled};
+    ghost use Rattle.ps_stackvm.specs.Channel.{blank_a};
 
     /// A channel with its own copy of the code, for an application of these sizes, with cells all 0.
-    pub fn new(alloc: Global, image: &StackImage, sizes: &Sizes) -> Result<StackChannel, Memory>
+    pub fn new(alloc: Global, image: &CodeImage, sizes: &Sizes) -> Result<StackChannel, Memory>
         ensures { IfOk result (λ c. c ≡ record { sizes = sizes.now; code = image.now; cells = blank_a sizes.now }) }
     {
         let sizes = sizes.copy(alloc)?;
         let code = Vec::from_slice(alloc, image.as_slice())?;
-        let cells = vec![in alloc; 0; 74 + sizes.signals as usize + 16 * sizes.instances as usize]?;
+        let len = SIGNALS_AT + sizes.signals as usize + INSTANCE_SIZE * sizes.instances as usize;
+        let cells = vec![in alloc; 0; len]?;
         Ok(StackChannel { sizes, code, cells })
+    }
+
+    /// Makes the channel as `new` makes it from this image, which has the length of the channel's code.
+    pub fn renew(&mut self, image: &CodeImage)
+        requires { length image.now ≡ length self.old.code }
+        ensures { self.new ≡ record { sizes = self.old.sizes; code = image.now; cells = blank_a self.old.sizes } }
+    {
+        self.code.copy_from_slice(image.as_slice());
+        self.cells.fill(0);
     }
 
     /// The Begin of a scan, which has one value for each input: pc, height and progress are 0, and the
@@ -62,14 +75,15 @@ impl StackChannel {
         begin(&mut self.cells, scan.now, scan.ins.as_slice());
     }
 
-    /// What the progress byte says.
+    /// What the progress byte says: Running for 0, Done for 1, Trapped with the value less 1 for 2 to 8,
+    /// and Trapped(0) for 9 to 255.
     pub fn progress(&self) -> Progress
         ensures { result ≡ progress_said (progress_of self.now.cells) }
     {
-        progress_of_byte(self.cells[5])
+        progress(&self.cells)
     }
 
-    /// One instruction, on any bytes. A trap n is marked in the progress byte, and nothing else changes.
+    /// One instruction, on any bytes. A trap is marked in the progress byte, and nothing else changes.
     pub fn turn(&mut self)
         requires { progress_said (progress_of self.old.cells) ≡ Progress.Running }
         ensures { self.new ≡ record self.old { cells = turn_a self.old.sizes self.old.code self.old.cells } }
@@ -80,6 +94,24 @@ impl StackChannel {
             self.sizes.signals,
             self.sizes.instances,
         );
+    }
+
+    /// Turns as long as the scan is Running, at most so many. The answer is how many there were: `most`,
+    /// or fewer where the scan is then no longer Running.
+    #[tactic(auto, using(ps_machine::proofs::Progressing::zero_runs, ps_machine::proofs::Progressing::other_ends))]
+    pub fn turns(&mut self, most: u32) -> u32
+        ensures cells { self.new ≡ record self.old { cells = turned (turn_a self.old.sizes self.old.code) result self.old.cells } }
+        ensures running { (j : ℕ) → j < result → progress_said (progress_of (turned (turn_a self.old.sizes self.old.code) j self.old.cells)) ≡ Progress.Running }
+        ensures most { result ≤ most }
+        ensures stopped { result < most → is_running (progress_said (progress_of self.new.cells)) ≡ false }
+    {
+        turns(
+            &mut self.cells,
+            &self.code,
+            self.sizes.signals,
+            self.sizes.instances,
+            most,
+        )
     }
 
     /// Writes the report that the cells hold into a report of the application's sizes. False where an output,
@@ -109,8 +141,8 @@ impl StackChannel {
         }
     }
 
-    /// Replaces bytes of a region, as a fault does. OutOfRegion comes exactly where they do not lie within
-    /// it, and then nothing changed.
+    /// Replaces bytes of a region. OutOfRegion comes exactly where they would pass its end, and then nothing
+    /// changed.
     pub fn spoil(&mut self, region: Region, at: u32, bytes: &[u8]) -> Result<(), OutOfRegion>
         ensures bytes { self.new ≡ spoiled region at bytes.now self.old }
         ensures refused { is_err result ≡ nat_lt (length (region_of region self.old)) (at + length bytes.now) }
@@ -121,20 +153,55 @@ impl StackChannel {
         }
     }
 
-    /// Makes the channel as `new` makes it from this image, which has the length of the channel's code.
-    pub fn renew(&mut self, image: &StackImage)
-        requires { length image.now ≡ length self.old.code }
-        ensures { self.new ≡ record { sizes = self.old.sizes; code = image.now; cells = blank_a self.old.sizes } }
-    {
-        self.code.copy_from_slice(image.as_slice());
-        self.cells.fill(0);
-    }
-
     /// A byte of the cells.
     pub fn cell(&self, at: u32) -> u8
         requires { at < length self.now.cells }
         ensures { result ≡ slice_index self.now.cells at }
     {
         self.cells[at as usize]
+    }
+}
+
+impl ScanMachine for StackChannel {
+    ghost use Rattle.ps_stackvm.specs.Channel.{workings_a};
+
+    ghost stored = { λ channel. channel };
+
+    ghost workings = { workings_a };
+
+    fn new(alloc: Global, image: &CodeImage, sizes: &Sizes) -> Result<StackChannel, Memory> {
+        StackChannel::new(alloc, image, sizes)
+    }
+
+    fn renew(&mut self, image: &CodeImage) {
+        self.renew(image);
+    }
+
+    fn begin(&mut self, scan: &Scan) {
+        self.begin(scan);
+    }
+
+    fn progress(&self) -> Progress {
+        self.progress()
+    }
+
+    fn turn(&mut self) {
+        self.turn();
+    }
+
+    fn turns(&mut self, most: u32) -> u32 {
+        self.turns(most)
+    }
+
+    fn report_into(&self, into: &mut Report) -> bool {
+        self.report_into(into)
+    }
+
+    fn region_len(&self, region: Region) -> u32 {
+        self.region_len(region)
+    }
+
+    fn spoil(&mut self, region: Region, at: u32, bytes: &[u8]) -> Result<(), OutOfRegion> {
+        self.spoil(region, at, bytes)
     }
 }

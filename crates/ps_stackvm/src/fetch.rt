@@ -4,15 +4,9 @@ ghost use Rattle.std.specs.Prelude.{◌≡◌, ◌+◌, ◌<◌, ◌≤◌, ◌^
 ghost use Rattle.ps_machine.specs.Bytes.{be2, be4};
 ghost use Rattle.ps_stackvm.specs.Instructions.{fetched};
 
-use crate::instruction::Instruction;
-
-// The number in the two bytes at a place.
-fn number_at(code: &[u8], at: usize) -> u16
-    requires { at + 2 ≤ length code.now }
-    ensures { result ≡ be2 code.now at }
-{
-    u16::from_be_bytes([code[at], code[at + 1]])
-}
+use crate::cells::number_at;
+use crate::instruction::{AND, CALL, CONST, END, Instruction, LOAD, OR, STORE};
+use crate::trap::Trap;
 
 // A CALL with its operands.
 fn call_at(code: &[u8], pc: usize) -> Instruction
@@ -28,25 +22,25 @@ fn call_at(code: &[u8], pc: usize) -> Instruction
     }
 }
 
-// The instruction at a place of the code, or the number of the trap that reading it gives.
-pub(crate) fn fetch(code: &[u8], pc: u32) -> Result<Instruction, u8>
+// The instruction at a place of the code, or the trap that reading it gives.
+pub(crate) fn fetch(code: &[u8], pc: u32) -> Result<Instruction, Trap>
     requires { length code.now < 2 ^ 32 }
     ensures { result ≡ fetched code.now pc }
 {
     let pc = pc as usize;
     if pc >= code.len() {
-        return Err(2);
+        return Err(Trap::CodeEnd);
     }
     let room = code.len() - pc;
     match code[pc] {
-        1 if room >= 3 => Ok(Instruction::Load(number_at(code, pc + 1))),
-        2 if room >= 3 => Ok(Instruction::Store(number_at(code, pc + 1))),
-        3 if room >= 2 => Ok(Instruction::Const(code[pc + 1])),
-        4 => Ok(Instruction::And),
-        5 => Ok(Instruction::Or),
-        6 if room >= 10 => Ok(call_at(code, pc)),
-        7 => Ok(Instruction::End),
-        1..=7 => Err(2),
-        _ => Err(1),
+        LOAD if room >= 3 => Ok(Instruction::Load(number_at(code, pc + 1))),
+        STORE if room >= 3 => Ok(Instruction::Store(number_at(code, pc + 1))),
+        CONST if room >= 2 => Ok(Instruction::Const(code[pc + 1])),
+        AND => Ok(Instruction::And),
+        OR => Ok(Instruction::Or),
+        CALL if room >= 10 => Ok(call_at(code, pc)),
+        END => Ok(Instruction::End),
+        LOAD..=END => Err(Trap::CodeEnd),
+        _ => Err(Trap::NoOpcode),
     }
 }

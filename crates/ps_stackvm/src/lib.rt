@@ -1,19 +1,27 @@
-// Channel A: a machine that runs stack code, on any bytes.
+//! Channel A: a machine that runs stack code, on any bytes. It steps each instance as a typed block.
+//!
+//! - `channel`: the channel, with its code and its cells; `cells`, `layout` and `report` are its cells.
+//! - `turn`: one turn, by `fetch`, `stack` and `call`; `pins` is what a call takes from the stack.
+//! - `instruction` and `trap`: the instructions and the traps with their numbers.
+//!
+//! What the bytes are and what a turn does is defined in specs/, for any code and any cells.
 #![tactic(auto)]
 
 mod call;
 mod cells;
 pub mod channel;
 mod fetch;
-pub mod image;
 pub mod instruction;
+mod layout;
 mod pins;
 mod report;
 mod stack;
 #[cfg(test)]
 mod tests;
+pub mod trap;
 mod turn;
 
 pub use channel::StackChannel;
-pub use image::StackImage;
 pub use instruction::Instruction;
+pub use ps_machine::CodeImage as StackImage;
+pub use trap::Trap;

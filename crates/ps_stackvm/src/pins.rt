@@ -3,11 +3,12 @@
 ghost use Rattle.std.specs.Prelude.{◌≡◌, ℕ, true, false, ◌+◌, ◌-◌, ◌*◌, ◌≤◌, ◌<◌, length, map, drop, slice_index, IfSome, IfNone};
 ghost use Rattle.std.specs.List.{list_any};
 ghost use Rattle.ps_machine.specs.Bytes.{bit, is_no_bit, replaced};
-ghost use Rattle.ps_block.specs.Pins.{pin_of};
+ghost use Rattle.ps_model.specs.PinBits.{pin_of};
 ghost use Rattle.ps_block.specs.Shown.{shown};
 ghost use Rattle.ps_stackvm.specs.Calling.{pins_in, topmost};
 
 use crate::cells::byte_of;
+use crate::layout::{HEIGHT_AT, SIGNALS_AT, STACK_AT, STACK_SIZE};
 use ps_block::Outs;
 
 // The pins that the last bytes give, at most eight: bit j is TRUE where byte j of them is 1. None where one of them is neither 0
@@ -49,16 +50,16 @@ fn more_pins(bytes: &[u8], count: u8) -> Option<u32>
 
 // The pins that the topmost bytes of the stack give, so many of them.
 pub(crate) fn pins_on_stack(cells: &[u8], count: u8) -> Option<u32>
-    requires room { 74 ≤ length cells.now }
-    requires low { slice_index cells.now 4 ≤ 64 }
-    requires tall { count ≤ slice_index cells.now 4 }
+    requires room { SIGNALS_AT ≤ length cells.now }
+    requires low { slice_index cells.now HEIGHT_AT ≤ STACK_SIZE }
+    requires tall { count ≤ slice_index cells.now HEIGHT_AT }
     requires some { 1 ≤ count }
     requires few { count ≤ 16 }
     ensures some { IfSome result (λ bits. (j : ℕ) → pin_of bits j ≡ pins_in (topmost count cells.now) j) }
     ensures all { IfSome result (λ bits. list_any is_no_bit (topmost count cells.now) ≡ false) }
     ensures none { IfNone result (list_any is_no_bit (topmost count cells.now) ≡ true) }
 {
-    let bytes = &cells[..10 + cells[4] as usize];
+    let bytes = &cells[..STACK_AT + cells[HEIGHT_AT] as usize];
     if count <= 8 {
         few_pins(bytes, count)
     } else {

@@ -7,7 +7,8 @@ ghost use Rattle.ps_model.specs.Blocks.{output_count};
 ghost use Rattle.ps_machine.specs.Bytes.{is_no_bit};
 ghost use Rattle.ps_machine.specs.Reporting.{output_byte, ready_byte, error_byte, diag_at, holds_report};
 
-use ps_machine::bytes::number_in_two;
+use crate::cells::number_at;
+use crate::layout::{INSTANCE_SIZE, SIGNALS_AT};
 use ps_model::kind::output_count;
 use ps_model::report::{Diag, Diags};
 use ps_model::sizes::Sizes;
@@ -26,11 +27,11 @@ fn past_outputs(sizes: &Sizes, i: usize) -> usize
 
 // Whether each output byte is 0 or 1.
 fn outputs_hold(cells: &[u8], sizes: &Sizes) -> bool
-    requires { 74 + sizes.now.signals ≤ length cells.now }
-    ensures { result ≡ list_all (λ j. not (is_no_bit (output_byte sizes.now 74 cells.now j))) (range_with_len 0 sizes.now.outputs) }
+    requires { SIGNALS_AT + sizes.now.signals ≤ length cells.now }
+    ensures { result ≡ list_all (λ j. not (is_no_bit (output_byte sizes.now SIGNALS_AT cells.now j))) (range_with_len 0 sizes.now.outputs) }
 {
     for j in 0..sizes.outputs as usize {
-        if cells[74 + (sizes.inputs as usize + j)] > 1 {
+        if cells[SIGNALS_AT + (sizes.inputs as usize + j)] > 1 {
             return false;
         }
     }
@@ -40,17 +41,17 @@ fn outputs_hold(cells: &[u8], sizes: &Sizes) -> bool
 // Whether the Ready and the Error byte of an instance are 0 or 1.
 fn diag_holds(cells: &[u8], sizes: &Sizes, i: usize) -> bool
     requires instance { i < sizes.now.instances }
-    requires room { 74 + sizes.now.signals ≤ length cells.now }
-    ensures { result ≡ (not (is_no_bit (ready_byte sizes.now 74 cells.now i)) && not (is_no_bit (error_byte sizes.now 74 cells.now i))) }
+    requires room { SIGNALS_AT + sizes.now.signals ≤ length cells.now }
+    ensures { result ≡ (not (is_no_bit (ready_byte sizes.now SIGNALS_AT cells.now i)) && not (is_no_bit (error_byte sizes.now SIGNALS_AT cells.now i))) }
 {
     let past = past_outputs(sizes, i);
-    cells[74 + (past - 2)] <= 1 && cells[74 + (past - 1)] <= 1
+    cells[SIGNALS_AT + (past - 2)] <= 1 && cells[SIGNALS_AT + (past - 1)] <= 1
 }
 
 // Whether each Ready and Error byte is 0 or 1.
 fn diags_hold(cells: &[u8], sizes: &Sizes) -> bool
-    requires { 74 + sizes.now.signals ≤ length cells.now }
-    ensures { result ≡ list_all (λ i. not (is_no_bit (ready_byte sizes.now 74 cells.now i)) && not (is_no_bit (error_byte sizes.now 74 cells.now i))) (range_with_len 0 sizes.now.instances) }
+    requires { SIGNALS_AT + sizes.now.signals ≤ length cells.now }
+    ensures { result ≡ list_all (λ i. not (is_no_bit (ready_byte sizes.now SIGNALS_AT cells.now i)) && not (is_no_bit (error_byte sizes.now SIGNALS_AT cells.now i))) (range_with_len 0 sizes.now.instances) }
 {
     for i in 0..sizes.instances as usize {
         if !diag_holds(cells, sizes, i) {
@@ -62,42 +63,45 @@ fn diags_hold(cells: &[u8], sizes: &Sizes) -> bool
 
 // Whether the cells hold a report.
 pub(crate) fn has_report(cells: &[u8], sizes: &Sizes) -> bool
-    requires { 74 + sizes.now.signals ≤ length cells.now }
-    ensures { result ≡ holds_report sizes.now 74 cells.now }
+    requires { SIGNALS_AT + sizes.now.signals ≤ length cells.now }
+    ensures { result ≡ holds_report sizes.now SIGNALS_AT cells.now }
 {
     outputs_hold(cells, sizes) && diags_hold(cells, sizes)
 }
 
 // Writes the outputs of the report.
 pub(crate) fn write_outputs(cells: &[u8], sizes: &Sizes, outs: &mut Bits)
-    requires room { 74 + sizes.now.signals ≤ length cells.now }
+    requires room { SIGNALS_AT + sizes.now.signals ≤ length cells.now }
     requires size { length outs.old ≡ sizes.now.outputs }
-    ensures { outs.new ≡ map (λ j. output_byte sizes.now 74 cells.now j == 1) (range_with_len 0 sizes.now.outputs) }
+    ensures { outs.new ≡ map (λ j. output_byte sizes.now SIGNALS_AT cells.now j == 1) (range_with_len 0 sizes.now.outputs) }
 {
     for j in 0..sizes.outputs as usize {
-        outs.set(j, cells[74 + (sizes.inputs as usize + j)] == 1);
+        outs.set(j, cells[SIGNALS_AT + (sizes.inputs as usize + j)] == 1);
     }
 }
 
 // What an instance says of itself.
 fn diag(cells: &[u8], sizes: &Sizes, i: usize) -> Diag
     requires instance { i < sizes.now.instances }
-    requires room { 74 + sizes.now.signals + 16 * sizes.now.instances ≤ length cells.now }
-    ensures { result ≡ diag_at sizes.now 74 cells.now i }
+    requires room { SIGNALS_AT + sizes.now.signals + INSTANCE_SIZE * sizes.now.instances ≤ length cells.now }
+    ensures { result ≡ diag_at sizes.now SIGNALS_AT cells.now i }
 {
     let past = past_outputs(sizes, i);
     Diag {
-        ready: cells[74 + (past - 2)] == 1,
-        error: cells[74 + (past - 1)] == 1,
-        code: number_in_two(cells, 74 + sizes.signals as usize + 16 * i),
+        ready: cells[SIGNALS_AT + (past - 2)] == 1,
+        error: cells[SIGNALS_AT + (past - 1)] == 1,
+        code: number_at(
+            cells,
+            SIGNALS_AT + sizes.signals as usize + INSTANCE_SIZE * i,
+        ),
     }
 }
 
 // Writes what the instances say of themselves.
 pub(crate) fn write_diags(cells: &[u8], sizes: &Sizes, diags: &mut Diags)
-    requires room { 74 + sizes.now.signals + 16 * sizes.now.instances ≤ length cells.now }
+    requires room { SIGNALS_AT + sizes.now.signals + INSTANCE_SIZE * sizes.now.instances ≤ length cells.now }
     requires size { length diags.old ≡ sizes.now.instances }
-    ensures { diags.new ≡ map (diag_at sizes.now 74 cells.now) (range_with_len 0 sizes.now.instances) }
+    ensures { diags.new ≡ map (diag_at sizes.now SIGNALS_AT cells.now) (range_with_len 0 sizes.now.instances) }
 {
     for i in 0..sizes.instances as usize {
         diags.set(i, diag(cells, sizes, i));

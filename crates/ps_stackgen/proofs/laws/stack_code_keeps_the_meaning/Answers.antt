@@ -1,7 +1,8 @@
 use Rattle.ps_model.specs.Budgets.{turns_a}
 use Rattle.ps_machine.proofs.Phases.{exactly_keeps}
 use Rattle.ps_stackvm.specs.Code.{code_a}
-use Rattle.ps_stackvm.specs.Stands.{machine_a, StandsA}
+use Rattle.ps_stackvm.specs.Channel.{machine_a}
+use Rattle.ps_stackvm.specs.Stands.{StandsA}
 use Rattle.ps_stackgen.proofs.Scanning.{keeps_exactly}
 use Rattle.ps_stackgen.proofs.laws.stack_code_keeps_the_meaning.Goals as goal
 

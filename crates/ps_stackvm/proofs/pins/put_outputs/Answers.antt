@@ -3,7 +3,7 @@ use Rattle.std.specs.Prelude.{◌==◌, map}
 use Rattle.std.specs.List.{range_with_len}
 use Rattle.std.proofs.lemmas.Nat.Bits.{shr_and_one}
 use Rattle.ps_machine.specs.Bytes.{bit, replaced}
-use Rattle.ps_block.specs.Pins.{pin_of}
+use Rattle.ps_model.specs.PinBits.{pin_of}
 use Rattle.ps_stackvm.proofs.Outputs.{output_more, outputs_end}
 use Rattle.ps_stackvm.proofs.pins.put_outputs.Goals as goal
 

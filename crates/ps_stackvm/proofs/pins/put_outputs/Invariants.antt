@@ -2,7 +2,7 @@ use Rattle.std.proofs.Common.{◌≡◌}
 use Rattle.std.specs.Prelude.{map}
 use Rattle.std.specs.List.{range_with_len}
 use Rattle.ps_machine.specs.Bytes.{bit, replaced}
-use Rattle.ps_block.specs.Pins.{pin_of}
+use Rattle.ps_model.specs.PinBits.{pin_of}
 use Rattle.ps_stackvm.proofs.pins.put_outputs.Given as goal
 
 abbrev pub invariant-loop-j : goal.invariant-loop-j

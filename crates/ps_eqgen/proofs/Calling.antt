@@ -26,12 +26,12 @@ use Rattle.ps_eqgen.proofs.Holding.{Holds}
 use Rattle.ps_eqgen.proofs.Placing.{Reads}
 use Rattle.ps_eqvm.specs.declared.trap.Trap.TheVariants.{PinCount, NotBoolean, OutOfRange, NoInstance}
 
-mapped_range : (h : ℕ → Option ℕ) (f : ℕ → ℕ) (g : ℕ → Option ℕ) (n a : ℕ) → ((i : ℕ) → a ≤ i → i < a + n → h (f i) ≡ g i) →
+map_range_is : (h : ℕ → Option ℕ) (f : ℕ → ℕ) (g : ℕ → Option ℕ) (n a : ℕ) → ((i : ℕ) → a ≤ i → i < a + n → h (f i) ≡ g i) →
     map h (map f (range_with_len a n)) ≡ map g (range_with_len a n)
-mapped_range h f g zero a e = refl
-mapped_range h f g (suc n) a e =
+map_range_is h f g zero a e = refl
+map_range_is h f g (suc n) a e =
     ap (λ x. x ∷ map h (map f (range_with_len (a + 1) n))) (e a (omega arith) (omega arith))
-    ∙ ap (λ xs. g a ∷ xs) (mapped_range h f g n (a + 1) (λ i from to. e i (omega arith) (omega arith)))
+    ∙ ap (λ xs. g a ∷ xs) (map_range_is h f g n (a + 1) (λ i from to. e i (omega arith) (omega arith)))
 
 none_missing : (pins : ℕ → Bool) (xs : List ℕ) → list_any is_missing (map (λ i. Some (bit (pins i))) xs) ≡ false
 none_missing pins [] = refl
@@ -51,7 +51,7 @@ block_goes n m i o limit next kind codes pins p kept within room reads past load
     let g = λ (j : ℕ). Some (bit (pins j)) in
     let bytes = map g (range_with_len 0 c) in
     let read : pin_bytes n p.cells (map codes (range_with_len 0 c)) ≡ bytes =
-    mapped_range (λ x. byte_of p.cells (operand_of n x)) codes g c 0 (λ j from to. reads j (omega arith)) in
+    map_range_is (λ x. byte_of p.cells (operand_of n x)) codes g c 0 (λ j from to. reads j (omega arith)) in
     let len : length bytes ≡ c = length-map-range_with_len g 0 c in
     let on : (j : ℕ) → is_on (slice_index_or bytes j None) ≡ pins j =
     λ j. elim (cases_lt j c) [

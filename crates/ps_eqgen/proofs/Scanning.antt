@@ -163,9 +163,9 @@ module _ (net : Network) (sound : IsSound net) where
     stands : StandsPlain net new now (turned (turn_plain (signal_count net) (instance_count net) (code_b net)) (length (network_rows net)) p)
 
   module _ (accepted : Accepted net) where
-    scanned : (old new : State) (ins : List Bool) (t now dt : ℕ) (p : Plain) → length ins ≡ input_count net → Passes old t now dt → StandsPlain net old t p → Solves net old ins dt new →
+    scan_is : (old new : State) (ins : List Bool) (t now dt : ℕ) (p : Plain) → length ins ≡ input_count net → Passes old t now dt → StandsPlain net old t p → Solves net old ins dt new →
         Scanned (begin_plain now ins p) new now
-    scanned old new ins t now dt p count passes stands solves =
+    scan_is old new ins t now dt p count passes stands solves =
         let n = signal_count net in
         let k = instance_count net in
         let code = code_b net in
@@ -230,7 +230,7 @@ module _ (net : Network) (sound : IsSound net) where
               let p = parsed n cells in
               let held = parsed_stands net old t cells stands in
               let q = begin_plain now ins p in
-              let s = scanned old new ins t now dt p count passes held solves in
+              let s = scan_is old new ins t now dt p count passes held solves in
               let is : IsPlain q = begun_is now ins p early (parsed_is n cells) in
               let inputs : length ins ≤ n = omega arith in
               let sized = begin_sized n k now ins p inputs held.sized in

@@ -5,7 +5,7 @@ use Rattle.ps_base.specs.declared.limits.TheConstants.{MOST_NESTED}
 use Rattle.ps_model.specs.Formula.{Formula, Formulas, no_operand, operand}
 use Rattle.ps_model.specs.Action.{Actual, wired}
 use Rattle.ps_model.specs.Values.{depth}
-use Rattle.ps_eqvm.specs.Rows.{EquationRow, set_row, all_row, any_row}
+use Rattle.ps_eqvm.specs.Rows.{EquationRow}
 use Rattle.ps_eqvm.specs.Code.{work, operand_at, expression_rows}
 use Rattle.ps_eqvm.specs.declared.opcode.Gate.{Gate}
 use Rattle.ps_eqvm.specs.declared.opcode.Opcode.TheVariants.{Block}

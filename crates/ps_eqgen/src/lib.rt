@@ -1,4 +1,8 @@
-// The compiler of channel B: from an application to equation code.
+//! The compiler of channel B: from an accepted application to equation code (profile).
+//!
+//! - `image`: the image of an application, step by step. `emit`: rows written as bytes.
+//! - `calls`: the limit of a call.
+//! - `laws`: equation code keeps the meaning, and it is short.
 #![tactic(auto)]
 
 mod calls;

@@ -24,44 +24,44 @@ module _ (n i o limit next : ℕ) (kind : Kind) (bytes : List (Option ℕ)) (p :
   last : Plain
   last = stepped_by i o limit kind (pins_on bytes) next (loaded kind (instance_bytes 0 i p.blocks)) p
 
-  judged : Plain
-  judged = cond (list_any is_odd bytes) (trapped NotBoolean p) last
+  unless_odd : Plain
+  unless_odd = cond (list_any is_odd bytes) (trapped NotBoolean p) last
 
-  counted : Plain
-  counted = cond (not (length bytes == boolean_count kind)) (trapped PinCount p) judged
+  unless_miscount : Plain
+  unless_miscount = cond (not (length bytes == boolean_count kind)) (trapped PinCount p) unless_odd
 
   pub no_room : n < o + output_count kind → trapped OutOfRange p ≡ block_as n i o limit kind bytes next p
-  unfolding counted judged last
-  no_room h = sym (cond-true (nat_lt n (o + output_count kind) || list_any is_missing bytes) (trapped OutOfRange p) counted (or_left (nat_lt n (o + output_count kind)) (list_any is_missing bytes) (lt-ltb n (o + output_count kind) h)))
+  unfolding unless_miscount unless_odd last
+  no_room h = sym (cond-true (nat_lt n (o + output_count kind) || list_any is_missing bytes) (trapped OutOfRange p) unless_miscount (or_left (nat_lt n (o + output_count kind)) (list_any is_missing bytes) (lt-ltb n (o + output_count kind) h)))
 
-  with_room : o + output_count kind ≤ n → cond (list_any is_missing bytes) (trapped OutOfRange p) counted ≡ block_as n i o limit kind bytes next p
-  unfolding counted judged last
-  with_room h = sym (ap (λ b. cond (b || list_any is_missing bytes) (trapped OutOfRange p) counted) (le-ltb n (o + output_count kind) h))
+  with_room : o + output_count kind ≤ n → cond (list_any is_missing bytes) (trapped OutOfRange p) unless_miscount ≡ block_as n i o limit kind bytes next p
+  unfolding unless_miscount unless_odd last
+  with_room h = sym (ap (λ b. cond (b || list_any is_missing bytes) (trapped OutOfRange p) unless_miscount) (le-ltb n (o + output_count kind) h))
 
   pub miscount_traps : o + output_count kind ≤ n → (length bytes ≡ boolean_count kind → ⊥) → cond (list_any is_missing bytes) (trapped OutOfRange p) (trapped PinCount p) ≡ block_as n i o limit kind bytes next p
-  unfolding counted
+  unfolding unless_miscount
   miscount_traps h wrong =
-      ap (cond (list_any is_missing bytes) (trapped OutOfRange p)) (sym (cond-true (not (length bytes == boolean_count kind)) (trapped PinCount p) judged (ap not (ne_eqb (length bytes) (boolean_count kind) wrong))))
+      ap (cond (list_any is_missing bytes) (trapped OutOfRange p)) (sym (cond-true (not (length bytes == boolean_count kind)) (trapped PinCount p) unless_odd (ap not (ne_eqb (length bytes) (boolean_count kind) wrong))))
       ∙ with_room h
 
-  right : length bytes ≡ boolean_count kind → counted ≡ judged
-  unfolding counted
-  right count = cond-false (not (length bytes == boolean_count kind)) (trapped PinCount p) judged (ap not (eq-eqb (length bytes) (boolean_count kind) count))
+  right : length bytes ≡ boolean_count kind → unless_miscount ≡ unless_odd
+  unfolding unless_miscount
+  right count = cond-false (not (length bytes == boolean_count kind)) (trapped PinCount p) unless_odd (ap not (eq-eqb (length bytes) (boolean_count kind) count))
 
   pub is_bad : o + output_count kind ≤ n → list_any is_missing bytes ≡ true → trapped OutOfRange p ≡ block_as n i o limit kind bytes next p
-  is_bad h missing = sym (cond-true (list_any is_missing bytes) (trapped OutOfRange p) counted missing) ∙ with_room h
+  is_bad h missing = sym (cond-true (list_any is_missing bytes) (trapped OutOfRange p) unless_miscount missing) ∙ with_room h
 
   pub is_uneven : o + output_count kind ≤ n → length bytes ≡ boolean_count kind → list_any is_missing bytes ≡ false → list_any is_odd bytes ≡ true → trapped NotBoolean p ≡ block_as n i o limit kind bytes next p
-  unfolding judged
+  unfolding unless_odd
   is_uneven h count whole odd =
-      sym (cond-false (list_any is_missing bytes) (trapped OutOfRange p) counted whole ∙ right count ∙ cond-true (list_any is_odd bytes) (trapped NotBoolean p) last odd) ∙ with_room h
+      sym (cond-false (list_any is_missing bytes) (trapped OutOfRange p) unless_miscount whole ∙ right count ∙ cond-true (list_any is_odd bytes) (trapped NotBoolean p) last odd) ∙ with_room h
 
   pub is_stepped : o + output_count kind ≤ n → length bytes ≡ boolean_count kind → list_any is_missing bytes ≡ false → list_any is_odd bytes ≡ false →
       (bits : ℕ) → pin_of bits ≡ pins_on bytes → stepped_by i o limit kind (pin_of bits) next (loaded kind (instance_bytes 0 i p.blocks)) p ≡ block_as n i o limit kind bytes next p
-  unfolding judged last
+  unfolding unless_odd last
   is_stepped h count whole odd bits pins =
       ap (λ f. stepped_by i o limit kind f next (loaded kind (instance_bytes 0 i p.blocks)) p) pins
-      ∙ sym (cond-false (list_any is_missing bytes) (trapped OutOfRange p) counted whole ∙ right count ∙ cond-false (list_any is_odd bytes) (trapped NotBoolean p) last odd) ∙ with_room h
+      ∙ sym (cond-false (list_any is_missing bytes) (trapped OutOfRange p) unless_miscount whole ∙ right count ∙ cond-false (list_any is_odd bytes) (trapped NotBoolean p) last odd) ∙ with_room h
 
 -- the BLOCK row at a place of the code
 module _ (n k at : ℕ) (code : List ℕ) (p : Plain) where

@@ -1,12 +1,11 @@
 -- A turn and a Begin leave as many cells and as many bytes of instances as there were.
-use Rattle.std.proofs.Common.{◌≡◌, ℕ, ◌+◌, ◌*◌, ◌<◌, ◌≤◌, Bool, cond, List, [], ◌∷◌, length, map, Option, Some, None, Result, Ok, Err, refl, ap, ◌∙◌, arith, length-append}
+use Rattle.std.proofs.Common.{◌≡◌, ℕ, ◌+◌, ◌*◌, ◌<◌, ◌≤◌, Bool, cond, List, length, map, Option, Some, None, Result, Ok, Err, refl, ◌∙◌, arith}
 use Rattle.std.specs.Prelude.{slice_index, ◌||◌, ◌==◌, nat_lt, nat_le, not, bit_and, bit_or}
-use Rattle.std.specs.List.{list_any, range_with_len}
+use Rattle.std.specs.List.{list_any}
 use Rattle.std.proofs.lemmas.Bool.{cond_both, or_parts, ltb-false, leb-false}
 use Rattle.std.proofs.lemmas.List.{length-set, length-map}
-use Rattle.std.proofs.lemmas.List.FromFn.{length-map-range_with_len}
 use Rattle.ps_model.specs.declared.kind.Kind.{Kind}
-use Rattle.ps_model.specs.Blocks.{block, outs, output_count, safe_output, ready_in, error_in}
+use Rattle.ps_model.specs.Blocks.{outs, output_count}
 use Rattle.ps_model.specs.Budgets.{boolean_count}
 use Rattle.ps_model.proofs.OutputLengths.{length-outs}
 use Rattle.ps_model.specs.Kept.{Kept, counted_down}

@@ -17,13 +17,13 @@ module _ (z : Sizes) (p : Plain) where
     diags = map (diag_at z 61 (plain_bytes p)) (range_with_len 0 z.instances);
   }
 
-  pub reported_none : IsPlain p → holds_report z 61 (plain_bytes p) ≡ false → report_b z (laid_out p) ≡ None
+  pub no_report_held : IsPlain p → holds_report z 61 (plain_bytes p) ≡ false → report_b z (laid_out p) ≡ None
   unfolding it
-  reported_none is h = ap (report_in z 61) (plain_again p is) ∙ cond-false (holds_report z 61 (plain_bytes p)) (Some it) None h
+  no_report_held is h = ap (report_in z 61) (plain_again p is) ∙ cond-false (holds_report z 61 (plain_bytes p)) (Some it) None h
 
-  pub reported_some : IsPlain p → holds_report z 61 (plain_bytes p) ≡ true → report_b z (laid_out p) ≡ Some (record {
+  pub report_held : IsPlain p → holds_report z 61 (plain_bytes p) ≡ true → report_b z (laid_out p) ≡ Some (record {
     outs = map (λ j. output_byte z 61 (plain_bytes p) j == 1) (range_with_len 0 z.outputs);
     diags = map (diag_at z 61 (plain_bytes p)) (range_with_len 0 z.instances);
   })
   unfolding it
-  reported_some is h = ap (report_in z 61) (plain_again p is) ∙ cond-true (holds_report z 61 (plain_bytes p)) (Some it) None h
+  report_held is h = ap (report_in z 61) (plain_again p is) ∙ cond-true (holds_report z 61 (plain_bytes p)) (Some it) None h

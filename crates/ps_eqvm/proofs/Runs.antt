@@ -16,11 +16,11 @@ use Rattle.ps_eqvm.proofs.LowBits.{shifted_low, shifted_high}
 use Rattle.ps_eqvm.proofs.KeptBits.{length-cells, index-cells}
 
 -- a bit of a word of which a mask takes the bits of another
-chosen : (w m s : ℕ) → w < 2 → m ≡ 0 → max (min w (1 - m)) (min s m) ≡ w
-chosen w m s small off = omega (arith, small, off)
+outside_mask : (w m s : ℕ) → w < 2 → m ≡ 0 → max (min w (1 - m)) (min s m) ≡ w
+outside_mask w m s small off = omega (arith, small, off)
 
-taken : (w m s : ℕ) → s < 2 → m ≡ 1 → max (min w (1 - m)) (min s m) ≡ s
-taken w m s small on = omega (arith, small, on)
+under_mask : (w m s : ℕ) → s < 2 → m ≡ 1 → max (min w (1 - m)) (min s m) ≡ s
+under_mask w m s small on = omega (arith, small, on)
 
 module _ (word number at count : ℕ) (fits : at + count ≤ 64) (few : count < 64) (small : word < 2 ^ 64) where
   abbrev pub ones : ℕ
@@ -59,7 +59,7 @@ module _ (word number at count : ℕ) (fits : at + count ≤ 64) (few : count < 
       ∙ (λ x. max ((bit_at_and word (bit_not w64 mask) j ∙ ap (λ n. min (bit_at word j) n) (bit_at_not w64 mask j mask_small low)) x) (bit_at_and shifted mask j x))
 
   kept : (j : ℕ) → j < 64 → bit_at mask j ≡ 0 → bit_at run j ≡ bit_at word j
-  kept j low off = bits j low ∙ chosen (bit_at word j) (bit_at mask j) (bit_at shifted j) (bit_at-lt word j) off
+  kept j low off = bits j low ∙ outside_mask (bit_at word j) (bit_at mask j) (bit_at shifted j) (bit_at-lt word j) off
 
   far : (j : ℕ) → 64 ≤ j → bit_at run j ≡ bit_at word j
   far j high =
@@ -77,7 +77,7 @@ module _ (word number at count : ℕ) (fits : at + count ≤ 64) (few : count < 
       let low : at + k < 64 = omega (arith, within, fits) in
       let on = mask_inside (at + k) low (omega arith) (omega (arith, within)) in
       let back : at + k - at ≡ k = omega arith in
-      bits (at + k) low ∙ taken (bit_at word (at + k)) (bit_at mask (at + k)) (bit_at shifted (at + k)) (bit_at-lt shifted (at + k)) on
+      bits (at + k) low ∙ under_mask (bit_at word (at + k)) (bit_at mask (at + k)) (bit_at shifted (at + k)) (bit_at-lt shifted (at + k)) on
       ∙ shifted_high number at 64 (at + k) low (omega arith) ∙ ap (bit_at number) back
 
   pub run_before : (j : ℕ) → j < at → bit_at run j ≡ bit_at word j

@@ -1,6 +1,5 @@
 -- The first bytes of rows. Profile.
 use Rattle.std.specs.Prelude.{ℕ}
-use Rattle.ps_eqvm.specs.declared.opcode.Gate.{Gate}
 use Rattle.ps_eqvm.specs.declared.opcode.Gate.TheVariants.{Set, All, Any}
 use Rattle.ps_eqvm.specs.declared.opcode.Opcode.{Opcode}
 use Rattle.ps_eqvm.specs.declared.opcode.Opcode.TheVariants.{Last, Target, Block}

@@ -1,6 +1,5 @@
 -- The free values of a kind's pins by its entry.
-use Rattle.std.proofs.Common.{◌≡◌, ℕ, ◌<◌, false, List, map, sym, ap, ◌∙◌, get_or, arith, length}
-use Rattle.std.specs.List.{range_with_len}
+use Rattle.std.proofs.Common.{◌≡◌, ℕ, ◌<◌, false, sym, ap, ◌∙◌, get_or, arith, length}
 use Rattle.std.proofs.lemmas.List.{get_or-map}
 use Rattle.std.proofs.lemmas.List.FromFn.{get_or-map-range_with_len}
 use Rattle.ps_model.specs.declared.kind.Kind.{Kind}

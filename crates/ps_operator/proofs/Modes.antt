@@ -1,11 +1,9 @@
 -- What SF_ModeSelector shows in each state, and that it keeps a mode where the table says so.
-use Rattle.std.proofs.Common.{◌≡◌, ℕ, ◌<◌, ◌^◌, Bool, true, List, refl, lit<}
+use Rattle.std.proofs.Common.{◌≡◌, ◌<◌, ◌^◌, true, refl, lit<}
 use Rattle.ps_model.specs.Blocks.{block, outs}
-use Rattle.ps_model.specs.Kept.{Kept}
 use Rattle.ps_model.specs.Stored.{is_mode, is_state}
 use Rattle.ps_model.specs.declared.kind.Kind.TheVariants.{ModeSelector}
 use Rattle.ps_block.specs.Shown.{Shows, shown, shown_in}
-use Rattle.ps_operator.specs.declared.mode_selector.Mode.{Mode}
 use Rattle.ps_operator.specs.declared.mode_selector.Mode.TheVariants.{Mode0, Mode1, Mode2, Mode3, Mode4, Mode5, Mode6, Mode7}
 use Rattle.ps_operator.specs.declared.mode_selector.Phase.{Phase}
 use Rattle.ps_operator.specs.declared.mode_selector.Phase.TheVariants.{Idle, ModeChanged, Selected, Locked, ShortCircuit, OpenCircuit, ResetError1, ResetError2}

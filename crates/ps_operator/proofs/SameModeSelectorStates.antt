@@ -1,9 +1,8 @@
 -- Two states of SF_ModeSelector that keep the same are the same.
-use Rattle.std.proofs.Common.{◌≡◌, ℕ, List, [], ◌∷◌, refl, ap, Option, Some}
+use Rattle.std.proofs.Common.{◌≡◌, ℕ, List, [], ◌∷◌, refl, ap, Some}
 use Rattle.std.specs.Prelude.{◌+◌, ◌*◌}
 use Rattle.ps_model.specs.Kept.{Kept}
 use Rattle.ps_block.proofs.Codes.{with_code, same_state}
-use Rattle.ps_operator.specs.declared.mode_selector.Mode.{Mode}
 use Rattle.ps_operator.specs.declared.mode_selector.Mode.TheVariants.{Mode0, Mode1, Mode2, Mode3, Mode4, Mode5, Mode6, Mode7}
 use Rattle.ps_operator.specs.declared.mode_selector.Phase.{Phase}
 use Rattle.ps_operator.specs.declared.mode_selector.Phase.TheVariants.{Idle, ModeChanged, Selected, Locked, ShortCircuit, OpenCircuit, ResetError1, ResetError2}

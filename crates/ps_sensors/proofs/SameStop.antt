@@ -1,5 +1,5 @@
 -- Two states of SF_EmergencyStop and SF_ESPE that keep the same are the same.
-use Rattle.std.proofs.Common.{◌≡◌, List, [], ◌∷◌, refl, ap, Option, Some}
+use Rattle.std.proofs.Common.{◌≡◌, List, [], ◌∷◌, refl, ap, Some}
 use Rattle.ps_model.specs.Kept.{Kept}
 use Rattle.ps_block.proofs.Codes.{with_code, same_state}
 use Rattle.ps_sensors.specs.declared.stop.Phase.{Phase}

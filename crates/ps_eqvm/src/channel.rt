@@ -178,6 +178,7 @@ impl EquationChannel {
         ensures report { result ≡ true → report_b self.now.sizes self.now.cells ≡ Some into.new }
         ensures none { result ≡ false → report_b self.now.sizes self.now.cells ≡ None }
         ensures kept { result ≡ false → into.new ≡ into.old }
+        ensures sized { (length into.new.outs ≡ length into.old.outs) × (length into.new.diags ≡ length into.old.diags) }
     {
         self.plain.sound();
         if !report::has_report(&self.plain, &self.sizes) {

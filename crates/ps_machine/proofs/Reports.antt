@@ -1,5 +1,5 @@
 -- Cells that stand for the state of a scan hold its report.
-use Rattle.std.proofs.Common.{◌≡◌, ℕ, zero, suc, ◌+◌, ◌-◌, ◌*◌, ◌<◌, ◌≤◌, Bool, true, false, List, [], ◌∷◌, length, map, drop, Some, None, refl, sym, ap, ◌∙◌, arith, get_or}
+use Rattle.std.proofs.Common.{◌≡◌, ℕ, zero, suc, ◌+◌, ◌-◌, ◌*◌, ◌<◌, ◌≤◌, Bool, true, false, cond, List, [], ◌∷◌, length, map, drop, Some, None, refl, sym, ap, ◌∙◌, arith, get_or}
 use Rattle.std.specs.Prelude.{slice_index, slice_index_or, not, ◌&&◌, ◌==◌}
 use Rattle.std.specs.List.{list_all, range_with_len}
 use Rattle.std.specs.Int.{w16, from_be_bytes}
@@ -163,3 +163,21 @@ module _ (net : Network) (sound : IsSound net) (z : Sizes) (sizes : AreSizesOf n
       let held : Report = record { outs = map (λ j. output_byte z first cells j == 1) (range_with_len 0 z.outputs); diags = map (diag_at z first cells) (range_with_len 0 z.instances) } in
       let is : held ≡ report net new = λ x. record { outs = outs_are x; diags = diags_are x } in
       cond-true (holds_report z first cells) (Some held) None holds_it ∙ ap Some is
+
+-- a report that cells hold has the sizes of the application
+pub report_in_sized : (z : Sizes) (first : ℕ) (cells : List ℕ) (r : Report) → report_in z first cells ≡ Some r →
+    (length r.outs ≡ z.outputs) × (length r.diags ≡ z.instances)
+report_in_sized z first cells r h = by_test (holds_report z first cells) h
+  where
+    outs : List Bool
+    outs = map (λ j. output_byte z first cells j == 1) (range_with_len 0 z.outputs)
+
+    diags : List Diag
+    diags = map (diag_at z first cells) (range_with_len 0 z.instances)
+
+    by_test : (b : Bool) → cond b (Some (record { outs = outs; diags = diags })) None ≡ Some r → (length r.outs ≡ z.outputs) × (length r.diags ≡ z.instances)
+    by_test false e = absurd (cc)
+    by_test true e =
+        let same : record { outs = outs; diags = diags } ≡ r = cc in
+        (ap (λ (q : Report). length q.outs) (sym same) ∙ length-map-range_with_len (λ j. output_byte z first cells j == 1) 0 z.outputs,
+        ap (λ (q : Report). length q.diags) (sym same) ∙ length-map-range_with_len (diag_at z first cells) 0 z.instances)

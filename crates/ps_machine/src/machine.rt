@@ -61,7 +61,8 @@ pub trait ScanMachine: Drop {
         requires diags { length into.old.diags ≡ (stored self.now).sizes.instances }
         ensures report { result ≡ true → (workings (stored self.now).sizes).report (stored self.now).cells ≡ Some into.new }
         ensures none { result ≡ false → (workings (stored self.now).sizes).report (stored self.now).cells ≡ None }
-        ensures kept { result ≡ false → into.new ≡ into.old };
+        ensures kept { result ≡ false → into.new ≡ into.old }
+        ensures sized { (length into.new.outs ≡ length into.old.outs) × (length into.new.diags ≡ length into.old.diags) };
 
     /// The length of a region in bytes.
     fn region_len(&self, region: Region) -> u32

@@ -7,7 +7,7 @@ use Rattle.ps_model.specs.declared.channel.Progress.TheVariants.{Running}
 use Rattle.ps_model.specs.declared.sizes.Sizes.{Sizes}
 use Rattle.ps_machine.specs.Machines.{Workings, turned}
 use Rattle.ps_machine.specs.Progressing.{is_running}
-use Rattle.ps_machine.specs.Channels.{makes_turn, ended}
+use Rattle.ps_machine.specs.Channels.{makes_turn, after_turn, ended}
 use Rattle.ps_seat.specs.Seats.{Seat_state, machine_in, meeting, after_turns, Finishes}
 
 module _ (workings : Sizes → Workings) where
@@ -48,3 +48,21 @@ module _ (workings : Sizes → Workings) where
           ap (λ b. not p || b) (le-leb old.budget (old.channel.turns + k) (omega arith)) ∙ or-true (not p)
     ];
   }
+
+  -- a seat after so many turns, by the turns of its channel
+  after_turns_by_channel : (k : ℕ) (s : Seat_state) → after_turns workings k s
+      ≡ record { sizes = s.sizes; image = s.image; budget = s.budget; channel = turned (after_turn (machine_in workings s)) k s.channel }
+  after_turns_by_channel zero s = refl
+  after_turns_by_channel (suc k) s = after_turns_by_channel k (meeting workings makes_turn s)
+
+  -- a seat that finished its scan has a channel with so many more turns, and all else as it was
+  pub finished_seat : (old new : Seat_state) (f : Finishes workings old new) →
+      new ≡ record { sizes = old.sizes; image = old.image; budget = old.budget; channel = turned (after_turn (machine_in workings old)) f.turns old.channel }
+  finished_seat old new f = f.is_after ∙ after_turns_by_channel f.turns old
+
+  pub each_turn_goes : (old new : Seat_state) (f : Finishes workings old new) (j : ℕ) → j < f.turns →
+      ended (machine_in workings old) (turned (after_turn (machine_in workings old)) j old.channel) ≡ false
+  each_turn_goes old new f j low = ap (λ (s : Seat_state). ended (machine_in workings old) s.channel) (sym (after_turns_by_channel j old)) ∙ f.each j low
+
+  pub last_turn_ends : (old new : Seat_state) (f : Finishes workings old new) → ended (machine_in workings old) (turned (after_turn (machine_in workings old)) f.turns old.channel) ≡ true
+  last_turn_ends old new f = ap (λ (s : Seat_state). ended (machine_in workings old) s.channel) (sym (finished_seat old new f)) ∙ f.over

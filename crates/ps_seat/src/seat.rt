@@ -77,6 +77,13 @@ impl<C: ScanMachine> Seat<C> {
         self.channel.region_len(region)
     }
 
+    /// The most turns of a scan.
+    pub fn budget(&self) -> u32
+        ensures { result ≡ self.now.budget }
+    {
+        self.budget
+    }
+
     /// Begins a scan, which has one value for each input, and counts turns from 0.
     pub fn begin(&mut self, scan: &Scan)
         requires { length scan.now.ins ≡ self.old.sizes.inputs }
@@ -134,6 +141,7 @@ impl<C: ScanMachine> Seat<C> {
         ensures gives { OnOk result (outcome (machine_in C.workings self.now) self.now.channel.cells ≡ gives into.new) }
         ensures lacks { IfErr result (λ failing. outcome (machine_in C.workings self.now) self.now.channel.cells ≡ lacks failing) }
         ensures kept { OnErr result (into.new ≡ into.old) }
+        ensures sized { (length into.new.outs ≡ length into.old.outs) × (length into.new.diags ≡ length into.old.diags) }
     {
         match self.channel.progress() {
             Progress::Trapped(n) => Err(Failing::Trap(n)),

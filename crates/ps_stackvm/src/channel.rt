@@ -122,6 +122,7 @@ impl StackChannel {
         ensures report { result ≡ true → report_a self.now.sizes self.now.cells ≡ Some into.new }
         ensures none { result ≡ false → report_a self.now.sizes self.now.cells ≡ None }
         ensures kept { result ≡ false → into.new ≡ into.old }
+        ensures sized { (length into.new.outs ≡ length into.old.outs) × (length into.new.diags ≡ length into.old.diags) }
     {
         if !has_report(&self.cells, &self.sizes) {
             return false;

@@ -15,7 +15,7 @@ use Rattle.ps_world.specs.Lists.{IsWithinScan, turn_count}
 use Rattle.ps_world.specs.Laws.{TurnsAreBounded}
 
 -- a channel that has not ended has turns left
-turns_are_left : (m : Machine) (s : Channel_state) → ended m s ≡ false → s.turns < m.budget
+pub turns_are_left : (m : Machine) (s : Channel_state) → ended m s ≡ false → s.turns < m.budget
 turns_are_left m s more =
     elim (cases_lt s.turns m.budget) [
       | inl low ↦ low
@@ -25,7 +25,7 @@ turns_are_left m s more =
     ]
 
 -- a strike is no turn
-same_turns : (region : Region) (at : ℕ) (bytes : List ℕ) (s : Channel_state) → (after_strike region at bytes s).turns ≡ s.turns
+pub same_turns : (region : Region) (at : ℕ) (bytes : List ℕ) (s : Channel_state) → (after_strike region at bytes s).turns ≡ s.turns
 same_turns Code at bytes s = refl
 same_turns Cells at bytes s = refl
 

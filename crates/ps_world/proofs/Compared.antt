@@ -12,9 +12,10 @@ use Rattle.ps_model.specs.declared.report.Report.{Report}
 use Rattle.ps_model.specs.Fields.{first_difference}
 use Rattle.ps_model.proofs.FieldPlaces.{equal_from_no_difference, no_difference_from_equal}
 use Rattle.ps_machine.specs.Machines.{Machine}
-use Rattle.ps_machine.specs.Channels.{Channel_state}
 use Rattle.ps_world.specs.Worlds.{Machines, World_state, machine, channel}
-use Rattle.ps_world.specs.Verdicts.{Outcome, gives, lacks, outcome_of, outcome, agreed, judged, verdict}
+use Rattle.ps_seat.specs.declared.seat.Failing.{Failing}
+use Rattle.ps_seat.specs.Outcomes.{Outcome, gives, lacks, outcome_by, outcome}
+use Rattle.ps_world.specs.Verdicts.{cause_of, agreed, judged, verdict}
 use Rattle.ps_world.specs.Laws.{GivesSized, Disagree, TripsExactly}
 
 -- both outcomes are this report
@@ -28,16 +29,16 @@ pub record IsSized (outputs instances : ℕ) (o : Outcome) : Type 0 where
   pub outs : (r : Report) → o ≡ gives r → length r.outs ≡ outputs
   pub diags : (r : Report) → o ≡ gives r → length r.diags ≡ instances
 
-report_is : (ch : Channel) (p : Progress) (o : Option Report) (r : Report) → outcome_of ch p o ≡ gives r → o ≡ Some r
-report_is ch (Trapped n) o r h = absurd (cc)
-report_is ch Running o r h = absurd (cc)
-report_is ch Done None r h = absurd (cc)
-report_is ch Done (Some q) r h = cc
+report_is : (p : Progress) (o : Option Report) (r : Report) → outcome_by p o ≡ gives r → o ≡ Some r
+report_is (Trapped n) o r h = absurd (cc)
+report_is Running o r h = absurd (cc)
+report_is Done None r h = absurd (cc)
+report_is Done (Some q) r h = cc
 
-pub outcome_sized : (ch : Channel) (m : Machine) (outputs instances : ℕ) (s : Channel_state) → GivesSized m outputs instances → IsSized outputs instances (outcome ch m s)
-outcome_sized ch m outputs instances s sized = record {
-  outs = λ r h. (sized s.cells r (report_is ch (m.progress s.cells) (m.report s.cells) r h)).0;
-  diags = λ r h. (sized s.cells r (report_is ch (m.progress s.cells) (m.report s.cells) r h)).1;
+pub outcome_sized : (m : Machine) (outputs instances : ℕ) (cells : List ℕ) → GivesSized m outputs instances → IsSized outputs instances (outcome m cells)
+outcome_sized m outputs instances cells sized = record {
+  outs = λ r h. (sized cells r (report_is (m.progress cells) (m.report cells) r h)).0;
+  diags = λ r h. (sized cells r (report_is (m.progress cells) (m.report cells) r h)).1;
 }
 
 not_released : (d : Option ℕ) → agreed d ≡ Released → d ≡ None
@@ -62,15 +63,15 @@ pub not_down : (t : Bool) (v : Verdict) → cond t Down v ≡ Released → t ≡
 not_down true v h = absurd (cc)
 not_down false v h = refl
 
-pub up_verdict : (m : Machines) (x : World_state) → x.tripped ≡ false → verdict m x ≡ judged (outcome A m.a x.a) (outcome B m.b x.b)
-up_verdict m x up = ap (λ t. cond t Down (judged (outcome A m.a x.a) (outcome B m.b x.b))) up
+pub up_verdict : (m : Machines) (x : World_state) → x.tripped ≡ false → verdict m x ≡ judged (outcome m.a x.a.cells) (outcome m.b x.b.cells)
+up_verdict m x up = ap (λ t. cond t Down (judged (outcome m.a x.a.cells) (outcome m.b x.b.cells))) up
 
 -- ---- Trips exactly.
 
 -- a judgement is Released or Tripped
 judged_is : (a b : Outcome) → (judged a b ≡ Released) ⊎ ((cause : Cause) × (judged a b ≡ Tripped cause))
-judged_is (lacks c) b = inr (c, refl)
-judged_is (gives r) (lacks c) = inr (c, refl)
+judged_is (lacks f) b = inr (cause_of A f, refl)
+judged_is (gives r) (lacks f) = inr (cause_of B f, refl)
 judged_is (gives r) (gives q) = by_difference (first_difference r q)
   where
     by_difference : (d : Option ℕ) → (agreed d ≡ Released) ⊎ ((cause : Cause) × (agreed d ≡ Tripped cause))
@@ -81,9 +82,9 @@ pub trips_exactly : (m : Machines) (outputs instances : ℕ) → GivesSized m.a 
 trips_exactly m outputs instances ga gb x up = (disagree, trips)
   where
     a : Outcome
-    a = outcome A m.a x.a
+    a = outcome m.a x.a.cells
     b : Outcome
-    b = outcome B m.b x.b
+    b = outcome m.b x.b.cells
 
     disagree : ((cause : Cause) × (verdict m x ≡ Tripped cause)) → Disagree m x
     disagree h = record {
@@ -96,7 +97,7 @@ trips_exactly m outputs instances ga gb x up = (disagree, trips)
     trips : Disagree m x → (cause : Cause) × (verdict m x ≡ Tripped cause)
     trips d = elim (judged_is a b) [
       | inl released ↦
-          let agree = released_agree outputs instances a b (outcome_sized A m.a outputs instances x.a ga) (outcome_sized B m.b outputs instances x.b gb) released in
+          let agree = released_agree outputs instances a b (outcome_sized m.a outputs instances x.a.cells ga) (outcome_sized m.b outputs instances x.b.cells gb) released in
           absurd (d.none_equal agree.report agree.a_gives agree.b_gives)
       | inr tripped ↦ (tripped.0, up_verdict m x up ∙ tripped.1)
     ]

@@ -3,13 +3,14 @@ use Rattle.std.proofs.Common.{◌≡◌, ℕ, Bool, true, false, cond, List, [],
 use Rattle.ps_model.specs.declared.channel.Channel.TheVariants.{A, B}
 use Rattle.ps_model.specs.declared.channel.Verdict.TheVariants.{Down}
 use Rattle.ps_world.specs.Worlds.{Machines, World_state, Event, Begin, Turn, Spoil, Compare, Restart}
-use Rattle.ps_world.specs.Verdicts.{outcome, judged, verdict, is_trip, given_with}
+use Rattle.ps_seat.specs.Outcomes.{outcome}
+use Rattle.ps_world.specs.Verdicts.{judged, verdict, is_trip, given_with}
 use Rattle.ps_world.specs.Steps.{world_step, after, Lawful}
 use Rattle.ps_world.specs.Lists.{HasNoRestart}
 use Rattle.ps_world.specs.Laws.{StaysDown}
 
 down_verdict : (m : Machines) (x : World_state) → x.tripped ≡ true → verdict m x ≡ Down
-down_verdict m x tripped = ap (λ t. cond t Down (judged (outcome A m.a x.a) (outcome B m.b x.b))) tripped
+down_verdict m x tripped = ap (λ t. cond t Down (judged (outcome m.a x.a.cells) (outcome m.b x.b.cells))) tripped
 
 stays_tripped : (m : Machines) (inputs : ℕ) (es : List Event) (x : World_state) → x.tripped ≡ true → Lawful m inputs es x → HasNoRestart es → (after m es x).tripped ≡ true
 stays_tripped m inputs [] x tripped law none = tripped
@@ -22,4 +23,4 @@ stays_tripped m inputs (Restart ∷ es) x tripped law none = absurd none
 pub stays_down : (m : Machines) → StaysDown m
 stays_down m es x inputs outputs instances tripped law none =
     let down = down_verdict m (after m es x) (stays_tripped m inputs es x tripped law none) in
-    (down, ap (λ v. given_with v outputs instances (outcome A m.a (after m es x).a)) down)
+    (down, ap (λ v. given_with v outputs instances (outcome m.a (after m es x).a.cells)) down)

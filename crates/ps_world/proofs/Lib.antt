@@ -4,3 +4,5 @@ pub mod Standing
 pub mod Right
 pub mod Down
 pub mod Bounded
+pub mod Quick
+pub mod Turning

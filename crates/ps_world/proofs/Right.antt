@@ -14,7 +14,8 @@ use Rattle.ps_model.specs.Meaning.{Past, nothing, old_state, Meaning, Runs, repo
 use Rattle.ps_model.specs.PastAfter.{past_after}
 use Rattle.ps_machine.specs.Keeping.{Keeps}
 use Rattle.ps_world.specs.Worlds.{Machines, World_state, Event, Begin, Turn, Spoil, Compare, Restart, machine, channel, world_0}
-use Rattle.ps_world.specs.Verdicts.{Outcome, gives, lacks, outcome_of, outcome, judged, verdict, is_trip, report_or, given_with, report_given}
+use Rattle.ps_seat.specs.Outcomes.{Outcome, gives, outcome_by, outcome}
+use Rattle.ps_world.specs.Verdicts.{judged, verdict, is_trip, report_or, given_with, report_given}
 use Rattle.ps_world.specs.Steps.{world_step, after, May, Lawful}
 use Rattle.ps_world.specs.Lists.{IsSpared, OneSided, HasNoSpoil, items_of}
 use Rattle.ps_world.specs.Laws.{GivesSized, Compares, report_meant, ReleasedIsRight, NeverTrips}
@@ -30,26 +31,26 @@ lawful_last m n [] e x law = law.0
 lawful_last m n (d ∷ es) e x law = lawful_last m n es e (world_step m d x) law.1
 
 -- the report that is given where the channels agree
-given_agreed : (m : Machines) (outputs instances : ℕ) (x : World_state) (agree : Agree (outcome A m.a x.a) (outcome B m.b x.b)) → verdict m x ≡ Released →
+given_agreed : (m : Machines) (outputs instances : ℕ) (x : World_state) (agree : Agree (outcome m.a x.a.cells) (outcome m.b x.b.cells)) → verdict m x ≡ Released →
     report_given m outputs instances x ≡ agree.report
 given_agreed m outputs instances x agree released =
-    ap (λ v. given_with v outputs instances (outcome A m.a x.a)) released ∙ ap (report_or (blank_report outputs instances)) agree.a_gives
+    ap (λ v. given_with v outputs instances (outcome m.a x.a.cells)) released ∙ ap (report_or (blank_report outputs instances)) agree.a_gives
 
-outcome_is : (m : Machines) (x : World_state) (ch : Channel) (agree : Agree (outcome A m.a x.a) (outcome B m.b x.b)) → outcome ch (machine ch m) (channel ch x) ≡ gives agree.report
+outcome_is : (m : Machines) (x : World_state) (ch : Channel) (agree : Agree (outcome m.a x.a.cells) (outcome m.b x.b.cells)) → outcome (machine ch m) (channel ch x).cells ≡ gives agree.report
 outcome_is m x A agree = agree.a_gives
 outcome_is m x B agree = agree.b_gives
 
 module _ (net : Network) (m : Machines) (ch : Channel) (Stands : State → ℕ → List ℕ → Type 0) (keeps : Keeps net (machine ch m) Stands) where
   -- at a Compare of a world that is not tripped a channel that stands for the meaning gives its report
   pub meant_outcome : (x : World_state) (past : Past) → Holds net m ch Stands keeps x past → May m (input_count net) Compare x → x.tripped ≡ false →
-      outcome ch (machine ch m) (channel ch x) ≡ gives (report net (old_state net past))
+      outcome (machine ch m) (channel ch x).cells ≡ gives (report net (old_state net past))
   meant_outcome x past h may up =
       let over = is_over net m ch Stands keeps x past h may up in
-      ap (λ p. outcome_of ch p ((machine ch m).report (channel ch x).cells)) over.done ∙ ap (outcome_of ch Done) over.reports
+      ap (λ p. outcome_by p ((machine ch m).report (channel ch x).cells)) over.done ∙ ap (outcome_by Done) over.reports
 
   -- so does a channel that no Spoil names, after a lawful list
   pub spared_outcome : (es : List Event) (ws : List State) → Compares net m es → IsSpared ch es → Meaning net (items_of es) ws → (after m es (world_0 m)).tripped ≡ false →
-      outcome ch (machine ch m) (channel ch (after m es (world_0 m))) ≡ gives (report_meant net es ws)
+      outcome (machine ch m) (channel ch (after m es (world_0 m))).cells ≡ gives (report_meant net es ws)
   spared_outcome es ws law spared means up =
       let x = after m es (world_0 m) in
       let front = lawful_front m (input_count net) es Compare (world_0 m) law in
@@ -64,10 +65,10 @@ module _ (net : Network) (m : Machines) (StandsA StandsB : State → ℕ → Lis
   abbrev instances : ℕ
   instances = instance_count net
 
-  agree_where_released : (x : World_state) → verdict m x ≡ Released → Agree (outcome A m.a x.a) (outcome B m.b x.b)
+  agree_where_released : (x : World_state) → verdict m x ≡ Released → Agree (outcome m.a x.a.cells) (outcome m.b x.b.cells)
   agree_where_released x released =
-      let up = not_down x.tripped (judged (outcome A m.a x.a) (outcome B m.b x.b)) released in
-      released_agree outputs instances (outcome A m.a x.a) (outcome B m.b x.b) (outcome_sized A m.a outputs instances x.a sized_a) (outcome_sized B m.b outputs instances x.b sized_b)
+      let up = not_down x.tripped (judged (outcome m.a x.a.cells) (outcome m.b x.b.cells)) released in
+      released_agree outputs instances (outcome m.a x.a.cells) (outcome m.b x.b.cells) (outcome_sized m.a outputs instances x.a.cells sized_a) (outcome_sized m.b outputs instances x.b.cells sized_b)
       (sym (up_verdict m x up) ∙ released)
 
   pub released_is_right : ReleasedIsRight net m
@@ -76,13 +77,13 @@ module _ (net : Network) (m : Machines) (StandsA StandsB : State → ℕ → Lis
       x : World_state
       x = after m es (world_0 m)
 
-      agree : Agree (outcome A m.a x.a) (outcome B m.b x.b)
+      agree : Agree (outcome m.a x.a.cells) (outcome m.b x.b.cells)
       agree = agree_where_released x released
 
       up : x.tripped ≡ false
-      up = not_down x.tripped (judged (outcome A m.a x.a) (outcome B m.b x.b)) released
+      up = not_down x.tripped (judged (outcome m.a x.a.cells) (outcome m.b x.b.cells)) released
 
-      is_meant : (ch : Channel) → outcome ch (machine ch m) (channel ch x) ≡ gives (report_meant net es ws) → report_given m outputs instances x ≡ report_meant net es ws
+      is_meant : (ch : Channel) → outcome (machine ch m) (channel ch x).cells ≡ gives (report_meant net es ws) → report_given m outputs instances x ≡ report_meant net es ws
       is_meant ch meant =
           let both : gives agree.report ≡ gives (report_meant net es ws) = sym (outcome_is m x ch agree) ∙ meant in
           let same : agree.report ≡ report_meant net es ws = cc in
@@ -97,7 +98,7 @@ module _ (net : Network) (m : Machines) (StandsA StandsB : State → ℕ → Lis
       verdict m x ≡ Released
   releases x past ha hb may up =
       up_verdict m x up
-      ∙ agree_released (outcome A m.a x.a) (outcome B m.b x.b) (record {
+      ∙ agree_released (outcome m.a x.a.cells) (outcome m.b x.b.cells) (record {
         report = report net (old_state net past);
         a_gives = meant_outcome net m A StandsA ka x past ha may up;
         b_gives = meant_outcome net m B StandsB kb x past hb may up;

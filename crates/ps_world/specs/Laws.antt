@@ -13,7 +13,8 @@ use Rattle.ps_model.specs.PastAfter.{past_after}
 use Rattle.ps_machine.specs.Machines.{Machine}
 use Rattle.ps_machine.specs.Channels.{alone}
 use Rattle.ps_world.specs.Worlds.{Machines, World_state, Event, Begin, Compare, machine, channel, world_0}
-use Rattle.ps_world.specs.Verdicts.{Outcome, gives, lacks, outcome, verdict, report_given}
+use Rattle.ps_seat.specs.Outcomes.{gives, outcome}
+use Rattle.ps_world.specs.Verdicts.{verdict, report_given}
 use Rattle.ps_world.specs.Steps.{after, May, Lawful}
 use Rattle.ps_world.specs.Lists.{IsSpared, OneSided, HasNoSpoil, own_events, items_of, HasNoRestart, IsWithinScan, turn_count}
 
@@ -49,7 +50,7 @@ GivesSized m outputs instances = (cells : List ℕ) (r : Report) → m.report ce
 
 -- a channel gives no report, or the two reports differ
 pub record Disagree (m : Machines) (x : World_state) : Type 0 where
-  pub none_equal : (r : Report) → outcome A m.a x.a ≡ gives r → outcome B m.b x.b ≡ gives r → ⊥
+  pub none_equal : (r : Report) → outcome m.a x.a.cells ≡ gives r → outcome m.b x.b.cells ≡ gives r → ⊥
 
 -- Trips exactly: in a world that is not tripped a Compare is Tripped exactly where a channel has no report or the two reports differ.
 abbrev pub TripsExactly : Machines → Type 0

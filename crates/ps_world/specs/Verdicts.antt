@@ -2,33 +2,22 @@
 use Rattle.std.specs.Prelude.{ℕ, Bool, true, false, ◌==◌, if◌then◌else◌, Option, Some, None, length}
 use Rattle.ps_model.specs.declared.channel.Channel.{Channel}
 use Rattle.ps_model.specs.declared.channel.Channel.TheVariants.{A, B}
-use Rattle.ps_model.specs.declared.channel.Progress.{Progress}
-use Rattle.ps_model.specs.declared.channel.Progress.TheVariants.{Running, Done, Trapped}
 use Rattle.ps_model.specs.declared.channel.Cause.{Cause}
 use Rattle.ps_model.specs.declared.channel.Cause.TheVariants.{Differ, Stuck, Trap, NoReport}
 use Rattle.ps_model.specs.declared.channel.Verdict.{Verdict}
 use Rattle.ps_model.specs.declared.channel.Verdict.TheVariants.{Released, Tripped, Down}
 use Rattle.ps_model.specs.declared.report.Report.{Report}
 use Rattle.ps_model.specs.Fields.{first_difference, blank_report}
-use Rattle.ps_machine.specs.Machines.{Machine}
-use Rattle.ps_machine.specs.Channels.{Channel_state}
+use Rattle.ps_seat.specs.declared.seat.Failing.{Failing}
+use Rattle.ps_seat.specs.declared.seat.Failing.TheVariants as Failing
+use Rattle.ps_seat.specs.Outcomes.{Outcome, gives, lacks, outcome}
 use Rattle.ps_world.specs.Worlds.{Machines, World_state}
 
--- a channel's report at the end of a scan, or the cause why it has none
-pub data Outcome : Type 0 where
-  gives : Report → Outcome
-  lacks : Cause → Outcome
-
--- A trap, a budget that is spent while Running, and cells that hold no Boolean report are causes, in this order.
-abbrev pub outcome_of : Channel → Progress → Option Report → Outcome
-outcome_of ch (Trapped n) report = lacks (Trap ch n)
-outcome_of ch Running report = lacks (Stuck ch)
-outcome_of ch Done None = lacks (NoReport ch)
-outcome_of ch Done (Some report) = gives report
-
--- the outcome of a channel that has ended
-abbrev pub outcome : Channel → Machine → Channel_state → Outcome
-outcome ch m s = outcome_of ch (m.progress s.cells) (m.report s.cells)
+-- the cause that a channel's failing is
+abbrev pub cause_of : Channel → Failing → Cause
+cause_of ch (Failing.Trap n) = Trap ch n
+cause_of ch Failing.Stuck = Stuck ch
+cause_of ch Failing.NoReport = NoReport ch
 
 -- reports that differ nowhere are released, and others trip with the first field that differs
 abbrev pub agreed : Option ℕ → Verdict
@@ -37,13 +26,13 @@ agreed (Some field) = Tripped (Differ field)
 
 -- A is looked at before B, and both before the reports are compared
 abbrev pub judged : Outcome → Outcome → Verdict
-judged (lacks cause) b = Tripped cause
-judged (gives r) (lacks cause) = Tripped cause
+judged (lacks failing) b = Tripped (cause_of A failing)
+judged (gives r) (lacks failing) = Tripped (cause_of B failing)
 judged (gives r) (gives q) = agreed (first_difference r q)
 
 -- the verdict of a Compare: a world that was tripped before is down
 abbrev pub verdict : Machines → World_state → Verdict
-verdict m x = if x.tripped then Down else judged (outcome A m.a x.a) (outcome B m.b x.b)
+verdict m x = if x.tripped then Down else judged (outcome m.a x.a.cells) (outcome m.b x.b.cells)
 
 -- whether a world is tripped after this verdict, up to the next Restart
 abbrev pub is_trip : Verdict → Bool
@@ -54,7 +43,7 @@ is_trip Down = true
 -- the report of an outcome, and another where there is none
 abbrev pub report_or : Report → Outcome → Report
 report_or other (gives r) = r
-report_or other (lacks cause) = other
+report_or other (lacks failing) = other
 
 -- With Released the report is that of the channels. With every other verdict each output, Ready and Error is FALSE and each code 0.
 abbrev pub given_with : Verdict → (outputs instances : ℕ) → Outcome → Report
@@ -64,4 +53,4 @@ given_with Down outputs instances a = blank_report outputs instances
 
 -- the report that a Compare gives, where the application has so many outputs and instances
 abbrev pub report_given : Machines → (outputs instances : ℕ) → World_state → Report
-report_given m outputs instances x = given_with (verdict m x) outputs instances (outcome A m.a x.a)
+report_given m outputs instances x = given_with (verdict m x) outputs instances (outcome m.a x.a.cells)

@@ -1,0 +1,313 @@
+// The world of two channels, event by event.
+
+ghost use Rattle.std.specs.Prelude.{◌≡◌, ◌≤◌, ◌<◌, ◌^◌, ◌&&◌, ◌||◌, ◌+◌, false, true, is_err, length, nat_lt, None, IfSome, IfNone, []};
+ghost use Rattle.ps_machine.specs.Channels.{ended};
+ghost use Rattle.ps_machine.specs.StoredChannel.{region_of};
+ghost use Rattle.ps_world.specs.Worlds.{machine, channel};
+ghost use Rattle.ps_world.specs.Worlds.Event.{Begin, Turn, Spoil, Compare, Restart};
+ghost use Rattle.ps_world.specs.Steps.{both_ended};
+ghost use Rattle.ps_world.specs.Verdicts.{verdict, report_given, judged, cause_of};
+ghost use Rattle.ps_world.specs.Whole.{machines_in, happened, after_events};
+ghost use Rattle.ps_world.specs.Orders.{spoils_before, next_turn, turn_events, events_before_compare, at_compare, scan_events};
+ghost use Rattle.ps_seat.specs.Outcomes.{outcome};
+ghost use Rattle.ps_seat.specs.Outcomes.Outcome.{gives};
+
+use ps_machine::ScanMachine;
+use ps_model::channel::{Cause, Channel, Fault, OutOfRegion, Region, Verdict};
+use ps_model::report::{Report, Scan};
+use ps_seat::{Failing, Seat};
+use std::marker::Model;
+
+/// Two channels of one application, which make its scans event by event and whose reports are compared.
+/// Contracts see it as a `Whole`. Only `build` takes memory.
+#[derive(Drop)]
+pub struct World<A: ScanMachine, B: ScanMachine> {
+    a: Seat<A>,
+    b: Seat<B>,
+    last: u32,
+    begun: bool,
+    tripped: bool,
+    // room for the report of channel B, which is no part of what the world is
+    other: Report,
+}
+
+impl<A: ScanMachine, B: ScanMachine> Model for World<A, B> {
+    ghost use Rattle.std.specs.Prelude.{◌≡◌, ◌≤◌, ◌<◌, ◌+◌, ◌*◌, ◌^◌, length};
+    ghost use Rattle.ps_world.specs.Whole.{Whole};
+
+    ghost Value = { Whole };
+
+    ghost view = { λ w. record {
+        setup = record { sizes = w.a.sizes; image_a = w.a.image; image_b = w.b.image; budget_a = w.a.budget; budget_b = w.b.budget };
+        state = record { a = w.a.channel; b = w.b.channel; last = w.last; begun = w.begun; tripped = w.tripped };
+    } };
+
+    ghost invariant = { λ w. (w.b.sizes ≡ w.a.sizes) × (w.a.sizes.outputs + 3 * w.a.sizes.instances ≤ 2 ^ 16) × (w.a.budget + w.b.budget + 1 < 2 ^ 32)
+        × (length w.other.outs ≡ w.a.sizes.outputs) × (length w.other.diags ≡ w.a.sizes.instances) };
+}
+
+// The cause that a channel's failing is.
+fn cause_of_failing(channel: Channel, failing: Failing) -> Cause
+    ensures { result ≡ cause_of channel failing }
+{
+    match failing {
+        Failing::Trap(n) => Cause::Trap(channel, n),
+        Failing::Stuck => Cause::Stuck(channel),
+        Failing::NoReport => Cause::NoReport(channel),
+    }
+}
+
+impl<A: ScanMachine, B: ScanMachine> World<A, B> {
+    /// Whether the world is tripped.
+    pub fn is_tripped(&self) -> bool
+        ensures { result ≡ self.now.state.tripped }
+    {
+        self.tripped
+    }
+
+    /// Whether a scan is begun.
+    pub fn scan_begun(&self) -> bool
+        ensures { result ≡ self.now.state.begun }
+    {
+        self.begun
+    }
+
+    /// Begins a scan in both channels.
+    pub fn begin(&mut self, scan: &Scan)
+        requires rest { self.old.state.begun ≡ false }
+        requires up { self.old.state.tripped ≡ false }
+        requires later { self.old.state.last ≤ scan.now.now }
+        requires inputs { length scan.now.ins ≡ self.old.setup.sizes.inputs }
+        ensures { self.new ≡ happened A.workings B.workings (Begin scan.entry.now.now scan.entry.now.ins) self.old }
+    {
+        self.a.begin(scan);
+        self.b.begin(scan);
+        self.last = scan.now;
+        self.begun = true;
+    }
+
+    /// Whether a channel has ended: its progress is not Running, or it has spent its budget of turns.
+    pub fn ended(&self, of: Channel) -> bool
+        ensures { result ≡ ended (machine of (machines_in A.workings B.workings self.now.setup)) (channel of self.now.state) }
+    {
+        match of {
+            Channel::A => self.a.ended(),
+            Channel::B => self.b.ended(),
+        }
+    }
+
+    /// One turn of a channel.
+    pub fn turn(&mut self, of: Channel)
+        requires begun { self.old.state.begun ≡ true }
+        requires goes { ended (machine of (machines_in A.workings B.workings self.old.setup)) (channel of self.old.state) ≡ false }
+        ensures { self.new ≡ happened A.workings B.workings (Turn of) self.old }
+    {
+        match of {
+            Channel::A => self.a.turn(),
+            Channel::B => self.b.turn(),
+        }
+    }
+
+    /// Replaces bytes of a channel's region, at any moment. OutOfRegion comes exactly where they would
+    /// pass the region's end, and then nothing changed.
+    pub fn spoil(
+        &mut self,
+        of: Channel,
+        region: Region,
+        at: u32,
+        bytes: &[u8],
+    ) -> Result<(), OutOfRegion>
+        ensures bytes { self.new ≡ happened A.workings B.workings (Spoil of region at bytes.now) self.old }
+    {
+        match of {
+            Channel::A => self.a.spoil(region, at, bytes),
+            Channel::B => self.b.spoil(region, at, bytes),
+        }
+    }
+
+    /// Closes the scan, or answers Down in a tripped world. `into`, a report of the application's sizes, becomes the
+    /// report that is released, and one with every output, Ready and Error FALSE and every code 0 with Tripped and Down.
+    pub fn compare(&mut self, into: &mut Report) -> Verdict
+        requires closes { (self.old.state.tripped || (self.old.state.begun && both_ended (machines_in A.workings B.workings self.old.setup) self.old.state)) ≡ true }
+        requires outs { length into.old.outs ≡ self.old.setup.sizes.outputs }
+        requires diags { length into.old.diags ≡ self.old.setup.sizes.instances }
+        ensures event { self.new ≡ happened A.workings B.workings Compare self.old }
+        ensures verdict { result ≡ verdict (machines_in A.workings B.workings self.old.setup) self.old.state }
+        ensures report { into.new ≡ report_given (machines_in A.workings B.workings self.old.setup) self.old.setup.sizes.outputs self.old.setup.sizes.instances self.old.state }
+    {
+        self.begun = false;
+        let verdict = if self.tripped {
+            Verdict::Down
+        } else {
+            self.judge(into)
+        };
+        if verdict != Verdict::Released {
+            self.tripped = true;
+            into.clear();
+        }
+        verdict
+    }
+
+    // Compares the reports of the two channels, of which that of A is left in `into`.
+    fn judge(&mut self, into: &mut Report) -> Verdict
+        requires outs { length into.old.outs ≡ self.old.setup.sizes.outputs }
+        requires diags { length into.old.diags ≡ self.old.setup.sizes.instances }
+        ensures same { self.new ≡ self.old }
+        ensures verdict { result ≡ judged (outcome (machines_in A.workings B.workings self.old.setup).a self.old.state.a.cells) (outcome (machines_in A.workings B.workings self.old.setup).b self.old.state.b.cells) }
+        ensures report { result ≡ Verdict.Released → outcome (machines_in A.workings B.workings self.old.setup).a self.old.state.a.cells ≡ gives into.new }
+        ensures outs { length into.new.outs ≡ length into.old.outs }
+        ensures diags { length into.new.diags ≡ length into.old.diags }
+    {
+        if let Err(failing) = self.a.outcome_into(into) {
+            return Verdict::Tripped(cause_of_failing(Channel::A, failing));
+        }
+        if let Err(failing) = self.b.outcome_into(&mut self.other) {
+            return Verdict::Tripped(cause_of_failing(Channel::B, failing));
+        }
+        match into.first_difference(&self.other) {
+            None => Verdict::Released,
+            Some(field) => Verdict::Tripped(Cause::Differ(field)),
+        }
+    }
+
+    /// Both channels begin anew, from code as compiled and blank cells.
+    pub fn restart(&mut self)
+        requires { self.old.state.begun ≡ false }
+        ensures { self.new ≡ happened A.workings B.workings Restart self.old }
+    {
+        self.a.restart();
+        self.b.restart();
+        self.begun = false;
+        self.tripped = false;
+    }
+
+    /// Makes a scan by the order of events of a run, where `faults` are those of the scan in the order of the fault file:
+    /// the Spoils before it, Begin, turns of A and B in turn with the Spoils before each, and Compare. In a tripped world it
+    /// is Compare alone. Verdict and report are those of the Compare. It takes no memory.
+    pub fn make_scan(&mut self, scan: &Scan, faults: &[Fault], into: &mut Report) -> Verdict
+        requires rest { self.old.state.begun ≡ false }
+        requires later { self.old.state.last ≤ scan.now.now }
+        requires inputs { length scan.now.ins ≡ self.old.setup.sizes.inputs }
+        requires outs { length into.old.outs ≡ self.old.setup.sizes.outputs }
+        requires diags { length into.old.diags ≡ self.old.setup.sizes.instances }
+        ensures events { self.new ≡ after_events A.workings B.workings (scan_events (machines_in A.workings B.workings self.old.setup) faults.now scan.entry.now.now scan.entry.now.ins self.old.state) self.old }
+        ensures verdict { result ≡ verdict (machines_in A.workings B.workings self.old.setup) (at_compare (machines_in A.workings B.workings self.old.setup) faults.now scan.entry.now.now scan.entry.now.ins self.old.state) }
+        ensures report { into.new ≡ report_given (machines_in A.workings B.workings self.old.setup) self.old.setup.sizes.outputs self.old.setup.sizes.instances (at_compare (machines_in A.workings B.workings self.old.setup) faults.now scan.entry.now.now scan.entry.now.ins self.old.state) }
+    {
+        self.run_scan(scan, faults);
+        self.compare(into)
+    }
+
+    // A scan up to its Compare. In a tripped world nothing comes before that.
+    fn run_scan(&mut self, scan: &Scan, faults: &[Fault])
+        requires rest { self.old.state.begun ≡ false }
+        requires later { self.old.state.last ≤ scan.now.now }
+        requires inputs { length scan.now.ins ≡ self.old.setup.sizes.inputs }
+        ensures events { self.new ≡ after_events A.workings B.workings (events_before_compare (machines_in A.workings B.workings self.old.setup) faults.now scan.entry.now.now scan.entry.now.ins self.old.state) self.old }
+        ensures closes { (self.new.state.tripped || (self.new.state.begun && both_ended (machines_in A.workings B.workings self.old.setup) self.new.state)) ≡ true }
+    {
+        if self.tripped {
+            return;
+        }
+        if faults.is_empty() {
+            self.run_quietly(scan);
+        } else {
+            self.run_struck(scan, faults);
+        }
+    }
+
+    // A scan without a fault: the channels run one after the other, which leads to the world of turns one by one.
+    fn run_quietly(&mut self, scan: &Scan)
+        requires rest { self.old.state.begun ≡ false }
+        requires up { self.old.state.tripped ≡ false }
+        requires later { self.old.state.last ≤ scan.now.now }
+        requires inputs { length scan.now.ins ≡ self.old.setup.sizes.inputs }
+        ensures events { self.new ≡ after_events A.workings B.workings (events_before_compare (machines_in A.workings B.workings self.old.setup) [] scan.entry.now.now scan.entry.now.ins self.old.state) self.old }
+        ensures begun { self.new.state.begun ≡ true }
+        ensures over { both_ended (machines_in A.workings B.workings self.old.setup) self.new.state ≡ true }
+    {
+        self.begin(scan);
+        self.finish_both();
+    }
+
+    // A scan that these faults may strike.
+    fn run_struck(&mut self, scan: &Scan, faults: &[Fault])
+        requires rest { self.old.state.begun ≡ false }
+        requires up { self.old.state.tripped ≡ false }
+        requires later { self.old.state.last ≤ scan.now.now }
+        requires inputs { length scan.now.ins ≡ self.old.setup.sizes.inputs }
+        ensures events { self.new ≡ after_events A.workings B.workings (events_before_compare (machines_in A.workings B.workings self.old.setup) faults.now scan.entry.now.now scan.entry.now.ins self.old.state) self.old }
+        ensures begun { self.new.state.begun ≡ true }
+        ensures over { both_ended (machines_in A.workings B.workings self.old.setup) self.new.state ≡ true }
+    {
+        self.strike(faults, 0);
+        self.begin(scan);
+        self.take_turns(faults);
+    }
+
+    // The turns of a scan that is begun and that nothing strikes.
+    fn finish_both(&mut self)
+        requires begun { self.old.state.begun ≡ true }
+        requires none_a { self.old.state.a.turns ≡ 0 }
+        requires none_b { self.old.state.b.turns ≡ 0 }
+        ensures events { self.new ≡ after_events A.workings B.workings (turn_events (machines_in A.workings B.workings self.old.setup) [] (self.old.setup.budget_a + self.old.setup.budget_b) 0 None self.old.state) self.old }
+        ensures begun { self.new.state.begun ≡ true }
+        ensures over { both_ended (machines_in A.workings B.workings self.old.setup) self.new.state ≡ true }
+    {
+        self.a.finish();
+        self.b.finish();
+    }
+
+    // The Spoils of these faults that come before a turn. One out of its region changes nothing.
+    fn strike(&mut self, faults: &[Fault], turn: u32)
+        ensures { self.new ≡ after_events A.workings B.workings (spoils_before turn faults.now) self.old }
+    {
+        for fault in faults {
+            if fault.turn == turn {
+                let _changed = self.spoil(fault.channel, fault.region, fault.at, fault.bytes.as_slice());
+            }
+        }
+    }
+
+    // The channel that has the next turn, and None exactly where both have ended.
+    fn next_turn(&self, last: Option<Channel>) -> Option<Channel>
+        ensures some { IfSome result (λ of. (of ≡ next_turn (machines_in A.workings B.workings self.now.setup) last self.now.state) × (ended (machine of (machines_in A.workings B.workings self.now.setup)) (channel of self.now.state) ≡ false) × (both_ended (machines_in A.workings B.workings self.now.setup) self.now.state ≡ false)) }
+        ensures none { IfNone result (both_ended (machines_in A.workings B.workings self.now.setup) self.now.state ≡ true) }
+    {
+        let (first, second) = match last {
+            Some(Channel::A) => (Channel::B, Channel::A),
+            _ => (Channel::A, Channel::B),
+        };
+        if !self.ended(first) {
+            Some(first)
+        } else if !self.ended(second) {
+            Some(second)
+        } else {
+            None
+        }
+    }
+
+    // The turns of a scan that is begun, with the Spoils before each, until both channels have ended.
+    fn take_turns(&mut self, faults: &[Fault])
+        requires begun { self.old.state.begun ≡ true }
+        requires none_a { self.old.state.a.turns ≡ 0 }
+        requires none_b { self.old.state.b.turns ≡ 0 }
+        ensures events { self.new ≡ after_events A.workings B.workings (turn_events (machines_in A.workings B.workings self.old.setup) faults.now (self.old.setup.budget_a + self.old.setup.budget_b) 0 None self.old.state) self.old }
+        ensures begun { self.new.state.begun ≡ true }
+        ensures over { both_ended (machines_in A.workings B.workings self.old.setup) self.new.state ≡ true }
+    {
+        let most = self.a.budget() + self.b.budget();
+        let mut last = None;
+        for done in 0..most {
+            self.strike(faults, done + 1);
+            match self.next_turn(last) {
+                None => return,
+                Some(of) => {
+                    self.turn(of);
+                    last = Some(of);
+                }
+            }
+        }
+        self.strike(faults, most + 1);
+    }
+}

@@ -2,3 +2,5 @@ pub mod Fronts
 pub mod Refusing
 pub mod Reading
 pub mod OneText
+pub mod Counts
+pub mod Inputs

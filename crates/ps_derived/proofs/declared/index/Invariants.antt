@@ -1,0 +1,6 @@
+use Rattle.std.proofs.Common.{take}
+use Rattle.ps_table.specs.Tables.{Indexes}
+use Rattle.ps_derived.proofs.declared.index.Given as goal
+
+abbrev pub invariant-loop-i : goal.invariant-loop-i
+invariant-loop-i l = Indexes (λ d. d.name) l.table (take l.i l.declared)

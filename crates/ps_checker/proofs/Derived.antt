@@ -19,14 +19,14 @@ use Rattle.ps_model.proofs.NodePlaces.{in_either, first_stands, rest_stands}
 use Rattle.ps_checker.proofs.Left.{root_at}
 use Rattle.ps_checker.proofs.Sound.{operands_stand}
 
--- what lines say is kept when more are written
+-- what lines say is read_before when more are written
 pub spoken_kept : (lines more : List CertLine) (p : ℕ) → 1 ≤ p → p ≤ length lines → spoken (lines ++ more) p ≡ spoken lines p
-spoken_kept lines more p low high = ap (λ (l : CertLine). l.node) (kept lines (p - 1) (omega arith))
+spoken_kept lines more p low high = ap (λ (l : CertLine). l.node) (read_before lines (p - 1) (omega arith))
   where
-    kept : (xs : List CertLine) (k : ℕ) → k < length xs → slice_index_or (xs ++ more) k (line 0 Src []) ≡ slice_index_or xs k (line 0 Src [])
-    kept [] k h = absurd (omega arith)
-    kept (x ∷ xs) zero h = refl
-    kept (x ∷ xs) (suc k) h = kept xs k (omega arith)
+    read_before : (xs : List CertLine) (k : ℕ) → k < length xs → slice_index_or (xs ++ more) k (line 0 Src []) ≡ slice_index_or xs k (line 0 Src [])
+    read_before [] k h = absurd (omega arith)
+    read_before (x ∷ xs) zero h = refl
+    read_before (x ∷ xs) (suc k) h = read_before xs k (omega arith)
 
 module _ (net : Network) (lines more : List CertLine) where
   speak_kept : (i : ℕ) → i ≤ length lines → (ps places : List ℕ) → list_all (is_earlier i) ps ≡ true → speak_of (lines ++ more) ps places ≡ speak_of lines ps places
@@ -132,10 +132,10 @@ pub record DoneEach (net : Network) (lines : List CertLine) (premises places : L
 
 module _ (net : Network) where
   -- the line of a node, after those of its operands
-  close : (lines : List CertLine) (l : CertLine) (e : Formula) (last : ℕ) → AllFine net lines → slice_get (app_nodes net) l.node ≡ Some e →
+  line_done : (lines : List CertLine) (l : CertLine) (e : Formula) (last : ℕ) → AllFine net lines → slice_get (app_nodes net) l.node ≡ Some e →
       list_all (is_earlier (length lines)) l.premises ≡ true → fits net lines l.rule l.premises (l.node + 1) e ≡ true → last ≡ length lines + 1 →
       Done net (lines ++ l ∷ []) last l.node
-  close lines l e last fine exists early fit is = record {
+  line_done lines l e last fine exists early fit is = record {
     fine = one_more net lines l e fine exists early fit;
     speaks = spoken_last lines l last is;
     low = omega arith;
@@ -143,38 +143,38 @@ module _ (net : Network) where
   }
 
   mutual
-    pub derived : (before : List CertLine) (b n : ℕ) (e : Formula) → b ≡ length before → safe net e ≡ true → StandsAt (app_nodes net) n (nodes e) → AllFine net before →
+    pub derivation_done : (before : List CertLine) (b n : ℕ) (e : Formula) → b ≡ length before → safe net e ≡ true → StandsAt (app_nodes net) n (nodes e) → AllFine net before →
         Done net (before ++ derivation net b n e) (b + length (derivation net b n e)) n
-    derived before b n (signal s) is holds_safe stands fine =
-        close before (line n Src []) (signal s) (b + 1) fine (root_at (app_nodes net) n (signal s) stands) refl holds_safe (omega arith)
-    derived before b n (all_of es) is holds_safe stands fine =
+    derivation_done before b n (signal s) is holds_safe stands fine =
+        line_done before (line n Src []) (signal s) (b + 1) fine (root_at (app_nodes net) n (signal s) stands) refl holds_safe (omega arith)
+    derivation_done before b n (all_of es) is holds_safe stands fine =
         let f = of_first_safe net b (n + 1) es in
-        let x = derived_first before b (n + 1) es is holds_safe (operands_stand net [] n (all_of es) es refl stands) fine in
+        let x = first_safe_done before b (n + 1) es is holds_safe (operands_stand net [] n (all_of es) es refl stands) fine in
         let l = line n And ((b + length f) ∷ []) in
         let low = x.low in
         let all = x.all in
         let long : length (f ++ l ∷ []) ≡ length f + 1 = length-append f (l ∷ []) in
         subst (λ z. Done net z (b + length (f ++ l ∷ [])) n) (append_assoc before f (l ∷ []))
-        (close (before ++ f) l (all_of es) (b + length (f ++ l ∷ [])) x.fine (root_at (app_nodes net) n (all_of es) stands)
+        (line_done (before ++ f) l (all_of es) (b + length (f ++ l ∷ [])) x.fine (root_at (app_nodes net) n (all_of es) stands)
         (and_from (is_earlier (length (before ++ f)) (b + length f)) true (early_last (length (before ++ f)) (b + length f) low (omega arith)) refl)
         x.one (omega arith))
-    derived before b n (any_of es) is holds_safe stands fine =
+    derivation_done before b n (any_of es) is holds_safe stands fine =
         let f = of_each net b (n + 1) es in
-        let x = derived_each before b (n + 1) es is holds_safe (operands_stand net [] n (any_of es) es refl stands) fine in
+        let x = each_done before b (n + 1) es is holds_safe (operands_stand net [] n (any_of es) es refl stands) fine in
         let l = line n Or (last_lines net b (n + 1) es) in
         let long : length (f ++ l ∷ []) ≡ length f + 1 = length-append f (l ∷ []) in
         let whole : length (before ++ f) ≡ length before + length f = length-append before f in
         subst (λ z. Done net z (b + length (f ++ l ∷ [])) n) (append_assoc before f (l ∷ []))
-        (close (before ++ f) l (any_of es) (b + length (f ++ l ∷ [])) x.fine (root_at (app_nodes net) n (any_of es) stands) x.early x.speak (omega arith))
+        (line_done (before ++ f) l (any_of es) (b + length (f ++ l ∷ [])) x.fine (root_at (app_nodes net) n (any_of es) stands) x.early x.speak (omega arith))
 
-    derived_first : (before : List CertLine) (b n : ℕ) (es : Formulas) → b ≡ length before → some_safe net es ≡ true → StandsAt (app_nodes net) n (nodes_below es) → AllFine net before →
+    first_safe_done : (before : List CertLine) (b n : ℕ) (es : Formulas) → b ≡ length before → some_safe net es ≡ true → StandsAt (app_nodes net) n (nodes_below es) → AllFine net before →
         DoneFirst net (before ++ of_first_safe net b n es) (b + length (of_first_safe net b n es)) (operand_places n es)
-    derived_first before b n no_operand is holds_safe stands fine = absurd (false≢true holds_safe)
-    derived_first before b n (operand e es) is holds_safe stands fine =
+    first_safe_done before b n no_operand is holds_safe stands fine = absurd (false≢true holds_safe)
+    first_safe_done before b n (operand e es) is holds_safe stands fine =
         ⊎_elim
         (λ here. subst (λ d. DoneFirst net (before ++ d) (b + length d) (operand_places n (operand e es)))
         (sym (cond-true (safe net e) (derivation net b n e) (of_first_safe net b (n + length (nodes e)) es) here))
-        (let x = derived before b n e is here (first_stands (app_nodes net) n (nodes e) (nodes_below es) stands) fine in
+        (let x = derivation_done before b n e is here (first_stands (app_nodes net) n (nodes e) (nodes_below es) stands) fine in
         record {
           fine = x.fine;
           one = or_left (n == spoken (before ++ derivation net b n e) (b + length (derivation net b n e))) _ (eq-eqb n _ (sym x.speaks));
@@ -183,7 +183,7 @@ module _ (net : Network) where
         }))
         (λ other. subst (λ d. DoneFirst net (before ++ d) (b + length d) (operand_places n (operand e es)))
         (sym (cond-false (safe net e) (derivation net b n e) (of_first_safe net b (n + length (nodes e)) es) other))
-        (let x = derived_first before b (n + length (nodes e)) es is (sym (ap (λ y. y || some_safe net es) other) ∙ holds_safe)
+        (let x = first_safe_done before b (n + length (nodes e)) es is (sym (ap (λ y. y || some_safe net es) other) ∙ holds_safe)
         (rest_stands (app_nodes net) n (n + length (nodes e)) (nodes e) (nodes_below es) refl stands) fine in
         record {
           fine = x.fine;
@@ -193,17 +193,17 @@ module _ (net : Network) where
         }))
         (cases_Bool (safe net e))
 
-    derived_each : (before : List CertLine) (b n : ℕ) (es : Formulas) → b ≡ length before → each_safe net es ≡ true → StandsAt (app_nodes net) n (nodes_below es) → AllFine net before →
+    each_done : (before : List CertLine) (b n : ℕ) (es : Formulas) → b ≡ length before → each_safe net es ≡ true → StandsAt (app_nodes net) n (nodes_below es) → AllFine net before →
         DoneEach net (before ++ of_each net b n es) (last_lines net b n es) (operand_places n es)
-    derived_each before b n no_operand is holds_safe stands fine = record { fine = subst (AllFine net) (sym (append-nil before)) fine; speak = refl; early = refl }
-    derived_each before b n (operand e es) is holds_safe stands fine =
+    each_done before b n no_operand is holds_safe stands fine = record { fine = subst (AllFine net) (sym (append-nil before)) fine; speak = refl; early = refl }
+    each_done before b n (operand e es) is holds_safe stands fine =
         let both = and_parts (safe net e) (each_safe net es) holds_safe in
         let d = derivation net b n e in
         let more = of_each net (b + length d) (n + length (nodes e)) es in
         let ps = last_lines net (b + length d) (n + length (nodes e)) es in
         let places = operand_places (n + length (nodes e)) es in
-        let x = derived before b n e is both.0 (first_stands (app_nodes net) n (nodes e) (nodes_below es) stands) fine in
-        let y = derived_each (before ++ d) (b + length d) (n + length (nodes e)) es x.all both.1
+        let x = derivation_done before b n e is both.0 (first_stands (app_nodes net) n (nodes e) (nodes_below es) stands) fine in
+        let y = each_done (before ++ d) (b + length d) (n + length (nodes e)) es x.all both.1
         (rest_stands (app_nodes net) n (n + length (nodes e)) (nodes e) (nodes_below es) refl stands) x.fine in
         let low = x.low in
         let all = x.all in

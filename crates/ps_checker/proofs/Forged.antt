@@ -13,7 +13,7 @@ use Rattle.ps_model.specs.Obligations.{obligations}
 use Rattle.ps_flow.specs.declared.certificate.CertLine.{CertLine}
 use Rattle.ps_flow.specs.declared.certificate.LineRule.TheVariants.{Src, And, Or}
 use Rattle.ps_flow.specs.Derivation.{line}
-use Rattle.ps_flow.proofs.Motor.{motor, running}
+use Rattle.ps_flow.proofs.Motor.{motor, stop_and_run}
 use Rattle.ps_checker.specs.Derives.{is_earlier, fits, has_line, literal_fits}
 
 -- the first two lines of the right certificate
@@ -35,23 +35,23 @@ premise_zero : list_all (is_earlier 2) (0 ∷ []) ≡ false
 premise_zero = refl
 
 -- `2 AND 2` fits; `2 AND 2 2`, `2 AND` and `2 AND 1`, which speaks of node 0, do not
-right : fits motor two And (2 ∷ []) 3 running ≡ true
+right : fits motor two And (2 ∷ []) 3 stop_and_run ≡ true
 right = refl
 
-premise_twice : fits motor two And (2 ∷ 2 ∷ []) 3 running ≡ false
+premise_twice : fits motor two And (2 ∷ 2 ∷ []) 3 stop_and_run ≡ false
 premise_twice = refl
 
-no_premise : fits motor two And [] 3 running ≡ false
+no_premise : fits motor two And [] 3 stop_and_run ≡ false
 no_premise = refl
 
-wrong_operand : fits motor two And (1 ∷ []) 3 running ≡ false
+wrong_operand : fits motor two And (1 ∷ []) 3 stop_and_run ≡ false
 wrong_operand = refl
 
 -- `2 OR 2` and `2 SRC`: another rule than the node's
-or_of_an_and : fits motor two Or (2 ∷ []) 3 running ≡ false
+or_of_an_and : fits motor two Or (2 ∷ []) 3 stop_and_run ≡ false
 or_of_an_and = refl
 
-source_of_an_and : fits motor two Src [] 3 running ≡ false
+source_of_an_and : fits motor two Src [] 3 stop_and_run ≡ false
 source_of_an_and = refl
 
 -- `3 SRC 1`: a source has no premises; `1 SRC`: Ack is BOOL
@@ -83,17 +83,17 @@ or_of_one : fits motor spoken_pair Or (1 ∷ []) 1 pair ≡ false
 or_of_one = refl
 
 -- the right lines cover the obligations, with a further line too; without the first one they do not
-covered : list_all (has_line (line 0 Src [] ∷ line 3 Src [] ∷ line 2 And (2 ∷ []) ∷ [])) (obligations motor) ≡ true
+all_obligations_covered : list_all (has_line (line 0 Src [] ∷ line 3 Src [] ∷ line 2 And (2 ∷ []) ∷ [])) (obligations motor) ≡ true
 unfolding block output_types
-covered = refl
+all_obligations_covered = refl
 
 further_line : list_all (has_line (line 0 Src [] ∷ line 3 Src [] ∷ line 3 Src [] ∷ line 2 And (3 ∷ []) ∷ [])) (obligations motor) ≡ true
 unfolding block output_types
 further_line = refl
 
-uncovered : list_all (has_line (line 3 Src [] ∷ line 2 And (1 ∷ []) ∷ [])) (obligations motor) ≡ false
+first_obligation_missing : list_all (has_line (line 3 Src [] ∷ line 2 And (1 ∷ []) ∷ [])) (obligations motor) ≡ false
 unfolding block output_types
-uncovered = refl
+first_obligation_missing = refl
 
 -- T#1s at a Boolean pin, a value at a TIME pin
 time_at_a_safe_pin : literal_fits Safe (time 1000) ≡ false

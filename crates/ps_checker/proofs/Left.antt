@@ -49,9 +49,6 @@ module _ (rows : List Node) (depth : ℕ) (lines : List CertLine) (start : ℕ) 
     pub left : Left rows depth later m end
     pub same : speak_of lines premises (operand_places start es) ≡ speak_of lines rest (operand_places m later)
 
-  pub speak_start : StandsAt rows start (listed_below depth es) → end ≡ start + length (nodes_below es) → SpeakLeft start premises
-  speak_start s e = record { later = es; left = record { stands = s; up_to = e }; same = refl }
-
   -- no operand is left for the premise, or it speaks of another node
   pub speak_past : (m : ℕ) (p : ℕ) (rest : List ℕ) → SpeakLeft m (p ∷ rest) → end ≤ m → false ≡ speak_of lines premises (operand_places start es)
   speak_past m p rest l past = go l.later l.left l.same

@@ -33,8 +33,8 @@ mutual
       All-append (DeepFrom least) (listed_at depth e) (listed_below depth es) (deep_at least depth e h) (deep_below least depth es h)
 
 -- an element of a list that stands in another
-standing : {X : Type 0} (xs : List X) (n : ℕ) (ys : List X) (k : ℕ) (d : X) → StandsAt xs n ys → n ≤ k → k < n + length ys → get_or xs k d ≡ get_or ys (k - n) d
-standing xs n ys k d s low high =
+element_within : {X : Type 0} (xs : List X) (n : ℕ) (ys : List X) (k : ℕ) (d : X) → StandsAt xs n ys → n ≤ k → k < n + length ys → get_or xs k d ≡ get_or ys (k - n) d
+element_within xs n ys k d s low high =
     let place = s.place in
     ap (λ z. get_or z k d) s.split
     ∙ get_or-append_right s.before (ys ++ s.after) k d (omega arith)
@@ -45,7 +45,7 @@ standing xs n ys k d s low high =
 below_root : (rows : List Node) (at depth : ℕ) (e : Formula) (k : ℕ) (d : Node) → StandsAt rows at (listed_at depth e) →
     at < k → k < at + length (nodes e) → depth + 1 ≤ (get_or rows k d).depth
 below_root rows at depth e k d s low high =
-    ap-le (standing rows at (listed_at depth e) k d s (omega arith) (let n = length-rows_at depth e in omega arith)) (go e (k - at) (omega arith) (omega arith))
+    ap-le (element_within rows at (listed_at depth e) k d s (omega arith) (let n = length-rows_at depth e in omega arith)) (go e (k - at) (omega arith) (omega arith))
   where
     ap-le : {x y : Node} → x ≡ y → depth + 1 ≤ y.depth → depth + 1 ≤ x.depth
     ap-le e h = let same = ap (λ (r : Node). r.depth) e in omega arith

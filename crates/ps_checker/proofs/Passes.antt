@@ -14,13 +14,14 @@ use Rattle.ps_model.specs.Typing.{Accepted, MayStand, safe, is_safe_signal}
 use Rattle.ps_model.specs.Nodes.{nodes, nodes_at_pin, nodes_of_step, app_nodes}
 use Rattle.ps_model.specs.Obligations.{Obligation, obligation_at, obligations_at_pins, obligations_of_step, obligations_from, obligations}
 use Rattle.ps_flow.specs.Refusals.{FitsStep}
+use Rattle.ps_flow.proofs.Refused.{accepted_fits}
 use Rattle.ps_flow.specs.declared.certificate.CertLine.{CertLine}
 use Rattle.ps_flow.specs.declared.certificate.LineRule.TheVariants.{Src}
 use Rattle.ps_flow.specs.Derivation.{line, derivation, derivations, certificate}
 use Rattle.ps_model.specs.Standing.{StandsAt}
 use Rattle.ps_checker.specs.Derives.{Derives, spoken, literal_fits, has_line}
 use Rattle.ps_model.proofs.NodePlaces.{first_stands, rest_stands, whole_stands}
-use Rattle.ps_checker.proofs.Derived.{AllFine, derived}
+use Rattle.ps_checker.proofs.Derived.{AllFine, derivation_done}
 
 has_spoken : (lines : List CertLine) (p n : ℕ) → 1 ≤ p → p ≤ length lines → spoken lines p ≡ n → list_any (λ l. l.node == n) lines ≡ true
 has_spoken lines p n low high e = at lines (p - 1) (omega arith) e
@@ -85,13 +86,13 @@ module _ (net : Network) where
     pub fine : AllFine net lines
     pub covered : list_all (has_line lines) os ≡ true
 
-  derived_all : (before : List CertLine) (b : ℕ) (os : List Obligation) → b ≡ length before → Ready os → AllFine net before → AllDone (before ++ derivations net b os) os
-  derived_all before b [] is r fine = record { fine = subst (AllFine net) (sym (append-nil before)) fine; covered = refl }
-  derived_all before b (o ∷ os) is r fine =
+  derivations_done : (before : List CertLine) (b : ℕ) (os : List Obligation) → b ≡ length before → Ready os → AllFine net before → AllDone (before ++ derivations net b os) os
+  derivations_done before b [] is r fine = record { fine = subst (AllFine net) (sym (append-nil before)) fine; covered = refl }
+  derivations_done before b (o ∷ os) is r fine =
       let d = derivation net b o.node o.value in
       let more = derivations net (b + length d) os in
-      let x = derived net before b o.node o.value is r.0 r.1 fine in
-      let y = derived_all (before ++ d) (b + length d) os x.all r.2 x.fine in
+      let x = derivation_done net before b o.node o.value is r.0 r.1 fine in
+      let y = derivations_done (before ++ d) (b + length d) os x.all r.2 x.fine in
       let low = x.low in
       let all = x.all in
       subst (λ z. AllDone z (o ∷ os)) (append_assoc before d more)
@@ -117,14 +118,10 @@ module _ (net : Network) where
 
   pub passes : Accepted net → Derives net (certificate net)
   passes ok =
-      let steps : (k : ℕ) (a : Action) → slice_get net.steps k ≡ Some a → FitsStep net a = fit in
-      let done = derived_all [] 0 (obligations net) refl (ready_steps 0 net.steps (whole_stands (app_nodes net)) steps) (record { each = λ i l at. cc }) in
+      let steps : (k : ℕ) (a : Action) → slice_get net.steps k ≡ Some a → FitsStep net a = accepted_fits net ok in
+      let done = derivations_done [] 0 (obligations net) refl (ready_steps 0 net.steps (whole_stands (app_nodes net)) steps) (record { each = λ i l at. cc }) in
       record {
         each = done.fine.each;
         literals = λ k i j args at h. literal_of (pin_at (kind_at net i) j).ty (slice_index_or args j free) (ok.at_pins k i j args at h);
         covered = done.covered;
       }
-    where
-      fit : (k : ℕ) (a : Action) → slice_get net.steps k ≡ Some a → FitsStep net a
-      fit k (assigns t e) at = ok.assigned k t e at
-      fit k (calls i args) at = λ j h. ok.at_pins k i j args at h

@@ -27,7 +27,7 @@ use Rattle.ps_model.specs.Standing.{StandsAt}
 use Rattle.ps_model.proofs.NodePlaces.{app_at, stands_found, first_stands, rest_stands, whole_stands}
 
 module _ (net : Network) (lines : List CertLine) where
-  -- what earlier lines speak of is holds_safe
+  -- what earlier lines speak of is safe
   abbrev pub EarlierSafe : ℕ → Type 0
   EarlierSafe i = (p : ℕ) → is_earlier i p ≡ true → (e : Formula) → slice_get (app_nodes net) (spoken lines p) ≡ Some e → safe net e ≡ true
 
@@ -69,7 +69,7 @@ module _ (net : Network) (lines : List CertLine) where
     one_premise (p ∷ []) es n ok s h = one_safe es n s p (and_parts (is_earlier i p) true ok).0 h
     one_premise (p ∷ q ∷ premises) es n ok s h = absurd (false≢true h)
 
-    -- a line whose rule fits speaks of a holds_safe value
+    -- a line whose rule fits speaks of a safe value
     pub by_rule : (rule : LineRule) (premises : List ℕ) (n : ℕ) (e : Formula) → list_all (is_earlier i) premises ≡ true → StandsAt (app_nodes net) n (nodes e) →
         fits net lines rule premises (n + 1) e ≡ true → safe net e ≡ true
     by_rule Src [] n (signal s) ok r h = h
@@ -84,7 +84,7 @@ module _ (net : Network) (lines : List CertLine) where
     by_rule Or ps n (any_of es) ok r h = all_safe es (n + 1) (operands_stand n (any_of es) es refl r) ps ok h
 
   module _ (each : (i : ℕ) (l : CertLine) → slice_get lines i ≡ Some l → IsInstance net lines i l) where
-    -- each line speaks of a holds_safe value
+    -- each line speaks of a safe value
     pub safe_line : (bound i : ℕ) (l : CertLine) (e : Formula) → i < bound → slice_get lines i ≡ Some l → slice_get (app_nodes net) l.node ≡ Some e → safe net e ≡ true
     safe_line zero i l e h at node = absurd (omega arith)
     safe_line (suc b) i l e h at node =
@@ -104,57 +104,57 @@ module _ (net : Network) (lines : List CertLine) where
         some_same : {x y : Formula} → Some x ≡ Some y → x ≡ y
         some_same h = cc
 
-    -- an obligation that has a line is met
-    pub met : (o : Obligation) → has_line lines o ≡ true → slice_get (app_nodes net) o.node ≡ Some o.value → safe net o.value ≡ true
-    met o h at =
+    -- the value of an obligation that has a line is safe
+    pub obligation_is_safe : (o : Obligation) → has_line lines o ≡ true → slice_get (app_nodes net) o.node ≡ Some o.value → safe net o.value ≡ true
+    obligation_is_safe o h at =
         let p = place_of (λ l. l.node == o.node) lines h in
         safe_line (suc p.0) p.0 p.1 o.value (omega arith) p.2 (ap (slice_get (app_nodes net)) (eqb-true p.1.node o.node p.3) ∙ at)
 
-    pub met_at_pins : (n : ℕ) (pins : List Pin) (args : List Actual) → StandsAt (app_nodes net) n (flat_map nodes_at_pin args) →
+    pub pins_are_safe : (n : ℕ) (pins : List Pin) (args : List Actual) → StandsAt (app_nodes net) n (flat_map nodes_at_pin args) →
         list_all (has_line lines) (obligations_at_pins n pins args) ≡ true →
         (j : ℕ) (e : Formula) → (slice_index_or pins j no_pin).ty ≡ Safe → slice_index_or args j free ≡ wired e → safe net e ≡ true
-    met_at_pins n [] args s h j e ty is = cc
-    met_at_pins n (p ∷ pins) [] s h j e ty is = cc
-    met_at_pins n (p ∷ pins) (a ∷ args) s h zero e ty is =
+    pins_are_safe n [] args s h j e ty is = cc
+    pins_are_safe n (p ∷ pins) [] s h j e ty is = cc
+    pins_are_safe n (p ∷ pins) (a ∷ args) s h zero e ty is =
         let os = obligations_at_pins (n + length (nodes_at_pin a)) pins args in
         let both = and_parts (list_all (has_line lines) (obligation_at n p.ty a)) (list_all (has_line lines) os)
         (sym (list_all-append (has_line lines) (obligation_at n p.ty a) os) ∙ h) in
         let one : list_all (has_line lines) (obligation_at n Safe (wired e)) ≡ true =
         subst (λ y. list_all (has_line lines) (obligation_at n y (wired e)) ≡ true) ty (subst (λ x. list_all (has_line lines) (obligation_at n p.ty x) ≡ true) is both.0) in
-        met (record { node = n; value = e }) (and_parts (has_line lines (record { node = n; value = e })) true one).0
+        obligation_is_safe (record { node = n; value = e }) (and_parts (has_line lines (record { node = n; value = e })) true one).0
         (root n e (subst (λ x. StandsAt (app_nodes net) n (nodes_at_pin x)) is (first_stands (app_nodes net) n (nodes_at_pin a) (flat_map nodes_at_pin args) s)))
-    met_at_pins n (p ∷ pins) (a ∷ args) s h (suc j) e ty is =
+    pins_are_safe n (p ∷ pins) (a ∷ args) s h (suc j) e ty is =
         let os = obligations_at_pins (n + length (nodes_at_pin a)) pins args in
         let both = and_parts (list_all (has_line lines) (obligation_at n p.ty a)) (list_all (has_line lines) os)
         (sym (list_all-append (has_line lines) (obligation_at n p.ty a) os) ∙ h) in
-        met_at_pins (n + length (nodes_at_pin a)) pins args
+        pins_are_safe (n + length (nodes_at_pin a)) pins args
         (rest_stands (app_nodes net) n (n + length (nodes_at_pin a)) (nodes_at_pin a) (flat_map nodes_at_pin args) refl s) both.1 j e ty is
 
-    abbrev pub StepMet : Action → Type 0
-    StepMet (assigns t e) = is_safe_signal net t ≡ true → safe net e ≡ true
-    StepMet (calls i args) = (j : ℕ) (e : Formula) → (pin_at (kind_at net i) j).ty ≡ Safe → slice_index_or args j free ≡ wired e → safe net e ≡ true
+    abbrev pub StepIsSafe : Action → Type 0
+    StepIsSafe (assigns t e) = is_safe_signal net t ≡ true → safe net e ≡ true
+    StepIsSafe (calls i args) = (j : ℕ) (e : Formula) → (pin_at (kind_at net i) j).ty ≡ Safe → slice_index_or args j free ≡ wired e → safe net e ≡ true
 
-    pub step_met : (n : ℕ) (a : Action) → StandsAt (app_nodes net) n (nodes_of_step a) → list_all (has_line lines) (obligations_of_step net n a) ≡ true → StepMet a
-    step_met n (assigns t e) s h = λ holds_safe.
+    pub step_is_safe : (n : ℕ) (a : Action) → StandsAt (app_nodes net) n (nodes_of_step a) → list_all (has_line lines) (obligations_of_step net n a) ≡ true → StepIsSafe a
+    step_is_safe n (assigns t e) s h = λ holds_safe.
         let one : list_all (has_line lines) (record { node = n; value = e } ∷ []) ≡ true =
         ap (list_all (has_line lines)) (sym (cond-true (is_safe_signal net t) (record { node = n; value = e } ∷ []) [] holds_safe)) ∙ h in
-        met (record { node = n; value = e }) (and_parts (has_line lines (record { node = n; value = e })) true one).0 (root n e s)
-    step_met n (calls i args) s h = met_at_pins n (block (kind_at net i)).inputs args s h
+        obligation_is_safe (record { node = n; value = e }) (and_parts (has_line lines (record { node = n; value = e })) true one).0 (root n e s)
+    step_is_safe n (calls i args) s h = pins_are_safe n (block (kind_at net i)).inputs args s h
 
-    pub steps_met : (n : ℕ) (steps : List Action) → StandsAt (app_nodes net) n (flat_map nodes_of_step steps) →
-        list_all (has_line lines) (obligations_from net n steps) ≡ true → (k : ℕ) (a : Action) → slice_get steps k ≡ Some a → StepMet a
-    steps_met n [] s h k a at = absurd (let e : None ≡ Some a = at in cc)
-    steps_met n (b ∷ steps) s h zero a at =
+    pub steps_are_safe : (n : ℕ) (steps : List Action) → StandsAt (app_nodes net) n (flat_map nodes_of_step steps) →
+        list_all (has_line lines) (obligations_from net n steps) ≡ true → (k : ℕ) (a : Action) → slice_get steps k ≡ Some a → StepIsSafe a
+    steps_are_safe n [] s h k a at = absurd (let e : None ≡ Some a = at in cc)
+    steps_are_safe n (b ∷ steps) s h zero a at =
         let same : b ≡ a = cc in
         let os = obligations_from net (n + length (nodes_of_step b)) steps in
         let both = and_parts (list_all (has_line lines) (obligations_of_step net n b)) (list_all (has_line lines) os)
         (sym (list_all-append (has_line lines) (obligations_of_step net n b) os) ∙ h) in
-        subst StepMet same (step_met n b (first_stands (app_nodes net) n (nodes_of_step b) (flat_map nodes_of_step steps) s) both.0)
-    steps_met n (b ∷ steps) s h (suc k) a at =
+        subst StepIsSafe same (step_is_safe n b (first_stands (app_nodes net) n (nodes_of_step b) (flat_map nodes_of_step steps) s) both.0)
+    steps_are_safe n (b ∷ steps) s h (suc k) a at =
         let os = obligations_from net (n + length (nodes_of_step b)) steps in
         let both = and_parts (list_all (has_line lines) (obligations_of_step net n b)) (list_all (has_line lines) os)
         (sym (list_all-append (has_line lines) (obligations_of_step net n b) os) ∙ h) in
-        steps_met (n + length (nodes_of_step b)) steps
+        steps_are_safe (n + length (nodes_of_step b)) steps
         (rest_stands (app_nodes net) n (n + length (nodes_of_step b)) (nodes_of_step b) (flat_map nodes_of_step steps) refl s) both.1 k a at
 
 may_stand : (net : Network) (ty : Ty) (a : Actual) → literal_fits ty a ≡ true → ((e : Formula) → ty ≡ Safe → a ≡ wired e → safe net e ≡ true) → MayStand net ty a
@@ -169,10 +169,10 @@ may_stand net Safe (wired e) fit holds_safe = ((λ h. cc), λ h. holds_safe e re
 may_stand net Plain (wired e) fit holds_safe = ((λ h. cc), λ h. holds_safe e h refl)
 may_stand net Time (wired e) fit holds_safe = absurd (false≢true fit)
 
-pub accepted : (net : Network) (lines : List CertLine) → Derives net lines → Accepted net
-accepted net lines d =
-    let all : (k : ℕ) (a : Action) → slice_get net.steps k ≡ Some a → StepMet net lines d.each a =
-    steps_met net lines d.each 0 net.steps (whole_stands (app_nodes net)) d.covered in
+pub derives_accepted : (net : Network) (lines : List CertLine) → Derives net lines → Accepted net
+derives_accepted net lines d =
+    let all : (k : ℕ) (a : Action) → slice_get net.steps k ≡ Some a → StepIsSafe net lines d.each a =
+    steps_are_safe net lines d.each 0 net.steps (whole_stands (app_nodes net)) d.covered in
     record {
       assigned = λ k t e at. all k (assigns t e) at;
       at_pins = λ k i j args at h.

@@ -9,10 +9,12 @@ use Rattle.ps_flow.specs.declared.certificate.LineRule.{LineRule}
 use Rattle.ps_flow.specs.declared.certificate.LineRule.TheVariants.{Src, And, Or}
 use Rattle.ps_checker.specs.Derives.{speak_of, speaks_of_one}
 
+-- There are no premises.
 abbrev pub is_none : List ℕ → Bool
 is_none [] = true
 is_none (p ∷ ps) = false
 
+-- The rule fits a node of this shape with these premises, where its operands are the nodes with these numbers.
 abbrev pub fits_shape : Network → List CertLine → LineRule → Shape → List ℕ → List ℕ → Bool
 fits_shape net lines Src (Signal s) premises places = is_none premises && is_safe_signal net s
 fits_shape net lines And AndNode premises places = speaks_of_one lines premises places

@@ -1,10 +1,14 @@
-// The checker of certificates. It trusts no maker of one: of ps_flow it takes the type Certificate alone.
+//! The checker of certificates: whether the lines of a certificate derive an application, or the first objection.
+//!
+//! It trusts no maker of a certificate: of ps_flow it takes the type `Certificate` alone. Rooms: `checking` tries the
+//! lines and the literals, `covering` the obligations; `objection` has the answers; `laws` says that what was derived
+//! passes.
 #![tactic(auto)]
 
-pub mod checking;
+mod checking;
 mod covering;
 pub mod laws;
-pub mod objection;
+mod objection;
 
 pub use checking::check;
 pub use objection::{Checked, Objection};

@@ -9,61 +9,62 @@ use Rattle.std.proofs.lemmas.Fmt.{decimal_nonempty}
 use Rattle.ps_flow.specs.declared.certificate.CertLine.{CertLine}
 use Rattle.ps_flow.specs.declared.text.TheConstants.{SPACE, LINE_FEED}
 use Rattle.ps_flow.specs.Written.{rule_word, line_text, written}
-use Rattle.ps_flow.specs.Read.{IsNumbered, IsTextOf, IsFirstOther, lines_of}
+use Rattle.ps_flow.specs.Lines.{IsNumbered}
+use Rattle.ps_flow.specs.Read.{IsTextOf, IsFirstOther, lines_of}
 use Rattle.ps_flow.specs.Words.{HasNo}
 use Rattle.ps_flow.proofs.Pieces.{IsOther, no_byte_below, no_line_feed_in_rule, lines_split, one_line}
 use Rattle.ps_flow.proofs.Spelling.{IsSmall, same_line, made_of_parts, line_begun, premises_text}
 
 -- lines, each with its line feed
-abbrev pub ended : List (List ℕ) → List ℕ
-ended lines = flat_map (λ line. line ++ LINE_FEED ∷ []) lines
+abbrev pub with_line_feeds : List (List ℕ) → List ℕ
+with_line_feeds lines = flat_map (λ line. line ++ LINE_FEED ∷ []) lines
 
-ended-map : (lines : List CertLine) → ended (map line_text lines) ≡ written lines
-ended-map [] = refl
-ended-map (l ∷ lines) = ap (λ z. (line_text l ++ LINE_FEED ∷ []) ++ z) (ended-map lines)
+with_line_feeds-map : (lines : List CertLine) → with_line_feeds (map line_text lines) ≡ written lines
+with_line_feeds-map [] = refl
+with_line_feeds-map (l ∷ lines) = ap (λ z. (line_text l ++ LINE_FEED ∷ []) ++ z) (with_line_feeds-map lines)
 
 -- ---- a text is that of its lines, the last line feed possibly missing
-ended-onto_first : (b : ℕ) (lines : List (List ℕ)) → (lines ≡ []) ⊎ (ended (onto_first b lines) ≡ b ∷ ended lines)
-ended-onto_first b [] = inl refl
-ended-onto_first b (line ∷ lines) = inr refl
+with_line_feeds-onto_first : (b : ℕ) (lines : List (List ℕ)) → (lines ≡ []) ⊎ (with_line_feeds (onto_first b lines) ≡ b ∷ with_line_feeds lines)
+with_line_feeds-onto_first b [] = inl refl
+with_line_feeds-onto_first b (line ∷ lines) = inr refl
 
-pub text_of_lines : (text : List ℕ) → (text ≡ ended (lines_of text)) ⊎ (text ++ LINE_FEED ∷ [] ≡ ended (lines_of text))
+pub text_of_lines : (text : List ℕ) → (text ≡ with_line_feeds (lines_of text)) ⊎ (text ++ LINE_FEED ∷ [] ≡ with_line_feeds (lines_of text))
 text_of_lines [] = inl refl
 text_of_lines (b ∷ bytes) =
     ⊎_elim
     (λ feed.
     let same : b ≡ LINE_FEED = eqb-true b LINE_FEED feed in
     let cut : lines_of (b ∷ bytes) ≡ [] ∷ lines_of bytes = cond-true (eqb b LINE_FEED) ([] ∷ lines_of bytes) (onto_first b (lines_of bytes)) feed in
-    let whole : ended (lines_of (b ∷ bytes)) ≡ b ∷ ended (lines_of bytes) = ap ended cut ∙ ap (λ c. c ∷ ended (lines_of bytes)) (sym same) in
-    joined bytes b whole (text_of_lines bytes))
+    let whole : with_line_feeds (lines_of (b ∷ bytes)) ≡ b ∷ with_line_feeds (lines_of bytes) = ap with_line_feeds cut ∙ ap (λ c. c ∷ with_line_feeds (lines_of bytes)) (sym same) in
+    one_more_byte bytes b whole (text_of_lines bytes))
     (λ other.
     let cut : lines_of (b ∷ bytes) ≡ onto_first b (lines_of bytes) = cond-false (eqb b LINE_FEED) ([] ∷ lines_of bytes) (onto_first b (lines_of bytes)) other in
     ⊎_elim
     (λ none. alone bytes b none cut (text_of_lines bytes))
-    (λ more. joined bytes b (ap ended cut ∙ more) (text_of_lines bytes))
-    (ended-onto_first b (lines_of bytes)))
+    (λ more. one_more_byte bytes b (ap with_line_feeds cut ∙ more) (text_of_lines bytes))
+    (with_line_feeds-onto_first b (lines_of bytes)))
     (cases_Bool (eqb b LINE_FEED))
   where
-    joined : (bytes : List ℕ) (b : ℕ) → ended (lines_of (b ∷ bytes)) ≡ b ∷ ended (lines_of bytes) →
-        (bytes ≡ ended (lines_of bytes)) ⊎ (bytes ++ LINE_FEED ∷ [] ≡ ended (lines_of bytes)) →
-        (b ∷ bytes ≡ ended (lines_of (b ∷ bytes))) ⊎ ((b ∷ bytes) ++ LINE_FEED ∷ [] ≡ ended (lines_of (b ∷ bytes)))
-    joined bytes b whole (inl e) = inl (ap (λ z. b ∷ z) e ∙ sym whole)
-    joined bytes b whole (inr e) = inr (ap (λ z. b ∷ z) e ∙ sym whole)
+    one_more_byte : (bytes : List ℕ) (b : ℕ) → with_line_feeds (lines_of (b ∷ bytes)) ≡ b ∷ with_line_feeds (lines_of bytes) →
+        (bytes ≡ with_line_feeds (lines_of bytes)) ⊎ (bytes ++ LINE_FEED ∷ [] ≡ with_line_feeds (lines_of bytes)) →
+        (b ∷ bytes ≡ with_line_feeds (lines_of (b ∷ bytes))) ⊎ ((b ∷ bytes) ++ LINE_FEED ∷ [] ≡ with_line_feeds (lines_of (b ∷ bytes)))
+    one_more_byte bytes b whole (inl e) = inl (ap (λ z. b ∷ z) e ∙ sym whole)
+    one_more_byte bytes b whole (inr e) = inr (ap (λ z. b ∷ z) e ∙ sym whole)
 
     alone : (bytes : List ℕ) (b : ℕ) → lines_of bytes ≡ [] → lines_of (b ∷ bytes) ≡ onto_first b (lines_of bytes) →
-        (bytes ≡ ended (lines_of bytes)) ⊎ (bytes ++ LINE_FEED ∷ [] ≡ ended (lines_of bytes)) →
-        (b ∷ bytes ≡ ended (lines_of (b ∷ bytes))) ⊎ ((b ∷ bytes) ++ LINE_FEED ∷ [] ≡ ended (lines_of (b ∷ bytes)))
+        (bytes ≡ with_line_feeds (lines_of bytes)) ⊎ (bytes ++ LINE_FEED ∷ [] ≡ with_line_feeds (lines_of bytes)) →
+        (b ∷ bytes ≡ with_line_feeds (lines_of (b ∷ bytes))) ⊎ ((b ∷ bytes) ++ LINE_FEED ∷ [] ≡ with_line_feeds (lines_of (b ∷ bytes)))
     alone bytes b none cut (inl e) =
-        let empty : bytes ≡ [] = e ∙ ap ended none in
-        inr (ap (λ z. (b ∷ z) ++ LINE_FEED ∷ []) empty ∙ sym (ap ended cut ∙ ap (λ ls. ended (onto_first b ls)) none))
+        let empty : bytes ≡ [] = e ∙ ap with_line_feeds none in
+        inr (ap (λ z. (b ∷ z) ++ LINE_FEED ∷ []) empty ∙ sym (ap with_line_feeds cut ∙ ap (λ ls. with_line_feeds (onto_first b ls)) none))
     alone bytes b none cut (inr e) =
-        let count : length (bytes ++ LINE_FEED ∷ []) ≡ 0 = ap length (e ∙ ap ended none) in
+        let count : length (bytes ++ LINE_FEED ∷ []) ≡ 0 = ap length (e ∙ ap with_line_feeds none) in
         let long = length-append bytes (LINE_FEED ∷ []) in
         absurd (omega arith)
 
 pub text_of_cut : (text : List ℕ) (lines : List CertLine) → lines_of text ≡ map line_text lines → IsTextOf lines text
 text_of_cut text lines cut =
-    let same : ended (lines_of text) ≡ written lines = ap ended cut ∙ ended-map lines in
+    let same : with_line_feeds (lines_of text) ≡ written lines = ap with_line_feeds cut ∙ with_line_feeds-map lines in
     ⊎_elim (λ e. inl (e ∙ same)) (λ e. inr (e ∙ same)) (text_of_lines text)
 
 -- ---- and lines of the form are those of their text

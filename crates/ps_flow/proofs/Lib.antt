@@ -5,3 +5,4 @@ pub mod Short
 pub mod Walk
 pub mod Refused
 pub mod Motor
+pub mod OneAnswer

@@ -22,8 +22,8 @@ abbrev pub call_with : Actual → Action
 call_with at = calls 0 (literal true ∷ at ∷ free ∷ free ∷ wired (signal 1) ∷ [])
 
 -- E.S_EStopOut AND Run
-abbrev pub running : Formula
-running = all_of (operand (signal 4) (operand (signal 2) no_operand))
+abbrev pub stop_and_run : Formula
+stop_and_run = all_of (operand (signal 4) (operand (signal 2) no_operand))
 
 abbrev pub motor_of : Action → Formula → Network
 motor_of call value = record {
@@ -36,7 +36,7 @@ motor_of call value = record {
 }
 
 abbrev pub motor : Network
-motor = motor_of (call_with (wired (signal 0))) running
+motor = motor_of (call_with (wired (signal 0))) stop_and_run
 
 -- 0 SRC, 3 SRC, 2 AND 2
 pub motor_lines : certificate motor ≡ line 0 Src [] ∷ line 3 Src [] ∷ line 2 And (2 ∷ []) ∷ []
@@ -44,10 +44,10 @@ unfolding block output_types
 motor_lines = refl
 
 -- E.S_EStopOut OR Run is BOOL, so S1 at the assignment
-abbrev either : Formula
-either = any_of (operand (signal 4) (operand (signal 2) no_operand))
+abbrev stop_or_run : Formula
+stop_or_run = any_of (operand (signal 4) (operand (signal 2) no_operand))
 
-pub or_is_not_safe : BreaksStep (motor_of (call_with (wired (signal 0))) either) (assigns 3 either) S1 None
+pub or_is_not_safe : BreaksStep (motor_of (call_with (wired (signal 0))) stop_or_run) (assigns 3 stop_or_run) S1 None
 unfolding block output_types
 or_is_not_safe = (refl, refl, refl)
 

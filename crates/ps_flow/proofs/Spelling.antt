@@ -11,7 +11,7 @@ use Rattle.ps_flow.specs.declared.certificate.LineRule.{LineRule}
 use Rattle.ps_flow.specs.declared.certificate.LineRule.TheVariants.{Src, And, Or}
 use Rattle.ps_flow.specs.declared.text.TheConstants.{SPACE}
 use Rattle.ps_flow.specs.Written.{rule_word, words_of, line_text}
-use Rattle.ps_flow.specs.Read.{IsNumbered}
+use Rattle.ps_flow.specs.Lines.{IsNumbered}
 use Rattle.ps_flow.specs.Words.{HasNo, words_in}
 use Rattle.ps_flow.proofs.Pieces.{no_byte_below, no_space_in_rule, words_split, one_word}
 
@@ -19,9 +19,9 @@ use Rattle.ps_flow.proofs.Pieces.{no_byte_below, no_space_in_rule, words_split, 
 abbrev pub premises_text : List ℕ → List ℕ
 premises_text premises = flat_map (λ p. SPACE ∷ decimal p) premises
 
-joined : (word : List ℕ) (premises : List ℕ) → join_with_byte SPACE (word ∷ map decimal premises) ≡ word ++ premises_text premises
-joined word [] = sym (append-nil word)
-joined word (p ∷ premises) = ap (λ z. word ++ (SPACE ∷ z)) (joined (decimal p) premises)
+join_of_premises : (word : List ℕ) (premises : List ℕ) → join_with_byte SPACE (word ∷ map decimal premises) ≡ word ++ premises_text premises
+join_of_premises word [] = sym (append-nil word)
+join_of_premises word (p ∷ premises) = ap (λ z. word ++ (SPACE ∷ z)) (join_of_premises (decimal p) premises)
 
 -- what is written once the node, a space and the rule are
 pub line_begun : (old : List ℕ) (l : CertLine) → (((old ++ decimal l.node) ++ SPACE ∷ []) ++ rule_word l.rule) ++ premises_text l.premises ≡ old ++ line_text l
@@ -29,7 +29,7 @@ line_begun old l =
     append_assoc ((old ++ decimal l.node) ++ SPACE ∷ []) (rule_word l.rule) (premises_text l.premises)
     ∙ append_assoc (old ++ decimal l.node) (SPACE ∷ []) (rule_word l.rule ++ premises_text l.premises)
     ∙ append_assoc old (decimal l.node) (SPACE ∷ (rule_word l.rule ++ premises_text l.premises))
-    ∙ ap (λ z. old ++ (decimal l.node ++ (SPACE ∷ z))) (sym (joined (rule_word l.rule) l.premises))
+    ∙ ap (λ z. old ++ (decimal l.node ++ (SPACE ∷ z))) (sym (join_of_premises (rule_word l.rule) l.premises))
 
 abbrev pub IsSmall : ℕ → Type 0
 IsSmall p = p < 2 ^ 32
@@ -84,8 +84,8 @@ same_premises (p ∷ ps) (q ∷ qs) sp sq e =
     let rest : ps ≡ qs = same_premises ps qs (All-tail IsSmall p ps sp) (All-tail IsSmall q qs sq) tails in
     cc
 
-abbrev made : ℕ → LineRule → List ℕ → CertLine
-made n r ps = record { node = n; rule = r; premises = ps }
+abbrev line_with : ℕ → LineRule → List ℕ → CertLine
+line_with n r ps = record { node = n; rule = r; premises = ps }
 
 pub same_line : (a b : CertLine) → IsNumbered a → IsNumbered b → line_text a ≡ line_text b → a ≡ b
 same_line a b na nb e =
@@ -98,7 +98,7 @@ same_line a b na nb e =
     let node : a.node ≡ b.node = decimal_injective a.node b.node (omega arith) (omega arith) heads in
     let rule : a.rule ≡ b.rule = same_rule a.rule b.rule rules in
     let premises : a.premises ≡ b.premises = same_premises a.premises b.premises na.premises nb.premises rest in
-    ap (λ n. made n a.rule a.premises) node ∙ ap (λ r. made b.node r a.premises) rule ∙ ap (λ ps. made b.node b.rule ps) premises
+    ap (λ n. line_with n a.rule a.premises) node ∙ ap (λ r. line_with b.node r a.premises) rule ∙ ap (λ ps. line_with b.node b.rule ps) premises
 
 -- ---- the first place where a list is not made of such parts
 pub made_of_parts : {X Y : Type 0} (f : X → Y) (P : X → Type 0) (xs : List X) (before : List Y) (other : Y) (behind : List Y) →

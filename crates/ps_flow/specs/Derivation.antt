@@ -9,12 +9,15 @@ use Rattle.ps_flow.specs.declared.certificate.CertLine.{CertLine}
 use Rattle.ps_flow.specs.declared.certificate.LineRule.{LineRule}
 use Rattle.ps_flow.specs.declared.certificate.LineRule.TheVariants.{Src, And, Or}
 
+-- A line with this node, this rule and these premises.
 abbrev pub line : ℕ → LineRule → List ℕ → CertLine
 line n rule premises = record { node = n; rule = rule; premises = premises }
 
 -- the derivation of a value whose root is node n, after so many lines before it; its last line speaks of the root
 module _ (net : Network) where
   abbrev mutual
+    -- Of a value: SRC for a signal, the lines of its first safe operand for an AND, those of all its operands for an
+    -- OR, and then the line of its root.
     pub derivation : (before n : ℕ) → Formula → List CertLine
     derivation before n (signal s) = line n Src [] ∷ []
     derivation before n (all_of es) =

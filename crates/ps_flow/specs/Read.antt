@@ -1,5 +1,5 @@
 -- Which texts are those of a certificate, and where a text first is none.
-use Rattle.std.specs.Prelude.{◌≡◌, ◌≢◌, ℕ, List, [], ◌∷◌, ◌++◌, ◌+◌, ◌<◌, ◌≤◌, ◌^◌, ◌==◌, ◌⊎◌, All, length, map, if◌then◌else◌}
+use Rattle.std.specs.Prelude.{◌≡◌, ◌≢◌, ℕ, List, [], ◌∷◌, ◌++◌, ◌+◌, ◌<◌, ◌≤◌, ◌==◌, ◌⊎◌, All, Result, Ok, Err, length, map, if◌then◌else◌}
 use Rattle.std.specs.List.{onto_first}
 use Rattle.ps_base.specs.declared.failing.Fail.{Fail}
 use Rattle.ps_base.specs.declared.failing.Fail.TheVariants.{Memory, Refused}
@@ -9,12 +9,8 @@ use Rattle.ps_base.specs.declared.failing.Rule.TheVariants.{C1, C2}
 use Rattle.ps_base.specs.declared.limits.TheConstants.{MOST_CERTIFICATE_LINES, LARGEST_CERTIFICATE}
 use Rattle.ps_flow.specs.declared.certificate.CertLine.{CertLine}
 use Rattle.ps_flow.specs.declared.text.TheConstants.{LINE_FEED}
+use Rattle.ps_flow.specs.Lines.{IsNumbered}
 use Rattle.ps_flow.specs.Written.{line_text, written}
-
--- a node and a premise are numbers of 32 bits
-pub record IsNumbered (l : CertLine) : Type 0 where
-  pub node : l.node < 2 ^ 32
-  pub premises : All (λ p. p < 2 ^ 32) l.premises
 
 -- the lines of a text: a line ends with a line feed or with the text, and none begins at the text's end
 abbrev pub lines_of : List ℕ → List (List ℕ)
@@ -29,6 +25,7 @@ IsTextOf lines text = (text ≡ written lines) ⊎ (text ++ LINE_FEED ∷ [] ≡
 abbrev pub IsTooLarge : List ℕ → Type 0
 IsTooLarge text = (MOST_CERTIFICATE_LINES < length (lines_of text)) ⊎ (LARGEST_CERTIFICATE < length text)
 
+-- At most 40,000 lines and 1,048,576 bytes.
 pub record IsWithin (text : List ℕ) : Type 0 where
   pub lines : length (lines_of text) ≤ MOST_CERTIFICATE_LINES
   pub bytes : length text ≤ LARGEST_CERTIFICATE
@@ -49,7 +46,15 @@ RefusesText text C2 place = (place ≡ record { line = 1; column = 0 }) × IsToo
 RefusesText text C1 place = (place.column ≡ 0) × IsWithin text × IsFirstOther text place.line
 RefusesText text rule place = ⊥
 
--- why a text has no certificate: memory is wanting, or a rule refuses it
-abbrev pub IsRefusedText : List ℕ → Fail → Type 0
-IsRefusedText text Memory = Unit {0}
-IsRefusedText text (Refused r) = RefusesText text r.rule r.place
+-- The text is within the limits, and it is that of these lines.
+pub record IsCertificate (text : List ℕ) (lines : List CertLine) : Type 0 where
+  pub form : IsTextOf lines text
+  pub numbered : All IsNumbered lines
+  pub within : IsWithin text
+
+-- What a text is read as: the lines of which it is the certificate, or the refusal of a text that is none. Want of memory
+-- is the one free answer.
+abbrev pub ReadsAs : List ℕ → Result (List CertLine) Fail → Type 0
+ReadsAs text (Ok lines) = IsCertificate text lines
+ReadsAs text (Err Memory) = Unit {0}
+ReadsAs text (Err (Refused r)) = RefusesText text r.rule r.place

@@ -12,8 +12,6 @@ use Rattle.ps_flow.specs.declared.refusal.PinFail.{PinFail}
 use Rattle.ps_flow.specs.declared.refusal.PinFail.TheVariants.{Memory, Breaks}
 use Rattle.ps_flow.specs.declared.refusal.StepFail.{StepFail}
 use Rattle.ps_flow.specs.declared.refusal.StepFail.TheVariants.{Memory as StepMemory, Breaks as StepBreaks}
-use Rattle.ps_flow.specs.declared.refusal.FlowFail.{FlowFail}
-use Rattle.ps_flow.specs.declared.refusal.FlowFail.TheVariants.{Memory as FlowMemory, Refused}
 
 module _ (net : Network) where
   -- what stands at a pin breaks the rule: a BOOL value at a SAFEBOOL pin (S2), a TIME literal at a Boolean pin (S3),
@@ -28,6 +26,8 @@ module _ (net : Network) where
   abbrev pub FitsUpTo : ℕ → ℕ → List Actual → Type 0
   FitsUpTo n i args = (j : ℕ) → j < n → MayStand net (pin_at (kind_at net i) j).ty (slice_index_or args j free)
 
+  -- A step breaks no rule: what is assigned to a SAFEBOOL signal is safe, and each pin of a call holds what may stand
+  -- there.
   abbrev pub FitsStep : Action → Type 0
   FitsStep (assigns t e) = is_safe_signal net t ≡ true → safe net e ≡ true
   FitsStep (calls i args) = FitsUpTo (length args) i args
@@ -44,6 +44,7 @@ abbrev pub PinFails : Network → Ty → Actual → PinFail → Type 0
 PinFails net ty a Memory = Unit {0}
 PinFails net ty a (Breaks rule) = BreaksAt net ty a rule
 
+-- What the answer of a step says: memory is wanting, or the step breaks the rule at the pin.
 abbrev pub StepFails : Network → Action → StepFail → Type 0
 StepFails net a StepMemory = Unit {0}
 StepFails net a (StepBreaks rule pin) = BreaksStep net a rule pin
@@ -54,8 +55,3 @@ pub record IsFirstBreach (net : Network) (rule : Rule) (step : ℕ) (pin : Optio
   pub here : slice_get net.steps step ≡ Some action
   pub breaks : BreaksStep net action rule pin
   pub earlier : (k : ℕ) (a : Action) → k < step → slice_get net.steps k ≡ Some a → FitsStep net a
-
--- why there is no certificate
-abbrev pub IsRefused : Network → FlowFail → Type 0
-IsRefused net FlowMemory = Unit {0}
-IsRefused net (Refused r) = IsFirstBreach net r.rule r.step r.pin

@@ -6,6 +6,7 @@ use Rattle.ps_flow.specs.declared.certificate.LineRule.{LineRule}
 use Rattle.ps_flow.specs.declared.certificate.LineRule.TheVariants.{Src, And, Or}
 use Rattle.ps_flow.specs.declared.text.TheConstants.{SPACE, LINE_FEED}
 
+-- The word of a rule.
 abbrev pub rule_word : LineRule → List ℕ
 rule_word Src = codes "SRC"
 rule_word And = codes "AND"

@@ -11,10 +11,11 @@ ghost use Rattle.ps_model.specs.Nodes.{nodes, nodes_at_pin, nodes_of_step};
 ghost use Rattle.ps_model.specs.Obligations.{obligation_at, obligations_at_pins, obligations_of_step};
 ghost use Rattle.ps_model.specs.StepOf.{IsStepOf};
 ghost use Rattle.ps_model.specs.Steps.{action};
-ghost use Rattle.ps_model.specs.Typing.{safe, Accepted, MayStand};
+ghost use Rattle.ps_model.specs.Typing.{safe, MayStand};
 ghost use Rattle.ps_model.specs.Values.{IsBelow, values_at_pin, values_of_step};
-ghost use Rattle.ps_flow.specs.Derivation.{derivation, derivations, certificate};
-ghost use Rattle.ps_flow.specs.Refusals.{FitsUpTo, FitsStep, PinFails, StepFails, IsRefused};
+ghost use Rattle.ps_flow.specs.Derivation.{derivation, derivations};
+ghost use Rattle.ps_flow.specs.Certifies.{Certifies};
+ghost use Rattle.ps_flow.specs.Refusals.{FitsUpTo, FitsStep, PinFails, StepFails};
 
 use crate::certificate::{CertLine, Certificate, LineRule, Premises};
 use crate::refusal::{FlowFail, FlowRefusal, PinFail, StepFail};
@@ -244,9 +245,7 @@ fn derive_step(
 /// assigned to a SAFEBOOL signal is BOOL, S2 where the value at a SAFEBOOL pin is, S3 where a TIME literal stands at
 /// a Boolean pin, S4 where a Boolean literal or a value stands at a TIME pin. It visits each node once.
 pub fn derive(alloc: Global, app: &App) -> Result<Certificate, FlowFail>
-    ensures accepted { OnOk result (Accepted app.now) }
-    ensures lines { IfOk result (λ cert. cert ≡ certificate app.now) }
-    ensures refused { IfErr result (IsRefused app.now) }
+    ensures { Certifies app.now result }
 {
     app.sound();
     let mut cert = Certificate::new(alloc);

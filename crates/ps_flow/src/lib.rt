@@ -1,14 +1,17 @@
-// SAFEBOOL flow: which applications are accepted, the certificate of each, and its text.
+//! SAFEBOOL flow: which applications are accepted (PLCopen TC5), the certificate of each, and the text of a certificate.
+//!
+//! Rooms: `flow` derives an application; `certificate` has the lines that it gives, and `refusal` why it gives none;
+//! `text` writes a certificate and `reading` reads one; `laws` says what holds of all answers.
 #![tactic(auto)]
 
-pub mod certificate;
-pub mod flow;
+mod certificate;
+mod flow;
 pub mod laws;
-pub mod reading;
-pub mod refusal;
+mod reading;
+mod refusal;
 #[cfg(test)]
 mod tests;
-pub mod text;
+mod text;
 
 pub use certificate::{CertLine, Certificate, LineRule, Premises};
 pub use flow::derive;

@@ -5,7 +5,8 @@ ghost use Rattle.ps_base.specs.declared.failing.Fail.TheVariants.{Refused};
 ghost use Rattle.ps_flow.specs.declared.certificate.CertLine.{CertLine};
 ghost use Rattle.ps_flow.specs.declared.certificate.LineRule.{LineRule};
 ghost use Rattle.ps_flow.specs.Written.{rule_word, line_text};
-ghost use Rattle.ps_flow.specs.Read.{IsNumbered, IsTextOf, IsTooLarge, IsWithin, IsRefusedText, lines_of};
+ghost use Rattle.ps_flow.specs.Lines.{IsNumbered};
+ghost use Rattle.ps_flow.specs.Read.{IsTooLarge, IsWithin, ReadsAs, lines_of};
 ghost use Rattle.ps_flow.specs.Words.{words_in, words_left, HasNo};
 
 use crate::certificate::{CertLine, Certificate, LineRule, Premises};
@@ -165,10 +166,7 @@ fn refused(rule: Rule, line: u32) -> Fail
 /// Refused are, in this order, C2 at line 1 where the text has over 40,000 lines or 1,048,576 bytes, and C1 at the
 /// first line that is not of the form. It reads each byte a fixed number of times.
 pub fn read_certificate(alloc: Global, text: &[u8]) -> Result<Certificate, Fail>
-    ensures reads { IfOk result (λ cert. IsTextOf cert text.now) }
-    ensures numbered { IfOk result (All IsNumbered) }
-    ensures within { OnOk result (IsWithin text.now) }
-    ensures refused { IfErr result (IsRefusedText text.now) }
+    ensures { ReadsAs text.now result }
 {
     if is_too_large(text) {
         return Err(refused(Rule::C2, 1));

@@ -6,7 +6,7 @@ use ps_base::{Bytes, Fail, Memory, Rule};
 use std::alloc::Global;
 use std::test::Fail as TestFail;
 
-/// How many lines were read, or the rule and the line of the refusal.
+// How many lines were read, or the rule and the line of the refusal.
 #[derive(Clone, Copy, Debug, PartialEq, Eq)]
 enum Answer {
     Lines(u32),

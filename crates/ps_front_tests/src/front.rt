@@ -8,7 +8,7 @@ use ps_model::app::App;
 use ps_model::pins::{pin_count, pin_name};
 use ps_model::step::Step;
 use ps_parser::{Source, parse};
-use ps_resolve::resolution::resolve;
+use ps_resolve::resolve;
 use std::alloc::Global;
 
 /// The refusal by a rule at a place.

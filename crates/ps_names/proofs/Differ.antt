@@ -8,10 +8,9 @@ use Rattle.std.proofs.lemmas.List.Elements.{All-append}
 use Rattle.std.proofs.lemmas.List.Kept.{AllPairs-filter}
 use Rattle.std.proofs.lemmas.Option.{slice_get-get_or}
 use Rattle.std.proofs.lemmas.Slice.Eq.{bytes_eq-Decides}
-use Rattle.ps_lexer.specs.Spelling.{folded}
 use Rattle.ps_base.specs.declared.failing.Rule.TheVariants.{N1}
 use Rattle.ps_model.specs.Network as net
-use Rattle.ps_base.specs.LetterCase.{SameName}
+use Rattle.ps_base.specs.LetterCase.{SameName, folded}
 use Rattle.ps_parser.specs.Tree.{StatementTree}
 use Rattle.ps_names.specs.declared.entry.Entry.{Entry}
 use Rattle.ps_names.specs.declared.entry.Sort.{Sort}
@@ -19,7 +18,7 @@ use Rattle.ps_names.specs.declared.entry.Sort.TheVariants.{InputSignal, OutputSi
 use Rattle.ps_names.specs.Names.{is_input, is_output, is_local, is_instance}
 use Rattle.ps_names.specs.Rules.{declared_twice, repeated}
 use Rattle.ps_names.specs.Stands.{network_of, signal_named, instance_named}
-use Rattle.ps_names.proofs.Distinct.{apart}
+use Rattle.ps_names.proofs.Distinct.{unrepeated_differ}
 use Rattle.ps_names.proofs.Lists.{pairs_append, pairs_map, pairs_across, map_map}
 
 abbrev Differ : Entry → Entry → Type 0
@@ -32,7 +31,7 @@ all_differ : (es : List Entry) → declared_twice es ≡ [] → AllPairs Differ 
 all_differ es none i j d lt within alike_ =
     let x = get_or es i d in let y = get_or es j d in
     false≢true
-    (sym (apart (λ e. e.name ∷ []) N1 [] es i j x y x.name y.name lt (ap (repeated N1 []) (flat_map_single (λ e. e.name) es) ∙ none)
+    (sym (unrepeated_differ (λ e. e.name ∷ []) N1 [] es i j x y x.name y.name lt (ap (repeated N1 []) (flat_map_single (λ e. e.name) es) ∙ none)
     (slice_get-get_or es i d (omega arith)) (slice_get-get_or es j d within) refl refl)
     ∙ (bytes_eq-Decides (folded y.name.text) (folded x.name.text)).1 (sym alike_))
 

@@ -52,20 +52,20 @@ module _ {X : Type 0} (names : X → List Name) (r : Rule) where
       ∙ apart_before (before ++ names x) xs j y n (repeated_rest r before (names x) (flat_map names xs) h) at is)).0
 
   -- two elements with a name each have different names
-  pub apart : (before : List Name) (xs : List X) (i j : ℕ) (x y : X) (m n : Name) → i < j →
+  pub unrepeated_differ : (before : List Name) (xs : List X) (i j : ℕ) (x y : X) (m n : Name) → i < j →
       repeated r before (flat_map names xs) ≡ [] → slice_get xs i ≡ Some x → slice_get xs j ≡ Some y →
       names x ≡ m ∷ [] → names y ≡ n ∷ [] → same n m ≡ false
-  apart before [] i j x y m n ij h ax ay im in_ = cc
-  apart before (z ∷ xs) zero zero x y m n ij h ax ay im in_ = absurd (omega arith)
-  apart before (z ∷ xs) (suc i) zero x y m n ij h ax ay im in_ = absurd (omega arith)
-  apart before (z ∷ xs) zero (suc j) x y m n ij h ax ay im in_ =
+  unrepeated_differ before [] i j x y m n ij h ax ay im in_ = cc
+  unrepeated_differ before (z ∷ xs) zero zero x y m n ij h ax ay im in_ = absurd (omega arith)
+  unrepeated_differ before (z ∷ xs) (suc i) zero x y m n ij h ax ay im in_ = absurd (omega arith)
+  unrepeated_differ before (z ∷ xs) zero (suc j) x y m n ij h ax ay im in_ =
       let e : names z ≡ m ∷ [] = ap names (let f : z ≡ x = cc in f) ∙ im in
       let rest = repeated_rest r before (m ∷ []) (flat_map names xs) (subst (λ l. repeated r before (l ++ flat_map names xs) ≡ []) e h) in
       let both = or_parts (list_any (same n) before) (same n m || false)
       (sym (list_any-append (same n) before (m ∷ [])) ∙ apart_before (before ++ m ∷ []) xs j y n rest ay in_) in
       (or_parts (same n m) false both.1).0
-  apart before (z ∷ xs) (suc i) (suc j) x y m n ij h ax ay im in_ =
-      apart (before ++ names z) xs i j x y m n (omega arith) (repeated_rest r before (names z) (flat_map names xs) h) ax ay im in_
+  unrepeated_differ before (z ∷ xs) (suc i) (suc j) x y m n ij h ax ay im in_ =
+      unrepeated_differ (before ++ names z) xs i j x y m n (omega arith) (repeated_rest r before (names z) (flat_map names xs) h) ax ay im in_
 
 module _ {X : Type 0} (p : X → Bool) where
   none_counted : (xs : List X) → ((j : ℕ) (y : X) → slice_get xs j ≡ Some y → p y ≡ true → ⊥) → count_by p xs ≡ 0

@@ -3,18 +3,12 @@ use Rattle.std.proofs.Common.{◌≡◌, ℕ, zero, suc, ◌+◌, Bool, true, fa
 use Rattle.std.specs.Prelude.{count_by, sum_by}
 use Rattle.std.proofs.lemmas.List.Sums.{sum_by-cons}
 use Rattle.ps_names.specs.declared.entry.Entry.{Entry}
-use Rattle.ps_parser.specs.declared.name.Name.{Name}
 use Rattle.ps_names.specs.declared.entry.Sort.{Sort}
 use Rattle.ps_names.specs.declared.entry.Sort.TheVariants.{InputSignal, OutputSignal, LocalSignal, Instance, Nothing}
-use Rattle.ps_names.proofs.Targets.{IsCalled, instance_number}
-use Rattle.ps_names.proofs.Unbroken.{IsUnbroken}
-use Rattle.ps_names.proofs.OneDriver.{declared_is}
 use Rattle.ps_model.specs.declared.named.Instance as model_instance
-use Rattle.ps_model.specs.Network as net
 use Rattle.ps_model.specs.Blocks.{output_count}
 use Rattle.ps_names.specs.Names.{is_instance}
-use Rattle.ps_parser.specs.Tree.{StatementTree}
-use Rattle.ps_names.specs.Stands.{number, network_of, instance_named, outputs_before, kind_of}
+use Rattle.ps_names.specs.Stands.{instance_named, kind_of}
 use Rattle.ps_names.specs.Limits.{outputs_of}
 
 outputs_where : (s : Sort) → outputs_of s ≡ cond (is_instance s) (output_count (kind_of s)) 0
@@ -58,11 +52,3 @@ pins_before (e ∷ es) (suc k) = by (is_instance e.sort) refl (pins_before es k)
         ∙ h
         ∙ sym (ap (λ b. sum_by brings (take (count_by (λ e. is_instance e.sort) (e ∷ take k es)) (map instance_named (cond b (e ∷ filter (λ e. is_instance e.sort) es) (filter (λ e. is_instance e.sort) es))))) q
         ∙ ap (λ c. sum_by brings (take c (map instance_named (filter (λ e. is_instance e.sort) es)))) a)
-
-module _ (name : List ℕ) (es : List Entry) (ss : List StatementTree) (clean : IsUnbroken es ss) where
-  pub first_pin_is : (n : Name) (t : IsCalled es n) → outputs_before es t.at ≡ net.first_pin (network_of name es ss) (number es n)
-  first_pin_is n t =
-      let a = pins_before es t.at in
-      let d = declared_is name es ss clean in
-      let b = ap (λ i. sum_by brings (take i (network_of name es ss).instances)) (instance_number es n t) in
-      omega arith

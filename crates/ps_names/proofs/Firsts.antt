@@ -14,14 +14,14 @@ never_itself o = grind (arith, nat_tests)
 not_before : (a b c : Refusal) → is_before a b ≡ false → is_before c b ≡ true → is_before a c ≡ false
 not_before a b c h i = grind (arith, nat_tests)
 
-step : (seen : List Refusal) (found : Option Refusal) (o : Refusal) → IsFirst seen found → IsFirst (seen ++ o ∷ []) (first_of found o)
-step seen None o h = subst (λ s. IsFirst (s ++ o ∷ []) (Some o)) (sym h)
+first_of_one_more : (seen : List Refusal) (found : Option Refusal) (o : Refusal) → IsFirst seen found → IsFirst (seen ++ o ∷ []) (first_of found o)
+first_of_one_more seen None o h = subst (λ s. IsFirst (s ++ o ∷ []) (Some o)) (sym h)
     (Contains-push [] o, λ x there. only x (Contains-push_cases [] o x there))
   where
     only : (x : Refusal) → Contains [] x ⊎ (o ≡ x) → is_before x o ≡ false
     only x (inl left) = absurd (omega (arith, left.1))
     only x (inr e) = subst (λ y. is_before y o ≡ false) e (never_itself o)
-step seen (Some a) o h = by (is_before o a) refl
+first_of_one_more seen (Some a) o h = by (is_before o a) refl
   where
     by : (b : Bool) → is_before o a ≡ b → IsFirst (seen ++ o ∷ []) (if b then Some o else Some a)
     by true e = (Contains-push seen o, λ x there. each x (Contains-push_cases seen o x there))
@@ -39,7 +39,7 @@ pub first_after : (os seen : List Refusal) (found : Option Refusal) → IsFirst 
 first_after [] seen found h = subst (λ s. IsFirst s found) (sym (append-nil seen)) h
 first_after (o ∷ os) seen found h =
     subst (λ s. IsFirst s (noted found (o ∷ os))) (append_assoc seen (o ∷ []) os)
-    (first_after os (seen ++ o ∷ []) (first_of found o) (step seen found o h))
+    (first_after os (seen ++ o ∷ []) (first_of found o) (first_of_one_more seen found o h))
 
 -- the first offence is refused
 pub refused_first : (os : List Refusal) → IsFirst os (refused os)

@@ -10,8 +10,12 @@ pub mod Differ
 pub mod Fine
 pub mod Values
 pub mod ReadNames
-pub mod Driven
+pub mod Drivers
 pub mod PinNames
-pub mod Counted
+pub mod FewNodes
+pub mod Booleans
+pub mod Times
 pub mod Whole
 pub mod Lookups
+pub mod Indexing
+pub mod Repeats

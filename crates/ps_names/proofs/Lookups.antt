@@ -5,14 +5,13 @@ use Rattle.std.proofs.lemmas.Bool.{false≢true}
 use Rattle.std.proofs.lemmas.Bool.Decides.{nat_tests}
 use Rattle.std.proofs.lemmas.Option.{slice_get_within}
 use Rattle.std.proofs.lemmas.Slice.Eq.{bytes_eq-Decides}
-use Rattle.ps_lexer.specs.Spelling.{folded}
 use Rattle.ps_model.specs.declared.kind.Kind.{Kind}
 use Rattle.ps_model.specs.declared.kind.Kind.TheVariants.{Equivalent, Antivalent, EmergencyStop, Espe, ModeSelector, TwoHandTwo, TwoHandThree, GuardMonitoring, GuardLocking, EnableSwitch, SafetyRequest, OutControl, Edm}
 use Rattle.ps_model.specs.Blocks.{block}
-use Rattle.ps_base.specs.LetterCase.{SameName}
+use Rattle.ps_base.specs.LetterCase.{SameName, folded, is_same_name}
 use Rattle.ps_model.specs.Pins.{pin_names, pin_count, IsNamed}
 use Rattle.ps_parser.specs.declared.name.Name.{Name}
-use Rattle.ps_names.specs.Names.{alike, kinds, kind_called}
+use Rattle.ps_names.specs.Names.{kinds, kind_called}
 use Rattle.ps_names.specs.Rules.{pin_at}
 use Rattle.ps_names.proofs.PinNames.{pins_differ, kinds_differ, apart_at}
 use Rattle.ps_names.proofs.Lists.{map_at}
@@ -55,29 +54,29 @@ module _ {X : Type 0} (p : X → Bool) where
   find_none (y ∷ xs) none = ap (λ b. cond b (Some y) (find p xs)) (none 0 y refl) ∙ find_none xs (λ i z there. none (suc i) z there)
 
 -- texts that are one but for letter case
-alike_if : (a b : List ℕ) → folded a ≡ folded b → alike a b ≡ true
+alike_if : (a b : List ℕ) → folded a ≡ folded b → is_same_name a b ≡ true
 alike_if a b h = (bytes_eq-Decides (folded a) (folded b)).1 h
 
-unlike_if : (a b : List ℕ) → (folded a ≡ folded b → ⊥) → alike a b ≡ false
-unlike_if a b h = by (alike a b) refl
+unlike_if : (a b : List ℕ) → (folded a ≡ folded b → ⊥) → is_same_name a b ≡ false
+unlike_if a b h = by (is_same_name a b) refl
   where
-    by : (c : Bool) → alike a b ≡ c → c ≡ false
+    by : (c : Bool) → is_same_name a b ≡ c → c ≡ false
     by true e = absurd (h ((bytes_eq-Decides (folded a) (folded b)).0 e))
     by false e = refl
 
 -- what is one with a text that another one is one with
-unlike_earlier : (a b text : List ℕ) → alike a b ≡ false → folded b ≡ folded text → alike text a ≡ false
+unlike_earlier : (a b text : List ℕ) → is_same_name a b ≡ false → folded b ≡ folded text → is_same_name text a ≡ false
 unlike_earlier a b text apart is = unlike_if text a (λ e. false≢true (sym apart ∙ alike_if a b (sym e ∙ sym is)))
 
 -- the pin of a kind with a name is the first in its table
 pub pin_found : (kind : Kind) (q : Name) (j : ℕ) → IsNamed kind q.text j → pin_at kind q ≡ Some j
 pin_found kind q j named =
-    position_first (alike q.text) (pin_names kind) j named.spelt named.at (alike_if q.text named.spelt (sym named.same))
+    position_first (is_same_name q.text) (pin_names kind) j named.spelt named.at (alike_if q.text named.spelt (sym named.same))
     (λ i y lt there. unlike_earlier y named.spelt q.text (apart_at (pin_names kind) i j y named.spelt (pins_differ kind) lt there named.at) named.same)
 
 pub pin_missing : (kind : Kind) (q : Name) → ((j : ℕ) → j < pin_count kind → IsNamed kind q.text j → ⊥) → pin_at kind q ≡ None
 pin_missing kind q none =
-    position_none (alike q.text) (pin_names kind)
+    position_none (is_same_name q.text) (pin_names kind)
     (λ i y there. unlike_if q.text y (λ e. none i (slice_get_within (pin_names kind) i y there) (record { spelt = y; at = there; same = sym e })))
 
 -- each kind stands in the list of kinds
@@ -100,7 +99,7 @@ pub kind_found : (kind : Kind) (text : List ℕ) → SameName (block kind).name 
 unfolding kind_called
 kind_found kind text is =
     let place = place_of_kind kind in
-    find_first (λ k. alike text (block k).name) kinds place.0 kind place.1 (alike_if text (block kind).name (sym is))
+    find_first (λ k. is_same_name text (block k).name) kinds place.0 kind place.1 (alike_if text (block kind).name (sym is))
     (λ i other lt there.
     unlike_earlier (block other).name (block kind).name text
     (apart_at (map (λ k. (block k).name) kinds) i place.0 (block other).name (block kind).name kinds_differ lt
@@ -109,4 +108,4 @@ kind_found kind text is =
 
 pub kind_missing : (text : List ℕ) → ((kind : Kind) → SameName (block kind).name text → ⊥) → kind_called text ≡ None
 unfolding kind_called
-kind_missing text none = find_none (λ k. alike text (block k).name) kinds (λ i other there. unlike_if text (block other).name (λ e. none other (sym e)))
+kind_missing text none = find_none (λ k. is_same_name text (block k).name) kinds (λ i other there. unlike_if text (block other).name (λ e. none other (sym e)))

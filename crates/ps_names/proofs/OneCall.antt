@@ -7,11 +7,12 @@ use Rattle.std.proofs.lemmas.List.Concat.{flat_map_single}
 use Rattle.std.proofs.lemmas.List.Sums.{sum_by-cons}
 use Rattle.std.proofs.lemmas.Bool.Decides.{nat_tests}
 use Rattle.std.proofs.lemmas.Slice.Eq.{bytes_eq-Decides}
+use Rattle.ps_base.specs.LetterCase.{folded}
 use Rattle.ps_parser.specs.declared.name.Name.{Name}
 use Rattle.ps_names.specs.declared.entry.Entry.{Entry}
 use Rattle.ps_names.specs.declared.entry.Sort.{Sort}
 use Rattle.ps_names.specs.declared.entry.Sort.TheVariants.{InputSignal, OutputSignal, LocalSignal, Instance, Nothing}
-use Rattle.ps_names.proofs.Distinct.{none_at, apart, at_most_one}
+use Rattle.ps_names.proofs.Distinct.{none_at, unrepeated_differ, at_most_one}
 use Rattle.ps_names.proofs.Targets.{one_instance, instance_number, names_it}
 use Rattle.ps_base.specs.declared.failing.Rule.TheVariants.{N1, N9}
 use Rattle.ps_names.proofs.Unbroken.{IsUnbroken}
@@ -19,7 +20,6 @@ use Rattle.ps_names.proofs.OneDriver.{callee_at, count_map, equal_of}
 use Rattle.ps_model.specs.Network as net
 use Rattle.ps_names.proofs.Lists.{one_of_any, any_at, brings}
 use Rattle.ps_names.specs.Names.{same, is_instance}
-use Rattle.ps_lexer.specs.Spelling.{folded}
 use Rattle.ps_parser.specs.Tree.{StatementTree, Assign, Call}
 use Rattle.ps_names.specs.Uses.{called}
 use Rattle.ps_names.specs.Rules.{uncalled, uncalled_as, repeated}
@@ -76,7 +76,7 @@ module _ (name : List ℕ) (es : List Entry) (ss : List StatementTree) (clean : 
   apart_calls i j k (Assign t v) y jk ax ay hx hy = false≢true hx
   apart_calls i j k x (Assign t v) jk ax ay hx hy = false≢true hy
   apart_calls i j k (Call m args) (Call n more) jk ax ay hx hy =
-      false≢true (sym (apart called N9 [] ss j k _ _ m n jk clean.called_names ax ay refl refl)
+      false≢true (sym (unrepeated_differ called N9 [] ss j k _ _ m n jk clean.called_names ax ay refl refl)
       ∙ one_instance es m n (callee_at name es ss clean j m args ax) (callee_at name es ss clean k n more ay)
       (equal_of (number es m) i hx ∙ sym (equal_of (number es n) i hy)))
 
@@ -91,7 +91,7 @@ module _ (name : List ℕ) (es : List Entry) (ss : List StatementTree) (clean : 
     where
       apart_names : (i l : ℕ) (x y : Entry) → i < l → slice_get es i ≡ Some x → slice_get es l ≡ Some y → folded y.name.text ≡ folded x.name.text → ⊥
       apart_names i l x y il ax ay h =
-          false≢true (sym (apart (λ e. e.name ∷ []) N1 [] es i l x y x.name y.name il (ap (repeated N1 []) (flat_map_single (λ e. e.name) es) ∙ clean.names) ax ay refl refl)
+          false≢true (sym (unrepeated_differ (λ e. e.name ∷ []) N1 [] es i l x y x.name y.name il (ap (repeated N1 []) (flat_map_single (λ e. e.name) es) ∙ clean.names) ax ay refl refl)
           ∙ (bytes_eq-Decides (folded y.name.text) (folded x.name.text)).1 h)
 
       by : (j ≡ k) ⊎ ((j < k) ⊎ (k < j)) → j ≡ k

@@ -7,10 +7,10 @@ use Rattle.std.proofs.lemmas.List.{length-map}
 use Rattle.std.proofs.lemmas.List.Sums.{sum_by-cons, length-filter}
 use Rattle.ps_parser.specs.declared.name.Name.{Name}
 use Rattle.ps_names.specs.declared.entry.Entry.{Entry}
-use Rattle.ps_names.proofs.Distinct.{none_left, apart, at_most_one}
+use Rattle.ps_names.proofs.Distinct.{none_left, unrepeated_differ, at_most_one}
 use Rattle.ps_names.proofs.Unbroken.{IsUnbroken, none_inside}
 use Rattle.ps_base.specs.declared.failing.Rule.TheVariants.{N7, N9}
-use Rattle.ps_names.proofs.Targets.{IsTarget, target, one_name, target_range, IsCalled, callee, one_instance, instance_range, never_a_pin}
+use Rattle.ps_names.proofs.Targets.{IsTarget, target, one_name, target_range, IsInstance, callee, one_instance, instance_range, never_a_pin}
 use Rattle.ps_model.specs.Network as net
 use Rattle.ps_model.specs.Network.{Network}
 use Rattle.ps_model.specs.Blocks.{output_count}
@@ -59,7 +59,7 @@ module _ (name : List ℕ) (es : List Entry) (ss : List StatementTree) (clean : 
   pub target_at : (k : ℕ) (n : Name) (v : SumTree) → slice_get ss k ≡ Some (Assign (Whole n) v) → IsTarget es n
   target_at k n v at = target es clean.typed n (none_left (broken_by es (drives n)) _ (none_inside (broken_by es) statement_uses ss k _ clean.uses at))
 
-  pub callee_at : (k : ℕ) (n : Name) (args : List ArgumentTree) → slice_get ss k ≡ Some (Call n args) → IsCalled es n
+  pub callee_at : (k : ℕ) (n : Name) (args : List ArgumentTree) → slice_get ss k ≡ Some (Call n args) → IsInstance es n
   callee_at k n args at = callee es n (none_left (broken_by es (runs n)) _ (none_inside (broken_by es) statement_uses ss k _ clean.uses at))
 
   pub no_pin_at : (k : ℕ) (n q : Name) (v : SumTree) → slice_get ss k ≡ Some (Assign (OfPin n q) v) → ⊥
@@ -85,9 +85,9 @@ module _ (name : List ℕ) (es : List Entry) (ss : List StatementTree) (clean : 
       let f = from_of (net.first_pin (network_of name es ss) (number es n)) _ s hy in
       omega arith
 
-  disjoint : (s i j : ℕ) → i < j → i < length (network_of name es ss).instances →
+  outputs_are_disjoint : (s i j : ℕ) → i < j → i < length (network_of name es ss).instances →
       net.drives (network_of name es ss) s (calls i []) ≡ true → net.drives (network_of name es ss) s (calls j []) ≡ true → ⊥
-  disjoint s i j h w hx hy =
+  outputs_are_disjoint s i j h w hx hy =
       let a = pins_apart (network_of name es ss) i j h w in
       let b = upto_of _ (net.first_pin (network_of name es ss) i + output_count (net.kind_at (network_of name es ss) i)) s hx in
       let c = from_of (net.first_pin (network_of name es ss) j) _ s hy in
@@ -99,7 +99,7 @@ module _ (name : List ℕ) (es : List Entry) (ss : List StatementTree) (clean : 
   apart_drivers s i j (Assign (OfPin n q) v) y ij ax ay hx hy = no_pin_at i n q v ax
   apart_drivers s i j x (Assign (OfPin n q) v) ij ax ay hx hy = no_pin_at j n q v ay
   apart_drivers s i j (Assign (Whole m) v) (Assign (Whole n) w) ij ax ay hx hy =
-      false≢true (sym (apart assigned N7 [] ss i j _ _ m n ij clean.targets ax ay refl refl)
+      false≢true (sym (unrepeated_differ assigned N7 [] ss i j _ _ m n ij clean.targets ax ay refl refl)
       ∙ one_name es m n (target_at i m v ax) (target_at j n w ay) (equal_of (number es m) s hx ∙ sym (equal_of (number es n) s hy)))
   apart_drivers s i j (Assign (Whole m) v) (Call n args) ij ax ay hx hy = not_both s i j m n v args ax ay hx hy
   apart_drivers s i j (Call m args) (Assign (Whole n) w) ij ax ay hx hy = not_both s j i n m w args ay ax hy hx
@@ -107,10 +107,10 @@ module _ (name : List ℕ) (es : List Entry) (ss : List StatementTree) (clean : 
     where
       by : (number es m ≡ number es n) ⊎ ((number es m < number es n) ⊎ (number es n < number es m)) → ⊥
       by (inl e) =
-          false≢true (sym (apart called N9 [] ss i j _ _ m n ij clean.called_names ax ay refl refl)
+          false≢true (sym (unrepeated_differ called N9 [] ss i j _ _ m n ij clean.called_names ax ay refl refl)
           ∙ one_instance es m n (callee_at i m args ax) (callee_at j n more ay) e)
-      by (inr (inl l)) = disjoint s (number es m) (number es n) l (let r = instance_range es m (callee_at i m args ax) in let c = instances_are in omega arith) hx hy
-      by (inr (inr l)) = disjoint s (number es n) (number es m) l (let r = instance_range es n (callee_at j n more ay) in let c = instances_are in omega arith) hy hx
+      by (inr (inl l)) = outputs_are_disjoint s (number es m) (number es n) l (let r = instance_range es m (callee_at i m args ax) in let c = instances_are in omega arith) hx hy
+      by (inr (inr l)) = outputs_are_disjoint s (number es n) (number es m) l (let r = instance_range es n (callee_at j n more ay) in let c = instances_are in omega arith) hy hx
 
   pub one_driver : (s : ℕ) → count_by (net.drives (network_of name es ss) s) (network_of name es ss).steps ≤ 1
   one_driver s =

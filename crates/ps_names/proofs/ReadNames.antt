@@ -15,13 +15,14 @@ use Rattle.ps_parser.specs.declared.name.Name.{Name}
 use Rattle.ps_names.specs.declared.entry.Entry.{Entry}
 use Rattle.ps_names.specs.declared.entry.Sort.{Sort}
 use Rattle.ps_names.specs.declared.entry.Sort.TheVariants.{InputSignal, OutputSignal, LocalSignal, Instance, Nothing}
-use Rattle.ps_names.specs.Names.{alike, is_input, is_output, is_local, declared_at, sort_at, sort_of}
+use Rattle.ps_base.specs.LetterCase.{is_same_name}
+use Rattle.ps_names.specs.Names.{is_input, is_output, is_local, declared_at, sort_at, sort_of}
 use Rattle.ps_names.specs.Offences.{unless}
 use Rattle.ps_names.specs.Limits.{outputs_of, inputs, outputs, locals, signals}
 use Rattle.ps_names.specs.Rules.{untyped, untyped_as, pin_at, puts, has_output, wrong, at_read, at_read_pin}
 use Rattle.ps_names.specs.Stands.{output_at, number, number_at, number_as, outputs_before, pin_number, pin_number_at, pin_number_as}
 use Rattle.ps_names.proofs.Distinct.{none_at}
-use Rattle.ps_names.proofs.Targets.{below_all}
+use Rattle.ps_names.proofs.Targets.{IsInstance, declaration_where, instance_of, below_all}
 
 -- an input, an output or a local
 abbrev pub IsSignal : Sort → Type 0
@@ -42,6 +43,13 @@ may_read n (Some (OutputSignal t)) h = tt
 may_read n (Some (LocalSignal t)) h = tt
 may_read n (Some (Instance kind)) h = cc
 may_read n (Some Nothing) h = tt
+
+read_kind : (n q : Name) (s : Sort) → at_read_pin n q (Some s) ≡ [] → (kind : Kind) × (s ≡ Instance kind)
+read_kind n q (InputSignal t) h = cc
+read_kind n q (OutputSignal t) h = cc
+read_kind n q (LocalSignal t) h = cc
+read_kind n q (Instance kind) h = (kind, refl)
+read_kind n q Nothing h = cc
 
 -- the number of outputs of a kind, behind its inputs in the table of pins
 pins_are : (kind : Kind) → length (pin_names kind) ≡ length (block kind).inputs + output_count kind
@@ -68,15 +76,6 @@ module _ (es : List Entry) where
     pub is : slice_get es at ≡ Some entry
     pub signal : IsSignal entry.sort
 
-  -- a name that stands for an instance
-  pub record IsInstance (n : Name) : Type 0 where
-    pub at : ℕ
-    pub entry : Entry
-    pub kind : Kind
-    pub declared : declared_at es n ≡ Some at
-    pub is : slice_get es at ≡ Some entry
-    pub sort : entry.sort ≡ Instance kind
-
   module _ (typed : flat_map untyped es ≡ []) where
     signal_sort : (k : ℕ) (e : Entry) → slice_get es k ≡ Some e → MayRead (Some e.sort) → IsSignal e.sort
     signal_sort k e at h = by e.sort refl h
@@ -89,15 +88,9 @@ module _ (es : List Entry) where
         by Nothing q m = let none : untyped_as e.ty Nothing ≡ [] = ap (untyped_as e.ty) (sym q) ∙ none_at untyped es k e typed at in cc
 
     pub read_name : (n : Name) → at_read n (sort_of es n) ≡ [] → IsRead n
-    read_name n h = by (declared_at es n) refl (may_read n (sort_of es n) h)
-      where
-        found : (k : ℕ) (r : Option Entry) → declared_at es n ≡ Some k → slice_get es k ≡ r → MayRead (option_map (λ e. e.sort) r) → IsRead n
-        found k None d q m = absurd m
-        found k (Some e) d q m = record { at = k; entry = e; declared = d; is = q; signal = signal_sort k e q m }
-
-        by : (o : Option ℕ) → declared_at es n ≡ o → MayRead (sort_at es o) → IsRead n
-        by None d m = absurd m
-        by (Some k) d m = found k (slice_get es k) d refl m
+    read_name n h =
+        let r = declaration_where es n MayRead (λ e. e) (may_read n (sort_of es n) h) in
+        record { at = r.0.at; entry = r.0.entry; declared = r.0.declared; is = r.0.is; signal = signal_sort r.0.at r.0.entry r.0.is r.1 }
 
     -- the number of a name that is read is below those of the pins
     pub name_below : (n : Name) → at_read n (sort_of es n) ≡ [] → number es n < inputs es + outputs es + locals es
@@ -122,28 +115,13 @@ module _ (es : List Entry) where
         by (Instance v) q d = absurd d
         by Nothing q d = absurd d
 
-  pub read_instance : (n q : Name) → at_read_pin n q (sort_of es n) ≡ [] → IsInstance n
-  read_instance n q h = by (declared_at es n) refl h
-    where
-      sorted : (k : ℕ) (e : Entry) (s : Sort) → declared_at es n ≡ Some k → slice_get es k ≡ Some e → e.sort ≡ s → at_read_pin n q (Some s) ≡ [] → IsInstance n
-      sorted k e (InputSignal t) d i z m = cc
-      sorted k e (OutputSignal t) d i z m = cc
-      sorted k e (LocalSignal t) d i z m = cc
-      sorted k e (Instance kind) d i z m = record { at = k; entry = e; kind = kind; declared = d; is = i; sort = z }
-      sorted k e Nothing d i z m = cc
+  pub read_instance : (n q : Name) → at_read_pin n q (sort_of es n) ≡ [] → IsInstance es n
+  read_instance n q h = let r = declaration_where es n (λ s. at_read_pin n q s ≡ []) (λ e. cc) h in instance_of es n r.0 (read_kind n q r.0.entry.sort r.1)
 
-      found : (k : ℕ) (r : Option Entry) → declared_at es n ≡ Some k → slice_get es k ≡ r → at_read_pin n q (option_map (λ e. e.sort) r) ≡ [] → IsInstance n
-      found k None d i m = cc
-      found k (Some e) d i m = sorted k e e.sort d i refl m
-
-      by : (o : Option ℕ) → declared_at es n ≡ o → at_read_pin n q (sort_at es o) ≡ [] → IsInstance n
-      by None d m = cc
-      by (Some k) d m = found k (slice_get es k) d refl m
-
-  sort_is : (n : Name) (t : IsInstance n) → sort_of es n ≡ Some (Instance t.kind)
+  sort_is : (n : Name) (t : IsInstance es n) → sort_of es n ≡ Some (Instance t.kind)
   sort_is n t = ap (sort_at es) t.declared ∙ ap (option_map (λ e. e.sort)) t.is ∙ ap Some t.sort
 
-  pin_is : (n q : Name) (t : IsInstance n) → pin_number es n q ≡ outputs_before es t.at + output_at t.kind q
+  pin_is : (n q : Name) (t : IsInstance es n) → pin_number es n q ≡ outputs_before es t.at + output_at t.kind q
   pin_is n q t =
       ap (λ o. pin_number_at es o q) t.declared
       ∙ ap (λ s. pin_number_as es s t.at q) (ap (option_map (λ e. e.sort)) t.is ∙ ap Some t.sort)
@@ -163,7 +141,7 @@ module _ (es : List Entry) where
       by None e p = absurd (false≢true p)
       by (Some j) e p =
           less_than _ j (length (block kind).inputs) (length (pin_names kind)) (output_count kind) (ap (λ o. unwrap_or o 0) e) (at_least j (length (block kind).inputs) p)
-          (position-Some (alike q.text) (pin_names kind) j [] e).0 (pins_are kind)
+          (position-Some (is_same_name q.text) (pin_names kind) j [] e).0 (pins_are kind)
 
   sum_upto : (xs : List Entry) (k : ℕ) (e : Entry) → slice_get xs k ≡ Some e → sum_by (λ x. outputs_of x.sort) (take k xs) + outputs_of e.sort ≤ sum_by (λ x. outputs_of x.sort) xs
   sum_upto [] k e at = cc

@@ -8,6 +8,7 @@ use Rattle.std.proofs.lemmas.List.Quantifiers.{position-Some}
 use Rattle.std.proofs.lemmas.Option.{slice_get_within, get_or_from_slice_get}
 use Rattle.std.proofs.lemmas.Slice.Eq.{bytes_eq-Decides}
 use Rattle.std.proofs.Math.Seq.{take-length}
+use Rattle.ps_base.specs.LetterCase.{folded}
 use Rattle.ps_parser.specs.declared.name.Name.{Name}
 use Rattle.ps_names.specs.declared.entry.Entry.{Entry}
 use Rattle.ps_names.specs.declared.entry.Sort.{Sort}
@@ -16,9 +17,8 @@ use Rattle.ps_base.specs.declared.failing.Refusal.{Refusal}
 use Rattle.ps_model.specs.declared.kind.Kind.{Kind}
 use Rattle.ps_names.proofs.Distinct.{none_at, count_less}
 use Rattle.ps_names.specs.Names.{same, is_input, is_output, is_local, is_instance, declared_at, sort_at, sort_of}
-use Rattle.ps_lexer.specs.Spelling.{folded}
 use Rattle.ps_names.specs.Uses.{drives, runs}
-use Rattle.ps_names.specs.Rules.{at_call, broken_by, at_drive, at_drive_pin, untyped, untyped_as, has_output, fixed, wrong}
+use Rattle.ps_names.specs.Rules.{at_call, broken_by, at_drive, at_drive_pin, untyped, untyped_as, has_output, unassignable, wrong}
 use Rattle.ps_names.specs.Stands.{number, number_at, number_as}
 
 -- what an assignment may have as its target, as far as its use goes
@@ -43,10 +43,17 @@ never_a_pin n q (Some (OutputSignal t)) h = cc
 never_a_pin n q (Some (LocalSignal t)) h = cc
 never_a_pin n q (Some (Instance k)) h = by (has_output k q) h
   where
-    by : (b : Bool) → cond {A = List Refusal} b (fixed n) (wrong q) ≡ [] → ⊥
+    by : (b : Bool) → cond {A = List Refusal} b (unassignable n) (wrong q) ≡ [] → ⊥
     by true e = cc
     by false e = cc
 never_a_pin n q (Some Nothing) h = cc
+
+called_kind : (n : Name) (s : Sort) → at_call n (Some s) ≡ [] → (kind : Kind) × (s ≡ Instance kind)
+called_kind n (InputSignal t) h = cc
+called_kind n (OutputSignal t) h = cc
+called_kind n (LocalSignal t) h = cc
+called_kind n (Instance k) h = (k, refl)
+called_kind n Nothing h = cc
 
 -- an output or a local
 abbrev pub IsDriven : Sort → Type 0
@@ -55,6 +62,25 @@ IsDriven (LocalSignal t) = Unit {0}
 IsDriven _ = ⊥
 
 module _ (es : List Entry) where
+  -- the first declaration of a name
+  pub record IsDeclared (n : Name) : Type 0 where
+    pub at : ℕ
+    pub entry : Entry
+    pub declared : declared_at es n ≡ Some at
+    pub is : slice_get es at ≡ Some entry
+
+  -- what holds of the sort of a name, and of no name that is not declared, holds of the sort of its first declaration
+  pub declaration_where : (n : Name) (P : Option Sort → Type 0) → (P None → ⊥) → P (sort_of es n) → (t : IsDeclared n) × P (Some t.entry.sort)
+  declaration_where n P none p = by (declared_at es n) refl p
+    where
+      found : (k : ℕ) (r : Option Entry) → declared_at es n ≡ Some k → slice_get es k ≡ r → P (option_map (λ e. e.sort) r) → (t : IsDeclared n) × P (Some t.entry.sort)
+      found k None d q m = absurd (none m)
+      found k (Some e) d q m = (record { at = k; entry = e; declared = d; is = q }, m)
+
+      by : (o : Option ℕ) → declared_at es n ≡ o → P (sort_at es o) → (t : IsDeclared n) × P (Some t.entry.sort)
+      by None d m = absurd (none m)
+      by (Some k) d m = found k (slice_get es k) d refl m
+
   -- a name that stands for an output or a local, with its first declaration
   pub record IsTarget (n : Name) : Type 0 where
     pub at : ℕ
@@ -75,15 +101,9 @@ module _ (es : List Entry) where
         by Nothing q m = let none : untyped_as e.ty Nothing ≡ [] = ap (untyped_as e.ty) (sym q) ∙ none_at untyped es k e typed at in cc
 
     pub target : (n : Name) → broken_by es (drives n) ≡ [] → IsTarget n
-    target n h = by (declared_at es n) refl (may_drive n (sort_of es n) h)
-      where
-        found : (k : ℕ) (r : Option Entry) → declared_at es n ≡ Some k → slice_get es k ≡ r → MayDrive (option_map (λ e. e.sort) r) → IsTarget n
-        found k None d q m = absurd m
-        found k (Some e) d q m = record { at = k; entry = e; declared = d; is = q; driven = driven_sort k e q m }
-
-        by : (o : Option ℕ) → declared_at es n ≡ o → MayDrive (sort_at es o) → IsTarget n
-        by None d m = absurd m
-        by (Some k) d m = found k (slice_get es k) d refl m
+    target n h =
+        let r = declaration_where n MayDrive (λ e. e) (may_drive n (sort_of es n) h) in
+        record { at = r.0.at; entry = r.0.entry; declared = r.0.declared; is = r.0.is; driven = driven_sort r.0.at r.0.entry r.0.is r.1 }
 
   -- its number
   pub number_is : (n : Name) (t : IsTarget n) → number es n ≡ number_as es t.entry.sort t.at
@@ -156,7 +176,7 @@ module _ (es : List Entry) where
       by Nothing q d = absurd d
 
   -- a name that stands for an instance, with its first declaration
-  pub record IsCalled (n : Name) : Type 0 where
+  pub record IsInstance (n : Name) : Type 0 where
     pub at : ℕ
     pub entry : Entry
     pub kind : Kind
@@ -164,34 +184,22 @@ module _ (es : List Entry) where
     pub is : slice_get es at ≡ Some entry
     pub sort : entry.sort ≡ Instance kind
 
-  pub callee : (n : Name) → broken_by es (runs n) ≡ [] → IsCalled n
-  callee n h = by (declared_at es n) refl h
-    where
-      sorted : (k : ℕ) (e : Entry) (s : Sort) → declared_at es n ≡ Some k → slice_get es k ≡ Some e → e.sort ≡ s → at_call n (Some s) ≡ [] → IsCalled n
-      sorted k e (InputSignal t) d q z m = cc
-      sorted k e (OutputSignal t) d q z m = cc
-      sorted k e (LocalSignal t) d q z m = cc
-      sorted k e (Instance i) d q z m = record { at = k; entry = e; kind = i; declared = d; is = q; sort = z }
-      sorted k e Nothing d q z m = cc
+  pub instance_of : (n : Name) (t : IsDeclared n) → (kind : Kind) × (t.entry.sort ≡ Instance kind) → IsInstance n
+  instance_of n t k = record { at = t.at; entry = t.entry; kind = k.0; declared = t.declared; is = t.is; sort = k.1 }
 
-      found : (k : ℕ) (r : Option Entry) → declared_at es n ≡ Some k → slice_get es k ≡ r → at_call n (option_map (λ e. e.sort) r) ≡ [] → IsCalled n
-      found k None d q m = cc
-      found k (Some e) d q m = sorted k e e.sort d q refl m
+  pub callee : (n : Name) → broken_by es (runs n) ≡ [] → IsInstance n
+  callee n h = let r = declaration_where n (λ s. at_call n s ≡ []) (λ e. cc) h in instance_of n r.0 (called_kind n r.0.entry.sort r.1)
 
-      by : (o : Option ℕ) → declared_at es n ≡ o → at_call n (sort_at es o) ≡ [] → IsCalled n
-      by None d m = cc
-      by (Some k) d m = found k (slice_get es k) d refl m
-
-  pub instance_number : (n : Name) (t : IsCalled n) → number es n ≡ count_by (λ e. is_instance e.sort) (take t.at es)
+  pub instance_number : (n : Name) (t : IsInstance n) → number es n ≡ count_by (λ e. is_instance e.sort) (take t.at es)
   instance_number n t =
       ap (number_at es) t.declared ∙ ap (λ r. number_as es (unwrap_or (option_map (λ e. e.sort) r) Nothing) t.at) t.is ∙ ap (λ u. number_as es u t.at) t.sort
 
-  pub instance_range : (n : Name) → IsCalled n → number es n < count_by (λ e. is_instance e.sort) es
+  pub instance_range : (n : Name) → IsInstance n → number es n < count_by (λ e. is_instance e.sort) es
   instance_range n t =
       let e = instance_number n t in let less = below_all (λ x. is_instance x.sort) t.at t.entry t.is (ap is_instance t.sort) in omega arith
 
   -- instances of one number are one name
-  pub one_instance : (m n : Name) → IsCalled m → IsCalled n → number es m ≡ number es n → same n m ≡ true
+  pub one_instance : (m n : Name) → IsInstance m → IsInstance n → number es m ≡ number es n → same n m ≡ true
   one_instance m n a b h =
       let place : a.at ≡ b.at = same_place (λ x. is_instance x.sort) a.at b.at a.entry b.entry a.is b.is (ap is_instance a.sort) (ap is_instance b.sort) (sym (instance_number m a) ∙ h ∙ instance_number n b) in
       let one : a.entry ≡ b.entry = (let q : Some a.entry ≡ Some b.entry = sym a.is ∙ ap (slice_get es) place ∙ b.is in cc) in

@@ -10,7 +10,8 @@ use Rattle.ps_parser.specs.Tree.{FactorTree, ProductTree, no_factor, factor, Sum
 use Rattle.ps_parser.specs.Tree as tree
 use Rattle.ps_parser.specs.Whole.{SumWhole, ArgumentWhole, StatementWhole, sum_nesting, arguments_nesting, statement_nesting}
 use Rattle.ps_names.specs.declared.entry.Entry.{Entry}
-use Rattle.ps_names.specs.Names.{alike, sort_of}
+use Rattle.ps_base.specs.LetterCase.{is_same_name}
+use Rattle.ps_names.specs.Names.{sort_of}
 use Rattle.ps_names.specs.Uses.{Use, gives, runs, sum_uses, value_uses, argument_uses, statement_uses}
 use Rattle.ps_names.specs.Stands.{sort_or, kind_of, sum_formula, actual_of, given, actual_at, actuals, action}
 use Rattle.ps_names.proofs.Distinct.{none_right}
@@ -54,10 +55,10 @@ nesting_at (b ∷ rest) (suc j) a at = let h = nesting_at rest j a at in omega a
 
 module _ (IsNamed : List ℕ → Type 0) (es : List Entry) where
   argument_value : (n : Name) (arguments : List ArgumentTree) (o : Option ArgumentTree) (pin : List ℕ) (k : ℕ) (e : Formula) →
-      find (λ a. alike a.pin.text pin) arguments ≡ o → slice_get (values_at_pin (given es o)) k ≡ Some e → IsValueOf IsNamed es (Call n arguments) e
+      find (λ a. is_same_name a.pin.text pin) arguments ≡ o → slice_get (values_at_pin (given es o)) k ≡ Some e → IsValueOf IsNamed es (Call n arguments) e
   argument_value n arguments None pin k e found h = cc
   argument_value n arguments (Some a) pin k e found h =
-      let r = found_at (λ a. alike a.pin.text pin) arguments a found in
+      let r = found_at (λ a. is_same_name a.pin.text pin) arguments a found in
       let w = wired_at es a.value k e h in
       record {
         value = a.value;
@@ -80,4 +81,4 @@ module _ (IsNamed : List ℕ → Type 0) (es : List Entry) where
       let inputs = (block (kind_of (sort_or (sort_of es n)))).inputs in
       let r = in_flat values_at_pin (actuals es (kind_of (sort_or (sort_of es n))) arguments) k e h in
       let m = in_map (λ (p : Pin). actual_at es arguments p.name) inputs r.0 r.1 r.2 in
-      argument_value n arguments (find (λ a. alike a.pin.text m.0.name) arguments) m.0.name r.3 e refl (ap (λ x. slice_get (values_at_pin x) r.3) m.2 ∙ r.4)
+      argument_value n arguments (find (λ a. is_same_name a.pin.text m.0.name) arguments) m.0.name r.3 e refl (ap (λ x. slice_get (values_at_pin x) r.3) m.2 ∙ r.4)

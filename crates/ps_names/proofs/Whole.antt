@@ -17,18 +17,18 @@ use Rattle.ps_model.specs.Blocks.{block, output_count}
 use Rattle.ps_model.specs.Values.{values, values_of_step, IsBelow, HasOperands, depth}
 use Rattle.ps_parser.specs.declared.name.Name.{Name}
 use Rattle.ps_parser.specs.declared.statement.Target.TheVariants.{Name as Whole, Pin as OfPin}
-use Rattle.ps_parser.specs.Tree.{StatementTree, Assign, Call}
-use Rattle.ps_parser.specs.Whole.{StatementWhole, statement_nesting, statements_nesting}
+use Rattle.ps_parser.specs.Tree.{StatementTree, Assign, Call, SourceTree}
+use Rattle.ps_parser.specs.Whole.{StatementWhole, IsWhole, statement_nesting, statements_nesting, nesting}
 use Rattle.ps_names.specs.declared.entry.Entry.{Entry}
 use Rattle.ps_names.specs.declared.entry.Sort.TheVariants.{Instance, Nothing}
-use Rattle.ps_names.specs.Names.{is_input, is_instance, sort_at, sort_of}
+use Rattle.ps_names.specs.Names.{entries, is_input, is_instance, sort_at, sort_of}
 use Rattle.ps_names.specs.Limits.{outputs_of, inputs, outputs, instances, signals, sum_nodes, statement_nodes}
 use Rattle.ps_names.specs.Uses.{statement_uses}
-use Rattle.ps_names.specs.Rules.{at_read, broken_by}
-use Rattle.ps_names.specs.Stands.{number, sum_formula, action, network_of, instance_named, signal_named, kind_of, actual_at}
-use Rattle.ps_names.proofs.Unbroken.{IsUnbroken, none_inside}
+use Rattle.ps_names.specs.Rules.{at_read, broken_by, offences}
+use Rattle.ps_names.specs.Stands.{number, sum_formula, action, network, network_of, instance_named, signal_named, kind_of, actual_at}
+use Rattle.ps_names.proofs.Unbroken.{IsUnbroken, none_inside, unbroken}
 use Rattle.ps_names.proofs.Lists.{map_at, in_map, all_at, all_brought, one_of_all}
-use Rattle.ps_names.proofs.Targets.{IsCalled, target_range, instance_range, instance_number}
+use Rattle.ps_names.proofs.Targets.{IsInstance, target_range, instance_range, instance_number}
 use Rattle.ps_names.proofs.OneDriver.{one_driver, target_at, callee_at, no_pin_at, declared_is, instances_are}
 use Rattle.ps_names.proofs.OneCall.{once_at_most, once_at_least}
 use Rattle.ps_names.proofs.FirstPins.{pins_before}
@@ -36,8 +36,10 @@ use Rattle.ps_names.proofs.Differ.{names_differ}
 use Rattle.ps_names.proofs.ReadNames.{name_below, pin_below}
 use Rattle.ps_names.proofs.Fine.{IsFine, sum_fine, sum_depth}
 use Rattle.ps_names.proofs.Values.{IsValueOf, value_of}
-use Rattle.ps_names.proofs.Driven.{inputs_are, outputs_are, outputs_driven, locals_driven}
-use Rattle.ps_names.proofs.Counted.{few_in_steps}
+use Rattle.ps_names.proofs.Drivers.{inputs_are, outputs_are, outputs_driven, locals_driven}
+use Rattle.ps_names.proofs.FewNodes.{few_in_steps}
+use Rattle.ps_names.proofs.Booleans.{IsBoolean, entries_are_boolean, signals_boolean}
+use Rattle.ps_names.proofs.Times.{times_fit}
 
 -- a statement's groups are among those of all
 nesting_in : (ss : List StatementTree) (k : ℕ) (st : StatementTree) → slice_get ss k ≡ Some st → statement_nesting st ≤ statements_nesting ss
@@ -73,8 +75,8 @@ or_at (y ∷ xs) (suc k) x d h = or_at xs k x d h
 
 module _ (name : List ℕ) (es : List Entry) (ss : List StatementTree) (clean : IsUnbroken es ss) where
   -- the kind of the instance that a name stands for
-  kind_is : (n : Name) (t : IsCalled es n) → net.kind_at (network_of name es ss) (number es n) ≡ t.kind
-  kind_is n t =
+  pub kind_of_called : (n : Name) (t : IsInstance es n) → net.kind_at (network_of name es ss) (number es n) ≡ t.kind
+  kind_of_called n t =
       ap (λ x. x.kind)
       (or_at (network_of name es ss).instances (number es n) (instance_named t.entry) _
       (ap (slice_get (network_of name es ss).instances) (instance_number es n t)
@@ -121,7 +123,7 @@ module _ (name : List ℕ) (es : List Entry) (ss : List StatementTree) (clean : 
           let a : map (λ p. actual_at es more p.name) (block (kind_of (unwrap_or (sort_of es n) Nothing))).inputs ≡ args = cc in
           ap length (sym a) ∙ length-map (block (kind_of (unwrap_or (sort_of es n) Nothing))).inputs (λ p. actual_at es more p.name)
           ∙ ap (λ s. length (block (kind_of (unwrap_or s Nothing))).inputs) sort
-          ∙ ap (λ x. length (block x).inputs) (sym (kind_is n t) ∙ ap (net.kind_at (network_of name es ss)) q)
+          ∙ ap (λ x. length (block x).inputs) (sym (kind_of_called n t) ∙ ap (net.kind_at (network_of name es ss)) q)
 
   sound_calls : (i : ℕ) → i < net.instance_count (network_of name es ss) → count_by (net.is_call_of (network_of name es ss) i) (network_of name es ss).steps ≡ 1
   sound_calls i h =
@@ -181,8 +183,8 @@ module _ (name : List ℕ) (es : List Entry) (ss : List StatementTree) (clean : 
 
     -- ---- all of it
 
-    pub sound : statements_nesting ss ≤ MOST_GROUPS → IsSound (network_of name es ss)
-    sound few =
+    sound : All IsBoolean es → statements_nesting ss ≤ MOST_GROUPS → IsSound (network_of name es ss)
+    sound boolean few =
         let a = and_parts _ (nat_le (sum_by statement_nodes ss) MOST_NODES) clean.within in
         let b = and_parts _ (nat_le (signals es) MOST_SIGNALS) a.0 in
         let c = and_parts _ (nat_le (instances es) MOST_INSTANCES) b.0 in
@@ -214,4 +216,11 @@ module _ (name : List ℕ) (es : List Entry) (ss : List StatementTree) (clean : 
           outputs_driven = outputs_driven name es ss clean;
           locals_driven = locals_driven name es ss clean;
           called_once = sound_calls;
+          signals_boolean = signals_boolean name es ss boolean;
+          times_fit = times_fit IsNamed es name ss whole;
         }
+
+-- the application of a source that breaks no rule, whatever a name is in it
+pub network_is_sound : (IsNamed : List ℕ → Type 0) (p : SourceTree) → offences p ≡ [] → IsWhole IsNamed p → nesting p ≤ MOST_GROUPS → IsSound (network p)
+network_is_sound IsNamed p clean whole few =
+    sound p.name.text (entries p) p.statements (unbroken p.name.place (entries p) p.statements clean) IsNamed whole.2 (entries_are_boolean p) few

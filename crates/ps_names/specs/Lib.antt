@@ -4,3 +4,4 @@ pub mod Uses
 pub mod Rules
 pub mod Limits
 pub mod Stands
+pub mod Tables

@@ -14,15 +14,19 @@ outputs_of (Instance kind) = output_count kind
 outputs_of _ = 0
 
 module _ (es : List Entry) where
+  -- How many inputs are declared.
   abbrev pub inputs : ℕ
   inputs = count_by (λ e. is_input e.sort) es
 
+  -- How many outputs.
   abbrev pub outputs : ℕ
   outputs = count_by (λ e. is_output e.sort) es
 
+  -- How many locals.
   abbrev pub locals : ℕ
   locals = count_by (λ e. is_local e.sort) es
 
+  -- How many instances.
   abbrev pub instances : ℕ
   instances = count_by (λ e. is_instance e.sort) es
 
@@ -33,6 +37,7 @@ module _ (es : List Entry) where
 -- Nodes of expressions: each name, each output of a pin, each AND of two or more factors and each OR of two or more
 -- products. A literal is no node.
 abbrev mutual
+  -- Of a factor.
   pub factor_nodes : FactorTree → ℕ
   factor_nodes (Signal n) = 1
   factor_nodes (Pin n q) = 1
@@ -40,24 +45,29 @@ abbrev mutual
   factor_nodes (Time t p) = 0
   factor_nodes (Group s) = sum_nodes s
 
+  -- Of a product: an AND where it has two factors or more.
   pub product_nodes : ProductTree → ℕ
   product_nodes no_factor = 0
   product_nodes (factor f no_factor) = factor_nodes f
   product_nodes (factor f fs) = 1 + (factor_nodes f + nodes_of_factors fs)
 
+  -- Of its factors.
   pub nodes_of_factors : ProductTree → ℕ
   nodes_of_factors no_factor = 0
   nodes_of_factors (factor f fs) = factor_nodes f + nodes_of_factors fs
 
+  -- Of a sum: an OR where it has two products or more.
   pub sum_nodes : SumTree → ℕ
   sum_nodes no_product = 0
   sum_nodes (product p no_product) = product_nodes p
   sum_nodes (product p ps) = 1 + (product_nodes p + nodes_of_products ps)
 
+  -- Of its products.
   pub nodes_of_products : SumTree → ℕ
   nodes_of_products no_product = 0
   nodes_of_products (product p ps) = product_nodes p + nodes_of_products ps
 
+-- Of what a statement assigns, or of all arguments of a call.
 abbrev pub statement_nodes : StatementTree → ℕ
 statement_nodes (Assign t s) = sum_nodes s
 statement_nodes (Call n arguments) = sum_by (λ a. sum_nodes a.value) arguments

@@ -2,8 +2,7 @@
 use Rattle.std.specs.Prelude.{ℕ, Bool, true, false, List, [], ◌∷◌, Option, None, Some, map, codes, position, slice_get, if◌then◌else◌}
 use Rattle.std.specs.Option.{option_map}
 use Rattle.std.specs.List.{flat_map, find}
-use Rattle.std.specs.Str.{bytes_eq}
-use Rattle.ps_lexer.specs.Spelling.{folded}
+use Rattle.ps_base.specs.LetterCase.{is_same_name}
 use Rattle.ps_model.specs.declared.kind.Ty.TheVariants as ty
 use Rattle.ps_model.specs.declared.kind.Kind.{Kind}
 use Rattle.ps_model.specs.declared.kind.Kind.TheVariants.{Equivalent, Antivalent, EmergencyStop, Espe, ModeSelector, TwoHandTwo, TwoHandThree, GuardMonitoring, GuardLocking, EnableSwitch, SafetyRequest, OutControl, Edm}
@@ -22,28 +21,26 @@ use Rattle.ps_names.specs.declared.entry.Entry.{Entry}
 
 -- ---- names without letter case
 
--- one text but for letter case
-abbrev pub alike : List ℕ → List ℕ → Bool
-alike a b = bytes_eq (folded a) (folded b)
-
 -- one name but for letter case
 abbrev pub same : Name → Name → Bool
-same a b = alike a.text b.text
+same a b = is_same_name a.text b.text
 
 -- ---- types
 
+-- The thirteen kinds of function blocks.
 abbrev pub kinds : List Kind
 kinds = Equivalent ∷ Antivalent ∷ EmergencyStop ∷ Espe ∷ ModeSelector ∷ TwoHandTwo ∷ TwoHandThree
     ∷ GuardMonitoring ∷ GuardLocking ∷ EnableSwitch ∷ SafetyRequest ∷ OutControl ∷ Edm ∷ []
 
 -- the kind with this name
 unfoldable pub kind_called : List ℕ → Option Kind
-kind_called text = find (λ k. alike text (block k).name) kinds
+kind_called text = find (λ k. is_same_name text (block k).name) kinds
 
+-- What the name of a type stands for: SAFEBOOL, BOOL or a kind.
 abbrev pub type_named : List ℕ → Option TypeNamed
 type_named text =
-    if alike text (codes "SAFEBOOL") then Some (type_name.Signal ty.Safe) else
-    if alike text (codes "BOOL") then Some (type_name.Signal ty.Bool) else
+    if is_same_name text (codes "SAFEBOOL") then Some (type_name.Signal ty.Safe) else
+    if is_same_name text (codes "BOOL") then Some (type_name.Signal ty.Bool) else
     option_map type_name.Block (kind_called text)
 
 -- what a name declared in a section with a type is
@@ -64,29 +61,41 @@ entry_of part ty n = record { name = n; ty = ty.place; sort = sort_in part (type
 abbrev pub declares : Part → Declaration → List Entry
 declares part d = map (entry_of part d.ty) d.names
 
+-- The declared names of a section, in order.
 abbrev pub section_entries : Section → List Entry
 section_entries s = flat_map (declares s.part) s.declarations
 
+-- The declared names of a source, in order.
 abbrev pub entries : SourceTree → List Entry
 entries p = flat_map section_entries p.sections
 
 -- ---- what a name is
 
+-- It is an input.
 abbrev pub is_input : Sort → Bool
 is_input (InputSignal t) = true
 is_input _ = false
 
+-- It is an output.
 abbrev pub is_output : Sort → Bool
 is_output (OutputSignal t) = true
 is_output _ = false
 
+-- It is a local.
 abbrev pub is_local : Sort → Bool
 is_local (LocalSignal t) = true
 is_local _ = false
 
+-- It is an instance.
 abbrev pub is_instance : Sort → Bool
 is_instance (Instance k) = true
 is_instance _ = false
+
+-- It is a signal of this part: an input, an output or a local.
+abbrev pub is_signal_of : Part → Sort → Bool
+is_signal_of Input s = is_input s
+is_signal_of Output s = is_output s
+is_signal_of Local s = is_local s
 
 module _ (es : List Entry) where
   -- where a name is declared first
@@ -98,5 +107,6 @@ module _ (es : List Entry) where
   sort_at None = None
   sort_at (Some k) = option_map (λ e. e.sort) (slice_get es k)
 
+  -- What the first declaration of a name makes it; None where the name is not declared.
   abbrev pub sort_of : Name → Option Sort
   sort_of n = sort_at (declared_at n)

@@ -13,6 +13,7 @@ offence rule place = record { rule = rule; place = place }
 abbrev pub when : Bool → List Refusal → List Refusal
 when b os = if b then os else []
 
+-- These offences where the test does not hold.
 abbrev pub unless : Bool → List Refusal → List Refusal
 unless b os = if b then [] else os
 

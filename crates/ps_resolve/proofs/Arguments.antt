@@ -1,36 +1,34 @@
 -- Arguments by the names of pins, and steps one after another.
-use Rattle.std.proofs.Common.{◌≡◌, ℕ, zero, suc, ◌+◌, ◌<◌, ◌≤◌, Bool, true, false, cond, List, [], ◌∷◌, ◌++◌, Some, length, map, take, drop, get_or, slice_get, refl, sym, ap, ◌∙◌, arith}
+use Rattle.std.proofs.Common.{◌≡◌, ℕ, zero, suc, ◌+◌, ◌<◌, ◌≤◌, true, false, cond, List, [], ◌∷◌, ◌++◌, Some, length, map, take, drop, get_or, slice_get, refl, sym, ap, ◌∙◌, arith}
 use Rattle.std.specs.List.{find}
-use Rattle.std.proofs.lemmas.List.{map_more, map-append}
 use Rattle.ps_model.specs.Blocks.{Pin}
-use Rattle.ps_model.specs.Action.{Actual, free}
+use Rattle.ps_model.specs.Action.{free}
 use Rattle.ps_parser.specs.declared.statement.Argument.{Argument}
-use Rattle.ps_parser.specs.Tree.{ArgumentTree}
 use Rattle.ps_parser.specs.ArgumentView.{argument_tree}
 use Rattle.ps_names.specs.declared.entry.Entry.{Entry}
-use Rattle.ps_names.specs.Names.{alike}
+use Rattle.ps_base.specs.LetterCase.{is_same_name}
 use Rattle.ps_names.specs.Stands.{given, actual_at, actual_of}
 
 module _ (es : List Entry) (pin : List ℕ) where
   -- an argument of another pin is passed over
-  other_suc : (xs : List Argument) (i : ℕ) (d : Argument) → i < length xs → alike (get_or xs i d).pin.text pin ≡ false →
+  other_suc : (xs : List Argument) (i : ℕ) (d : Argument) → i < length xs → is_same_name (get_or xs i d).pin.text pin ≡ false →
       actual_at es (map argument_tree (drop (suc i) xs)) pin ≡ actual_at es (map argument_tree (drop i xs)) pin
   other_suc [] i d h no_ = absurd (omega arith)
   other_suc (x ∷ xs) zero d h no_ =
-      sym (ap (λ b. given es (cond b (Some (argument_tree x)) (find (λ a. alike a.pin.text pin) (map argument_tree xs)))) no_)
+      sym (ap (λ b. given es (cond b (Some (argument_tree x)) (find (λ a. is_same_name a.pin.text pin) (map argument_tree xs)))) no_)
   other_suc (x ∷ xs) (suc i) d h no_ = other_suc xs i d (omega arith) no_
 
-  pub other_pin : (xs : List Argument) (i : ℕ) (d : Argument) → i < length xs → alike (get_or xs i d).pin.text pin ≡ false →
+  pub other_pin : (xs : List Argument) (i : ℕ) (d : Argument) → i < length xs → is_same_name (get_or xs i d).pin.text pin ≡ false →
       actual_at es (map argument_tree (drop (i + 1) xs)) pin ≡ actual_at es (map argument_tree (drop i xs)) pin
   other_pin xs i d h no_ =
       let on : i + 1 ≡ suc i = omega arith in
       ap (λ n. actual_at es (map argument_tree (drop n xs)) pin) on ∙ other_suc xs i d h no_
 
   -- the argument of the pin is found
-  pub this_pin : (xs : List Argument) (i : ℕ) (d : Argument) → i < length xs → alike (get_or xs i d).pin.text pin ≡ true →
+  pub this_pin : (xs : List Argument) (i : ℕ) (d : Argument) → i < length xs → is_same_name (get_or xs i d).pin.text pin ≡ true →
       actual_at es (map argument_tree (drop i xs)) pin ≡ actual_of es (argument_tree (get_or xs i d)).value
   this_pin [] i d h yes_ = absurd (omega arith)
-  this_pin (x ∷ xs) zero d h yes_ = ap (λ b. given es (cond b (Some (argument_tree x)) (find (λ a. alike a.pin.text pin) (map argument_tree xs)))) yes_
+  this_pin (x ∷ xs) zero d h yes_ = ap (λ b. given es (cond b (Some (argument_tree x)) (find (λ a. is_same_name a.pin.text pin) (map argument_tree xs)))) yes_
   this_pin (x ∷ xs) (suc i) d h yes_ = this_pin xs i d (omega arith) yes_
 
   pub no_pin : (xs : List Argument) (i : ℕ) → length xs ≤ i → actual_at es (map argument_tree (drop i xs)) pin ≡ free
@@ -52,10 +50,3 @@ more_pins f xs j name old new a at so one is =
     let on : j + 1 ≡ suc j = omega arith in
     is ∙ ap (λ l. l ++ a ∷ []) so ∙ ap (λ x. map (λ (p : Pin). f p.name) (take j xs) ++ x ∷ []) one
     ∙ sym (ap (λ n. map (λ (p : Pin). f p.name) (take n xs)) on ∙ more_suc f xs j name at)
-
--- one more step
-pub more_steps : {X Y Z : Type 0} (f : Y → Z) (g : X → Y) (xs : List X) (i : ℕ) (d x : X) (old new : List Z) (z : Z) → i < length xs → x ≡ get_or xs i d →
-    old ≡ map f (map g (take i xs)) → z ≡ f (g x) → new ≡ old ++ z ∷ [] → new ≡ map f (map g (take (i + 1) xs))
-more_steps f g xs i d x old new z h at so one is =
-    is ∙ ap (λ l. l ++ z ∷ []) so ∙ ap (λ y. map f (map g (take i xs)) ++ y ∷ []) (one ∙ ap (λ y. f (g y)) at)
-    ∙ sym (ap (map f) (map_more g xs i d h) ∙ map-append f (map g (take i xs)) (g (get_or xs i d) ∷ []))

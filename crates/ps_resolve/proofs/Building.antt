@@ -1,9 +1,9 @@
 -- The application of a source that breaks no rule, from its parts.
-use Rattle.std.proofs.Common.{◌≡◌, ◌≤◌, ℕ, List, [], Option, None, map, filter, refl, sym, ap, subst, ◌∙◌, arith, ◌&&◌, nat_le, true}
+use Rattle.std.proofs.Common.{◌≡◌, ◌≤◌, ℕ, List, [], None, map, filter, sym, ap, subst, ◌∙◌, arith, nat_le, true}
 use Rattle.std.specs.Prelude.{sum_by}
 use Rattle.std.proofs.lemmas.Bool.{and_parts}
 use Rattle.std.proofs.lemmas.Bool.Decides.{nat_tests}
-use Rattle.ps_base.specs.declared.limits.TheConstants.{MOST_INPUTS, MOST_OUTPUTS, MOST_SIGNALS, MOST_INSTANCES, MOST_NODES}
+use Rattle.ps_base.specs.declared.limits.TheConstants.{MOST_SIGNALS, MOST_INSTANCES, MOST_NODES}
 use Rattle.ps_model.specs.declared.named.Signal as model_signal
 use Rattle.ps_model.specs.declared.named.Instance as model_instance
 use Rattle.ps_model.specs.Action.{Action}
@@ -17,12 +17,12 @@ use Rattle.ps_parser.specs.Whole.{IsSource}
 use Rattle.ps_names.specs.declared.entry.Entry.{Entry}
 use Rattle.ps_names.specs.Names.{entries, section_entries, is_input, is_output, is_local, is_instance}
 use Rattle.ps_names.specs.Offences.{refused, IsFirst}
-use Rattle.ps_names.specs.Limits.{inputs, outputs, instances, signals, statement_nodes}
+use Rattle.ps_names.specs.Limits.{instances, signals, statement_nodes}
 use Rattle.ps_names.specs.Rules.{offences, offences_in}
 use Rattle.ps_names.specs.Stands.{network, network_of, signal_named, instance_named, action}
 use Rattle.ps_names.proofs.Firsts.{refused_first}
 use Rattle.ps_names.proofs.Unbroken.{unbroken}
-use Rattle.ps_names.proofs.Whole.{sound}
+use Rattle.ps_names.proofs.Whole.{network_is_sound}
 
 le_of : (a b : ℕ) → nat_le a b ≡ true → a ≤ b
 le_of a b h = grind (arith, nat_tests)
@@ -57,7 +57,7 @@ made_is p es name i o l n s is a b c d e f =
 
 pub network_sound : (p : SourceTree) (net : Network) → net ≡ network p → IsSource p → offences p ≡ [] → IsSound net
 network_sound p net is source clean =
-    subst IsSound (sym is) (sound p.name.text (entries p) p.statements (unbroken p.name.place (entries p) p.statements clean) IsDottedName source.whole.2 source.shallow)
+    subst IsSound (sym is) (network_is_sound IsDottedName p clean source.whole source.shallow)
 
 -- where nothing is refused, no rule is broken
 pub none_refused : (p : SourceTree) → None ≡ refused (offences p) → offences p ≡ []

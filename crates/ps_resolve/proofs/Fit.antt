@@ -1,29 +1,21 @@
 -- The declared names of a source are text, and none is of the type TIME.
-use Rattle.std.proofs.Common.{◌≡◌, ◌≢◌, ℕ, zero, suc, ◌+◌, ◌<◌, Bool, true, false, cond, List, [], ◌∷◌, ◌++◌, Option, None, Some, length, map, slice_get, get_or, refl, sym, ap, subst, ◌∙◌, arith, ◌||◌, ◌==◌}
-use Rattle.std.specs.Prelude.{codes}
-use Rattle.std.specs.Option.{option_map}
-use Rattle.std.specs.List.{All, AllByRecursion, flat_map}
+use Rattle.std.proofs.Common.{◌≡◌, ℕ, zero, suc, ◌<◌, true, List, [], ◌∷◌, Some, slice_get, get_or, sym, subst, arith}
+use Rattle.std.specs.List.{All}
 use Rattle.std.specs.Str.{IsUtf8}
 use Rattle.std.proofs.lemmas.Bool.Decides.{nat_tests}
 use Rattle.std.proofs.lemmas.List.Elements.{All-append, All-cons, All-map, All-from_get_or}
 use Rattle.std.proofs.lemmas.Str.{IsUtf8-from_ascii}
 use Rattle.std.proofs.lemmas.Str.Ascii.{IsAscii-from_all}
-use Rattle.ps_lexer.specs.Spelling.{continues_name, IsIdentifier, IsName}
-use Rattle.ps_model.specs.declared.kind.Kind.{Kind}
-use Rattle.ps_model.specs.declared.kind.Ty.{Ty}
-use Rattle.ps_model.specs.declared.kind.Ty.TheVariants as ty
+use Rattle.ps_lexer.specs.Spelling.{continues_name, IsName}
 use Rattle.ps_parser.specs.declared.name.Name.{Name}
 use Rattle.ps_parser.specs.declared.section.Part.{Part}
-use Rattle.ps_parser.specs.declared.section.Part.TheVariants.{Input, Output, Local}
 use Rattle.ps_parser.specs.declared.section.Declaration.{Declaration}
 use Rattle.ps_parser.specs.declared.section.Section.{Section}
 use Rattle.ps_parser.specs.Tree.{SourceTree}
 use Rattle.ps_parser.specs.Names.{IsDottedName, single, joined}
 use Rattle.ps_parser.specs.Whole.{IsSource, NamesWhole, DeclarationWhole, SectionWhole}
-use Rattle.ps_names.specs.declared.entry.TypeNamed.{TypeNamed}
-use Rattle.ps_names.specs.declared.entry.TypeNamed.TheVariants as type_name
-use Rattle.ps_names.specs.Names.{alike, kind_called, type_named, sort_in, entry_of, declares, section_entries, entries}
-use Rattle.ps_names.specs.Stands.{ty_of}
+use Rattle.ps_names.specs.Names.{entry_of, declares, section_entries, entries}
+use Rattle.ps_names.proofs.Booleans.{entry_is_boolean}
 use Rattle.ps_names.proofs.Lists.{all_at, one_of_all, all_brought}
 use Rattle.ps_resolve.specs.Spelt.{IsFit}
 
@@ -41,31 +33,6 @@ dotted_is_ascii text (joined first rest h more is) =
 pub name_is_text : (text : List ℕ) → IsDottedName text → IsUtf8 text
 name_is_text text h = IsUtf8-from_ascii text (IsAscii-from_all text (dotted_is_ascii text h))
 
--- a type that is named is not TIME
-abbrev IsBoolean : Option TypeNamed → Type 0
-IsBoolean (Some (type_name.Signal t)) = t ≢ ty.Time
-IsBoolean _ = Unit {0}
-
-type_is_boolean : (text : List ℕ) → IsBoolean (type_named text)
-type_is_boolean text = by (alike text (codes "SAFEBOOL")) (alike text (codes "BOOL")) (kind_called text)
-  where
-    by : (a b : Bool) (k : Option Kind) → IsBoolean (cond a (Some (type_name.Signal ty.Safe)) (cond b (Some (type_name.Signal ty.Bool)) (option_map type_name.Block k)))
-    by true b k = λ e. cc
-    by false true k = λ e. cc
-    by false false None = tt
-    by false false (Some kind) = tt
-
-sort_is_boolean : (part : Part) (o : Option TypeNamed) → IsBoolean o → ty_of (sort_in part o) ≢ ty.Time
-sort_is_boolean Input (Some (type_name.Signal t)) h = h
-sort_is_boolean Output (Some (type_name.Signal t)) h = h
-sort_is_boolean Local (Some (type_name.Signal t)) h = h
-sort_is_boolean Input (Some (type_name.Block kind)) h = λ e. cc
-sort_is_boolean Output (Some (type_name.Block kind)) h = λ e. cc
-sort_is_boolean Local (Some (type_name.Block kind)) h = λ e. cc
-sort_is_boolean Input None h = λ e. cc
-sort_is_boolean Output None h = λ e. cc
-sort_is_boolean Local None h = λ e. cc
-
 named_at : (ns : List Name) (k : ℕ) (n : Name) → NamesWhole IsDottedName ns → slice_get ns k ≡ Some n → IsDottedName n.text
 named_at [] k n h at = absurd h
 named_at (m ∷ ns) zero n h at = let e : m ≡ n = cc in subst (λ x. IsDottedName x.text) e h.0
@@ -76,7 +43,7 @@ declaration_fits part d h =
     All-map IsFit (entry_of part d.ty) d.names
     (all_at (λ n. IsFit (entry_of part d.ty n)) d.names (λ k n at. record {
       text = name_is_text n.text (named_at d.names k n h.0 at);
-      boolean = sort_is_boolean part (type_named d.ty.text) (type_is_boolean d.ty.text);
+      boolean = entry_is_boolean part d.ty n;
     }))
 
 section_fits : (s : Section) → SectionWhole IsDottedName s → All IsFit (section_entries s)

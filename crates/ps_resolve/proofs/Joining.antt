@@ -31,9 +31,9 @@ products_joined es [] = refl
 products_joined es (p ∷ ps) = ap (operand (product_formula es (product_tree p))) (products_joined es ps)
 
 -- one more item on both sides
-pub pushed : {A B C : Type 0} (f : A → C) (g : B → C) (xs ys : List A) (x : A) (bs : List B) (i : ℕ) (d : B) → i < length bs →
+pub map_after_push : {A B C : Type 0} (f : A → C) (g : B → C) (xs ys : List A) (x : A) (bs : List B) (i : ℕ) (d : B) → i < length bs →
     map f xs ≡ map g (take i bs) → f x ≡ g (get_or bs i d) → ys ≡ xs ++ x ∷ [] → map f ys ≡ map g (take (i + 1) bs)
-pushed f g xs ys x bs i d h so one is =
+map_after_push f g xs ys x bs i d h so one is =
     ap (map f) is ∙ map-append f xs (x ∷ []) ∙ ap (λ l. l ++ f x ∷ []) so ∙ ap (λ v. map g (take i bs) ++ v ∷ []) one
     ∙ sym (map_more g bs i d h)
 

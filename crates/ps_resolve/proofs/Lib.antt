@@ -1,8 +1,5 @@
-pub mod Indexing
-pub mod Repeats
 pub mod Trees
 pub mod NodeCounts
-pub mod Filtered
 pub mod Fit
 pub mod NumberLists
 pub mod Joining

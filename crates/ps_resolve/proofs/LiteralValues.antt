@@ -1,5 +1,5 @@
 -- A product of two factors or more, and a sum of two products or more, is no literal.
-use Rattle.std.proofs.Common.{◌≡◌, ℕ, ◌≤◌, List, [], ◌∷◌, None, length, map, refl, sym, ap, subst, ◌∙◌, arith}
+use Rattle.std.proofs.Common.{◌≡◌, ◌≤◌, List, [], ◌∷◌, None, length, map, refl, sym, ap, subst, ◌∙◌, arith}
 use Rattle.std.proofs.lemmas.List.{length-map}
 use Rattle.ps_parser.specs.declared.expression.Factor as code
 use Rattle.ps_parser.specs.declared.expression.Product.{Product}

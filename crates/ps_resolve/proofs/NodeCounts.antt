@@ -1,19 +1,19 @@
 -- Counts of nodes and of signals, part by part.
-use Rattle.std.proofs.Common.{◌≡◌, ℕ, suc, ◌+◌, ◌<◌, ◌≤◌, List, [], ◌∷◌, length, map, take, get_or, cond, nat_lt, min, refl, sym, ap, ◌∙◌, arith, true, false, Bool}
-use Rattle.std.specs.Prelude.{sum_by, count_by}
+use Rattle.std.proofs.Common.{◌≡◌, ℕ, suc, ◌+◌, List, [], ◌∷◌, length, map, cond, min, refl, sym, ap, ◌∙◌, arith}
+use Rattle.std.specs.Prelude.{sum_by}
 use Rattle.std.proofs.lemmas.Bool.Decides.{nat_tests}
 use Rattle.std.proofs.lemmas.List.Sums.{sum_by-cons}
 use Rattle.ps_parser.specs.declared.expression.Factor as code
 use Rattle.ps_parser.specs.declared.expression.Product.{Product}
 use Rattle.ps_parser.specs.declared.expression.Sum.{Sum}
 use Rattle.ps_parser.specs.declared.expression.Factor.TheViews.{out-Products, out-Sum}
-use Rattle.ps_parser.specs.Tree.{FactorTree, ProductTree, product_of, sum_of}
+use Rattle.ps_parser.specs.Tree.{product_of, sum_of}
 use Rattle.ps_parser.specs.SumView.{factor_tree, product_tree, sum_tree}
 use Rattle.ps_names.specs.declared.entry.Entry.{Entry}
 use Rattle.ps_names.specs.declared.entry.Sort.{Sort}
 use Rattle.ps_names.specs.declared.entry.Sort.TheVariants.{InputSignal, OutputSignal, LocalSignal, Instance, Nothing}
 use Rattle.ps_names.specs.Names.{is_input, is_output, is_local}
-use Rattle.ps_names.specs.Limits.{factor_nodes, product_nodes, nodes_of_factors, sum_nodes, nodes_of_products, outputs_of, inputs, outputs, locals, signals}
+use Rattle.ps_names.specs.Limits.{factor_nodes, product_nodes, nodes_of_factors, sum_nodes, nodes_of_products, outputs_of, signals}
 use Rattle.ps_resolve.specs.Counting.{extra_of, signals_of}
 use Rattle.ps_resolve.proofs.Trees.{product_tree-items, sum_tree-items}
 
@@ -45,10 +45,6 @@ product_count p = ap product_nodes (product_tree-items p) ∙ joined_factors p.f
 
 pub sum_count : (s : Sum) → sum_nodes (sum_tree s) ≡ extra_of (length (out-Products (out-Sum s).products).items.items) + sum_by (λ p. product_nodes (product_tree p)) (out-Products (out-Sum s).products).items.items
 sum_count s = ap sum_nodes (sum_tree-items s) ∙ joined_products (out-Products (out-Sum s).products).items.items
-
--- a count that stops, and one more part
-pub more_counted : (start count more parts one all cap : ℕ) → count ≡ min (start + parts) cap → more ≡ min (count + one) cap → all ≡ parts + one → more ≡ min (start + all) cap
-more_counted start count more parts one all cap so is whole = omega arith
 
 sort_signals : (s : Sort) → signals_of s ≡ cond (is_input s) 1 0 + cond (is_output s) 1 0 + cond (is_local s) 1 0 + outputs_of s
 sort_signals (InputSignal t) = refl

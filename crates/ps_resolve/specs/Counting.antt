@@ -2,7 +2,7 @@
 use Rattle.std.specs.Prelude.{ℕ, nat_lt, List, if◌then◌else◌}
 use Rattle.ps_names.specs.declared.entry.Entry.{Entry}
 use Rattle.ps_names.specs.declared.entry.Sort.{Sort}
-use Rattle.ps_names.specs.declared.entry.Sort.TheVariants.{InputSignal, OutputSignal, LocalSignal, Instance, Nothing}
+use Rattle.ps_names.specs.declared.entry.Sort.TheVariants.{Instance, Nothing}
 use Rattle.ps_names.specs.Limits.{outputs_of, inputs, outputs, locals, instances}
 use Rattle.ps_resolve.specs.declared.limits.Counts.{Counts}
 

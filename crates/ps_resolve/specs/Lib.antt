@@ -1,4 +1,3 @@
-pub mod Tables
 pub mod Literals
 pub mod Counting
 pub mod Numbering

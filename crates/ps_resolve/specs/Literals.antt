@@ -11,10 +11,12 @@ literal_in_factor (tree.Literal b p) = Some (literal.Bool b)
 literal_in_factor (tree.Time t p) = Some (literal.Time t)
 literal_in_factor _ = None
 
+-- The literal that a product is.
 abbrev pub literal_in_product : ProductTree → Option Literal
 literal_in_product (factor f no_factor) = literal_in_factor f
 literal_in_product _ = None
 
+-- The literal that a whole value is.
 abbrev pub literal_of : SumTree → Option Literal
 literal_of (product p no_product) = literal_in_product p
 literal_of _ = None

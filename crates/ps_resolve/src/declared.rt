@@ -2,7 +2,8 @@
 
 ghost use Rattle.std.specs.Prelude.{◌≡◌, ◌++◌, ◌∷◌, [], IfOk, OnOk, map};
 ghost use Rattle.std.specs.List.{flat_map};
-ghost use Rattle.ps_names.specs.Names.{alike, kind_called, type_named, sort_in, entry_of, declares, section_entries};
+ghost use Rattle.ps_base.specs.LetterCase.{is_same_name};
+ghost use Rattle.ps_names.specs.Names.{kind_called, type_named, sort_in, entry_of, declares, section_entries};
 
 use ps_base::{Bytes, Memory};
 use ps_model::kind::{Kind, Ty, kind_named};
@@ -12,19 +13,19 @@ use std::alloc::Global;
 
 /// Whether a name is this word but for letter case.
 pub fn is_word(name: &Name, word: &[u8]) -> bool
-    ensures { result ≡ alike name.now.text word.now }
+    ensures { result ≡ is_same_name name.now.text word.now }
 {
     name.text.as_slice().eq_ignore_ascii_case(word)
 }
 
-/// The kind of function block with this name.
+// The kind of function block with this name.
 fn kind_of_name(name: &Name) -> Option<Kind>
     ensures { result ≡ kind_called name.now.text }
 {
     kind_named(name.text.as_slice())
 }
 
-/// What the name of a type stands for: SAFEBOOL, BOOL or a kind.
+// What the name of a type stands for: SAFEBOOL, BOOL or a kind.
 fn type_of_name(name: &Name) -> Option<TypeNamed>
     ensures { result ≡ type_named name.now.text }
 {
@@ -40,7 +41,7 @@ fn type_of_name(name: &Name) -> Option<TypeNamed>
     }
 }
 
-/// What a name declared in a section with a type is.
+// What a name declared in a section with a type is.
 fn sort_in(part: Part, named: Option<TypeNamed>) -> Sort
     ensures { result ≡ sort_in part named }
 {
@@ -53,7 +54,7 @@ fn sort_in(part: Part, named: Option<TypeNamed>) -> Sort
     }
 }
 
-/// The entry of a declared name.
+// The entry of a declared name.
 fn entry_of(alloc: Global, part: Part, ty: &Name, name: &Name) -> Result<Entry, Memory>
     ensures { IfOk result (λ e. e ≡ entry_of part ty.now name.now) }
 {
@@ -69,7 +70,7 @@ fn entry_of(alloc: Global, part: Part, ty: &Name, name: &Name) -> Result<Entry, 
     })
 }
 
-/// The names of one more declaration.
+// The names of one more declaration.
 fn add_declaration(
     alloc: Global,
     entries: &mut Vec<Entry>,
@@ -85,7 +86,7 @@ fn add_declaration(
     Ok(())
 }
 
-/// The names of one more section.
+// The names of one more section.
 fn add_section(alloc: Global, entries: &mut Vec<Entry>, section: &Section) -> Result<(), Memory>
     ensures { OnOk result (entries.new.items ≡ entries.old.items ++ section_entries section.now) }
 {

@@ -9,17 +9,16 @@ ghost use Rattle.ps_base.specs.declared.failing.Rule.TheVariants.{N5, N7, N9};
 ghost use Rattle.ps_names.specs.Offences.{noted};
 ghost use Rattle.ps_names.specs.Uses.{assigned, called, named_pins};
 ghost use Rattle.ps_names.specs.Rules.{repeated, pins_twice, assigned_twice, called_twice, untyped, untyped_as, undriven, undriven_as, uncalled, uncalled_as};
-ghost use Rattle.ps_resolve.specs.Tables.{Has};
+ghost use Rattle.ps_names.specs.Tables.{Has};
 
-use crate::table::Table;
 use ps_base::{Memory, Place, Refusal, Rule};
-use ps_names::{Entry, Sort, note, note_if};
+use ps_names::{Entry, Sort, Table, note, note_if};
 use ps_parser::{Argument, Name, Statement, Target};
 use std::alloc::Global;
 
 // ---- N5
 
-/// Notes the pins that these arguments name twice.
+// Notes the pins that these arguments name twice.
 fn check_pins(
     alloc: Global,
     arguments: &[Argument],
@@ -35,7 +34,7 @@ fn check_pins(
     Ok(found)
 }
 
-/// Notes the pins that a statement names twice.
+// Notes the pins that a statement names twice.
 fn check_call(
     alloc: Global,
     statement: &Statement,
@@ -66,7 +65,7 @@ pub fn check_calls(
 
 // ---- N7 and N9
 
-/// Enters the name that a statement assigns, and notes it where it was assigned before.
+// Enters the name that a statement assigns, and notes it where it was assigned before.
 fn note_target(
     alloc: Global,
     targets: &mut Table,
@@ -100,7 +99,7 @@ pub fn targets(
     Ok((table, found))
 }
 
-/// Enters the name that a statement calls, and notes it where it was called before.
+// Enters the name that a statement calls, and notes it where it was called before.
 fn note_called(
     alloc: Global,
     calls: &mut Table,
@@ -135,7 +134,7 @@ pub fn calls(
 
 // ---- N3, N8 and N10
 
-/// What a type breaks.
+// What a type breaks.
 fn check_type(found: Option<Refusal>, place: Place, sort: Sort) -> Option<Refusal>
     ensures { result ≡ noted found (untyped_as place sort) }
 {
@@ -156,7 +155,7 @@ pub fn check_types(entries: &[Entry], found: Option<Refusal>) -> Option<Refusal>
     found
 }
 
-/// What a declared name breaks that is assigned or not, and read or not.
+// What a declared name breaks that is assigned or not, and read or not.
 fn note_undriven(
     found: Option<Refusal>,
     name: &Name,
@@ -192,7 +191,7 @@ pub fn check_driven(
     Ok(found)
 }
 
-/// What a declared name breaks that is called or not.
+// What a declared name breaks that is called or not.
 fn note_uncalled(found: Option<Refusal>, name: &Name, sort: Sort, has_call: bool) -> Option<Refusal>
     ensures { result ≡ noted found (uncalled_as sort has_call name.now) }
 {

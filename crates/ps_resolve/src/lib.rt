@@ -1,17 +1,20 @@
-// Resolution: from a source to the application that it stands for, or to the first offence against the rules on names,
-// drivers and limits.
+//! Resolution: from a source to the application that it stands for, or to the first offence against the rules N on
+//! names, drivers and limits (profile, after IEC 61131-3).
+//!
+//! Rooms: `declared` lists the declared names; `uses`, `drivers` and `limits` try the rules, with
+//! `reads` for the names that are read; `numbers`, `parts` and `steps`, with `literal`, build the application;
+//! `resolution` puts them together.
 #![tactic(auto)]
 
-pub mod declared;
-pub mod drivers;
-pub mod limits;
-pub mod literal;
-pub mod numbers;
-pub mod parts;
-pub mod reads;
-pub mod resolution;
-pub mod steps;
-pub mod table;
-pub mod uses;
+mod declared;
+mod drivers;
+mod limits;
+mod literal;
+mod numbers;
+mod parts;
+mod reads;
+mod resolution;
+mod steps;
+mod uses;
 
 pub use resolution::resolve;

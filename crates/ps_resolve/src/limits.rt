@@ -16,7 +16,7 @@ use ps_model::kind::output_count;
 use ps_names::{Entry, Sort, note_if};
 use ps_parser::{Argument, Factor, Product, Statement, Sum};
 
-/// More than any limit that is counted here: counts stop at it, so that they never pass their type.
+// More than any limit that is counted here: counts stop at it, so that they never pass their type.
 const ENOUGH: usize = 32_768;
 
 /// How many declared names there are of each sort.
@@ -79,7 +79,7 @@ pub fn outputs_of(sort: Sort) -> usize
     }
 }
 
-/// How many signals a name brings: itself, or its outputs.
+// How many signals a name brings: itself, or its outputs.
 fn signals_of(sort: Sort) -> usize
     ensures is { result ≡ signals_of sort }
     ensures few { result ≤ 11 }
@@ -91,7 +91,7 @@ fn signals_of(sort: Sort) -> usize
     }
 }
 
-/// So many and more of them, as far as is counted.
+// So many and more of them, as far as is counted.
 fn add(so_far: usize, more: usize) -> usize
     requires few { so_far ≤ ENOUGH }
     requires room { more ≤ ENOUGH }
@@ -104,7 +104,7 @@ fn add(so_far: usize, more: usize) -> usize
     }
 }
 
-/// How many signals these names bring, as far as is counted.
+// How many signals these names bring, as far as is counted.
 fn count_signals(entries: &[Entry]) -> usize
     ensures { result ≡ min (signals entries.now) ENOUGH }
 {
@@ -115,7 +115,7 @@ fn count_signals(entries: &[Entry]) -> usize
     total
 }
 
-/// So many nodes, and one more where two parts or more are joined.
+// So many nodes, and one more where two parts or more are joined.
 fn add_join(so_far: usize, parts: usize) -> usize
     requires { so_far ≤ ENOUGH }
     ensures { result ≡ min (so_far + extra_of parts) ENOUGH }
@@ -123,7 +123,7 @@ fn add_join(so_far: usize, parts: usize) -> usize
     if parts > 1 { add(so_far, 1) } else { so_far }
 }
 
-/// So many nodes and those of a sum, as far as is counted.
+// So many nodes and those of a sum, as far as is counted.
 #[cycle(nodes)]
 fn add_sum(so_far: usize, sum: &Sum) -> usize
     requires { so_far ≤ ENOUGH }
@@ -136,7 +136,7 @@ fn add_sum(so_far: usize, sum: &Sum) -> usize
     count
 }
 
-/// So many nodes and those of a product, as far as is counted.
+// So many nodes and those of a product, as far as is counted.
 #[cycle(nodes)]
 fn add_product(so_far: usize, product: &Product) -> usize
     requires { so_far ≤ ENOUGH }
@@ -149,7 +149,7 @@ fn add_product(so_far: usize, product: &Product) -> usize
     count
 }
 
-/// So many nodes and those of a factor, as far as is counted.
+// So many nodes and those of a factor, as far as is counted.
 #[cycle(nodes)]
 fn add_factor(so_far: usize, factor: &Factor) -> usize
     requires { so_far ≤ ENOUGH }
@@ -164,7 +164,7 @@ fn add_factor(so_far: usize, factor: &Factor) -> usize
     }
 }
 
-/// So many nodes and those of the values of these arguments, as far as is counted.
+// So many nodes and those of the values of these arguments, as far as is counted.
 fn add_arguments(so_far: usize, arguments: &[Argument]) -> usize
     requires { so_far ≤ ENOUGH }
     ensures { result ≡ min (so_far + sum_by (λ a. sum_nodes a.value) (map argument_tree arguments.now)) ENOUGH }
@@ -176,7 +176,7 @@ fn add_arguments(so_far: usize, arguments: &[Argument]) -> usize
     count
 }
 
-/// So many nodes and those of a statement, as far as is counted.
+// So many nodes and those of a statement, as far as is counted.
 fn add_statement(so_far: usize, statement: &Statement) -> usize
     requires { so_far ≤ ENOUGH }
     ensures { result ≡ min (so_far + statement_nodes (statement_tree statement.now)) ENOUGH }
@@ -187,7 +187,7 @@ fn add_statement(so_far: usize, statement: &Statement) -> usize
     }
 }
 
-/// The nodes of these statements, as far as is counted.
+// The nodes of these statements, as far as is counted.
 fn count_nodes(statements: &[Statement]) -> usize
     ensures { result ≡ min (sum_by statement_nodes (map statement_tree statements.now)) ENOUGH }
 {
@@ -198,7 +198,7 @@ fn count_nodes(statements: &[Statement]) -> usize
     count
 }
 
-/// Whether the limits hold of a program with these declarations and statements.
+// Whether the limits hold of a program with these declarations and statements.
 fn is_within(entries: &[Entry], statements: &[Statement]) -> bool
     ensures { result ≡ is_within entries.now (map statement_tree statements.now) }
 {

@@ -13,7 +13,7 @@ pub enum Literal {
     Time(u32),
 }
 
-/// The literal that a factor is.
+// The literal that a factor is.
 fn literal_in_factor(factor: &Factor) -> Option<Literal>
     ensures { result ≡ literal_in_factor (factor_tree factor.now) }
 {
@@ -24,7 +24,7 @@ fn literal_in_factor(factor: &Factor) -> Option<Literal>
     }
 }
 
-/// The literal that a product is.
+// The literal that a product is.
 fn literal_in_product(product: &Product) -> Option<Literal>
     ensures { result ≡ literal_in_product (product_tree product.now) }
 {

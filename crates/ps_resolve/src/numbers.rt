@@ -8,13 +8,12 @@ ghost use Rattle.ps_names.specs.declared.entry.Entry.{Entry};
 ghost use Rattle.ps_resolve.specs.Numbering.{number_in, AreNumbers, IsNumbered};
 
 use crate::limits::{Counts, count, count_one, outputs_of};
-use crate::table::Table;
 use crate::uses::{pin_of, sort_at};
 use ps_base::Memory;
 use ps_base::limits::{MOST_INSTANCES, MOST_SIGNALS};
 use ps_model::kind::Kind;
 use ps_model::pins::input_count;
-use ps_names::{Entry, Sort};
+use ps_names::{Entry, Sort, Table};
 use ps_parser::Name;
 use std::alloc::Global;
 
@@ -33,7 +32,7 @@ pub struct Numbering<'a> {
     pub numbers: &'a [Numbered],
 }
 
-/// The number of a name of this sort, where so many of each sort stand before it.
+// The number of a name of this sort, where so many of each sort stand before it.
 fn number_in(sort: Sort, all: Counts, before: Counts) -> u16
     requires inputs { before.inputs ≤ all.inputs }
     requires outputs { before.outputs ≤ all.outputs }
@@ -81,7 +80,7 @@ pub fn numbers(alloc: Global, entries: &[Entry]) -> Result<Vec<Numbered>, Memory
     Ok(numbers)
 }
 
-/// The number of what is declared at a place.
+// The number of what is declared at a place.
 fn number_at(numbering: &Numbering, k: usize) -> u16
     requires { IsNumbered numbering.now.table.now numbering.now.entries.now numbering.now.numbers.now }
     ensures { result ≡ number_at numbering.now.entries.now (Some k) }
@@ -104,7 +103,7 @@ pub fn number(alloc: Global, numbering: &Numbering, name: &Name) -> Result<u16, 
     }
 }
 
-/// The place of an output among those of its kind.
+// The place of an output among those of its kind.
 fn output_at(kind: Kind, pin: &Name) -> u8
     ensures { result ≡ output_at kind pin.now }
 {
@@ -114,7 +113,7 @@ fn output_at(kind: Kind, pin: &Name) -> u8
     }
 }
 
-/// The first output of what is declared at a place.
+// The first output of what is declared at a place.
 fn first_at(numbering: &Numbering, k: usize) -> u16
     requires { IsNumbered numbering.now.table.now numbering.now.entries.now numbering.now.numbers.now }
     ensures is { (e : Entry) → slice_get numbering.now.entries.now k ≡ Some e → result ≡ outputs_before numbering.now.entries.now k }
@@ -127,7 +126,7 @@ fn first_at(numbering: &Numbering, k: usize) -> u16
     }
 }
 
-/// The number of an output of what is declared at a place.
+// The number of an output of what is declared at a place.
 fn pin_number_at(numbering: &Numbering, k: usize, pin: &Name) -> u16
     requires { IsNumbered numbering.now.table.now numbering.now.entries.now numbering.now.numbers.now }
     ensures { result ≡ pin_number_at numbering.now.entries.now (Some k) pin.now }

@@ -2,7 +2,7 @@
 
 ghost use Rattle.std.specs.Prelude.{◌≡◌, ◌++◌, ◌∷◌, [], if◌then◌else◌, IfOk, OnOk, All, filter, map};
 ghost use Rattle.std.specs.Str.{IsUtf8};
-ghost use Rattle.ps_names.specs.Names.{is_input, is_output, is_local, is_instance};
+ghost use Rattle.ps_names.specs.Names.{is_signal_of, is_instance};
 ghost use Rattle.ps_names.specs.Stands.{ty_of, signal_named, instance_named};
 ghost use Rattle.ps_resolve.specs.Spelt.{IsFit};
 
@@ -10,6 +10,7 @@ use ps_base::{Bytes, Label, Memory};
 use ps_model::kind::Ty;
 use ps_model::named::{Instance, Instances, Signal, Signals};
 use ps_names::{Entry, Sort};
+use ps_parser::Part;
 use std::alloc::Global;
 
 /// The name of these bytes, which are UTF-8.
@@ -21,7 +22,7 @@ pub fn label_of(alloc: Global, text: &Bytes) -> Result<Label, Memory>
     Ok(Label::of(name))
 }
 
-/// The type of a signal.
+// The type of a signal.
 fn ty_of(sort: Sort) -> Ty
     ensures { result ≡ ty_of sort }
 {
@@ -33,7 +34,7 @@ fn ty_of(sort: Sort) -> Ty
     }
 }
 
-/// The signal that a declared name is.
+// The signal that a declared name is.
 fn signal_named(alloc: Global, entry: &Entry) -> Result<Signal, Memory>
     requires { IsFit entry.now }
     ensures { IfOk result (λ s. s ≡ signal_named entry.now) }
@@ -43,28 +44,18 @@ fn signal_named(alloc: Global, entry: &Entry) -> Result<Signal, Memory>
     Ok(Signal { name, ty })
 }
 
-/// Whether a declared name is an input.
-fn is_input(sort: Sort) -> bool
-    ensures { result ≡ is_input sort }
+// Whether a declared name is a signal of this part.
+fn is_signal_of(part: Part, sort: Sort) -> bool
+    ensures { result ≡ is_signal_of part sort }
 {
-    matches!(sort, Sort::InputSignal(_))
+    match part {
+        Part::Input => matches!(sort, Sort::InputSignal(_)),
+        Part::Output => matches!(sort, Sort::OutputSignal(_)),
+        Part::Local => matches!(sort, Sort::LocalSignal(_)),
+    }
 }
 
-/// Whether a declared name is an output.
-fn is_output(sort: Sort) -> bool
-    ensures { result ≡ is_output sort }
-{
-    matches!(sort, Sort::OutputSignal(_))
-}
-
-/// Whether a declared name is a local.
-fn is_local(sort: Sort) -> bool
-    ensures { result ≡ is_local sort }
-{
-    matches!(sort, Sort::LocalSignal(_))
-}
-
-/// One more signal, where the test holds.
+// One more signal, where the test holds.
 fn add_if(alloc: Global, signals: &mut Signals, test: bool, entry: &Entry) -> Result<(), Memory>
     requires { IsFit entry.now }
     ensures { OnOk result (signals.new ≡ signals.old ++ (if test then signal_named entry.now ∷ [] else [])) }
@@ -76,43 +67,20 @@ fn add_if(alloc: Global, signals: &mut Signals, test: bool, entry: &Entry) -> Re
     Ok(())
 }
 
-/// The inputs among these names.
-pub fn inputs(alloc: Global, entries: &[Entry]) -> Result<Signals, Memory>
+/// The signals of a part among these names: the inputs, the outputs or the locals.
+pub fn signals(alloc: Global, entries: &[Entry], part: Part) -> Result<Signals, Memory>
     requires { All IsFit entries.now }
-    ensures { IfOk result (λ s. s ≡ map signal_named (filter (λ e. is_input e.sort) entries.now)) }
+    ensures { IfOk result (λ s. s ≡ map signal_named (filter (λ e. is_signal_of part e.sort) entries.now)) }
 {
     let mut signals = Signals::new(alloc);
     for i in 0..entries.len() {
-        add_if(alloc, &mut signals, is_input(entries[i].sort), &entries[i])?;
+        let test = is_signal_of(part, entries[i].sort);
+        add_if(alloc, &mut signals, test, &entries[i])?;
     }
     Ok(signals)
 }
 
-/// The outputs among these names.
-pub fn outputs(alloc: Global, entries: &[Entry]) -> Result<Signals, Memory>
-    requires { All IsFit entries.now }
-    ensures { IfOk result (λ s. s ≡ map signal_named (filter (λ e. is_output e.sort) entries.now)) }
-{
-    let mut signals = Signals::new(alloc);
-    for i in 0..entries.len() {
-        add_if(alloc, &mut signals, is_output(entries[i].sort), &entries[i])?;
-    }
-    Ok(signals)
-}
-
-/// The locals among these names.
-pub fn locals(alloc: Global, entries: &[Entry]) -> Result<Signals, Memory>
-    requires { All IsFit entries.now }
-    ensures { IfOk result (λ s. s ≡ map signal_named (filter (λ e. is_local e.sort) entries.now)) }
-{
-    let mut signals = Signals::new(alloc);
-    for i in 0..entries.len() {
-        add_if(alloc, &mut signals, is_local(entries[i].sort), &entries[i])?;
-    }
-    Ok(signals)
-}
-
-/// One more instance, where the declared name is one.
+// One more instance, where the declared name is one.
 fn add_instance(alloc: Global, instances: &mut Instances, entry: &Entry) -> Result<(), Memory>
     requires { IsFit entry.now }
     ensures { OnOk result (instances.new ≡ instances.old ++ (if is_instance entry.now.sort then instance_named entry.now ∷ [] else [])) }

@@ -7,14 +7,14 @@ ghost use Rattle.ps_parser.specs.SumView.{factor_tree, product_tree, sum_tree};
 ghost use Rattle.ps_parser.specs.ArgumentView.{argument_tree};
 ghost use Rattle.ps_parser.specs.StatementView.{statement_tree};
 ghost use Rattle.ps_names.specs.Uses.{read, read_names, factor_uses, product_uses, sum_uses, argument_uses, statement_uses};
-ghost use Rattle.ps_resolve.specs.Tables.{Has};
+ghost use Rattle.ps_names.specs.Tables.{Has};
 
-use crate::table::Table;
 use ps_base::Memory;
+use ps_names::Table;
 use ps_parser::{Argument, Factor, Product, Statement, Sum};
 use std::alloc::Global;
 
-/// Enters the names that a sum reads.
+// Enters the names that a sum reads.
 #[cycle(reads)]
 fn enter_sum(alloc: Global, reads: &mut Table, sum: &Sum) -> Result<(), Memory>
     ensures { OnOk result ((ns : List Name) → Has reads.old ns → Has reads.new (ns ++ flat_map read (sum_uses (sum_tree sum.now)))) }
@@ -25,7 +25,7 @@ fn enter_sum(alloc: Global, reads: &mut Table, sum: &Sum) -> Result<(), Memory>
     Ok(())
 }
 
-/// Enters the names that a product reads.
+// Enters the names that a product reads.
 #[cycle(reads)]
 fn enter_product(alloc: Global, reads: &mut Table, product: &Product) -> Result<(), Memory>
     ensures { OnOk result ((ns : List Name) → Has reads.old ns → Has reads.new (ns ++ flat_map read (product_uses (product_tree product.now)))) }
@@ -36,7 +36,7 @@ fn enter_product(alloc: Global, reads: &mut Table, product: &Product) -> Result<
     Ok(())
 }
 
-/// Enters the names that a factor reads.
+// Enters the names that a factor reads.
 #[cycle(reads)]
 fn enter_factor(alloc: Global, reads: &mut Table, factor: &Factor) -> Result<(), Memory>
     ensures { OnOk result ((ns : List Name) → Has reads.old ns → Has reads.new (ns ++ flat_map read (factor_uses (factor_tree factor.now)))) }
@@ -53,7 +53,7 @@ fn enter_factor(alloc: Global, reads: &mut Table, factor: &Factor) -> Result<(),
     }
 }
 
-/// Enters the names that the arguments of a call of a name read.
+// Enters the names that the arguments of a call of a name read.
 fn enter_arguments(alloc: Global, reads: &mut Table, arguments: &[Argument]) -> Result<(), Memory>
     ensures { OnOk result ((n : Name) (ns : List Name) → Has reads.old ns → Has reads.new (ns ++ flat_map read (flat_map (argument_uses n) (map argument_tree arguments.now)))) }
 {
@@ -63,7 +63,7 @@ fn enter_arguments(alloc: Global, reads: &mut Table, arguments: &[Argument]) -> 
     Ok(())
 }
 
-/// Enters the names that a statement reads.
+// Enters the names that a statement reads.
 fn enter_statement(alloc: Global, reads: &mut Table, statement: &Statement) -> Result<(), Memory>
     ensures { OnOk result ((ns : List Name) → Has reads.old ns → Has reads.new (ns ++ flat_map read (statement_uses (statement_tree statement.now)))) }
 {

@@ -9,24 +9,23 @@ ghost use Rattle.ps_names.specs.Uses.{statement_uses, assigned, called, read_nam
 ghost use Rattle.ps_names.specs.Rules.{declared_twice, untyped, broken_by, pins_twice, assigned_twice, undriven, called_twice, uncalled, offences, offences_in};
 ghost use Rattle.ps_names.specs.Stands.{network};
 ghost use Rattle.ps_resolve.specs.Resolving.{Resolves};
-ghost use Rattle.ps_resolve.specs.Tables.{Indexes};
+ghost use Rattle.ps_names.specs.Tables.{Indexes};
 
 use crate::declared::declared_names;
 use crate::drivers::{calls, check_called, check_calls, check_driven, check_types, targets};
 use crate::limits::check_limits;
 use crate::numbers::{Numbering, numbers};
-use crate::parts::{inputs, instances, label_of, locals, outputs};
+use crate::parts::{instances, label_of, signals};
 use crate::reads::read_names;
 use crate::steps::steps_of;
-use crate::table::{Table, index};
 use crate::uses::{Names, check_statements};
 use ps_base::{Fail, Memory, Place, Refusal};
 use ps_model::app::App;
-use ps_names::Entry;
-use ps_parser::{Source, Statement};
+use ps_names::{Entry, Table, index};
+use ps_parser::{Part, Source, Statement};
 use std::alloc::Global;
 
-/// The table of declared names, and the first of what names, types, uses of names and pins break: N1 to N6 and N12.
+// The table of declared names, and the first of what names, types, uses of names and pins break: N1 to N6 and N12.
 fn check_names(
     alloc: Global,
     entries: &[Entry],
@@ -47,7 +46,7 @@ fn check_names(
     Ok((table, found))
 }
 
-/// Notes second assignments, and what is not driven: N7 and N8.
+// Notes second assignments, and what is not driven: N7 and N8.
 fn note_drivers(
     alloc: Global,
     entries: &[Entry],
@@ -62,7 +61,7 @@ fn note_drivers(
     check_driven(alloc, &targets, &reads, entries, found)
 }
 
-/// Notes second calls, and what is not called: N9 and N10.
+// Notes second calls, and what is not called: N9 and N10.
 fn note_calls(
     alloc: Global,
     entries: &[Entry],
@@ -76,8 +75,8 @@ fn note_calls(
     check_called(alloc, &calls, entries, found)
 }
 
-/// The table of the declared names of a program whose name stands at this place, and the offence that a refusal names:
-/// the first by rule and then by place.
+// The table of the declared names of a program whose name stands at this place, and the offence that a refusal names:
+// the first by rule and then by place.
 fn check(
     alloc: Global,
     place: Place,
@@ -94,7 +93,7 @@ fn check(
     Ok((table, all))
 }
 
-/// The application of a source that breaks no rule.
+// The application of a source that breaks no rule.
 fn build(alloc: Global, source: &Source, table: &Table, names: &[Entry]) -> Result<App, Memory>
     requires names { names.now ≡ entries source.now }
     requires table { Indexes table.now names.now }
@@ -110,9 +109,9 @@ fn build(alloc: Global, source: &Source, table: &Table, names: &[Entry]) -> Resu
     };
     let steps = steps_of(alloc, &numbering, source.statements.as_slice())?;
     let name = label_of(alloc, &source.name.text)?;
-    let inputs = inputs(alloc, names)?;
-    let outputs = outputs(alloc, names)?;
-    let locals = locals(alloc, names)?;
+    let inputs = signals(alloc, names, Part::Input)?;
+    let outputs = signals(alloc, names, Part::Output)?;
+    let locals = signals(alloc, names, Part::Local)?;
     let instances = instances(alloc, names)?;
     Ok(App::of(name, inputs, outputs, locals, instances, steps))
 }
@@ -122,7 +121,8 @@ fn build(alloc: Global, source: &Source, table: &Table, names: &[Entry]) -> Resu
 /// It is Ok exactly where none of the rules N1 to N12 refuses the source. Otherwise the answer is the lowest rule that
 /// does, at the earliest of its places:
 ///
-/// - N1: a name is declared twice, without letter case; the second declaration;
+/// - N1: a name is declared again, without letter case; the later declaration (each later one is an offence, so the
+///   earliest of their places is named);
 /// - N2: a name in a statement is not declared; the name;
 /// - N3: a type is neither SAFEBOOL, BOOL nor a block, or a block is declared in VAR_INPUT or VAR_OUTPUT; the type;
 /// - N4: a pin is unknown, of the wrong direction or DiagCode, or a name is of the wrong sort; the pin or the name;

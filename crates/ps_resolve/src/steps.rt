@@ -25,7 +25,7 @@ use ps_names::Sort;
 use ps_parser::{Argument, Factor, Name, Product, Statement, Sum, Target};
 use std::alloc::Global;
 
-/// The item of a list of one, or the list.
+// The item of a list of one, or the list.
 fn single(items: Vec<Expr>) -> Result<Expr, Vec<Expr>>
     ensures one { IfOk result (λ e. items.items ≡ e ∷ []) }
     ensures same { IfErr result (λ v. v.items ≡ items.items) }
@@ -41,7 +41,7 @@ fn single(items: Vec<Expr>) -> Result<Expr, Vec<Expr>>
     }
 }
 
-/// The one operand, or the AND of all.
+// The one operand, or the AND of all.
 fn all_of(items: Vec<Expr>) -> Expr
     ensures { formula result ≡ all_joined (operands (map formula items.items)) }
 {
@@ -51,7 +51,7 @@ fn all_of(items: Vec<Expr>) -> Expr
     }
 }
 
-/// The one operand, or the OR of all.
+// The one operand, or the OR of all.
 fn any_of(items: Vec<Expr>) -> Expr
     ensures { formula result ≡ any_joined (operands (map formula items.items)) }
 {
@@ -61,7 +61,7 @@ fn any_of(items: Vec<Expr>) -> Expr
     }
 }
 
-/// The expression that a sum stands for.
+// The expression that a sum stands for.
 #[cycle(expression)]
 fn sum_expr(alloc: Global, numbering: &Numbering, sum: &Sum) -> Result<Expr, Memory>
     requires { IsNumbered numbering.now.table.now numbering.now.entries.now numbering.now.numbers.now }
@@ -75,7 +75,7 @@ fn sum_expr(alloc: Global, numbering: &Numbering, sum: &Sum) -> Result<Expr, Mem
     Ok(any_of(items))
 }
 
-/// The expression that a product stands for.
+// The expression that a product stands for.
 #[cycle(expression)]
 fn product_expr(alloc: Global, numbering: &Numbering, product: &Product) -> Result<Expr, Memory>
     requires { IsNumbered numbering.now.table.now numbering.now.entries.now numbering.now.numbers.now }
@@ -89,7 +89,7 @@ fn product_expr(alloc: Global, numbering: &Numbering, product: &Product) -> Resu
     Ok(all_of(items))
 }
 
-/// The expression that a factor stands for. A literal is none; it is never met in a source that breaks no rule.
+// The expression that a factor stands for. A literal is none; it is never met in a source that breaks no rule.
 #[cycle(expression)]
 fn factor_expr(alloc: Global, numbering: &Numbering, factor: &Factor) -> Result<Expr, Memory>
     requires { IsNumbered numbering.now.table.now numbering.now.entries.now numbering.now.numbers.now }
@@ -114,7 +114,7 @@ fn factor_expr(alloc: Global, numbering: &Numbering, factor: &Factor) -> Result<
     }
 }
 
-/// What stands at a pin that is given this value.
+// What stands at a pin that is given this value.
 fn arg_of(alloc: Global, numbering: &Numbering, value: &Sum) -> Result<Arg, Memory>
     requires { IsNumbered numbering.now.table.now numbering.now.entries.now numbering.now.numbers.now }
     ensures { IfOk result (λ a. actual a ≡ actual_of numbering.now.entries.now (sum_tree value.now)) }
@@ -129,7 +129,7 @@ fn arg_of(alloc: Global, numbering: &Numbering, value: &Sum) -> Result<Arg, Memo
     }
 }
 
-/// What stands at the pin with this name. A call has at most one argument for each of at most 14 pins.
+// What stands at the pin with this name. A call has at most one argument for each of at most 14 pins.
 fn arg_at(
     alloc: Global,
     numbering: &Numbering,
@@ -147,7 +147,7 @@ fn arg_at(
     Ok(Arg::Free)
 }
 
-/// The arguments of a call, one for each input pin of the kind.
+// The arguments of a call, one for each input pin of the kind.
 fn args_of(
     alloc: Global,
     numbering: &Numbering,
@@ -165,7 +165,7 @@ fn args_of(
     Ok(args)
 }
 
-/// The name of input pin j of a kind.
+// The name of input pin j of a kind.
 fn input_name(kind: Kind, j: u8) -> &'static str
     requires { j < length (block kind).inputs }
     ensures { slice_get (map (λ (p : Pin). p.name) (block kind).inputs) j ≡ Some result.now }
@@ -173,7 +173,7 @@ fn input_name(kind: Kind, j: u8) -> &'static str
     pin_name(kind, j)
 }
 
-/// The kind of the instance that a name stands for; another kind where it stands for none.
+// The kind of the instance that a name stands for; another kind where it stands for none.
 fn kind_of(alloc: Global, numbering: &Numbering, name: &Name) -> Result<Kind, Memory>
     requires { IsNumbered numbering.now.table.now numbering.now.entries.now numbering.now.numbers.now }
     ensures { IfOk result (λ kind. kind ≡ kind_of (sort_or (sort_of numbering.now.entries.now name.now))) }
@@ -184,7 +184,7 @@ fn kind_of(alloc: Global, numbering: &Numbering, name: &Name) -> Result<Kind, Me
     }
 }
 
-/// The kind of an instance; another kind where it is none.
+// The kind of an instance; another kind where it is none.
 fn kind_in(sort: Option<Sort>) -> Kind
     ensures { result ≡ kind_of (sort_or sort) }
 {
@@ -194,7 +194,7 @@ fn kind_in(sort: Option<Sort>) -> Kind
     }
 }
 
-/// The number of a target.
+// The number of a target.
 fn target_number(alloc: Global, numbering: &Numbering, target: &Target) -> Result<u16, Memory>
     requires { IsNumbered numbering.now.table.now numbering.now.entries.now numbering.now.numbers.now }
     ensures { IfOk result (λ k. k ≡ target_number numbering.now.entries.now target.now) }
@@ -205,7 +205,7 @@ fn target_number(alloc: Global, numbering: &Numbering, target: &Target) -> Resul
     }
 }
 
-/// The step that a statement is.
+// The step that a statement is.
 fn step_of(alloc: Global, numbering: &Numbering, statement: &Statement) -> Result<Step, Memory>
     requires { IsNumbered numbering.now.table.now numbering.now.entries.now numbering.now.numbers.now }
     ensures { IfOk result (λ s. model.action s ≡ action numbering.now.entries.now (statement_tree statement.now)) }

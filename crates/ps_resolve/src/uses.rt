@@ -9,14 +9,13 @@ ghost use Rattle.ps_names.specs.Names.{sort_of, sort_at};
 ghost use Rattle.ps_names.specs.Offences.{noted};
 ghost use Rattle.ps_names.specs.Uses.{factor_uses, product_uses, sum_uses, value_uses, argument_uses, statement_uses, target_use};
 ghost use Rattle.ps_names.specs.Rules.{pin_at, has_input, has_output, at_read, at_read_pin, at_drive, at_drive_pin, at_call, at_argument, broken_by};
-ghost use Rattle.ps_resolve.specs.Tables.{Indexes};
+ghost use Rattle.ps_names.specs.Tables.{Indexes};
 
 use crate::literal::literal_of;
-use crate::table::Table;
 use ps_base::{Memory, Refusal, Rule};
 use ps_model::kind::Kind;
 use ps_model::pins::{input_count, pin_named};
-use ps_names::{Entry, Sort, note};
+use ps_names::{Entry, Sort, Table, note};
 use ps_parser::{Argument, Factor, Name, Product, Statement, Sum, Target};
 use std::alloc::Global;
 
@@ -56,7 +55,7 @@ pub fn pin_of(kind: Kind, name: &Name) -> Option<u8>
     pin_named(kind, name.text.as_slice())
 }
 
-/// Whether a kind has an input with this name.
+// Whether a kind has an input with this name.
 fn has_input(kind: Kind, name: &Name) -> bool
     ensures { result ≡ has_input kind name.now }
 {
@@ -66,7 +65,7 @@ fn has_input(kind: Kind, name: &Name) -> bool
     }
 }
 
-/// Whether a kind has an output with this name.
+// Whether a kind has an output with this name.
 fn has_output(kind: Kind, name: &Name) -> bool
     ensures { result ≡ has_output kind name.now }
 {
@@ -76,7 +75,7 @@ fn has_output(kind: Kind, name: &Name) -> bool
     }
 }
 
-/// What is broken where a name of this sort is read.
+// What is broken where a name of this sort is read.
 fn note_read(found: Option<Refusal>, name: &Name, sort: Option<Sort>) -> Option<Refusal>
     ensures { result ≡ noted found (at_read name.now sort) }
 {
@@ -87,7 +86,7 @@ fn note_read(found: Option<Refusal>, name: &Name, sort: Option<Sort>) -> Option<
     }
 }
 
-/// What is broken where a pin of a name of this sort is read.
+// What is broken where a pin of a name of this sort is read.
 fn note_read_pin(
     found: Option<Refusal>,
     name: &Name,
@@ -109,7 +108,7 @@ fn note_read_pin(
     }
 }
 
-/// What is broken where a name of this sort is assigned.
+// What is broken where a name of this sort is assigned.
 fn note_drive(found: Option<Refusal>, name: &Name, sort: Option<Sort>) -> Option<Refusal>
     ensures { result ≡ noted found (at_drive name.now sort) }
 {
@@ -121,7 +120,7 @@ fn note_drive(found: Option<Refusal>, name: &Name, sort: Option<Sort>) -> Option
     }
 }
 
-/// What is broken where a pin of a name of this sort is assigned.
+// What is broken where a pin of a name of this sort is assigned.
 fn note_drive_pin(
     found: Option<Refusal>,
     name: &Name,
@@ -143,7 +142,7 @@ fn note_drive_pin(
     }
 }
 
-/// What is broken where a name of this sort is called.
+// What is broken where a name of this sort is called.
 fn note_call(found: Option<Refusal>, name: &Name, sort: Option<Sort>) -> Option<Refusal>
     ensures { result ≡ noted found (at_call name.now sort) }
 {
@@ -154,7 +153,7 @@ fn note_call(found: Option<Refusal>, name: &Name, sort: Option<Sort>) -> Option<
     }
 }
 
-/// What is broken where a call of a name of this sort gives an argument to a pin.
+// What is broken where a call of a name of this sort gives an argument to a pin.
 fn note_argument(found: Option<Refusal>, pin: &Name, sort: Option<Sort>) -> Option<Refusal>
     ensures { result ≡ noted found (at_argument pin.now sort) }
 {
@@ -170,7 +169,7 @@ fn note_argument(found: Option<Refusal>, pin: &Name, sort: Option<Sort>) -> Opti
     }
 }
 
-/// What a sum breaks.
+// What a sum breaks.
 #[cycle(uses)]
 fn check_sum(
     alloc: Global,
@@ -188,7 +187,7 @@ fn check_sum(
     Ok(found)
 }
 
-/// What a product breaks.
+// What a product breaks.
 #[cycle(uses)]
 fn check_product(
     alloc: Global,
@@ -206,7 +205,7 @@ fn check_product(
     Ok(found)
 }
 
-/// What a factor breaks.
+// What a factor breaks.
 #[cycle(uses)]
 fn check_factor(
     alloc: Global,
@@ -232,7 +231,7 @@ fn check_factor(
     }
 }
 
-/// What the value of an argument breaks: a literal alone breaks nothing.
+// What the value of an argument breaks: a literal alone breaks nothing.
 fn check_value(
     alloc: Global,
     names: &Names,
@@ -248,7 +247,7 @@ fn check_value(
     }
 }
 
-/// What an argument of a call of this name breaks, where the name is of this sort.
+// What an argument of a call of this name breaks, where the name is of this sort.
 fn check_argument(
     alloc: Global,
     names: &Names,
@@ -264,7 +263,7 @@ fn check_argument(
     check_value(alloc, names, &argument.value, found)
 }
 
-/// What the arguments of a call of this name break.
+// What the arguments of a call of this name break.
 fn check_arguments(
     alloc: Global,
     names: &Names,
@@ -282,7 +281,7 @@ fn check_arguments(
     Ok(found)
 }
 
-/// What a target breaks.
+// What a target breaks.
 fn check_target(
     alloc: Global,
     names: &Names,
@@ -304,7 +303,7 @@ fn check_target(
     }
 }
 
-/// What a statement breaks.
+// What a statement breaks.
 fn check_statement(
     alloc: Global,
     names: &Names,

@@ -8,7 +8,7 @@ use ps_flow::{FlowFail, FlowRefusal, derive};
 use ps_lexer::lex;
 use ps_model::app::App;
 use ps_parser::parse;
-use ps_resolve::resolution::resolve;
+use ps_resolve::resolve;
 use ps_stackgen::stack_image;
 use ps_stackvm::StackImage;
 use std::alloc::Global;

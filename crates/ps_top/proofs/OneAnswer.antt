@@ -7,9 +7,7 @@ use Rattle.ps_model.specs.Scanning.{State}
 use Rattle.ps_model.specs.Meaning.{Meaning, nothing}
 use Rattle.ps_model.proofs.Runs.{one_run}
 use Rattle.ps_flow.specs.Derivation.{certificate}
-use Rattle.ps_names.specs.Names.{entries}
-use Rattle.ps_names.proofs.Unbroken.{unbroken}
-use Rattle.ps_names.proofs.Whole.{sound}
+use Rattle.ps_names.proofs.Whole.{network_is_sound}
 use Rattle.ps_parser.specs.Names.{IsPlainName}
 use Rattle.ps_trace.specs.Scans.{Scans, scans_of}
 use Rattle.ps_top.specs.Asking.{Answer, Asking, IsAnswer}
@@ -42,8 +40,7 @@ resolved_sound : (s : List ℕ) (net : Network) → Resolves s net → IsSound n
 resolved_sound s net r =
     let p = r.tree in
     let within = r.program.spelt.within in
-    subst IsSound (sym r.stands.is)
-    (sound p.name.text (entries p) p.statements (unbroken p.name.place (entries p) p.statements r.stands.unbroken) IsPlainName within.grammatical.2 within.nested)
+    subst IsSound (sym r.stands.is) (network_is_sound IsPlainName p r.stands.unbroken within.grammatical within.nested)
 
 scans_one : (net : Network) → IsSound net → (scans : Scans) (held : List ℕ → Option (List ℕ)) → One (answer_scans net scans) held
 scans_one net sound scans held =

@@ -12,7 +12,8 @@ use Rattle.ps_model.specs.Formula.{Formula}
 use Rattle.ps_model.specs.Network.{Network}
 use Rattle.ps_model.specs.Nodes.{app_nodes}
 use Rattle.ps_flow.specs.declared.certificate.CertLine.{CertLine}
-use Rattle.ps_flow.specs.Read.{IsTooLarge, IsWithin, IsFirstOther, RefusesText, IsNumbered}
+use Rattle.ps_flow.specs.Lines.{IsNumbered}
+use Rattle.ps_flow.specs.Read.{IsTooLarge, IsWithin, IsFirstOther, RefusesText}
 use Rattle.ps_flow.specs.Written.{line_text}
 use Rattle.ps_flow.proofs.Cutting.{lines_of_text, one_certificate, no_other_line}
 use Rattle.ps_checker.specs.Derives.{Derives, IsInstance, LiteralsFit, is_earlier, fits}

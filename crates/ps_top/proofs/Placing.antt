@@ -5,6 +5,7 @@ use Rattle.std.specs.Option.{option_map}
 use Rattle.std.specs.List.{find}
 use Rattle.std.proofs.lemmas.List.{get_or-map, length-map}
 use Rattle.std.proofs.lemmas.Option.{get_or_from_slice_get, same_Some}
+use Rattle.ps_base.specs.LetterCase.{is_same_name}
 use Rattle.ps_base.specs.declared.failing.Rule.{Rule}
 use Rattle.ps_model.specs.declared.kind.Kind.{Kind}
 use Rattle.ps_model.specs.declared.kind.Ty.{Ty}
@@ -17,7 +18,7 @@ use Rattle.ps_model.specs.Scanning.{pin_at, no_pin}
 use Rattle.ps_flow.specs.Refusals.{BreaksAt, BreaksStep, IsFirstBreach}
 use Rattle.ps_names.specs.declared.entry.Entry.{Entry}
 use Rattle.ps_names.specs.declared.entry.Sort.TheVariants.{Instance, Nothing}
-use Rattle.ps_names.specs.Names.{alike, entries, is_instance, sort_at, sort_of}
+use Rattle.ps_names.specs.Names.{entries, is_instance, sort_at, sort_of}
 use Rattle.ps_names.specs.Stands.{Stands, network_of, number, action, actual_at, given, kind_of, instance_named}
 use Rattle.ps_names.proofs.Lists.{in_map, map_at}
 use Rattle.ps_names.proofs.OneDriver.{callee_at}
@@ -29,12 +30,12 @@ use Rattle.ps_parser.specs.Places.{step_place, place_if, pin_place}
 use Rattle.ps_parser.specs.Tree.{ArgumentTree, StatementTree, Assign, Call, SourceTree}
 
 -- a pin that a call is given has a first mention
-mentioned : (pin : List ℕ) (args : List ArgumentTree) → IsSome (find (λ (a : ArgumentTree). alike a.pin.text pin) args) → IsSome (pin_place pin args)
+mentioned : (pin : List ℕ) (args : List ArgumentTree) → IsSome (find (λ (a : ArgumentTree). is_same_name a.pin.text pin) args) → IsSome (pin_place pin args)
 mentioned pin [] h = h
-mentioned pin (a ∷ args) h = by (alike a.pin.text pin) (mentioned pin args) h
+mentioned pin (a ∷ args) h = by (is_same_name a.pin.text pin) (mentioned pin args) h
   where
-    by : (b : Bool) → (IsSome (find (λ (x : ArgumentTree). alike x.pin.text pin) args) → IsSome (pin_place pin args)) →
-        IsSome (cond b (Some a) (find (λ (x : ArgumentTree). alike x.pin.text pin) args)) → IsSome (cond b (Some a.pin.place) (pin_place pin args))
+    by : (b : Bool) → (IsSome (find (λ (x : ArgumentTree). is_same_name x.pin.text pin) args) → IsSome (pin_place pin args)) →
+        IsSome (cond b (Some a) (find (λ (x : ArgumentTree). is_same_name x.pin.text pin) args)) → IsSome (cond b (Some a.pin.place) (pin_place pin args))
     by true later h = refl
     by false later h = later h
 
@@ -84,7 +85,7 @@ module _ (name : List ℕ) (es : List Entry) (ss : List StatementTree) (clean : 
           let found : slice_index_or args j free ≡ actual_at es more pin.name =
           ap (λ (xs : List Actual). slice_index_or xs j free) (sym a) ∙ get_or-map (λ (p : Pin). actual_at es more p.name) (block kind).inputs j no_pin free within in
           let broken : BreaksAt app (pin_at (kind_at app i) j).ty (actual_at es more pin.name) rule = subst (λ (x : Actual). BreaksAt app (pin_at (kind_at app i) j).ty x rule) found breaks in
-          let some = mentioned pin.name more (given_some app (pin_at (kind_at app i) j).ty rule (find (λ (x : ArgumentTree). alike x.pin.text pin.name) more) es broken) in
+          let some = mentioned pin.name more (given_some app (pin_at (kind_at app i) j).ty rule (find (λ (x : ArgumentTree). is_same_name x.pin.text pin.name) more) es broken) in
           subst (λ (o : Option StatementTree). IsSome (place_if (Some (pin_at (kind_at app i) j).name) o)) (sym at)
           (subst (λ (kd : Kind). IsSome (pin_place (pin_at kd j).name more)) same some)
 

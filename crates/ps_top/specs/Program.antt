@@ -8,7 +8,8 @@ use Rattle.ps_model.specs.Scanning.{State}
 use Rattle.ps_model.specs.Meaning.{Item, scan, restart, Meaning, report}
 use Rattle.ps_flow.specs.declared.certificate.CertLine.{CertLine}
 use Rattle.ps_flow.specs.Derivation.{certificate}
-use Rattle.ps_flow.specs.Read.{IsNumbered, IsTextOf, IsWithin, RefusesText}
+use Rattle.ps_flow.specs.Lines.{IsNumbered}
+use Rattle.ps_flow.specs.Read.{IsTextOf, IsWithin, RefusesText}
 use Rattle.ps_flow.specs.Written.{written}
 use Rattle.ps_checker.specs.Counts.{Counts}
 use Rattle.ps_checker.specs.Derives.{Derives}

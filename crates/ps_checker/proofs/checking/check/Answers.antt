@@ -15,7 +15,7 @@ use Rattle.ps_base.specs.declared.failing.Rule.{Rule}
 use Rattle.ps_base.specs.declared.failing.Rule.TheVariants.{O1, O2, O3}
 use Rattle.ps_checker.specs.Derives.{has_line}
 use Rattle.ps_checker.specs.Objections.{Objects, LineBreaks, EachUpTo}
-use Rattle.ps_checker.proofs.Sound.{accepted}
+use Rattle.ps_checker.proofs.Sound.{derives_accepted}
 use Rattle.ps_checker.proofs.Lawful.{keeps_skeletons, not_derived}
 use Rattle.ps_checker.proofs.checking.check.Goals as goal
 
@@ -51,14 +51,14 @@ returns-clause-derives c = record {
 }
 
 pub returns-clause-accepted : goal.returns-clause-accepted
-returns-clause-accepted c = accepted c.args.app.now c.args.cert.now (record {
+returns-clause-accepted c = derives_accepted c.args.app.now c.args.cert.now (record {
   each = λ i l at. c.loop-i.invariant i (let h = slice_get_within c.args.cert.now i l at in omega (arith, ap length c.lines-lines.ensures)) l at;
   literals = c.has_misfit.ensures.fits c.if-has_misfit.false;
   covered = ap (λ ls. list_all (has_line ls) (obligations c.args.app.now)) (sym c.lines-lines.ensures) ∙ sym c.is_covered.ensures ∙ c.if-not-is_covered.false;
 })
 
 pub returns-clause-skeletons : goal.returns-clause-skeletons
-returns-clause-skeletons c = keeps_skeletons c.args.app.now (accepted c.args.app.now c.args.cert.now (record {
+returns-clause-skeletons c = keeps_skeletons c.args.app.now (derives_accepted c.args.app.now c.args.cert.now (record {
   each = λ i l at. c.loop-i.invariant i (let h = slice_get_within c.args.cert.now i l at in omega (arith, ap length c.lines-lines.ensures)) l at;
   literals = c.has_misfit.ensures.fits c.if-has_misfit.false;
   covered = ap (λ ls. list_all (has_line ls) (obligations c.args.app.now)) (sym c.lines-lines.ensures) ∙ sym c.is_covered.ensures ∙ c.if-not-is_covered.false;

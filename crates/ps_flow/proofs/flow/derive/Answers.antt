@@ -5,6 +5,7 @@ use Rattle.ps_model.specs.Action.{Action, assigns, calls}
 use Rattle.ps_model.specs.Network.{signal_count}
 use Rattle.ps_model.specs.Steps.{action}
 use Rattle.ps_model.specs.Values.{IsBelow, values_of_step}
+use Rattle.ps_flow.specs.Derivation.{certificate}
 use Rattle.ps_flow.specs.Refusals.{FitsStep}
 use Rattle.ps_flow.proofs.Walk.{part_of, rest_found, found_below, found_same, steps_step}
 use Rattle.ps_flow.proofs.flow.derive.Goals as goal
@@ -41,11 +42,14 @@ loop-k-preserved c =
           ∙ c.loop-k.invariant.lines;
     }
 
-pub returns-clause-accepted : goal.returns-clause-accepted
-returns-clause-accepted c =
+pub returns : goal.returns
+returns c =
     let all : (k : ℕ) (a : Action) → slice_get c.args.app.now.steps k ≡ Some a → FitsStep c.args.app.now a =
     λ k a at. c.loop-k.invariant.fits k a (let h = found_below c.args.app.now.steps k a at in omega arith) at in
-    record {
-      assigned = λ k t e at. all k (assigns t e) at;
-      at_pins = λ k i j args at. all k (calls i args) at j;
-    }
+    let lines : c.loop-k.cert ≡ certificate c.args.app.now = grind (arith, common_steps) in (
+      record {
+        assigned = λ k t e at. all k (assigns t e) at;
+        at_pins = λ k i j args at. all k (calls i args) at j;
+      },
+      lines,
+    )

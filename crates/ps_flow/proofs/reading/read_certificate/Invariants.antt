@@ -1,7 +1,8 @@
 use Rattle.std.proofs.Common.{◌≡◌, ◌++◌, map, length}
 use Rattle.std.specs.Prelude.{All}
 use Rattle.ps_flow.specs.Written.{line_text}
-use Rattle.ps_flow.specs.Read.{IsNumbered, IsWithin, lines_of}
+use Rattle.ps_flow.specs.Lines.{IsNumbered}
+use Rattle.ps_flow.specs.Read.{IsWithin, lines_of}
 use Rattle.ps_flow.proofs.reading.read_certificate.Given as goal
 
 -- the lines that were read are the certificate's, and the others are left

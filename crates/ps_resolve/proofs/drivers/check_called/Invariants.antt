@@ -1,7 +1,7 @@
 use Rattle.std.proofs.Common.{◌≡◌, take, List}
 use Rattle.std.specs.List.{flat_map}
 use Rattle.ps_parser.specs.declared.name.Name.{Name}
-use Rattle.ps_resolve.specs.Tables.{Has}
+use Rattle.ps_names.specs.Tables.{Has}
 use Rattle.ps_resolve.proofs.drivers.check_called.Given as goal
 use Rattle.ps_names.specs.Offences.{noted}
 use Rattle.ps_names.specs.Rules.{uncalled}

@@ -1,14 +1,14 @@
-use Rattle.std.proofs.Common.{map, take, [], ◌∷◌, ◌++◌, ap, ◌∙◌, sym, arith}
+use Rattle.std.proofs.Common.{map, take, [], ap, ◌∙◌, sym, arith}
 use Rattle.std.specs.List.{list_any}
 use Rattle.std.proofs.lemmas.List.{map_more, take_all}
 use Rattle.ps_base.specs.declared.failing.Rule.TheVariants.{N5}
 use Rattle.ps_parser.specs.declared.statement.Argument.{Argument}
 use Rattle.ps_parser.specs.ArgumentView.{argument_tree}
-use Rattle.ps_names.specs.Names.{alike}
+use Rattle.ps_base.specs.LetterCase.{is_same_name}
 use Rattle.ps_names.specs.Offences.{noted}
 use Rattle.ps_names.specs.Rules.{repeated}
 use Rattle.ps_names.proofs.Lists.{map_map}
-use Rattle.ps_resolve.proofs.Repeats.{noted_next}
+use Rattle.ps_names.proofs.Repeats.{noted_next}
 use Rattle.ps_resolve.proofs.drivers.check_pins.Goals as goal
 
 pub loop-i-preserved : goal.loop-i-preserved
@@ -17,7 +17,7 @@ loop-i-preserved c =
     let ns = map (λ (a : Argument). a.pin) (take i xs) in
     let more = map_more (λ (a : Argument). a.pin) xs i d c.loop-i-test.true in
     record {
-      table = λ q. c.in_ok-found.ensures.table ns c.loop-i.invariant.table q ∙ ap (list_any (λ n. alike q n.text)) (sym more);
+      table = λ q. c.in_ok-found.ensures.table ns c.loop-i.invariant.table q ∙ ap (list_any (λ n. is_same_name q n.text)) (sym more);
       found = noted_next N5 c.args.found c.loop-i.found c.in_ok-found.found ns _ c.loop-i.invariant.found (c.in_ok-found.ensures.found ns c.loop-i.invariant.table)
           ∙ ap (λ l. noted c.args.found (repeated N5 [] l)) (sym more);
     }

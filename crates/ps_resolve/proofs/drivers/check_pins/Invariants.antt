@@ -2,7 +2,7 @@ use Rattle.std.proofs.Common.{◌≡◌, map, take, []}
 use Rattle.ps_base.specs.declared.failing.Rule.TheVariants.{N5}
 use Rattle.ps_names.specs.Offences.{noted}
 use Rattle.ps_names.specs.Rules.{repeated}
-use Rattle.ps_resolve.specs.Tables.{Has}
+use Rattle.ps_names.specs.Tables.{Has}
 use Rattle.ps_resolve.proofs.drivers.check_pins.Given as goal
 
 abbrev pub invariant-loop-i : goal.invariant-loop-i

@@ -1,8 +1,8 @@
 use Rattle.std.proofs.Common.{map, take, [], ◌++◌, ap, ◌∙◌, sym}
 use Rattle.std.specs.List.{flat_map, list_any}
-use Rattle.ps_resolve.proofs.Repeats.{names_more, noted_next}
+use Rattle.ps_names.proofs.Repeats.{names_more, noted_next}
 use Rattle.ps_resolve.proofs.drivers.targets.Goals as goal
-use Rattle.ps_names.specs.Names.{alike}
+use Rattle.ps_base.specs.LetterCase.{is_same_name}
 use Rattle.ps_names.specs.Offences.{noted}
 use Rattle.ps_names.specs.Rules.{repeated}
 use Rattle.ps_names.specs.Uses.{assigned}
@@ -16,7 +16,7 @@ loop-i-preserved c =
     let new = assigned (statement_tree d) in
     let more = names_more assigned statement_tree xs i d c.loop-i-test.true ∙ ap (λ s. ns ++ assigned (statement_tree s)) (sym c.index-statements-i.is) in
     record {
-      table = λ q. c.in_ok-found.ensures.table ns c.loop-i.invariant.table q ∙ ap (list_any (λ n. alike q n.text)) (sym more);
+      table = λ q. c.in_ok-found.ensures.table ns c.loop-i.invariant.table q ∙ ap (list_any (λ n. is_same_name q n.text)) (sym more);
       found = noted_next N7 c.args.found c.loop-i.found c.in_ok-found.found ns new c.loop-i.invariant.found (c.in_ok-found.ensures.found ns c.loop-i.invariant.table)
           ∙ ap (λ l. noted c.args.found (repeated N7 [] l)) (sym more);
     }

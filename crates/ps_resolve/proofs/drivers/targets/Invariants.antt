@@ -1,6 +1,6 @@
 use Rattle.std.proofs.Common.{◌≡◌, map, take, []}
 use Rattle.std.specs.List.{flat_map}
-use Rattle.ps_resolve.specs.Tables.{Has}
+use Rattle.ps_names.specs.Tables.{Has}
 use Rattle.ps_resolve.proofs.drivers.targets.Given as goal
 use Rattle.ps_names.specs.Offences.{noted}
 use Rattle.ps_names.specs.Rules.{repeated}

@@ -1,4 +1,4 @@
-use Rattle.std.proofs.Common.{◌≡◌, min, ◌+◌, sum_by, length, ap, sym, ◌∙◌, arith}
+use Rattle.std.proofs.Common.{min, ◌+◌, sum_by, length, ap, sym, ◌∙◌, arith}
 use Rattle.std.proofs.lemmas.List.{take_all}
 use Rattle.ps_parser.specs.SumView.{factor_tree, product_tree}
 use Rattle.ps_names.specs.Limits.{factor_nodes, product_nodes}

@@ -1,4 +1,4 @@
-use Rattle.std.proofs.Common.{◌≡◌, ◌+◌, take, min, sum_by}
+use Rattle.std.proofs.Common.{◌≡◌, take, min, sum_by}
 use Rattle.ps_parser.specs.StatementView.{statement_tree}
 use Rattle.ps_names.specs.Limits.{statement_nodes}
 use Rattle.ps_resolve.proofs.limits.count_nodes.Given as goal

@@ -1,9 +1,9 @@
-use Rattle.std.proofs.Common.{◌+◌, ◌∷◌, [], length, take, get_or, cond, sym, ap, ◌∙◌, arith, length-append}
+use Rattle.std.proofs.Common.{◌+◌, ◌∷◌, [], length, get_or, cond, sym, ap, ◌∙◌, arith, length-append}
 use Rattle.std.proofs.lemmas.Option.{slice_get_within}
 use Rattle.ps_names.specs.declared.entry.Entry.{Entry}
 use Rattle.ps_names.specs.Names.{is_input, is_output, is_local, is_instance}
 use Rattle.ps_names.specs.Limits.{outputs_of}
-use Rattle.ps_names.specs.Stands.{outputs_before, number_as}
+use Rattle.ps_names.specs.Stands.{number_as}
 use Rattle.ps_resolve.proofs.NumberLists.{sum_more, more_numbers, number_in_is, both_numbers}
 use Rattle.ps_resolve.proofs.numbers.numbers.Goals as goal
 

@@ -1,9 +1,9 @@
-use Rattle.std.proofs.Common.{◌≡◌, take, List, ◌++◌}
+use Rattle.std.proofs.Common.{take, List, ◌++◌}
 use Rattle.std.specs.List.{flat_map}
 use Rattle.ps_parser.specs.declared.name.Name.{Name}
 use Rattle.ps_parser.specs.SumView.{factor_tree, product_tree}
 use Rattle.ps_names.specs.Uses.{read, factor_uses, product_uses}
-use Rattle.ps_resolve.specs.Tables.{Has}
+use Rattle.ps_names.specs.Tables.{Has}
 use Rattle.ps_resolve.proofs.reads.+reads.Given as goal
 
 abbrev pub invariant-enter_sum-each : goal.invariant-enter_sum-each

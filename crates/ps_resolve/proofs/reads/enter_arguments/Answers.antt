@@ -1,9 +1,9 @@
-use Rattle.std.proofs.Common.{List, ◌++◌, map, take, ap, ◌∙◌, sym, arith}
+use Rattle.std.proofs.Common.{◌++◌, take, ap, ◌∙◌, arith}
 use Rattle.std.specs.List.{flat_map}
 use Rattle.std.proofs.lemmas.List.{take_all}
 use Rattle.ps_parser.specs.ArgumentView.{argument_tree}
 use Rattle.ps_names.specs.Uses.{read, sum_uses}
-use Rattle.ps_resolve.proofs.Repeats.{has_same, has_more}
+use Rattle.ps_names.proofs.Repeats.{has_same, has_more}
 use Rattle.ps_resolve.proofs.ReadValues.{arguments_read}
 use Rattle.ps_resolve.proofs.reads.enter_arguments.Goals as goal
 

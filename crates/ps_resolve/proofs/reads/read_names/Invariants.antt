@@ -1,8 +1,8 @@
-use Rattle.std.proofs.Common.{◌≡◌, take, List, ◌++◌}
+use Rattle.std.proofs.Common.{take}
 use Rattle.std.specs.List.{flat_map}
 use Rattle.ps_parser.specs.StatementView.{statement_tree}
 use Rattle.ps_names.specs.Uses.{read, statement_uses}
-use Rattle.ps_resolve.specs.Tables.{Has}
+use Rattle.ps_names.specs.Tables.{Has}
 use Rattle.ps_resolve.proofs.reads.read_names.Given as goal
 
 abbrev pub invariant-loop-statement : goal.invariant-loop-statement

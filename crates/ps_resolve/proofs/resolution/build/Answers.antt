@@ -11,14 +11,14 @@ use Rattle.ps_resolve.proofs.resolution.build.Goals as goal
 pub label_of-requires : goal.label_of-requires
 label_of-requires c = name_is_text c.source.inside.name.text c.source.invariant.whole.0
 
-pub inputs-requires : goal.inputs-requires
-inputs-requires c = subst (All IsFit) (sym c.requires.names) (entries_fit c.args.source.now c.kept.ensures)
+pub signals-requires : goal.signals-requires
+signals-requires c = subst (All IsFit) (sym c.requires.names) (entries_fit c.args.source.now c.kept.ensures)
 
-pub outputs-requires : goal.outputs-requires
-outputs-requires c = subst (All IsFit) (sym c.requires.names) (entries_fit c.args.source.now c.kept.ensures)
+pub signals-requires-2 : goal.signals-requires-2
+signals-requires-2 c = subst (All IsFit) (sym c.requires.names) (entries_fit c.args.source.now c.kept.ensures)
 
-pub locals-requires : goal.locals-requires
-locals-requires c = subst (All IsFit) (sym c.requires.names) (entries_fit c.args.source.now c.kept.ensures)
+pub signals-requires-3 : goal.signals-requires-3
+signals-requires-3 c = subst (All IsFit) (sym c.requires.names) (entries_fit c.args.source.now c.kept.ensures)
 
 pub instances-requires : goal.instances-requires
 instances-requires c = subst (All IsFit) (sym c.requires.names) (entries_fit c.args.source.now c.kept.ensures)

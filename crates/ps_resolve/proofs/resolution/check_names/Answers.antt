@@ -1,10 +1,9 @@
-use Rattle.std.proofs.Common.{None, map, ap, ◌∙◌, ◌++◌}
+use Rattle.std.proofs.Common.{None, map, ◌++◌}
 use Rattle.std.specs.List.{flat_map}
 use Rattle.ps_parser.specs.StatementView.{statement_tree}
-use Rattle.ps_names.specs.Offences.{refused, noted}
-use Rattle.ps_names.specs.Uses.{statement_uses, assigned, called, read_names}
-use Rattle.ps_names.specs.Rules.{declared_twice, untyped, broken_by, pins_twice, assigned_twice, undriven, called_twice, uncalled, too_large, offences_in}
-use Rattle.ps_resolve.proofs.Indexing.{noted_two}
+use Rattle.ps_names.specs.Uses.{statement_uses}
+use Rattle.ps_names.specs.Rules.{declared_twice, untyped, broken_by, pins_twice}
+use Rattle.ps_names.proofs.Indexing.{noted_two}
 use Rattle.ps_resolve.proofs.resolution.check_names.Goals as goal
 
 pub returns-clause-found : goal.returns-clause-found

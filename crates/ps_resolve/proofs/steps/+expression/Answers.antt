@@ -4,7 +4,7 @@ use Rattle.ps_model.specs.Exprs.{formula, operands}
 use Rattle.ps_model.proofs.Formulas.{formula-And}
 use Rattle.ps_parser.proofs.Views.{factor_tree-Lit, factor_tree-Time}
 use Rattle.ps_resolve.proofs.Trees.{product_tree-items, sum_tree-items}
-use Rattle.ps_resolve.proofs.Joining.{pushed, whole, factors_joined, products_joined}
+use Rattle.ps_resolve.proofs.Joining.{map_after_push, whole, factors_joined, products_joined}
 use Rattle.ps_resolve.proofs.steps.+expression.Goals as goal
 use Rattle.ps_parser.specs.SumView.{factor_tree, product_tree}
 use Rattle.ps_parser.specs.Tree.{product_of, sum_of}
@@ -22,7 +22,7 @@ factor_expr-returns-in-Time t c =
 
 pub product_expr-each-preserved : goal.product_expr-each-preserved
 product_expr-each-preserved t c =
-    pushed formula (λ f. factor_formula c.args.numbering.now.entries.now (factor_tree f)) c.each.items.items c.push.new.self.items c.in_ok-item.item
+    map_after_push formula (λ f. factor_formula c.args.numbering.now.entries.now (factor_tree f)) c.each.items.items c.push.new.self.items c.in_ok-item.item
     c.deref-factor-items.result.now c.each.factor-index c.factor-item.result c.each-test.true c.each.invariant
     (c.in_ok-item.ensures ∙ ap (λ f. factor_formula c.args.numbering.now.entries.now (factor_tree f)) c.factor-item.is) c.in_ok-push.ensures.items
 
@@ -35,7 +35,7 @@ product_expr-returns t c =
 
 pub sum_expr-each-preserved : goal.sum_expr-each-preserved
 sum_expr-each-preserved t c =
-    pushed formula (λ p. product_formula c.args.numbering.now.entries.now (product_tree p)) c.each.items.items c.push.new.self.items c.in_ok-item.item
+    map_after_push formula (λ p. product_formula c.args.numbering.now.entries.now (product_tree p)) c.each.items.items c.push.new.self.items c.in_ok-item.item
     c.deref-product-items.result.now c.each.product-index c.product-item.result c.each-test.true c.each.invariant
     (c.in_ok-item.ensures ∙ ap (λ p. product_formula c.args.numbering.now.entries.now (product_tree p)) c.product-item.is) c.in_ok-push.ensures.items
 

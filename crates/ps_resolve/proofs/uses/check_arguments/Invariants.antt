@@ -1,4 +1,4 @@
-use Rattle.std.proofs.Common.{◌≡◌, take, map}
+use Rattle.std.proofs.Common.{◌≡◌, take}
 use Rattle.std.specs.List.{flat_map}
 use Rattle.ps_parser.specs.ArgumentView.{argument_tree}
 use Rattle.ps_names.specs.Offences.{noted}

@@ -20,7 +20,7 @@ use Rattle.ps_machine.proofs.Places.{length-replaced, index_before, index_within
 use Rattle.ps_machine.specs.Kinds.{kind_of}
 use Rattle.ps_eqvm.specs.Plain.{Plain}
 use Rattle.ps_eqvm.specs.Rows.{block_row, operand_of}
-use Rattle.ps_eqvm.specs.Acting.{trapped, byte_of, is_missing, is_odd, is_on, pins_on, pin_bytes, settled, stepped_by, block_as, block_by}
+use Rattle.ps_eqvm.specs.Acting.{trapped, byte_of, is_missing, is_odd, is_on, pins_on, pin_bytes, settled, after_step, block_as, block_by}
 use Rattle.ps_eqvm.specs.Turn.{after_row}
 use Rattle.ps_eqgen.proofs.Holding.{Holds}
 use Rattle.ps_eqgen.proofs.Placing.{Reads}
@@ -59,7 +59,7 @@ block_goes n m i o limit next kind codes pins p kept within room reads past load
       | inr high ↦ ap is_on (get_or_past bytes j None (omega arith)) ∙ sym (past j high)
     ] in
     let there : loaded kind (instance_bytes 0 i p.blocks) ≡ Some kept = ap (loaded kind) (instance_is i p.blocks) ∙ loads in
-    let tail4 = stepped_by i o limit kind (pins_on bytes) next (loaded kind (instance_bytes 0 i p.blocks)) p in
+    let tail4 = after_step i o limit kind (pins_on bytes) next (loaded kind (instance_bytes 0 i p.blocks)) p in
     let tail3 = cond (list_any is_odd bytes) (trapped NotBoolean p) tail4 in
     let tail2 = cond (not (length bytes == c)) (trapped PinCount p) tail3 in
     cond-false (nat_le m i) (trapped NoInstance p) (block_by n i o limit (kind_of (block kind).number) (pin_bytes n p.cells (map codes (range_with_len 0 c))) next p) (lt-leb m i within)
@@ -69,8 +69,8 @@ block_goes n m i o limit next kind codes pins p kept within room reads past load
     (or_from (nat_lt n (o + output_count kind)) (list_any is_missing bytes) (lt-leb (suc n) (o + output_count kind) (omega arith)) (none_missing pins (range_with_len 0 c)))
     ∙ cond-false (not (length bytes == c)) (trapped PinCount p) tail3 (ap not (eq-eqb (length bytes) c len))
     ∙ cond-false (list_any is_odd bytes) (trapped NotBoolean p) tail4 (none_odd pins (range_with_len 0 c))
-    ∙ ap (λ f. stepped_by i o limit kind f next (loaded kind (instance_bytes 0 i p.blocks)) p) (λ x j. on j x)
-    ∙ ap (λ x. stepped_by i o limit kind pins next x p) there
+    ∙ ap (λ f. after_step i o limit kind f next (loaded kind (instance_bytes 0 i p.blocks)) p) (λ x j. on j x)
+    ∙ ap (λ x. after_step i o limit kind pins next x p) there
 
 -- the outputs are written from signal o on
 pub settled_holds : (n last passed : ℕ) (blocks : List ℕ) (p : Plain) (at i o next : ℕ) (kind : Kind) (kept : Kept) (count : ℕ) (v : ℕ → Bool) → Holds n last passed blocks p at v →

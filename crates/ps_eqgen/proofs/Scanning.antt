@@ -34,7 +34,8 @@ use Rattle.ps_eqvm.specs.Channel.{blank_b, progress_of}
 use Rattle.ps_eqvm.specs.Code.{step_rows, network_rows, code_b}
 use Rattle.ps_eqvm.specs.Plain.{Plain, IsPlain, IsSized, complement, plain_bytes, laid_out, parsed}
 use Rattle.ps_eqvm.specs.Rows.{last_row}
-use Rattle.ps_eqvm.specs.Stands.{machine_b, StandsB}
+use Rattle.ps_eqvm.specs.Channel.{machine_b}
+use Rattle.ps_eqvm.specs.Stands.{StandsB}
 use Rattle.ps_eqvm.specs.Turn.{turn_plain, turn_b, begin_plain, begin_b}
 use Rattle.ps_eqvm.proofs.Again.{again, plain_again}
 use Rattle.ps_eqvm.proofs.Complements.{complement_replicate}

@@ -13,7 +13,8 @@ ghost use Rattle.ps_model.specs.Values.{values_at_pin, values_of_step};
 ghost use Rattle.ps_machine.specs.Keeping.{KeepsExactly};
 ghost use Rattle.ps_eqvm.specs.Rows.{block_row};
 ghost use Rattle.ps_eqvm.specs.Code.{encoded, bytes_of, pins_rows, pins_operands, step_rows, code_b};
-ghost use Rattle.ps_eqvm.specs.Stands.{machine_b, StandsB};
+ghost use Rattle.ps_eqvm.specs.Channel.{machine_b};
+ghost use Rattle.ps_eqvm.specs.Stands.{StandsB};
 ghost use Rattle.ps_eqgen.specs.Written.{block_head, AreShallow};
 
 use crate::calls::call_limit;

@@ -7,7 +7,8 @@ ghost use Rattle.ps_model.specs.Sized.{AreSizesOf};
 ghost use Rattle.ps_model.specs.Typing.{Accepted};
 ghost use Rattle.ps_machine.specs.Keeping.{Keeps, KeepsExactly};
 ghost use Rattle.ps_eqvm.specs.Code.{network_rows, code_b};
-ghost use Rattle.ps_eqvm.specs.Stands.{machine_b, StandsB};
+ghost use Rattle.ps_eqvm.specs.Channel.{machine_b};
+ghost use Rattle.ps_eqvm.specs.Stands.{StandsB};
 
 use ps_model::app::App;
 

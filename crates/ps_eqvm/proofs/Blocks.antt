@@ -15,14 +15,14 @@ use Rattle.ps_eqvm.specs.declared.opcode.Gate.{Gate}
 use Rattle.ps_eqvm.specs.declared.opcode.Gate.TheVariants.{Set, All, Any}
 use Rattle.ps_eqvm.specs.Gates.{gate_row, after_gate}
 use Rattle.ps_eqvm.specs.Rows.{EquationRow, set_row, all_row, any_row, operand_of, operands, size_of, whole, block_at}
-use Rattle.ps_eqvm.specs.Acting.{trapped, is_missing, is_odd, pins_on, stepped_by, block_as, after_block, target_of, byte_of}
+use Rattle.ps_eqvm.specs.Acting.{trapped, is_missing, is_odd, pins_on, after_step, block_as, after_block, target_of, byte_of}
 use Rattle.ps_eqvm.specs.Turn.{after_row, carried_out}
 use Rattle.ps_eqvm.specs.declared.trap.Trap.{Trap}
 use Rattle.ps_eqvm.specs.declared.trap.Trap.TheVariants.{PastEnd, PinCount, NotBoolean, OutOfRange}
 
 module _ (n i o limit next : ℕ) (kind : Kind) (bytes : List (Option ℕ)) (p : Plain) where
   last : Plain
-  last = stepped_by i o limit kind (pins_on bytes) next (loaded kind (instance_bytes 0 i p.blocks)) p
+  last = after_step i o limit kind (pins_on bytes) next (loaded kind (instance_bytes 0 i p.blocks)) p
 
   unless_odd : Plain
   unless_odd = cond (list_any is_odd bytes) (trapped NotBoolean p) last
@@ -57,10 +57,10 @@ module _ (n i o limit next : ℕ) (kind : Kind) (bytes : List (Option ℕ)) (p :
       sym (cond-false (list_any is_missing bytes) (trapped OutOfRange p) unless_miscount whole ∙ right count ∙ cond-true (list_any is_odd bytes) (trapped NotBoolean p) last odd) ∙ with_room h
 
   pub is_stepped : o + output_count kind ≤ n → length bytes ≡ boolean_count kind → list_any is_missing bytes ≡ false → list_any is_odd bytes ≡ false →
-      (bits : ℕ) → pin_of bits ≡ pins_on bytes → stepped_by i o limit kind (pin_of bits) next (loaded kind (instance_bytes 0 i p.blocks)) p ≡ block_as n i o limit kind bytes next p
+      (bits : ℕ) → pin_of bits ≡ pins_on bytes → after_step i o limit kind (pin_of bits) next (loaded kind (instance_bytes 0 i p.blocks)) p ≡ block_as n i o limit kind bytes next p
   unfolding unless_odd last
   is_stepped h count whole odd bits pins =
-      ap (λ f. stepped_by i o limit kind f next (loaded kind (instance_bytes 0 i p.blocks)) p) pins
+      ap (λ f. after_step i o limit kind f next (loaded kind (instance_bytes 0 i p.blocks)) p) pins
       ∙ sym (cond-false (list_any is_missing bytes) (trapped OutOfRange p) unless_miscount whole ∙ right count ∙ cond-false (list_any is_odd bytes) (trapped NotBoolean p) last odd) ∙ with_room h
 
 -- the BLOCK row at a place of the code

@@ -15,7 +15,7 @@ use Rattle.ps_machine.proofs.Places.{length-replaced}
 use Rattle.ps_machine.specs.Kinds.{kind_of}
 use Rattle.ps_eqvm.specs.Plain.{Plain, IsSized}
 use Rattle.ps_eqvm.specs.Rows.{EquationRow, last_row, set_row, all_row, any_row, block_row, operand_of, fetched}
-use Rattle.ps_eqvm.specs.Acting.{trapped, with_cell, byte_of, target_of, after_set, after_join, is_missing, is_odd, pins_on, pin_bytes, settled, stepped_by, block_as, block_by}
+use Rattle.ps_eqvm.specs.Acting.{trapped, with_cell, byte_of, target_of, after_set, after_join, is_missing, is_odd, pins_on, pin_bytes, settled, after_step, block_as, block_by}
 use Rattle.ps_eqvm.specs.Turn.{after_row, carried_out, turn_plain, begin_plain}
 use Rattle.ps_eqvm.specs.declared.trap.Trap.{Trap}
 use Rattle.ps_eqvm.specs.declared.trap.Trap.TheVariants.{PinCount, NotBoolean, OutOfRange, NoInstance, NotLoaded}
@@ -56,14 +56,14 @@ module _ (n k : ℕ) where
       }
 
   stepped_sized : (i o limit : ℕ) (kind : Kind) (pins : ℕ → Bool) (next : ℕ) (kept : Option Kept) (p : Plain) → i < k → o + output_count kind ≤ n → IsSized n k p →
-      IsSized n k (stepped_by i o limit kind pins next kept p)
+      IsSized n k (after_step i o limit kind pins next kept p)
   stepped_sized i o limit kind pins next None p low fits is = trap_sized NotLoaded p is
   stepped_sized i o limit kind pins next (Some kept) p low fits is = settled_sized i o kind (counted_down kind limit pins p.passed kept) next p low fits is
 
   block_as_sized : (i o limit : ℕ) (kind : Kind) (bytes : List (Option ℕ)) (next : ℕ) (p : Plain) → i < k → IsSized n k p → IsSized n k (block_as n i o limit kind bytes next p)
   block_as_sized i o limit kind bytes next p low is =
       let kept = loaded kind (instance_bytes 0 i p.blocks) in
-      let last : Plain = stepped_by i o limit kind (pins_on bytes) next kept p in
+      let last : Plain = after_step i o limit kind (pins_on bytes) next kept p in
       let odd : Plain = cond (list_any is_odd bytes) (trapped NotBoolean p) last in
       let counted : Plain = cond (not (length bytes == boolean_count kind)) (trapped PinCount p) odd in
       cond_both (nat_lt n (o + output_count kind) || list_any is_missing bytes) (trapped OutOfRange p) counted (IsSized n k) (λ _. trap_sized OutOfRange p is)

@@ -15,7 +15,7 @@ use Rattle.ps_machine.specs.Bytes.{bit, be2, be4, is_no_bit, replaced, instance_
 use Rattle.ps_machine.specs.Kinds.{kind_of}
 use Rattle.ps_eqvm.specs.Plain.{Plain, IsPlain, complement, parsed}
 use Rattle.ps_eqvm.specs.Rows.{EquationRow, last_row, set_row, all_row, any_row, block_row, operand_of, size_of, whole, block_at, fetched}
-use Rattle.ps_eqvm.specs.Acting.{trapped, with_cell, byte_of, target_of, after_set, after_join, is_missing, is_odd, pins_on, pin_bytes, settled, stepped_by, block_as, block_by}
+use Rattle.ps_eqvm.specs.Acting.{trapped, with_cell, byte_of, target_of, after_set, after_join, is_missing, is_odd, pins_on, pin_bytes, settled, after_step, block_as, block_by}
 use Rattle.ps_eqvm.specs.Turn.{after_row, carried_out, turn_plain, begin_plain}
 use Rattle.ps_eqvm.proofs.Again.{bytes-append, four, one}
 use Rattle.ps_eqvm.proofs.Complements.{complement_small}
@@ -177,9 +177,9 @@ settled_plain i o kind kept next p low small is = record {
 }
 
 loaded_plain : (i o limit : ℕ) (kind : Kind) (pins : ℕ → Bool) (next : ℕ) (bytes : List ℕ) (p : Plain) → AreBytes bytes → next < 2 ^ 32 → IsPlain p →
-    IsPlain (stepped_by i o limit kind pins next (loaded kind bytes) p)
+    IsPlain (after_step i o limit kind pins next (loaded kind bytes) p)
 loaded_plain i o limit kind pins next bytes p h small is =
-    cond_both (does_load kind bytes) (Some (kept_in bytes)) None (λ kept. IsPlain (stepped_by i o limit kind pins next kept p))
+    cond_both (does_load kind bytes) (Some (kept_in bytes)) None (λ kept. IsPlain (after_step i o limit kind pins next kept p))
     (λ _. let k' : Kept = counted_down kind limit pins p.passed (kept_in bytes) in
     settled_plain i o kind k' next p (latched_small kind pins (kept_in bytes).code k'.code (slice_index bytes 4) (h 4)) small is)
     (λ _. trap_plain NotLoaded p is)
@@ -188,7 +188,7 @@ module _ (n k : ℕ) where
   block_as_plain : (i o limit : ℕ) (kind : Kind) (bytes : List (Option ℕ)) (next : ℕ) (p : Plain) → next < 2 ^ 32 → IsPlain p → IsPlain (block_as n i o limit kind bytes next p)
   block_as_plain i o limit kind bytes next p small is =
       let sixteen = instance_bytes 0 i p.blocks in
-      let last : Plain = stepped_by i o limit kind (pins_on bytes) next (loaded kind sixteen) p in
+      let last : Plain = after_step i o limit kind (pins_on bytes) next (loaded kind sixteen) p in
       let odd : Plain = cond (list_any is_odd bytes) (trapped NotBoolean p) last in
       let counted : Plain = cond (not (length bytes == boolean_count kind)) (trapped PinCount p) odd in
       cond_both (nat_lt n (o + output_count kind) || list_any is_missing bytes) (trapped OutOfRange p) counted IsPlain (λ _. trap_plain OutOfRange p is)

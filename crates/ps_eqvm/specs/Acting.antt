@@ -90,9 +90,9 @@ settled instance first kind kept next p = record p {
 }
 
 -- a step of what the instance's bytes keep, by the time passed in this scan
-abbrev pub stepped_by : (instance first limit : ℕ) → Kind → (ℕ → Bool) → (next : ℕ) → Option Kept → Plain → Plain
-stepped_by instance first limit kind pins next None p = trapped NotLoaded p
-stepped_by instance first limit kind pins next (Some kept) p = settled instance first kind (counted_down kind limit pins p.passed kept) next p
+abbrev pub after_step : (instance first limit : ℕ) → Kind → (ℕ → Bool) → (next : ℕ) → Option Kept → Plain → Plain
+after_step instance first limit kind pins next None p = trapped NotLoaded p
+after_step instance first limit kind pins next (Some kept) p = settled instance first kind (counted_down kind limit pins p.passed kept) next p
 
 -- a BLOCK of an instance as a kind, with the bytes of its pins
 abbrev pub block_as : (signals instance first limit : ℕ) → Kind → List (Option ℕ) → (next : ℕ) → Plain → Plain
@@ -100,7 +100,7 @@ block_as signals instance first limit kind bytes next p =
     if nat_lt signals (first + output_count kind) || list_any is_missing bytes then trapped OutOfRange p
     else (if not (length bytes == boolean_count kind) then trapped PinCount p
     else (if list_any is_odd bytes then trapped NotBoolean p
-    else stepped_by instance first limit kind (pins_on bytes) next (loaded kind (instance_bytes 0 instance p.blocks)) p))
+    else after_step instance first limit kind (pins_on bytes) next (loaded kind (instance_bytes 0 instance p.blocks)) p))
 
 -- the same where the number is that of a kind
 abbrev pub block_by : (signals instance first limit : ℕ) → Option Kind → List (Option ℕ) → (next : ℕ) → Plain → Plain

@@ -2,7 +2,7 @@
 use Rattle.std.specs.Prelude.{◌≡◌, ℕ, ◌+◌, ◌-◌, ◌*◌, ◌^◌, ◌<◌, List, ◌∷◌, ◌++◌, length, take, drop, map, replicate, slice_index}
 use Rattle.std.specs.Int.{w32, to_be_bytes}
 use Rattle.ps_machine.specs.Bytes.{be4}
-use Rattle.ps_eqvm.specs.declared.layout.TheConstants.{OFFSET_AT, PROGRESS_AT, LAST_AT, PASSED_AT, WORK_AT, WORK_CELLS, SIGNALS_AT}
+use Rattle.ps_eqvm.specs.declared.layout.TheConstants.{OFFSET_AT, PROGRESS_AT, LAST_AT, PASSED_AT, WORK_AT, WORK_CELLS, SIGNALS_AT, INSTANCE_SIZE}
 
 -- The plain content: where the next row stands in the code, the progress, the time of the last scan that began and the time passed in this
 -- one in ms, the 48 work cells and then the signals, and the sixteen bytes of each instance.
@@ -55,4 +55,4 @@ pub record IsPlain (p : Plain) : Type 0 where
 -- It has the cells of an application of these sizes.
 pub record IsSized (signals instances : ℕ) (p : Plain) : Type 0 where
   pub cells : length p.cells ≡ WORK_CELLS + signals
-  pub blocks : length p.blocks ≡ 16 * instances
+  pub blocks : length p.blocks ≡ INSTANCE_SIZE * instances

@@ -10,11 +10,11 @@ ghost use Rattle.ps_machine.specs.Bytes.{bit, instance_bytes};
 ghost use Rattle.ps_model.specs.PinBits.{pin_of};
 ghost use Rattle.ps_eqvm.specs.Plain.{IsSized};
 ghost use Rattle.ps_eqvm.specs.Rows.{operands};
-ghost use Rattle.ps_eqvm.specs.Acting.{after_block, block_as, trapped, stepped_by, pin_bytes, is_missing};
+ghost use Rattle.ps_eqvm.specs.Acting.{after_block, block_as, trapped, after_step, pin_bytes, is_missing};
 ghost use Rattle.ps_eqvm.specs.Pins.{Reads, ReadSoFar};
 ghost use Rattle.ps_eqvm.specs.Finding.{found_of};
 
-use crate::layout::WORK_CELLS;
+use crate::layout::{INSTANCE_SIZE, WORK_CELLS};
 use crate::operand::Found;
 use crate::plain::PlainCells;
 use crate::trap::Trap;
@@ -148,7 +148,7 @@ pub fn block(
 // BLOCK of an instance that is there.
 fn block_as(plain: &mut PlainCells, kind: Kind, site: Site, code: &[u8], from: usize, count: u8)
     requires cells { length plain.old.cells ≡ WORK_CELLS + site.signals }
-    requires blocks { 16 * site.instance + 16 ≤ length plain.old.blocks }
+    requires blocks { INSTANCE_SIZE * site.instance + INSTANCE_SIZE ≤ length plain.old.blocks }
     requires whole { from + 2 * count ≤ length code.now }
     ensures { plain.new ≡ block_as site.signals site.instance site.first site.limit kind (pin_bytes site.signals plain.old.cells (operands code.now from count)) site.next plain.old }
 {
@@ -183,9 +183,9 @@ fn trap_miscount(plain: &mut PlainCells, signals: u16, code: &[u8], from: usize,
 // The step of an instance as a kind, with pins that are there.
 fn step_as(plain: &mut PlainCells, kind: Kind, bits: u32, site: Site)
     requires cells { length plain.old.cells ≡ WORK_CELLS + site.signals }
-    requires blocks { 16 * site.instance + 16 ≤ length plain.old.blocks }
+    requires blocks { INSTANCE_SIZE * site.instance + INSTANCE_SIZE ≤ length plain.old.blocks }
     requires outs { site.first + output_count kind ≤ site.signals }
-    ensures { plain.new ≡ stepped_by site.instance site.first site.limit kind (pin_of bits) site.next (loaded kind (instance_bytes 0 site.instance plain.old.blocks)) plain.old }
+    ensures { plain.new ≡ after_step site.instance site.first site.limit kind (pin_of bits) site.next (loaded kind (instance_bytes 0 site.instance plain.old.blocks)) plain.old }
 {
     match plain.instance(site.instance as usize) {
         None => plain.trap(Trap::NotLoaded),

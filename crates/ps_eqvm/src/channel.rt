@@ -2,7 +2,7 @@
 
 ghost use Rattle.std.specs.Prelude.{◌≡◌, ◌+◌, ◌*◌, IfOk};
 
-use crate::layout::SIGNALS_AT;
+use crate::layout::{INSTANCE_SIZE, SIGNALS_AT};
 use crate::plain::PlainCells;
 use crate::{report, turn};
 use ps_base::Memory;
@@ -39,11 +39,11 @@ impl Model for EquationChannel {
 
 // How many bytes the cells of an application have.
 fn cells_len(sizes: &Sizes) -> u32
-    ensures { result ≡ SIGNALS_AT + sizes.now.signals + 16 * sizes.now.instances }
+    ensures { result ≡ SIGNALS_AT + sizes.now.signals + INSTANCE_SIZE * sizes.now.instances }
 {
     let signals = sizes.signals;
     let instances = sizes.instances;
-    SIGNALS_AT as u32 + signals as u32 + 16 * instances as u32
+    SIGNALS_AT as u32 + signals as u32 + INSTANCE_SIZE as u32 * instances as u32
 }
 
 impl EquationChannel {
@@ -191,7 +191,7 @@ impl EquationChannel {
 }
 
 impl ScanMachine for EquationChannel {
-    ghost use Rattle.ps_eqvm.specs.Stands.{workings_b};
+    ghost use Rattle.ps_eqvm.specs.Channel.{workings_b};
 
     ghost stored = { λ channel. channel };
 

@@ -3,6 +3,7 @@
 ghost use Rattle.std.specs.Prelude.{◌≡◌, length, replicate};
 
 use crate::kept::{read, store};
+use crate::layout::INSTANCE_SIZE;
 use ps_base::Memory;
 use ps_machine::bytes::replace;
 use ps_rows::CountedBlock;
@@ -34,9 +35,9 @@ impl InstanceBytes {
 
     /// Those of so many instances, each 0.
     pub fn all_zero(alloc: Global, instances: u16) -> Result<InstanceBytes, Memory>
-        ensures { IfOk result (λ blocks. blocks ≡ replicate (16 * instances) 0) }
+        ensures { IfOk result (λ blocks. blocks ≡ replicate (INSTANCE_SIZE * instances) 0) }
     {
-        let stored = vec![in alloc; 255; 16 * instances as usize]?;
+        let stored = vec![in alloc; 255; INSTANCE_SIZE * instances as usize]?;
         Ok(InstanceBytes { stored })
     }
 
@@ -57,27 +58,30 @@ impl InstanceBytes {
     /// What the bytes of instance i say, for any kind that can keep it. None comes where they load for no
     /// kind.
     pub fn at(&self, i: usize) -> Option<CountedBlock>
-        requires { 16 * i + 16 ≤ length self.now }
+        requires { INSTANCE_SIZE * i + INSTANCE_SIZE ≤ length self.now }
         ensures some { IfSome result (λ block. LoadAs (instance_bytes 0 i self.now) (kept_of block)) }
         ensures none { IfNone result (LoadNowhere (instance_bytes 0 i self.now)) }
     {
-        read(&self.stored, 16 * i)
+        read(&self.stored, INSTANCE_SIZE * i)
     }
 
     /// The DiagCode of instance i: its bytes 0 and 1, the highest first.
     pub fn code(&self, i: usize) -> u16
-        requires { 16 * i + 16 ≤ length self.now }
-        ensures { result ≡ be2 self.now (16 * i) }
+        requires { INSTANCE_SIZE * i + INSTANCE_SIZE ≤ length self.now }
+        ensures { result ≡ be2 self.now (INSTANCE_SIZE * i) }
     {
-        u16::from_be_bytes([255 - self.stored[16 * i], 255 - self.stored[16 * i + 1]])
+        u16::from_be_bytes([
+            255 - self.stored[INSTANCE_SIZE * i],
+            255 - self.stored[INSTANCE_SIZE * i + 1],
+        ])
     }
 
     /// Instance i keeps this.
     pub fn put(&mut self, i: usize, block: CountedBlock)
-        requires { 16 * i + 16 ≤ length self.old }
-        ensures { self.new ≡ replaced self.old (16 * i) (stored (kept_of block)) }
+        requires { INSTANCE_SIZE * i + INSTANCE_SIZE ≤ length self.old }
+        ensures { self.new ≡ replaced self.old (INSTANCE_SIZE * i) (stored (kept_of block)) }
     {
-        replace(&mut self.stored, 16 * i, &store(block));
+        replace(&mut self.stored, INSTANCE_SIZE * i, &store(block));
     }
 
     /// One byte becomes another, by its plain value.

@@ -1,5 +1,5 @@
 //! Where channel B's cells stand (profile): the numbers of a scan, the work cells, a byte a signal, and
-//! sixteen bytes an instance.
+//! the bytes of each instance.
 
 /// Where the offset of the next row stands, in four bytes.
 pub const OFFSET_AT: usize = 0;
@@ -19,5 +19,8 @@ pub const WORK_AT: usize = 13;
 /// How many work cells there are.
 pub const WORK_CELLS: u16 = 48;
 
-/// Where the signals begin, a byte each. The sixteen bytes of each instance follow them.
+/// Where the signals begin, a byte each. The bytes of each instance follow them.
 pub const SIGNALS_AT: usize = 61;
+
+/// How many bytes an instance has.
+pub const INSTANCE_SIZE: usize = 16;

@@ -9,7 +9,7 @@
 
 mod block;
 mod cells;
-pub mod channel;
+mod channel;
 mod gates;
 mod instances;
 mod kept;

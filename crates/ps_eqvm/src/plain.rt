@@ -7,7 +7,9 @@ ghost use Rattle.ps_machine.specs.Bytes.{bit, replaced};
 
 use crate::cells::BitCells;
 use crate::instances::InstanceBytes;
-use crate::layout::{LAST_AT, PASSED_AT, PROGRESS_AT, SIGNALS_AT, WORK_AT, WORK_CELLS};
+use crate::layout::{
+    INSTANCE_SIZE, LAST_AT, PASSED_AT, PROGRESS_AT, SIGNALS_AT, WORK_AT, WORK_CELLS,
+};
 use crate::operand::{Found, Operand, find};
 use crate::outputs::outputs;
 use crate::trap::Trap;
@@ -84,7 +86,7 @@ impl PlainCells {
 
     /// Cells of an application with so many signals and instances, each 0.
     pub fn all_zero(alloc: Global, signals: u16, instances: u16) -> Result<PlainCells, Memory>
-        ensures { IfOk result (λ p. p ≡ blank (WORK_CELLS + signals) (16 * instances)) }
+        ensures { IfOk result (λ p. p ≡ blank (WORK_CELLS + signals) (INSTANCE_SIZE * instances)) }
     {
         let cells = BitCells::all_zero(alloc, WORK_CELLS as usize + signals as usize)?;
         let blocks = InstanceBytes::all_zero(alloc, instances)?;
@@ -162,7 +164,7 @@ impl PlainCells {
     /// What the bytes of an instance say, for any kind that can keep it. None comes where they load for
     /// no kind.
     pub fn instance(&self, i: usize) -> Option<CountedBlock>
-        requires { 16 * i + 16 ≤ length self.now.blocks }
+        requires { INSTANCE_SIZE * i + INSTANCE_SIZE ≤ length self.now.blocks }
         ensures some { IfSome result (λ block. LoadAs (instance_bytes 0 i self.now.blocks) (kept_of block)) }
         ensures none { IfNone result (LoadNowhere (instance_bytes 0 i self.now.blocks)) }
     {
@@ -180,8 +182,8 @@ impl PlainCells {
     /// The DiagCode of instance i, among so many signals.
     pub fn code(&self, signals: u16, i: usize) -> u16
         requires cells { length self.now.cells ≡ WORK_CELLS + signals }
-        requires blocks { 16 * i + 16 ≤ length self.now.blocks }
-        ensures { result ≡ be2 (plain_bytes self.now) (SIGNALS_AT + signals + 16 * i) }
+        requires blocks { INSTANCE_SIZE * i + INSTANCE_SIZE ≤ length self.now.blocks }
+        ensures { result ≡ be2 (plain_bytes self.now) (SIGNALS_AT + signals + INSTANCE_SIZE * i) }
     {
         self.blocks.code(i)
     }
@@ -257,7 +259,7 @@ impl PlainCells {
     /// follows.
     pub fn settle(&mut self, kind: Kind, block: CountedBlock, instance: u16, first: u16, next: u32)
         requires outs { WORK_CELLS + first + output_count kind ≤ length self.old.cells }
-        requires bytes { 16 * instance + 16 ≤ length self.old.blocks }
+        requires bytes { INSTANCE_SIZE * instance + INSTANCE_SIZE ≤ length self.old.blocks }
         ensures { self.new ≡ settled instance first kind (kept_of block) next self.old }
     {
         put_outputs(

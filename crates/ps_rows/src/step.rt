@@ -143,10 +143,9 @@ impl CountedBlock {
 fn may_latch(kind: Kind, code: u16, mode: u8) -> bool
     ensures { result ≡ is_mode kind code mode }
 {
-    if kind == Kind::ModeSelector && (code == 0x8000 || code == 0x8004) {
-        mode < 8
-    } else {
-        mode == 0
+    match (kind, code) {
+        (Kind::ModeSelector, 0x8000 | 0x8004) => mode < 8,
+        _ => mode == 0,
     }
 }
 

@@ -1,7 +1,8 @@
 use Rattle.ps_model.specs.Budgets.{turns_b}
 use Rattle.ps_machine.proofs.Phases.{exactly_keeps}
 use Rattle.ps_eqvm.specs.Code.{code_b}
-use Rattle.ps_eqvm.specs.Stands.{machine_b, StandsB}
+use Rattle.ps_eqvm.specs.Channel.{machine_b}
+use Rattle.ps_eqvm.specs.Stands.{StandsB}
 use Rattle.ps_eqgen.proofs.Scanning.{keeps_exactly}
 use Rattle.ps_eqgen.proofs.laws.equation_code_keeps_the_meaning.Goals as goal
 

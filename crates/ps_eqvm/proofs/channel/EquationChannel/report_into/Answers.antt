@@ -18,6 +18,7 @@ returns-clause-report c =
     ∙ (λ x. Some (record { outs = sym c.write_outputs.ensures x; diags = sym c.write_diags.ensures x }))
 
 pub returns-clause-sized : goal.returns-clause-sized
-returns-clause-sized c =
-    (ap length c.write_outputs.ensures ∙ length-map-range_with_len _ 0 _ ∙ ap (λ (v : Stored). v.sizes.outputs) c.self.view_is ∙ sym c.requires.outs,
-    ap length c.write_diags.ensures ∙ length-map-range_with_len _ 0 _ ∙ ap (λ (v : Stored). v.sizes.instances) c.self.view_is ∙ sym c.requires.diags)
+returns-clause-sized c = (
+  ap length c.write_outputs.ensures ∙ length-map-range_with_len _ 0 _ ∙ ap (λ (v : Stored). v.sizes.outputs) c.self.view_is ∙ sym c.requires.outs,
+  ap length c.write_diags.ensures ∙ length-map-range_with_len _ 0 _ ∙ ap (λ (v : Stored). v.sizes.instances) c.self.view_is ∙ sym c.requires.diags,
+)

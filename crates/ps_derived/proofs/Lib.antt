@@ -4,3 +4,4 @@ pub mod Reading
 pub mod OneText
 pub mod Counts
 pub mod Inputs
+pub mod Alone

@@ -1,9 +1,11 @@
 // Laws of whole texts.
 
-ghost use Rattle.std.specs.Prelude.{◌≡◌, ◌≢◌, ℕ, Result};
+ghost use Rattle.std.specs.Prelude.{◌≡◌, ◌≢◌, [], ℕ, Result};
 ghost use Rattle.ps_lexer.specs.declared.token.Tokens.{Tokens};
 ghost use Rattle.ps_parser.specs.Language.{Answers};
+ghost use Rattle.ps_parser.specs.Tree.{SourceTree};
 ghost use Rattle.ps_derived.specs.declared.library.Library.{Library};
+ghost use Rattle.ps_derived.specs.Flat.{flat};
 ghost use Rattle.ps_derived.specs.Texts.{library_spelt, IsLibraryWithin, libraries};
 
 use ps_base::Fail;
@@ -17,4 +19,9 @@ pub fn one_spelling()
 pub fn one_answer()
     ensures { (tokens : Tokens) (r q : Result Library Fail) → Answers libraries tokens r → Answers libraries tokens q
         → r ≢ Err Fail.Memory → q ≢ Err Fail.Memory → r ≡ q }
+{}
+
+/// A program without function blocks is its own flat source.
+pub fn own_flat_source()
+    ensures { (program : SourceTree) → flat (record { blocks = []; program = program }) ≡ program }
 {}

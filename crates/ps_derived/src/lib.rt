@@ -8,7 +8,7 @@
 mod declared;
 pub mod laws;
 mod library;
-pub mod limits;
+mod limits;
 mod read_library;
 mod sizes;
 

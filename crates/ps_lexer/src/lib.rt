@@ -8,7 +8,7 @@
 pub mod laws;
 mod scanner;
 mod time;
-pub mod token;
+mod token;
 
 pub use scanner::lex;
 pub use token::{Form, Token, TokenList, Tokens, Word};

@@ -6,19 +6,19 @@
 //! have one answer. What a reader believes stands in specs: `Names`, `Tree`, `Symbol`, `Spelt`, `Whole`, `Parsing`, `Places`.
 #![tactic(auto)]
 
-pub mod expression;
-pub mod heads;
+mod expression;
+mod heads;
 pub mod laws;
-pub mod name;
+mod name;
 mod peek;
 mod read_expression;
 mod read_section;
 mod read_source;
 mod read_statement;
-pub mod section;
-pub mod sign;
-pub mod source;
-pub mod statement;
+mod section;
+mod sign;
+mod source;
+mod statement;
 mod stop;
 
 pub use expression::{Factor, Factors, Product, Products, Sum};

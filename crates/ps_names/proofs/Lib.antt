@@ -17,5 +17,4 @@ pub mod Booleans
 pub mod Times
 pub mod Whole
 pub mod Lookups
-pub mod Indexing
-pub mod Repeats
+pub mod NamesAgain

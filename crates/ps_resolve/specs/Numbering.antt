@@ -8,8 +8,8 @@ use Rattle.ps_names.specs.Limits.{signals}
 use Rattle.ps_names.specs.Stands.{number_as, outputs_before}
 use Rattle.ps_resolve.specs.declared.limits.Counts.{Counts}
 use Rattle.ps_resolve.specs.declared.numbers.Numbered.{Numbered}
-use Rattle.ps_names.specs.declared.table.Table.{Table}
-use Rattle.ps_names.specs.Tables.{Indexes}
+use Rattle.ps_table.specs.declared.table.Table.{Table}
+use Rattle.ps_names.specs.Tables.{IndexesDeclared}
 
 -- the number of a name of a sort, where so many of each sort stand before it
 abbrev pub number_in : Sort → Counts → Counts → ℕ
@@ -30,6 +30,6 @@ pub record AreNumbers (es : List Entry) (ns : List Numbered) : Type 0 where
 
 -- declared names within the limit on signals, with their table and their numbers
 pub record IsNumbered (t : Table) (es : List Entry) (ns : List Numbered) : Type 0 where
-  pub names : Indexes t es
+  pub names : IndexesDeclared t es
   pub numbers : AreNumbers es ns
   pub few : signals es ≤ MOST_SIGNALS

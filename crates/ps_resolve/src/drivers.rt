@@ -12,8 +12,9 @@ ghost use Rattle.ps_names.specs.Rules.{repeated, pins_twice, assigned_twice, cal
 ghost use Rattle.ps_names.specs.Tables.{Has};
 
 use ps_base::{Memory, Place, Refusal, Rule};
-use ps_names::{Entry, Sort, Table, note, note_if};
+use ps_names::{Entry, Sort, note, note_again, note_if};
 use ps_parser::{Argument, Name, Statement, Target};
+use ps_table::Table;
 use std::alloc::Global;
 
 // ---- N5
@@ -29,7 +30,7 @@ fn check_pins(
     let mut pins = Table::new(alloc);
     let mut found = found;
     for i in 0..arguments.len() {
-        found = pins.note_again(alloc, Rule::N5, &arguments[i].pin, found)?;
+        found = note_again(alloc, &mut pins, Rule::N5, &arguments[i].pin, found)?;
     }
     Ok(found)
 }
@@ -76,7 +77,7 @@ fn note_target(
     ensures table { OnOk result ((ns : List Name) → Has targets.old ns → Has targets.new (ns ++ assigned (statement_tree statement.now))) }
 {
     match statement {
-        Statement::Assign(Target::Name(n), _) => targets.note_again(alloc, Rule::N7, n, found),
+        Statement::Assign(Target::Name(n), _) => note_again(alloc, targets, Rule::N7, n, found),
         Statement::Assign(Target::Pin(_, _), _) => Ok(found),
         Statement::Call(_, _) => Ok(found),
     }
@@ -111,7 +112,7 @@ fn note_called(
 {
     match statement {
         Statement::Assign(_, _) => Ok(found),
-        Statement::Call(n, _) => calls.note_again(alloc, Rule::N9, n, found),
+        Statement::Call(n, _) => note_again(alloc, calls, Rule::N9, n, found),
     }
 }
 

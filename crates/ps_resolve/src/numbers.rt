@@ -13,8 +13,9 @@ use ps_base::Memory;
 use ps_base::limits::{MOST_INSTANCES, MOST_SIGNALS};
 use ps_model::kind::Kind;
 use ps_model::pins::input_count;
-use ps_names::{Entry, Sort, Table};
+use ps_names::{Entry, Sort};
 use ps_parser::Name;
+use ps_table::Table;
 use std::alloc::Global;
 
 /// The number of a declared name, and the number of the first output of the instances from there on.

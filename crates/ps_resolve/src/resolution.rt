@@ -9,7 +9,7 @@ ghost use Rattle.ps_names.specs.Uses.{statement_uses, assigned, called, read_nam
 ghost use Rattle.ps_names.specs.Rules.{declared_twice, untyped, broken_by, pins_twice, assigned_twice, undriven, called_twice, uncalled, offences, offences_in};
 ghost use Rattle.ps_names.specs.Stands.{network};
 ghost use Rattle.ps_resolve.specs.Resolving.{Resolves};
-ghost use Rattle.ps_names.specs.Tables.{Indexes};
+ghost use Rattle.ps_names.specs.Tables.{IndexesDeclared};
 
 use crate::declared::declared_names;
 use crate::drivers::{calls, check_called, check_calls, check_driven, check_types, targets};
@@ -21,8 +21,9 @@ use crate::steps::steps_of;
 use crate::uses::{Names, check_statements};
 use ps_base::{Fail, Memory, Place, Refusal};
 use ps_model::app::App;
-use ps_names::{Entry, Table, index};
+use ps_names::{Entry, index};
 use ps_parser::{Part, Source, Statement};
+use ps_table::Table;
 use std::alloc::Global;
 
 // The table of declared names, and the first of what names, types, uses of names and pins break: N1 to N6 and N12.
@@ -31,7 +32,7 @@ fn check_names(
     entries: &[Entry],
     statements: &[Statement],
 ) -> Result<(Table, Option<Refusal>), Memory>
-    ensures table { IfOk result (λ r. Indexes r.0 entries.now) }
+    ensures table { IfOk result (λ r. IndexesDeclared r.0 entries.now) }
     ensures found { IfOk result (λ r. let ss = map statement_tree statements.now in
         r.1 ≡ refused (declared_twice entries.now ++ flat_map untyped entries.now ++ flat_map (broken_by entries.now) (flat_map statement_uses ss) ++ flat_map pins_twice ss)) }
 {
@@ -83,7 +84,7 @@ fn check(
     entries: &[Entry],
     statements: &[Statement],
 ) -> Result<(Table, Option<Refusal>), Memory>
-    ensures table { IfOk result (λ r. Indexes r.0 entries.now) }
+    ensures table { IfOk result (λ r. IndexesDeclared r.0 entries.now) }
     ensures found { IfOk result (λ r. r.1 ≡ refused (offences_in place entries.now (map statement_tree statements.now))) }
 {
     let (table, found) = check_names(alloc, entries, statements)?;
@@ -96,7 +97,7 @@ fn check(
 // The application of a source that breaks no rule.
 fn build(alloc: Global, source: &Source, table: &Table, names: &[Entry]) -> Result<App, Memory>
     requires names { names.now ≡ entries source.now }
-    requires table { Indexes table.now names.now }
+    requires table { IndexesDeclared table.now names.now }
     requires unbroken { offences source.now ≡ [] }
     ensures { IfOk result (λ app. app ≡ network source.now) }
 {

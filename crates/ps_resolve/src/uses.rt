@@ -9,14 +9,15 @@ ghost use Rattle.ps_names.specs.Names.{sort_of, sort_at};
 ghost use Rattle.ps_names.specs.Offences.{noted};
 ghost use Rattle.ps_names.specs.Uses.{factor_uses, product_uses, sum_uses, value_uses, argument_uses, statement_uses, target_use};
 ghost use Rattle.ps_names.specs.Rules.{pin_at, has_input, has_output, at_read, at_read_pin, at_drive, at_drive_pin, at_call, at_argument, broken_by};
-ghost use Rattle.ps_names.specs.Tables.{Indexes};
+ghost use Rattle.ps_names.specs.Tables.{IndexesDeclared};
 
 use crate::literal::literal_of;
 use ps_base::{Memory, Refusal, Rule};
 use ps_model::kind::Kind;
 use ps_model::pins::{input_count, pin_named};
-use ps_names::{Entry, Sort, Table, note};
+use ps_names::{Entry, Sort, note};
 use ps_parser::{Argument, Factor, Name, Product, Statement, Sum, Target};
+use ps_table::Table;
 use std::alloc::Global;
 
 /// The declared names with their table.
@@ -39,7 +40,7 @@ pub fn sort_at(entries: &[Entry], k: usize) -> Option<Sort>
 
 /// What a name is, and None where it is not declared.
 pub fn sort_of(alloc: Global, names: &Names, name: &Name) -> Result<Option<Sort>, Memory>
-    requires { Indexes names.now.table.now names.now.entries.now }
+    requires { IndexesDeclared names.now.table.now names.now.entries.now }
     ensures { IfOk result (λ s. s ≡ sort_of names.now.entries.now name.now) }
 {
     match names.table.place_of(alloc, name)? {
@@ -177,7 +178,7 @@ fn check_sum(
     sum: &Sum,
     found: Option<Refusal>,
 ) -> Result<Option<Refusal>, Memory>
-    requires { Indexes names.now.table.now names.now.entries.now }
+    requires { IndexesDeclared names.now.table.now names.now.entries.now }
     ensures { IfOk result (λ r. r ≡ noted found (flat_map (broken_by names.now.entries.now) (sum_uses (sum_tree sum.now)))) }
 {
     let mut found = found;
@@ -195,7 +196,7 @@ fn check_product(
     product: &Product,
     found: Option<Refusal>,
 ) -> Result<Option<Refusal>, Memory>
-    requires { Indexes names.now.table.now names.now.entries.now }
+    requires { IndexesDeclared names.now.table.now names.now.entries.now }
     ensures { IfOk result (λ r. r ≡ noted found (flat_map (broken_by names.now.entries.now) (product_uses (product_tree product.now)))) }
 {
     let mut found = found;
@@ -213,7 +214,7 @@ fn check_factor(
     factor: &Factor,
     found: Option<Refusal>,
 ) -> Result<Option<Refusal>, Memory>
-    requires { Indexes names.now.table.now names.now.entries.now }
+    requires { IndexesDeclared names.now.table.now names.now.entries.now }
     ensures { IfOk result (λ r. r ≡ noted found (flat_map (broken_by names.now.entries.now) (factor_uses (factor_tree factor.now)))) }
 {
     match factor {
@@ -238,7 +239,7 @@ fn check_value(
     value: &Sum,
     found: Option<Refusal>,
 ) -> Result<Option<Refusal>, Memory>
-    requires { Indexes names.now.table.now names.now.entries.now }
+    requires { IndexesDeclared names.now.table.now names.now.entries.now }
     ensures { IfOk result (λ r. r ≡ noted found (flat_map (broken_by names.now.entries.now) (value_uses (sum_tree value.now)))) }
 {
     match literal_of(value) {
@@ -255,7 +256,7 @@ fn check_argument(
     argument: &Argument,
     found: Option<Refusal>,
 ) -> Result<Option<Refusal>, Memory>
-    requires { Indexes names.now.table.now names.now.entries.now }
+    requires { IndexesDeclared names.now.table.now names.now.entries.now }
     ensures { IfOk result (λ r. r ≡ noted found (flat_map (broken_by names.now.entries.now) (argument_uses name.now (argument_tree argument.now)))) }
 {
     let sort = sort_of(alloc, names, name)?;
@@ -271,7 +272,7 @@ fn check_arguments(
     arguments: &[Argument],
     found: Option<Refusal>,
 ) -> Result<Option<Refusal>, Memory>
-    requires { Indexes names.now.table.now names.now.entries.now }
+    requires { IndexesDeclared names.now.table.now names.now.entries.now }
     ensures { IfOk result (λ r. r ≡ noted found (flat_map (broken_by names.now.entries.now) (flat_map (argument_uses name.now) (map argument_tree arguments.now)))) }
 {
     let mut found = found;
@@ -288,7 +289,7 @@ fn check_target(
     target: &Target,
     found: Option<Refusal>,
 ) -> Result<Option<Refusal>, Memory>
-    requires { Indexes names.now.table.now names.now.entries.now }
+    requires { IndexesDeclared names.now.table.now names.now.entries.now }
     ensures { IfOk result (λ r. r ≡ noted found (broken_by names.now.entries.now (target_use target.now))) }
 {
     match target {
@@ -310,7 +311,7 @@ fn check_statement(
     statement: &Statement,
     found: Option<Refusal>,
 ) -> Result<Option<Refusal>, Memory>
-    requires { Indexes names.now.table.now names.now.entries.now }
+    requires { IndexesDeclared names.now.table.now names.now.entries.now }
     ensures { IfOk result (λ r. r ≡ noted found (flat_map (broken_by names.now.entries.now) (statement_uses (statement_tree statement.now)))) }
 {
     match statement {
@@ -333,7 +334,7 @@ pub fn check_statements(
     statements: &[Statement],
     found: Option<Refusal>,
 ) -> Result<Option<Refusal>, Memory>
-    requires { Indexes names.now.table.now names.now.entries.now }
+    requires { IndexesDeclared names.now.table.now names.now.entries.now }
     ensures { IfOk result (λ r. r ≡ noted found (flat_map (broken_by names.now.entries.now) (flat_map statement_uses (map statement_tree statements.now)))) }
 {
     let mut found = found;

@@ -1,6 +1,6 @@
 use Rattle.std.proofs.Common.{map, take, [], ◌++◌, ap, ◌∙◌, sym}
 use Rattle.std.specs.List.{flat_map, list_any}
-use Rattle.ps_names.proofs.Repeats.{names_more, noted_next}
+use Rattle.ps_names.proofs.NamesAgain.{names_more, noted_next}
 use Rattle.ps_resolve.proofs.drivers.calls.Goals as goal
 use Rattle.ps_base.specs.LetterCase.{is_same_name}
 use Rattle.ps_names.specs.Offences.{noted}

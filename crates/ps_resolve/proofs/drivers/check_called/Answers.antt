@@ -1,5 +1,5 @@
 use Rattle.std.proofs.Common.{ap, ◌∙◌, is_some}
-use Rattle.ps_names.proofs.Repeats.{flat_noted}
+use Rattle.ps_names.proofs.NamesAgain.{flat_noted}
 use Rattle.ps_resolve.proofs.drivers.check_called.Goals as goal
 use Rattle.ps_names.specs.Offences.{noted}
 use Rattle.ps_names.specs.Rules.{uncalled, uncalled_as}

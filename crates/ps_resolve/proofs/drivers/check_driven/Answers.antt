@@ -3,7 +3,7 @@ use Rattle.std.specs.List.{list_any}
 use Rattle.ps_names.specs.Names.{same}
 use Rattle.ps_names.specs.Offences.{noted}
 use Rattle.ps_names.specs.Rules.{undriven, undriven_as}
-use Rattle.ps_names.proofs.Repeats.{flat_noted}
+use Rattle.ps_names.proofs.NamesAgain.{flat_noted}
 use Rattle.ps_resolve.proofs.drivers.check_driven.Goals as goal
 
 pub loop-e-preserved : goal.loop-e-preserved

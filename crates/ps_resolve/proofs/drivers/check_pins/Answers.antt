@@ -8,7 +8,7 @@ use Rattle.ps_base.specs.LetterCase.{is_same_name}
 use Rattle.ps_names.specs.Offences.{noted}
 use Rattle.ps_names.specs.Rules.{repeated}
 use Rattle.ps_names.proofs.Lists.{map_map}
-use Rattle.ps_names.proofs.Repeats.{noted_next}
+use Rattle.ps_names.proofs.NamesAgain.{noted_next}
 use Rattle.ps_resolve.proofs.drivers.check_pins.Goals as goal
 
 pub loop-i-preserved : goal.loop-i-preserved

@@ -4,7 +4,7 @@ use Rattle.std.proofs.lemmas.List.{take_all}
 use Rattle.ps_parser.specs.Tree.{product_of, sum_of}
 use Rattle.ps_parser.specs.SumView.{factor_tree, product_tree}
 use Rattle.ps_names.specs.Uses.{read, factor_uses, product_uses, sum_uses}
-use Rattle.ps_names.proofs.Repeats.{has_same, has_more}
+use Rattle.ps_names.proofs.NamesAgain.{has_same, has_more}
 use Rattle.ps_resolve.proofs.Trees.{product_tree-items, sum_tree-items}
 use Rattle.ps_resolve.proofs.Walks.{factors_break, products_break}
 use Rattle.ps_resolve.proofs.reads.+reads.Goals as goal

@@ -3,7 +3,7 @@ use Rattle.std.specs.List.{flat_map}
 use Rattle.std.proofs.lemmas.List.{take_all}
 use Rattle.ps_parser.specs.ArgumentView.{argument_tree}
 use Rattle.ps_names.specs.Uses.{read, sum_uses}
-use Rattle.ps_names.proofs.Repeats.{has_same, has_more}
+use Rattle.ps_names.proofs.NamesAgain.{has_same, has_more}
 use Rattle.ps_resolve.proofs.ReadValues.{arguments_read}
 use Rattle.ps_resolve.proofs.reads.enter_arguments.Goals as goal
 

@@ -3,7 +3,7 @@ use Rattle.std.specs.List.{flat_map}
 use Rattle.std.proofs.lemmas.List.{take_all}
 use Rattle.ps_parser.specs.StatementView.{statement_tree}
 use Rattle.ps_names.specs.Uses.{read, statement_uses}
-use Rattle.ps_names.proofs.Repeats.{has_same}
+use Rattle.ps_names.proofs.NamesAgain.{has_same}
 use Rattle.ps_resolve.proofs.Walks.{flat_flat}
 use Rattle.ps_resolve.proofs.reads.read_names.Goals as goal
 

@@ -4,7 +4,7 @@ use Rattle.ps_parser.specs.StatementView.{statement_tree}
 use Rattle.ps_names.specs.Offences.{noted}
 use Rattle.ps_names.specs.Uses.{statement_uses, assigned, called, read_names}
 use Rattle.ps_names.specs.Rules.{declared_twice, untyped, broken_by, pins_twice, assigned_twice, undriven, called_twice, uncalled, too_large}
-use Rattle.ps_names.proofs.Indexing.{noted_two}
+use Rattle.ps_names.proofs.NamesAgain.{noted_two}
 use Rattle.ps_resolve.proofs.resolution.check.Goals as goal
 
 pub returns-clause-found : goal.returns-clause-found

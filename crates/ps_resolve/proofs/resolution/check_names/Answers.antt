@@ -3,7 +3,7 @@ use Rattle.std.specs.List.{flat_map}
 use Rattle.ps_parser.specs.StatementView.{statement_tree}
 use Rattle.ps_names.specs.Uses.{statement_uses}
 use Rattle.ps_names.specs.Rules.{declared_twice, untyped, broken_by, pins_twice}
-use Rattle.ps_names.proofs.Indexing.{noted_two}
+use Rattle.ps_names.proofs.NamesAgain.{noted_two}
 use Rattle.ps_resolve.proofs.resolution.check_names.Goals as goal
 
 pub returns-clause-found : goal.returns-clause-found

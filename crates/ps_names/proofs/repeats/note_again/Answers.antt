@@ -1,6 +1,6 @@
 use Rattle.std.proofs.Common.{◌∙◌}
-use Rattle.ps_names.proofs.Repeats.{again_noted, again_has}
-use Rattle.ps_names.proofs.table.Table.note_again.Goals as goal
+use Rattle.ps_names.proofs.NamesAgain.{again_noted, again_has}
+use Rattle.ps_names.proofs.repeats.note_again.Goals as goal
 
 pub returns : goal.returns
 returns c = record {

@@ -2,19 +2,47 @@
 use Rattle.std.proofs.Common.{◌≡◌, ℕ, Bool, true, false, List, [], ◌∷◌, ◌++◌, ◌+◌, ◌<◌, length, take, map, get_or, Option, None, Some, is_some, refl, sym, ap, ◌∙◌, append_assoc, ◌||◌, if◌then◌else◌}
 use Rattle.std.specs.Option.{option_or}
 use Rattle.std.specs.List.{list_any, flat_map}
-use Rattle.std.proofs.lemmas.Grind.{flat_map-append}
-use Rattle.ps_names.proofs.Indexing.{noted-append}
+use Rattle.std.proofs.lemmas.Grind.{flat_map-append, fold-append}
 use Rattle.std.proofs.lemmas.List.{append-nil, map_more, take_more}
 use Rattle.std.proofs.lemmas.List.Folds.{list_any-append}
 use Rattle.ps_parser.specs.declared.name.Name.{Name}
 use Rattle.ps_base.specs.declared.failing.Refusal.{Refusal}
 use Rattle.ps_base.specs.declared.failing.Rule.{Rule}
-use Rattle.ps_names.specs.Offences.{noted, offence, when}
+use Rattle.ps_base.specs.declared.failing.Rule.TheVariants.{N1}
+use Rattle.ps_names.specs.Offences.{noted, first_of, offence, when}
 use Rattle.ps_base.specs.LetterCase.{is_same_name}
 use Rattle.ps_names.specs.Names.{same}
-use Rattle.ps_names.specs.declared.table.Table.{Table}
+use Rattle.ps_table.specs.declared.table.Table.{Table}
 use Rattle.ps_names.specs.Tables.{Has}
 use Rattle.ps_names.specs.Rules.{repeated}
+
+-- passes one after the other
+pub noted-append : (found : Option Refusal) (os ps : List Refusal) → noted found (os ++ ps) ≡ noted (noted found os) ps
+noted-append found os ps = fold-append first_of found os ps
+
+pub noted_two : (found f g : Option Refusal) (os ps : List Refusal) → f ≡ noted found os → g ≡ noted f ps → g ≡ noted found (os ++ ps)
+noted_two found f g os ps first second = second ∙ ap (λ z. noted z ps) first ∙ sym (noted-append found os ps)
+
+-- names with one more at the end
+pub repeated_push : (rule : Rule) (before ns : List Name) (n : Name) →
+    repeated rule before (ns ++ n ∷ []) ≡ repeated rule before ns ++ when (list_any (same n) (before ++ ns)) (offence rule n.place ∷ [])
+repeated_push rule before [] n = append-nil _ ∙ ap (λ b. when (list_any (same n) b) (offence rule n.place ∷ [])) (sym (append-nil before))
+repeated_push rule before (m ∷ ns) n =
+    ap (λ os. when (list_any (same m) before) (offence rule m.place ∷ []) ++ os)
+    (repeated_push rule (before ++ m ∷ []) ns n ∙ ap (λ b. repeated rule (before ++ m ∷ []) ns ++ when (list_any (same n) b) (offence rule n.place ∷ [])) (append_assoc before (m ∷ []) ns))
+    ∙ sym (append_assoc (when (list_any (same m) before) (offence rule m.place ∷ [])) (repeated rule (before ++ m ∷ []) ns) _)
+
+-- one more name, noted where it comes again
+pub noted_more : (start found more : Option Refusal) (ns : List Name) (n : Name) (was : Bool) →
+    found ≡ noted start (repeated N1 [] ns) →
+    more ≡ noted found (when was (offence N1 n.place ∷ [])) →
+    was ≡ list_any (same n) ns →
+    more ≡ noted start (repeated N1 [] (ns ++ n ∷ []))
+noted_more start found more ns n was so then_ is =
+    then_ ∙ ap (λ b. noted found (when b (offence N1 n.place ∷ []))) is
+    ∙ ap (λ f. noted f (when (list_any (same n) ns) (offence N1 n.place ∷ []))) so
+    ∙ sym (noted-append start (repeated N1 [] ns) (when (list_any (same n) ns) (offence N1 n.place ∷ [])))
+    ∙ ap (noted start) (sym (repeated_push N1 [] ns n))
 
 pub repeated-append : (r : Rule) (before xs ys : List Name) → repeated r before (xs ++ ys) ≡ repeated r before xs ++ repeated r (before ++ xs) ys
 repeated-append r before [] ys = ap (λ b. repeated r b ys) (sym (append-nil before))

@@ -5,3 +5,4 @@ pub mod OneText
 pub mod Counts
 pub mod Inputs
 pub mod Alone
+pub mod Examples

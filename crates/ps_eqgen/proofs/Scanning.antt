@@ -27,7 +27,7 @@ use Rattle.ps_machine.proofs.Fitting.{step_fits, all_fit}
 use Rattle.ps_machine.proofs.Instances.{bytes_at, block_is}
 use Rattle.ps_machine.proofs.Phases.{turned_add}
 use Rattle.ps_machine.proofs.Places.{length-replaced, index_within, index_after}
-use Rattle.ps_machine.proofs.Reports.{reported}
+use Rattle.ps_machine.proofs.Reports.{holds_its_report}
 use Rattle.ps_machine.proofs.Scans.{begun_input, begun_other, ends}
 use Rattle.ps_eqvm.specs.Acting.{after_last}
 use Rattle.ps_eqvm.specs.Channel.{blank_b, progress_of}
@@ -253,6 +253,6 @@ module _ (net : Network) (sound : IsSound net) where
                 done = ap progress_said (ap (λ j. progress_of (turned (turn_b z code) j (begin_b z now ins cells))) (sym turns) ∙ said (length (network_rows net)) ∙ s.done);
                 stands = stood;
                 reports =
-                    reported net sound z sizes (λ i. Remains (limit_in net i)) old new ins dt 61 (complement (turned (turn_b z code) (turns_b net) (begin_b z now ins cells))) solves stood.standing;
+                    holds_its_report net sound z sizes (λ i. Remains (limit_in net i)) old new ins dt 61 (complement (turned (turn_b z code) (turns_b net) (begin_b z now ins cells))) solves stood.standing;
               };
         }

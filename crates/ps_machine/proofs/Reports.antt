@@ -158,8 +158,8 @@ module _ (net : Network) (sound : IsSound net) (z : Sizes) (sizes : AreSizesOf n
       ∙ diag_is i low
       ∙ sym (get_or-map g new.blocks i idle d (omega (arith, solves.block_each))))
 
-  pub reported : report_in z first cells ≡ Some (report net new)
-  reported =
+  pub holds_its_report : report_in z first cells ≡ Some (report net new)
+  holds_its_report =
       let held : Report = record { outs = map (λ j. output_byte z first cells j == 1) (range_with_len 0 z.outputs); diags = map (diag_at z first cells) (range_with_len 0 z.instances) } in
       let is : held ≡ report net new = λ x. record { outs = outs_are x; diags = diags_are x } in
       cond-true (holds_report z first cells) (Some held) None holds_it ∙ ap Some is
@@ -178,6 +178,7 @@ report_in_sized z first cells r h = by_test (holds_report z first cells) h
     by_test : (b : Bool) → cond b (Some (record { outs = outs; diags = diags })) None ≡ Some r → (length r.outs ≡ z.outputs) × (length r.diags ≡ z.instances)
     by_test false e = absurd (cc)
     by_test true e =
-        let same : record { outs = outs; diags = diags } ≡ r = cc in
-        (ap (λ (q : Report). length q.outs) (sym same) ∙ length-map-range_with_len (λ j. output_byte z first cells j == 1) 0 z.outputs,
-        ap (λ (q : Report). length q.diags) (sym same) ∙ length-map-range_with_len (diag_at z first cells) 0 z.instances)
+        let same : record { outs = outs; diags = diags } ≡ r = cc in (
+          ap (λ (q : Report). length q.outs) (sym same) ∙ length-map-range_with_len (λ j. output_byte z first cells j == 1) 0 z.outputs,
+          ap (λ (q : Report). length q.diags) (sym same) ∙ length-map-range_with_len (diag_at z first cells) 0 z.instances,
+        )

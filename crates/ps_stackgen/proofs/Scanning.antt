@@ -29,7 +29,7 @@ use Rattle.ps_machine.proofs.Fitting.{step_fits, all_fit}
 use Rattle.ps_machine.proofs.Instances.{bytes_at, block_is}
 use Rattle.ps_machine.proofs.Phases.{turned_add}
 use Rattle.ps_machine.proofs.Places.{length-replaced, index_before, index_within, index_after}
-use Rattle.ps_machine.proofs.Reports.{reported}
+use Rattle.ps_machine.proofs.Reports.{holds_its_report}
 use Rattle.ps_machine.proofs.Scans.{begun_input, begun_other, ends}
 use Rattle.ps_stackvm.specs.declared.instruction.Instruction.TheVariants.{End}
 use Rattle.ps_stackvm.specs.Cells.{pc_of, progress_of, scan_time, with_pc, with_progress}
@@ -221,6 +221,6 @@ module _ (net : Network) (sound : IsSound net) where
                     ap progress_said (subst (λ f. progress_of (turned f j q) ≡ 0) same (s.running j (omega (arith, turns))));
                 done = ap progress_said done;
                 stands = held;
-                reports = reported net sound z sizes (λ i. Since now) old new ins dt 74 (turned (turn_a z code) (turns_a net) q) solves held;
+                reports = holds_its_report net sound z sizes (λ i. Since now) old new ins dt 74 (turned (turn_a z code) (turns_a net) q) solves held;
               };
         }

@@ -21,7 +21,7 @@ use Rattle.ps_stackvm.specs.declared.trap.Trap.TheVariants.{NoState}
 use Rattle.ps_stackvm.specs.Cells.{scan_time, block_bytes, with_pc, with_height, trapped}
 use Rattle.ps_stackvm.specs.Calling.{topmost, pins_in, stepped_to, called_with}
 use Rattle.ps_block.specs.Stepping.{stepped_by}
-use Rattle.ps_stackvm.specs.Stepping.{Steps}
+use Rattle.ps_stackvm.specs.Stepping.{IsStepInBytes}
 
 -- bytes for which no state of the kind is stored do not load
 pub not_loaded : LoadsExactly → (kind : Kind) (bytes : List ℕ) → AreBytes bytes → ((k : Kept) → Loads kind bytes k → ⊥) →
@@ -31,7 +31,7 @@ not_loaded exact kind bytes are none (Some k) e = absurd (none k (exact.loaded_i
 
 -- what a block's load, step and store give together
 pub steps_of : (exact : LoadsExactly) (kind : Kind) (pins : Pins) (before after : List ℕ) (k k' : Kept) (o : Outs) →
-    Loads kind before k → k' ≡ stepped_by kind pins k → Loads kind after k' → Shows kind o k' → Steps kind pins before after o
+    Loads kind before k → k' ≡ stepped_by kind pins k → Loads kind after k' → Shows kind o k' → IsStepInBytes kind pins before after o
 steps_of exact kind pins before after k k' o loads moves stores shows = record {
   kept = k;
   loads = exact.stored_loads kind before k loads;
@@ -72,7 +72,7 @@ module _ (signals i first limit next : ℕ) (kind : Kind) (cells : List ℕ) (p 
       ∙ ap (λ s. called_with signals i first limit next kind s cells)
       (sym (ap (loaded kind) (sym (part_is cells p (74 + signals + 16 * i) is-place)) ∙ none))
 
-  step_is : (pins : Pins) (new now-cells : List ℕ) (o : Outs) → 74 + signals + 16 * i + 16 ≤ length cells → Steps kind pins (block_bytes signals i cells) new o →
+  step_is : (pins : Pins) (new now-cells : List ℕ) (o : Outs) → 74 + signals + 16 * i + 16 ≤ length cells → IsStepInBytes kind pins (block_bytes signals i cells) new o →
       pins.limit ≡ limit → pins.now ≡ scan_time cells → ((j : ℕ) → pin_of pins.bits j ≡ pins_in (topmost (boolean_count kind) cells) j) →
       now-cells ≡ replaced cells (74 + signals + 16 * i) new →
       shown_after first next kind o now-cells ≡ called_with signals i first limit next kind (loaded kind (block_bytes signals i cells)) cells
@@ -99,12 +99,12 @@ module _ (signals i first limit next : ℕ) (kind : Kind) (cells : List ℕ) (p 
       ∙ ap (λ s. called_with signals i first limit next kind s cells) (sym steps.loads)
 
   pub called_some : (kind' : Kind) → kind' ≡ kind → (pins : Pins) (new : List ℕ) (o : Outs) → 74 + signals + 16 * i + 16 ≤ length cells →
-      Steps kind pins (take (p + 16 - p) (drop p cells)) new o →
+      IsStepInBytes kind pins (take (p + 16 - p) (drop p cells)) new o →
       pins.limit ≡ limit → pins.now ≡ scan_time cells → ((j : ℕ) → pin_of pins.bits j ≡ pins_in (topmost (boolean_count kind) cells) j) →
       shown_after first next kind' o (put_mid p (p + 16 - p) cells new) ≡ called_with signals i first limit next kind (loaded kind (block_bytes signals i cells)) cells
   called_some kind' same-kind pins new o end steps same-limit same-now same-pins =
       let place = 74 + signals + 16 * i in
-      let here : Steps kind pins (block_bytes signals i cells) new o = subst (λ b. Steps kind pins b new o) (part_is cells p place is-place) steps in
+      let here : IsStepInBytes kind pins (block_bytes signals i cells) new o = subst (λ b. IsStepInBytes kind pins b new o) (part_is cells p place is-place) steps in
       ap (λ k. shown_after first next k o (put_mid p (p + 16 - p) cells new)) same-kind
       ∙ step_is pins new (put_mid p (p + 16 - p) cells new) o end here same-limit same-now same-pins (written_at cells new p place is-place (ap length steps.stores))
 

@@ -9,7 +9,7 @@ use Rattle.ps_block.specs.Shown.{Shows}
 use Rattle.ps_block.specs.Stepping.{stepped_by}
 
 -- The bytes before load, those after are stored by the step, and the answer shows it.
-pub record Steps (kind : Kind) (pins : Pins) (before after : List ℕ) (outs : Outs) : Type 0 where
+pub record IsStepInBytes (kind : Kind) (pins : Pins) (before after : List ℕ) (outs : Outs) : Type 0 where
   pub kept : Kept
   pub loads : loaded kind before ≡ Some kept
   pub stores : after ≡ stored (stepped_by kind pins kept)

@@ -10,7 +10,7 @@ ghost use Rattle.ps_model.specs.PinBits.{pin_of};
 ghost use Rattle.ps_block.specs.Shown.{shown};
 ghost use Rattle.ps_stackvm.specs.Cells.{block_bytes, with_pc, with_height};
 ghost use Rattle.ps_stackvm.specs.Calling.{after_call, called_as, called_with, pins_in, topmost};
-ghost use Rattle.ps_stackvm.specs.Stepping.{Steps};
+ghost use Rattle.ps_stackvm.specs.Stepping.{IsStepInBytes};
 
 use crate::cells::{set_pc, time, trap};
 use crate::layout::{HEIGHT_AT, INSTANCE_SIZE, SIGNALS_AT, STACK_SIZE};
@@ -159,7 +159,7 @@ fn step_block<B: SafetyBlock>(cells: &mut [u8], bits: u32, site: Site)
 // A step of a block whose sixteen bytes are these: load, step, store. None where they load for no state, and then they stay.
 fn step_here<B: SafetyBlock>(bytes: &mut [u8], pins: Pins) -> Option<Outs>
     requires { length bytes.old ≡ 16 }
-    ensures steps { IfSome result (Steps B.KIND pins bytes.old bytes.new) }
+    ensures steps { IfSome result (IsStepInBytes B.KIND pins bytes.old bytes.new) }
     ensures none { IfNone result (loaded B.KIND bytes.old ≡ None) }
     ensures kept { IfNone result (bytes.new ≡ bytes.old) }
 {

@@ -9,16 +9,16 @@
 
 mod call;
 mod cells;
-pub mod channel;
+mod channel;
 mod fetch;
-pub mod instruction;
+mod instruction;
 mod layout;
 mod pins;
 mod report;
 mod stack;
 #[cfg(test)]
 mod tests;
-pub mod trap;
+mod trap;
 mod turn;
 
 pub use channel::StackChannel;

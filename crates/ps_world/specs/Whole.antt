@@ -1,7 +1,13 @@
 -- A world as its callers see it.
-use Rattle.std.specs.Prelude.{ℕ, Bool, List}
+use Rattle.std.specs.Prelude.{◌≡◌, ℕ, List}
 use Rattle.ps_model.specs.declared.sizes.Sizes.{Sizes}
-use Rattle.ps_machine.specs.Machines.{Workings, machine_of}
+use Rattle.ps_model.specs.Network.{Network}
+use Rattle.ps_model.specs.Sized.{AreSizesOf}
+use Rattle.ps_model.specs.Budgets.{turns_a, turns_b}
+use Rattle.ps_stackvm.specs.Channel.{machine_a}
+use Rattle.ps_stackvm.specs.Code.{code_a}
+use Rattle.ps_eqvm.specs.Channel.{machine_b}
+use Rattle.ps_eqvm.specs.Code.{code_b}
 use Rattle.ps_world.specs.Worlds.{Machines, World_state, Event, world_0}
 use Rattle.ps_world.specs.Steps.{world_step, after}
 
@@ -18,19 +24,27 @@ pub record Whole : Type 0 where
   pub setup : Setup
   pub state : World_state
 
-module _ (a b : Sizes → Workings) where
-  -- the two machines of a world
-  abbrev pub machines_in : Setup → Machines
-  machines_in s = record { a = machine_of (a s.sizes) s.image_a s.budget_a; b = machine_of (b s.sizes) s.image_b s.budget_b }
+-- the machines of channels A and B with what never changes of a world
+abbrev pub machines_in : Setup → Machines
+machines_in s = record { a = machine_a s.sizes s.image_a s.budget_a; b = machine_b s.sizes s.image_b s.budget_b }
 
-  -- the world after an event
-  abbrev pub happened : Event → Whole → Whole
-  happened e w = record { setup = w.setup; state = world_step (machines_in w.setup) e w.state }
+-- the world after an event
+abbrev pub happened : Event → Whole → Whole
+happened e w = record { setup = w.setup; state = world_step (machines_in w.setup) e w.state }
 
-  -- the world after these events
-  abbrev pub after_events : List Event → Whole → Whole
-  after_events es w = record { setup = w.setup; state = after (machines_in w.setup) es w.state }
+-- the world after these events
+abbrev pub after_events : List Event → Whole → Whole
+after_events es w = record { setup = w.setup; state = after (machines_in w.setup) es w.state }
 
-  -- the world at the beginning
-  abbrev pub beginning : Setup → Whole
-  beginning s = record { setup = s; state = world_0 (machines_in s) }
+-- This never changes of an application's world: its sizes, its code as the two compilers make it, and the budgets of its channels.
+pub record IsSetupOf (net : Network) (s : Setup) : Type 0 where
+  pub sizes : AreSizesOf net s.sizes
+  pub image_a : s.image_a ≡ code_a net
+  pub image_b : s.image_b ≡ code_b net
+  pub budget_a : s.budget_a ≡ turns_a net
+  pub budget_b : s.budget_b ≡ turns_b net
+
+-- The world of an application at the beginning.
+pub record IsWorldOf (net : Network) (w : Whole) : Type 0 where
+  pub setup : IsSetupOf net w.setup
+  pub beginning : w.state ≡ world_0 (machines_in w.setup)

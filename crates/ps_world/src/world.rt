@@ -1,29 +1,37 @@
 // The world of two channels, event by event.
 
-ghost use Rattle.std.specs.Prelude.{◌≡◌, ◌≤◌, ◌<◌, ◌^◌, ◌&&◌, ◌||◌, ◌+◌, false, true, is_err, length, nat_lt, None, IfSome, IfNone, []};
+ghost use Rattle.std.specs.Prelude.{◌≡◌, ◌≤◌, ◌<◌, ◌^◌, ◌&&◌, ◌||◌, ◌+◌, false, true, is_err, length, nat_lt, None, IfSome, IfNone, IfOk, []};
+ghost use Rattle.ps_model.specs.Typing.{Accepted};
 ghost use Rattle.ps_machine.specs.Channels.{ended};
 ghost use Rattle.ps_machine.specs.StoredChannel.{region_of};
 ghost use Rattle.ps_world.specs.Worlds.{machine, channel};
 ghost use Rattle.ps_world.specs.Worlds.Event.{Begin, Turn, Spoil, Compare, Restart};
 ghost use Rattle.ps_world.specs.Steps.{both_ended};
 ghost use Rattle.ps_world.specs.Verdicts.{verdict, report_given, judged, cause_of};
-ghost use Rattle.ps_world.specs.Whole.{machines_in, happened, after_events};
+ghost use Rattle.ps_world.specs.Whole.{machines_in, happened, after_events, IsWorldOf};
 ghost use Rattle.ps_world.specs.Orders.{spoils_before, next_turn, turn_events, events_before_compare, at_compare, scan_events};
 ghost use Rattle.ps_seat.specs.Outcomes.{outcome};
 ghost use Rattle.ps_seat.specs.Outcomes.Outcome.{gives};
 
-use ps_machine::ScanMachine;
-use ps_model::channel::{Cause, Channel, Fault, OutOfRegion, Region, Verdict};
+use ps_base::Memory;
+use ps_eqgen::equation_image;
+use ps_eqvm::EquationChannel;
+use ps_model::app::App;
+use ps_model::channel::{Cause, Channel, Fault, ImageSizes, OutOfRegion, Region, Verdict};
 use ps_model::report::{Report, Scan};
+use ps_model::sizes::Sizes;
 use ps_seat::{Failing, Seat};
+use ps_stackgen::stack_image;
+use ps_stackvm::StackChannel;
+use std::alloc::Global;
 use std::marker::Model;
 
 /// Two channels of one application, which make its scans event by event and whose reports are compared.
 /// Contracts see it as a `Whole`. Only `build` takes memory.
 #[derive(Drop)]
-pub struct World<A: ScanMachine, B: ScanMachine> {
-    a: Seat<A>,
-    b: Seat<B>,
+pub struct World {
+    a: Seat<StackChannel>,
+    b: Seat<EquationChannel>,
     last: u32,
     begun: bool,
     tripped: bool,
@@ -31,8 +39,8 @@ pub struct World<A: ScanMachine, B: ScanMachine> {
     other: Report,
 }
 
-impl<A: ScanMachine, B: ScanMachine> Model for World<A, B> {
-    ghost use Rattle.std.specs.Prelude.{◌≡◌, ◌≤◌, ◌<◌, ◌+◌, ◌*◌, ◌^◌, length};
+impl Model for World {
+    ghost use Rattle.std.specs.Prelude.{◌≡◌, ◌≤◌, ◌+◌, ◌*◌, ◌^◌, length};
     ghost use Rattle.ps_world.specs.Whole.{Whole};
 
     ghost Value = { Whole };
@@ -42,7 +50,7 @@ impl<A: ScanMachine, B: ScanMachine> Model for World<A, B> {
         state = record { a = w.a.channel; b = w.b.channel; last = w.last; begun = w.begun; tripped = w.tripped };
     } };
 
-    ghost invariant = { λ w. (w.b.sizes ≡ w.a.sizes) × (w.a.sizes.outputs + 3 * w.a.sizes.instances ≤ 2 ^ 16) × (w.a.budget + w.b.budget + 1 < 2 ^ 32)
+    ghost invariant = { λ w. (w.b.sizes ≡ w.a.sizes) × (w.a.sizes.outputs + 3 * w.a.sizes.instances ≤ 2 ^ 16)
         × (length w.other.outs ≡ w.a.sizes.outputs) × (length w.other.diags ≡ w.a.sizes.instances) };
 }
 
@@ -57,7 +65,40 @@ fn cause_of_failing(channel: Channel, failing: Failing) -> Cause
     }
 }
 
-impl<A: ScanMachine, B: ScanMachine> World<A, B> {
+impl World {
+    /// The world of an application at the beginning: both compilers' code, which it keeps outside every region,
+    /// blank cells, no scan begun and not tripped.
+    pub fn build(alloc: Global, app: &App) -> Result<World, Memory>
+        requires { Accepted app.now }
+        ensures { IfOk result (λ world. IsWorldOf app.now world) }
+    {
+        app.sound();
+        let sizes = Sizes::of(alloc, app)?;
+        let a = Seat::build(alloc, stack_image(alloc, app)?, &sizes, app.turns_a())?;
+        let b = Seat::build(alloc, equation_image(alloc, app)?, &sizes, app.turns_b())?;
+        let other = Report::for_app(alloc, app)?;
+        Ok(World {
+            a,
+            b,
+            last: 0,
+            begun: false,
+            tripped: false,
+            other,
+        })
+    }
+
+    /// The lengths of the code and the cells of both channels, in bytes.
+    pub fn sizes(&self) -> ImageSizes
+        ensures { result ≡ record { a_code = length self.now.state.a.code; a_cells = length self.now.state.a.cells; b_code = length self.now.state.b.code; b_cells = length self.now.state.b.cells } }
+    {
+        ImageSizes {
+            a_code: self.a.region_len(Region::Code),
+            a_cells: self.a.region_len(Region::Cells),
+            b_code: self.b.region_len(Region::Code),
+            b_cells: self.b.region_len(Region::Cells),
+        }
+    }
+
     /// Whether the world is tripped.
     pub fn is_tripped(&self) -> bool
         ensures { result ≡ self.now.state.tripped }
@@ -78,7 +119,7 @@ impl<A: ScanMachine, B: ScanMachine> World<A, B> {
         requires up { self.old.state.tripped ≡ false }
         requires later { self.old.state.last ≤ scan.now.now }
         requires inputs { length scan.now.ins ≡ self.old.setup.sizes.inputs }
-        ensures { self.new ≡ happened A.workings B.workings (Begin scan.entry.now.now scan.entry.now.ins) self.old }
+        ensures { self.new ≡ happened (Begin scan.entry.now.now scan.entry.now.ins) self.old }
     {
         self.a.begin(scan);
         self.b.begin(scan);
@@ -88,7 +129,7 @@ impl<A: ScanMachine, B: ScanMachine> World<A, B> {
 
     /// Whether a channel has ended: its progress is not Running, or it has spent its budget of turns.
     pub fn ended(&self, of: Channel) -> bool
-        ensures { result ≡ ended (machine of (machines_in A.workings B.workings self.now.setup)) (channel of self.now.state) }
+        ensures { result ≡ ended (machine of (machines_in self.now.setup)) (channel of self.now.state) }
     {
         match of {
             Channel::A => self.a.ended(),
@@ -99,8 +140,8 @@ impl<A: ScanMachine, B: ScanMachine> World<A, B> {
     /// One turn of a channel.
     pub fn turn(&mut self, of: Channel)
         requires begun { self.old.state.begun ≡ true }
-        requires goes { ended (machine of (machines_in A.workings B.workings self.old.setup)) (channel of self.old.state) ≡ false }
-        ensures { self.new ≡ happened A.workings B.workings (Turn of) self.old }
+        requires goes { ended (machine of (machines_in self.old.setup)) (channel of self.old.state) ≡ false }
+        ensures { self.new ≡ happened (Turn of) self.old }
     {
         match of {
             Channel::A => self.a.turn(),
@@ -117,7 +158,7 @@ impl<A: ScanMachine, B: ScanMachine> World<A, B> {
         at: u32,
         bytes: &[u8],
     ) -> Result<(), OutOfRegion>
-        ensures bytes { self.new ≡ happened A.workings B.workings (Spoil of region at bytes.now) self.old }
+        ensures bytes { self.new ≡ happened (Spoil of region at bytes.now) self.old }
     {
         match of {
             Channel::A => self.a.spoil(region, at, bytes),
@@ -128,12 +169,12 @@ impl<A: ScanMachine, B: ScanMachine> World<A, B> {
     /// Closes the scan, or answers Down in a tripped world. `into`, a report of the application's sizes, becomes the
     /// report that is released, and one with every output, Ready and Error FALSE and every code 0 with Tripped and Down.
     pub fn compare(&mut self, into: &mut Report) -> Verdict
-        requires closes { (self.old.state.tripped || (self.old.state.begun && both_ended (machines_in A.workings B.workings self.old.setup) self.old.state)) ≡ true }
+        requires closes { (self.old.state.tripped || (self.old.state.begun && both_ended (machines_in self.old.setup) self.old.state)) ≡ true }
         requires outs { length into.old.outs ≡ self.old.setup.sizes.outputs }
         requires diags { length into.old.diags ≡ self.old.setup.sizes.instances }
-        ensures event { self.new ≡ happened A.workings B.workings Compare self.old }
-        ensures verdict { result ≡ verdict (machines_in A.workings B.workings self.old.setup) self.old.state }
-        ensures report { into.new ≡ report_given (machines_in A.workings B.workings self.old.setup) self.old.setup.sizes.outputs self.old.setup.sizes.instances self.old.state }
+        ensures event { self.new ≡ happened Compare self.old }
+        ensures verdict { result ≡ verdict (machines_in self.old.setup) self.old.state }
+        ensures report { into.new ≡ report_given (machines_in self.old.setup) self.old.setup.sizes.outputs self.old.setup.sizes.instances self.old.state }
     {
         self.begun = false;
         let verdict = if self.tripped {
@@ -153,8 +194,8 @@ impl<A: ScanMachine, B: ScanMachine> World<A, B> {
         requires outs { length into.old.outs ≡ self.old.setup.sizes.outputs }
         requires diags { length into.old.diags ≡ self.old.setup.sizes.instances }
         ensures same { self.new ≡ self.old }
-        ensures verdict { result ≡ judged (outcome (machines_in A.workings B.workings self.old.setup).a self.old.state.a.cells) (outcome (machines_in A.workings B.workings self.old.setup).b self.old.state.b.cells) }
-        ensures report { result ≡ Verdict.Released → outcome (machines_in A.workings B.workings self.old.setup).a self.old.state.a.cells ≡ gives into.new }
+        ensures verdict { result ≡ judged (outcome (machines_in self.old.setup).a self.old.state.a.cells) (outcome (machines_in self.old.setup).b self.old.state.b.cells) }
+        ensures report { result ≡ Verdict.Released → outcome (machines_in self.old.setup).a self.old.state.a.cells ≡ gives into.new }
         ensures outs { length into.new.outs ≡ length into.old.outs }
         ensures diags { length into.new.diags ≡ length into.old.diags }
     {
@@ -173,7 +214,7 @@ impl<A: ScanMachine, B: ScanMachine> World<A, B> {
     /// Both channels begin anew, from code as compiled and blank cells.
     pub fn restart(&mut self)
         requires { self.old.state.begun ≡ false }
-        ensures { self.new ≡ happened A.workings B.workings Restart self.old }
+        ensures { self.new ≡ happened Restart self.old }
     {
         self.a.restart();
         self.b.restart();
@@ -190,9 +231,9 @@ impl<A: ScanMachine, B: ScanMachine> World<A, B> {
         requires inputs { length scan.now.ins ≡ self.old.setup.sizes.inputs }
         requires outs { length into.old.outs ≡ self.old.setup.sizes.outputs }
         requires diags { length into.old.diags ≡ self.old.setup.sizes.instances }
-        ensures events { self.new ≡ after_events A.workings B.workings (scan_events (machines_in A.workings B.workings self.old.setup) faults.now scan.entry.now.now scan.entry.now.ins self.old.state) self.old }
-        ensures verdict { result ≡ verdict (machines_in A.workings B.workings self.old.setup) (at_compare (machines_in A.workings B.workings self.old.setup) faults.now scan.entry.now.now scan.entry.now.ins self.old.state) }
-        ensures report { into.new ≡ report_given (machines_in A.workings B.workings self.old.setup) self.old.setup.sizes.outputs self.old.setup.sizes.instances (at_compare (machines_in A.workings B.workings self.old.setup) faults.now scan.entry.now.now scan.entry.now.ins self.old.state) }
+        ensures events { self.new ≡ after_events (scan_events (machines_in self.old.setup) faults.now scan.entry.now.now scan.entry.now.ins self.old.state) self.old }
+        ensures verdict { result ≡ verdict (machines_in self.old.setup) (at_compare (machines_in self.old.setup) faults.now scan.entry.now.now scan.entry.now.ins self.old.state) }
+        ensures report { into.new ≡ report_given (machines_in self.old.setup) self.old.setup.sizes.outputs self.old.setup.sizes.instances (at_compare (machines_in self.old.setup) faults.now scan.entry.now.now scan.entry.now.ins self.old.state) }
     {
         self.run_scan(scan, faults);
         self.compare(into)
@@ -203,8 +244,8 @@ impl<A: ScanMachine, B: ScanMachine> World<A, B> {
         requires rest { self.old.state.begun ≡ false }
         requires later { self.old.state.last ≤ scan.now.now }
         requires inputs { length scan.now.ins ≡ self.old.setup.sizes.inputs }
-        ensures events { self.new ≡ after_events A.workings B.workings (events_before_compare (machines_in A.workings B.workings self.old.setup) faults.now scan.entry.now.now scan.entry.now.ins self.old.state) self.old }
-        ensures closes { (self.new.state.tripped || (self.new.state.begun && both_ended (machines_in A.workings B.workings self.old.setup) self.new.state)) ≡ true }
+        ensures events { self.new ≡ after_events (events_before_compare (machines_in self.old.setup) faults.now scan.entry.now.now scan.entry.now.ins self.old.state) self.old }
+        ensures closes { (self.new.state.tripped || (self.new.state.begun && both_ended (machines_in self.old.setup) self.new.state)) ≡ true }
     {
         if self.tripped {
             return;
@@ -222,9 +263,9 @@ impl<A: ScanMachine, B: ScanMachine> World<A, B> {
         requires up { self.old.state.tripped ≡ false }
         requires later { self.old.state.last ≤ scan.now.now }
         requires inputs { length scan.now.ins ≡ self.old.setup.sizes.inputs }
-        ensures events { self.new ≡ after_events A.workings B.workings (events_before_compare (machines_in A.workings B.workings self.old.setup) [] scan.entry.now.now scan.entry.now.ins self.old.state) self.old }
+        ensures events { self.new ≡ after_events (events_before_compare (machines_in self.old.setup) [] scan.entry.now.now scan.entry.now.ins self.old.state) self.old }
         ensures begun { self.new.state.begun ≡ true }
-        ensures over { both_ended (machines_in A.workings B.workings self.old.setup) self.new.state ≡ true }
+        ensures over { both_ended (machines_in self.old.setup) self.new.state ≡ true }
     {
         self.begin(scan);
         self.finish_both();
@@ -236,9 +277,9 @@ impl<A: ScanMachine, B: ScanMachine> World<A, B> {
         requires up { self.old.state.tripped ≡ false }
         requires later { self.old.state.last ≤ scan.now.now }
         requires inputs { length scan.now.ins ≡ self.old.setup.sizes.inputs }
-        ensures events { self.new ≡ after_events A.workings B.workings (events_before_compare (machines_in A.workings B.workings self.old.setup) faults.now scan.entry.now.now scan.entry.now.ins self.old.state) self.old }
+        ensures events { self.new ≡ after_events (events_before_compare (machines_in self.old.setup) faults.now scan.entry.now.now scan.entry.now.ins self.old.state) self.old }
         ensures begun { self.new.state.begun ≡ true }
-        ensures over { both_ended (machines_in A.workings B.workings self.old.setup) self.new.state ≡ true }
+        ensures over { both_ended (machines_in self.old.setup) self.new.state ≡ true }
     {
         self.strike(faults, 0);
         self.begin(scan);
@@ -250,20 +291,20 @@ impl<A: ScanMachine, B: ScanMachine> World<A, B> {
         requires begun { self.old.state.begun ≡ true }
         requires none_a { self.old.state.a.turns ≡ 0 }
         requires none_b { self.old.state.b.turns ≡ 0 }
-        ensures events { self.new ≡ after_events A.workings B.workings (turn_events (machines_in A.workings B.workings self.old.setup) [] (self.old.setup.budget_a + self.old.setup.budget_b) 0 None self.old.state) self.old }
+        ensures events { self.new ≡ after_events (turn_events (machines_in self.old.setup) [] (self.old.setup.budget_a + self.old.setup.budget_b) 0 None self.old.state) self.old }
         ensures begun { self.new.state.begun ≡ true }
-        ensures over { both_ended (machines_in A.workings B.workings self.old.setup) self.new.state ≡ true }
+        ensures over { both_ended (machines_in self.old.setup) self.new.state ≡ true }
     {
         self.a.finish();
         self.b.finish();
     }
 
     // The Spoils of these faults that come before a turn. One out of its region changes nothing.
-    fn strike(&mut self, faults: &[Fault], turn: u32)
-        ensures { self.new ≡ after_events A.workings B.workings (spoils_before turn faults.now) self.old }
+    fn strike(&mut self, faults: &[Fault], turn: u64)
+        ensures { self.new ≡ after_events (spoils_before turn faults.now) self.old }
     {
         for fault in faults {
-            if fault.turn == turn {
+            if u64::from(fault.turn) == turn {
                 let _changed = self.spoil(fault.channel, fault.region, fault.at, fault.bytes.as_slice());
             }
         }
@@ -271,8 +312,8 @@ impl<A: ScanMachine, B: ScanMachine> World<A, B> {
 
     // The channel that has the next turn, and None exactly where both have ended.
     fn next_turn(&self, last: Option<Channel>) -> Option<Channel>
-        ensures some { IfSome result (λ of. (of ≡ next_turn (machines_in A.workings B.workings self.now.setup) last self.now.state) × (ended (machine of (machines_in A.workings B.workings self.now.setup)) (channel of self.now.state) ≡ false) × (both_ended (machines_in A.workings B.workings self.now.setup) self.now.state ≡ false)) }
-        ensures none { IfNone result (both_ended (machines_in A.workings B.workings self.now.setup) self.now.state ≡ true) }
+        ensures some { IfSome result (λ of. (of ≡ next_turn (machines_in self.now.setup) last self.now.state) × (ended (machine of (machines_in self.now.setup)) (channel of self.now.state) ≡ false) × (both_ended (machines_in self.now.setup) self.now.state ≡ false)) }
+        ensures none { IfNone result (both_ended (machines_in self.now.setup) self.now.state ≡ true) }
     {
         let (first, second) = match last {
             Some(Channel::A) => (Channel::B, Channel::A),
@@ -292,11 +333,11 @@ impl<A: ScanMachine, B: ScanMachine> World<A, B> {
         requires begun { self.old.state.begun ≡ true }
         requires none_a { self.old.state.a.turns ≡ 0 }
         requires none_b { self.old.state.b.turns ≡ 0 }
-        ensures events { self.new ≡ after_events A.workings B.workings (turn_events (machines_in A.workings B.workings self.old.setup) faults.now (self.old.setup.budget_a + self.old.setup.budget_b) 0 None self.old.state) self.old }
+        ensures events { self.new ≡ after_events (turn_events (machines_in self.old.setup) faults.now (self.old.setup.budget_a + self.old.setup.budget_b) 0 None self.old.state) self.old }
         ensures begun { self.new.state.begun ≡ true }
-        ensures over { both_ended (machines_in A.workings B.workings self.old.setup) self.new.state ≡ true }
+        ensures over { both_ended (machines_in self.old.setup) self.new.state ≡ true }
     {
-        let most = self.a.budget() + self.b.budget();
+        let most = u64::from(self.a.budget()) + u64::from(self.b.budget());
         let mut last = None;
         for done in 0..most {
             self.strike(faults, done + 1);

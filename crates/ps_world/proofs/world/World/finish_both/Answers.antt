@@ -4,30 +4,28 @@ use Rattle.ps_machine.specs.Machines.{machine_of, turned}
 use Rattle.ps_machine.specs.Channels.{after_turn}
 use Rattle.ps_seat.specs.Seats.{Seat_state, machine_in}
 use Rattle.ps_seat.proofs.Turning.{finished_seat, each_turn_goes, last_turn_ends}
+use Rattle.ps_stackvm.specs.Channel.{workings_a}
+use Rattle.ps_eqvm.specs.Channel.{workings_b}
 use Rattle.ps_world.specs.Whole.{Whole, machines_in, after_events}
 use Rattle.ps_world.specs.Orders.{turn_events}
 use Rattle.ps_world.proofs.Quick.{HasLeft, left_within, turns_finish}
 use Rattle.ps_world.proofs.world.World.finish_both.Goals as goal
 
 pub invariant_of-self : goal.invariant_of-self
-invariant_of-self g c =
-    let a = finished_seat g.A.ScanMachine.workings c.self.inside.a c.finish.new.self c.finish.ensures in
-    let b = finished_seat g.B.ScanMachine.workings c.self.inside.b c.finish-2.new.self c.finish-2.ensures in
+invariant_of-self c =
+    let a = finished_seat workings_a c.self.inside.a c.finish.new.self c.finish.ensures in
+    let b = finished_seat workings_b c.self.inside.b c.finish-2.new.self c.finish-2.ensures in
     let sizes_a : c.finish.new.self.sizes ≡ c.self.inside.a.sizes = ap (λ (s : Seat_state). s.sizes) a in
     let sizes_b : c.finish-2.new.self.sizes ≡ c.self.inside.b.sizes = ap (λ (s : Seat_state). s.sizes) b in
-    let budget_a : c.finish.new.self.budget ≡ c.self.inside.a.budget = ap (λ (s : Seat_state). s.budget) a in
-    let budget_b : c.finish-2.new.self.budget ≡ c.self.inside.b.budget = ap (λ (s : Seat_state). s.budget) b in
-    let few = c.self.invariant.2 in
     (sizes_b ∙ c.self.invariant.0 ∙ sym sizes_a,
     subst (λ (z : Sizes). z.outputs + 3 * z.instances ≤ 2 ^ 16) (sym sizes_a) c.self.invariant.1,
-    omega arith,
-    c.self.invariant.3 ∙ ap (λ (z : Sizes). z.outputs) (sym sizes_a),
-    c.self.invariant.4 ∙ ap (λ (z : Sizes). z.instances) (sym sizes_a))
+    c.self.invariant.2 ∙ ap (λ (z : Sizes). z.outputs) (sym sizes_a),
+    c.self.invariant.3 ∙ ap (λ (z : Sizes). z.instances) (sym sizes_a))
 
 pub returns-clause-events : goal.returns-clause-events
-returns-clause-events g c =
-    let wa = g.A.ScanMachine.workings in
-    let wb = g.B.ScanMachine.workings in
+returns-clause-events c =
+    let wa = workings_a in
+    let wb = workings_b in
     let a : Seat_state = c.self.inside.a in
     let b : Seat_state = c.self.inside.b in
     let ka = c.finish.ensures.turns in
@@ -37,7 +35,7 @@ returns-clause-events g c =
       state = record { a = s.channel; b = t.channel; last = c.self.inside.last; begun = c.self.inside.begun; tripped = c.self.inside.tripped };
     } in
     let w = seen a b in
-    let m = machines_in wa wb w.setup in
+    let m = machines_in w.setup in
     let left_a : HasLeft m.a a.channel ka = record { each = each_turn_goes wa a c.finish.new.self c.finish.ensures; over = last_turn_ends wa a c.finish.new.self c.finish.ensures } in
     let own_b = machine_in wb b in
     let left_b : HasLeft m.b b.channel kb =
@@ -50,6 +48,6 @@ returns-clause-events g c =
     let done_a = finished_seat wa a c.finish.new.self c.finish.ensures in
     let done_b = finished_seat wb b c.finish-2.new.self c.finish-2.ensures
         ∙ ap (λ z. record { sizes = b.sizes; image = b.image; budget = b.budget; channel = turned (after_turn (machine_of (wb z) b.image b.budget)) kb b.channel }) c.self.invariant.0 in
-    let there : seen c.finish.new.self c.finish-2.new.self ≡ after_events wa wb (turn_events m [] (m.a.budget + m.b.budget) 0 None w.state) w =
+    let there : seen c.finish.new.self c.finish-2.new.self ≡ after_events (turn_events m [] (m.a.budget + m.b.budget) 0 None w.state) w =
     (λ i. seen (done_a i) (done_b i)) ∙ ap (λ x. record { setup = w.setup; state = x }) (sym (turns_finish m (m.a.budget + m.b.budget) 0 None w.state ka kb left_a left_b (omega arith))) in
-    subst (λ (v : Whole). seen c.finish.new.self c.finish-2.new.self ≡ after_events wa wb (turn_events (machines_in wa wb v.setup) [] (v.setup.budget_a + v.setup.budget_b) 0 None v.state) v) c.self.view_is there
+    subst (λ (v : Whole). seen c.finish.new.self c.finish-2.new.self ≡ after_events (turn_events (machines_in v.setup) [] (v.setup.budget_a + v.setup.budget_b) 0 None v.state) v) c.self.view_is there

@@ -6,10 +6,10 @@ use Rattle.ps_world.proofs.Turning.{after_append}
 use Rattle.ps_world.proofs.world.World.make_scan.Goals as goal
 
 pub returns-clause-events : goal.returns-clause-events
-returns-clause-events g c =
-    let m = machines_in g.A.ScanMachine.workings g.B.ScanMachine.workings c.args.self.now.setup in
+returns-clause-events c =
+    let m = machines_in c.args.self.now.setup in
     let x = c.args.self.now.state in
     c.compare.ensures.event
-    ∙ ap (λ (w : Whole). happened g.A.ScanMachine.workings g.B.ScanMachine.workings Compare w) c.run_scan.ensures.events
+    ∙ ap (λ (w : Whole). happened Compare w) c.run_scan.ensures.events
     ∙ ap (λ (z : World_state). record { setup = c.args.self.now.setup; state = z })
     (sym (after_append m (events_before_compare m c.args.faults.now c.args.scan.now.now c.args.scan.now.ins x) (Compare ∷ []) x))

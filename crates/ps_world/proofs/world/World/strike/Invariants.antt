@@ -5,7 +5,5 @@ use Rattle.ps_world.proofs.world.World.strike.Given as goal
 
 -- the faults that are left lead on to the world that all of them lead to
 abbrev pub invariant-loop-fault : goal.invariant-loop-fault
-invariant-loop-fault g l =
-    let a = g.A.ScanMachine.workings in
-    let b = g.B.ScanMachine.workings in
-    after_events a b (spoils_before l.turn (drop l.fault-index l.faults)) l.self ≡ after_events a b (spoils_before l.turn l.faults) l.initial.self
+invariant-loop-fault l =
+    after_events (spoils_before l.turn (drop l.fault-index l.faults)) l.self ≡ after_events (spoils_before l.turn l.faults) l.initial.self

@@ -8,20 +8,20 @@ use Rattle.ps_world.proofs.Turning.{struck_alike, turns_end, turns_go, all_spent
 use Rattle.ps_world.proofs.world.World.take_turns.Goals as goal
 
 pub returns-in-None-clause-events : goal.returns-in-None-clause-events
-returns-in-None-clause-events g c =
-    let at : Setup → Machines = machines_in g.A.ScanMachine.workings g.B.ScanMachine.workings in
+returns-in-None-clause-events c =
+    let at : Setup → Machines = machines_in in
     let m = at c.args.self.now.setup in
     let x = c.loop-done.self.state in
     let faults = c.args.faults.now in
     let spoils = spoils_before (c.loop-done.done + 1) faults in
-    let most = c.budget.result + c.budget-2.result in
+    let most = c.from.result + c.from-2.result in
     let left = most - (c.loop-done.done + 1) in
     let struck : c.strike.new.self ≡ record { setup = c.args.self.now.setup; state = after m spoils x } =
     c.strike.ensures ∙ ap (λ (s : Setup). record { setup = s; state = after (at s) spoils x }) c.loop-done.invariant.setup in
     let over : both_ended m (after m spoils x) ≡ true = subst (λ (w : Whole). both_ended (at w.setup) w.state ≡ true) struck c.in-None.ensures.none in
     let one : suc left ≡ most - c.loop-done.done = omega (arith, c.loop-done-test.true) in
     let whole : most ≡ c.args.self.now.setup.budget_a + c.args.self.now.setup.budget_b =
-    (λ i. c.budget.ensures i + c.budget-2.ensures i) ∙ ap (λ (w : Whole). w.setup.budget_a + w.setup.budget_b) c.self.view_is in
+    (λ i. c.from.ensures i + c.from-2.ensures i) ∙ (λ i. c.budget.ensures i + c.budget-2.ensures i) ∙ ap (λ (w : Whole). w.setup.budget_a + w.setup.budget_b) c.self.view_is in
     struck ∙ ap (λ (y : World_state). record { setup = c.args.self.now.setup; state = y })
     (sym (turns_end m faults left c.loop-done.done c.loop-done.last x over)
     ∙ ap (λ n. after m (turn_events m faults n c.loop-done.done c.loop-done.last x) x) one
@@ -29,15 +29,15 @@ returns-in-None-clause-events g c =
     ∙ ap (λ n. after m (turn_events m faults n 0 None c.args.self.now.state) c.args.self.now.state) whole)
 
 pub turn-requires-clause-begun : goal.turn-requires-clause-begun
-turn-requires-clause-begun g c =
-    let at : Setup → Machines = machines_in g.A.ScanMachine.workings g.B.ScanMachine.workings in
+turn-requires-clause-begun c =
+    let at : Setup → Machines = machines_in in
     let x = c.loop-done.self.state in
     ap (λ (w : Whole). w.state.begun) c.strike.ensures
     ∙ (struck_alike (at c.loop-done.self.setup) (c.loop-done.done + 1) c.args.faults.now x).begun ∙ c.loop-done.invariant.begun
 
 pub loop-done-preserved : goal.loop-done-preserved
-loop-done-preserved g c =
-    let at : Setup → Machines = machines_in g.A.ScanMachine.workings g.B.ScanMachine.workings in
+loop-done-preserved c =
+    let at : Setup → Machines = machines_in in
     let m = at c.args.self.now.setup in
     let x = c.loop-done.self.state in
     let done = c.loop-done.done in
@@ -45,12 +45,12 @@ loop-done-preserved g c =
     let of = c.in-Some.of in
     let spoils = spoils_before (done + 1) faults in
     let y = after m spoils x in
-    let most = c.budget.result + c.budget-2.result in
+    let most = c.from.result + c.from-2.result in
     let left = most - (done + 1) in
     let struck : c.strike.new.self ≡ record { setup = c.args.self.now.setup; state = y } =
     c.strike.ensures ∙ ap (λ (s : Setup). record { setup = s; state = after (at s) spoils x }) c.loop-done.invariant.setup in
     let turned : c.turn.new.self ≡ record { setup = c.args.self.now.setup; state = world_step m (Turn of) y } =
-    c.turn.ensures ∙ ap (λ (w : Whole). happened g.A.ScanMachine.workings g.B.ScanMachine.workings (Turn of) w) struck in
+    c.turn.ensures ∙ ap (λ (w : Whole). happened (Turn of) w) struck in
     let some = c.in-Some.ensures.some in
     let next : of ≡ next_turn m c.loop-done.last y = subst (λ (w : Whole). of ≡ next_turn (at w.setup) c.loop-done.last w.state) struck some.0 in
     let goes : ended (machine of m) (channel of y) ≡ false = subst (λ (w : Whole). ended (machine of (at w.setup)) (channel of w.state) ≡ false) struck some.1 in
@@ -77,12 +77,12 @@ loop-done-preserved g c =
     }
 
 pub returns-clause-over : goal.returns-clause-over
-returns-clause-over g c =
-    let at : Setup → Machines = machines_in g.A.ScanMachine.workings g.B.ScanMachine.workings in
+returns-clause-over c =
+    let at : Setup → Machines = machines_in in
     let m = at c.args.self.now.setup in
     let x = c.loop-done.self.state in
     let faults = c.args.faults.now in
-    let most = c.budget.result + c.budget-2.result in
+    let most = c.from.result + c.from-2.result in
     let spoils = spoils_before (most + 1) faults in
     let struck : c.strike-2.new.self ≡ record { setup = c.args.self.now.setup; state = after m spoils x } =
     c.strike-2.ensures ∙ ap (λ (s : Setup). record { setup = s; state = after (at s) spoils x }) c.loop-done.invariant.setup in
@@ -93,18 +93,18 @@ returns-clause-over g c =
     let few_b = c.loop-done.invariant.few_b in
     let count = c.loop-done.invariant.count in
     let whole : most ≡ m.a.budget + m.b.budget =
-    (λ i. c.budget.ensures i + c.budget-2.ensures i) ∙ ap (λ (w : Whole). w.setup.budget_a + w.setup.budget_b) c.self.view_is in
+    (λ i. c.from.ensures i + c.from-2.ensures i) ∙ (λ i. c.budget.ensures i + c.budget-2.ensures i) ∙ ap (λ (w : Whole). w.setup.budget_a + w.setup.budget_b) c.self.view_is in
     let ended_now = c.loop-done-test.false in
     ap (λ (w : Whole). both_ended m w.state) struck ∙ all_spent m (after m spoils x) (omega arith) (omega arith) (omega arith)
 
 pub returns-in-None-clause-begun : goal.returns-in-None-clause-begun
-returns-in-None-clause-begun g c =
-    let m = machines_in g.A.ScanMachine.workings g.B.ScanMachine.workings c.loop-done.self.setup in
+returns-in-None-clause-begun c =
+    let m = machines_in c.loop-done.self.setup in
     ap (λ (w : Whole). w.state.begun) c.strike.ensures
     ∙ (struck_alike m (c.loop-done.done + 1) c.args.faults.now c.loop-done.self.state).begun ∙ c.loop-done.invariant.begun
 
 pub returns-clause-begun : goal.returns-clause-begun
-returns-clause-begun g c =
-    let m = machines_in g.A.ScanMachine.workings g.B.ScanMachine.workings c.loop-done.self.setup in
+returns-clause-begun c =
+    let m = machines_in c.loop-done.self.setup in
     ap (λ (w : Whole). w.state.begun) c.strike-2.ensures
-    ∙ (struck_alike m (c.budget.result + c.budget-2.result + 1) c.args.faults.now c.loop-done.self.state).begun ∙ c.loop-done.invariant.begun
+    ∙ (struck_alike m (c.from.result + c.from-2.result + 1) c.args.faults.now c.loop-done.self.state).begun ∙ c.loop-done.invariant.begun

@@ -6,8 +6,8 @@ use Rattle.ps_world.proofs.world.World.take_turns.Given as goal
 
 -- the turns that are left lead on to the world that all of them lead to, and they are as many as the budgets have left
 abbrev pub invariant-loop-done : goal.invariant-loop-done
-invariant-loop-done g l =
-    let m = machines_in g.A.ScanMachine.workings g.B.ScanMachine.workings l.initial.self.setup in
+invariant-loop-done l =
+    let m = machines_in l.initial.self.setup in
     record {
       setup : l.self.setup ≡ l.initial.self.setup;
       same : after m (turn_events m l.faults (l.most - l.done) l.done l.last l.self.state) l.self.state ≡ after m (turn_events m l.faults l.most 0 l.initial.last l.initial.self.state) l.initial.self.state;

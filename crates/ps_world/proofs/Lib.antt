@@ -6,3 +6,4 @@ pub mod Down
 pub mod Bounded
 pub mod Quick
 pub mod Turning
+pub mod Built

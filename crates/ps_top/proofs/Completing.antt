@@ -1,16 +1,19 @@
--- A call that no fault cut short says all.
-use Rattle.std.proofs.Common.{◌≡◌, ◌⊎◌, ℕ, List, Option, refl, sym, subst, inl, inr, ⊎_elim, arith}
+-- A call that no fault cut short says all, and one that asks for a name that is not held says nothing.
+use Rattle.std.proofs.Common.{◌≡◌, ◌⊎◌, ℕ, Bool, List, Option, refl, subst, inl, inr, ⊎_elim, arith}
+use Rattle.ps_words.specs.Command.{Command, command_of, names_of}
 use Rattle.ps_top.specs.Asking.{Answer, Asking, IsAnswer, AsksFor}
-use Rattle.ps_top.specs.Meets.{IsCut, AppendsAll, Meets}
-use Rattle.ps_top.specs.Program.{Command, command_of, said, text}
+use Rattle.ps_top.specs.Calls.{FilesSeen, OutputSeen, Answers}
+use Rattle.ps_top.specs.Meets.{IsCut, AppendsNothing, AppendsAll, Meets}
+use Rattle.ps_top.specs.Program.{said, text}
 use Rattle.ps_top.specs.declared.Status.{Status}
 use Rattle.ps_top.specs.declared.Status.TheVariants.{Done, Refused, Usage, BadInput, Tripped, ReadFault, WriteFault, Memory}
+use Rattle.ps_top.specs.declared.left.Left.{Left}
 
 -- the words ask for a command
-pub asked_as : (words : List (List ℕ)) (command : Command) (held : List ℕ → Option (List ℕ)) (rose : List ℕ → Type 0) (before after : List ℕ) (status : Status) →
-    command_of words ≡ command → Meets (said command) held rose before after status → Meets (text words) held rose before after status
-asked_as words command held rose before after status is meets =
-    subst (λ (o : Command). Meets (said o) held rose before after status) (sym is) meets
+pub words_answer : (words : List (List ℕ)) (command : Command) (files files' : FilesSeen) (out out' : OutputSeen) (left : Left) (status : Status) → command ≡ command_of words →
+    Answers (said command) (names_of command) files files' out out' left status → Answers (text words) (names_of (command_of words)) files files' out out' left status
+words_answer words command files files' out out' left status is answers =
+    subst (λ (c : Command). Answers (said c) (names_of c) files files' out out' left status) is answers
 
 -- a call that was cut short, or was not
 cut_or_not : (status : Status) → IsCut status ⊎ (¬ IsCut status)
@@ -23,30 +26,30 @@ cut_or_not ReadFault = inl (inl refl)
 cut_or_not WriteFault = inl (inr (inl refl))
 cut_or_not Memory = inl (inr (inr refl))
 
-pub all_said : (asking : Asking) (held : List ℕ → Option (List ℕ)) (rose : List ℕ → Type 0) (before after : List ℕ) (status : Status) →
-    Meets asking held rose before after status → ((name : List ℕ) → AsksFor asking held name → ¬ (rose name)) → ¬ (status ≡ WriteFault) →
-    (status ≡ Memory) ⊎ AppendsAll (IsAnswer asking held) before after status
-all_said asking held rose before after status meets no_read no_write =
-    elim (cut_or_not status) [
-      | inl cut ↦ elim cut [
-        | inl read ↦ absurd (let asked = meets.read_fault read in no_read asked.0 asked.1 asked.2)
-        | inr more ↦ elim more [ inl write ↦ absurd (no_write write) | inr memory ↦ inl memory ]
-      ]
-      | inr not_cut ↦ inr (meets.gives.whole not_cut)
-    ]
-
--- where there is no answer nothing is written
-pub nothing_said : (asking : Asking) (held : List ℕ → Option (List ℕ)) (rose : List ℕ → Type 0) (before after : List ℕ) (status : Status) →
-    Meets asking held rose before after status → ((answer : Answer) → ¬ (IsAnswer asking held answer)) →
-    (after ≡ before) × ((status ≡ ReadFault) ⊎ (status ≡ Memory))
-nothing_said asking held rose before after status meets none =
-    elim (cut_or_not status) [
-      | inl cut ↦ elim cut [
-        | inl read ↦ (⊎_elim (λ same. same) (λ part. absurd (none part.answer part.right)) (meets.gives.unread read), inl read)
-        | inr more ↦ elim more [
-          | inl write ↦ absurd (let part = meets.gives.stopped write in none part.answer part.right)
-          | inr memory ↦ (meets.gives.memory memory, inr memory)
+module _ (asking : Asking) (held : List ℕ → Option (List ℕ)) (rose : List ℕ → Type 0) (tells : Bool) (before after : List ℕ) (status : Status)
+    (meets : Meets asking held rose tells before after status) where
+  -- where nothing failed all is said, or memory is wanting
+  pub all_said : ((name : List ℕ) → AsksFor asking held name → ¬ (rose name)) → ¬ (status ≡ WriteFault) →
+      (status ≡ Memory) ⊎ AppendsAll (IsAnswer asking held) tells before after status
+  all_said no_read no_write =
+      elim (cut_or_not status) [
+        | inl cut ↦ elim cut [
+          | inl read ↦ absurd (let asked = meets.read_fault read in no_read asked.0 asked.1 asked.2)
+          | inr more ↦ elim more [ inl write ↦ absurd (no_write write) | inr memory ↦ inl memory ]
         ]
+        | inr not_cut ↦ inr (meets.gives.whole not_cut)
       ]
-      | inr not_cut ↦ absurd (let all = meets.gives.whole not_cut in none all.answer all.right)
-    ]
+
+  -- where there is no answer nothing is written, and the status tells of a failed read or of want of memory
+  pub nothing_said : ((answer : Answer) → ¬ (IsAnswer asking held answer)) → AppendsNothing tells before after × ((status ≡ ReadFault) ⊎ (status ≡ Memory))
+  nothing_said none =
+      elim (cut_or_not status) [
+        | inl cut ↦ elim cut [
+          | inl read ↦ (⊎_elim (λ same. same) (λ part. absurd (none part.answer part.right)) (meets.gives.unread read), inl read)
+          | inr more ↦ elim more [
+            | inl write ↦ absurd (let part = meets.gives.stopped write in none part.answer part.right)
+            | inr memory ↦ (meets.gives.memory memory, inr memory)
+          ]
+        ]
+        | inr not_cut ↦ absurd (let all = meets.gives.whole not_cut in none all.answer all.right)
+      ]

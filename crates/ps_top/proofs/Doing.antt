@@ -2,14 +2,13 @@
 use Rattle.std.proofs.Common.{◌≡◌, ◌∙◌, ◌++◌, [], ℕ, List, Bool, IsTrue, Result, Ok, Err, take, refl, sym, ap, subst, append_assoc, append-nil}
 use Rattle.ps_base.specs.declared.failing.Refusal.{Refusal}
 use Rattle.ps_model.specs.Meaning.{Item}
-use Rattle.ps_outside.specs.declared.sink.Stopped.{Stopped}
 use Rattle.ps_trace.specs.Scans.{Scans}
 use Rattle.ps_trace.specs.Reading.{Begins, only_refused}
 use Rattle.ps_trace.specs.declared.trace.TraceStop.{TraceStop}
 use Rattle.ps_trace.specs.declared.trace.TraceStop.TheVariants.{Refused as IsRefused, Fault as IsFault}
 use Rattle.ps_top.specs.Outcomes.{Outcome}
 use Rattle.ps_top.specs.Cutting.{cut_of}
-use Rattle.ps_top.specs.Doing.{IsDue, time_behind, no_items, DoesItem, Did, all, refused, unread, unwritten, next, DoesItems}
+use Rattle.ps_top.specs.Doing.{IsDue, time_behind, no_items, DoesItem, Did, all, refused, unread, refused_item, unwritten, next, DoesItems}
 use Rattle.ps_top.specs.declared.items.Cut.{Cut}
 use Rattle.ps_top.specs.declared.items.Cut.TheVariants.{Refused, Unread, Unwritten}
 
@@ -49,28 +48,34 @@ module _ {P T V : Type 0} (performs : P → Item → Outcome V → P → Type 0)
   }
 
   -- the rest was done
-  pub led : (more : List ℕ) (ended : Result (Unit {0}) Cut) (p'' : P) (t'' : T) (after : List ℕ) → Did performs said takes time' p' t' rest more ended p'' t'' →
+  pub rest_done : (more : List ℕ) (ended : Result (Unit {0}) Cut) (p'' : P) (t'' : T) (after : List ℕ) → Did performs said takes time' p' t' rest more ended p'' t'' →
       (IsTrue tells → after ≡ now ++ more) → DoesItems performs said takes time p t items tells before after ended p'' t''
-  led more ended p'' t'' after did wrote = record {
+  rest_done more ended p'' t'' after did wrote = record {
     bytes = leads.bytes ++ more;
     did = leads.ends more ended p'' t'' did;
     written = λ on. wrote on ∙ ap (λ (bytes : List ℕ). bytes ++ more) (leads.written on) ∙ append_assoc before leads.bytes more;
   }
 
-  -- the write of what is said of an item stopped
-  pub led_unwritten : (stop : Stopped) (tells' : Bool) (item : Item) (rest' : Scans) (p'' : P) (t'' : T) (after : List ℕ) → tells' ≡ tells → Begins rest item rest' → IsDue time' item →
-      DoesItem performs said takes item p' p'' t' t'' tells' now after (Err stop) → DoesItems performs said takes time p t items tells before after (Err Unwritten) p'' t''
-  led_unwritten stop tells' item rest' p'' t'' after telling begins due does =
-      led (take stop.taken (said does.outcome)) (Err Unwritten) p'' t'' after
-      (unwritten time' p' t' rest item rest' does.outcome p'' t'' stop.taken begins due does.done)
+  -- an item cut the run short
+  pub item_cut : (cut : Cut) (tells' : Bool) (item : Item) (rest' : Scans) (p'' : P) (t'' : T) (after : List ℕ) → tells' ≡ tells → Begins rest item rest' → IsDue time' item →
+      DoesItem performs said takes item p' p'' t' t'' tells' now after (Err cut) → DoesItems performs said takes time p t items tells before after (Err cut) p'' t''
+  item_cut Unwritten tells' item rest' p'' t'' after telling begins due does =
+      rest_done (take does.size (said does.outcome)) (Err Unwritten) p'' t'' after
+      (unwritten time' p' t' rest item rest' does.outcome p'' t'' does.size begins due does.done)
       (λ on. does.written (subst (λ (b : Bool). IsTrue b) (sym telling) on))
+  item_cut (Refused refusal) tells' item rest' p'' t'' after telling begins due does =
+      rest_done [] (Err (Refused refusal)) p'' t'' after
+      (subst (λ (u : T). Did performs said takes time' p' t' rest [] (Err (Refused refusal)) p'' u) (sym does.untaken)
+      (refused_item time' p' t' rest item rest' refusal p'' begins due does.done))
+      (λ on. does.unwritten ∙ sym (append-nil now))
+  item_cut Unread tells' item rest' p'' t'' after telling begins due does = absurd does
 
   -- all were done
-  pub led_all : (x : Unit {0}) → rest ≡ no_items → DoesItems performs said takes time p t items tells before now (Ok x) p' t'
-  led_all x is = led [] (Ok x) p' t' now (all time' p' t' rest is) (λ on. sym (append-nil now))
+  pub all_done : (x : Unit {0}) → rest ≡ no_items → DoesItems performs said takes time p t items tells before now (Ok x) p' t'
+  all_done x is = rest_done [] (Ok x) p' t' now (all time' p' t' rest is) (λ on. sym (append-nil now))
 
   -- no item came
-  pub led_cut : (stop : TraceStop) → ((refusal : Refusal) → stop ≡ IsRefused refusal → rest ≡ only_refused refusal) →
+  pub no_item : (stop : TraceStop) → ((refusal : Refusal) → stop ≡ IsRefused refusal → rest ≡ only_refused refusal) →
       DoesItems performs said takes time p t items tells before now (Err (cut_of stop)) p' t'
-  led_cut (IsRefused refusal) is = led [] (Err (Refused refusal)) p' t' now (refused time' p' t' rest refusal (is refusal refl)) (λ on. sym (append-nil now))
-  led_cut IsFault is = led [] (Err Unread) p' t' now (unread time' p' t' rest) (λ on. sym (append-nil now))
+  no_item (IsRefused refusal) is = rest_done [] (Err (Refused refusal)) p' t' now (refused time' p' t' rest refusal (is refusal refl)) (λ on. sym (append-nil now))
+  no_item IsFault is = rest_done [] (Err Unread) p' t' now (unread time' p' t' rest) (λ on. sym (append-nil now))

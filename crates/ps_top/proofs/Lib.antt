@@ -1,14 +1,12 @@
 mod Meeting
+mod Calling
 mod Completing
 mod Applied
-mod Sourced
 mod Scans
 mod Standing
 mod Doing
-mod Placing
 mod Judged
 mod Safe
-mod OneReading
-mod OneBreach
 mod OneJudgement
 mod OneAnswer
+mod SomeAnswer

@@ -1,5 +1,5 @@
--- The program has one answer alone.
-use Rattle.std.proofs.Common.{◌≡◌, ◌∙◌, ℕ, List, Option, sym, subst}
+-- The program has one answer alone, and none where a name that it asks for is not held.
+use Rattle.std.proofs.Common.{◌≡◌, ◌∙◌, ℕ, List, Option, Some, None, sym, ap, subst, ⊎_elim}
 use Rattle.std.proofs.lemmas.Option.{same_Some}
 use Rattle.ps_model.specs.Network.{Network}
 use Rattle.ps_model.specs.Sound.{IsSound}
@@ -10,77 +10,101 @@ use Rattle.ps_flow.specs.Derivation.{certificate}
 use Rattle.ps_names.proofs.Whole.{network_is_sound}
 use Rattle.ps_parser.specs.Names.{IsPlainName}
 use Rattle.ps_trace.specs.Scans.{Scans, scans_of}
-use Rattle.ps_top.specs.Asking.{Answer, Asking, IsAnswer}
+use Rattle.ps_words.specs.Command.{Command, command_of}
+use Rattle.ps_words.specs.Command.Command.{Run, Check, Cert, Verify, NotTaken}
+use Rattle.ps_top.specs.Asking.{Answer, Asking, IsAnswer, AsksFor}
 use Rattle.ps_top.specs.Asking.Asking.{Says, Asks, Finds, Leaves}
-use Rattle.ps_top.specs.Program.{Command, Judged, Judges, verdict, counts, with_application, answer_scans, run_named, verify_named, verify, said, told, text, command_of}
-use Rattle.ps_top.specs.Program.Command.{Run, Check, Cert, Verify, NotTaken}
+use Rattle.ps_top.specs.Program.{Judged, Judges, verdict, leaves_checked, with_application, accepted, answer_scans, run_named, verify_named, verify, said, told, text}
 use Rattle.ps_top.specs.Program.Judged.{derives, objects}
-use Rattle.ps_top.specs.Source.{Reading, Resolves, Named, Flows}
-use Rattle.ps_top.specs.Source.Reading.{stands_for, is_refused}
-use Rattle.ps_top.proofs.OneReading.{named_one}
-use Rattle.ps_top.proofs.OneBreach.{flows_one}
-use Rattle.ps_top.proofs.OneJudgement.{judged_one}
+use Rattle.ps_source.specs.Source.{Reading, Resolves, IsResolvedAs, IsAcceptedAs, counts}
+use Rattle.ps_top.specs.declared.left.Left.{Left}
+use Rattle.ps_source.specs.Source.Reading.{stands_for, is_refused}
+use Rattle.ps_source.proofs.OneReading.{one_resolution}
+use Rattle.ps_source.proofs.OneBreach.{one_acceptance}
+use Rattle.ps_top.proofs.OneJudgement.{one_judgement}
 
-abbrev One : Asking → (List ℕ → Option (List ℕ)) → Type 0
-One asking held = (a b : Answer) → IsAnswer asking held a → IsAnswer asking held b → a ≡ b
+-- What is asked leaves no choice: it has one answer alone, and none where a name that it asks for is not held.
+record IsDetermined (asking : Asking) (held : List ℕ → Option (List ℕ)) : Type 0 where
+  one : (a b : Answer) → IsAnswer asking held a → IsAnswer asking held b → a ≡ b
+  none : (name : List ℕ) → AsksFor asking held name → held name ≡ None → (a : Answer) → IsAnswer asking held a → ⊥
 
-asks_one : (name : List ℕ) (next : List ℕ → Asking) (held : List ℕ → Option (List ℕ)) → ((t : List ℕ) → One (next t) held) → One (Asks name next) held
-asks_one name next held each a b x y =
-    each x.0 a b x.2 (subst (λ (t : List ℕ). IsAnswer (next t) held b) (same_Some y.0 x.0 (sym y.1 ∙ x.1)) y.2)
+module _ (held : List ℕ → Option (List ℕ)) where
+  says_determined : (s : Answer) → IsDetermined (Says s) held
+  says_determined s = record { one = λ a b x y. x ∙ sym y; none = λ name asks missing a x. asks }
 
-finds_one : (X : Type 0) (Fits : X → Type 0) (next : X → Asking) (held : List ℕ → Option (List ℕ)) → ((x y : X) → Fits x → Fits y → x ≡ y) → ((x : X) → Fits x → One (next x) held) → One (Finds X Fits next) held
-finds_one X Fits next held only each a b x y =
-    each x.0 x.1 a b x.2 (subst (λ (z : X). IsAnswer (next z) held b) (only y.0 x.0 y.1 x.1) y.2)
+  asks_determined : (name : List ℕ) (next : List ℕ → Asking) → ((t : List ℕ) → IsDetermined (next t) held) → IsDetermined (Asks name next) held
+  asks_determined name next each = record {
+    one = λ a b x y. (each x.0).one a b x.2 (subst (λ (t : List ℕ). IsAnswer (next t) held b) (same_Some y.0 x.0 (sym y.1 ∙ x.1)) y.2);
+    none = λ other asks missing a x. ⊎_elim
+        (λ same. let both : None ≡ Some x.0 = sym missing ∙ ap held same ∙ x.1 in cc)
+        (λ later. (each later.0).none other later.2 missing a (subst (λ (t : List ℕ). IsAnswer (next t) held a) (same_Some x.0 later.0 (sym x.1 ∙ later.1)) x.2)) asks;
+  }
 
-says_one : (s : Answer) (held : List ℕ → Option (List ℕ)) → One (Says s) held
-says_one s held a b x y = x ∙ sym y
+  finds_determined : (X : Type 0) (Fits : X → Type 0) (next : X → Asking) → ((x y : X) → Fits x → Fits y → x ≡ y) → ((x : X) → Fits x → IsDetermined (next x) held) →
+      IsDetermined (Finds X Fits next) held
+  finds_determined X Fits next only each = record {
+    one = λ a b x y. (each x.0 x.1).one a b x.2 (subst (λ (z : X). IsAnswer (next z) held b) (only y.0 x.0 y.1 x.1) y.2);
+    none = λ other asks missing a x. (each asks.0 asks.1).none other asks.2 missing a (subst (λ (z : X). IsAnswer (next z) held a) (only x.0 asks.0 x.1 asks.1) x.2);
+  }
+
+  leaves_determined : (Fact : Left → Type 0) (next : Asking) → IsDetermined next held → IsDetermined (Leaves Fact next) held
+  leaves_determined Fact next d = record { one = d.one; none = d.none }
+
+-- what is asked behind an accepted application, whose certificate leaves its counts
+abbrev pub with_counts : (Network → Asking) → Network → Asking
+with_counts next net = Leaves (leaves_checked (counts net (certificate net))) (next net)
 
 -- what stands for a source keeps the whole invariant
-resolved_sound : (s : List ℕ) (net : Network) → Resolves s net → IsSound net
+pub resolved_sound : (s : List ℕ) (net : Network) → Resolves s net → IsSound net
 resolved_sound s net r =
     let p = r.tree in
     let within = r.program.spelt.within in
     subst IsSound (sym r.stands.is) (network_is_sound IsPlainName p r.stands.unbroken within.grammatical within.nested)
 
-scans_one : (net : Network) → IsSound net → (scans : Scans) (held : List ℕ → Option (List ℕ)) → One (answer_scans net scans) held
-scans_one net sound scans held =
-    finds_one (List State) (Meaning net scans.items) (λ ws. Says (told net scans ws)) held
-    (λ x y p q. let only = (one_run net sound nothing scans.items).2 in only x p ∙ sym (only y q))
-    (λ ws runs. says_one (told net scans ws) held)
+module _ (held : List ℕ → Option (List ℕ)) where
+  scans_determined : (net : Network) → IsSound net → (scans : Scans) → IsDetermined (answer_scans net scans) held
+  scans_determined net sound scans =
+      finds_determined held (List State) (Meaning net scans.items) (λ ws. Says (told net scans ws))
+      (λ x y p q. let only = (one_run net sound nothing scans.items).2 in only x p ∙ sym (only y q))
+      (λ ws runs. says_determined held (told net scans ws))
 
-flows_asked : (app : List ℕ) (next : Network → Asking) (held : List ℕ → Option (List ℕ)) → ((s : List ℕ) (net : Network) → Resolves s net → One (next net) held) →
-    One (Asks app (λ s. Finds Reading (Flows s) (with_application (λ net. Leaves (counts net (certificate net)) (next net))))) held
-flows_asked app next held each =
-    asks_one app (λ s. Finds Reading (Flows s) (with_application (λ net. Leaves (counts net (certificate net)) (next net)))) held
-    (λ s. finds_one Reading (Flows s) (with_application (λ net. Leaves (counts net (certificate net)) (next net))) held (λ x y p q. flows_one s x y p q) (go s))
-  where
-    go : (s : List ℕ) (r : Reading) → Flows s r → One (with_application (λ net. Leaves (counts net (certificate net)) (next net)) r) held
-    go s (stands_for net) f = each s net f.0
-    go s (is_refused r) f = says_one _ held
+  accepted_determined : (app : List ℕ) (next : Network → Asking) → ((s : List ℕ) (net : Network) → Resolves s net → IsDetermined (next net) held) → IsDetermined (accepted app next) held
+  accepted_determined app next each =
+      asks_determined held app (λ s. Finds Reading (IsAcceptedAs s) (with_application (with_counts next)))
+      (λ s. finds_determined held Reading (IsAcceptedAs s) (with_application (with_counts next)) (λ x y p q. one_acceptance s x y p q) (go s))
+    where
+      go : (s : List ℕ) (r : Reading) → IsAcceptedAs s r → IsDetermined (with_application (with_counts next) r) held
+      go s (stands_for net) f = leaves_determined held (leaves_checked (counts net (certificate net))) (next net) (each s net f.0)
+      go s (is_refused r) f = says_determined held _
 
-verdict_one : (net : Network) (j : Judged) (held : List ℕ → Option (List ℕ)) → One (verdict net j) held
-verdict_one net (derives lines) held = says_one _ held
-verdict_one net (objects r) held = says_one _ held
+  verdict_determined : (net : Network) (j : Judged) → IsDetermined (verdict net j) held
+  verdict_determined net (derives lines) = leaves_determined held _ _ (says_determined held _)
+  verdict_determined net (objects r) = says_determined held _
 
-verify_one : (app c : List ℕ) (held : List ℕ → Option (List ℕ)) → One (verify app c) held
-verify_one app c held =
-    asks_one app (λ s. Finds Reading (Named s) (with_application (λ net. verify_named net c))) held
-    (λ s. finds_one Reading (Named s) (with_application (λ net. verify_named net c)) held (λ x y p q. named_one s x y p q) (go s))
-  where
-    go : (s : List ℕ) (r : Reading) → Named s r → One (with_application (λ net. verify_named net c) r) held
-    go s (stands_for net) f =
-        asks_one c (λ t. Finds Judged (Judges net t) (verdict net)) held
-        (λ t. finds_one Judged (Judges net t) (verdict net) held (λ x y p q. judged_one net t x y p q) (λ j _. verdict_one net j held))
-    go s (is_refused r) f = says_one _ held
+  verify_determined : (app c : List ℕ) → IsDetermined (verify app c) held
+  verify_determined app c =
+      asks_determined held app (λ s. Finds Reading (IsResolvedAs s) (with_application (λ net. verify_named net c)))
+      (λ s. finds_determined held Reading (IsResolvedAs s) (with_application (λ net. verify_named net c)) (λ x y p q. one_resolution s x y p q) (go s))
+    where
+      go : (s : List ℕ) (r : Reading) → IsResolvedAs s r → IsDetermined (with_application (λ net. verify_named net c) r) held
+      go s (stands_for net) f =
+          asks_determined held c (λ t. Finds Judged (Judges net t) (verdict net))
+          (λ t. finds_determined held Judged (Judges net t) (verdict net) (λ x y p q. one_judgement net t x y p q) (λ j _. verdict_determined net j))
+      go s (is_refused r) f = says_determined held _
 
-said_one : (c : Command) (held : List ℕ → Option (List ℕ)) → One (said c) held
-said_one (Run app trace) held =
-    flows_asked app (λ net. run_named net trace) held
-    (λ s net r. asks_one trace (λ t. answer_scans net (scans_of t net)) held (λ t. scans_one net (resolved_sound s net r) (scans_of t net) held))
-said_one (Check app) held = flows_asked app _ held (λ s net r. says_one _ held)
-said_one (Cert app) held = flows_asked app _ held (λ s net r. says_one _ held)
-said_one (Verify app c) held = verify_one app c held
-said_one NotTaken held = says_one _ held
+  said_determined : (c : Command) → IsDetermined (said c) held
+  said_determined (Run app trace) =
+      accepted_determined app (λ net. run_named net trace)
+      (λ s net r. asks_determined held trace (λ t. answer_scans net (scans_of t net)) (λ t. scans_determined net (resolved_sound s net r) (scans_of t net)))
+  said_determined (Check app) = accepted_determined app _ (λ s net r. says_determined held _)
+  said_determined (Cert app) = accepted_determined app _ (λ s net r. says_determined held _)
+  said_determined (Verify app c) = verify_determined app c
+  said_determined NotTaken = says_determined held _
 
 pub one_answer : (words : List (List ℕ)) (held : List ℕ → Option (List ℕ)) (a b : Answer) → IsAnswer (text words) held a → IsAnswer (text words) held b → a ≡ b
-one_answer words held a b x y = said_one (command_of words) held a b x y
+one_answer words held a b x y = (said_determined held (command_of words)).one a b x y
+
+-- where a name that is asked for is not held there is no answer
+pub not_held_none : (words : List (List ℕ)) (held : List ℕ → Option (List ℕ)) (name : List ℕ) → AsksFor (text words) held name → held name ≡ None →
+    (a : Answer) → ¬ (IsAnswer (text words) held a)
+not_held_none words held name asks missing a x = (said_determined held (command_of words)).none name asks missing a x

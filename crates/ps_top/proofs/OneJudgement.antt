@@ -1,94 +1,29 @@
 -- The text of a certificate comes to one judgement alone.
-use Rattle.std.proofs.Common.{◌≡◌, ◌<◌, ◌≤◌, ◌+◌, ◌++◌, ◌∷◌, [], ◌∙◌, ◌⊎◌, ℕ, zero, suc, true, false, List, Some, length, refl, sym, ap, subst, inl, inr, ⊎_elim, arith}
-use Rattle.std.specs.Prelude.{map, All, slice_get}
+use Rattle.std.proofs.Common.{◌≡◌, ◌<◌, ◌≤◌, ◌+◌, ◌∙◌, ◌⊎◌, ℕ, true, false, List, Some, length, refl, sym, ap, subst, inl, inr, ⊎_elim, arith}
+use Rattle.std.specs.Prelude.{slice_get}
 use Rattle.std.specs.List.{list_all}
 use Rattle.std.proofs.lemmas.Bool.{false≢true, cases_lt}
-use Rattle.std.proofs.lemmas.Option.{same_Some, slice_get_within, get_or_from_slice_get}
+use Rattle.std.proofs.lemmas.Option.{same_Some, slice_get_within}
 use Rattle.ps_base.specs.declared.failing.Refusal.{Refusal}
 use Rattle.ps_base.specs.declared.failing.Place.{Place}
 use Rattle.ps_base.specs.declared.failing.Rule.{Rule}
-use Rattle.ps_base.specs.declared.failing.Rule.TheVariants.{C1, C2, O1, O2, O3, O4, O5}
+use Rattle.ps_base.specs.declared.failing.Rule.TheVariants.{O1, O2, O3, O4, O5}
 use Rattle.ps_model.specs.Formula.{Formula}
 use Rattle.ps_model.specs.Network.{Network}
 use Rattle.ps_model.specs.Nodes.{app_nodes}
 use Rattle.ps_flow.specs.declared.certificate.CertLine.{CertLine}
-use Rattle.ps_flow.specs.Lines.{IsNumbered}
-use Rattle.ps_flow.specs.Read.{IsTooLarge, IsWithin, IsFirstOther, RefusesText}
-use Rattle.ps_flow.specs.Written.{line_text}
-use Rattle.ps_flow.proofs.Cutting.{lines_of_text, one_certificate, no_other_line}
+use Rattle.ps_flow.proofs.OneAnswer.{one_certificate_of, one_text_refusal, refused_or_certificate}
 use Rattle.ps_checker.specs.Derives.{Derives, IsInstance, LiteralsFit, is_earlier, fits}
 use Rattle.ps_checker.specs.Objections.{LineBreaks, EachUpTo, LiteralMisfits, Objects}
-use Rattle.ps_model.proofs.Once.{element_at}
 use Rattle.ps_checker.proofs.Lawful.{not_derived}
-use Rattle.ps_top.specs.Program.{Judged, IsCertificate, HasObjection, Judges}
+use Rattle.ps_top.specs.Program.{Judged, HasObjection, Judges}
 use Rattle.ps_top.specs.Program.Judged.{derives, objects}
-
-certificate_one : (text : List ℕ) (a b : List CertLine) → IsCertificate text a → IsCertificate text b → a ≡ b
-certificate_one text a b x y = one_certificate a b x.numbered y.numbered (sym (lines_of_text a text x.numbered x.form) ∙ lines_of_text b text y.numbered y.form)
-
-too_large : (text : List ℕ) → IsTooLarge text → IsWithin text → ⊥
-too_large text (inl many) within = let few = within.lines in omega (arith, many, few)
-too_large text (inr many) within = let few = within.bytes in omega (arith, many, few)
-
--- the ways in which a text is refused
-abbrev TextWay : List ℕ → Rule → Place → Type 0
-TextWay text rule place =
-    ((rule ≡ C2) × (place ≡ record { line = 1; column = 0 }) × IsTooLarge text)
-    ⊎ ((rule ≡ C1) × (place.column ≡ 0) × IsWithin text × IsFirstOther text place.line)
-
-text_way : (text : List ℕ) (rule : Rule) (place : Place) → RefusesText text rule place → TextWay text rule place
-text_way text C2 place h = inl (refl, h.0, h.1)
-text_way text C1 place h = inr (refl, h.0, h.1, h.2)
-text_way text _ place h = absurd h
-
-mapped_at : {X Y : Type 0} (f : X → Y) (xs : List X) (ys : List Y) (k : ℕ) (x : X) → slice_get xs k ≡ Some x → slice_get (map f xs ++ ys) k ≡ Some (f x)
-mapped_at f [] ys k x h = cc
-mapped_at f (z ∷ xs) ys zero x h = ap (λ o. Some (f o)) (same_Some z x h)
-mapped_at f (z ∷ xs) ys (suc k) x h = mapped_at f xs ys k x h
-
-behind_all : {X Y : Type 0} (f : X → Y) (xs : List X) (y : Y) (ys : List Y) → slice_get (map f xs ++ y ∷ ys) (length xs) ≡ Some y
-behind_all f [] y ys = refl
-behind_all f (x ∷ xs) y ys = behind_all f xs y ys
-
-numbered_at : (ls : List CertLine) (k : ℕ) → k < length ls → All IsNumbered ls → (l : CertLine) × (slice_get ls k ≡ Some l) × IsNumbered l
-numbered_at ls k inside all = let e = element_at ls k inside in (e.0, e.1, subst IsNumbered (get_or_from_slice_get ls k e.0 e.0 e.1) (all k e.0 inside))
-
--- of two lines that are the first not of the form, neither is earlier
-other_later : (text : List ℕ) (n m : ℕ) (a : IsFirstOther text n) (b : IsFirstOther text m) → length a.before < length b.before → ⊥
-other_later text n m a b lt =
-    let at = numbered_at b.before (length a.before) lt b.numbered in
-    let here : Some a.other ≡ Some (line_text at.0) =
-    sym (behind_all line_text a.before a.other a.behind) ∙ ap (λ (ls : List (List ℕ)). slice_get ls (length a.before)) (sym a.cut ∙ b.cut)
-    ∙ mapped_at line_text b.before (b.other ∷ b.behind) (length a.before) at.0 at.1 in
-    a.form at.0 at.2 (same_Some a.other (line_text at.0) here)
-
-other_one : (text : List ℕ) (n m : ℕ) → IsFirstOther text n → IsFirstOther text m → n ≡ m
-other_one text n m a b =
-    ⊎_elim (λ lt. absurd (other_later text n m a b lt))
-    (λ le. ⊎_elim (λ gt. absurd (other_later text m n b a gt)) (λ ge. let x = a.place in let y = b.place in omega arith) (cases_lt (length b.before) (length a.before)))
-    (cases_lt (length a.before) (length b.before))
 
 place_one : (p q : Place) → p.line ≡ q.line → p.column ≡ q.column → p ≡ q
 place_one p q lines columns = λ i. record { line = lines i; column = columns i }
 
 refusal_one : (r q : Refusal) → r.rule ≡ q.rule → r.place ≡ q.place → r ≡ q
 refusal_one r q rules places = λ i. record { rule = rules i; place = places i }
-
-text_one : (text : List ℕ) (r q : Refusal) → RefusesText text r.rule r.place → RefusesText text q.rule q.place → r ≡ q
-text_one text r q x y = both (text_way text r.rule r.place x) (text_way text q.rule q.place y)
-  where
-    both : TextWay text r.rule r.place → TextWay text q.rule q.place → r ≡ q
-    both (inl a) (inl b) = refusal_one r q (a.0 ∙ sym b.0) (a.1 ∙ sym b.1)
-    both (inl a) (inr b) = absurd (too_large text a.2 b.2)
-    both (inr a) (inl b) = absurd (too_large text b.2 a.2)
-    both (inr a) (inr b) = refusal_one r q (a.0 ∙ sym b.0) (place_one r.place q.place (other_one text r.place.line q.place.line a.3 b.3) (a.1 ∙ sym b.1))
-
-text_certificate : (text : List ℕ) (r : Refusal) (lines : List CertLine) → RefusesText text r.rule r.place → IsCertificate text lines → ⊥
-text_certificate text r lines x c = way (text_way text r.rule r.place x)
-  where
-    way : TextWay text r.rule r.place → ⊥
-    way (inl a) = too_large text a.2 c.within
-    way (inr a) = no_other_line lines text r.place.line c.numbered c.form a.3
 
 -- ---- objections
 
@@ -177,20 +112,20 @@ object_one net lines n m r q x y = both (way_of net lines n r x) (way_of net lin
 
 objection_one : (net : Network) (text : List ℕ) (r q : Refusal) → HasObjection net text r → HasObjection net text q → r ≡ q
 objection_one net text r q a b =
-    let same : b.lines ≡ a.lines = certificate_one text b.lines a.lines b.certificate_is a.certificate_is in
+    let same : b.lines ≡ a.lines = one_certificate_of text b.lines a.lines b.certificate_is a.certificate_is in
     let one = object_one net a.lines r.place.line q.place.line r.rule q.rule a.objection (subst (λ (ls : List CertLine). Objects net ls q.place.line q.rule) same b.objection) in
     refusal_one r q one.1 (place_one r.place q.place one.0 (a.line_alone ∙ sym b.line_alone))
 
 derived_objected : (net : Network) (text : List ℕ) (lines : List CertLine) (r : Refusal) → Judges net text (derives lines) → Judges net text (objects r) → ⊥
-derived_objected net text lines r d (inl x) = text_certificate text r lines x d.0
+derived_objected net text lines r d (inl x) = refused_or_certificate text r lines x d.0
 derived_objected net text lines r d (inr o) =
-    not_derived net o.lines r.place.line r.rule o.objection (subst (λ (ls : List CertLine). Derives net ls) (certificate_one text lines o.lines d.0 o.certificate_is) d.1)
+    not_derived net o.lines r.place.line r.rule o.objection (subst (λ (ls : List CertLine). Derives net ls) (one_certificate_of text lines o.lines d.0 o.certificate_is) d.1)
 
-pub judged_one : (net : Network) (text : List ℕ) (a b : Judged) → Judges net text a → Judges net text b → a ≡ b
-judged_one net text (derives k) (derives m) x y = ap derives (certificate_one text k m x.0 y.0)
-judged_one net text (derives k) (objects q) x y = absurd (derived_objected net text k q x y)
-judged_one net text (objects r) (derives m) x y = absurd (derived_objected net text m r y x)
-judged_one net text (objects r) (objects q) (inl x) (inl y) = ap objects (text_one text r q x y)
-judged_one net text (objects r) (objects q) (inl x) (inr y) = absurd (text_certificate text r y.lines x y.certificate_is)
-judged_one net text (objects r) (objects q) (inr x) (inl y) = absurd (text_certificate text q x.lines y x.certificate_is)
-judged_one net text (objects r) (objects q) (inr x) (inr y) = ap objects (objection_one net text r q x y)
+pub one_judgement : (net : Network) (text : List ℕ) (a b : Judged) → Judges net text a → Judges net text b → a ≡ b
+one_judgement net text (derives k) (derives m) x y = ap derives (one_certificate_of text k m x.0 y.0)
+one_judgement net text (derives k) (objects q) x y = absurd (derived_objected net text k q x y)
+one_judgement net text (objects r) (derives m) x y = absurd (derived_objected net text m r y x)
+one_judgement net text (objects r) (objects q) (inl x) (inl y) = ap objects (one_text_refusal text r q x y)
+one_judgement net text (objects r) (objects q) (inl x) (inr y) = absurd (refused_or_certificate text r y.lines x y.certificate_is)
+one_judgement net text (objects r) (objects q) (inr x) (inl y) = absurd (refused_or_certificate text q x.lines y x.certificate_is)
+one_judgement net text (objects r) (objects q) (inr x) (inr y) = ap objects (objection_one net text r q x y)

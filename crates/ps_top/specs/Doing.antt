@@ -1,12 +1,10 @@
 -- What is done of the items of a trace, one after another.
-use Rattle.std.specs.Prelude.{◌≡◌, ◌≤◌, ℕ, Bool, List, [], ◌++◌, take, IsTrue, OnOk, Result, Ok, Err}
+use Rattle.std.specs.Prelude.{◌≡◌, ◌≤◌, ℕ, Bool, List, [], ◌++◌, take, IsTrue, Result, Ok, Err}
 use Rattle.ps_base.specs.declared.failing.Refusal.{Refusal}
 use Rattle.ps_model.specs.Meaning.{Item, scan, restart}
-use Rattle.ps_outside.specs.declared.sink.Stopped.{Stopped}
 use Rattle.ps_trace.specs.Scans.{Scans, whole}
 use Rattle.ps_trace.specs.Reading.{Begins, only_refused}
-use Rattle.ps_top.specs.Outcomes.{Outcome}
-use Rattle.ps_top.specs.Written.{IsWritten}
+use Rattle.ps_top.specs.Outcomes.{Outcome, refuses}
 use Rattle.ps_top.specs.declared.items.Cut.{Cut}
 use Rattle.ps_top.specs.declared.items.Cut.TheVariants.{Refused, Unread, Unwritten}
 
@@ -24,13 +22,35 @@ time_behind time restart = time
 abbrev pub no_items : Scans
 no_items = record { items = []; end = whole }
 
--- An item was performed, and its outcome was taken, or the write of what is said of it stopped.
-pub record DoesItem {P T V : Type 0} (performs : P → Item → Outcome V → P → Type 0) (said : Outcome V → List ℕ) (takes : T → Outcome V → T → Type 0)
-    (item : Item) (p p' : P) (t t' : T) (tells : Bool) (before after : List ℕ) (result : Result (Unit {0}) Stopped) : Type 0 where
+-- An item was performed, and its outcome was taken and written.
+pub record TakesItem {P T V : Type 0} (performs : P → Item → Outcome V → P → Type 0) (said : Outcome V → List ℕ) (takes : T → Outcome V → T → Type 0)
+    (item : Item) (p p' : P) (t t' : T) (tells : Bool) (before after : List ℕ) : Type 0 where
   pub outcome : Outcome V
   pub done : performs p item outcome p'
-  pub taken : OnOk result (takes t outcome t')
-  pub written : IsTrue tells → IsWritten result (said outcome) before after
+  pub taken : takes t outcome t'
+  pub written : IsTrue tells → after ≡ before ++ said outcome
+
+-- An item was performed, and the write of what is said of its outcome stopped.
+pub record StopsAtItem {P V : Type 0} (performs : P → Item → Outcome V → P → Type 0) (said : Outcome V → List ℕ)
+    (item : Item) (p p' : P) (tells : Bool) (before after : List ℕ) : Type 0 where
+  pub outcome : Outcome V
+  pub done : performs p item outcome p'
+  pub size : ℕ
+  pub written : IsTrue tells → after ≡ before ++ take size (said outcome)
+
+-- An item was begun and is refused: nothing was taken, and nothing was written.
+pub record RefusesItem {P T V : Type 0} (performs : P → Item → Outcome V → P → Type 0) (item : Item) (p p' : P) (t t' : T) (before after : List ℕ) (refusal : Refusal) : Type 0 where
+  pub done : performs p item (refuses refusal) p'
+  pub untaken : t' ≡ t
+  pub unwritten : after ≡ before
+
+-- what doing an item came to
+abbrev pub DoesItem : {P T V : Type 0} → (P → Item → Outcome V → P → Type 0) → (Outcome V → List ℕ) → (T → Outcome V → T → Type 0) →
+    Item → P → P → T → T → Bool → (before after : List ℕ) → Result (Unit {0}) Cut → Type 0
+DoesItem performs said takes item p p' t t' tells before after (Ok done) = TakesItem performs said takes item p p' t t' tells before after
+DoesItem performs said takes item p p' t t' tells before after (Err Unwritten) = StopsAtItem performs said item p p' tells before after
+DoesItem performs said takes item p p' t t' tells before after (Err (Refused refusal)) = RefusesItem performs item p p' t t' before after refusal
+DoesItem performs said takes item p p' t t' tells before after (Err Unread) = ⊥
 
 -- What was done of these items, none of which is due before this time: by a performer and a taker, which became others, with
 -- the bytes that were written; and how it ended.
@@ -42,6 +62,9 @@ pub data Did {P T V : Type 0} (performs : P → Item → Outcome V → P → Typ
   refused : (time : ℕ) (p : P) (t : T) (items : Scans) (refusal : Refusal) → items ≡ only_refused refusal → Did performs said takes time p t items [] (Err (Refused refusal)) p t
   -- a read failed
   unread : (time : ℕ) (p : P) (t : T) (items : Scans) → Did performs said takes time p t items [] (Err Unread) p t
+  -- an item was begun and is refused, and nothing was written of it
+  refused_item : (time : ℕ) (p : P) (t : T) (items : Scans) (item : Item) (rest : Scans) (refusal : Refusal) (p' : P) →
+      Begins items item rest → IsDue time item → performs p item (refuses refusal) p' → Did performs said takes time p t items [] (Err (Refused refusal)) p' t
   -- the write of what is said of an outcome stopped
   unwritten : (time : ℕ) (p : P) (t : T) (items : Scans) (item : Item) (rest : Scans) (outcome : Outcome V) (p' : P) (t' : T) (taken : ℕ) →
       Begins items item rest → IsDue time item → performs p item outcome p' → Did performs said takes time p t items (take taken (said outcome)) (Err Unwritten) p' t'

@@ -1,17 +1,18 @@
+-- what the program has to say, and what a call does that is asked to say it: what a reader of the clauses has to believe
 pub mod Asking
-pub mod Meets
-pub mod Source
-pub mod Lines
 pub mod Program
-pub mod Words
-pub mod Reading
+pub mod Lines
+pub mod Meets
+pub mod Calls
+pub mod Skeletons
+-- the loop over the items of a trace
+pub mod Outcomes
+pub mod Doing
+pub mod Performing
+pub mod Written
+pub mod Running
 pub mod Resting
+pub mod Cutting
+-- what the parts of a command answer
 pub mod Refusing
 pub mod Judging
-pub mod Written
-pub mod Outcomes
-pub mod Performing
-pub mod Cutting
-pub mod Doing
-pub mod Running
-pub mod Skeletons

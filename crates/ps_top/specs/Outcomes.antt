@@ -1,5 +1,6 @@
 -- What comes of the items of a trace.
-use Rattle.std.specs.Prelude.{ℕ, List, Some, None}
+use Rattle.std.specs.Prelude.{ℕ, List, [], Some, None, Result, Ok, Err}
+use Rattle.ps_base.specs.declared.failing.Refusal.{Refusal}
 use Rattle.ps_model.specs.declared.channel.Verdict.{Verdict}
 use Rattle.ps_model.specs.declared.channel.Verdict.TheVariants.{Released, Tripped, Down}
 use Rattle.ps_model.specs.declared.report.Report.{Report}
@@ -7,14 +8,22 @@ use Rattle.ps_model.specs.Network.{Network}
 use Rattle.ps_report.specs.Lines.{report_text, trip_text}
 use Rattle.ps_top.specs.Lines.{restart_line}
 
--- A scan was performed, with its time, a verdict on it and its report; or all begins anew.
+-- A scan was performed, with its time, a verdict on it and its report; or it was begun and is refused, which ends the run; or all
+-- begins anew.
 pub data Outcome (V : Type 0) : Type 0 where
   performed : (now : ℕ) (verdict : V) (report : Report) → Outcome V
+  refuses : (refusal : Refusal) → Outcome V
   anew : Outcome V
 
--- the line of an outcome
+-- the outcome of a scan at a time, by what performed it
+abbrev pub outcome_of : {V : Type 0} → ℕ → Report → Result V Refusal → Outcome V
+outcome_of now report (Ok verdict) = performed now verdict report
+outcome_of now report (Err refusal) = refuses refusal
+
+-- the line of an outcome: a scan that is refused has none
 abbrev pub outcome_line : Network → Outcome Verdict → List ℕ
 outcome_line net (performed now Released report) = report_text net now report
 outcome_line net (performed now (Tripped cause) report) = trip_text net now (Some cause)
 outcome_line net (performed now Down report) = trip_text net now None
+outcome_line net (refuses refusal) = []
 outcome_line net anew = restart_line

@@ -1,15 +1,12 @@
 -- What the program writes, for its words and the texts that are held.
-use Rattle.std.specs.Prelude.{◌≡◌, ◌⊎◌, ℕ, Bool, false, not, ◌&&◌, ◌==◌, List, [], ◌∷◌, ◌++◌, All, length, codes, if◌then◌else◌}
-use Rattle.std.specs.Str.{bytes_eq}
+use Rattle.std.specs.Prelude.{◌≡◌, ◌⊎◌, ℕ, List, [], ◌∷◌, ◌++◌, Some, length}
 use Rattle.ps_base.specs.declared.failing.Refusal.{Refusal}
 use Rattle.ps_model.specs.Network.{Network}
-use Rattle.ps_model.specs.Nodes.{app_nodes}
 use Rattle.ps_model.specs.Scanning.{State}
 use Rattle.ps_model.specs.Meaning.{Item, scan, restart, Meaning, report}
 use Rattle.ps_flow.specs.declared.certificate.CertLine.{CertLine}
 use Rattle.ps_flow.specs.Derivation.{certificate}
-use Rattle.ps_flow.specs.Lines.{IsNumbered}
-use Rattle.ps_flow.specs.Read.{IsTextOf, IsWithin, RefusesText}
+use Rattle.ps_flow.specs.Read.{IsCertificate, RefusesText}
 use Rattle.ps_flow.specs.Written.{written}
 use Rattle.ps_checker.specs.Counts.{Counts}
 use Rattle.ps_checker.specs.Derives.{Derives}
@@ -18,22 +15,26 @@ use Rattle.ps_trace.specs.Scans.{Scans, End, scans_of}
 use Rattle.ps_trace.specs.Scans.End.{whole, refused}
 use Rattle.ps_report.specs.Lines.{report_text}
 use Rattle.ps_report.specs.Short.{refusal_text, check_text}
+use Rattle.ps_words.specs.Command.{Command, command_of, usage_line}
+use Rattle.ps_words.specs.Command.Command.{Run, Check, Cert, Verify, NotTaken}
 use Rattle.ps_top.specs.Asking.{Answer, Asking}
 use Rattle.ps_top.specs.Asking.Asking.{Says, Asks, Finds, Leaves}
-use Rattle.ps_top.specs.Lines.{restart_line, usage_line, verified_line}
-use Rattle.ps_top.specs.Source.{Reading, Named, Flows}
-use Rattle.ps_top.specs.Source.Reading.{stands_for, is_refused}
+use Rattle.ps_top.specs.Lines.{restart_line, verified_line}
+use Rattle.ps_source.specs.Source.{Reading, IsResolvedAs, IsAcceptedAs, counts}
+use Rattle.ps_source.specs.Source.Reading.{stands_for, is_refused}
+use Rattle.ps_top.specs.declared.left.Left.{Left}
 use Rattle.ps_top.specs.declared.Status.{Status}
 use Rattle.ps_top.specs.declared.Status.TheVariants.{Done, Refused, Usage, BadInput}
 
+-- these bytes with this status
 abbrev pub answer : List ℕ → Status → Answer
 answer bytes status = record { bytes = bytes; status = status }
 
 -- ---- the source
 
--- the counts of an application and of a certificate
-abbrev pub counts : Network → List CertLine → Counts
-counts net lines = record { nodes = length (app_nodes net); lines = length lines }
+-- the counts of a certificate that was checked are left
+abbrev pub leaves_checked : Counts → Left → Type 0
+leaves_checked counts left = left.checked ≡ Some counts
 
 -- with an application the program goes on; a source that is refused has its line
 abbrev pub with_application : (Network → Asking) → Reading → Asking
@@ -42,13 +43,15 @@ with_application next (is_refused refusal) = Says (answer (refusal_text refusal)
 
 -- the application of an accepted source, whose certificate was checked
 abbrev pub accepted : List ℕ → (Network → Asking) → Asking
-accepted app next = Asks app (λ source. Finds Reading (Flows source) (with_application (λ net. Leaves (counts net (certificate net)) (next net))))
+accepted app next = Asks app (λ source. Finds Reading (IsAcceptedAs source) (with_application (λ net. Leaves (leaves_checked (counts net (certificate net))) (next net))))
 
 -- ---- check and cert
 
+-- `check APP`: the line of the counts
 abbrev pub check : List ℕ → Asking
 check app = accepted app (λ net. Says (answer (check_text net) Done))
 
+-- `cert APP`: the certificate, a line for each of its lines
 abbrev pub cert : List ℕ → Asking
 cert app = accepted app (λ net. Says (answer (written (certificate net)) Done))
 
@@ -66,6 +69,7 @@ abbrev pub end_line : End → List ℕ
 end_line whole = []
 end_line (refused refusal) = refusal_text refusal
 
+-- the status at the end of a trace
 abbrev pub end_status : End → Status
 end_status whole = Done
 end_status (refused refusal) = BadInput
@@ -82,6 +86,7 @@ answer_scans net scans = Finds (List State) (Meaning net scans.items) (λ ws. Sa
 abbrev pub run_named : Network → List ℕ → Asking
 run_named net trace = Asks trace (λ text. answer_scans net (scans_of text net))
 
+-- `run APP TRACE`: the application is accepted, and then its trace is run
 abbrev pub run : List ℕ → List ℕ → Asking
 run app trace = accepted app (λ net. run_named net trace)
 
@@ -91,12 +96,6 @@ run app trace = accepted app (λ net. run_named net trace)
 pub data Judged : Type 0 where
   derives : List CertLine → Judged
   objects : Refusal → Judged
-
--- the text is that of a certificate
-pub record IsCertificate (text : List ℕ) (lines : List CertLine) : Type 0 where
-  pub form : IsTextOf lines text
-  pub numbered : All IsNumbered lines
-  pub within : IsWithin text
 
 -- the certificate of the text has an objection, which names a line alone
 pub record HasObjection (net : Network) (text : List ℕ) (refusal : Refusal) : Type 0 where
@@ -110,52 +109,20 @@ abbrev pub Judges : Network → List ℕ → Judged → Type 0
 Judges net text (derives lines) = IsCertificate text lines × Derives net lines
 Judges net text (objects r) = RefusesText text r.rule r.place ⊎ HasObjection net text r
 
+-- what is said of a certificate that was judged
 abbrev pub verdict : Network → Judged → Asking
-verdict net (derives lines) = Leaves (counts net lines) (Says (answer (verified_line (length lines)) Done))
+verdict net (derives lines) = Leaves (leaves_checked (counts net lines)) (Says (answer (verified_line (length lines)) Done))
 verdict net (objects refusal) = Says (answer (refusal_text refusal) BadInput)
 
 -- the certificate of this name is judged
 abbrev pub verify_named : Network → List ℕ → Asking
 verify_named net cert = Asks cert (λ text. Finds Judged (Judges net text) (verdict net))
 
--- no rule S is tried, and nothing is derived
+-- `verify APP CERT`: no rule S is tried, and nothing is derived
 abbrev pub verify : List ℕ → List ℕ → Asking
-verify app cert = Asks app (λ source. Finds Reading (Named source) (with_application (λ net. verify_named net cert)))
+verify app cert = Asks app (λ source. Finds Reading (IsResolvedAs source) (with_application (λ net. verify_named net cert)))
 
 -- ---- the words
-
--- a word that is neither empty nor begins with a hyphen
-abbrev pub is_plain : List ℕ → Bool
-is_plain [] = false
-is_plain (b ∷ bytes) = not (b == 45)
-
--- what the words ask of the program
-pub data Command : Type 0 where
-  Run : (app trace : List ℕ) → Command
-  Check : (app : List ℕ) → Command
-  Cert : (app : List ℕ) → Command
-  Verify : (app cert : List ℕ) → Command
-  NotTaken : Command
-
--- of words that are neither empty nor begin with a hyphen: the name of a command and so many names of files
-abbrev pub one_name : List ℕ → List ℕ → Command
-one_name name app = if bytes_eq name (codes "check") then Check app else if bytes_eq name (codes "cert") then Cert app else NotTaken
-
-abbrev pub two_names : List ℕ → List ℕ → List ℕ → Command
-two_names name app other = if bytes_eq name (codes "run") then Run app other else if bytes_eq name (codes "verify") then Verify app other else NotTaken
-
-abbrev pub command_of : List (List ℕ) → Command
-command_of (name ∷ app ∷ []) = if is_plain app then one_name name app else NotTaken
-command_of (name ∷ app ∷ other ∷ []) = if is_plain app && is_plain other then two_names name app other else NotTaken
-command_of words = NotTaken
-
--- the names of files that a command gives
-abbrev pub names_of : Command → List (List ℕ)
-names_of (Run app trace) = app ∷ trace ∷ []
-names_of (Check app) = app ∷ []
-names_of (Cert app) = app ∷ []
-names_of (Verify app cert) = app ∷ cert ∷ []
-names_of NotTaken = []
 
 -- what is said to words that ask this
 abbrev pub said : Command → Asking

@@ -1,20 +1,19 @@
 // `cert APP`.
 
-ghost use Rattle.std.specs.Prelude.{◌≡◌, ◌≢◌, IsTrue};
-ghost use Rattle.ps_outside.specs.Outside.{Rose};
-ghost use Rattle.ps_top.specs.Asking.{IsLeft};
-ghost use Rattle.ps_top.specs.Meets.{IsCut, Meets};
+ghost use Rattle.std.specs.Prelude.{◌≡◌, ◌≢◌, ◌∷◌, []};
+ghost use Rattle.ps_top.specs.Calls.{Answers, files_seen, output_seen};
 ghost use Rattle.ps_top.specs.Program as program;
 
 use crate::Status;
 use crate::checking::refuse;
 use crate::left::Left;
-use crate::reading::read_accepted;
-use crate::saying::say;
+use crate::saying::say_lines;
+use ps_base::Memory;
 use ps_outside::{Files, Sink};
+use ps_source::read_accepted;
 use std::alloc::Global;
 
-/// `cert APP`: the certificate of an accepted application.
+// `cert APP`: the certificate of an accepted application, line by line.
 pub(crate) fn cert<F: Files, S: Sink>(
     alloc: Global,
     app: &str,
@@ -22,23 +21,20 @@ pub(crate) fn cert<F: Files, S: Sink>(
     out: &mut S,
     left: &mut Left,
 ) -> Status
-    ensures meets { IsTrue (F.tells files.old) → IsTrue (S.tells out.old) →
-        Meets (program.cert app.now) (F.held files.old)
-        (λ name. Rose (F.faults files.old name) (F.faults files.new name)) (S.taken out.old) (S.taken out.new) result }
-    ensures leaves { IsTrue (F.tells files.old) → ¬ IsCut result → IsLeft (program.cert app.now) (F.held files.old) left.new.checked }
-    ensures read_fault { result ≡ Status.ReadFault → Rose (F.faults files.old app.now) (F.faults files.new app.now) }
-    ensures memory { IsTrue (S.tells out.old) → result ≡ Status.Memory → S.taken out.new ≡ S.taken out.old }
-    ensures write_fault { result ≡ Status.WriteFault → Rose (S.faults out.old) (S.faults out.new) }
+    ensures answers { Answers (program.cert app.now) (app.now ∷ [])
+        (files_seen F.tells F.held F.faults files.old) (files_seen F.tells F.held F.faults files.new)
+        (output_seen S.tells S.taken S.faults out.old) (output_seen S.tells S.taken S.faults out.new) left.new result }
     ensures no_usage { result ≢ Status.Usage }
 {
     match read_accepted(alloc, app, files) {
-        Ok(accepted) => match accepted.written(alloc) {
-            Ok((text, checked)) => {
+        Ok(accepted) => match accepted.certificate_text(alloc) {
+            Ok(text) => {
+                let (_, checked) = accepted.into_parts();
                 left.checked = Some(checked);
-                say(out, text.as_slice(), Status::Done)
+                say_lines(out, text.as_slice(), Status::Done)
             }
-            Err(_) => Status::Memory,
+            Err(Memory) => Status::Memory,
         },
-        Err(unread) => refuse(out, unread),
+        Err(why) => refuse(out, why),
     }
 }

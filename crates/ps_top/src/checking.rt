@@ -1,36 +1,31 @@
 // `check APP`, and how a command begins.
 
-ghost use Rattle.std.specs.Prelude.{◌≡◌, ◌≢◌, ◌⊎◌, IsTrue};
-ghost use Rattle.ps_outside.specs.Outside.{Rose};
-ghost use Rattle.ps_top.specs.Asking.{IsLeft};
-ghost use Rattle.ps_top.specs.Meets.{IsCut, Meets};
+ghost use Rattle.std.specs.Prelude.{◌≡◌, ◌≢◌, ◌∷◌, []};
+ghost use Rattle.ps_top.specs.Calls.{Answers, files_seen, output_seen};
 ghost use Rattle.ps_top.specs.Program as program;
-ghost use Rattle.ps_top.specs.Refusing.{IsToldUnread, EndsUnread};
+ghost use Rattle.ps_top.specs.Refusing.{SaysNoApplication};
 
 use crate::Status;
 use crate::left::Left;
-use crate::reading::read_accepted;
 use crate::saying::{say, say_refused};
-use crate::source::Unread;
 use ps_outside::{Files, Sink};
+use ps_report::check_line;
+use ps_source::{NoApplication, read_accepted};
 use std::alloc::Global;
 
-/// Says why a source gives no application.
-pub(crate) fn refuse<S: Sink>(out: &mut S, unread: Unread) -> Status
-    ensures told { IsTrue (S.tells out.old) → IsToldUnread unread (S.taken out.old) (S.taken out.new) result }
-    ensures ends { EndsUnread unread result }
-    ensures memory { IsTrue (S.tells out.old) → result ≡ Status.Memory → S.taken out.new ≡ S.taken out.old }
-    ensures write_fault { result ≡ Status.WriteFault → Rose (S.faults out.old) (S.faults out.new) }
+// Says why a name gives no application.
+pub(crate) fn refuse<S: Sink>(out: &mut S, why: NoApplication) -> Status
+    ensures says { SaysNoApplication why (output_seen S.tells S.taken S.faults out.old) (output_seen S.tells S.taken S.faults out.new) result }
     ensures no_usage { result ≢ Status.Usage }
 {
-    match unread {
-        Unread::Refused(refusal) => say_refused(out, &refusal, Status::Refused),
-        Unread::Memory => Status::Memory,
-        Unread::Fault => Status::ReadFault,
+    match why {
+        NoApplication::Refused(refusal) => say_refused(out, &refusal, Status::Refused),
+        NoApplication::Memory => Status::Memory,
+        NoApplication::Fault => Status::ReadFault,
     }
 }
 
-/// `check APP`: the counts of an accepted application.
+// `check APP`: the counts of an accepted application.
 pub(crate) fn check<F: Files, S: Sink>(
     alloc: Global,
     app: &str,
@@ -38,21 +33,17 @@ pub(crate) fn check<F: Files, S: Sink>(
     out: &mut S,
     left: &mut Left,
 ) -> Status
-    ensures meets { IsTrue (F.tells files.old) → IsTrue (S.tells out.old) →
-        Meets (program.check app.now) (F.held files.old)
-        (λ name. Rose (F.faults files.old name) (F.faults files.new name)) (S.taken out.old) (S.taken out.new) result }
-    ensures leaves { IsTrue (F.tells files.old) → ¬ IsCut result → IsLeft (program.check app.now) (F.held files.old) left.new.checked }
-    ensures read_fault { result ≡ Status.ReadFault → Rose (F.faults files.old app.now) (F.faults files.new app.now) }
-    ensures memory { IsTrue (S.tells out.old) → result ≡ Status.Memory → S.taken out.new ≡ S.taken out.old }
-    ensures write_fault { result ≡ Status.WriteFault → Rose (S.faults out.old) (S.faults out.new) }
+    ensures answers { Answers (program.check app.now) (app.now ∷ [])
+        (files_seen F.tells F.held F.faults files.old) (files_seen F.tells F.held F.faults files.new)
+        (output_seen S.tells S.taken S.faults out.old) (output_seen S.tells S.taken S.faults out.new) left.new result }
     ensures no_usage { result ≢ Status.Usage }
 {
     match read_accepted(alloc, app, files) {
         Ok(accepted) => {
-            let (line, checked) = accepted.counted();
+            let (app, checked) = accepted.into_parts();
             left.checked = Some(checked);
-            say(out, line.as_slice(), Status::Done)
+            say(out, check_line(&app).as_slice(), Status::Done)
         }
-        Err(unread) => refuse(out, unread),
+        Err(why) => refuse(out, why),
     }
 }

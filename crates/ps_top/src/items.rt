@@ -1,13 +1,12 @@
 // The loop that does the items of a trace.
 
-ghost use Rattle.std.specs.Prelude.{◌≡◌, ◌≤◌, ℕ, List, IsTrue, Some, OnErr};
+ghost use Rattle.std.specs.Prelude.{◌≡◌, ◌≤◌, ℕ, List, IsTrue, Some};
 ghost use Rattle.ps_model.specs.Meaning.Item.{scan as scan_item, restart as restart_item};
 ghost use Rattle.ps_model.specs.Network.{input_count};
 ghost use Rattle.ps_outside.specs.Outside.{Rose};
 ghost use Rattle.ps_top.specs.Cutting.{cut_of};
 ghost use Rattle.ps_top.specs.Doing.{DoesItem, DoesItems};
 ghost use Rattle.ps_top.specs.Running.{Fits};
-ghost use Rattle.ps_top.specs.declared.items.Cut.TheVariants.{Unwritten as IsUnwritten};
 ghost use Rattle.ps_trace.specs.Reading.{IsReadingTrace, file_of, input_count_of, items_left, last_of};
 
 use crate::performing::Performer;
@@ -15,7 +14,7 @@ use crate::taking::Taker;
 use ps_base::Refusal;
 use ps_model::app::App;
 use ps_model::report::{Report, Scan};
-use ps_outside::{Files, Sink, Stopped};
+use ps_outside::{Files, Sink};
 use ps_trace::{Next, TraceReader, TraceStop};
 
 /// Why the items of a trace were not all done.
@@ -40,14 +39,6 @@ impl From<TraceStop> for Cut {
     }
 }
 
-impl From<Stopped> for Cut {
-    ghost from_gives = { λ _ cut. cut ≡ IsUnwritten };
-
-    fn from(_stopped: Stopped) -> Cut {
-        Cut::Unwritten
-    }
-}
-
 /// What the items of a trace are done with: who performs them, who takes what comes of them, and room for a scan and its
 /// report.
 #[derive(Drop)]
@@ -60,37 +51,49 @@ pub(crate) struct Runner<P, T> {
 
 impl<P: Performer, T: Taker<P::Verdict>> Runner<P, T> {
     // Performs the scan that was read, and hands on what comes of it.
-    fn do_scan<S: Sink>(&mut self, app: &App, out: &mut S) -> Result<(), Stopped>
+    fn do_scan<S: Sink>(&mut self, app: &App, out: &mut S) -> Result<(), Cut>
         requires fits { Fits (P.fits app.now) (T.fits app.now) app.now self.old }
         requires due { P.earliest self.old.performer ≤ self.old.scan.now }
         ensures does { DoesItem (P.performs app.now) (T.said app.now) T.takes (scan_item self.old.scan.now self.old.scan.ins)
             self.old.performer self.new.performer self.old.taker self.new.taker (S.tells out.old) (S.taken out.old) (S.taken out.new) result }
         ensures fits { Fits (P.fits app.now) (T.fits app.now) app.now self.new }
         ensures due { P.earliest self.new.performer ≤ self.old.scan.now }
-        ensures stopped { OnErr result (Rose (S.faults out.old) (S.faults out.new)) }
+        ensures unwritten { result ≡ Err Cut.Unwritten → Rose (S.faults out.old) (S.faults out.new) }
         ensures counts { S.faults out.old ≤ S.faults out.new }
         ensures telling { S.tells out.new ≡ S.tells out.old }
     {
-        let verdict = self
+        let verdict = match self
             .performer
-            .perform_scan(app, &self.scan, &mut self.report);
-        self.taker
+            .perform_scan(app, &self.scan, &mut self.report)
+        {
+            Ok(verdict) => verdict,
+            Err(refusal) => return Err(Cut::Refused(refusal)),
+        };
+        match self
+            .taker
             .take_scan(app, self.scan.now, verdict, &self.report, out)
+        {
+            Ok(()) => Ok(()),
+            Err(_) => Err(Cut::Unwritten),
+        }
     }
 
     // Begins anew, and tells of it.
-    fn do_restart<S: Sink>(&mut self, app: &App, out: &mut S) -> Result<(), Stopped>
+    fn do_restart<S: Sink>(&mut self, app: &App, out: &mut S) -> Result<(), Cut>
         requires fits { Fits (P.fits app.now) (T.fits app.now) app.now self.old }
         ensures does { DoesItem (P.performs app.now) (T.said app.now) T.takes restart_item
             self.old.performer self.new.performer self.old.taker self.new.taker (S.tells out.old) (S.taken out.old) (S.taken out.new) result }
         ensures fits { Fits (P.fits app.now) (T.fits app.now) app.now self.new }
         ensures due { P.earliest self.new.performer ≤ P.earliest self.old.performer }
-        ensures stopped { OnErr result (Rose (S.faults out.old) (S.faults out.new)) }
+        ensures unwritten { result ≡ Err Cut.Unwritten → Rose (S.faults out.old) (S.faults out.new) }
         ensures counts { S.faults out.old ≤ S.faults out.new }
         ensures telling { S.tells out.new ≡ S.tells out.old }
     {
         self.performer.perform_restart(app);
-        self.taker.take_restart(app, out)
+        match self.taker.take_restart(app, out) {
+            Ok(()) => Ok(()),
+            Err(_) => Err(Cut::Unwritten),
+        }
     }
 }
 
@@ -111,6 +114,8 @@ pub(crate) fn do_items<F: Files, S: Sink, P: Performer, T: Taker<P::Verdict>>(
     ensures unread { result ≡ Err Cut.Unread → Rose (F.faults files.old (file_of trace.old)) (F.faults files.new (file_of trace.old)) }
     ensures unwritten { result ≡ Err Cut.Unwritten → Rose (S.faults out.old) (S.faults out.new) }
     ensures counts { (other : List ℕ) → F.faults files.old other ≤ F.faults files.new other }
+    ensures kept { F.held files.new ≡ F.held files.old }
+    ensures files_telling { F.tells files.new ≡ F.tells files.old }
     ensures count { S.faults out.old ≤ S.faults out.new }
     ensures telling { S.tells out.new ≡ S.tells out.old }
 {

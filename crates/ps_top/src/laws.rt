@@ -1,24 +1,36 @@
 // Laws of what the program writes.
 
-ghost use Rattle.std.specs.Prelude.{◌≡◌, List, Option, ℕ};
+ghost use Rattle.std.specs.Prelude.{◌≡◌, List, Option, IsSome, ℕ};
 ghost use Rattle.ps_model.specs.Meaning.{Item, Meaning, nothing};
 ghost use Rattle.ps_model.specs.Network.{Network};
 ghost use Rattle.ps_model.specs.Scanning.{State};
-ghost use Rattle.ps_top.specs.Asking.{Answer, IsAnswer};
+ghost use Rattle.ps_top.specs.Asking.{Answer, AsksFor, IsAnswer};
 ghost use Rattle.ps_top.specs.Program as program;
 ghost use Rattle.ps_top.specs.Skeletons.{AreSafeScans};
-ghost use Rattle.ps_top.specs.Source.{Flows};
-ghost use Rattle.ps_top.specs.Source.Reading.{stands_for};
+ghost use Rattle.ps_top.specs.Program.{Judged, Judges};
+ghost use Rattle.ps_source.specs.Source.{Reading, IsAcceptedAs, IsResolvedAs};
+ghost use Rattle.ps_source.specs.Source.Reading.{stands_for};
 
 /// In each report line of a run a SAFEBOOL output is TRUE only where its skeleton is: the lines are those of the states of
 /// `Meaning`, and these keep it for every application that a source is accepted for.
 pub fn lines_keep_skeletons()
     ensures { (source : List ℕ) (net : Network) (items : List Item) (ws : List State) →
-        Flows source (stands_for net) → Meaning net items ws → AreSafeScans net nothing items ws }
+        IsAcceptedAs source (stands_for net) → Meaning net items ws → AreSafeScans net nothing items ws }
 {}
 
 /// The program has one answer alone, for its words and the texts that are held: one list of bytes, and one status.
 pub fn one_answer()
     ensures { (words : List (List ℕ)) (held : List ℕ → Option (List ℕ)) (a b : Answer) →
         IsAnswer (program.text words) held a → IsAnswer (program.text words) held b → a ≡ b }
+{}
+
+/// Where all names that the text asks for are held there is an answer, if each source has a reading by its rules and each
+/// certificate a judgement.
+pub fn an_answer_exists()
+    ensures { (words : List (List ℕ)) (held : List ℕ → Option (List ℕ)) →
+        ((source : List ℕ) → (reading : Reading) × IsAcceptedAs source reading) →
+        ((source : List ℕ) → (reading : Reading) × IsResolvedAs source reading) →
+        ((net : Network) (certificate : List ℕ) → (judged : Judged) × Judges net certificate judged) →
+        ((name : List ℕ) → AsksFor (program.text words) held name → IsSome (held name)) →
+        (answer : Answer) × IsAnswer (program.text words) held answer }
 {}

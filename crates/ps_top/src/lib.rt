@@ -1,25 +1,25 @@
 //! The program `plcsafe`, over any files and any output.
+//!
+//! `program` has the call that does all that the program does, by the definition `text`. One room for each command:
+//! `checking`, `certifying`, `verifying`, `running`; `saying` writes short answers. The loop over a trace is in `items`, over
+//! what performs a scan (`performing`) and what takes what comes of it (`taking`). `left` is what a call leaves behind.
 #![tactic(auto)]
 
 mod certifying;
 mod checking;
 mod items;
 pub mod laws;
-pub mod left;
-pub mod list;
+mod left;
 mod performing;
-pub mod program;
-mod reading;
+mod program;
 mod running;
 mod saying;
-mod source;
 mod taking;
 mod verifying;
-mod words;
 
 pub use left::Left;
-pub use list::Words;
 pub use program::top;
+pub use ps_words::Words;
 
 /// How a call of the program ended.
 #[derive(Clone, Copy, Debug, PartialEq, Eq)]
@@ -41,6 +41,3 @@ pub enum Status {
     /// Memory is wanting.
     Memory,
 }
-
-#[cfg(test)]
-mod tests;

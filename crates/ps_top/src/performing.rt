@@ -5,9 +5,10 @@ ghost use Rattle.ps_model.specs.Meaning.Item.{scan as scan_item, restart as rest
 ghost use Rattle.ps_model.specs.Meaning.{Item};
 ghost use Rattle.ps_model.specs.Network.{Network, input_count, instance_count};
 ghost use Rattle.ps_scan.specs.Cells.{IsFor};
-ghost use Rattle.ps_top.specs.Outcomes.{Outcome, performed, anew};
+ghost use Rattle.ps_top.specs.Outcomes.{Outcome, anew, outcome_of};
 ghost use Rattle.ps_top.specs.Performing.{Performs};
 
+use ps_base::Refusal;
 use ps_model::app::App;
 use ps_model::channel::Verdict;
 use ps_model::report::{Report, Scan};
@@ -30,14 +31,19 @@ pub(crate) trait Performer {
     /// The item has this outcome, and leaves the second performer where the first one was.
     ghost performs: { Network → Self → Item → Outcome Self.Verdict → Self → Type 0 };
 
-    /// Performs a scan, and writes its report.
-    fn perform_scan(&mut self, app: &App, scan: &Scan, report: &mut Report) -> Self::Verdict
+    /// Performs a scan, and writes its report. A refusal ends the run: the scan was begun, and nothing is written of it.
+    fn perform_scan(
+        &mut self,
+        app: &App,
+        scan: &Scan,
+        report: &mut Report,
+    ) -> Result<Self::Verdict, Refusal>
         requires fits { fits app.now self.old }
         requires due { earliest self.old ≤ scan.now.now }
         requires inputs { length scan.now.ins ≡ input_count app.now }
         requires outputs { length report.old.outs ≡ length app.now.outputs }
         requires diagnoses { length report.old.diags ≡ instance_count app.now }
-        ensures performs { performs app.now self.old (scan_item scan.entry.now.now scan.entry.now.ins) (performed scan.entry.now.now result report.new) self.new }
+        ensures performs { performs app.now self.old (scan_item scan.entry.now.now scan.entry.now.ins) (outcome_of scan.entry.now.now report.new result) self.new }
         ensures fits { fits app.now self.new }
         ensures due { earliest self.new ≤ scan.entry.now.now }
         ensures outputs { length report.new.outs ≡ length app.now.outputs }
@@ -51,7 +57,7 @@ pub(crate) trait Performer {
         ensures due { earliest self.new ≤ earliest self.old };
 }
 
-/// The plain evaluator of scans, which releases each.
+/// The plain evaluator of scans, which releases each and refuses none.
 impl Performer for Scanner {
     type Verdict = Verdict;
 
@@ -61,9 +67,14 @@ impl Performer for Scanner {
 
     ghost performs = { Performs };
 
-    fn perform_scan(&mut self, app: &App, scan: &Scan, report: &mut Report) -> Verdict {
+    fn perform_scan(
+        &mut self,
+        app: &App,
+        scan: &Scan,
+        report: &mut Report,
+    ) -> Result<Verdict, Refusal> {
         self.scan(app, scan.now, scan.ins.as_slice(), report);
-        Verdict::Released
+        Ok(Verdict::Released)
     }
 
     fn perform_restart(&mut self, app: &App) {

@@ -1,26 +1,24 @@
 // The program, over any files and any output.
 
-ghost use Rattle.std.specs.Prelude.{◌≡◌, ◌⊎◌, ◌++◌, ℕ, List, IsTrue, Any};
+ghost use Rattle.std.specs.Prelude.{◌≡◌, ◌≢◌, ◌⊎◌, ◌≤◌, ◌++◌, ℕ, List, IsTrue, None, Any};
 ghost use Rattle.ps_outside.specs.Outside.{Rose};
 ghost use Rattle.ps_top.specs.Asking.{Answer, IsAnswer, AsksFor, IsLeft};
-ghost use Rattle.ps_top.specs.Meets.{IsCut, AppendsAll, AppendsPart, Meets};
+ghost use Rattle.ps_top.specs.Calls.{Answers, files_seen, output_seen};
+ghost use Rattle.ps_top.specs.Meets.{IsCut, AppendsAll, AppendsPart};
 ghost use Rattle.ps_top.specs.Program as program;
-ghost use Rattle.ps_top.specs.Program.Command.{NotTaken};
+ghost use Rattle.ps_words.specs.Command as asked;
+ghost use Rattle.ps_words.specs.Command.Command.{NotTaken};
 
 use crate::Status;
 use crate::certifying::cert;
 use crate::checking::check;
 use crate::left::Left;
-use crate::list::Words;
 use crate::running::run;
 use crate::saying::say;
 use crate::verifying::verify;
-use crate::words::{Command, command_of};
 use ps_outside::{Files, Sink};
+use ps_words::{Command, USAGE, Words, command_of};
 use std::alloc::Global;
-
-/// The forms of the commands.
-const USAGE: &[u8] = b"usage: plcsafe run APP TRACE | check APP | cert APP | verify APP CERT\n";
 
 // Does what the words ask.
 fn do_words<F: Files, S: Sink>(
@@ -30,15 +28,11 @@ fn do_words<F: Files, S: Sink>(
     out: &mut S,
     left: &mut Left,
 ) -> Status
-    ensures meets { IsTrue (F.tells files.old) → IsTrue (S.tells out.old) →
-        Meets (program.text words.now) (F.held files.old)
-        (λ name. Rose (F.faults files.old name) (F.faults files.new name)) (S.taken out.old) (S.taken out.new) result }
-    ensures leaves { IsTrue (F.tells files.old) → ¬ IsCut result → IsLeft (program.text words.now) (F.held files.old) left.new.checked }
-    ensures memory { IsTrue (S.tells out.old) → result ≡ Status.Memory → S.taken out.new ≡ S.taken out.old }
-    ensures read_fault { result ≡ Status.ReadFault → Any (λ name. Rose (F.faults files.old name) (F.faults files.new name)) (program.names_of (program.command_of words.now)) }
-    ensures write_fault { result ≡ Status.WriteFault → Rose (S.faults out.old) (S.faults out.new) }
-    ensures usage { result ≡ Status.Usage → program.command_of words.now ≡ NotTaken }
-    ensures not_taken { program.command_of words.now ≡ NotTaken → (result ≡ Status.Usage) ⊎ (result ≡ Status.WriteFault) }
+    ensures answers { Answers (program.text words.now) (asked.names_of (asked.command_of words.now))
+        (files_seen F.tells F.held F.faults files.old) (files_seen F.tells F.held F.faults files.new)
+        (output_seen S.tells S.taken S.faults out.old) (output_seen S.tells S.taken S.faults out.new) left.new result }
+    ensures usage { result ≡ Status.Usage → asked.command_of words.now ≡ NotTaken }
+    ensures not_taken { asked.command_of words.now ≡ NotTaken → (result ≡ Status.Usage) ⊎ (result ≡ Status.WriteFault) }
 {
     match command_of(words) {
         Command::NotTaken => say(out, USAGE, Status::Usage),
@@ -52,7 +46,7 @@ fn do_words<F: Files, S: Sink>(
 /// Does what the words ask: all that the program does.
 ///
 /// `words` are those after the program's name. What is written, and the status, is what the definition
-/// `text` says for these words and the texts that the files hold.
+/// `text` says for these words and the texts that the files hold. In `left` stands what the call worked with.
 pub fn top<F: Files, S: Sink>(
     alloc: Global,
     words: &Words,
@@ -60,40 +54,50 @@ pub fn top<F: Files, S: Sink>(
     out: &mut S,
     left: &mut Left,
 ) -> Status
-    // A call that was not cut short appends the whole text, with its status.
-    ensures whole { IsTrue (F.tells files.old) → IsTrue (S.tells out.old) → ¬ IsCut result →
-        AppendsAll (IsAnswer (program.text words.now) (F.held files.old)) (S.taken out.old) (S.taken out.new) result }
+    // Over files that tell: a call that was not cut short has the status of the text, and an output that tells took all of it.
+    ensures status { IsTrue (F.tells files.old) → ¬ IsCut result →
+        (answer : Answer) × IsAnswer (program.text words.now) (F.held files.old) answer × (result ≡ answer.status) }
+    ensures whole { IsTrue (F.tells files.old) → ¬ IsCut result →
+        AppendsAll (IsAnswer (program.text words.now) (F.held files.old)) (S.tells out.old) (S.taken out.old) (S.taken out.new) result }
 
-    // One that was cut short appends a beginning of it, and before the first line nothing.
-    ensures stopped { IsTrue (F.tells files.old) → IsTrue (S.tells out.old) → result ≡ Status.WriteFault →
-        AppendsPart (IsAnswer (program.text words.now) (F.held files.old)) (S.taken out.old) (S.taken out.new) }
+    // One that was cut short appends a beginning of it, and where memory is wanting nothing.
+    ensures stopped { IsTrue (F.tells files.old) → result ≡ Status.WriteFault →
+        AppendsPart (IsAnswer (program.text words.now) (F.held files.old)) (S.tells out.old) (S.taken out.old) (S.taken out.new) }
     ensures unread { IsTrue (F.tells files.old) → IsTrue (S.tells out.old) → result ≡ Status.ReadFault →
-        (S.taken out.new ≡ S.taken out.old) ⊎ AppendsPart (IsAnswer (program.text words.now) (F.held files.old)) (S.taken out.old) (S.taken out.new) }
+        (S.taken out.new ≡ S.taken out.old) ⊎ AppendsPart (IsAnswer (program.text words.now) (F.held files.old)) (S.tells out.old) (S.taken out.old) (S.taken out.new) }
     ensures memory { IsTrue (S.tells out.old) → result ≡ Status.Memory → S.taken out.new ≡ S.taken out.old }
 
-    // What is left of a certificate, where the call was not cut short.
-    ensures leaves { IsTrue (F.tells files.old) → ¬ IsCut result → IsLeft (program.text words.now) (F.held files.old) left.new.checked }
+    // What is left behind, where the call was not cut short.
+    ensures leaves { IsTrue (F.tells files.old) → ¬ IsCut result → IsLeft (program.text words.now) (F.held files.old) left.new }
 
-    // Where a name that the text asks for is not held, nothing is written.
-    ensures not_held { IsTrue (F.tells files.old) → IsTrue (S.tells out.old) →
-        ((answer : Answer) → ¬ (IsAnswer (program.text words.now) (F.held files.old) answer)) →
-        (S.taken out.new ≡ S.taken out.old) × ((result ≡ Status.ReadFault) ⊎ (result ≡ Status.Memory)) }
+    // Where a name that the text asks for is not held, nothing is written, and a read failed or memory is wanting.
+    ensures not_held { IsTrue (F.tells files.old) → (name : List ℕ) → AsksFor (program.text words.now) (F.held files.old) name →
+        F.held files.old name ≡ None → (result ≡ Status.ReadFault) ⊎ (result ≡ Status.Memory) }
+    ensures nothing_written { IsTrue (F.tells files.old) → IsTrue (S.tells out.old) → (name : List ℕ) →
+        AsksFor (program.text words.now) (F.held files.old) name → F.held files.old name ≡ None → S.taken out.new ≡ S.taken out.old }
 
-    // Faults have causes, whether or not the files and the sink tell their bytes.
-    ensures asked_fault { IsTrue (F.tells files.old) → IsTrue (S.tells out.old) → result ≡ Status.ReadFault →
+    // Faults have causes. Over files that tell it is a name that the text asks for.
+    ensures asked_fault { IsTrue (F.tells files.old) → result ≡ Status.ReadFault →
         (name : List ℕ) × AsksFor (program.text words.now) (F.held files.old) name × Rose (F.faults files.old name) (F.faults files.new name) }
-    ensures read_fault { result ≡ Status.ReadFault → Any (λ name. Rose (F.faults files.old name) (F.faults files.new name)) (program.names_of (program.command_of words.now)) }
+    ensures read_fault { result ≡ Status.ReadFault → Any (λ name. Rose (F.faults files.old name) (F.faults files.new name)) (asked.names_of (asked.command_of words.now)) }
     ensures write_fault { result ≡ Status.WriteFault → Rose (S.faults out.old) (S.faults out.new) }
 
     // Usage comes exactly where the words are not taken, unless the output fails.
-    ensures usage { result ≡ Status.Usage → program.command_of words.now ≡ NotTaken }
-    ensures not_taken { program.command_of words.now ≡ NotTaken → (result ≡ Status.Usage) ⊎ (result ≡ Status.WriteFault) }
+    ensures usage { result ≡ Status.Usage → asked.command_of words.now ≡ NotTaken }
+    ensures not_taken { asked.command_of words.now ≡ NotTaken → (result ≡ Status.Usage) ⊎ (result ≡ Status.WriteFault) }
 
     // Where nothing failed the call says all, or memory is wanting.
-    ensures completes { IsTrue (F.tells files.old) → IsTrue (S.tells out.old) →
+    ensures completes { IsTrue (F.tells files.old) →
         ((name : List ℕ) → AsksFor (program.text words.now) (F.held files.old) name → ¬ (Rose (F.faults files.old name) (F.faults files.new name))) →
         ¬ (Rose (S.faults out.old) (S.faults out.new)) →
-        (result ≡ Status.Memory) ⊎ AppendsAll (IsAnswer (program.text words.now) (F.held files.old)) (S.taken out.old) (S.taken out.new) result }
+        (result ≡ Status.Memory) ⊎ AppendsAll (IsAnswer (program.text words.now) (F.held files.old)) (S.tells out.old) (S.taken out.old) (S.taken out.new) result }
+
+    // What stays: what is held, whether files and output tell, and no count falls.
+    ensures kept { F.held files.new ≡ F.held files.old }
+    ensures files_telling { F.tells files.new ≡ F.tells files.old }
+    ensures counts { (name : List ℕ) → F.faults files.old name ≤ F.faults files.new name }
+    ensures output_telling { S.tells out.new ≡ S.tells out.old }
+    ensures output_count { S.faults out.old ≤ S.faults out.new }
 {
     do_words(alloc, words, files, out, left)
 }

@@ -1,14 +1,14 @@
 // `run APP TRACE`.
 
-ghost use Rattle.std.specs.Prelude.{◌≡◌, ◌≢◌, ◌≤◌, ℕ, List, IsTrue, Some, IfOk, Any, ◌∷◌, []};
+ghost use Rattle.std.specs.Prelude.{◌≡◌, ◌≢◌, ◌≤◌, ℕ, List, IsTrue, Some, IfOk, ◌∷◌, []};
 ghost use Rattle.ps_model.specs.Meaning.{nothing};
 ghost use Rattle.ps_model.specs.Network.{input_count};
-ghost use Rattle.ps_outside.specs.Outside.{Rose};
 ghost use Rattle.ps_report.specs.Lines.{line_room};
 ghost use Rattle.ps_scan.specs.Cells.{IsFor};
 ghost use Rattle.ps_scan.specs.Scan.{CellsStand};
-ghost use Rattle.ps_top.specs.Asking.{IsLeft};
-ghost use Rattle.ps_top.specs.Meets.{IsCut, Gives, Meets};
+ghost use Rattle.ps_top.specs.Calls.{Answers, Causes, files_seen, output_seen};
+ghost use Rattle.ps_top.specs.Meets.{Gives};
+ghost use Rattle.ps_top.specs.declared.left.Left.{Left as LeftBehind};
 ghost use Rattle.ps_top.specs.Program as program;
 ghost use Rattle.ps_top.specs.Resting.{IsRest};
 ghost use Rattle.ps_top.specs.Running.{Fits};
@@ -18,7 +18,6 @@ use crate::Status;
 use crate::checking::refuse;
 use crate::items::{Cut, Runner, do_items};
 use crate::left::Left;
-use crate::reading::read_accepted;
 use crate::saying::say_refused;
 use ps_base::Memory;
 use ps_model::app::App;
@@ -26,6 +25,7 @@ use ps_model::report::{Report, Scan};
 use ps_outside::{Files, Sink};
 use ps_report::LineBuffer;
 use ps_scan::Scanner;
+use ps_source::read_accepted;
 use ps_trace::{TraceFail, TraceReader};
 use std::alloc::Global;
 
@@ -54,14 +54,13 @@ fn answer_scans<F: Files, S: Sink>(
 ) -> Status
     requires fits { Fits (IsFor app.now) (λ room. line_room app.now ≤ room) app.now runner.old }
     requires inputs { input_count_of trace.old ≡ input_count app.now }
-    ensures gives { IsTrue (F.tells files.old) → IsTrue (S.tells out.old) → (text : List ℕ) → F.held files.old (file_of trace.old) ≡ Some text →
+    ensures gives { IsTrue (F.tells files.old) → (text : List ℕ) → F.held files.old (file_of trace.old) ≡ Some text →
         IsReadingTrace trace.old text → CellsStand app.now nothing runner.old.performer →
-        Gives (IsRest app.now nothing (items_left trace.old text)) (S.taken out.old) (S.taken out.new) result }
-    ensures no_memory { result ≢ Status.Memory }
+        Gives (IsRest app.now nothing (items_left trace.old text)) (S.tells out.old) (S.taken out.old) (S.taken out.new) result }
+    ensures causes { Causes (file_of trace.old ∷ [])
+        (files_seen F.tells F.held F.faults files.old) (files_seen F.tells F.held F.faults files.new)
+        (output_seen S.tells S.taken S.faults out.old) (output_seen S.tells S.taken S.faults out.new) result }
     ensures no_usage { result ≢ Status.Usage }
-    ensures read_fault { result ≡ Status.ReadFault → Rose (F.faults files.old (file_of trace.old)) (F.faults files.new (file_of trace.old)) }
-    ensures write_fault { result ≡ Status.WriteFault → Rose (S.faults out.old) (S.faults out.new) }
-    ensures counts { (other : List ℕ) → F.faults files.old other ≤ F.faults files.new other }
 {
     app.sound();
     match do_items(app, trace, runner, files, out) {
@@ -80,18 +79,14 @@ fn run_named<F: Files, S: Sink>(
     files: &mut F,
     out: &mut S,
 ) -> Status
-    ensures meets { IsTrue (F.tells files.old) → IsTrue (S.tells out.old) →
-        Meets (program.run_named app.now trace.now) (F.held files.old)
-        (λ name. Rose (F.faults files.old name) (F.faults files.new name)) (S.taken out.old) (S.taken out.new) result }
-    ensures read_fault { result ≡ Status.ReadFault → Rose (F.faults files.old trace.now) (F.faults files.new trace.now) }
-    ensures memory { IsTrue (S.tells out.old) → result ≡ Status.Memory → S.taken out.new ≡ S.taken out.old }
-    ensures write_fault { result ≡ Status.WriteFault → Rose (S.faults out.old) (S.faults out.new) }
+    ensures answers { (left : LeftBehind) → Answers (program.run_named app.now trace.now) (trace.now ∷ [])
+        (files_seen F.tells F.held F.faults files.old) (files_seen F.tells F.held F.faults files.new)
+        (output_seen S.tells S.taken S.faults out.old) (output_seen S.tells S.taken S.faults out.new) left result }
     ensures no_usage { result ≢ Status.Usage }
-    ensures counts { (other : List ℕ) → F.faults files.old other ≤ F.faults files.new other }
 {
     let mut runner = match Runner::for_app(alloc, app) {
         Ok(runner) => runner,
-        Err(_) => return Status::Memory,
+        Err(Memory) => return Status::Memory,
     };
     match TraceReader::start(alloc, files, trace, app) {
         Ok(mut reader) => answer_scans(app, &mut reader, &mut runner, files, out),
@@ -101,7 +96,7 @@ fn run_named<F: Files, S: Sink>(
     }
 }
 
-/// `run APP TRACE`: the report lines of the scans of a trace, by what the application's networks mean.
+// `run APP TRACE`: the report lines of the scans of a trace, by what the application's networks mean.
 pub(crate) fn run<F: Files, S: Sink>(
     alloc: Global,
     app: &str,
@@ -110,21 +105,17 @@ pub(crate) fn run<F: Files, S: Sink>(
     out: &mut S,
     left: &mut Left,
 ) -> Status
-    ensures meets { IsTrue (F.tells files.old) → IsTrue (S.tells out.old) →
-        Meets (program.run app.now trace.now) (F.held files.old)
-        (λ name. Rose (F.faults files.old name) (F.faults files.new name)) (S.taken out.old) (S.taken out.new) result }
-    ensures leaves { IsTrue (F.tells files.old) → ¬ IsCut result → IsLeft (program.run app.now trace.now) (F.held files.old) left.new.checked }
-    ensures read_fault { result ≡ Status.ReadFault → Any (λ name. Rose (F.faults files.old name) (F.faults files.new name)) (app.now ∷ trace.now ∷ []) }
-    ensures memory { IsTrue (S.tells out.old) → result ≡ Status.Memory → S.taken out.new ≡ S.taken out.old }
-    ensures write_fault { result ≡ Status.WriteFault → Rose (S.faults out.old) (S.faults out.new) }
+    ensures answers { Answers (program.run app.now trace.now) (app.now ∷ trace.now ∷ [])
+        (files_seen F.tells F.held F.faults files.old) (files_seen F.tells F.held F.faults files.new)
+        (output_seen S.tells S.taken S.faults out.old) (output_seen S.tells S.taken S.faults out.new) left.new result }
     ensures no_usage { result ≢ Status.Usage }
 {
     match read_accepted(alloc, app, files) {
         Ok(accepted) => {
-            let (app, checked) = accepted.parted();
+            let (app, checked) = accepted.into_parts();
             left.checked = Some(checked);
             run_named(alloc, &app, trace, files, out)
         }
-        Err(unread) => refuse(out, unread),
+        Err(why) => refuse(out, why),
     }
 }

@@ -1,17 +1,15 @@
 // `verify APP CERT`.
 
-ghost use Rattle.std.specs.Prelude.{◌≡◌, ◌≢◌, ◌⊎◌, ◌≤◌, List, ℕ, IsTrue, Any, IfOk, ◌∷◌, [], take};
-ghost use Rattle.ps_outside.specs.Outside.{Rose};
-ghost use Rattle.ps_top.specs.Asking.{IsLeft};
-ghost use Rattle.ps_top.specs.Judging.{IsJudged, told_of, LeavesCounts};
-ghost use Rattle.ps_top.specs.Meets.{IsCut, Gives, Meets};
+ghost use Rattle.std.specs.Prelude.{◌≡◌, ◌≢◌, ◌+◌, List, ℕ, IfOk, ◌∷◌, [], take};
+ghost use Rattle.ps_top.specs.Calls.{Answers, files_seen, output_seen};
+ghost use Rattle.ps_top.specs.Judging.{IsJudged, LeavesCounts, SaysJudgement};
+ghost use Rattle.ps_top.specs.Meets.{IsCut};
 ghost use Rattle.ps_top.specs.Program as program;
-ghost use Rattle.ps_top.specs.Program.{IsCertificate};
+ghost use Rattle.ps_flow.specs.Read.{IsCertificate};
 
 use crate::Status;
 use crate::checking::refuse;
 use crate::left::Left;
-use crate::reading::read_resolved;
 use crate::saying::{say, say_refused};
 use ps_base::limits::LARGEST_CERTIFICATE;
 use ps_base::{Fail, Memory, Place, Refusal, Rule};
@@ -19,6 +17,7 @@ use ps_checker::{Checked, check};
 use ps_flow::{Certificate, read_certificate};
 use ps_model::app::App;
 use ps_outside::{Files, ReadFail, Sink, read_upto};
+use ps_source::read_resolved;
 use std::alloc::Global;
 
 // What the text of a certificate comes to.
@@ -63,7 +62,7 @@ fn judge(alloc: Global, app: &App, text: &[u8]) -> Result<Judgement, Memory>
 
 // Judges the text of a certificate, which was read up to one byte more than the largest.
 fn judge_read(alloc: Global, app: &App, text: &[u8]) -> Result<Judgement, Memory>
-    ensures { (whole : List ℕ) → text.now ≡ take 1048577 whole → IfOk result (IsJudged app.now whole) }
+    ensures { (whole : List ℕ) → text.now ≡ take (LARGEST_CERTIFICATE + 1) whole → IfOk result (IsJudged app.now whole) }
 {
     if text.len() > LARGEST_CERTIFICATE as usize {
         return Ok(Judgement::Objects(at_line(Rule::C2, 1)));
@@ -73,10 +72,8 @@ fn judge_read(alloc: Global, app: &App, text: &[u8]) -> Result<Judgement, Memory
 
 // Says what a certificate comes to.
 fn tell<S: Sink>(alloc: Global, judgement: Judgement, out: &mut S, left: &mut Left) -> Status
-    ensures told { IsTrue (S.tells out.old) → Gives (λ said. said ≡ told_of judgement) (S.taken out.old) (S.taken out.new) result }
-    ensures leaves { ¬ IsCut result → LeavesCounts judgement left.new.checked }
-    ensures memory { IsTrue (S.tells out.old) → result ≡ Status.Memory → S.taken out.new ≡ S.taken out.old }
-    ensures write_fault { result ≡ Status.WriteFault → Rose (S.faults out.old) (S.faults out.new) }
+    ensures says { SaysJudgement judgement (output_seen S.tells S.taken S.faults out.old) (output_seen S.tells S.taken S.faults out.new) result }
+    ensures leaves { ¬ IsCut result → LeavesCounts judgement left.new }
     ensures no_read { result ≢ Status.ReadFault }
     ensures no_usage { result ≢ Status.Usage }
 {
@@ -104,27 +101,22 @@ fn verify_named<F: Files, S: Sink>(
     out: &mut S,
     left: &mut Left,
 ) -> Status
-    ensures meets { IsTrue (F.tells files.old) → IsTrue (S.tells out.old) →
-        Meets (program.verify_named app.now cert.now) (F.held files.old)
-        (λ name. Rose (F.faults files.old name) (F.faults files.new name)) (S.taken out.old) (S.taken out.new) result }
-    ensures leaves { IsTrue (F.tells files.old) → ¬ IsCut result → IsLeft (program.verify_named app.now cert.now) (F.held files.old) left.new.checked }
-    ensures read_fault { result ≡ Status.ReadFault → Rose (F.faults files.old cert.now) (F.faults files.new cert.now) }
-    ensures memory { IsTrue (S.tells out.old) → result ≡ Status.Memory → S.taken out.new ≡ S.taken out.old }
-    ensures write_fault { result ≡ Status.WriteFault → Rose (S.faults out.old) (S.faults out.new) }
+    ensures answers { Answers (program.verify_named app.now cert.now) (cert.now ∷ [])
+        (files_seen F.tells F.held F.faults files.old) (files_seen F.tells F.held F.faults files.new)
+        (output_seen S.tells S.taken S.faults out.old) (output_seen S.tells S.taken S.faults out.new) left.new result }
     ensures no_usage { result ≢ Status.Usage }
-    ensures counts { (other : List ℕ) → F.faults files.old other ≤ F.faults files.new other }
 {
     match read_upto(alloc, files, cert, LARGEST_CERTIFICATE + 1) {
         Ok(text) => match judge_read(alloc, app, text.as_slice()) {
             Ok(judgement) => tell(alloc, judgement, out, left),
-            Err(_) => Status::Memory,
+            Err(Memory) => Status::Memory,
         },
         Err(ReadFail::Memory) => Status::Memory,
         Err(ReadFail::Fault) => Status::ReadFault,
     }
 }
 
-/// `verify APP CERT`: whether a certificate derives an application. Nothing is derived, and no rule S is tried.
+// `verify APP CERT`: whether a certificate derives an application. Nothing is derived, and no rule S is tried.
 pub(crate) fn verify<F: Files, S: Sink>(
     alloc: Global,
     app: &str,
@@ -133,17 +125,13 @@ pub(crate) fn verify<F: Files, S: Sink>(
     out: &mut S,
     left: &mut Left,
 ) -> Status
-    ensures meets { IsTrue (F.tells files.old) → IsTrue (S.tells out.old) →
-        Meets (program.verify app.now cert.now) (F.held files.old)
-        (λ name. Rose (F.faults files.old name) (F.faults files.new name)) (S.taken out.old) (S.taken out.new) result }
-    ensures leaves { IsTrue (F.tells files.old) → ¬ IsCut result → IsLeft (program.verify app.now cert.now) (F.held files.old) left.new.checked }
-    ensures read_fault { result ≡ Status.ReadFault → Any (λ name. Rose (F.faults files.old name) (F.faults files.new name)) (app.now ∷ cert.now ∷ []) }
-    ensures memory { IsTrue (S.tells out.old) → result ≡ Status.Memory → S.taken out.new ≡ S.taken out.old }
-    ensures write_fault { result ≡ Status.WriteFault → Rose (S.faults out.old) (S.faults out.new) }
+    ensures answers { Answers (program.verify app.now cert.now) (app.now ∷ cert.now ∷ [])
+        (files_seen F.tells F.held F.faults files.old) (files_seen F.tells F.held F.faults files.new)
+        (output_seen S.tells S.taken S.faults out.old) (output_seen S.tells S.taken S.faults out.new) left.new result }
     ensures no_usage { result ≢ Status.Usage }
 {
     match read_resolved(alloc, app, files) {
         Ok(app) => verify_named(alloc, &app, cert, files, out, left),
-        Err(unread) => refuse(out, unread),
+        Err(why) => refuse(out, why),
     }
 }

@@ -2,7 +2,7 @@ use Rattle.std.proofs.Common.{◌≡◌, ◌∙◌, ℕ, List, Bool, IsTrue, Som
 use Rattle.std.proofs.lemmas.Result.{err_from_is_err_and}
 use Rattle.ps_trace.specs.Reading.{Comes, Fills, file_of, items_left}
 use Rattle.ps_trace.specs.declared.trace.Next.{Next}
-use Rattle.ps_top.proofs.Doing.{leads_first, leads_on, led_unwritten, led_all, led_cut}
+use Rattle.ps_top.proofs.Doing.{leads_first, leads_on, item_cut, all_done, no_item}
 use Rattle.ps_top.proofs.items.do_items.Goals as goal
 
 pub items-init : goal.items-init
@@ -28,7 +28,7 @@ returns-in_err-next_scan-clause-does g c = λ ft text is reading.
     let ft' : IsTrue (g.F.Files.tells c.items.files) = subst (λ (b : Bool). IsTrue b) (sym inv.telling) ft in
     let p = err_from_is_err_and c.from_residual.result c.from_residual.ensures.1 in
     rw (p.1, p.2)
-    (led_cut _ _ _ _ _ _ _ _ _ _ _ _ _ _ (inv.leads ft text is reading) _
+    (no_item _ _ _ _ _ _ _ _ _ _ _ _ _ _ (inv.leads ft text is reading) _
     (λ refusal e. c.next_scan.ensures.refuses ft' text here (inv.reads ft text is reading) refusal (c.in_err-next_scan.was ∙ ap Err e)))
 
 pub items-preserved-in-Continue-branch-3 : goal.items-preserved-in-Continue-branch-3
@@ -70,7 +70,7 @@ returns-in_err-do_scan-in-Scan-clause-does g c = λ ft text is reading.
     let fills = subst (λ (n : Next). Fills n c.items.trace c.next_scan.new.self c.items.runner.scan c.next_scan.new.into) c.in-Scan.is c.in_ok-next_scan.ensures.fills in
     let p = err_from_is_err_and c.from_residual-in_err-do_scan-in-Scan.result c.from_residual-in_err-do_scan-in-Scan.ensures.1 in
     rw (p.1, p.2)
-    (led_unwritten _ _ _ _ _ _ _ _ _ _ _ _ _ _ (inv.leads ft text is reading) _ _ _ _ _ _ _ inv.still_telling comes fills.1 c.in_err-do_scan-in-Scan.ensures.does)
+    (item_cut _ _ _ _ _ _ _ _ _ _ _ _ _ _ (inv.leads ft text is reading) _ _ _ _ _ _ _ inv.still_telling comes fills.1 c.in_err-do_scan-in-Scan.ensures.does)
 
 pub items-preserved : goal.items-preserved
 items-preserved g c =
@@ -110,7 +110,7 @@ returns-in_err-do_restart-in-Restart-clause-does g c = λ ft text is reading.
     (c.in_ok-next_scan.ensures.comes ft' text here (inv.reads ft text is reading)) in
     let p = err_from_is_err_and c.from_residual-in_err-do_restart-in-Restart.result c.from_residual-in_err-do_restart-in-Restart.ensures.1 in
     rw (p.1, p.2)
-    (led_unwritten _ _ _ _ _ _ _ _ _ _ _ _ _ _ (inv.leads ft text is reading) _ _ _ _ _ _ _ inv.still_telling comes tt c.in_err-do_restart-in-Restart.ensures.does)
+    (item_cut _ _ _ _ _ _ _ _ _ _ _ _ _ _ (inv.leads ft text is reading) _ _ _ _ _ _ _ inv.still_telling comes tt c.in_err-do_restart-in-Restart.ensures.does)
 
 pub returns-in-End-clause-does : goal.returns-in-End-clause-does
 returns-in-End-clause-does g c = λ ft text is reading.
@@ -120,4 +120,4 @@ returns-in-End-clause-does g c = λ ft text is reading.
     let ft' : IsTrue (g.F.Files.tells c.items.files) = subst (λ (b : Bool). IsTrue b) (sym inv.telling) ft in
     let comes = subst (λ (n : Next). Comes (items_left c.items.trace text) n c.next_scan.new.into (items_left c.next_scan.new.self text)) c.in-End.is
     (c.in_ok-next_scan.ensures.comes ft' text here (inv.reads ft text is reading)) in
-    led_all _ _ _ _ _ _ _ _ _ _ _ _ _ _ (inv.leads ft text is reading) _ comes.0
+    all_done _ _ _ _ _ _ _ _ _ _ _ _ _ _ (inv.leads ft text is reading) _ comes.0

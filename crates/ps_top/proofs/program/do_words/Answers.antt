@@ -1,20 +1,26 @@
-use Rattle.std.proofs.Common.{◌≡◌, sym}
-use Rattle.ps_outside.specs.Outside.{Rose}
-use Rattle.ps_top.specs.Program as program
-use Rattle.ps_top.specs.Program.Command.{Run, Verify}
-use Rattle.ps_top.proofs.Completing.{asked_as}
+use Rattle.std.proofs.Common.{[], arith}
+use Rattle.ps_words.specs.Command.{usage_line}
+use Rattle.ps_words.specs.Command.Command.{Run, Check, Cert, Verify, NotTaken}
+use Rattle.ps_top.specs.Program.{answer}
+use Rattle.ps_top.specs.declared.Status.TheVariants.{Usage}
+use Rattle.ps_top.proofs.Calling.{files_same, said_answers}
+use Rattle.ps_top.proofs.Completing.{words_answer}
 use Rattle.ps_top.proofs.program.do_words.Goals as goal
 
-pub returns-in-Run-clause-meets : goal.returns-in-Run-clause-meets
-returns-in-Run-clause-meets g c = λ ft st.
-    let is : program.command_of c.args.words.now ≡ Run c.in-Run.app.now c.in-Run.trace.now = sym c.in-Run.ensures in
-    asked_as c.args.words.now (Run c.in-Run.app.now c.in-Run.trace.now) (g.F.Files.held c.args.files.now)
-    (λ name. Rose (g.F.Files.faults c.args.files.now name) (g.F.Files.faults c.run.new.files name)) (g.S.Sink.taken c.args.out.now) (g.S.Sink.taken c.run.new.out) c.run.result
-    is (c.run.ensures.meets ft st)
+pub returns-in-NotTaken-clause-answers : goal.returns-in-NotTaken-clause-answers
+returns-in-NotTaken-clause-answers g c =
+    words_answer c.args.words.now NotTaken _ _ _ _ _ c.say.result c.in-NotTaken.ensures
+    (said_answers (answer usage_line Usage) [] _ _ _ _ _ c.say.result (λ cut. grind arith) (files_same _) c.say.ensures)
 
-pub returns-in-Verify-clause-meets : goal.returns-in-Verify-clause-meets
-returns-in-Verify-clause-meets g c = λ ft st.
-    let is : program.command_of c.args.words.now ≡ Verify c.in-Verify.app.now c.in-Verify.cert.now = sym c.in-Verify.ensures in
-    asked_as c.args.words.now (Verify c.in-Verify.app.now c.in-Verify.cert.now) (g.F.Files.held c.args.files.now)
-    (λ name. Rose (g.F.Files.faults c.args.files.now name) (g.F.Files.faults c.verify.new.files name)) (g.S.Sink.taken c.args.out.now) (g.S.Sink.taken c.verify.new.out) c.verify.result
-    is (c.verify.ensures.meets ft st)
+pub returns-in-Run-clause-answers : goal.returns-in-Run-clause-answers
+returns-in-Run-clause-answers g c = words_answer c.args.words.now (Run c.in-Run.app.now c.in-Run.trace.now) _ _ _ _ _ c.run.result c.in-Run.ensures c.run.ensures.answers
+
+pub returns-in-Check-clause-answers : goal.returns-in-Check-clause-answers
+returns-in-Check-clause-answers g c = words_answer c.args.words.now (Check c.in-Check.app.now) _ _ _ _ _ c.check.result c.in-Check.ensures c.check.ensures.answers
+
+pub returns-in-Cert-clause-answers : goal.returns-in-Cert-clause-answers
+returns-in-Cert-clause-answers g c = words_answer c.args.words.now (Cert c.in-Cert.app.now) _ _ _ _ _ c.cert.result c.in-Cert.ensures c.cert.ensures.answers
+
+pub returns-in-Verify-clause-answers : goal.returns-in-Verify-clause-answers
+returns-in-Verify-clause-answers g c =
+    words_answer c.args.words.now (Verify c.in-Verify.app.now c.in-Verify.cert.now) _ _ _ _ _ c.verify.result c.in-Verify.ensures c.verify.ensures.answers

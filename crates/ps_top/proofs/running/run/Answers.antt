@@ -1,59 +1,44 @@
-use Rattle.std.proofs.Common.{◌∙◌, ℕ, Bool, List, Some, IsTrue, ap, sym, subst}
+use Rattle.std.proofs.Common.{◌∙◌, List, [], ◌∷◌, Some, ap, sym, subst}
 use Rattle.ps_checker.specs.Counts.{Counts}
-use Rattle.ps_model.specs.Network.{Network}
-use Rattle.ps_outside.specs.Outside.{Rose}
-use Rattle.ps_flow.specs.declared.certificate.CertLine.{CertLine}
 use Rattle.ps_flow.specs.Derivation.{certificate}
-use Rattle.ps_top.specs.Asking.{Asking}
+use Rattle.ps_flow.specs.declared.certificate.CertLine.{CertLine}
+use Rattle.ps_model.specs.Network.{Network}
+use Rattle.ps_source.specs.Answering.{IsChecked, app_of}
+use Rattle.ps_source.specs.Source.{IsAcceptedAs, counts}
+use Rattle.ps_source.specs.Source.Reading.{stands_for}
+use Rattle.ps_source.specs.declared.accepting.Accepted.{Accepted}
 use Rattle.ps_top.specs.Asking.Asking.{Leaves}
-use Rattle.ps_top.specs.Program.{counts, run_named}
-use Rattle.ps_top.specs.Reading.{IsChecked}
-use Rattle.ps_top.specs.Source.{Flows}
-use Rattle.ps_top.specs.Source.Reading.{stands_for}
-use Rattle.ps_top.specs.declared.source.Accepted.{Accepted}
-use Rattle.ps_top.proofs.Meeting.{met_later, rose_earlier, any_second}
-use Rattle.ps_top.proofs.Applied.{unread_meets, unread_leaves, accepted_meets, accepted_leaves}
+use Rattle.ps_top.specs.Calls.{KeepsFiles, files_seen, output_seen}
+use Rattle.ps_top.specs.Program.{leaves_checked, run_named}
+use Rattle.ps_top.proofs.Applied.{no_application_answers, accepted_answers}
 use Rattle.ps_top.proofs.running.run.Goals as goal
 
-abbrev next : List ℕ → Network → Asking
-next trace net = Leaves (counts net (certificate net)) (run_named net trace)
+pub returns-in-Ok-clause-answers : goal.returns-in-Ok-clause-answers
+returns-in-Ok-clause-answers g c =
+    let read = c.in-Ok.ensures.read in
+    let net : Network = c.into_parts-app.result.0 in
+    let is = c.into_parts-app.ensures.app in
+    let first = files_seen g.F.Files.tells g.F.Files.held g.F.Files.faults c.args.files.now in
+    let mid = files_seen g.F.Files.tells g.F.Files.held g.F.Files.faults c.read_accepted.new.files in
+    let last = files_seen g.F.Files.tells g.F.Files.held g.F.Files.faults c.run_named.new.files in
+    let before = output_seen g.S.Sink.tells g.S.Sink.taken g.S.Sink.faults c.args.out.now in
+    let after = output_seen g.S.Sink.tells g.S.Sink.taken g.S.Sink.faults c.run_named.new.out in
+    let keeps : KeepsFiles first mid = record { counts = c.in-Ok.ensures.counts; held = c.in-Ok.ensures.kept; telling = c.in-Ok.ensures.telling } in
+    accepted_answers c.args.app.now (λ n. run_named n c.args.trace.now) (c.args.trace.now ∷ []) net first mid last before after _ c.run_named.result keeps
+    (λ tells. let r = read tells in (r.0, r.1, subst (λ (n : Network). IsAcceptedAs r.0 (stands_for n)) (sym is) r.2.0))
+    (λ tells not_cut. let r = read tells in
+    ap (λ (x : Counts). Some x)
+    (c.into_parts-app.ensures.checked ∙ r.2.1.counts_are ∙ ap (λ (ls : List CertLine). counts (app_of c.in-Ok.accepted) ls) r.2.1.derivation
+    ∙ ap (λ (n : Network). counts n (certificate n)) (sym is)))
+    (c.run_named.ensures.answers _)
 
-pub returns-in-Ok-clause-meets : goal.returns-in-Ok-clause-meets
-returns-in-Ok-clause-meets g c = λ files_tell sink_tells.
-    let read = c.in-Ok.ensures.read files_tell in
-    let net : Network = c.parted-app.result.0 in
-    let trace = c.args.trace.now in
-    let held = g.F.Files.held c.args.files.now in
-    let rose = λ (name : List ℕ). Rose (g.F.Files.faults c.args.files.now name) (g.F.Files.faults c.run_named.new.files name) in
-    let still : IsTrue (g.F.Files.tells c.read_accepted.new.files) = subst (λ (b : Bool). IsTrue b) (sym c.in-Ok.ensures.telling) files_tell in
-    let stands : Flows read.0 (stands_for net) = subst (λ (n : Network). Flows read.0 (stands_for n)) (sym c.parted-app.ensures.app) read.2.0 in
-    accepted_meets c.args.app.now read.0 (λ n. run_named n trace) net held rose (g.S.Sink.taken c.args.out.now) (g.S.Sink.taken c.run_named.new.out) c.run_named.result read.1 stands
-    (met_later (run_named net trace) held (g.F.Files.held c.read_accepted.new.files) rose
-    (λ name. Rose (g.F.Files.faults c.read_accepted.new.files name) (g.F.Files.faults c.run_named.new.files name)) (g.S.Sink.taken c.args.out.now) (g.S.Sink.taken c.run_named.new.out) c.run_named.result
-    c.in-Ok.ensures.kept
-    (λ name. rose_earlier (g.F.Files.faults c.args.files.now name) (g.F.Files.faults c.read_accepted.new.files name) (g.F.Files.faults c.run_named.new.files name) (c.in-Ok.ensures.counts name))
-    (c.run_named.ensures.meets still sink_tells))
-
-pub returns-in-Ok-clause-leaves : goal.returns-in-Ok-clause-leaves
-returns-in-Ok-clause-leaves g c = λ files_tell not_cut.
-    let read = c.in-Ok.ensures.read files_tell in
-    let net : Network = c.in-Ok.accepted.app in
-    accepted_leaves c.args.app.now read.0 (λ n. run_named n c.args.trace.now) net (g.F.Files.held c.args.files.now) _ read.1 read.2.0
-    (ap (λ (x : Counts). Some x) (c.parted-app.ensures.checked ∙ read.2.1.counted ∙ ap (λ (ls : List CertLine). counts net ls) read.2.1.derivation))
-
-pub returns-in-Ok-clause-read_fault : goal.returns-in-Ok-clause-read_fault
-returns-in-Ok-clause-read_fault g c = λ fault.
-    any_second (λ name. Rose (g.F.Files.faults c.args.files.now name) (g.F.Files.faults c.run_named.new.files name)) c.args.app.now c.args.trace.now
-    (rose_earlier (g.F.Files.faults c.args.files.now c.args.trace.now) (g.F.Files.faults c.read_accepted.new.files c.args.trace.now) (g.F.Files.faults c.run_named.new.files c.args.trace.now)
-    (c.in-Ok.ensures.counts c.args.trace.now) (c.run_named.ensures.read_fault fault))
-
-pub returns-in-Err-clause-meets : goal.returns-in-Err-clause-meets
-returns-in-Err-clause-meets g c = λ files_tell sink_tells.
-    unread_meets c.args.app.now Flows (next c.args.trace.now) (g.F.Files.held c.args.files.now) Accepted (λ text a. Flows text (stands_for a.app) × IsChecked a)
-    (λ name. Rose (g.F.Files.faults c.args.files.now name) (g.F.Files.faults c.read_accepted.new.files name)) (g.S.Sink.taken c.args.out.now) (g.S.Sink.taken c.refuse.new.out) c.refuse.result c.in-Err.unread
-    (c.in-Err.ensures.read files_tell) c.in-Err.ensures.fault c.refuse.ensures.ends (c.refuse.ensures.told sink_tells)
-
-pub returns-in-Err-clause-leaves : goal.returns-in-Err-clause-leaves
-returns-in-Err-clause-leaves g c = λ files_tell not_cut.
-    unread_leaves c.args.app.now Flows (next c.args.trace.now) (g.F.Files.held c.args.files.now) Accepted (λ text a. Flows text (stands_for a.app) × IsChecked a)
-    _ c.refuse.result c.in-Err.unread (c.in-Err.ensures.read files_tell) c.refuse.ensures.ends not_cut
+pub returns-in-Err-clause-answers : goal.returns-in-Err-clause-answers
+returns-in-Err-clause-answers g c =
+    let first = files_seen g.F.Files.tells g.F.Files.held g.F.Files.faults c.args.files.now in
+    let last = files_seen g.F.Files.tells g.F.Files.held g.F.Files.faults c.read_accepted.new.files in
+    let before = output_seen g.S.Sink.tells g.S.Sink.taken g.S.Sink.faults c.args.out.now in
+    let after = output_seen g.S.Sink.tells g.S.Sink.taken g.S.Sink.faults c.refuse.new.out in
+    let keeps : KeepsFiles first last = record { counts = c.in-Err.ensures.counts; held = c.in-Err.ensures.kept; telling = c.in-Err.ensures.telling } in
+    no_application_answers c.args.app.now IsAcceptedAs (λ net. Leaves (leaves_checked (counts net (certificate net))) (run_named net c.args.trace.now)) (c.args.trace.now ∷ []) Accepted
+    (λ text a. IsAcceptedAs text (stands_for (app_of a)) × IsChecked a) first last before after _ c.refuse.result c.in-Err.why keeps
+    c.in-Err.ensures.read c.in-Err.ensures.fault c.refuse.ensures.says

@@ -1,0 +1,4 @@
+pub mod Sourced
+pub mod Placing
+pub mod OneReading
+pub mod OneBreach

@@ -1,0 +1,4 @@
+-- what the text of a source gives: what a reader of the clauses has to believe
+pub mod Source
+-- what the readers of sources answer
+pub mod Answering

@@ -1,0 +1,122 @@
+// From the text of a source to its application.
+
+ghost use Rattle.std.specs.Prelude.{◌≡◌, Some, slice_get, IfOk, IfErr};
+ghost use Rattle.ps_base.specs.declared.failing.Fail.TheVariants.{Refused as IsRefused};
+ghost use Rattle.ps_model.specs.Typing.{Accepted as IsAccepted};
+ghost use Rattle.ps_flow.specs.Derivation as derivation;
+ghost use Rattle.ps_flow.specs.Refusals.{IsFirstBreach};
+ghost use Rattle.ps_flow.specs.Written.{written};
+ghost use Rattle.ps_names.specs.Stands.{Stands};
+ghost use Rattle.ps_parser.specs.Places.{step_place};
+ghost use Rattle.ps_source.specs.Source.{pin_name};
+ghost use Rattle.ps_source.specs.Answering.{IsResolution, IsChecked, IsAcceptance, app_of, certificate_of, checked_of};
+
+use ps_base::{Bytes, Fail, Memory, Place, Refusal};
+use ps_checker::laws::derived_passes;
+use ps_checker::{Checked, check};
+use ps_flow::{Certificate, FlowFail, FlowRefusal, derive, write_certificate};
+use ps_lexer::lex;
+use ps_model::app::App;
+use ps_model::pins::pin_name;
+use ps_model::step::Step;
+use ps_parser::{Source, parse};
+use ps_resolve::resolve;
+use std::alloc::Global;
+
+/// An accepted application, with its certificate, which was checked.
+#[derive(Drop)]
+pub struct Accepted {
+    pub(crate) app: App,
+    pub(crate) certificate: Certificate,
+    pub(crate) checked: Checked,
+}
+
+impl Accepted {
+    /// The application, and what was checked. It takes no memory.
+    pub fn into_parts(self) -> (App, Checked)
+        ensures app { result.0 ≡ app_of self }
+        ensures checked { result.1 ≡ checked_of self }
+    {
+        (self.app, self.checked)
+    }
+
+    /// The text of the certificate.
+    pub fn certificate_text(&self, alloc: Global) -> Result<Bytes, Memory>
+        ensures { IfOk result (λ text. text ≡ written (certificate_of self.now)) }
+    {
+        write_certificate(alloc, &self.certificate)
+    }
+}
+
+/// Why a name gives no application.
+#[derive(Clone, Copy, Debug, PartialEq, Eq)]
+pub enum NoApplication {
+    /// Memory is wanting.
+    Memory,
+    /// The text could not be read.
+    Fault,
+    /// A rule refuses the text.
+    Refused(Refusal),
+}
+
+// The program of a text and the application that stands for it, by the rules L, P and N, tried in this order.
+pub(crate) fn resolve_text(alloc: Global, text: &[u8]) -> Result<(Source, App), Fail>
+    ensures { IsResolution text.now result }
+{
+    let tokens = lex(alloc, text)?;
+    let source = parse(alloc, &tokens)?;
+    let app = resolve(alloc, &source)?;
+    Ok((source, app))
+}
+
+// The place of a breach of the rules S: the pin's first mention, or the target of an assignment.
+fn place_of(source: &Source, app: &App, breach: FlowRefusal) -> Place
+    requires stands { Stands source.now app.now }
+    requires breach { IsFirstBreach app.now breach.rule breach.step breach.pin }
+    ensures { step_place source.now breach.step (pin_name app.now (slice_get app.now.steps breach.step) breach.pin) ≡ Some result }
+{
+    app.sound();
+    match app.step(breach.step) {
+        Step::Call { instance, .. } => match breach.pin {
+            Some(pin) => source.place(
+                breach.step,
+                Some(pin_name(app.instance_kind(*instance), pin)),
+            ),
+            None => source.place(breach.step, None),
+        },
+        Step::Assign { .. } => source.place(breach.step, None),
+    }
+}
+
+// An accepted application with its certificate, which is checked. What is derived passes.
+fn with_check(app: App, certificate: Certificate) -> Accepted
+    requires accepted { IsAccepted app }
+    requires derived { certificate ≡ derivation.certificate app }
+    ensures app { result.app ≡ app }
+    ensures checked { IsChecked result }
+{
+    derived_passes();
+    match check(&app, &certificate) {
+        Ok(checked) => Accepted {
+            app,
+            certificate,
+            checked,
+        },
+        Err(_) => unreachable!(),
+    }
+}
+
+// The accepted application of a text, by the rules L, P, N and S, tried in this order, with its certificate.
+pub(crate) fn accept(alloc: Global, text: &[u8]) -> Result<Accepted, Fail>
+    ensures { IsAcceptance text.now result }
+{
+    let (source, app) = resolve_text(alloc, text)?;
+    match derive(alloc, &app) {
+        Ok(certificate) => Ok(with_check(app, certificate)),
+        Err(FlowFail::Memory) => Err(Fail::Memory),
+        Err(FlowFail::Refused(breach)) => Err(Fail::Refused(Refusal {
+            rule: breach.rule,
+            place: place_of(&source, &app, breach),
+        })),
+    }
+}

@@ -1,0 +1,61 @@
+// Reading sources and certificates.
+
+ghost use Rattle.std.specs.Prelude.{◌≡◌, ◌≤◌, List, ℕ, IsTrue, IsSome, OnOk};
+ghost use Rattle.ps_outside.specs.Outside.{Rose};
+ghost use Rattle.ps_names.specs.Stands.{Stands};
+ghost use Rattle.ps_source.specs.Source.{IsProgram, IsResolvedAs, IsAcceptedAs};
+ghost use Rattle.ps_source.specs.Answering.{Reads, IsFault, IsChecked, app_of};
+ghost use Rattle.ps_source.specs.Source.Reading.{stands_for};
+
+use crate::accepting::{Accepted, NoApplication, accept, resolve_text};
+use ps_base::limits::LARGEST_SOURCE;
+use ps_base::{Bytes, Fail};
+use ps_model::app::App;
+use ps_outside::{Files, ReadFail, read_upto};
+use std::alloc::Global;
+
+/// Reads the application of this name, by the rules L, P and N.
+pub fn read_resolved<F: Files>(
+    alloc: Global,
+    app: &str,
+    files: &mut F,
+) -> Result<App, NoApplication>
+    ensures read { IsTrue (F.tells files.old) → Reads (λ text net. IsResolvedAs text (stands_for net)) IsResolvedAs (F.held files.old app.now) result }
+    ensures fault { IsFault result → Rose (F.faults files.old app.now) (F.faults files.new app.now) }
+    ensures counts { (other : List ℕ) → F.faults files.old other ≤ F.faults files.new other }
+    ensures kept { F.held files.new ≡ F.held files.old }
+    ensures telling { F.tells files.new ≡ F.tells files.old }
+{
+    match read_upto(alloc, files, app, LARGEST_SOURCE + 1) {
+        Ok(text) => match resolve_text(alloc, text.as_slice()) {
+            Ok((_, app)) => Ok(app),
+            Err(Fail::Refused(refusal)) => Err(NoApplication::Refused(refusal)),
+            Err(Fail::Memory) => Err(NoApplication::Memory),
+        },
+        Err(ReadFail::Memory) => Err(NoApplication::Memory),
+        Err(ReadFail::Fault) => Err(NoApplication::Fault),
+    }
+}
+
+/// Reads the accepted application of this name, by the rules L, P, N and S.
+pub fn read_accepted<F: Files>(
+    alloc: Global,
+    app: &str,
+    files: &mut F,
+) -> Result<Accepted, NoApplication>
+    ensures read { IsTrue (F.tells files.old) → Reads (λ text a. IsAcceptedAs text (stands_for (app_of a)) × IsChecked a) IsAcceptedAs (F.held files.old app.now) result }
+    ensures fault { IsFault result → Rose (F.faults files.old app.now) (F.faults files.new app.now) }
+    ensures counts { (other : List ℕ) → F.faults files.old other ≤ F.faults files.new other }
+    ensures kept { F.held files.new ≡ F.held files.old }
+    ensures telling { F.tells files.new ≡ F.tells files.old }
+{
+    match read_upto(alloc, files, app, LARGEST_SOURCE + 1) {
+        Ok(text) => match accept(alloc, text.as_slice()) {
+            Ok(accepted) => Ok(accepted),
+            Err(Fail::Refused(refusal)) => Err(NoApplication::Refused(refusal)),
+            Err(Fail::Memory) => Err(NoApplication::Memory),
+        },
+        Err(ReadFail::Memory) => Err(NoApplication::Memory),
+        Err(ReadFail::Fault) => Err(NoApplication::Fault),
+    }
+}

@@ -1,0 +1,80 @@
+-- The program has an answer wherever all names that it asks for are held.
+use Rattle.std.proofs.Common.{ℕ, List, Option, IsSome, refl, inl, inr}
+use Rattle.ps_model.specs.Meaning.{Meaning, nothing}
+use Rattle.ps_model.specs.Network.{Network}
+use Rattle.ps_model.specs.Scanning.{State}
+use Rattle.ps_model.specs.Sound.{IsSound}
+use Rattle.ps_model.proofs.Runs.{one_run}
+use Rattle.ps_source.specs.Source.{Reading, Resolves, IsResolvedAs, IsAcceptedAs}
+use Rattle.ps_source.specs.Source.Reading.{stands_for, is_refused}
+use Rattle.ps_source.proofs.Sourced.{some_of}
+use Rattle.ps_trace.specs.Scans.{Scans, scans_of}
+use Rattle.ps_words.specs.Command.{Command, command_of}
+use Rattle.ps_words.specs.Command.Command.{Run, Check, Cert, Verify, NotTaken}
+use Rattle.ps_top.specs.Asking.{Answer, Asking, IsAnswer, AsksFor}
+use Rattle.ps_top.specs.Asking.Asking.{Says, Asks, Finds}
+use Rattle.ps_top.specs.Program.{Judged, Judges, verdict, with_application, accepted, answer_scans, run_named, verify_named, verify, said, told, text}
+use Rattle.ps_top.specs.Program.Judged.{derives, objects}
+use Rattle.ps_top.proofs.OneAnswer.{with_counts, resolved_sound}
+
+-- where all names that are asked for are held there is an answer
+abbrev HasAnswer : Asking → (List ℕ → Option (List ℕ)) → Type 0
+HasAnswer asking held = ((name : List ℕ) → AsksFor asking held name → IsSome (held name)) → (a : Answer) × IsAnswer asking held a
+
+module _ (held : List ℕ → Option (List ℕ)) where
+  says_some : (s : Answer) → HasAnswer (Says s) held
+  says_some s = λ all. (s, refl)
+
+  asks_some : (name : List ℕ) (next : List ℕ → Asking) → ((t : List ℕ) → HasAnswer (next t) held) → HasAnswer (Asks name next) held
+  asks_some name next each = λ all.
+      let t = some_of (held name) (all name (inl refl)) in
+      let rest = each t.0 (λ other asks. all other (inr (t.0, t.1, asks))) in
+      (rest.0, (t.0, t.1, rest.1))
+
+  finds_some : (X : Type 0) (Fits : X → Type 0) (next : X → Asking) (x : X) → Fits x → HasAnswer (next x) held → HasAnswer (Finds X Fits next) held
+  finds_some X Fits next x fits later = λ all. let rest = later (λ other asks. all other (x, fits, asks)) in (rest.0, (x, fits, rest.1))
+
+  scans_some : (net : Network) → IsSound net → (scans : Scans) → HasAnswer (answer_scans net scans) held
+  scans_some net sound scans =
+      let run = one_run net sound nothing scans.items in
+      finds_some (List State) (Meaning net scans.items) (λ ws. Says (told net scans ws)) run.0 run.1 (says_some (told net scans run.0))
+
+  module _ (accepts : (source : List ℕ) → (reading : Reading) × IsAcceptedAs source reading) (resolves : (source : List ℕ) → (reading : Reading) × IsResolvedAs source reading)
+      (judges : (net : Network) (certificate : List ℕ) → (judged : Judged) × Judges net certificate judged) where
+    accepted_some : (app : List ℕ) (next : Network → Asking) → ((s : List ℕ) (net : Network) → Resolves s net → HasAnswer (next net) held) → HasAnswer (accepted app next) held
+    accepted_some app next each =
+        asks_some app (λ s. Finds Reading (IsAcceptedAs s) (with_application (with_counts next)))
+        (λ s. finds_some Reading (IsAcceptedAs s) (with_application (with_counts next)) (accepts s).0 (accepts s).1 (go s (accepts s).0 (accepts s).1))
+      where
+        go : (s : List ℕ) (r : Reading) → IsAcceptedAs s r → HasAnswer (with_application (with_counts next) r) held
+        go s (stands_for net) f = each s net f.0
+        go s (is_refused r) f = says_some _
+
+    verdict_some : (net : Network) (j : Judged) → HasAnswer (verdict net j) held
+    verdict_some net (derives lines) = says_some _
+    verdict_some net (objects r) = says_some _
+
+    verify_some : (app c : List ℕ) → HasAnswer (verify app c) held
+    verify_some app c =
+        asks_some app (λ s. Finds Reading (IsResolvedAs s) (with_application (λ net. verify_named net c)))
+        (λ s. finds_some Reading (IsResolvedAs s) (with_application (λ net. verify_named net c)) (resolves s).0 (resolves s).1 (go s (resolves s).0))
+      where
+        go : (s : List ℕ) (r : Reading) → HasAnswer (with_application (λ net. verify_named net c) r) held
+        go s (stands_for net) =
+            asks_some c (λ t. Finds Judged (Judges net t) (verdict net))
+            (λ t. finds_some Judged (Judges net t) (verdict net) (judges net t).0 (judges net t).1 (verdict_some net (judges net t).0))
+        go s (is_refused r) = says_some _
+
+    said_some : (c : Command) → HasAnswer (said c) held
+    said_some (Run app trace) =
+        accepted_some app (λ net. run_named net trace)
+        (λ s net r. asks_some trace (λ t. answer_scans net (scans_of t net)) (λ t. scans_some net (resolved_sound s net r) (scans_of t net)))
+    said_some (Check app) = accepted_some app _ (λ s net r. says_some _)
+    said_some (Cert app) = accepted_some app _ (λ s net r. says_some _)
+    said_some (Verify app c) = verify_some app c
+    said_some NotTaken = says_some _
+
+pub some_answer : (words : List (List ℕ)) (held : List ℕ → Option (List ℕ)) → ((source : List ℕ) → (reading : Reading) × IsAcceptedAs source reading) →
+    ((source : List ℕ) → (reading : Reading) × IsResolvedAs source reading) → ((net : Network) (certificate : List ℕ) → (judged : Judged) × Judges net certificate judged) →
+    ((name : List ℕ) → AsksFor (text words) held name → IsSome (held name)) → (a : Answer) × IsAnswer (text words) held a
+some_answer words held accepts resolves judges all = said_some held accepts resolves judges (command_of words) all

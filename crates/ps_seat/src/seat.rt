@@ -42,10 +42,10 @@ impl<C: ScanMachine> Model for Seat<C> {
     ghost Value = { Seat_state };
 
     ghost view = { λ s. record {
-        sizes = (C.stored s.channel).sizes;
-        image = s.image;
-        budget = s.budget;
-        channel = record { code = (C.stored s.channel).code; cells = (C.stored s.channel).cells; turns = s.turns };
+      sizes = (C.stored s.channel).sizes;
+      image = s.image;
+      budget = s.budget;
+      channel = record { code = (C.stored s.channel).code; cells = (C.stored s.channel).cells; turns = s.turns };
     } };
 
     ghost invariant = { λ s. (s.turns ≤ s.budget) × (length (C.stored s.channel).code ≡ length s.image) };

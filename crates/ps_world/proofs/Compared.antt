@@ -83,6 +83,7 @@ trips_exactly m outputs instances ga gb x up = (disagree, trips)
   where
     a : Outcome
     a = outcome m.a x.a.cells
+
     b : Outcome
     b = outcome m.b x.b.cells
 

@@ -46,8 +46,8 @@ impl Model for World {
     ghost Value = { Whole };
 
     ghost view = { λ w. record {
-        setup = record { sizes = w.a.sizes; image_a = w.a.image; image_b = w.b.image; budget_a = w.a.budget; budget_b = w.b.budget };
-        state = record { a = w.a.channel; b = w.b.channel; last = w.last; begun = w.begun; tripped = w.tripped };
+      setup = record { sizes = w.a.sizes; image_a = w.a.image; image_b = w.b.image; budget_a = w.a.budget; budget_b = w.b.budget };
+      state = record { a = w.a.channel; b = w.b.channel; last = w.last; begun = w.begun; tripped = w.tripped };
     } };
 
     ghost invariant = { λ w. (w.b.sizes ≡ w.a.sizes) × (w.a.sizes.outputs + 3 * w.a.sizes.instances ≤ 2 ^ 16)
@@ -305,7 +305,12 @@ impl World {
     {
         for fault in faults {
             if u64::from(fault.turn) == turn {
-                let _changed = self.spoil(fault.channel, fault.region, fault.at, fault.bytes.as_slice());
+                let _changed = self.spoil(
+                    fault.channel,
+                    fault.region,
+                    fault.at,
+                    fault.bytes.as_slice(),
+                );
             }
         }
     }

@@ -16,11 +16,12 @@ invariant_of-self c =
     let a = finished_seat workings_a c.self.inside.a c.finish.new.self c.finish.ensures in
     let b = finished_seat workings_b c.self.inside.b c.finish-2.new.self c.finish-2.ensures in
     let sizes_a : c.finish.new.self.sizes ≡ c.self.inside.a.sizes = ap (λ (s : Seat_state). s.sizes) a in
-    let sizes_b : c.finish-2.new.self.sizes ≡ c.self.inside.b.sizes = ap (λ (s : Seat_state). s.sizes) b in
-    (sizes_b ∙ c.self.invariant.0 ∙ sym sizes_a,
-    subst (λ (z : Sizes). z.outputs + 3 * z.instances ≤ 2 ^ 16) (sym sizes_a) c.self.invariant.1,
-    c.self.invariant.2 ∙ ap (λ (z : Sizes). z.outputs) (sym sizes_a),
-    c.self.invariant.3 ∙ ap (λ (z : Sizes). z.instances) (sym sizes_a))
+    let sizes_b : c.finish-2.new.self.sizes ≡ c.self.inside.b.sizes = ap (λ (s : Seat_state). s.sizes) b in (
+      sizes_b ∙ c.self.invariant.0 ∙ sym sizes_a,
+      subst (λ (z : Sizes). z.outputs + 3 * z.instances ≤ 2 ^ 16) (sym sizes_a) c.self.invariant.1,
+      c.self.invariant.2 ∙ ap (λ (z : Sizes). z.outputs) (sym sizes_a),
+      c.self.invariant.3 ∙ ap (λ (z : Sizes). z.instances) (sym sizes_a),
+    )
 
 pub returns-clause-events : goal.returns-clause-events
 returns-clause-events c =
@@ -47,7 +48,7 @@ returns-clause-events c =
     let few_b = left_within m.b b.channel kb (omega arith) left_b in
     let done_a = finished_seat wa a c.finish.new.self c.finish.ensures in
     let done_b = finished_seat wb b c.finish-2.new.self c.finish-2.ensures
-        ∙ ap (λ z. record { sizes = b.sizes; image = b.image; budget = b.budget; channel = turned (after_turn (machine_of (wb z) b.image b.budget)) kb b.channel }) c.self.invariant.0 in
+    ∙ ap (λ z. record { sizes = b.sizes; image = b.image; budget = b.budget; channel = turned (after_turn (machine_of (wb z) b.image b.budget)) kb b.channel }) c.self.invariant.0 in
     let there : seen c.finish.new.self c.finish-2.new.self ≡ after_events (turn_events m [] (m.a.budget + m.b.budget) 0 None w.state) w =
     (λ i. seen (done_a i) (done_b i)) ∙ ap (λ x. record { setup = w.setup; state = x }) (sym (turns_finish m (m.a.budget + m.b.budget) 0 None w.state ka kb left_a left_b (omega arith))) in
     subst (λ (v : Whole). seen c.finish.new.self c.finish-2.new.self ≡ after_events (turn_events (machines_in v.setup) [] (v.setup.budget_a + v.setup.budget_b) 0 None v.state) v) c.self.view_is there

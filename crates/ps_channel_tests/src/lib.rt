@@ -1,9 +1,30 @@
-// Whole texts through channel A, channel B and the plain evaluator, side by side.
+//! Tests of both channels. Whole texts go through channel A, channel B and the plain evaluator side by side; and each channel
+//! runs bytes that were worked out by hand. The way from a text to both codes is public, for measurements.
+//!
+//! - `code`: from a text to its application, its codes and their figures. `texts`: texts whose codes are known from outside;
+//!   `codes`, `wide`: their tests.
+//! - `side_by_side`, `tables`: all three with the same scans, and rows of scans with what they are to show; `blocks`, `press`,
+//!   `wires` have such tables, and `worked` runs them.
+//! - `channel_a`, `channel_b`: turns, traps and spoiled bytes of one channel.
 #![tactic(auto)]
 
+#[cfg(test)]
+mod blocks;
+#[cfg(test)]
+mod channel_a;
+#[cfg(test)]
+mod channel_b;
 pub mod code;
-pub mod run;
+#[cfg(test)]
+mod codes;
+#[cfg(test)]
+mod press;
 pub mod side_by_side;
 pub mod tables;
+pub mod texts;
 #[cfg(test)]
-mod tests;
+mod wide;
+#[cfg(test)]
+mod wires;
+#[cfg(test)]
+mod worked;

@@ -5,7 +5,6 @@ ghost use Rattle.ps_model.specs.Network.{input_count};
 ghost use Rattle.ps_model.specs.Typing.{Accepted};
 ghost use Rattle.ps_channel_tests.specs.SideBySide.{IsOf};
 
-use crate::run::{equation_scan, stack_scan};
 use ps_base::Memory;
 use ps_eqgen::equation_image;
 use ps_eqvm::EquationChannel;
@@ -81,8 +80,10 @@ impl SideBySide {
         requires ins { length scan.now.ins ≡ input_count app.now }
         ensures { IsOf app.now self.new }
     {
-        let stack_turns = stack_scan(&mut self.stack, scan, app.turns_a());
-        let equation_turns = equation_scan(&mut self.equation, scan, app.turns_b());
+        self.stack.begin(scan);
+        self.equation.begin(scan);
+        let stack_turns = self.stack.turns(app.turns_a());
+        let equation_turns = self.equation.turns(app.turns_b());
         stack_turns == app.turns_a()
             && equation_turns == app.turns_b()
             && is_done(self.stack.progress())

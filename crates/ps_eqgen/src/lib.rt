@@ -9,7 +9,5 @@ mod calls;
 mod emit;
 mod image;
 pub mod laws;
-#[cfg(test)]
-mod tests;
 
 pub use image::equation_image;

@@ -19,8 +19,6 @@ pub mod operand;
 mod outputs;
 mod plain;
 mod report;
-#[cfg(test)]
-mod tests;
 pub mod trap;
 mod turn;
 mod words;

@@ -9,8 +9,6 @@ mod flow;
 pub mod laws;
 mod reading;
 mod refusal;
-#[cfg(test)]
-mod tests;
 mod text;
 
 pub use certificate::{CertLine, Certificate, LineRule, Premises};

@@ -12,6 +12,3 @@ mod token;
 
 pub use scanner::lex;
 pub use token::{Form, Token, TokenList, Tokens, Word};
-
-#[cfg(test)]
-mod tests;

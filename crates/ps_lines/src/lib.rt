@@ -11,6 +11,3 @@ mod feeds;
 mod reader;
 
 pub use reader::{Got, Limits, LineReader, ReadFailed};
-
-#[cfg(test)]
-mod tests;

@@ -18,6 +18,3 @@ pub use mem_files::MemFiles;
 pub use mem_sink::MemSink;
 pub use reading::{ReadFail, read_upto};
 pub use sink::{Sink, Stopped, write_all};
-
-#[cfg(test)]
-mod tests;

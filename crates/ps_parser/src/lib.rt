@@ -28,6 +28,3 @@ pub use read_source::{is_head_at, parse, parse_from};
 pub use section::{Declaration, Declarations, Part, Section, Sections};
 pub use source::Source;
 pub use statement::{Argument, Arguments, Statement, Statements, Target};
-
-#[cfg(test)]
-mod tests;

@@ -11,8 +11,6 @@ mod image;
 mod line;
 mod refusal;
 mod short;
-#[cfg(test)]
-mod tests;
 
 pub use buffer::LineBuffer;
 pub use counts::{check_line, load_line};

@@ -1,4 +1,11 @@
-//! Tests of whole calls of the program, over files and a sink in memory.
+//! Tests of whole calls of the program, over files and a sink in memory: which text is written, and with which status the
+//! call ends.
+//!
+//! - `calls`: how a call is made and what it has to write; `tables`: the same of each row of a table.
+//! - `motor`, `press`, `blocks`, `applications`: runs of applications.
+//! - `sources`, `texts`, `names`, `drivers`, `flow`, `sizes`: what `check` says of texts.
+//! - `certificates`, `forged`: what `cert` writes, and what `verify` says of certificates.
+//! - `traces`, `usage`, `outside`, `left`: traces, words that are not taken, failures, and what a call leaves.
 #![tactic(auto)]
 
 #[cfg(test)]
@@ -10,15 +17,29 @@ mod calls;
 #[cfg(test)]
 mod certificates;
 #[cfg(test)]
+mod drivers;
+#[cfg(test)]
+mod flow;
+#[cfg(test)]
+mod forged;
+#[cfg(test)]
 mod left;
 #[cfg(test)]
 mod motor;
+#[cfg(test)]
+mod names;
 #[cfg(test)]
 mod outside;
 #[cfg(test)]
 mod press;
 #[cfg(test)]
+mod sizes;
+#[cfg(test)]
 mod sources;
+#[cfg(test)]
+mod tables;
+#[cfg(test)]
+mod texts;
 #[cfg(test)]
 mod traces;
 #[cfg(test)]

@@ -7,7 +7,5 @@
 mod emit;
 mod image;
 pub mod laws;
-#[cfg(test)]
-mod tests;
 
 pub use image::stack_image;

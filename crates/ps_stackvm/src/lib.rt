@@ -16,8 +16,6 @@ mod layout;
 mod pins;
 mod report;
 mod stack;
-#[cfg(test)]
-mod tests;
 mod trap;
 mod turn;
 

@@ -1,0 +1,101 @@
+// The AND of as many inputs as an application can have.
+
+ghost use Rattle.ps_model.specs.Typing.{Accepted};
+
+use crate::code::{Figures, accept, application};
+use crate::codes::figures;
+use crate::side_by_side::SideBySide;
+use crate::tables::scan_of;
+use ps_base::{Fail, Memory};
+use ps_model::app::App;
+use ps_model::report::Scan;
+use std::alloc::Global;
+
+// The text of an application that is the AND of so many inputs.
+fn wide(alloc: Global, inputs: u32) -> Result<String, Memory> {
+    let mut declared = String::from_str(alloc, "S_0")?;
+    let mut value = String::from_str(alloc, "S_0")?;
+    for i in 1..inputs {
+        let declaration = format!(in alloc; ", S_{i}")?;
+        let operand = format!(in alloc; " AND S_{i}")?;
+        declared.push_str(declaration.as_str())?;
+        value.push_str(operand.as_str())?;
+    }
+    let text = format!(in alloc;
+        "PROGRAM W\nVAR_INPUT {declared} : SAFEBOOL; END_VAR\nVAR_OUTPUT S_O : SAFEBOOL; END_VAR\nS_O := {value};\nEND_PROGRAM\n"
+    )?;
+    Ok(text)
+}
+
+// The figures of the application of 512 inputs, which are the most.
+fn widest_figures(alloc: Global) -> Result<(Figures, Figures), Fail> {
+    let text = wide(alloc, 512)?;
+    figures(alloc, text.as_str())
+}
+
+#[test]
+fn figures_of_512_inputs(rt: HostRuntime) {
+    let stack = Figures {
+        code: 2051,
+        cells: 587,
+        turns: 1025,
+    };
+    let equation = Figures {
+        code: 2566,
+        cells: 574,
+        turns: 514,
+    };
+    assert_eq!(rt; widest_figures(rt.alloc()), Ok((stack, equation)));
+}
+
+// So many digits 1, of which one is 0 instead.
+fn all_but(alloc: Global, count: u32, off: u32) -> Result<String, Memory> {
+    let mut digits = String::new(alloc);
+    for i in 0..count {
+        digits.push_str(if i == off { "0" } else { "1" })?;
+    }
+    Ok(digits)
+}
+
+// A scan of 512 inputs, of which all but one are TRUE.
+fn scan_but(alloc: Global, off: u32) -> Result<Scan, Memory> {
+    let digits = all_but(alloc, 512, off)?;
+    scan_of(alloc, 0, digits.as_str())
+}
+
+// The output of an accepted application of 512 inputs after a scan. None where the channels and the plain evaluator do not
+// agree on it.
+fn output_after(alloc: Global, app: &App, scan: &Scan) -> Result<Option<bool>, Memory>
+    requires { Accepted app.now }
+{
+    let mut all = SideBySide::build(alloc, app)?;
+    if scan.ins.len() != app.input_count() as usize || !all.scan(alloc, app, scan)? {
+        return Ok(None);
+    }
+    Ok(all.report().outs.as_slice().first().copied())
+}
+
+// The output of the application of 512 inputs where all of them but one are TRUE. None where the channels and the plain
+// evaluator do not agree on it.
+fn output(alloc: Global, off: u32) -> Result<Option<bool>, Fail> {
+    let scan = scan_but(alloc, off)?;
+    let text = wide(alloc, 512)?;
+    let app = application(alloc, text.as_str())?;
+    accept(alloc, &app)?;
+    Ok(output_after(alloc, &app, &scan)?)
+}
+
+#[test]
+fn all_inputs_true(rt: HostRuntime) {
+    assert_eq!(rt; output(rt.alloc(), 512), Ok(Some(true)));
+}
+
+#[test]
+fn first_input_false(rt: HostRuntime) {
+    assert_eq!(rt; output(rt.alloc(), 0), Ok(Some(false)));
+}
+
+#[test]
+fn last_input_false(rt: HostRuntime) {
+    assert_eq!(rt; output(rt.alloc(), 511), Ok(Some(false)));
+}

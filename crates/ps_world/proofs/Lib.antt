@@ -7,3 +7,5 @@ pub mod Bounded
 pub mod Quick
 pub mod Turning
 pub mod Built
+pub mod Ordered
+pub mod Run

@@ -71,30 +71,29 @@ module _ (net : Network) (m : Machines) (StandsA StandsB : State → ℕ → Lis
       released_agree outputs instances (outcome m.a x.a.cells) (outcome m.b x.b.cells) (outcome_sized m.a outputs instances x.a.cells sized_a) (outcome_sized m.b outputs instances x.b.cells sized_b)
       (sym (up_verdict m x up) ∙ released)
 
+  -- at a Compare that releases, the report that is given is the one that a channel has which stands for the meaning
+  pub released_report : (x : World_state) (r : Report) (ch : Channel) → outcome (machine ch m) (channel ch x).cells ≡ gives r → verdict m x ≡ Released → report_given m outputs instances x ≡ r
+  released_report x r ch meant released =
+      let agree = agree_where_released x released in
+      let both : gives agree.report ≡ gives r = sym (outcome_is m x ch agree) ∙ meant in
+      let same : agree.report ≡ r = cc in
+      given_agreed m outputs instances x agree released ∙ same
+
   pub released_is_right : ReleasedIsRight net m
   released_is_right es ws law one means released = by_channel one.spared one.is_spared
     where
       x : World_state
       x = after m es (world_0 m)
 
-      agree : Agree (outcome m.a x.a.cells) (outcome m.b x.b.cells)
-      agree = agree_where_released x released
-
       up : x.tripped ≡ false
       up = not_down x.tripped (judged (outcome m.a x.a.cells) (outcome m.b x.b.cells)) released
 
-      is_meant : (ch : Channel) → outcome (machine ch m) (channel ch x).cells ≡ gives (report_meant net es ws) → report_given m outputs instances x ≡ report_meant net es ws
-      is_meant ch meant =
-          let both : gives agree.report ≡ gives (report_meant net es ws) = sym (outcome_is m x ch agree) ∙ meant in
-          let same : agree.report ≡ report_meant net es ws = cc in
-          given_agreed m outputs instances x agree released ∙ same
-
       by_channel : (ch : Channel) → IsSpared ch es → report_given m outputs instances x ≡ report_meant net es ws
-      by_channel A spared = is_meant A (spared_outcome net m A StandsA ka es ws law spared means up)
-      by_channel B spared = is_meant B (spared_outcome net m B StandsB kb es ws law spared means up)
+      by_channel A spared = released_report x (report_meant net es ws) A (spared_outcome net m A StandsA ka es ws law spared means up) released
+      by_channel B spared = released_report x (report_meant net es ws) B (spared_outcome net m B StandsB kb es ws law spared means up) released
 
   -- in a world whose channels both stand for the meaning a Compare releases
-  releases : (x : World_state) (past : Past) → Holds net m A StandsA ka x past → Holds net m B StandsB kb x past → May m (input_count net) Compare x → x.tripped ≡ false →
+  pub releases : (x : World_state) (past : Past) → Holds net m A StandsA ka x past → Holds net m B StandsB kb x past → May m (input_count net) Compare x → x.tripped ≡ false →
       verdict m x ≡ Released
   releases x past ha hb may up =
       up_verdict m x up

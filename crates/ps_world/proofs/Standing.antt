@@ -99,7 +99,7 @@ module _ (net : Network) (m : Machines) (ch : Channel) (Stands : State → ℕ �
     down = λ t. refl;
   }
 
-  restart_holds : (x : World_state) → Holds (world_step m Restart x) nothing
+  pub restart_holds : (x : World_state) → Holds (world_step m Restart x) nothing
   restart_holds x = record {
     phase = subst (λ s. AtRest net (machine ch m) Stands x.last s nothing) (sym (event_apart m Restart x ch)) (restarts_at_rest net (machine ch m) Stands keeps x.last (channel ch x));
     down = λ t. refl;

@@ -3,6 +3,7 @@
 ghost use Rattle.ps_model.specs.Typing.{Accepted};
 ghost use Rattle.ps_world.specs.Worlds.{Machines};
 ghost use Rattle.ps_world.specs.Whole.{Setup, machines_in, IsSetupOf};
+ghost use Rattle.ps_world.specs.Answers.{RunsAreRight, QuietRunsRelease};
 ghost use Rattle.ps_world.specs.Laws.{ChannelsAreApart, ReleasedIsRight, NeverTrips, TripsExactly, StaysDown, TurnsAreBounded};
 
 use ps_eqgen::laws::equation_code_keeps_the_meaning;
@@ -49,3 +50,20 @@ pub fn stays_down()
 pub fn turns_are_bounded()
     ensures { (m : Machines) → TurnsAreBounded m }
 {}
+
+/// A run is right: in the order of events of a run, over timely scans and restarts and faults that name one channel at the
+/// most, each report that is released is that of the meaning.
+pub fn runs_are_right(app: &App)
+    ensures { Accepted app.now → (setup : Setup) → IsSetupOf app.now setup → RunsAreRight app.now (machines_in setup) }
+{
+    stack_code_keeps_the_meaning(app);
+    equation_code_keeps_the_meaning(app);
+}
+
+/// A run without faults releases every scan, with the report of the meaning.
+pub fn quiet_runs_release(app: &App)
+    ensures { Accepted app.now → (setup : Setup) → IsSetupOf app.now setup → QuietRunsRelease app.now (machines_in setup) }
+{
+    stack_code_keeps_the_meaning(app);
+    equation_code_keeps_the_meaning(app);
+}

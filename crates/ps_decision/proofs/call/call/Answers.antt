@@ -1,0 +1,27 @@
+use Rattle.std.proofs.Common.{List, ℕ, Option, sym, ap, ◌∙◌}
+use Rattle.std.specs.Prelude.{nat_le}
+use Rattle.std.proofs.lemmas.Bool.{cond-false, lt-leb}
+use Rattle.ps_model.specs.declared.kind.Kind.{Kind}
+use Rattle.ps_stackvm.specs.declared.trap.Trap.TheVariants.{NoInstance}
+use Rattle.ps_decision.specs.Cells.{trapped}
+use Rattle.ps_decision.specs.Calling.{called_by}
+use Rattle.ps_machine.specs.Kinds.{kind_of}
+use Rattle.ps_decision.proofs.call.call.Goals as goal
+
+pub returns-in-Some : goal.returns-in-Some
+returns-in-Some c =
+    let cells = c.args.cells.now in
+    let site = c.args.site in
+    let called : Option Kind → List ℕ = λ o. called_by site.signals site.instance site.first site.limit site.next o cells in
+    c.call_as.ensures
+    ∙ ap called c.in-Some.ensures
+    ∙ sym (cond-false (nat_le c.args.instances site.instance) (trapped NoInstance cells) (called (kind_of c.args.kind)) (lt-leb c.args.instances site.instance c.if-site-instances.false))
+
+pub returns-in-None : goal.returns-in-None
+returns-in-None c =
+    let cells = c.args.cells.now in
+    let site = c.args.site in
+    let called : Option Kind → List ℕ = λ o. called_by site.signals site.instance site.first site.limit site.next o cells in
+    c.trap-in-None.ensures
+    ∙ ap called c.in-None.ensures
+    ∙ sym (cond-false (nat_le c.args.instances site.instance) (trapped NoInstance cells) (called (kind_of c.args.kind)) (lt-leb c.args.instances site.instance c.if-site-instances.false))

@@ -1,0 +1,10 @@
+use Rattle.std.proofs.Common.{◌≡◌, ◌∙◌, sym, ap, length}
+use Rattle.std.proofs.lemmas.List.FromFn.{length-map-range_with_len}
+use Rattle.ps_machine.specs.StoredChannel.{Stored}
+use Rattle.ps_decision.proofs.channel.DecisionChannel.report_into.Goals as goal
+
+pub returns-clause-sized : goal.returns-clause-sized
+returns-clause-sized c = (
+  ap length c.write_outputs.ensures ∙ length-map-range_with_len _ 0 _ ∙ ap (λ (v : Stored). v.sizes.outputs) c.self.view_is ∙ sym c.requires.outs,
+  ap length c.write_diags.ensures ∙ length-map-range_with_len _ 0 _ ∙ ap (λ (v : Stored). v.sizes.instances) c.self.view_is ∙ sym c.requires.diags,
+)

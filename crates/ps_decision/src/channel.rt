@@ -1,0 +1,208 @@
+// Channel C: its code and its cells.
+
+ghost use Rattle.std.specs.Prelude.{◌≡◌, ◌+◌, ◌*◌};
+
+use crate::cells::{begin, progress};
+use crate::layout::{INSTANCE_SIZE, SIGNALS_AT};
+use crate::report::{has_report, write_diags, write_outputs};
+use crate::turn::{turn, turns};
+use ps_base::Memory;
+use ps_machine::bytes::overwrite;
+use ps_machine::{CodeImage, ScanMachine};
+use ps_model::channel::{OutOfRegion, Progress, Region};
+use ps_model::report::{Report, Scan};
+use ps_model::sizes::Sizes;
+use std::alloc::Global;
+use std::marker::Model;
+
+/// Channel C: a machine that runs decision code (profile). It has its own copy of the code and its cells, and
+/// remembers nothing else. Every turn reads its row from that code, so bytes that a fault replaced
+/// are run as they are. Of its calls only `new` takes memory.
+#[derive(Drop, Debug)]
+pub struct DecisionChannel {
+    sizes: Sizes,
+    code: Vec<u8>,
+    cells: Vec<u8>,
+}
+
+impl Model for DecisionChannel {
+    ghost use Rattle.std.specs.Prelude.{◌≡◌, ◌+◌, ◌*◌, ◌^◌, ◌<◌, length};
+    ghost use Rattle.ps_machine.specs.StoredChannel.{Stored};
+    ghost use Rattle.ps_decision.specs.declared.layout.TheConstants.{INSTANCE_SIZE, SIGNALS_AT};
+
+    ghost Value = { Stored };
+
+    ghost view = { λ c. record { sizes = c.sizes; code = c.code.items; cells = c.cells.items } };
+
+    ghost invariant = { λ c. (length c.cells.items ≡ SIGNALS_AT + c.sizes.signals + INSTANCE_SIZE * c.sizes.instances) × (length c.cells.items < 2 ^ 32) × (length c.code.items < 2 ^ 32) };
+}
+
+impl DecisionChannel {
+    ghost use Rattle.std.specs.Prelude.{◌≡◌, ℕ, ◌+◌, ◌<◌, ◌≤◌, length, slice_index, true, false, IfOk, Some, None, is_err, nat_lt};
+    ghost use Rattle.ps_machine.specs.Machines.{turned};
+    ghost use Rattle.ps_machine.specs.Progressing.{progress_said, is_running};
+    ghost use Rattle.ps_machine.specs.StoredChannel.{region_of, spoiled};
+    ghost use Rattle.ps_decision.specs.Cells.{progress_of};
+    ghost use Rattle.ps_decision.specs.Turn.{begin_c, turn_c, report_c};
+    ghost use Rattle.ps_decision.specs.Channel.{blank_c};
+
+    /// A channel with its own copy of the code, for an application of these sizes, with cells all 0.
+    pub fn new(alloc: Global, image: &CodeImage, sizes: &Sizes) -> Result<DecisionChannel, Memory>
+        ensures { IfOk result (λ c. c ≡ record { sizes = sizes.now; code = image.now; cells = blank_c sizes.now }) }
+    {
+        let sizes = sizes.copy(alloc)?;
+        let code = Vec::from_slice(alloc, image.as_slice())?;
+        let len = SIGNALS_AT + sizes.signals as usize + INSTANCE_SIZE * sizes.instances as usize;
+        let cells = vec![in alloc; 0; len]?;
+        Ok(DecisionChannel { sizes, code, cells })
+    }
+
+    /// Makes the channel as `new` makes it from this image, which has the length of the channel's code.
+    pub fn renew(&mut self, image: &CodeImage)
+        requires { length image.now ≡ length self.old.code }
+        ensures { self.new ≡ record { sizes = self.old.sizes; code = image.now; cells = blank_c self.old.sizes } }
+    {
+        self.code.copy_from_slice(image.as_slice());
+        self.cells.fill(0);
+    }
+
+    /// The Begin of a scan, which has one value for each input: offset and progress are 0, and the
+    /// time and the inputs are the scan's. All else stays.
+    pub fn begin(&mut self, scan: &Scan)
+        requires { length scan.now.ins ≡ self.old.sizes.inputs }
+        ensures { self.new ≡ record self.old { cells = begin_c scan.entry.now.now scan.entry.now.ins self.old.cells } }
+    {
+        begin(&mut self.cells, scan.now, scan.ins.as_slice());
+    }
+
+    /// What the progress byte says: Running for 0, Done for 1, Trapped with the value less 1 for 2 to 8,
+    /// and Trapped(0) for 9 to 255.
+    pub fn progress(&self) -> Progress
+        ensures { result ≡ progress_said (progress_of self.now.cells) }
+    {
+        progress(&self.cells)
+    }
+
+    /// One row, on any bytes. A trap is marked in the progress byte, and nothing else changes.
+    pub fn turn(&mut self)
+        requires { progress_said (progress_of self.old.cells) ≡ Progress.Running }
+        ensures { self.new ≡ record self.old { cells = turn_c self.old.sizes self.old.code self.old.cells } }
+    {
+        turn(
+            &mut self.cells,
+            &self.code,
+            self.sizes.signals,
+            self.sizes.instances,
+        );
+    }
+
+    /// Turns as long as the scan is Running, at most so many. The answer is how many there were: `most`,
+    /// or fewer where the scan is then no longer Running.
+    #[tactic(auto, using(ps_machine::proofs::Progressing::zero_runs, ps_machine::proofs::Progressing::other_ends))]
+    pub fn turns(&mut self, most: u32) -> u32
+        ensures cells { self.new ≡ record self.old { cells = turned (turn_c self.old.sizes self.old.code) result self.old.cells } }
+        ensures running { (j : ℕ) → j < result → progress_said (progress_of (turned (turn_c self.old.sizes self.old.code) j self.old.cells)) ≡ Progress.Running }
+        ensures most { result ≤ most }
+        ensures stopped { result < most → is_running (progress_said (progress_of self.new.cells)) ≡ false }
+    {
+        turns(
+            &mut self.cells,
+            &self.code,
+            self.sizes.signals,
+            self.sizes.instances,
+            most,
+        )
+    }
+
+    /// Writes the report that the cells hold into a report of the application's sizes. False where an output,
+    /// Ready or Error byte is neither 0 nor 1, and then the report is as before.
+    pub fn report_into(&self, into: &mut Report) -> bool
+        requires outs { length into.old.outs ≡ self.now.sizes.outputs }
+        requires diags { length into.old.diags ≡ self.now.sizes.instances }
+        ensures report { result ≡ true → report_c self.now.sizes self.now.cells ≡ Some into.new }
+        ensures none { result ≡ false → report_c self.now.sizes self.now.cells ≡ None }
+        ensures kept { result ≡ false → into.new ≡ into.old }
+        ensures sized { (length into.new.outs ≡ length into.old.outs) × (length into.new.diags ≡ length into.old.diags) }
+    {
+        if !has_report(&self.cells, &self.sizes) {
+            return false;
+        }
+        write_outputs(&self.cells, &self.sizes, &mut into.outs);
+        write_diags(&self.cells, &self.sizes, &mut into.diags);
+        true
+    }
+
+    /// The length of a region in bytes.
+    pub fn region_len(&self, region: Region) -> u32
+        ensures { result ≡ length (region_of region self.now) }
+    {
+        match region {
+            Region::Code => self.code.len() as u32,
+            Region::Cells => self.cells.len() as u32,
+        }
+    }
+
+    /// Replaces bytes of a region. OutOfRegion comes exactly where they would pass its end, and then nothing
+    /// changed.
+    pub fn spoil(&mut self, region: Region, at: u32, bytes: &[u8]) -> Result<(), OutOfRegion>
+        ensures bytes { self.new ≡ spoiled region at bytes.now self.old }
+        ensures refused { is_err result ≡ nat_lt (length (region_of region self.old)) (at + length bytes.now) }
+    {
+        match region {
+            Region::Code => overwrite(&mut self.code, at, bytes),
+            Region::Cells => overwrite(&mut self.cells, at, bytes),
+        }
+    }
+
+    /// A byte of the cells.
+    pub fn cell(&self, at: u32) -> u8
+        requires { at < length self.now.cells }
+        ensures { result ≡ slice_index self.now.cells at }
+    {
+        self.cells[at as usize]
+    }
+}
+
+impl ScanMachine for DecisionChannel {
+    ghost use Rattle.ps_decision.specs.Channel.{workings_c};
+
+    ghost stored = { λ channel. channel };
+
+    ghost workings = { workings_c };
+
+    fn new(alloc: Global, image: &CodeImage, sizes: &Sizes) -> Result<DecisionChannel, Memory> {
+        DecisionChannel::new(alloc, image, sizes)
+    }
+
+    fn renew(&mut self, image: &CodeImage) {
+        self.renew(image);
+    }
+
+    fn begin(&mut self, scan: &Scan) {
+        self.begin(scan);
+    }
+
+    fn progress(&self) -> Progress {
+        self.progress()
+    }
+
+    fn turn(&mut self) {
+        self.turn();
+    }
+
+    fn turns(&mut self, most: u32) -> u32 {
+        self.turns(most)
+    }
+
+    fn report_into(&self, into: &mut Report) -> bool {
+        self.report_into(into)
+    }
+
+    fn region_len(&self, region: Region) -> u32 {
+        self.region_len(region)
+    }
+
+    fn spoil(&mut self, region: Region, at: u32, bytes: &[u8]) -> Result<(), OutOfRegion> {
+        self.spoil(region, at, bytes)
+    }
+}

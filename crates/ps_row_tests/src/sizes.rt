@@ -35,9 +35,19 @@ fn inputs(alloc: Global, count: u32) -> Result<String, Memory> {
 #[test]
 fn most_inputs(rt: HostRuntime) -> Result<(), Fail> {
     let most = inputs(rt.alloc(), 512)?;
-    check(&rt, rt.alloc(), most.as_str(), "accepted inputs 512 outputs 1 locals 0 instances 0 steps 1 nodes 514")?;
+    check(
+        &rt,
+        rt.alloc(),
+        most.as_str(),
+        "accepted inputs 512 outputs 1 locals 0 instances 0 steps 1 nodes 514",
+    )?;
     let more = inputs(rt.alloc(), 513)?;
-    check(&rt, rt.alloc(), more.as_str(), "refused N11 line 1 column 9")?;
+    check(
+        &rt,
+        rt.alloc(),
+        more.as_str(),
+        "refused N11 line 1 column 9",
+    )?;
     Ok(())
 }
 
@@ -55,13 +65,18 @@ fn more_inputs_beside_a_literal(rt: HostRuntime) -> Result<(), Fail> {
             ),
         ],
     )?;
-    check(&rt, rt.alloc(), text.as_str(), "refused N11 line 1 column 9")?;
+    check(
+        &rt,
+        rt.alloc(),
+        text.as_str(),
+        "refused N11 line 1 column 9",
+    )?;
     Ok(())
 }
 
 /// A program with so many outputs, each assigned.
 fn outputs(alloc: Global, count: u32) -> Result<String, Memory> {
-    let text = repeated(
+    repeated(
         alloc,
         &[
             (1, "PROGRAM W VAR_INPUT a : BOOL; END_VAR VAR_OUTPUT "),
@@ -76,9 +91,19 @@ fn outputs(alloc: Global, count: u32) -> Result<String, Memory> {
 #[test]
 fn most_outputs(rt: HostRuntime) -> Result<(), Fail> {
     let most = outputs(rt.alloc(), 512)?;
-    check(&rt, rt.alloc(), most.as_str(), "accepted inputs 1 outputs 512 locals 0 instances 0 steps 512 nodes 512")?;
+    check(
+        &rt,
+        rt.alloc(),
+        most.as_str(),
+        "accepted inputs 1 outputs 512 locals 0 instances 0 steps 512 nodes 512",
+    )?;
     let more = outputs(rt.alloc(), 513)?;
-    check(&rt, rt.alloc(), more.as_str(), "refused N11 line 1 column 9")?;
+    check(
+        &rt,
+        rt.alloc(),
+        more.as_str(),
+        "refused N11 line 1 column 9",
+    )?;
     Ok(())
 }
 
@@ -99,9 +124,19 @@ fn instances(alloc: Global, count: u32, declared: &str) -> Result<String, Memory
 #[test]
 fn most_instances(rt: HostRuntime) -> Result<(), Fail> {
     let most = instances(rt.alloc(), 400, "E# : SF_EDM; ")?;
-    check(&rt, rt.alloc(), most.as_str(), "accepted inputs 0 outputs 0 locals 0 instances 400 steps 400 nodes 0")?;
+    check(
+        &rt,
+        rt.alloc(),
+        most.as_str(),
+        "accepted inputs 0 outputs 0 locals 0 instances 400 steps 400 nodes 0",
+    )?;
     let more = instances(rt.alloc(), 401, "E# : SF_EDM; ")?;
-    check(&rt, rt.alloc(), more.as_str(), "refused N11 line 1 column 9")?;
+    check(
+        &rt,
+        rt.alloc(),
+        more.as_str(),
+        "refused N11 line 1 column 9",
+    )?;
     Ok(())
 }
 
@@ -109,9 +144,19 @@ fn most_instances(rt: HostRuntime) -> Result<(), Fail> {
 #[test]
 fn most_signals_of_instances(rt: HostRuntime) -> Result<(), Fail> {
     let most = instances(rt.alloc(), 363, "E# : SF_ModeSelector; ")?;
-    check(&rt, rt.alloc(), most.as_str(), "accepted inputs 0 outputs 0 locals 0 instances 363 steps 363 nodes 0")?;
+    check(
+        &rt,
+        rt.alloc(),
+        most.as_str(),
+        "accepted inputs 0 outputs 0 locals 0 instances 363 steps 363 nodes 0",
+    )?;
     let more = instances(rt.alloc(), 364, "E# : SF_ModeSelector; ")?;
-    check(&rt, rt.alloc(), more.as_str(), "refused N11 line 1 column 9")?;
+    check(
+        &rt,
+        rt.alloc(),
+        more.as_str(),
+        "refused N11 line 1 column 9",
+    )?;
     Ok(())
 }
 
@@ -130,11 +175,26 @@ fn locals(alloc: Global, count: u32) -> Result<String, Memory> {
 #[test]
 fn most_signals(rt: HostRuntime) -> Result<(), Fail> {
     let most = locals(rt.alloc(), 3_997)?;
-    check(&rt, rt.alloc(), most.as_str(), "accepted inputs 0 outputs 0 locals 3997 instances 1 steps 1 nodes 0")?;
+    check(
+        &rt,
+        rt.alloc(),
+        most.as_str(),
+        "accepted inputs 0 outputs 0 locals 3997 instances 1 steps 1 nodes 0",
+    )?;
     let more = locals(rt.alloc(), 3_998)?;
-    check(&rt, rt.alloc(), more.as_str(), "refused N11 line 1 column 9")?;
+    check(
+        &rt,
+        rt.alloc(),
+        more.as_str(),
+        "refused N11 line 1 column 9",
+    )?;
     let most_names = locals(rt.alloc(), 3_999)?;
-    check(&rt, rt.alloc(), most_names.as_str(), "refused N11 line 1 column 9")?;
+    check(
+        &rt,
+        rt.alloc(),
+        most_names.as_str(),
+        "refused N11 line 1 column 9",
+    )?;
     Ok(())
 }
 
@@ -156,9 +216,19 @@ fn nodes(alloc: Global, count: u32) -> Result<String, Memory> {
 #[test]
 fn most_nodes(rt: HostRuntime) -> Result<(), Fail> {
     let most = nodes(rt.alloc(), 19_998)?;
-    check(&rt, rt.alloc(), most.as_str(), "accepted inputs 1 outputs 1 locals 0 instances 0 steps 1 nodes 20000")?;
+    check(
+        &rt,
+        rt.alloc(),
+        most.as_str(),
+        "accepted inputs 1 outputs 1 locals 0 instances 0 steps 1 nodes 20000",
+    )?;
     let more = nodes(rt.alloc(), 19_999)?;
-    check(&rt, rt.alloc(), more.as_str(), "refused N11 line 1 column 9")?;
+    check(
+        &rt,
+        rt.alloc(),
+        more.as_str(),
+        "refused N11 line 1 column 9",
+    )?;
     Ok(())
 }
 
@@ -176,7 +246,13 @@ fn most_lines_of_a_certificate(rt: HostRuntime) -> Result<(), Fail> {
     let most = certificate(rt.alloc(), 39_999, "0 SRC")?;
     verify(&rt, rt.alloc(), ONE, most.as_str(), "verified 40000 lines")?;
     let wrong = certificate(rt.alloc(), 39_999, "x")?;
-    verify(&rt, rt.alloc(), ONE, wrong.as_str(), "refused C1 line 40000")?;
+    verify(
+        &rt,
+        rt.alloc(),
+        ONE,
+        wrong.as_str(),
+        "refused C1 line 40000",
+    )?;
     let more = certificate(rt.alloc(), 40_000, "x")?;
     verify(&rt, rt.alloc(), ONE, more.as_str(), "refused C2 line 1")?;
     Ok(())

@@ -9,3 +9,4 @@ pub mod Turning
 pub mod Built
 pub mod Ordered
 pub mod Run
+pub mod Quiet

@@ -30,15 +30,15 @@ use Rattle.ps_world.proofs.Right.{meant_outcome, released_report, releases}
 -- ---- One scan, in a world that is not tripped.
 
 -- The events up to the Compare are lawful, are this scan alone, spare what the faults spare, and a Compare may come behind them.
-record ComesToCompare (m : Machines) (n : ℕ) (faults : List Fault) (now : ℕ) (ins : List Bool) (es : List Event) (x : World_state) : Type 0 where
-  lawful : Lawful m n es x
-  scan_alone : items_of es ≡ scan now ins ∷ []
-  spared : (ch : Channel) → SpareChannel ch faults → IsSpared ch es
-  last_is : (after m es x).last ≡ now
-  up : (after m es x).tripped ≡ false
-  may : May m n Compare (after m es x)
+pub record ComesToCompare (m : Machines) (n : ℕ) (faults : List Fault) (now : ℕ) (ins : List Bool) (es : List Event) (x : World_state) : Type 0 where
+  pub lawful : Lawful m n es x
+  pub scan_alone : items_of es ≡ scan now ins ∷ []
+  pub spared : (ch : Channel) → SpareChannel ch faults → IsSpared ch es
+  pub last_is : (after m es x).last ≡ now
+  pub up : (after m es x).tripped ≡ false
+  pub may : May m n Compare (after m es x)
 
-comes_to_compare : (m : Machines) (n : ℕ) (faults : List Fault) (now : ℕ) (ins : List Bool) (x : World_state) → x.begun ≡ false → x.tripped ≡ false → x.last ≤ now → now < 2 ^ 32 → length ins ≡ n →
+pub comes_to_compare : (m : Machines) (n : ℕ) (faults : List Fault) (now : ℕ) (ins : List Bool) (x : World_state) → x.begun ≡ false → x.tripped ≡ false → x.last ≤ now → now < 2 ^ 32 → length ins ≡ n →
     ComesToCompare m n faults now ins (events_before_compare m faults now ins x) x
 comes_to_compare m n faults now ins x rest up later small sized =
     let spoils = spoils_before 0 faults in
@@ -72,11 +72,11 @@ down_scan m faults now ins x tripped =
 down_verdict : (m : Machines) (x : World_state) → x.tripped ≡ true → verdict m x ≡ Down
 down_verdict m x tripped = ap (λ t. cond t Down (judged (outcome m.a x.a.cells) (outcome m.b x.b.cells))) tripped
 
-after_scan : (m : Machines) (faults : List Fault) (now : ℕ) (ins : List Bool) (x : World_state) → after m (scan_events m faults now ins x) x ≡ world_step m Compare (at_compare m faults now ins x)
+pub after_scan : (m : Machines) (faults : List Fault) (now : ℕ) (ins : List Bool) (x : World_state) → after m (scan_events m faults now ins x) x ≡ world_step m Compare (at_compare m faults now ins x)
 after_scan m faults now ins x = after_append m (events_before_compare m faults now ins x) (Compare ∷ []) x
 
 -- a channel that the faults spare stands for the meaning at the Compare
-at_compare_holds : (net : Network) (m : Machines) (ch : Channel) (Stands : State → ℕ → List ℕ → Type 0) (keeps : Keeps net (machine ch m) Stands) (faults : List Fault) (now : ℕ) (ins : List Bool)
+pub at_compare_holds : (net : Network) (m : Machines) (ch : Channel) (Stands : State → ℕ → List ℕ → Type 0) (keeps : Keeps net (machine ch m) Stands) (faults : List Fault) (now : ℕ) (ins : List Bool)
     (x : World_state) (past : Past) (w : State) → SpareChannel ch faults → ComesToCompare m (input_count net) faults now ins (events_before_compare m faults now ins x) x →
     Holds net m ch Stands keeps x past → Solves net (old_state net past) ins (passed past now) w → Holds net m ch Stands keeps (at_compare m faults now ins x) (last now w)
 at_compare_holds net m ch Stands keeps faults now ins x past w spare comes holds solves =

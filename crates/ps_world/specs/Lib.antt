@@ -8,3 +8,4 @@ pub mod Orders
 pub mod Whole
 pub mod Laws
 pub mod Answers
+pub mod Ready

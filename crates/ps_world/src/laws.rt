@@ -4,6 +4,7 @@ ghost use Rattle.ps_model.specs.Typing.{Accepted};
 ghost use Rattle.ps_world.specs.Worlds.{Machines};
 ghost use Rattle.ps_world.specs.Whole.{Setup, machines_in, IsSetupOf};
 ghost use Rattle.ps_world.specs.Answers.{RunsAreRight, QuietRunsRelease};
+ghost use Rattle.ps_world.specs.Ready.{QuietWorldsRelease};
 ghost use Rattle.ps_world.specs.Laws.{ChannelsAreApart, ReleasedIsRight, NeverTrips, TripsExactly, StaysDown, TurnsAreBounded};
 
 use ps_eqgen::laws::equation_code_keeps_the_meaning;
@@ -63,6 +64,15 @@ pub fn runs_are_right(app: &App)
 /// A run without faults releases every scan, with the report of the meaning.
 pub fn quiet_runs_release(app: &App)
     ensures { Accepted app.now → (setup : Setup) → IsSetupOf app.now setup → QuietRunsRelease app.now (machines_in setup) }
+{
+    stack_code_keeps_the_meaning(app);
+    equation_code_keeps_the_meaning(app);
+}
+
+/// Worlds are ready at the beginning and after a restart; and from a world that is ready a scan with no fault is released, with
+/// the report of the state that solves its equations, and leaves a world that is ready for the next.
+pub fn quiet_worlds_release(app: &App)
+    ensures { Accepted app.now → QuietWorldsRelease app.now }
 {
     stack_code_keeps_the_meaning(app);
     equation_code_keeps_the_meaning(app);

@@ -169,3 +169,20 @@ module _ (net : Network) (m : Machines) (StandsA StandsB : State → ℕ → Lis
   pub quiet_runs_release : QuietRunsRelease net m
   quiet_runs_release items ws timely means =
       all_from 1 0 items (world_0 m) nothing ws refl refl (omega arith) timely (beginning_holds net m A StandsA ka) (beginning_holds net m B StandsB kb) means
+
+-- the time of the last scan is at most that of a scan that was made
+pub last_within : (m : Machines) (faults : List Fault) (now : ℕ) (ins : List Bool) (x : World_state) → x.last ≤ now → (after m (scan_events m faults now ins x) x).last ≤ now
+last_within m faults now ins x early =
+    subst (λ (y : World_state). y.last ≤ now) (sym (after_scan m faults now ins x))
+    (elim (cases_Bool x.tripped) [
+      | inl down ↦ subst (λ t. t ≤ now) (sym (ap (λ (y : World_state). y.last) (down_scan m faults now ins x down))) early
+      | inr up ↦
+          let spoils = spoils_before 0 faults in
+          let z = world_step m (Begin now ins) (after m spoils x) in
+          let turns = turn_events m faults (m.a.budget + m.b.budget) 0 None z in
+          let h = turns_come m (length ins) faults (m.a.budget + m.b.budget) 0 None z refl (omega arith) (omega arith) (omega arith) in
+          let es = spoils ++ Begin now ins ∷ turns in
+          let there : after m es x ≡ after m turns z = after_append m spoils (Begin now ins ∷ turns) x in
+          let is_now : (after m es x).last ≡ now = ap (λ (y : World_state). y.last) there ∙ h.last in
+          subst (λ b. (after m (cond b [] es) x).last ≤ now) (sym up) (subst (λ t. t ≤ now) (sym is_now) (omega arith))
+    ])

@@ -234,6 +234,7 @@ impl World {
         ensures events { self.new ≡ after_events (scan_events (machines_in self.old.setup) faults.now scan.entry.now.now scan.entry.now.ins self.old.state) self.old }
         ensures verdict { result ≡ verdict (machines_in self.old.setup) (at_compare (machines_in self.old.setup) faults.now scan.entry.now.now scan.entry.now.ins self.old.state) }
         ensures report { into.new ≡ report_given (machines_in self.old.setup) self.old.setup.sizes.outputs self.old.setup.sizes.instances (at_compare (machines_in self.old.setup) faults.now scan.entry.now.now scan.entry.now.ins self.old.state) }
+        ensures last { self.new.state.last ≤ scan.entry.now.now }
     {
         self.run_scan(scan, faults);
         self.compare(into)

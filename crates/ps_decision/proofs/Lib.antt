@@ -1,2 +1,10 @@
 pub mod Calls
 pub mod ReadPins
+pub mod PlacedRows
+pub mod Counted
+pub mod Holding
+pub mod Leading
+pub mod CallTurn
+pub mod Stepping
+pub mod Scanning
+pub mod WrittenRows

@@ -1,4 +1,4 @@
-use Rattle.std.proofs.Common.{◌≡◌, ◌∙◌, sym, ap, length}
+use Rattle.std.proofs.Common.{◌∙◌, sym, ap, length}
 use Rattle.std.proofs.lemmas.List.FromFn.{length-map-range_with_len}
 use Rattle.ps_machine.specs.StoredChannel.{Stored}
 use Rattle.ps_decision.proofs.channel.DecisionChannel.report_into.Goals as goal

@@ -1,0 +1,212 @@
+-- One turn at a CALL.
+use Rattle.std.proofs.Common.{◌⊎◌, inl, inr, ◌≡◌, ℕ, suc, ◌+◌, ◌-◌, ◌*◌, ◌^◌, ◌<◌, ◌≤◌, Bool, false, List, [], ◌∷◌, length, take, drop, map, refl, sym, ap, ◌∙◌, subst, arith, length-drop, Some}
+use Rattle.std.specs.Prelude.{slice_index, slice_index_or, nat_le, nat_lt, ◌==◌, ◌||◌}
+use Rattle.std.specs.List.{list_any}
+use Rattle.std.proofs.lemmas.List.{same_lists, get_or_default, get_or-drop, get_or-take, get_or-map, get_or_past, length-map, length-take-le}
+use Rattle.std.proofs.lemmas.Bool.{lt-leb, cases_lt, cond-false}
+use Rattle.ps_model.specs.declared.kind.Kind.{Kind}
+use Rattle.ps_model.specs.Blocks.{block, outs, output_count}
+use Rattle.ps_model.specs.Budgets.{boolean_count}
+use Rattle.ps_model.specs.Kept.{Kept, stepped_at}
+use Rattle.ps_model.specs.Stored.{stored, loaded}
+use Rattle.ps_model.proofs.Sixteen.{bit_is_one}
+use Rattle.ps_machine.specs.Bytes.{bit, is_no_bit, replaced}
+use Rattle.ps_machine.proofs.Bits.{bit_is_bit}
+use Rattle.ps_machine.proofs.CalledSignals.{called_signals, signal_inside, signal_before, signal_past}
+use Rattle.ps_machine.proofs.Instances.{bytes_at, block_is}
+use Rattle.ps_machine.proofs.KindsByNumber.{kind_of-number}
+use Rattle.ps_machine.proofs.Places.{length-replaced, index_before, index_within, index_after}
+use Rattle.ps_stackvm.specs.Calling.{pins_in}
+use Rattle.ps_decision.specs.declared.row.Row.TheVariants.{Call}
+use Rattle.ps_decision.specs.Cells.{scan_time, pin_bytes, block_bytes, with_offset}
+use Rattle.ps_decision.specs.Calling.{stepped_to, called_with, called_by, after_call}
+use Rattle.ps_decision.specs.Turn.{turn_of}
+use Rattle.ps_decision.proofs.PlacedRows.{Has}
+use Rattle.ps_decision.proofs.Holding.{Holds, turn_is, time_same, offset_of-with_offset, index-with_offset, length-with_offset}
+
+-- the pin cells are just the pins
+pins_are_held : (n now : ℕ) (blocks cells : List ℕ) (at : ℕ) (pins : List Bool) (v : ℕ → Bool) → Holds n now blocks cells at pins v → pin_bytes (length pins) cells ≡ map bit pins
+pins_are_held n now blocks cells at pins v h =
+    let c = length pins in
+    let size = h.sized in
+    let few = h.few_pins in
+    let ld = length-drop 9 cells in
+    let lt = length-take-le c (drop 9 cells) (omega arith) in
+    same_lists (take c (drop 9 cells)) (map bit pins) (lt ∙ sym (length-map pins bit)) (λ k d in'.
+    let low : k < c = omega arith in
+    let low' : k < length (map bit pins) = omega (arith, length-map pins bit) in
+    get_or_default (take c (drop 9 cells)) k d 0 in' ∙ get_or-take c (drop 9 cells) k 0 low ∙ get_or-drop 9 cells k 0
+    ∙ h.pinned k low ∙ sym (get_or-map bit pins k false 0 low) ∙ sym (get_or_default (map bit pins) k d 0 low'))
+
+none_odd : (pins : List Bool) → list_any is_no_bit (map bit pins) ≡ false
+none_odd [] = refl
+none_odd (b ∷ pins) = ap (λ x. x || list_any is_no_bit (map bit pins)) (bit_is_bit b) ∙ none_odd pins
+
+-- pin j of these bytes
+pin_is : (pins : List Bool) (j : ℕ) → pins_in (map bit pins) j ≡ slice_index_or pins j false
+pin_is pins j =
+    elim (cases_lt j (length pins)) [
+      | inl low ↦ ap (λ b. b == 1) (get_or-map bit pins j false 0 low) ∙ bit_is_one (slice_index_or pins j false)
+      | inr past ↦ ap (λ b. b == 1) (get_or_past (map bit pins) j 0 (omega (arith, length-map pins bit))) ∙ sym (get_or_past pins j false past)
+    ]
+
+call_goes : (n m i o limit next now : ℕ) (kind : Kind) (blocks cells : List ℕ) (at : ℕ) (pins : List Bool) (v : ℕ → Bool) (kept : Kept) →
+    Holds n now blocks cells at pins v → i < m → o + output_count kind ≤ n → length pins ≡ boolean_count kind → loaded kind (bytes_at i blocks) ≡ Some kept →
+    after_call n m i (block kind).number o limit next cells
+    ≡ stepped_to n i o next kind (stepped_at kind limit (λ j. slice_index_or pins j false) now kept) cells
+call_goes n m i o limit next now kind blocks cells at pins v kept h within room many there =
+    let e1 = lt-leb m i within in
+    let e2 : nat_lt n (o + output_count kind) ≡ false = lt-leb (suc n) (o + output_count kind) (omega arith) in
+    let top : pin_bytes (boolean_count kind) cells ≡ map bit pins = ap (λ c. pin_bytes c cells) (sym many) ∙ pins_are_held n now blocks cells at pins v h in
+    let found : loaded kind (block_bytes n i cells) ≡ Some kept = ap (loaded kind) (block_is (22 + n) i cells blocks h.rest) ∙ there in
+    let odd : list_any is_no_bit (pin_bytes (boolean_count kind) cells) ≡ false = ap (list_any is_no_bit) top ∙ none_odd pins in
+    let pins_are : pins_in (pin_bytes (boolean_count kind) cells) ≡ (λ j. slice_index_or pins j false) = ap pins_in top ∙ (λ x j. pin_is pins j x) in
+    cond-false (nat_le m i) _ _ e1
+    ∙ ap (λ k. called_by n i o limit next k cells) (kind_of-number kind)
+    ∙ cond-false (nat_lt n (o + output_count kind)) _ _ e2
+    ∙ cond-false (list_any is_no_bit (pin_bytes (boolean_count kind) cells)) _ _ odd
+    ∙ ap (λ k. called_with n i o limit next kind k cells) found
+    ∙ ap (λ p. stepped_to n i o next kind (stepped_at kind limit p (scan_time cells) kept) cells) pins_are
+    ∙ ap (λ t. stepped_to n i o next kind (stepped_at kind limit (λ j. slice_index_or pins j false) t kept) cells) h.time
+
+-- the numbers that a CALL's writes leave where they are: the sixteen bytes, and the outputs
+module _ (n i o next : ℕ) (st os cells : List ℕ) (size : length st ≡ 16) (room : 22 + n + 16 * i + 16 ≤ length cells) (fit : o + length os ≤ n) where
+  c1 : List ℕ
+  c1 = replaced cells (22 + n + 16 * i) st
+
+  c2 : List ℕ
+  c2 = replaced c1 (22 + o) os
+
+  l1 : length c1 ≡ length cells
+  unfolding c1
+  l1 = length-replaced cells (22 + n + 16 * i) st (omega arith)
+
+  l2 : length c2 ≡ length cells
+  unfolding c2
+  l2 = length-replaced c1 (22 + o) os (omega (arith, l1)) ∙ l1
+
+  l3 : length (with_offset next c2) ≡ length cells
+  l3 = length-with_offset next c2 (omega (arith, l2)) ∙ l2
+
+  called_is : with_offset next (replaced (replaced cells (22 + n + 16 * i) st) (22 + o) os) ≡ with_offset next c2
+  unfolding c1 c2
+  called_is = refl
+
+  -- below the signals nothing but the offset changes
+  low_same : (k : ℕ) → 4 ≤ k → k < 22 → slice_index (with_offset next c2) k ≡ slice_index cells k
+  unfolding c1 c2
+  low_same k from to =
+      index-with_offset next c2 k from
+      ∙ index_before c1 (22 + o) os k (omega arith) (omega (arith, l1))
+      ∙ index_before cells (22 + n + 16 * i) st k (omega arith) (omega arith)
+
+  -- the outputs
+  out_is : (j : ℕ) → j < length os → slice_index (with_offset next c2) (22 + (o + j)) ≡ slice_index os j
+  unfolding c2
+  out_is j low =
+      let e : 22 + (o + j) ≡ 22 + o + j = omega arith in
+      index-with_offset next c2 (22 + (o + j)) (omega arith)
+      ∙ ap (slice_index c2) e
+      ∙ index_within c1 (22 + o) os j low (omega (arith, l1))
+
+  -- every other signal
+  signal_same : (k : ℕ) → k < n → ((k < o) ⊎ (o + length os ≤ k)) → slice_index (with_offset next c2) (22 + k) ≡ slice_index cells (22 + k)
+  unfolding c1 c2
+  signal_same k low side =
+      index-with_offset next c2 (22 + k) (omega arith)
+      ∙ elim side [
+        | inl before ↦ index_before c1 (22 + o) os (22 + k) (omega arith) (omega (arith, l1))
+        | inr past ↦ index_after c1 (22 + o) os (22 + k) (omega arith) (omega (arith, l1))
+      ]
+      ∙ index_before cells (22 + n + 16 * i) st (22 + k) (omega arith) (omega arith)
+
+  -- the instances' bytes
+  rest_is : drop (22 + n) (with_offset next c2) ≡ replaced (drop (22 + n) cells) (16 * i) st
+  unfolding c1 c2
+  rest_is =
+      let blocks = drop (22 + n) cells in
+      let place = 22 + n + 16 * i in
+      let lb = length-drop (22 + n) cells in
+      let ln = length-drop (22 + n) (with_offset next c2) in
+      let lr = length-replaced blocks (16 * i) st (omega arith) in
+      let len : length (drop (22 + n) (with_offset next c2)) ≡ length (replaced blocks (16 * i) st) = omega (arith, l3) in
+      same_lists (drop (22 + n) (with_offset next c2)) (replaced blocks (16 * i) st) len (λ k d low.
+      let low' : k < length (replaced blocks (16 * i) st) = omega arith in
+      let there = get_or-drop (22 + n) (with_offset next c2) k 0 in
+      let on = index-with_offset next c2 (22 + n + k) (omega arith) ∙ index_after c1 (22 + o) os (22 + n + k) (omega arith) (omega (arith, l1)) in
+      let from = get_or_default (drop (22 + n) (with_offset next c2)) k d 0 low in
+      let to = get_or_default (replaced blocks (16 * i) st) k 0 d low' in
+      let mid : slice_index c1 (22 + n + k) ≡ slice_index (replaced blocks (16 * i) st) k =
+      elim (cases_lt k (16 * i)) [
+        | inl before ↦
+            index_before cells place st (22 + n + k) (omega arith) (omega arith)
+            ∙ sym (get_or-drop (22 + n) cells k 0)
+            ∙ sym (index_before blocks (16 * i) st k before (omega arith))
+        | inr past ↦ elim (cases_lt k (16 * i + 16)) [
+          | inl within ↦
+              let j = k - 16 * i in
+              let e1 : 22 + n + k ≡ place + j = omega arith in
+              let e2 : 16 * i + j ≡ k = omega arith in
+              ap (slice_index c1) e1
+              ∙ index_within cells place st j (omega arith) (omega arith)
+              ∙ sym (index_within blocks (16 * i) st j (omega arith) (omega arith))
+              ∙ ap (slice_index (replaced blocks (16 * i) st)) e2
+          | inr after ↦
+              index_after cells place st (22 + n + k) (omega arith) (omega arith)
+              ∙ sym (get_or-drop (22 + n) cells k 0)
+              ∙ sym (index_after blocks (16 * i) st k (omega arith) (omega arith))
+        ]
+      ] in
+      from ∙ there ∙ on ∙ mid ∙ to)
+
+call_holds : (n now i o next wide : ℕ) (blocks cells : List ℕ) (at : ℕ) (pins os : List Bool) (v : ℕ → Bool) (st : List ℕ) →
+    Holds n now blocks cells at pins v → next < 2 ^ 32 → length os ≡ wide → o + wide ≤ n → 16 * i + 16 ≤ length blocks → length st ≡ 16 →
+    Holds n now (replaced blocks (16 * i) st) (with_offset next (replaced (replaced cells (22 + n + 16 * i) st) (22 + o) (map bit os))) next []
+    (called_signals o wide os v)
+call_holds n now i o next wide blocks cells at pins os v st h small shown room inside size =
+    let lr = ap length h.rest in
+    let ld = length-drop (22 + n) cells in
+    let fits : 22 + n + 16 * i + 16 ≤ length cells = omega (arith, h.sized) in
+    let ob = map bit os in
+    let lo : length ob ≡ length os = length-map os bit in
+    let room' : o + length ob ≤ n = omega arith in
+    let final = with_offset next (c2 n i o next st ob cells size fits room') in
+    let same = low_same n i o next st ob cells size fits room' in
+    let held : Holds n now (replaced blocks (16 * i) st) final next [] (called_signals o wide os v) = record {
+      sized = omega (arith, h.sized, l3 n i o next st ob cells size fits room');
+      there = offset_of-with_offset next (c2 n i o next st ob cells size fits room') small;
+      running = same 4 (omega arith) (omega arith) ∙ h.running;
+      time = time_same cells final (λ k from to. same k (omega arith) (omega arith)) ∙ h.time;
+      pinned = λ j l. absurd (omega arith);
+      few_pins = omega arith;
+      signals = λ k l. elim (cases_lt k o) [
+        | inl before ↦ signal_same n i o next st ob cells size fits room' k l (inl before) ∙ h.signals k l ∙ ap bit (sym (signal_before o wide os v k before))
+        | inr from ↦ elim (cases_lt k (o + wide)) [
+          | inl within ↦
+              let j = k - o in
+              let e : o + j ≡ k = omega arith in
+              let here : j < length os = omega arith in
+              ap (λ p. slice_index final (22 + p)) (sym e)
+              ∙ out_is n i o next st ob cells size fits room' j (omega arith)
+              ∙ get_or-map bit os j false 0 here
+              ∙ ap bit (sym (signal_inside o wide os v k from within))
+          | inr past ↦ signal_same n i o next st ob cells size fits room' k l (inr (omega arith)) ∙ h.signals k l ∙ ap bit (sym (signal_past o wide os v k from past))
+        ]
+      ];
+      rest = rest_is n i o next st ob cells size fits room' ∙ ap (λ b. replaced b (16 * i) st) h.rest;
+    } in
+    subst (λ c. Holds n now (replaced blocks (16 * i) st) c next [] (called_signals o wide os v)) (sym (called_is n i o next st ob cells size fits room')) held
+
+pub call_turn : (n m now : ℕ) (blocks code cells : List ℕ) (at i o limit : ℕ) (kind : Kind) (pins : List Bool) (v : ℕ → Bool) (kept : Kept) →
+    Has code at (Call i (block kind).number o limit) → Holds n now blocks cells at pins v → length pins ≡ boolean_count kind → i < m →
+    length (outs kind (stepped_at kind limit (λ j. slice_index_or pins j false) now kept).code (stepped_at kind limit (λ j. slice_index_or pins j false) now kept).mode) ≡ output_count kind →
+    o + output_count kind ≤ n → 16 * i + 16 ≤ length blocks → loaded kind (bytes_at i blocks) ≡ Some kept →
+    Holds n now (replaced blocks (16 * i) (stored (stepped_at kind limit (λ j. slice_index_or pins j false) now kept))) (turn_of n m code cells) (at + 10) []
+    (called_signals o (output_count kind) (outs kind (stepped_at kind limit (λ j. slice_index_or pins j false) now kept).code (stepped_at kind limit (λ j. slice_index_or pins j false) now kept).mode) v)
+call_turn n m now blocks code cells at i o limit kind pins v kept has h many within shown room inside there =
+    let k' : Kept = stepped_at kind limit (λ j. slice_index_or pins j false) now kept in
+    let os = outs kind k'.code k'.mode in
+    let e = turn_is n m code cells at (Call i (block kind).number o limit) h.there has
+    ∙ call_goes n m i o limit (at + 10) now kind blocks cells at pins v kept h within room many there in
+    subst (λ y. Holds n now (replaced blocks (16 * i) (stored k')) y (at + 10) [] (called_signals o (output_count kind) os v)) (sym e)
+    (call_holds n now i o (at + 10) (output_count kind) blocks cells at pins os v (stored k') h has.small shown room inside refl)

@@ -1,7 +1,5 @@
 // Tables of applications with one block.
 
-use crate::tables::Row;
-
 /// Two contacts that are to agree within 50 ms.
 pub const CONTACTS: &str = "PROGRAM Eq \
 VAR_INPUT S_A : SAFEBOOL; S_B : SAFEBOOL; END_VAR \
@@ -12,22 +10,18 @@ S_O := Q.S_EquivalentOut; \
 END_PROGRAM";
 
 /// Limit of a timer: the second contact follows after 50 ms, which is too late.
-pub fn late_contact() -> [Row; 3] {
-    [
-        Row::of(0, "00", "0", &[0x8001]),
-        Row::of(10, "10", "0", &[0x8004]),
-        Row::of(60, "11", "0", &[0xC001]),
-    ]
-}
+pub const LATE_CONTACT: &str = "\
+0 00 0 8001
+10 10 0 8004
+60 11 0 C001
+";
 
 /// Limit of a timer: the second contact follows after 49 ms.
-pub fn contact_in_time() -> [Row; 3] {
-    [
-        Row::of(0, "00", "0", &[0x8001]),
-        Row::of(10, "10", "0", &[0x8004]),
-        Row::of(59, "11", "1", &[0x8000]),
-    ]
-}
+pub const CONTACT_IN_TIME: &str = "\
+0 00 0 8001
+10 10 0 8004
+59 11 1 8000
+";
 
 /// Two contacts that are to agree at once.
 pub const CONTACTS_AT_ONCE: &str = "PROGRAM Eq \
@@ -39,13 +33,11 @@ S_O := Q.S_EquivalentOut; \
 END_PROGRAM";
 
 /// Limit 0: a limit that is not given has elapsed at once.
-pub fn limit_zero() -> [Row; 3] {
-    [
-        Row::of(5, "10", "0", &[0x8001]),
-        Row::of(5, "10", "0", &[0x8004]),
-        Row::of(5, "10", "0", &[0xC001]),
-    ]
-}
+pub const LIMIT_ZERO: &str = "\
+5 10 0 8001
+5 10 0 8004
+5 10 0 C001
+";
 
 /// Two contacts of which one opens where the other closes, within 50 ms.
 pub const OPPOSED_CONTACTS: &str = "PROGRAM Anti \
@@ -57,37 +49,31 @@ S_O := Q.S_AntivalentOut; \
 END_PROGRAM";
 
 /// Antivalent contacts: closed in time, opened too late, and begun anew.
-pub fn antivalent_contacts() -> [Row; 6] {
-    [
-        Row::of(0, "01", "0", &[0x8001]),
-        Row::of(10, "11", "0", &[0x8004]),
-        Row::of(20, "10", "1", &[0x8000]),
-        Row::of(30, "11", "0", &[0x8005]),
-        Row::of(80, "11", "0", &[0xC003]),
-        Row::of(90, "01", "0", &[0x8001]),
-    ]
-}
+pub const ANTIVALENT_CONTACTS: &str = "\
+0 01 0 8001
+10 11 0 8004
+20 10 1 8000
+30 11 0 8005
+80 11 0 C003
+90 01 0 8001
+";
 
 /// The motor in ordinary use: freed by an edge of Reset, stopped by the process and by the emergency stop.
-pub fn ordinary_use() -> [Row; 6] {
-    [
-        Row::of(0, "101", "0", &[0x8001]),
-        Row::of(10, "101", "0", &[0x8002]),
-        Row::of(20, "101", "0", &[0x8003]),
-        Row::of(30, "111", "1", &[0x8000]),
-        Row::of(40, "100", "0", &[0x8000]),
-        Row::of(50, "001", "0", &[0x8004]),
-    ]
-}
+pub const ORDINARY_USE: &str = "\
+0 101 0 8001
+10 101 0 8002
+20 101 0 8003
+30 111 1 8000
+40 100 0 8000
+50 001 0 8004
+";
 
 /// The motor with a held reset: a Reset that is held is an error.
-pub fn held_reset() -> [Row; 3] {
-    [
-        Row::of(0, "101", "0", &[0x8001]),
-        Row::of(10, "111", "0", &[0x8002]),
-        Row::of(20, "111", "0", &[0xC001]),
-    ]
-}
+pub const HELD_RESET: &str = "\
+0 101 0 8001
+10 111 0 8002
+20 111 0 C001
+";
 
 /// A two-hand control of type III, whose buttons are to follow each other within 500 ms.
 pub const TWO_HANDS: &str = "PROGRAM H \
@@ -99,34 +85,28 @@ S_O := H3.S_TwoHandOut; \
 END_PROGRAM";
 
 /// Fixed time of type III: the second button within 499 ms.
-pub fn second_button_in_time() -> [Row; 4] {
-    [
-        Row::of(0, "00", "0", &[0x8001]),
-        Row::of(10, "00", "0", &[0x8004]),
-        Row::of(20, "10", "0", &[0x8005]),
-        Row::of(519, "11", "1", &[0x8000]),
-    ]
-}
+pub const SECOND_BUTTON_IN_TIME: &str = "\
+0 00 0 8001
+10 00 0 8004
+20 10 0 8005
+519 11 1 8000
+";
 
 /// Fixed time of type III: the second button after 500 ms.
-pub fn second_button_late() -> [Row; 4] {
-    [
-        Row::of(0, "00", "0", &[0x8001]),
-        Row::of(10, "00", "0", &[0x8004]),
-        Row::of(20, "10", "0", &[0x8005]),
-        Row::of(520, "11", "0", &[0xC006]),
-    ]
-}
+pub const SECOND_BUTTON_LATE: &str = "\
+0 00 0 8001
+10 00 0 8004
+20 10 0 8005
+520 11 0 C006
+";
 
 /// Fixed time of type III: one button alone for 500 ms.
-pub fn no_second_button() -> [Row; 4] {
-    [
-        Row::of(0, "00", "0", &[0x8001]),
-        Row::of(10, "00", "0", &[0x8004]),
-        Row::of(20, "10", "0", &[0x8005]),
-        Row::of(520, "10", "0", &[0xC004]),
-    ]
-}
+pub const NO_SECOND_BUTTON: &str = "\
+0 00 0 8001
+10 00 0 8004
+20 10 0 8005
+520 10 0 C004
+";
 
 /// A selector of two modes, of which one is to be chosen within a second.
 pub const MODES: &str = "PROGRAM Modes \
@@ -139,20 +119,18 @@ S_M1 := K.S_Mode1Sel; \
 END_PROGRAM";
 
 /// Mode selector: two modes at once, a held Reset, a mode latched and locked, none for a second.
-pub fn mode_selector() -> [Row; 10] {
-    [
-        Row::of(0, "1111", "0", &[0x8005]),
-        Row::of(10, "1111", "0", &[0xC001]),
-        Row::of(20, "1111", "0", &[0xC003]),
-        Row::of(30, "1110", "0", &[0xC001]),
-        Row::of(40, "0111", "0", &[0x8005]),
-        Row::of(50, "0110", "1", &[0x8000]),
-        Row::of(60, "0100", "1", &[0x8004]),
-        Row::of(70, "0000", "1", &[0x8004]),
-        Row::of(80, "0010", "0", &[0x8005]),
-        Row::of(1080, "0010", "0", &[0xC002]),
-    ]
-}
+pub const MODE_SELECTOR: &str = "\
+0 1111 0 8005
+10 1111 0 C001
+20 1111 0 C003
+30 1110 0 C001
+40 0111 0 8005
+50 0110 1 8000
+60 0100 1 8004
+70 0000 1 8004
+80 0010 0 8005
+1080 0010 0 C002
+";
 
 /// An enabling switch with two contacts.
 pub const ENABLING: &str = "PROGRAM En \
@@ -165,19 +143,17 @@ S_O := Q.S_EnableSwitchOut; \
 END_PROGRAM";
 
 /// Enable switch: pressed, pressed through, released, and freed by an edge of Reset.
-pub fn enable_switch() -> [Row; 9] {
-    [
-        Row::of(0, "010", "0", &[0x8004]),
-        Row::of(10, "010", "0", &[0x8005]),
-        Row::of(20, "010", "0", &[0x8006]),
-        Row::of(30, "110", "1", &[0x8000]),
-        Row::of(40, "000", "0", &[0x8007]),
-        Row::of(50, "110", "0", &[0xC030]),
-        Row::of(60, "010", "0", &[0xC040]),
-        Row::of(70, "011", "0", &[0x8006]),
-        Row::of(80, "111", "1", &[0x8000]),
-    ]
-}
+pub const ENABLE_SWITCH: &str = "\
+0 010 0 8004
+10 010 0 8005
+20 010 0 8006
+30 110 1 8000
+40 000 0 8007
+50 110 0 C030
+60 010 0 C040
+70 011 0 8006
+80 111 1 8000
+";
 
 /// A guard with a lock.
 pub const LOCKING: &str = "PROGRAM Gl \
@@ -191,20 +167,18 @@ S_Un := Q.S_UnlockGuard; \
 END_PROGRAM";
 
 /// Guard locking: unlocked on request, opened, closed and locked again, and opened while it is locked.
-pub fn guard_locking() -> [Row; 10] {
-    [
-        Row::of(0, "10100", "00", &[0x8001]),
-        Row::of(10, "10100", "00", &[0x8003]),
-        Row::of(20, "10101", "10", &[0x8000]),
-        Row::of(30, "11111", "01", &[0x8013]),
-        Row::of(40, "01011", "01", &[0x8012]),
-        Row::of(50, "11010", "01", &[0x8013]),
-        Row::of(60, "11000", "00", &[0x8011]),
-        Row::of(70, "10101", "10", &[0x8000]),
-        Row::of(80, "00101", "00", &[0xC004]),
-        Row::of(90, "10101", "00", &[0xC004]),
-    ]
-}
+pub const GUARD_LOCKING: &str = "\
+0 10100 00 8001
+10 10100 00 8003
+20 10101 10 8000
+30 11111 01 8013
+40 01011 01 8012
+50 11010 01 8013
+60 11000 00 8011
+70 10101 10 8000
+80 00101 00 C004
+90 10101 00 C004
+";
 
 /// A safety request that is to be acknowledged within 100 ms.
 pub const REQUESTING: &str = "PROGRAM Sr \
@@ -217,19 +191,17 @@ S_Rq := Q.S_SafetyRequest; \
 END_PROGRAM";
 
 /// Safety request: no acknowledgement in time, an edge of Reset, a request that is answered, and one that is lost.
-pub fn safety_request() -> [Row; 12] {
-    [
-        Row::of(0, "000", "00", &[0x8001]),
-        Row::of(10, "000", "00", &[0x8003]),
-        Row::of(110, "000", "00", &[0xC003]),
-        Row::of(120, "001", "00", &[0x8005]),
-        Row::of(130, "101", "00", &[0x8012]),
-        Row::of(140, "100", "00", &[0x8012]),
-        Row::of(150, "101", "01", &[0x8002]),
-        Row::of(160, "011", "00", &[0x8003]),
-        Row::of(170, "011", "10", &[0x8000]),
-        Row::of(180, "001", "00", &[0xC002]),
-        Row::of(190, "001", "00", &[0xC004]),
-        Row::of(200, "000", "00", &[0xC002]),
-    ]
-}
+pub const SAFETY_REQUEST: &str = "\
+0 000 00 8001
+10 000 00 8003
+110 000 00 C003
+120 001 00 8005
+130 101 00 8012
+140 100 00 8012
+150 101 01 8002
+160 011 00 8003
+170 011 10 8000
+180 001 00 C002
+190 001 00 C004
+200 000 00 C002
+";

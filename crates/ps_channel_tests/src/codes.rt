@@ -5,6 +5,7 @@ use crate::code::{
 };
 use crate::texts::{DEEP, MOTOR, TIMES};
 use ps_base::Fail;
+use ps_model::app::App;
 use std::alloc::Global;
 
 // CONST 1, LOAD S_In, CONST 0, CONST 0, LOAD Ack, CALL; LOAD E.S_EStopOut, LOAD Run, AND, STORE S_Motor, END
@@ -20,7 +21,19 @@ const MOTOR_EQUATION_CODE: [u8; 37] = [
     0, 0, 4, 0xF2, 0xF0, 0, 0, 2, 0xF1, 0, 3, 0xF0, 0, 0xF0,
 ];
 
-// Whether the codes of the application of a text have these bytes: in channel A, and in channel B.
+// Whether the codes of an application have these bytes: in channel A, and in channel B.
+fn are_codes(
+    alloc: Global,
+    app: &App,
+    stack: &[u8],
+    equation: &[u8],
+) -> Result<(bool, bool), Fail> {
+    let is_stack = stack_code_of(alloc, app)?.as_slice() == stack;
+    let is_equation = equation_code_of(alloc, app)?.as_slice() == equation;
+    Ok((is_stack, is_equation))
+}
+
+// The same of the application of a text.
 fn has_codes(
     alloc: Global,
     text: &str,
@@ -28,12 +41,7 @@ fn has_codes(
     equation: &[u8],
 ) -> Result<(bool, bool), Fail> {
     let app = application(alloc, text)?;
-    let stack_code = stack_code_of(alloc, &app)?;
-    let equation_code = equation_code_of(alloc, &app)?;
-    Ok((
-        stack_code.as_slice() == stack,
-        equation_code.as_slice() == equation,
-    ))
+    are_codes(alloc, &app, stack, equation)
 }
 
 #[test]
@@ -60,10 +68,15 @@ fn limits_and_free_pins(rt: HostRuntime) {
     assert_eq!(rt; found, Ok((true, true)));
 }
 
+// The figures of both channels, A and then B.
+fn both_figures(alloc: Global, app: &App) -> Result<(Figures, Figures), Fail> {
+    Ok((stack_figures(alloc, app)?, equation_figures(alloc, app)?))
+}
+
 /// The figures of both channels, A and then B, for the application of a text.
 pub fn figures(alloc: Global, text: &str) -> Result<(Figures, Figures), Fail> {
     let app = application(alloc, text)?;
-    Ok((stack_figures(alloc, &app)?, equation_figures(alloc, &app)?))
+    both_figures(alloc, &app)
 }
 
 #[test]

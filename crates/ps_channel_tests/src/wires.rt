@@ -1,7 +1,5 @@
 // A table of an application without blocks.
 
-use crate::tables::Row;
-
 /// Locals that are read before they are assigned.
 pub const FEEDBACK: &str = "PROGRAM Fb \
 VAR_INPUT S_In : SAFEBOOL; END_VAR \
@@ -11,10 +9,8 @@ X := Y AND S_In; Y := S_In; S_O := X; \
 END_PROGRAM";
 
 /// Feedback: a local that is read before its assignment has the value of the scan before.
-pub fn feedback() -> [Row; 3] {
-    [
-        Row::of(0, "1", "0", &[]),
-        Row::of(10, "1", "1", &[]),
-        Row::of(20, "0", "0", &[]),
-    ]
-}
+pub const FEEDBACK_ROWS: &str = "\
+0 1 0
+10 1 1
+20 0 0
+";

@@ -6,7 +6,7 @@ use ps_top::Status;
 use std::test::Fail;
 
 /// The certificate of the motor.
-const CERTIFICATE: &str = "0 SRC\n3 SRC\n2 AND 2\n";
+pub const CERTIFICATE: &str = "0 SRC\n3 SRC\n2 AND 2\n";
 
 #[test]
 fn what_cert_writes(rt: HostRuntime) -> Result<(), Fail> {

@@ -1,6 +1,7 @@
 // Reads and writes that fail, and reads that give little.
 
 use crate::calls::{ROOM, files_of, gives, trace_and_text, words_of};
+use crate::certificates::CERTIFICATE;
 use crate::motor::{MOTOR, ORDINARY};
 use ps_base::Memory;
 use ps_outside::{MemFiles, MemSink};
@@ -9,11 +10,12 @@ use std::alloc::Global;
 use std::process::Abort;
 use std::test::Fail;
 
-/// Asserts that a run over these files, whose `k`-th write fails where `k` is not 0, writes this text with this
-/// status.
-fn run(
+/// Asserts that a call with these words over these files, whose `k`-th write fails where `k` is not 0, writes this text
+/// with this status.
+fn call(
     rt: &impl Abort,
     alloc: Global,
+    words: &str,
     files: &mut MemFiles,
     k: u32,
     wanted: (&str, Status),
@@ -23,11 +25,22 @@ fn run(
     if k > 0 {
         out.fail_at(k)?;
     }
-    let words = words_of(alloc, "run A T")?;
-    let found = top(alloc, &words, files, &mut out, &mut Left::new());
-    assert_eq!(rt; out.taken(), text.as_bytes(), "write {k}");
-    assert_eq!(rt; found, status, "write {k}");
+    let list = words_of(alloc, words)?;
+    let found = top(alloc, &list, files, &mut out, &mut Left::new());
+    assert_eq!(rt; out.taken(), text.as_bytes(), "{words}, write {k}");
+    assert_eq!(rt; found, status, "{words}, write {k}");
     Ok(())
+}
+
+/// The same of a run.
+fn run(
+    rt: &impl Abort,
+    alloc: Global,
+    files: &mut MemFiles,
+    k: u32,
+    wanted: (&str, Status),
+) -> Result<(), Memory> {
+    call(rt, alloc, "run A T", files, k, wanted)
 }
 
 #[test]
@@ -65,6 +78,24 @@ fn each_write_fails_in_turn(rt: HostRuntime) -> Result<(), Fail> {
         let before = lines(alloc, text.as_str(), k - 1)?;
         let mut files = files_of(alloc, MOTOR, trace.as_str())?;
         run(&rt, alloc, &mut files, k, (before.as_str(), status))?;
+    }
+    Ok(())
+}
+
+// Each line of a certificate is one write.
+#[test]
+fn each_write_of_a_certificate_fails_in_turn(rt: HostRuntime) -> Result<(), Fail> {
+    let alloc = rt.alloc();
+    for k in 1..5 {
+        let status = if k == 4 {
+            Status::Done
+        } else {
+            Status::WriteFault
+        };
+        let before = lines(alloc, CERTIFICATE, k - 1)?;
+        let mut files = files_of(alloc, MOTOR, "")?;
+        let wanted = (before.as_str(), status);
+        call(&rt, alloc, "cert A", &mut files, k, wanted)?;
     }
     Ok(())
 }

@@ -36,20 +36,29 @@ fn put_pins(rt: &impl Abort, channel: &mut StackChannel, pins: u8, activate: u8)
     assert!(rt; channel.spoil(Region::Cells, 0, &cells).is_ok());
 }
 
-// A turn that calls the instance, which has so many safe outputs. Afterwards it has this DiagCode and this Ready, and no Error.
-fn turn(rt: &impl Abort, channel: &mut StackChannel, safe: u8, code: u16, ready: u8) {
+// A turn that calls the instance.
+fn turn(rt: &impl Abort, channel: &mut StackChannel) {
     assert!(rt; channel.progress() == Progress::Running);
     channel.turn();
     assert!(rt; channel.progress() == Progress::Running);
-    assert!(rt; 100 < channel.region_len(Region::Cells));
-    assert!(rt; safe <= 9);
+}
+
+// What the byte at a place of the cells says.
+fn says(rt: &impl Abort, channel: &StackChannel, at: u32, byte: u8) {
+    assert!(rt; at < channel.region_len(Region::Cells));
+    assert_eq!(rt; channel.cell(at), byte, "byte {at}");
+}
+
+// The instance, which has so many safe outputs, has this DiagCode and this Ready, and no Error; and the next instruction is
+// behind its call, over an empty stack.
+fn shows(rt: &impl Abort, channel: &StackChannel, safe: u8, code: u16, ready: u8) {
     let [high, low] = code.to_be_bytes();
-    assert_eq!(rt; channel.cell(85), high);
-    assert_eq!(rt; channel.cell(86), low);
-    assert_eq!(rt; channel.cell(74 + u32::from(safe)), ready);
-    assert_eq!(rt; channel.cell(75 + u32::from(safe)), 0);
-    assert_eq!(rt; channel.cell(3), 10);
-    assert_eq!(rt; channel.cell(4), 0);
+    says(rt, channel, 85, high);
+    says(rt, channel, 86, low);
+    says(rt, channel, 74 + u32::from(safe), ready);
+    says(rt, channel, 75 + u32::from(safe), 0);
+    says(rt, channel, 3, 10);
+    says(rt, channel, 4, 0);
 }
 
 // Three calls of a kind: Activate TRUE from Idle on, again, and Activate FALSE.
@@ -66,12 +75,11 @@ fn calls(
     let image = image(alloc, &code)?;
     let sizes = wide_sizes(alloc)?;
     let mut channel = StackChannel::new(alloc, &image, &sizes)?;
-    put_pins(rt, &mut channel, pins, 1);
-    turn(rt, &mut channel, safe, first, 1);
-    put_pins(rt, &mut channel, pins, 1);
-    turn(rt, &mut channel, safe, second, 1);
-    put_pins(rt, &mut channel, pins, 0);
-    turn(rt, &mut channel, safe, 0, 0);
+    for (activate, diag_code, ready) in [(1, first, 1), (1, second, 1), (0, 0, 0)] {
+        put_pins(rt, &mut channel, pins, activate);
+        turn(rt, &mut channel);
+        shows(rt, &channel, safe, diag_code, ready);
+    }
     Ok(())
 }
 

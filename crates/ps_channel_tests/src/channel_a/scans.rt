@@ -19,84 +19,54 @@ fn make_turns(rt: &impl Abort, channel: &mut StackChannel)
     }
 }
 
-// One scan of M, and what it reports: the output, and the DiagCode of the instance.
+// What M's channel reports: the output, and the DiagCode of the instance, which is Ready and has no Error.
+fn reported(rt: &impl Abort, alloc: Global, channel: &StackChannel) -> Result<(bool, u16), Fail>
+    requires outputs { channel.now.sizes.outputs ≡ 1 }
+    requires instances { channel.now.sizes.instances ≡ 1 }
+{
+    let mut report = report(alloc)?;
+    assert!(rt; channel.report_into(&mut report));
+    assert!(rt; report.outs.len() == 1 && report.diags.len() == 1);
+    let diag = report.diags.at(0);
+    assert!(rt; diag.ready && !diag.error);
+    Ok((report.outs.at(0), diag.code))
+}
+
+// One scan of M.
 fn make_scan(
     rt: &impl Abort,
     alloc: Global,
     channel: &mut StackChannel,
     now: u32,
     ins: [bool; 3],
-    wanted: (bool, u16),
 ) -> Result<(), Fail>
-    requires inputs { channel.old.sizes.inputs ≡ 3 }
-    requires outputs { channel.old.sizes.outputs ≡ 1 }
-    requires instances { channel.old.sizes.instances ≡ 1 }
+    requires { channel.old.sizes.inputs ≡ 3 }
     ensures { channel.new.sizes ≡ channel.old.sizes }
 {
     let scan = scan(alloc, now, ins)?;
-    let mut report = report(alloc)?;
     channel.begin(&scan);
     make_turns(rt, channel);
     assert_eq!(rt; channel.progress(), Progress::Done);
-    assert!(rt; channel.report_into(&mut report));
-    assert!(rt; report.outs.len() == 1 && report.diags.len() == 1);
-    let diag = report.diags.at(0);
-    assert_eq!(rt; (report.outs.at(0), diag.code), wanted, "at {now}");
-    assert!(rt; diag.ready && !diag.error, "at {now}");
     Ok(())
 }
 
+// Time, inputs, and what is reported.
 #[test]
 fn six_scans(rt: HostRuntime) -> Result<(), Fail> {
+    let scans = [
+        (0, [true, false, true], (false, 0x8001)),
+        (10, [true, false, true], (false, 0x8002)),
+        (20, [true, false, true], (false, 0x8003)),
+        (30, [true, true, true], (true, 0x8000)),
+        (40, [true, false, false], (false, 0x8000)),
+        (50, [false, false, true], (false, 0x8004)),
+    ];
     let mut channel = channel(rt.alloc(), &CODE)?;
-    make_scan(
-        &rt,
-        rt.alloc(),
-        &mut channel,
-        0,
-        [true, false, true],
-        (false, 0x8001),
-    )?;
-    make_scan(
-        &rt,
-        rt.alloc(),
-        &mut channel,
-        10,
-        [true, false, true],
-        (false, 0x8002),
-    )?;
-    make_scan(
-        &rt,
-        rt.alloc(),
-        &mut channel,
-        20,
-        [true, false, true],
-        (false, 0x8003),
-    )?;
-    make_scan(
-        &rt,
-        rt.alloc(),
-        &mut channel,
-        30,
-        [true, true, true],
-        (true, 0x8000),
-    )?;
-    make_scan(
-        &rt,
-        rt.alloc(),
-        &mut channel,
-        40,
-        [true, false, false],
-        (false, 0x8000),
-    )?;
-    make_scan(
-        &rt,
-        rt.alloc(),
-        &mut channel,
-        50,
-        [false, false, true],
-        (false, 0x8004),
-    )
+    for (now, ins, wanted) in scans {
+        make_scan(&rt, rt.alloc(), &mut channel, now, ins)?;
+        assert_eq!(rt; reported(&rt, rt.alloc(), &channel)?, wanted, "at {now}");
+    }
+    Ok(())
 }
 
 #[test]

@@ -1,0 +1,16 @@
+pub mod Joined
+pub mod SlimHolds
+pub mod SafeOutputs
+pub mod DemandHolds
+pub mod RunsHold
+pub mod Views
+pub mod Parts
+pub mod NeedPins
+pub mod Tables
+pub mod Counted
+pub mod CallFacts
+pub mod DriverStands
+pub mod Kept
+pub mod Slimmed
+pub mod PinPlaces
+pub mod Writing

@@ -1,0 +1,8 @@
+use Rattle.ps_demand.specs.Passes.{AreCounts, AreSlim}
+use Rattle.ps_demand.proofs.slimming.slim_demand.Given as goal
+
+abbrev pub invariant-loop-k : goal.invariant-loop-k
+invariant-loop-k l = record {
+  counted : AreCounts l.app l.k l.counts.items;
+  small : AreSlim l.app l.k l.rows.items;
+}

@@ -8,3 +8,4 @@ pub mod CallTurn
 pub mod Stepping
 pub mod Scanning
 pub mod WrittenRows
+pub mod Examples

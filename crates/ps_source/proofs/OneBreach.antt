@@ -1,17 +1,10 @@
 -- An application breaks the rules S first at one step and pin, by one rule.
-use Rattle.std.proofs.Common.{◌≡◌, ◌∙◌, ℕ, List, Option, Some, None, refl, sym, ap, subst, inl, inr, ⊎_elim, arith}
-use Rattle.std.specs.Prelude.{slice_get, slice_index_or}
-use Rattle.std.proofs.lemmas.Bool.{false≢true, cases_lt}
+use Rattle.std.proofs.Common.{◌≡◌, ◌∙◌, ℕ, List, Option, Some, sym, ap, subst, inl, inr}
+use Rattle.std.specs.Prelude.{slice_get}
 use Rattle.std.proofs.lemmas.Option.{same_Some}
 use Rattle.ps_base.specs.declared.failing.Refusal.{Refusal}
-use Rattle.ps_base.specs.declared.failing.Rule.{Rule}
-use Rattle.ps_model.specs.declared.kind.Ty.{Ty}
-use Rattle.ps_model.specs.declared.kind.Ty.TheVariants.{Safe, Time}
-use Rattle.ps_model.specs.Action.{Action, Actual, free, literal, time, wired, assigns, calls}
-use Rattle.ps_model.specs.Network.{Network, kind_at}
-use Rattle.ps_model.specs.Scanning.{pin_at}
-use Rattle.ps_model.specs.Typing.{MayStand}
-use Rattle.ps_flow.specs.Refusals.{BreaksAt, BreaksStep, FitsStep, IsFirstBreach}
+use Rattle.ps_model.specs.Network.{Network}
+use Rattle.ps_flow.specs.Refusals.{IsFirstBreach}
 use Rattle.ps_flow.proofs.Refused.{not_accepted, one_first_breach}
 use Rattle.ps_parser.specs.Places.{step_place}
 use Rattle.ps_parser.specs.Tree.{SourceTree}

@@ -1,28 +1,26 @@
 -- The place of a breach of the rules S stands in the source.
-use Rattle.std.proofs.Common.{◌≡◌, ◌<◌, ◌∙◌, ℕ, zero, suc, Bool, true, false, cond, List, [], ◌∷◌, ◌++◌, Option, None, Some, IsSome, length, map, filter, refl, sym, ap, subst, arith}
+use Rattle.std.proofs.Common.{◌≡◌, ◌<◌, ◌∙◌, ℕ, zero, suc, Bool, true, false, cond, List, [], ◌∷◌, ◌++◌, Option, None, Some, IsSome, length, map, refl, sym, ap, subst, arith}
 use Rattle.std.specs.Prelude.{slice_get, slice_index_or, unwrap_or}
 use Rattle.std.specs.Option.{option_map}
 use Rattle.std.specs.List.{find}
 use Rattle.std.proofs.lemmas.List.{get_or-map, length-map}
-use Rattle.std.proofs.lemmas.Option.{get_or_from_slice_get, same_Some}
+use Rattle.std.proofs.lemmas.Option.{same_Some}
 use Rattle.ps_base.specs.LetterCase.{is_same_name}
 use Rattle.ps_base.specs.declared.failing.Rule.{Rule}
 use Rattle.ps_model.specs.declared.kind.Kind.{Kind}
 use Rattle.ps_model.specs.declared.kind.Ty.{Ty}
 use Rattle.ps_model.specs.Action.{Action, Actual, free, calls}
 use Rattle.ps_model.specs.Blocks.{Pin, block}
-use Rattle.ps_model.specs.Network as net
 use Rattle.ps_model.specs.Network.{Network, kind_at}
 use Rattle.ps_model.specs.Pins.{pin_names}
 use Rattle.ps_model.specs.Scanning.{pin_at, no_pin}
 use Rattle.ps_flow.specs.Refusals.{BreaksAt, BreaksStep, IsFirstBreach}
 use Rattle.ps_names.specs.declared.entry.Entry.{Entry}
 use Rattle.ps_names.specs.declared.entry.Sort.TheVariants.{Instance, Nothing}
-use Rattle.ps_names.specs.Names.{entries, is_instance, sort_at, sort_of}
-use Rattle.ps_names.specs.Stands.{Stands, network_of, number, action, actual_at, given, kind_of, instance_named}
-use Rattle.ps_names.proofs.Lists.{in_map, map_at}
+use Rattle.ps_names.specs.Names.{entries, sort_at, sort_of}
+use Rattle.ps_names.specs.Stands.{Stands, network_of, number, action, actual_at, given, kind_of}
+use Rattle.ps_names.proofs.Lists.{in_map}
 use Rattle.ps_names.proofs.OneDriver.{callee_at}
-use Rattle.ps_names.proofs.Targets.{instance_number}
 use Rattle.ps_names.proofs.Unbroken.{IsUnbroken, unbroken}
 use Rattle.ps_names.proofs.Whole.{kind_of_called}
 use Rattle.ps_parser.specs.declared.name.Name.{Name}

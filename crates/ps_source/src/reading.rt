@@ -1,6 +1,6 @@
 // Reading sources and certificates.
 
-ghost use Rattle.std.specs.Prelude.{◌≡◌, ◌≤◌, List, ℕ, IsTrue, IsSome, OnOk};
+ghost use Rattle.std.specs.Prelude.{◌≡◌, ◌≤◌, List, ℕ, IsTrue, IsSome, IfOk, OnOk};
 ghost use Rattle.ps_outside.specs.Outside.{Rose};
 ghost use Rattle.ps_names.specs.Stands.{Stands};
 ghost use Rattle.ps_source.specs.Source.{IsProgram, IsResolvedAs, IsAcceptedAs};
@@ -44,6 +44,7 @@ pub fn read_accepted<F: Files>(
     files: &mut F,
 ) -> Result<Accepted, NoApplication>
     ensures read { IsTrue (F.tells files.old) → Reads (λ text a. IsAcceptedAs text (stands_for (app_of a)) × IsChecked a) IsAcceptedAs (F.held files.old app.now) result }
+    ensures checked { IfOk result IsChecked }
     ensures fault { IsFault result → Rose (F.faults files.old app.now) (F.faults files.new app.now) }
     ensures counts { (other : List ℕ) → F.faults files.old other ≤ F.faults files.new other }
     ensures kept { F.held files.new ≡ F.held files.old }

@@ -8,8 +8,8 @@ use Rattle.ps_model.specs.Sound.{IsSound}
 use Rattle.ps_model.specs.Meaning.Item.{scan, restart}
 use Rattle.ps_model.specs.Meaning.{Item, Past, nothing, last, last_time}
 use Rattle.ps_report.specs.Short.{refusal_text}
-use Rattle.ps_scan.specs.Cells.{Cells}
-use Rattle.ps_scan.specs.Scan.{CellsStand}
+use Rattle.ps_world.specs.Whole.{Whole}
+use Rattle.ps_world.specs.Ready.{IsReady}
 use Rattle.ps_trace.specs.Scans.{Scans}
 use Rattle.ps_trace.specs.Reading.{Begins, only_refused}
 use Rattle.ps_top.specs.Asking.{Answer, IsAnswer}
@@ -30,16 +30,16 @@ use Rattle.ps_top.proofs.Calling.{no_read_said, no_memory_said}
 use Rattle.ps_top.proofs.Scans.{end_rest, refused_rest, scan_rest, restart_rest, rest_of}
 
 -- A run goes on behind an item: from where it then stands, what is to be written of the rest stands behind the item's line.
-record Goes (net : Network) (past : Past) (time : ℕ) (item : Item) (outcome : Outcome Verdict) (w : Cells) : Type 0 where
+record Goes (net : Network) (past : Past) (time : ℕ) (item : Item) (outcome : Outcome Verdict) (w : Whole) : Type 0 where
   past' : Past
-  stands : CellsStand net past' w
+  stands : IsReady net w past'
   early : last_time past' ≤ time_behind time item
   goes : (scans rest : Scans) → Begins scans item rest → (a : Answer) → IsRest net past' rest a → IsRest net past scans (behind (outcome_line net outcome) a)
 
-goes_on : (net : Network) (past : Past) (time : ℕ) (w : Cells) (item : Item) (outcome : Outcome Verdict) (w' : Cells) →
-    CellsStand net past w → last_time past ≤ time → IsDue time item → Performs net w item outcome w' → Goes net past time item outcome w'
+goes_on : (net : Network) (past : Past) (time : ℕ) (w : Whole) (item : Item) (outcome : Outcome Verdict) (w' : Whole) →
+    IsReady net w past → last_time past ≤ time → IsDue time item → Performs net w item outcome w' → Goes net past time item outcome w'
 goes_on net past time w (scan now ins) outcome w' stands early due performs =
-    let r = performs past stands (omega (arith, early, due)) in record {
+    let r = performs past stands in record {
       past' = last now r.state;
       stands = r.stands;
       early = omega arith;
@@ -55,9 +55,9 @@ goes_on net past time w restart outcome w' stands early due performs = record {
 }
 
 -- a scanner refuses no item
-no_refusal : (net : Network) (past : Past) (time : ℕ) (w : Cells) (item : Item) (refusal : Refusal) (w' : Cells) →
-    CellsStand net past w → last_time past ≤ time → IsDue time item → Performs net w item (refuses refusal) w' → ⊥
-no_refusal net past time w (scan now ins) refusal w' stands early due performs = let released = (performs past stands (omega (arith, early, due))).released in cc
+no_refusal : (net : Network) (past : Past) (time : ℕ) (w : Whole) (item : Item) (refusal : Refusal) (w' : Whole) →
+    IsReady net w past → last_time past ≤ time → IsDue time item → Performs net w item (refuses refusal) w' → ⊥
+no_refusal net past time w (scan now ins) refusal w' stands early due performs = let released = (performs past stands).released in cc
 no_refusal net past time w restart refusal w' stands early due performs = let anew_is = performs.0 in cc
 
 -- these bytes begin what is to be written
@@ -74,7 +74,7 @@ Tells net past scans bytes (Err (Refused refusal)) = IsRest net past scans (answ
 Tells net past scans bytes (Err Unread) = IsBeginning net past scans bytes
 Tells net past scans bytes (Err Unwritten) = IsBeginning net past scans bytes
 
-module _ (net : Network) (past : Past) (time : ℕ) (item : Item) (outcome : Outcome Verdict) (w : Cells) (goes : Goes net past time item outcome w)
+module _ (net : Network) (past : Past) (time : ℕ) (item : Item) (outcome : Outcome Verdict) (w : Whole) (goes : Goes net past time item outcome w)
     (scans rest : Scans) (begins : Begins scans item rest) where
   abbrev line : List ℕ
   line = outcome_line net outcome
@@ -105,8 +105,8 @@ module _ (net : Network) (past : Past) (time : ℕ) (item : Item) (outcome : Out
   }
 
 -- what a scanner did of items from where a run stands
-tells : {T : Type 0} (net : Network) → IsSound net → (takes : T → Outcome Verdict → T → Type 0) (past : Past) (time : ℕ) (w : Cells) (t : T) (scans : Scans)
-    (bytes : List ℕ) (ended : Result (Unit {0}) Cut) (w' : Cells) (t' : T) → CellsStand net past w → last_time past ≤ time →
+tells : {T : Type 0} (net : Network) → IsSound net → (takes : T → Outcome Verdict → T → Type 0) (past : Past) (time : ℕ) (w : Whole) (t : T) (scans : Scans)
+    (bytes : List ℕ) (ended : Result (Unit {0}) Cut) (w' : Whole) (t' : T) → IsReady net w past → last_time past ≤ time →
     Did (Performs net) (outcome_line net) takes time w t scans bytes ended w' t' → Tells net past scans bytes ended
 tells net sound takes past _ _ _ _ _ _ _ _ stands early (all time w t scans is) = end_rest net past scans is
 tells net sound takes past _ _ _ _ _ _ _ _ stands early (refused time w t scans refusal is) = refused_rest net past scans refusal is
@@ -145,8 +145,8 @@ told_gives net scans bytes on before after (Err Unread) wrote told = part_unread
 told_gives net scans bytes on before after (Err Unwritten) wrote told = part_given (IsRest net nothing scans) on before after (beginning_part net scans bytes on before after wrote told)
 
 -- the items of a trace were done from the first one on
-pub items_give : {T : Type 0} (net : Network) → IsSound net → (takes : T → Outcome Verdict → T → Type 0) (time : ℕ) (w : Cells) (t : T) (scans : Scans) (bytes : List ℕ) (on : Bool)
-    (before after : List ℕ) (ended : Result (Unit {0}) Cut) (w' : Cells) (t' : T) → CellsStand net nothing w → Did (Performs net) (outcome_line net) takes time w t scans bytes ended w' t' →
+pub items_give : {T : Type 0} (net : Network) → IsSound net → (takes : T → Outcome Verdict → T → Type 0) (time : ℕ) (w : Whole) (t : T) (scans : Scans) (bytes : List ℕ) (on : Bool)
+    (before after : List ℕ) (ended : Result (Unit {0}) Cut) (w' : Whole) (t' : T) → IsReady net w nothing → Did (Performs net) (outcome_line net) takes time w t scans bytes ended w' t' →
     (IsTrue on → after ≡ before ++ bytes) → GivesAsEnded net scans on before after ended
 items_give net sound takes time w t scans bytes on before after ended w' t' stands did wrote =
     told_gives net scans bytes on before after ended wrote (tells net sound takes nothing time w t scans bytes ended w' t' stands (omega arith) did)

@@ -4,15 +4,16 @@ ghost use Rattle.std.specs.Prelude.{◌≡◌, ◌≤◌, ℕ, length};
 ghost use Rattle.ps_model.specs.Meaning.Item.{scan as scan_item, restart as restart_item};
 ghost use Rattle.ps_model.specs.Meaning.{Item};
 ghost use Rattle.ps_model.specs.Network.{Network, input_count, instance_count};
-ghost use Rattle.ps_scan.specs.Cells.{IsFor};
 ghost use Rattle.ps_top.specs.Outcomes.{Outcome, anew, outcome_of};
-ghost use Rattle.ps_top.specs.Performing.{Performs};
+ghost use Rattle.ps_top.specs.Performing.{IsWorldFor, Performs};
 
 use ps_base::Refusal;
 use ps_model::app::App;
 use ps_model::channel::Verdict;
+use ps_model::laws::one_solution;
 use ps_model::report::{Report, Scan};
-use ps_scan::Scanner;
+use ps_world::World;
+use ps_world::laws::quiet_worlds_release;
 
 /// What performs the scans and restarts of an application, one after another.
 ///
@@ -57,13 +58,13 @@ pub(crate) trait Performer {
         ensures due { earliest self.new ≤ earliest self.old };
 }
 
-/// The plain evaluator of scans, which releases each and refuses none.
-impl Performer for Scanner {
+/// The world of two channels, with no faults: it releases each scan and refuses none.
+impl Performer for World {
     type Verdict = Verdict;
 
-    ghost fits = { IsFor };
+    ghost fits = { IsWorldFor };
 
-    ghost earliest = { λ _. 0 };
+    ghost earliest = { λ world. world.state.last };
 
     ghost performs = { Performs };
 
@@ -73,11 +74,15 @@ impl Performer for Scanner {
         scan: &Scan,
         report: &mut Report,
     ) -> Result<Verdict, Refusal> {
-        self.scan(app, scan.now, scan.ins.as_slice(), report);
-        Ok(Verdict::Released)
+        app.sound();
+        one_solution(app);
+        quiet_worlds_release(app);
+        let _time = scan.now;
+        Ok(self.make_scan(scan, &[], report))
     }
 
     fn perform_restart(&mut self, app: &App) {
-        self.restart(app);
+        quiet_worlds_release(app);
+        self.restart();
     }
 }

@@ -4,8 +4,9 @@ ghost use Rattle.std.specs.Prelude.{◌≡◌, ◌≢◌, ◌≤◌, ℕ, List, 
 ghost use Rattle.ps_model.specs.Meaning.{nothing};
 ghost use Rattle.ps_model.specs.Network.{input_count};
 ghost use Rattle.ps_report.specs.Lines.{line_room};
-ghost use Rattle.ps_scan.specs.Cells.{IsFor};
-ghost use Rattle.ps_scan.specs.Scan.{CellsStand};
+ghost use Rattle.ps_model.specs.Typing.{Accepted};
+ghost use Rattle.ps_world.specs.Ready.{IsReady};
+ghost use Rattle.ps_top.specs.Performing.{IsWorldFor};
 ghost use Rattle.ps_top.specs.Calls.{Answers, Causes, files_seen, output_seen};
 ghost use Rattle.ps_top.specs.Meets.{Gives};
 ghost use Rattle.ps_top.specs.declared.left.Left.{Left as LeftBehind};
@@ -24,19 +25,23 @@ use ps_model::app::App;
 use ps_model::report::{Report, Scan};
 use ps_outside::{Files, Sink};
 use ps_report::LineBuffer;
-use ps_scan::Scanner;
 use ps_source::read_accepted;
 use ps_trace::{TraceFail, TraceReader};
+use ps_world::World;
+use ps_world::laws::quiet_worlds_release;
 use std::alloc::Global;
 
-impl Runner<Scanner, LineBuffer> {
+impl Runner<World, LineBuffer> {
     // What the scans of an application are done with, before the first. It takes all their memory.
-    fn for_app(alloc: Global, app: &App) -> Result<Runner<Scanner, LineBuffer>, Memory>
-        ensures fits { IfOk result (Fits (IsFor app.now) (λ room. line_room app.now ≤ room) app.now) }
-        ensures first { IfOk result (λ r. CellsStand app.now nothing r.performer) }
+    fn for_app(alloc: Global, app: &App) -> Result<Runner<World, LineBuffer>, Memory>
+        requires { Accepted app.now }
+        ensures fits { IfOk result (Fits (IsWorldFor app.now) (λ room. line_room app.now ≤ room) app.now) }
+        ensures first { IfOk result (λ r. IsReady app.now r.performer nothing) }
+        ensures early { IfOk result (λ r. r.performer.state.last ≡ 0) }
     {
+        quiet_worlds_release(app);
         Ok(Runner {
-            performer: Scanner::new(alloc, app)?,
+            performer: World::build(alloc, app)?,
             taker: LineBuffer::for_app(alloc, app)?,
             scan: Scan::for_app(alloc, app)?,
             report: Report::for_app(alloc, app)?,
@@ -48,14 +53,15 @@ impl Runner<Scanner, LineBuffer> {
 fn answer_scans<F: Files, S: Sink>(
     app: &App,
     trace: &mut TraceReader,
-    runner: &mut Runner<Scanner, LineBuffer>,
+    runner: &mut Runner<World, LineBuffer>,
     files: &mut F,
     out: &mut S,
 ) -> Status
-    requires fits { Fits (IsFor app.now) (λ room. line_room app.now ≤ room) app.now runner.old }
+    requires fits { Fits (IsWorldFor app.now) (λ room. line_room app.now ≤ room) app.now runner.old }
     requires inputs { input_count_of trace.old ≡ input_count app.now }
+    requires early { runner.old.performer.state.last ≡ 0 }
     ensures gives { IsTrue (F.tells files.old) → (text : List ℕ) → F.held files.old (file_of trace.old) ≡ Some text →
-        IsReadingTrace trace.old text → CellsStand app.now nothing runner.old.performer →
+        IsReadingTrace trace.old text → IsReady app.now runner.old.performer nothing →
         Gives (IsRest app.now nothing (items_left trace.old text)) (S.tells out.old) (S.taken out.old) (S.taken out.new) result }
     ensures causes { Causes (file_of trace.old ∷ [])
         (files_seen F.tells F.held F.faults files.old) (files_seen F.tells F.held F.faults files.new)
@@ -79,6 +85,7 @@ fn run_named<F: Files, S: Sink>(
     files: &mut F,
     out: &mut S,
 ) -> Status
+    requires { Accepted app.now }
     ensures answers { (left : LeftBehind) → Answers (program.run_named app.now trace.now) (trace.now ∷ [])
         (files_seen F.tells F.held F.faults files.old) (files_seen F.tells F.held F.faults files.new)
         (output_seen S.tells S.taken S.faults out.old) (output_seen S.tells S.taken S.faults out.new) left result }

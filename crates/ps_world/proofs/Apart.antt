@@ -1,11 +1,11 @@
 -- A channel follows from its own events alone.
-use Rattle.std.proofs.Common.{◌≡◌, ℕ, Bool, true, false, List, [], ◌∷◌, ◌++◌, refl, sym, ap, ◌∙◌}
+use Rattle.std.proofs.Common.{◌≡◌, [], ◌∷◌, refl, sym, ap, ◌∙◌}
 use Rattle.ps_model.specs.declared.channel.Channel.{Channel}
 use Rattle.ps_model.specs.declared.channel.Channel.TheVariants.{A, B}
 use Rattle.ps_machine.specs.Channels.{alone}
 use Rattle.ps_machine.proofs.Phases.{alone_append}
 use Rattle.ps_world.specs.Worlds.{Machines, World_state, Event, Begin, Turn, Spoil, Compare, Restart, machine, channel}
-use Rattle.ps_world.specs.Steps.{world_step, after}
+use Rattle.ps_world.specs.Steps.{world_step}
 use Rattle.ps_world.specs.Lists.{concerning, own_events}
 use Rattle.ps_world.specs.Laws.{ChannelsAreApart}
 

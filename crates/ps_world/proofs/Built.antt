@@ -1,6 +1,5 @@
 -- The two machines of an application keep its meaning, and their reports have its sizes.
-use Rattle.std.proofs.Common.{◌≡◌, ◌∙◌, ℕ, List, Some, length, sym, ap, subst}
-use Rattle.ps_model.specs.declared.report.Report.{Report}
+use Rattle.std.proofs.Common.{◌∙◌, ℕ, List, length, sym, subst}
 use Rattle.ps_model.specs.declared.sizes.Sizes.{Sizes}
 use Rattle.ps_model.specs.Budgets.{turns_a, turns_b}
 use Rattle.ps_model.specs.Network.{Network, instance_count}

@@ -1,19 +1,17 @@
 -- What a verdict says of the outcomes of the two channels.
 use Rattle.std.proofs.Common.{◌⊎◌, inl, inr, ◌≡◌, ℕ, Bool, true, false, cond, List, length, Option, Some, None, refl, sym, ap, ◌∙◌}
-use Rattle.ps_model.specs.declared.channel.Channel.{Channel}
 use Rattle.ps_model.specs.declared.channel.Channel.TheVariants.{A, B}
 use Rattle.ps_model.specs.declared.channel.Progress.{Progress}
 use Rattle.ps_model.specs.declared.channel.Progress.TheVariants.{Running, Done, Trapped}
 use Rattle.ps_model.specs.declared.channel.Cause.{Cause}
-use Rattle.ps_model.specs.declared.channel.Cause.TheVariants.{Differ, Stuck, Trap, NoReport}
+use Rattle.ps_model.specs.declared.channel.Cause.TheVariants.{Differ}
 use Rattle.ps_model.specs.declared.channel.Verdict.{Verdict}
 use Rattle.ps_model.specs.declared.channel.Verdict.TheVariants.{Released, Tripped, Down}
 use Rattle.ps_model.specs.declared.report.Report.{Report}
 use Rattle.ps_model.specs.Fields.{first_difference}
 use Rattle.ps_model.proofs.FieldPlaces.{equal_from_no_difference, no_difference_from_equal}
 use Rattle.ps_machine.specs.Machines.{Machine}
-use Rattle.ps_world.specs.Worlds.{Machines, World_state, machine, channel}
-use Rattle.ps_seat.specs.declared.seat.Failing.{Failing}
+use Rattle.ps_world.specs.Worlds.{Machines, World_state}
 use Rattle.ps_seat.specs.Outcomes.{Outcome, gives, lacks, outcome_by, outcome}
 use Rattle.ps_world.specs.Verdicts.{cause_of, agreed, judged, verdict}
 use Rattle.ps_world.specs.Laws.{GivesSized, Disagree, TripsExactly}

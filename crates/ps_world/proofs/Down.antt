@@ -1,6 +1,5 @@
 -- A tripped world stays down up to the next Restart.
-use Rattle.std.proofs.Common.{◌≡◌, ℕ, Bool, true, false, cond, List, [], ◌∷◌, refl, ap, ◌∙◌}
-use Rattle.ps_model.specs.declared.channel.Channel.TheVariants.{A, B}
+use Rattle.std.proofs.Common.{◌≡◌, ℕ, true, cond, List, [], ◌∷◌, ap}
 use Rattle.ps_model.specs.declared.channel.Verdict.TheVariants.{Down}
 use Rattle.ps_world.specs.Worlds.{Machines, World_state, Event, Begin, Turn, Spoil, Compare, Restart}
 use Rattle.ps_seat.specs.Outcomes.{outcome}

@@ -1,19 +1,18 @@
 -- The events of a scan, in the order of a run, are lawful, spare what the faults spare, and end with both channels ended.
-use Rattle.std.proofs.Common.{inl, inr, ◌⊎◌, ◌≡◌, ℕ, zero, suc, ◌+◌, ◌<◌, ◌≤◌, ◌^◌, Bool, true, false, cond, List, [], ◌∷◌, ◌++◌, All, length, map, Option, Some, None, refl, sym, ap, ◌∙◌, subst, arith}
-use Rattle.std.specs.Prelude.{◌&&◌, ◌||◌, ◌==◌}
+use Rattle.std.proofs.Common.{inl, inr, ◌≡◌, ℕ, zero, suc, ◌+◌, ◌≤◌, Bool, true, false, cond, List, [], ◌∷◌, ◌++◌, map, Option, Some, refl, sym, ap, ◌∙◌, subst, arith}
+use Rattle.std.specs.Prelude.{◌&&◌, ◌==◌}
 use Rattle.std.specs.List.{filter}
 use Rattle.std.proofs.lemmas.Bool.{cases_Bool}
 use Rattle.ps_model.specs.declared.channel.Channel.{Channel}
 use Rattle.ps_model.specs.declared.channel.Channel.TheVariants.{A, B}
 use Rattle.ps_model.specs.declared.channel.Fault.{Fault}
-use Rattle.ps_model.specs.Meaning.{Item}
 use Rattle.ps_machine.specs.Channels.{ended}
-use Rattle.ps_world.specs.Worlds.{Machines, World_state, Event, Begin, Turn, Spoil, Compare, Restart, machine, channel}
-use Rattle.ps_world.specs.Steps.{world_step, after, both_ended, May, Lawful}
-use Rattle.ps_world.specs.Lists.{is_same, IsSpared, items_of}
+use Rattle.ps_world.specs.Worlds.{Machines, World_state, Event, Turn, machine, channel}
+use Rattle.ps_world.specs.Steps.{world_step, after, both_ended, Lawful}
+use Rattle.ps_world.specs.Lists.{IsSpared, items_of}
 use Rattle.ps_world.specs.Orders.{of_scan, spoil_of, spoils_before, other, in_turn, next_turn, turn_events}
 use Rattle.ps_world.specs.Answers.{SpareChannel}
-use Rattle.ps_world.proofs.Turning.{after_append, spoils_alike, struck_alike, all_spent, one_more_turn}
+use Rattle.ps_world.proofs.Turning.{after_append, struck_alike, all_spent, one_more_turn}
 
 -- ---- Spoils.
 

@@ -1,26 +1,23 @@
 -- A world that no Spoil struck releases every scan.
-use Rattle.std.proofs.Common.{◌≡◌, ◌∙◌, ℕ, ◌+◌, ◌<◌, ◌≤◌, ◌^◌, Bool, true, false, List, [], length, refl, sym, ap, subst, arith}
+use Rattle.std.proofs.Common.{◌≡◌, ◌∙◌, ℕ, ◌<◌, ◌≤◌, ◌^◌, Bool, false, List, [], length, refl, sym, ap, subst}
 use Rattle.ps_model.specs.declared.channel.Channel.{Channel}
 use Rattle.ps_model.specs.declared.channel.Channel.TheVariants.{A, B}
-use Rattle.ps_model.specs.declared.channel.Verdict.TheVariants.{Released}
-use Rattle.ps_model.specs.Network.{Network, input_count, instance_count}
+use Rattle.ps_model.specs.Network.{Network, input_count}
 use Rattle.ps_model.specs.Scanning.{State, Solves}
 use Rattle.ps_model.specs.Meaning.{Past, nothing, last, old_state, passed, report}
 use Rattle.ps_machine.specs.Keeping.{Keeps}
 use Rattle.ps_machine.specs.Phases.{AtRest, Phase}
-use Rattle.ps_machine.proofs.Phases.{restarts_at_rest}
 use Rattle.ps_stackvm.specs.Stands.{StandsA}
 use Rattle.ps_eqvm.specs.Stands.{StandsB}
 use Rattle.ps_world.specs.Worlds.{Machines, World_state, Compare, Restart, machine, channel, world_0}
-use Rattle.ps_world.specs.Verdicts.{verdict, report_given, is_trip}
-use Rattle.ps_world.specs.Steps.{world_step, after}
-use Rattle.ps_world.specs.Whole.{Setup, Whole, machines_in, happened, after_events, IsSetupOf, IsWorldOf}
-use Rattle.ps_world.specs.Orders.{at_compare, scan_events}
+use Rattle.ps_world.specs.Verdicts.{report_given, is_trip}
+use Rattle.ps_world.specs.Steps.{world_step}
+use Rattle.ps_world.specs.Whole.{Setup, Whole, machines_in, happened, IsSetupOf, IsWorldOf}
+use Rattle.ps_world.specs.Orders.{at_compare}
 use Rattle.ps_world.specs.Ready.{IsReady, ReleasesScan, QuietWorldsRelease}
-use Rattle.ps_world.specs.Laws.{GivesSized}
 use Rattle.ps_world.proofs.Standing.{Holds, beginning_holds, step_holds, restart_holds}
 use Rattle.ps_world.proofs.Right.{meant_outcome, released_report, releases}
-use Rattle.ps_world.proofs.Run.{ComesToCompare, comes_to_compare, at_compare_holds, after_scan}
+use Rattle.ps_world.proofs.Run.{comes_to_compare, at_compare_holds, after_scan}
 use Rattle.ps_world.proofs.Built.{sized_for_a, sized_for_b}
 
 module _ (net : Network) (keeps : (s : Setup) → IsSetupOf net s → Keeps net (machines_in s).a (StandsA net) × Keeps net (machines_in s).b (StandsB net)) where

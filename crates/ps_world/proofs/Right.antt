@@ -1,11 +1,9 @@
 -- A released report is that of the meaning, and without a Spoil each is released.
-use Rattle.std.proofs.Common.{◌⊎◌, inl, inr, ◌≡◌, ℕ, Bool, true, false, cond, List, [], ◌∷◌, ◌++◌, length, refl, sym, ap, ◌∙◌, subst}
+use Rattle.std.proofs.Common.{◌≡◌, ℕ, false, List, [], ◌∷◌, ◌++◌, length, refl, sym, ap, ◌∙◌}
 use Rattle.ps_model.specs.declared.channel.Channel.{Channel}
 use Rattle.ps_model.specs.declared.channel.Channel.TheVariants.{A, B}
-use Rattle.ps_model.specs.declared.channel.Progress.{Progress}
 use Rattle.ps_model.specs.declared.channel.Progress.TheVariants.{Done}
-use Rattle.ps_model.specs.declared.channel.Verdict.{Verdict}
-use Rattle.ps_model.specs.declared.channel.Verdict.TheVariants.{Released, Down}
+use Rattle.ps_model.specs.declared.channel.Verdict.TheVariants.{Released}
 use Rattle.ps_model.specs.declared.report.Report.{Report}
 use Rattle.ps_model.specs.Fields.{blank_report}
 use Rattle.ps_model.specs.Network.{Network, input_count, instance_count}
@@ -14,10 +12,10 @@ use Rattle.ps_model.specs.Meaning.{Past, nothing, old_state, Meaning, Runs, repo
 use Rattle.ps_model.specs.PastAfter.{past_after}
 use Rattle.ps_machine.specs.Keeping.{Keeps}
 use Rattle.ps_world.specs.Worlds.{Machines, World_state, Event, Begin, Turn, Spoil, Compare, Restart, machine, channel, world_0}
-use Rattle.ps_seat.specs.Outcomes.{Outcome, gives, outcome_by, outcome}
+use Rattle.ps_seat.specs.Outcomes.{gives, outcome_by, outcome}
 use Rattle.ps_world.specs.Verdicts.{judged, verdict, is_trip, report_or, given_with, report_given}
 use Rattle.ps_world.specs.Steps.{world_step, after, May, Lawful}
-use Rattle.ps_world.specs.Lists.{IsSpared, OneSided, HasNoSpoil, items_of}
+use Rattle.ps_world.specs.Lists.{IsSpared, items_of}
 use Rattle.ps_world.specs.Laws.{GivesSized, Compares, report_meant, ReleasedIsRight, NeverTrips}
 use Rattle.ps_world.proofs.Compared.{Agree, outcome_sized, released_agree, agree_released, not_down, up_verdict}
 use Rattle.ps_world.proofs.Standing.{Holds, beginning_holds, step_holds, after_holds, is_over}

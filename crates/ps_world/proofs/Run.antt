@@ -1,29 +1,26 @@
 -- A run releases the reports of the meaning.
-use Rattle.std.proofs.Common.{inl, inr, ◌⊎◌, ◌≡◌, ℕ, zero, suc, ◌+◌, ◌<◌, ◌≤◌, ◌^◌, Bool, true, false, cond, List, [], ◌∷◌, ◌++◌, length, Option, None, refl, sym, ap, ◌∙◌, subst, arith}
+use Rattle.std.proofs.Common.{inl, inr, ◌⊎◌, ◌≡◌, ℕ, suc, ◌+◌, ◌<◌, ◌≤◌, ◌^◌, Bool, true, false, cond, List, [], ◌∷◌, ◌++◌, length, None, refl, sym, ap, ◌∙◌, subst, arith}
 use Rattle.std.specs.Prelude.{◌&&◌, ◌||◌}
 use Rattle.std.proofs.lemmas.Bool.{cases_Bool}
 use Rattle.ps_model.specs.declared.channel.Channel.{Channel}
 use Rattle.ps_model.specs.declared.channel.Channel.TheVariants.{A, B}
 use Rattle.ps_model.specs.declared.channel.Fault.{Fault}
-use Rattle.ps_model.specs.declared.channel.Verdict.{Verdict}
 use Rattle.ps_model.specs.declared.channel.Verdict.TheVariants.{Released, Down}
-use Rattle.ps_model.specs.declared.report.Report.{Report}
 use Rattle.ps_model.specs.Network.{Network, input_count, instance_count}
 use Rattle.ps_model.specs.Scanning.{State, Solves}
 use Rattle.ps_model.specs.Meaning.{Item, scan, restart, Past, nothing, last, old_state, passed, Runs, report}
 use Rattle.ps_model.specs.PastAfter.{past_after}
 use Rattle.ps_machine.specs.Keeping.{Keeps}
 use Rattle.ps_seat.specs.Outcomes.{outcome}
-use Rattle.ps_world.specs.Worlds.{Machines, World_state, Event, Begin, Compare, Restart, machine, channel, world_0}
-use Rattle.ps_world.specs.Verdicts.{judged, verdict, is_trip, report_given}
+use Rattle.ps_world.specs.Worlds.{Machines, World_state, Event, Begin, Compare, Restart, machine, world_0}
+use Rattle.ps_world.specs.Verdicts.{judged, verdict, is_trip}
 use Rattle.ps_world.specs.Steps.{world_step, after, both_ended, May, Lawful}
-use Rattle.ps_world.specs.Lists.{is_same, IsSpared, items_of}
+use Rattle.ps_world.specs.Lists.{IsSpared, items_of}
 use Rattle.ps_world.specs.Orders.{of_scan, spoils_before, turn_events, events_before_compare, at_compare, scan_events}
-use Rattle.ps_world.specs.Answers.{Answer, answers, AreTimely, SpareChannel, ReleaseRight, ReleaseAll, RunsAreRight, QuietRunsRelease}
+use Rattle.ps_world.specs.Answers.{answers, AreTimely, SpareChannel, ReleaseRight, ReleaseAll, RunsAreRight, QuietRunsRelease}
 use Rattle.ps_world.specs.Laws.{GivesSized}
-use Rattle.ps_world.proofs.Compared.{not_down}
 use Rattle.ps_world.proofs.Turning.{after_append, struck_alike}
-use Rattle.ps_world.proofs.Ordered.{of_scan_spare, struck_lawful, struck_spared, struck_items, ComesToEnd, turns_come}
+use Rattle.ps_world.proofs.Ordered.{of_scan_spare, struck_lawful, struck_spared, struck_items, turns_come}
 use Rattle.ps_world.proofs.Standing.{Holds, beginning_holds, step_holds, restart_holds, after_holds}
 use Rattle.ps_world.proofs.Right.{meant_outcome, released_report, releases}
 

@@ -1,16 +1,15 @@
 -- A channel that no Spoil names stands for the meaning, event by event.
-use Rattle.std.proofs.Common.{◌⊎◌, inl, inr, ◌≡◌, ℕ, zero, suc, ◌+◌, ◌<◌, ◌≤◌, ◌^◌, Bool, true, false, cond, List, [], ◌∷◌, ◌++◌, length, refl, sym, ap, ◌∙◌, subst, arith}
+use Rattle.std.proofs.Common.{◌⊎◌, inl, inr, ◌≡◌, ℕ, Bool, true, false, cond, List, [], ◌∷◌, refl, sym, ap, ◌∙◌, subst}
 use Rattle.std.specs.Prelude.{◌&&◌, ◌||◌}
 use Rattle.ps_model.specs.declared.channel.Channel.{Channel}
 use Rattle.ps_model.specs.declared.channel.Channel.TheVariants.{A, B}
 use Rattle.ps_model.specs.declared.channel.Region.{Region}
 use Rattle.ps_model.specs.Network.{Network, input_count}
 use Rattle.ps_model.specs.Scanning.{State, Solves}
-use Rattle.ps_model.specs.Meaning.{Past, nothing, last, old_state, passed, Runs, report}
+use Rattle.ps_model.specs.Meaning.{Past, nothing, last, old_state, passed, Runs}
 use Rattle.ps_model.specs.PastAfter.{past_after}
-use Rattle.ps_machine.specs.Machines.{Machine}
 use Rattle.ps_machine.specs.Keeping.{Keeps}
-use Rattle.ps_machine.specs.Channels.{Channel_state, alone, makes_turn, struck, ended, new_channel}
+use Rattle.ps_machine.specs.Channels.{alone, makes_turn, struck, ended, new_channel}
 use Rattle.ps_machine.specs.Phases.{AtRest, Midway, Phase}
 use Rattle.ps_machine.proofs.Phases.{begins_midway, turn_goes_on, Over, scan_over, restarts_at_rest}
 use Rattle.ps_world.specs.Worlds.{Machines, World_state, Event, Begin, Turn, Spoil, Compare, Restart, machine, channel, world_0}

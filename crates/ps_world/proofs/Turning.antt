@@ -1,6 +1,6 @@
 -- The turns of a scan, one after another.
-use Rattle.std.proofs.Common.{inl, inr, ◌≡◌, ℕ, zero, suc, ◌+◌, ◌-◌, ◌<◌, ◌≤◌, Bool, true, false, cond, List, [], ◌∷◌, ◌++◌, map, Option, Some, None, refl, sym, ap, ◌∙◌, subst, arith}
-use Rattle.std.specs.Prelude.{nat_le, not, ◌||◌, ◌&&◌, ◌==◌}
+use Rattle.std.proofs.Common.{◌≡◌, ℕ, suc, ◌+◌, ◌≤◌, true, false, cond, List, [], ◌∷◌, ◌++◌, map, Option, Some, refl, sym, ap, ◌∙◌, arith}
+use Rattle.std.specs.Prelude.{not, ◌||◌, ◌&&◌, ◌==◌}
 use Rattle.std.specs.List.{filter}
 use Rattle.std.proofs.lemmas.Bool.{le-leb}
 use Rattle.std.proofs.Math.Bool.{or-true}
@@ -10,8 +10,8 @@ use Rattle.ps_model.specs.declared.channel.Fault.{Fault}
 use Rattle.ps_model.specs.declared.channel.Region.{Region}
 use Rattle.ps_machine.specs.Machines.{Machine}
 use Rattle.ps_machine.specs.Progressing.{is_running}
-use Rattle.ps_machine.specs.Channels.{Channel_state, after_strike, ended}
-use Rattle.ps_world.specs.Worlds.{Machines, World_state, Event, Begin, Turn, Spoil, machine, channel}
+use Rattle.ps_machine.specs.Channels.{Channel_state, ended}
+use Rattle.ps_world.specs.Worlds.{Machines, World_state, Event, Turn, Spoil, machine, channel}
 use Rattle.ps_world.specs.Steps.{world_step, after, both_ended}
 use Rattle.ps_world.specs.Orders.{spoil_of, spoils_before, next_turn, turn_events}
 use Rattle.ps_world.proofs.Bounded.{same_turns, turns_are_left}

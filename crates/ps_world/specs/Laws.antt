@@ -1,7 +1,6 @@
 -- The laws of a world of two machines, over lists of events in any order of turns, with restarts and with Spoils of any bytes at any place.
-use Rattle.std.specs.Prelude.{◌≡◌, ◌≢◌, ◌↔◌, ◌⊎◌, ◌≤◌, ◌<◌, ℕ, ◌+◌, Bool, true, false, List, [], ◌∷◌, ◌++◌, length, Some}
+use Rattle.std.specs.Prelude.{◌≡◌, ◌↔◌, ◌≤◌, ℕ, ◌+◌, Bool, true, false, List, [], ◌∷◌, ◌++◌, length, Some}
 use Rattle.ps_model.specs.declared.channel.Channel.{Channel}
-use Rattle.ps_model.specs.declared.channel.Channel.TheVariants.{A, B}
 use Rattle.ps_model.specs.declared.channel.Cause.{Cause}
 use Rattle.ps_model.specs.declared.channel.Verdict.TheVariants.{Released, Tripped, Down}
 use Rattle.ps_model.specs.declared.report.Report.{Report}
@@ -15,8 +14,8 @@ use Rattle.ps_machine.specs.Channels.{alone}
 use Rattle.ps_world.specs.Worlds.{Machines, World_state, Event, Begin, Compare, machine, channel, world_0}
 use Rattle.ps_seat.specs.Outcomes.{gives, outcome}
 use Rattle.ps_world.specs.Verdicts.{verdict, report_given}
-use Rattle.ps_world.specs.Steps.{after, May, Lawful}
-use Rattle.ps_world.specs.Lists.{IsSpared, OneSided, HasNoSpoil, own_events, items_of, HasNoRestart, IsWithinScan, turn_count}
+use Rattle.ps_world.specs.Steps.{after, Lawful}
+use Rattle.ps_world.specs.Lists.{OneSided, HasNoSpoil, own_events, items_of, HasNoRestart, IsWithinScan, turn_count}
 
 -- Channels are apart: the code, cells and turn count of a channel follow from its own events alone, however these are mixed with the other's.
 abbrev pub ChannelsAreApart : Type 0

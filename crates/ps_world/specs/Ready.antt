@@ -1,7 +1,7 @@
 -- A world that no Spoil struck, between its scans.
 use Rattle.std.specs.Prelude.{◌≡◌, ◌≤◌, ◌<◌, ◌^◌, ℕ, Bool, false, List, [], length}
 use Rattle.ps_model.specs.declared.channel.Verdict.TheVariants.{Released}
-use Rattle.ps_model.specs.Network.{Network, input_count, instance_count}
+use Rattle.ps_model.specs.Network.{Network, input_count}
 use Rattle.ps_model.specs.Scanning.{State, Solves}
 use Rattle.ps_model.specs.Meaning.{Past, nothing, last, old_state, passed, report}
 use Rattle.ps_machine.specs.Phases.{AtRest}

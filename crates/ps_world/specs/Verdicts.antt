@@ -1,5 +1,5 @@
 -- What a Compare answers: the verdict with its cause, and the report that is given.
-use Rattle.std.specs.Prelude.{ℕ, Bool, true, false, ◌==◌, if◌then◌else◌, Option, Some, None, length}
+use Rattle.std.specs.Prelude.{ℕ, Bool, true, false, if◌then◌else◌, Option, Some, None}
 use Rattle.ps_model.specs.declared.channel.Channel.{Channel}
 use Rattle.ps_model.specs.declared.channel.Channel.TheVariants.{A, B}
 use Rattle.ps_model.specs.declared.channel.Cause.{Cause}
@@ -9,7 +9,6 @@ use Rattle.ps_model.specs.declared.channel.Verdict.TheVariants.{Released, Trippe
 use Rattle.ps_model.specs.declared.report.Report.{Report}
 use Rattle.ps_model.specs.Fields.{first_difference, blank_report}
 use Rattle.ps_seat.specs.declared.seat.Failing.{Failing}
-use Rattle.ps_seat.specs.declared.seat.Failing.TheVariants as Failing
 use Rattle.ps_seat.specs.Outcomes.{Outcome, gives, lacks, outcome}
 use Rattle.ps_world.specs.Worlds.{Machines, World_state}
 

@@ -175,6 +175,7 @@ impl World {
         ensures event { self.new ≡ happened Compare self.old }
         ensures verdict { result ≡ verdict (machines_in self.old.setup) self.old.state }
         ensures report { into.new ≡ report_given (machines_in self.old.setup) self.old.setup.sizes.outputs self.old.setup.sizes.instances self.old.state }
+        ensures sized { (length into.new.outs ≡ length into.old.outs) × (length into.new.diags ≡ length into.old.diags) }
     {
         self.begun = false;
         let verdict = if self.tripped {
@@ -234,7 +235,9 @@ impl World {
         ensures events { self.new ≡ after_events (scan_events (machines_in self.old.setup) faults.now scan.entry.now.now scan.entry.now.ins self.old.state) self.old }
         ensures verdict { result ≡ verdict (machines_in self.old.setup) (at_compare (machines_in self.old.setup) faults.now scan.entry.now.now scan.entry.now.ins self.old.state) }
         ensures report { into.new ≡ report_given (machines_in self.old.setup) self.old.setup.sizes.outputs self.old.setup.sizes.instances (at_compare (machines_in self.old.setup) faults.now scan.entry.now.now scan.entry.now.ins self.old.state) }
+        ensures rest { self.new.state.begun ≡ false }
         ensures last { self.new.state.last ≤ scan.entry.now.now }
+        ensures sized { (length into.new.outs ≡ length into.old.outs) × (length into.new.diags ≡ length into.old.diags) }
     {
         self.run_scan(scan, faults);
         self.compare(into)

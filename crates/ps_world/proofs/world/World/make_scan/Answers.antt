@@ -1,4 +1,4 @@
-use Rattle.std.proofs.Common.{◌≡◌, ◌≤◌, ◌∙◌, [], ◌∷◌, sym, ap, subst}
+use Rattle.std.proofs.Common.{◌≤◌, ◌∙◌, [], ◌∷◌, sym, ap, subst}
 use Rattle.ps_world.proofs.Run.{last_within}
 use Rattle.ps_world.specs.Worlds.{World_state, Compare}
 use Rattle.ps_world.specs.Whole.{Whole, machines_in, happened}

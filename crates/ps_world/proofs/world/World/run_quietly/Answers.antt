@@ -1,5 +1,5 @@
-use Rattle.std.proofs.Common.{◌≡◌, ◌∙◌, ◌+◌, cond, List, [], ◌∷◌, ◌++◌, sym, ap, None}
-use Rattle.ps_world.specs.Worlds.{World_state, Begin}
+use Rattle.std.proofs.Common.{◌∙◌, ◌+◌, cond, [], ◌∷◌, sym, ap, None}
+use Rattle.ps_world.specs.Worlds.{Begin}
 use Rattle.ps_world.specs.Steps.{world_step, after}
 use Rattle.ps_world.specs.Whole.{Whole, machines_in, after_events}
 use Rattle.ps_world.specs.Orders.{turn_events}

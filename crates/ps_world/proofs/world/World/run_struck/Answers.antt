@@ -1,5 +1,5 @@
-use Rattle.std.proofs.Common.{◌≡◌, ◌∙◌, ℕ, ◌+◌, ◌≤◌, true, false, cond, List, [], ◌∷◌, ◌++◌, sym, ap, subst, None}
-use Rattle.ps_world.specs.Worlds.{Machines, World_state, Event, Begin}
+use Rattle.std.proofs.Common.{◌≡◌, ◌∙◌, ◌+◌, ◌≤◌, cond, [], ◌∷◌, ◌++◌, sym, ap, subst, None}
+use Rattle.ps_world.specs.Worlds.{Machines, World_state, Begin}
 use Rattle.ps_world.specs.Steps.{world_step, after}
 use Rattle.ps_world.specs.Whole.{Setup, Whole, machines_in, happened, after_events}
 use Rattle.ps_world.specs.Orders.{spoils_before, turn_events}

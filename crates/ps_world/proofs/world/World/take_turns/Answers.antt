@@ -1,4 +1,4 @@
-use Rattle.std.proofs.Common.{◌≡◌, ◌∙◌, ℕ, suc, ◌+◌, ◌-◌, ◌<◌, ◌≤◌, true, false, sym, ap, subst, None, Some, arith}
+use Rattle.std.proofs.Common.{◌≡◌, ◌∙◌, suc, ◌+◌, ◌-◌, ◌≤◌, true, false, sym, ap, subst, None, Some, arith}
 use Rattle.ps_machine.specs.Channels.{ended}
 use Rattle.ps_world.specs.Worlds.{Machines, World_state, Turn, machine, channel}
 use Rattle.ps_world.specs.Steps.{world_step, after, both_ended}

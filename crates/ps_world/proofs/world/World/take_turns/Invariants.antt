@@ -1,4 +1,4 @@
-use Rattle.std.proofs.Common.{◌≡◌, ℕ, ◌+◌, ◌-◌, ◌≤◌, true}
+use Rattle.std.proofs.Common.{◌≡◌, ◌+◌, ◌-◌, ◌≤◌, true}
 use Rattle.ps_world.specs.Steps.{after}
 use Rattle.ps_world.specs.Whole.{machines_in}
 use Rattle.ps_world.specs.Orders.{turn_events}

@@ -2,8 +2,12 @@ mod Meeting
 mod Calling
 mod Completing
 mod Applied
-mod Scans
+mod ToCome
 mod Standing
+mod Joined
+mod Timely
+mod Meant
+mod Setups
 mod Doing
 mod Judged
 mod Safe

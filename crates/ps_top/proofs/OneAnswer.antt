@@ -1,5 +1,5 @@
 -- The program has one answer alone, and none where a name that it asks for is not held.
-use Rattle.std.proofs.Common.{◌≡◌, ◌∙◌, ℕ, List, Option, Some, None, sym, ap, subst, ⊎_elim}
+use Rattle.std.proofs.Common.{◌≡◌, ◌∙◌, ℕ, List, [], Option, Some, None, sym, ap, subst, ⊎_elim}
 use Rattle.std.proofs.lemmas.Option.{same_Some}
 use Rattle.ps_model.specs.Network.{Network}
 use Rattle.ps_model.specs.Sound.{IsSound}
@@ -9,12 +9,16 @@ use Rattle.ps_model.proofs.Runs.{one_run}
 use Rattle.ps_flow.specs.Derivation.{certificate}
 use Rattle.ps_names.proofs.Whole.{network_is_sound}
 use Rattle.ps_parser.specs.Names.{IsPlainName}
+use Rattle.ps_model.specs.declared.channel.Fault.{Fault}
+use Rattle.ps_base.specs.declared.failing.Refusal.{Refusal}
+use Rattle.ps_trace.specs.Faults.{faults_of}
 use Rattle.ps_trace.specs.Scans.{Scans, scans_of}
+use Rattle.ps_world.specs.Whole.{Setup, IsSetupOf}
 use Rattle.ps_words.specs.Command.{Command, command_of}
-use Rattle.ps_words.specs.Command.Command.{Run, Check, Cert, Verify, NotTaken}
+use Rattle.ps_words.specs.Command.Command.{Run, Fault as FaultWords, Check, Cert, Verify, NotTaken}
 use Rattle.ps_top.specs.Asking.{Answer, Asking, IsAnswer, AsksFor}
 use Rattle.ps_top.specs.Asking.Asking.{Says, Asks, Finds, Leaves}
-use Rattle.ps_top.specs.Program.{Judged, Judges, verdict, leaves_checked, with_application, accepted, answer_scans, run_named, verify_named, verify, said, told, text}
+use Rattle.ps_top.specs.Program.{Judged, Judges, verdict, leaves_checked, with_application, accepted, leaves_world, region_sizes, trips_of, unless_refused, with_faults, run_quietly, run_struck, answer_scans, run_named, verify_named, verify, said, told, text}
 use Rattle.ps_top.specs.Program.Judged.{derives, objects}
 use Rattle.ps_source.specs.Source.{Reading, Resolves, IsResolvedAs, IsAcceptedAs, counts}
 use Rattle.ps_top.specs.declared.left.Left.{Left}
@@ -22,6 +26,7 @@ use Rattle.ps_source.specs.Source.Reading.{stands_for, is_refused}
 use Rattle.ps_source.proofs.OneReading.{one_resolution}
 use Rattle.ps_source.proofs.OneBreach.{one_acceptance}
 use Rattle.ps_top.proofs.OneJudgement.{one_judgement}
+use Rattle.ps_top.proofs.Setups.{one_setup}
 
 -- What is asked leaves no choice: it has one answer alone, and none where a name that it asks for is not held.
 record IsDetermined (asking : Asking) (held : List ℕ → Option (List ℕ)) : Type 0 where
@@ -62,11 +67,33 @@ resolved_sound s net r =
     subst IsSound (sym r.stands.is) (network_is_sound IsPlainName p r.stands.unbroken within.grammatical within.nested)
 
 module _ (held : List ℕ → Option (List ℕ)) where
-  scans_determined : (net : Network) → IsSound net → (scans : Scans) → IsDetermined (answer_scans net scans) held
-  scans_determined net sound scans =
-      finds_determined held (List State) (Meaning net scans.items) (λ ws. Says (told net scans ws))
+  scans_determined : (net : Network) → IsSound net → (setup : Setup) (faults : List Fault) (scans : Scans) → IsDetermined (answer_scans net setup faults scans) held
+  scans_determined net sound setup faults scans =
+      leaves_determined held (leaves_world setup faults scans) (Finds (List State) (Meaning net scans.items) (λ ws. Says (told net (trips_of setup faults scans) scans ws)))
+      (finds_determined held (List State) (Meaning net scans.items) (λ ws. Says (told net (trips_of setup faults scans) scans ws))
       (λ x y p q. let only = (one_run net sound nothing scans.items).2 in only x p ∙ sym (only y q))
-      (λ ws runs. says_determined held (told net scans ws))
+      (λ ws runs. says_determined held (told net (trips_of setup faults scans) scans ws)))
+
+  trace_determined : (net : Network) → IsSound net → (setup : Setup) (faults : List Fault) (trace : List ℕ) → IsDetermined (run_named net setup faults trace) held
+  trace_determined net sound setup faults trace =
+      asks_determined held trace (λ t. answer_scans net setup faults (scans_of t net)) (λ t. scans_determined net sound setup faults (scans_of t net))
+
+  setup_determined : (net : Network) (next : Setup → Asking) → ((setup : Setup) → IsDetermined (next setup) held) → IsDetermined (Finds Setup (IsSetupOf net) next) held
+  setup_determined net next each = finds_determined held Setup (IsSetupOf net) next (λ x y p q. one_setup net x y p q) (λ setup is. each setup)
+
+  quiet_determined : (net : Network) → IsSound net → (trace : List ℕ) → IsDetermined (run_quietly trace net) held
+  quiet_determined net sound trace = setup_determined net (λ setup. run_named net setup [] trace) (λ setup. trace_determined net sound setup [] trace)
+
+  unless_determined : (next : List Fault → Asking) (faults : List Fault) (refusal : Option Refusal) → IsDetermined (next faults) held → IsDetermined (unless_refused next faults refusal) held
+  unless_determined next faults None d = d
+  unless_determined next faults (Some refusal) d = says_determined held _
+
+  struck_determined : (net : Network) → IsSound net → (trace faults : List ℕ) → IsDetermined (run_struck trace faults net) held
+  struck_determined net sound trace faults =
+      setup_determined net (λ setup. with_faults setup faults (λ list. run_named net setup list trace))
+      (λ setup. asks_determined held faults (λ t. let list = faults_of t (region_sizes setup) in unless_refused (λ struck. run_named net setup struck trace) list.faults list.refusal)
+      (λ t. let list = faults_of t (region_sizes setup) in
+      unless_determined (λ struck. run_named net setup struck trace) list.faults list.refusal (trace_determined net sound setup list.faults trace)))
 
   accepted_determined : (app : List ℕ) (next : Network → Asking) → ((s : List ℕ) (net : Network) → Resolves s net → IsDetermined (next net) held) → IsDetermined (accepted app next) held
   accepted_determined app next each =
@@ -93,9 +120,8 @@ module _ (held : List ℕ → Option (List ℕ)) where
       go s (is_refused r) f = says_determined held _
 
   said_determined : (c : Command) → IsDetermined (said c) held
-  said_determined (Run app trace) =
-      accepted_determined app (λ net. run_named net trace)
-      (λ s net r. asks_determined held trace (λ t. answer_scans net (scans_of t net)) (λ t. scans_determined net (resolved_sound s net r) (scans_of t net)))
+  said_determined (Run app trace) = accepted_determined app (run_quietly trace) (λ s net r. quiet_determined net (resolved_sound s net r) trace)
+  said_determined (FaultWords app trace faults) = accepted_determined app (run_struck trace faults) (λ s net r. struck_determined net (resolved_sound s net r) trace faults)
   said_determined (Check app) = accepted_determined app _ (λ s net r. says_determined held _)
   said_determined (Cert app) = accepted_determined app _ (λ s net r. says_determined held _)
   said_determined (Verify app c) = verify_determined app c

@@ -1,5 +1,5 @@
 -- The program has an answer wherever all names that it asks for are held.
-use Rattle.std.proofs.Common.{ℕ, List, Option, IsSome, refl, inl, inr}
+use Rattle.std.proofs.Common.{ℕ, List, [], Option, Some, None, IsSome, refl, inl, inr}
 use Rattle.ps_model.specs.Meaning.{Meaning, nothing}
 use Rattle.ps_model.specs.Network.{Network}
 use Rattle.ps_model.specs.Scanning.{State}
@@ -8,14 +8,19 @@ use Rattle.ps_model.proofs.Runs.{one_run}
 use Rattle.ps_source.specs.Source.{Reading, Resolves, IsResolvedAs, IsAcceptedAs}
 use Rattle.ps_source.specs.Source.Reading.{stands_for, is_refused}
 use Rattle.ps_source.proofs.Sourced.{some_of}
+use Rattle.ps_model.specs.declared.channel.Fault.{Fault}
+use Rattle.ps_base.specs.declared.failing.Refusal.{Refusal}
+use Rattle.ps_trace.specs.Faults.{faults_of}
 use Rattle.ps_trace.specs.Scans.{Scans, scans_of}
+use Rattle.ps_world.specs.Whole.{Setup, IsSetupOf}
 use Rattle.ps_words.specs.Command.{Command, command_of}
-use Rattle.ps_words.specs.Command.Command.{Run, Check, Cert, Verify, NotTaken}
+use Rattle.ps_words.specs.Command.Command.{Run, Fault as FaultWords, Check, Cert, Verify, NotTaken}
 use Rattle.ps_top.specs.Asking.{Answer, Asking, IsAnswer, AsksFor}
 use Rattle.ps_top.specs.Asking.Asking.{Says, Asks, Finds}
-use Rattle.ps_top.specs.Program.{Judged, Judges, verdict, with_application, accepted, answer_scans, run_named, verify_named, verify, said, told, text}
+use Rattle.ps_top.specs.Program.{Judged, Judges, verdict, with_application, accepted, region_sizes, trips_of, unless_refused, with_faults, run_quietly, run_struck, answer_scans, run_named, verify_named, verify, said, told, text}
 use Rattle.ps_top.specs.Program.Judged.{derives, objects}
 use Rattle.ps_top.proofs.OneAnswer.{with_counts, resolved_sound}
+use Rattle.ps_top.proofs.Setups.{some_setup}
 
 -- where all names that are asked for are held there is an answer
 abbrev HasAnswer : Asking → (List ℕ → Option (List ℕ)) → Type 0
@@ -34,10 +39,31 @@ module _ (held : List ℕ → Option (List ℕ)) where
   finds_some : (X : Type 0) (Fits : X → Type 0) (next : X → Asking) (x : X) → Fits x → HasAnswer (next x) held → HasAnswer (Finds X Fits next) held
   finds_some X Fits next x fits later = λ all. let rest = later (λ other asks. all other (x, fits, asks)) in (rest.0, (x, fits, rest.1))
 
-  scans_some : (net : Network) → IsSound net → (scans : Scans) → HasAnswer (answer_scans net scans) held
-  scans_some net sound scans =
+  scans_some : (net : Network) → IsSound net → (setup : Setup) (faults : List Fault) (scans : Scans) → HasAnswer (answer_scans net setup faults scans) held
+  scans_some net sound setup faults scans =
       let run = one_run net sound nothing scans.items in
-      finds_some (List State) (Meaning net scans.items) (λ ws. Says (told net scans ws)) run.0 run.1 (says_some (told net scans run.0))
+      let tripped = trips_of setup faults scans in
+      finds_some (List State) (Meaning net scans.items) (λ ws. Says (told net tripped scans ws)) run.0 run.1 (says_some (told net tripped scans run.0))
+
+  trace_some : (net : Network) → IsSound net → (setup : Setup) (faults : List Fault) (trace : List ℕ) → HasAnswer (run_named net setup faults trace) held
+  trace_some net sound setup faults trace = asks_some trace (λ t. answer_scans net setup faults (scans_of t net)) (λ t. scans_some net sound setup faults (scans_of t net))
+
+  setup_some : (net : Network) (next : Setup → Asking) → ((setup : Setup) → HasAnswer (next setup) held) → HasAnswer (Finds Setup (IsSetupOf net) next) held
+  setup_some net next each = let setup = some_setup net in finds_some Setup (IsSetupOf net) next setup.0 setup.1 (each setup.0)
+
+  quiet_some : (net : Network) → IsSound net → (trace : List ℕ) → HasAnswer (run_quietly trace net) held
+  quiet_some net sound trace = setup_some net (λ setup. run_named net setup [] trace) (λ setup. trace_some net sound setup [] trace)
+
+  unless_some : (next : List Fault → Asking) (faults : List Fault) (refusal : Option Refusal) → HasAnswer (next faults) held → HasAnswer (unless_refused next faults refusal) held
+  unless_some next faults None h = h
+  unless_some next faults (Some refusal) h = says_some _
+
+  struck_some : (net : Network) → IsSound net → (trace faults : List ℕ) → HasAnswer (run_struck trace faults net) held
+  struck_some net sound trace faults =
+      setup_some net (λ setup. with_faults setup faults (λ list. run_named net setup list trace))
+      (λ setup. asks_some faults (λ t. let list = faults_of t (region_sizes setup) in unless_refused (λ struck. run_named net setup struck trace) list.faults list.refusal)
+      (λ t. let list = faults_of t (region_sizes setup) in
+      unless_some (λ struck. run_named net setup struck trace) list.faults list.refusal (trace_some net sound setup list.faults trace)))
 
   module _ (accepts : (source : List ℕ) → (reading : Reading) × IsAcceptedAs source reading) (resolves : (source : List ℕ) → (reading : Reading) × IsResolvedAs source reading)
       (judges : (net : Network) (certificate : List ℕ) → (judged : Judged) × Judges net certificate judged) where
@@ -66,9 +92,8 @@ module _ (held : List ℕ → Option (List ℕ)) where
         go s (is_refused r) = says_some _
 
     said_some : (c : Command) → HasAnswer (said c) held
-    said_some (Run app trace) =
-        accepted_some app (λ net. run_named net trace)
-        (λ s net r. asks_some trace (λ t. answer_scans net (scans_of t net)) (λ t. scans_some net (resolved_sound s net r) (scans_of t net)))
+    said_some (Run app trace) = accepted_some app (run_quietly trace) (λ s net r. quiet_some net (resolved_sound s net r) trace)
+    said_some (FaultWords app trace faults) = accepted_some app (run_struck trace faults) (λ s net r. struck_some net (resolved_sound s net r) trace faults)
     said_some (Check app) = accepted_some app _ (λ s net r. says_some _)
     said_some (Cert app) = accepted_some app _ (λ s net r. says_some _)
     said_some (Verify app c) = verify_some app c

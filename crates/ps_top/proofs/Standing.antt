@@ -1,171 +1,233 @@
--- What a run wrote of the items of a trace is what is to be written of them.
-use Rattle.std.proofs.Common.{◌≡◌, ◌≤◌, ◌∙◌, ◌++◌, ℕ, Bool, IsTrue, List, [], ◌∷◌, Option, Result, Ok, Err, refl, sym, ap, subst, take, drop, append_assoc, ◌⊎◌, arith}
+-- What a run wrote of the items of a trace, by what its world answered.
+use Rattle.std.proofs.Common.{◌≡◌, ◌∙◌, ◌++◌, ℕ, suc, Bool, true, false, IsTrue, List, [], ◌∷◌, Result, Ok, Err, length, refl, sym, ap, subst, take, drop, append_assoc, append-nil, ◌⊎◌, arith}
+use Rattle.std.specs.Prelude.{◌||◌}
+use Rattle.std.proofs.Math.Bool.{or_assoc, or-false}
 use Rattle.std.proofs.lemmas.List.{take-append-drop}
 use Rattle.ps_base.specs.declared.failing.Refusal.{Refusal}
+use Rattle.ps_model.specs.declared.channel.Fault.{Fault}
 use Rattle.ps_model.specs.declared.channel.Verdict.{Verdict}
-use Rattle.ps_model.specs.Network.{Network}
-use Rattle.ps_model.specs.Sound.{IsSound}
+use Rattle.ps_model.specs.Network.{Network, instance_count}
+use Rattle.ps_model.specs.Meaning.{Item}
 use Rattle.ps_model.specs.Meaning.Item.{scan, restart}
-use Rattle.ps_model.specs.Meaning.{Item, Past, nothing, last, last_time}
 use Rattle.ps_report.specs.Short.{refusal_text}
-use Rattle.ps_world.specs.Whole.{Whole}
-use Rattle.ps_world.specs.Ready.{IsReady}
-use Rattle.ps_trace.specs.Scans.{Scans}
+use Rattle.ps_trace.specs.Scans.{Scans, End}
+use Rattle.ps_trace.specs.Scans.End.{whole, refused as is_refused}
 use Rattle.ps_trace.specs.Reading.{Begins, only_refused}
-use Rattle.ps_top.specs.Asking.{Answer, IsAnswer}
-use Rattle.ps_top.specs.Calls.{FilesSeen, OutputSeen, NameRose, Causes, Answers}
-use Rattle.ps_top.specs.Meets.{AppendsPart, Gives, Meets}
-use Rattle.ps_top.specs.Program.{answer, answer_scans, run_named}
-use Rattle.ps_top.specs.Resting.{IsRest, behind}
-use Rattle.ps_top.specs.Outcomes.{Outcome, refuses, outcome_line}
-use Rattle.ps_top.specs.Performing.{Performs}
-use Rattle.ps_top.specs.Doing.{IsDue, time_behind, Did, all, refused, unread, refused_item, unwritten, next}
+use Rattle.ps_world.specs.Steps.{after}
+use Rattle.ps_world.specs.Orders.{of_scan, at_compare, scan_events, run_events}
+use Rattle.ps_world.specs.Verdicts.{verdict, report_given}
+use Rattle.ps_world.specs.Whole.{Whole, machines_in, after_events}
+use Rattle.ps_world.proofs.Turning.{after_append}
+use Rattle.ps_top.specs.Asking.{Answer}
+
+use Rattle.ps_top.specs.Doing.{Did, all, refused, unread, refused_item, unwritten, next, no_items}
+use Rattle.ps_top.specs.Meets.{IsCut, AppendsPart, Gives}
+use Rattle.ps_top.specs.Outcomes.{Outcome, performed, refuses, outcome_line}
+use Rattle.ps_top.specs.Performing.{to_come, due, trips_with, compared, MakesScan, Performs}
+use Rattle.ps_top.specs.Program.{answer, end_line, status_if}
+use Rattle.ps_top.specs.Resting.{answered, ran, answer_lines, any_trips, status_of, run_answer}
 use Rattle.ps_top.specs.declared.items.Cut.{Cut}
 use Rattle.ps_top.specs.declared.items.Cut.TheVariants.{Refused, Unread, Unwritten}
 use Rattle.ps_top.specs.declared.Status.{Status}
-use Rattle.ps_top.specs.declared.left.Left.{Left}
-use Rattle.ps_top.specs.declared.Status.TheVariants.{Done, BadInput, ReadFault, WriteFault}
-use Rattle.ps_top.proofs.Meeting.{all_given, given_behind, part_given, part_unread}
+use Rattle.ps_top.specs.declared.Status.TheVariants.{BadInput, ReadFault, WriteFault, Memory}
+use Rattle.ps_top.specs.declared.striking.StruckWorld.{StruckWorld}
 use Rattle.ps_top.proofs.Calling.{no_read_said, no_memory_said}
-use Rattle.ps_top.proofs.Scans.{end_rest, refused_rest, scan_rest, restart_rest, rest_of}
+use Rattle.ps_top.proofs.Meeting.{all_given, given_behind, part_given, part_unread}
+use Rattle.ps_top.proofs.ToCome.{Stands, due_of_scan, stands_behind}
 
--- A run goes on behind an item: from where it then stands, what is to be written of the rest stands behind the item's line.
-record Goes (net : Network) (past : Past) (time : ℕ) (item : Item) (outcome : Outcome Verdict) (w : Whole) : Type 0 where
-  past' : Past
-  stands : IsReady net w past'
-  early : last_time past' ≤ time_behind time item
-  goes : (scans rest : Scans) → Begins scans item rest → (a : Answer) → IsRest net past' rest a → IsRest net past scans (behind (outcome_line net outcome) a)
+-- a trace that was read to its end was not cut short
+whole_not_cut : (b : Bool) → ¬ IsCut (status_if b)
+whole_not_cut true = λ cut. grind arith
+whole_not_cut false = λ cut. grind arith
 
-goes_on : (net : Network) (past : Past) (time : ℕ) (w : Whole) (item : Item) (outcome : Outcome Verdict) (w' : Whole) →
-    IsReady net w past → last_time past ≤ time → IsDue time item → Performs net w item outcome w' → Goes net past time item outcome w'
-goes_on net past time w (scan now ins) outcome w' stands early due performs =
-    let r = performs past stands in record {
-      past' = last now r.state;
-      stands = r.stands;
-      early = omega arith;
-      goes = λ scans rest begins a right.
-          subst (λ (o : Outcome Verdict). IsRest net past scans (behind (outcome_line net o) a)) (sym r.released) (scan_rest net past now ins r.state scans rest begins r.solves a right);
+pub no_cut_status : (b : Bool) (status : Status) → status ≡ status_if b → ¬ IsCut status
+no_cut_status b status is = subst (λ (s : Status). ¬ IsCut s) (sym is) (whole_not_cut b)
+
+module _ (net : Network) (faults : List Fault) where
+  -- the lines of items from a number on, by the answers of a world
+  abbrev lines : (number : ℕ) → List Item → Whole → List ℕ
+  lines number items w = answer_lines net items (answered net faults number items w)
+
+  -- whether one of their scans trips
+  abbrev any_of : (number : ℕ) → List Item → Whole → Bool
+  any_of number items w = any_trips (answered net faults number items w)
+
+  -- A run goes on behind an item: what is to come of the item and later ones is its line and what is to come of those.
+  record Goes (done : ℕ) (item : Item) (outcome : Outcome Verdict) (p after : StruckWorld) : Type 0 where
+    made : ℕ
+    stands : Stands faults made after
+    line_first : (items : List Item) → lines (suc done) (item ∷ items) p.world ≡ outcome_line net outcome ++ lines (suc made) items after.world
+    same_end : (items : List Item) → ran faults (suc done) (item ∷ items) p.world ≡ ran faults (suc made) items after.world
+    same_trip : (items : List Item) → (p.tripped || any_of (suc done) (item ∷ items) p.world) ≡ (after.tripped || any_of (suc made) items after.world)
+
+  -- a scan that the faults of its number strike
+  module _ (done now : ℕ) (ins : List Bool) (outcome : Outcome Verdict) (p after : StruckWorld) (stands : Stands faults done p) (makes : MakesScan net p now ins outcome after) where
+    -- the world behind the scan, where these faults strike it
+    abbrev behind_scan : List Fault → Whole
+    behind_scan struck = after_events (scan_events (machines_in p.world.setup) struck now ins p.world.state) p.world
+
+    same_due : of_scan (suc done) faults ≡ due p
+    same_due = sym (due_of_scan faults done p stands)
+
+    -- the verdict on the scan, where these faults strike it
+    abbrev verdict_of : List Fault → Verdict
+    verdict_of struck = verdict (machines_in p.world.setup) (at_compare (machines_in p.world.setup) struck now ins p.world.state)
+
+    -- its outcome
+    abbrev outcome_of : List Fault → Outcome Verdict
+    outcome_of struck = performed now (verdict_of struck)
+        (report_given (machines_in p.world.setup) (length net.outputs) (instance_count net) (at_compare (machines_in p.world.setup) struck now ins p.world.state))
+
+    goes_scan : Goes done (scan now ins) outcome p after
+    goes_scan = record {
+      made = suc done;
+      stands = stands_behind faults done p after stands makes.leaves makes.counts;
+      line_first = λ items.
+          (λ i. outcome_line net (outcome_of (same_due i)) ++ lines (suc (suc done)) items (behind_scan (same_due i)))
+          ∙ (λ i. outcome_line net (sym makes.compares i) ++ lines (suc (suc done)) items (sym makes.happens i));
+      same_end = λ items.
+          (λ i. record {
+            setup = p.world.setup;
+            state = after_append (machines_in p.world.setup) (scan_events (machines_in p.world.setup) (of_scan (suc done) faults) now ins p.world.state)
+                (run_events (machines_in p.world.setup) faults (suc (suc done)) items (behind_scan (of_scan (suc done) faults)).state) p.world.state i;
+          })
+          ∙ (λ i. ran faults (suc (suc done)) items (behind_scan (same_due i)))
+          ∙ (λ i. ran faults (suc (suc done)) items (sym makes.happens i));
+      same_trip = λ items.
+          (λ i. p.tripped || (trips_with (verdict_of (same_due i)) || any_of (suc (suc done)) items (behind_scan (same_due i))))
+          ∙ (λ i. p.tripped || (trips_with (verdict_of (due p)) || any_of (suc (suc done)) items (sym makes.happens i)))
+          ∙ sym (or_assoc p.tripped (trips_with (verdict_of (due p))) (any_of (suc (suc done)) items after.world))
+          ∙ (λ i. sym makes.remembers i || any_of (suc (suc done)) items after.world);
     }
-goes_on net past time w restart outcome w' stands early due performs = record {
-  past' = nothing;
-  stands = performs.1;
-  early = omega arith;
-  goes = λ scans rest begins a right.
-      subst (λ (o : Outcome Verdict). IsRest net past scans (behind (outcome_line net o) a)) (sym performs.0) (restart_rest net past scans rest begins a right);
-}
 
--- a scanner refuses no item
-no_refusal : (net : Network) (past : Past) (time : ℕ) (w : Whole) (item : Item) (refusal : Refusal) (w' : Whole) →
-    IsReady net w past → last_time past ≤ time → IsDue time item → Performs net w item (refuses refusal) w' → ⊥
-no_refusal net past time w (scan now ins) refusal w' stands early due performs = let released = (performs past stands).released in cc
-no_refusal net past time w restart refusal w' stands early due performs = let anew_is = performs.0 in cc
-
--- these bytes begin what is to be written
-record IsBeginning (net : Network) (past : Past) (scans : Scans) (bytes : List ℕ) : Type 0 where
-  answer : Answer
-  right : IsRest net past scans answer
-  owed : List ℕ
-  whole : bytes ++ owed ≡ answer.bytes
-
--- these bytes were written of the items: all that is to be written, but for the line of a refusal, or a beginning
-abbrev Tells : Network → Past → Scans → List ℕ → Result (Unit {0}) Cut → Type 0
-Tells net past scans bytes (Ok x) = IsRest net past scans (answer bytes Done)
-Tells net past scans bytes (Err (Refused refusal)) = IsRest net past scans (answer (bytes ++ refusal_text refusal) BadInput)
-Tells net past scans bytes (Err Unread) = IsBeginning net past scans bytes
-Tells net past scans bytes (Err Unwritten) = IsBeginning net past scans bytes
-
-module _ (net : Network) (past : Past) (time : ℕ) (item : Item) (outcome : Outcome Verdict) (w : Whole) (goes : Goes net past time item outcome w)
-    (scans rest : Scans) (begins : Begins scans item rest) where
-  abbrev line : List ℕ
-  line = outcome_line net outcome
-
-  beginning_behind : (bytes : List ℕ) → IsBeginning net (goes.past') rest bytes → IsBeginning net past scans (line ++ bytes)
-  beginning_behind bytes begun = record {
-    answer = behind line begun.answer;
-    right = goes.goes scans rest begins begun.answer begun.right;
-    owed = begun.owed;
-    whole = append_assoc line bytes begun.owed ∙ ap (λ (more : List ℕ). line ++ more) begun.whole;
+  goes_on : (done : ℕ) (item : Item) (outcome : Outcome Verdict) (p after : StruckWorld) → Stands faults done p → Performs net p item outcome after → Goes done item outcome p after
+  goes_on done (scan now ins) outcome p after stands makes = goes_scan done now ins outcome p after stands makes
+  goes_on done restart outcome p after stands begins = record {
+    made = done;
+    stands = subst (λ (q : StruckWorld). Stands faults done q) (sym begins.1) (record { same = stands.same; counted = stands.counted });
+    line_first = λ items. (λ i. outcome_line net (sym begins.0 i) ++ lines (suc done) items (sym begins.1 i).world);
+    same_end = λ items. (λ i. ran faults (suc done) items (sym begins.1 i).world);
+    same_trip = λ items. (λ i. (sym begins.1 i).tripped || any_of (suc done) items (sym begins.1 i).world);
   }
 
-  tells_behind : (bytes : List ℕ) (ended : Result (Unit {0}) Cut) → Tells net (goes.past') rest bytes ended → Tells net past scans (line ++ bytes) ended
-  tells_behind bytes (Ok x) tells = goes.goes scans rest begins (answer bytes Done) tells
-  tells_behind bytes (Err (Refused refusal)) tells =
-      subst (λ (whole : List ℕ). IsRest net past scans (answer whole BadInput)) (sym (append_assoc line bytes (refusal_text refusal)))
-      (goes.goes scans rest begins (answer (bytes ++ refusal_text refusal) BadInput) tells)
-  tells_behind bytes (Err Unread) tells = beginning_behind bytes tells
-  tells_behind bytes (Err Unwritten) tells = beginning_behind bytes tells
+  -- All items were done: this was written, and this is the world behind them.
+  record Came (done : ℕ) (items : List Item) (p after : StruckWorld) (bytes : List ℕ) : Type 0 where
+    written : bytes ≡ lines (suc done) items p.world
+    ends : after.world ≡ ran faults (suc done) items p.world
+    tripped : after.tripped ≡ (p.tripped || any_of (suc done) items p.world)
 
-  -- a part of the item's line was written
-  beginning_of_line : IsSound net → (taken : ℕ) → IsBeginning net past scans (take taken line)
-  beginning_of_line sound taken = let a = rest_of net sound goes.past' rest in record {
-    answer = behind line a.0;
-    right = goes.goes scans rest begins a.0 a.1;
-    owed = drop taken line ++ a.0.bytes;
-    whole = sym (append_assoc (take taken line) (drop taken line) a.0.bytes) ∙ ap (λ (front : List ℕ). front ++ a.0.bytes) (take-append-drop taken line);
-  }
+  -- these bytes begin the lines of the items
+  abbrev Begun : (done : ℕ) → List Item → StruckWorld → (bytes : List ℕ) → Type 0
+  Begun done items p bytes = (owed : List ℕ) × (bytes ++ owed ≡ lines (suc done) items p.world)
 
--- what a scanner did of items from where a run stands
-tells : {T : Type 0} (net : Network) → IsSound net → (takes : T → Outcome Verdict → T → Type 0) (past : Past) (time : ℕ) (w : Whole) (t : T) (scans : Scans)
-    (bytes : List ℕ) (ended : Result (Unit {0}) Cut) (w' : Whole) (t' : T) → IsReady net w past → last_time past ≤ time →
-    Did (Performs net) (outcome_line net) takes time w t scans bytes ended w' t' → Tells net past scans bytes ended
-tells net sound takes past _ _ _ _ _ _ _ _ stands early (all time w t scans is) = end_rest net past scans is
-tells net sound takes past _ _ _ _ _ _ _ _ stands early (refused time w t scans refusal is) = refused_rest net past scans refusal is
-tells net sound takes past _ _ _ _ _ _ _ _ stands early (unread time w t scans) =
-    let a = rest_of net sound past scans in record { answer = a.0; right = a.1; owed = a.0.bytes; whole = refl }
-tells net sound takes past _ _ _ _ _ _ _ _ stands early (refused_item time w t scans item rest refusal w' begins due performs) =
-    absurd (no_refusal net past time w item refusal w' stands early due performs)
-tells net sound takes past _ _ _ _ _ _ _ _ stands early (unwritten time w t scans item rest outcome w' t' taken begins due performs) =
-    beginning_of_line net past time item outcome w' (goes_on net past time w item outcome w' stands early due performs) scans rest begins sound taken
-tells net sound takes past _ _ _ _ _ _ _ _ stands early (next time w t scans item rest outcome w' t' bytes ended w'' t'' begins due performs took did) =
-    let goes = goes_on net past time w item outcome w' stands early due performs in
-    tells_behind net past time item outcome w' goes scans rest begins bytes ended
-    (tells net sound takes goes.past' (time_behind time item) w' t' rest bytes ended w'' t'' goes.stands goes.early did)
+  -- what was done of the scans of a trace, by how it ended
+  abbrev CameTo : (done : ℕ) → Scans → (p after : StruckWorld) → (bytes : List ℕ) → Result (Unit {0}) Cut → Type 0
+  CameTo done scans p after bytes (Ok x) = Came done scans.items p after bytes × (scans.end ≡ whole)
+  CameTo done scans p after bytes (Err (Refused refusal)) = Came done scans.items p after bytes × (scans.end ≡ is_refused refusal)
+  CameTo done scans p after bytes (Err Unread) = Begun done scans.items p bytes
+  CameTo done scans p after bytes (Err Unwritten) = Begun done scans.items p bytes
 
--- what is given of a whole trace, once it is told how its items ended
-abbrev pub GivesAsEnded : Network → Scans → (tells : Bool) → (before after : List ℕ) → Result (Unit {0}) Cut → Type 0
-GivesAsEnded net scans tells before after (Ok x) = Gives (IsRest net nothing scans) tells before after Done
-GivesAsEnded net scans tells before after (Err (Refused refusal)) =
-    (later : List ℕ) (status : Status) → (status ≡ BadInput) ⊎ (status ≡ WriteFault) → Gives (λ said. said ≡ answer (refusal_text refusal) BadInput) tells after later status →
-    Gives (IsRest net nothing scans) tells before later status
-GivesAsEnded net scans tells before after (Err Unread) = Gives (IsRest net nothing scans) tells before after ReadFault
-GivesAsEnded net scans tells before after (Err Unwritten) = Gives (IsRest net nothing scans) tells before after WriteFault
+  no_item : (done : ℕ) (p : StruckWorld) → Came done [] p p []
+  no_item done p = record { written = refl; ends = refl; tripped = sym (or-false p.tripped) }
 
-beginning_part : (net : Network) (scans : Scans) (bytes : List ℕ) (tells : Bool) (before after : List ℕ) → (IsTrue tells → after ≡ before ++ bytes) → IsBeginning net nothing scans bytes →
-    AppendsPart (IsRest net nothing scans) tells before after
-beginning_part net scans bytes on before after wrote begun =
-    record { answer = begun.answer; right = begun.right; written = bytes; owed = begun.owed; whole = begun.whole; appended = wrote }
+  module _ (done : ℕ) (item : Item) (outcome : Outcome Verdict) (p mid : StruckWorld) (goes : Goes done item outcome p mid) where
+    came_behind : (items : List Item) (after : StruckWorld) (bytes : List ℕ) → Came (goes.made) items mid after bytes → Came done (item ∷ items) p after (outcome_line net outcome ++ bytes)
+    came_behind items after bytes came = record {
+      written = ap (λ l. outcome_line net outcome ++ l) came.written ∙ sym (goes.line_first items);
+      ends = came.ends ∙ sym (goes.same_end items);
+      tripped = came.tripped ∙ sym (goes.same_trip items);
+    }
 
-told_gives : (net : Network) (scans : Scans) (bytes : List ℕ) (tells : Bool) (before after : List ℕ) (ended : Result (Unit {0}) Cut) → (IsTrue tells → after ≡ before ++ bytes) →
-    Tells net nothing scans bytes ended → GivesAsEnded net scans tells before after ended
-told_gives net scans bytes on before after (Ok x) wrote told = all_given (IsRest net nothing scans) (answer bytes Done) on before after (λ cut. grind arith) told wrote
-told_gives net scans bytes on before after (Err (Refused refusal)) wrote told = λ later status ends gives.
-    given_behind (IsRest net nothing scans) (answer (refusal_text refusal) BadInput) bytes on before after later status told wrote gives
-    (no_memory_said BadInput status (λ cut. grind arith) ends) (no_read_said BadInput status (λ cut. grind arith) ends)
-told_gives net scans bytes on before after (Err Unread) wrote told = part_unread (IsRest net nothing scans) on before after (beginning_part net scans bytes on before after wrote told)
-told_gives net scans bytes on before after (Err Unwritten) wrote told = part_given (IsRest net nothing scans) on before after (beginning_part net scans bytes on before after wrote told)
+    begun_behind : (items : List Item) (bytes : List ℕ) → Begun (goes.made) items mid bytes → Begun done (item ∷ items) p (outcome_line net outcome ++ bytes)
+    begun_behind items bytes begun =
+        (begun.0, append_assoc (outcome_line net outcome) bytes begun.0 ∙ ap (λ l. outcome_line net outcome ++ l) begun.1 ∙ sym (goes.line_first items))
 
--- the items of a trace were done from the first one on
-pub items_give : {T : Type 0} (net : Network) → IsSound net → (takes : T → Outcome Verdict → T → Type 0) (time : ℕ) (w : Whole) (t : T) (scans : Scans) (bytes : List ℕ) (on : Bool)
-    (before after : List ℕ) (ended : Result (Unit {0}) Cut) (w' : Whole) (t' : T) → IsReady net w nothing → Did (Performs net) (outcome_line net) takes time w t scans bytes ended w' t' →
-    (IsTrue on → after ≡ before ++ bytes) → GivesAsEnded net scans on before after ended
-items_give net sound takes time w t scans bytes on before after ended w' t' stands did wrote =
-    told_gives net scans bytes on before after ended wrote (tells net sound takes nothing time w t scans bytes ended w' t' stands (omega arith) did)
+    came_to_behind : (rest : Scans) (after : StruckWorld) (bytes : List ℕ) (ended : Result (Unit {0}) Cut) → CameTo (goes.made) rest mid after bytes ended →
+        CameTo done (record { items = item ∷ rest.items; end = rest.end }) p after (outcome_line net outcome ++ bytes) ended
+    came_to_behind rest after bytes (Ok x) came = (came_behind rest.items after bytes came.0, came.1)
+    came_to_behind rest after bytes (Err (Refused refusal)) came = (came_behind rest.items after bytes came.0, came.1)
+    came_to_behind rest after bytes (Err Unread) begun = begun_behind rest.items bytes begun
+    came_to_behind rest after bytes (Err Unwritten) begun = begun_behind rest.items bytes begun
 
--- what is to be written of the scans of a whole trace answers it
-pub rest_answers : (net : Network) (scans scans' : Scans) (held : List ℕ → Option (List ℕ)) (said : Answer) → scans ≡ scans' → IsRest net nothing scans said → IsAnswer (answer_scans net scans') held said
-rest_answers net scans scans' held said same rest =
-    let r : IsRest net nothing scans' said = subst (λ (s : Scans). IsRest net nothing s said) same rest in (r.states, r.runs, r.is)
+    -- a part of the item's line was written
+    line_begun : (items : List Item) (taken : ℕ) → Begun done (item ∷ items) p (take taken (outcome_line net outcome))
+    line_begun items taken =
+        let line = outcome_line net outcome in
+        let more = lines (suc goes.made) items mid.world in
+        (
+          drop taken line ++ more,
+          sym (append_assoc (take taken line) (drop taken line) more) ∙ ap (λ front. front ++ more) (take-append-drop taken line) ∙ sym (goes.line_first items),
+        )
 
-pub refusal_answers : (net : Network) (scans : Scans) (held : List ℕ → Option (List ℕ)) (r : Refusal) (said : Answer) → scans ≡ only_refused r → said ≡ answer (refusal_text r) BadInput →
-    IsAnswer (answer_scans net scans) held said
-refusal_answers net scans held r said is e = rest_answers net scans scans held said refl (subst (IsRest net nothing scans) (sym e) (refused_rest net nothing scans r is))
+  -- a world that faults strike refuses no item
+  no_refusal : (item : Item) (refusal : Refusal) (p after : StruckWorld) → Performs net p item (refuses refusal) after → ⊥
+  no_refusal (scan now ins) refusal p after makes = let compares = makes.compares in cc
+  no_refusal restart refusal p after begins = let anew_is = begins.0 in cc
 
--- a trace was answered: where the call was not cut short, there are the states of its scans
-pub scans_answers : (net : Network) (trace : List ℕ) (files files' : FilesSeen) (out out' : OutputSeen) (left : Left) (status : Status) →
-    (IsTrue files.tells → Meets (run_named net trace) files.held (NameRose files files') out.tells out.taken out'.taken status) →
-    Causes (trace ∷ []) files files' out out' status → Answers (run_named net trace) (trace ∷ []) files files' out out' left status
-scans_answers net trace files files' out out' left status meets causes = record {
-  meets = meets;
-  leaves = λ tells not_cut. let all = (meets tells).gives.whole not_cut in (all.right.0, all.right.1, (all.right.2.0, all.right.2.1, tt));
-  causes = causes;
-}
+  came_to : {T : Type 0} (takes : T → Outcome Verdict → T → Type 0) (done time : ℕ) (p : StruckWorld) (t : T) (scans : Scans) (bytes : List ℕ) (ended : Result (Unit {0}) Cut) (after : StruckWorld) (t' : T) →
+      Stands faults done p → Did (Performs net) (outcome_line net) takes time p t scans bytes ended after t' → CameTo done scans p after bytes ended
+  came_to takes done _ _ _ _ _ _ _ _ stands (all time p t scans is) =
+      subst (λ (s : Scans). CameTo done s p p [] (Ok tt)) (sym is) (no_item done p, refl)
+  came_to takes done _ _ _ _ _ _ _ _ stands (refused time p t scans refusal is) =
+      subst (λ (s : Scans). CameTo done s p p [] (Err (Refused refusal))) (sym is) (no_item done p, refl)
+  came_to takes done _ _ _ _ _ _ _ _ stands (unread time p t scans) = (lines (suc done) scans.items p.world, refl)
+  came_to takes done _ _ _ _ _ _ _ _ stands (refused_item time p t scans item rest refusal p' begins is_due performs) = absurd (no_refusal item refusal p p' performs)
+  came_to takes done _ _ _ _ _ _ _ _ stands (unwritten time p t scans item rest outcome p' t' taken begins is_due performs) =
+      subst (λ (s : Scans). Begun done s.items p (take taken (outcome_line net outcome))) (sym begins)
+      (line_begun done item outcome p p' (goes_on done item outcome p p' stands performs) rest.items taken)
+  came_to takes done _ _ _ _ _ _ _ _ stands (next time p t scans item rest outcome p' t' bytes ended p'' t'' begins is_due performs took did) =
+      let goes = goes_on done item outcome p p' stands performs in
+      subst (λ (s : Scans). CameTo done s p p'' (outcome_line net outcome ++ bytes) ended) (sym begins)
+      (came_to_behind done item outcome p p' goes rest p'' bytes ended (came_to takes goes.made _ p' t' rest bytes ended p'' t'' goes.stands did))
+
+  -- ---- A whole trace, from the beginning of a run.
+
+  module _ (scans : Scans) (p after : StruckWorld) (none_tripped : p.tripped ≡ false) where
+    abbrev wanted : Answer → Type 0
+    wanted said = said ≡ run_answer net faults p.world scans
+
+    -- what is given of a whole trace, once it is told how its items ended
+    abbrev pub GivesAsEnded : (tells : Bool) → (start now : List ℕ) → Result (Unit {0}) Cut → Type 0
+    GivesAsEnded tells start now (Ok x) = Gives wanted tells start now (status_if after.tripped) × (after.world ≡ ran faults 1 scans.items p.world)
+    GivesAsEnded tells start now (Err (Refused refusal)) =
+        ((later : List ℕ) (status : Status) → (status ≡ BadInput) ⊎ (status ≡ WriteFault) → Gives (λ said. said ≡ answer (refusal_text refusal) BadInput) tells now later status →
+        Gives wanted tells start later status) × (after.world ≡ ran faults 1 scans.items p.world)
+    GivesAsEnded tells start now (Err Unread) = Gives wanted tells start now ReadFault
+    GivesAsEnded tells start now (Err Unwritten) = Gives wanted tells start now WriteFault
+
+    begun_part : (bytes : List ℕ) (tells : Bool) (start now : List ℕ) → (IsTrue tells → now ≡ start ++ bytes) → Begun 0 scans.items p bytes → AppendsPart wanted tells start now
+    begun_part bytes tells start now wrote begun = record {
+      answer = run_answer net faults p.world scans;
+      right = refl;
+      written = bytes;
+      owed = begun.0 ++ end_line scans.end;
+      whole = sym (append_assoc bytes begun.0 (end_line scans.end)) ∙ ap (λ l. l ++ end_line scans.end) begun.1;
+      appended = wrote;
+    }
+
+    -- the answer, where all items came and the trace ends so
+    answer_is : (bytes : List ℕ) (end : End) → Came 0 scans.items p after bytes → scans.end ≡ end → answer (bytes ++ end_line end) (status_of end after.tripped) ≡ run_answer net faults p.world scans
+    answer_is bytes end came is = λ i. answer (came.written i ++ end_line (sym is i))
+        (status_of (sym is i) ((came.tripped ∙ ap (λ b. b || any_of 1 scans.items p.world) none_tripped) i))
+
+    told_gives : (bytes : List ℕ) (tells : Bool) (start now : List ℕ) (ended : Result (Unit {0}) Cut) → (IsTrue tells → now ≡ start ++ bytes) → CameTo 0 scans p after bytes ended →
+        GivesAsEnded tells start now ended
+    told_gives bytes tells start now (Ok x) wrote came = (
+      all_given wanted (answer bytes (status_if after.tripped)) tells start now (whole_not_cut after.tripped)
+      (ap (λ l. answer l (status_if after.tripped)) (sym (append-nil bytes)) ∙ answer_is bytes whole came.0 came.1) wrote,
+      came.0.ends,
+    )
+    told_gives bytes tells start now (Err (Refused refusal)) wrote came = (
+      (λ later status ends gives.
+      given_behind wanted (answer (refusal_text refusal) BadInput) bytes tells start now later status (answer_is bytes (is_refused refusal) came.0 came.1) wrote gives
+      (no_memory_said BadInput status (λ cut. grind arith) ends) (no_read_said BadInput status (λ cut. grind arith) ends)),
+      came.0.ends,
+    )
+    told_gives bytes tells start now (Err Unread) wrote begun = part_unread wanted tells start now (begun_part bytes tells start now wrote begun)
+    told_gives bytes tells start now (Err Unwritten) wrote begun = part_given wanted tells start now (begun_part bytes tells start now wrote begun)
+
+    -- the items of a trace were done from the first one on
+    pub items_give : {T : Type 0} (takes : T → Outcome Verdict → T → Type 0) (time : ℕ) (t t' : T) (bytes : List ℕ) (tells : Bool) (start now : List ℕ) (ended : Result (Unit {0}) Cut) →
+        Stands faults 0 p → Did (Performs net) (outcome_line net) takes time p t scans bytes ended after t' → (IsTrue tells → now ≡ start ++ bytes) → GivesAsEnded tells start now ended
+    items_give takes time t t' bytes tells start now ended stands did wrote =
+        told_gives bytes tells start now ended wrote (came_to takes 0 time p t scans bytes ended after t' stands did)

@@ -1,6 +1,9 @@
 -- What the program writes, for its words and the texts that are held.
-use Rattle.std.specs.Prelude.{◌≡◌, ◌⊎◌, ℕ, List, [], ◌∷◌, ◌++◌, Some, length}
+use Rattle.std.specs.Prelude.{◌≡◌, ◌⊎◌, ℕ, suc, Bool, true, false, ◌==◌, ◌||◌, if◌then◌else◌, List, [], ◌∷◌, ◌++◌, Option, Some, None, is_some, length}
 use Rattle.ps_base.specs.declared.failing.Refusal.{Refusal}
+use Rattle.ps_model.specs.declared.channel.Cause.{Cause}
+use Rattle.ps_model.specs.declared.channel.Fault.{Fault}
+use Rattle.ps_model.specs.declared.channel.ImageSizes.{ImageSizes}
 use Rattle.ps_model.specs.Network.{Network}
 use Rattle.ps_model.specs.Scanning.{State}
 use Rattle.ps_model.specs.Meaning.{Item, scan, restart, Meaning, report}
@@ -11,12 +14,16 @@ use Rattle.ps_flow.specs.Written.{written}
 use Rattle.ps_checker.specs.Counts.{Counts}
 use Rattle.ps_checker.specs.Derives.{Derives}
 use Rattle.ps_checker.specs.Objections.{Objects}
+use Rattle.ps_trace.specs.Faults.{FaultList, faults_of}
 use Rattle.ps_trace.specs.Scans.{Scans, End, scans_of}
 use Rattle.ps_trace.specs.Scans.End.{whole, refused}
-use Rattle.ps_report.specs.Lines.{report_text}
+use Rattle.ps_world.specs.Worlds.{world_0}
+use Rattle.ps_world.specs.Orders.{events, trips}
+use Rattle.ps_world.specs.Whole.{Setup, Whole, machines_in, after_events, IsSetupOf}
+use Rattle.ps_report.specs.Lines.{report_text, trip_text}
 use Rattle.ps_report.specs.Short.{refusal_text, check_text}
 use Rattle.ps_words.specs.Command.{Command, command_of, usage_line}
-use Rattle.ps_words.specs.Command.Command.{Run, Check, Cert, Verify, NotTaken}
+use Rattle.ps_words.specs.Command.Command.{Run, Fault as FaultWords, Check, Cert, Verify, NotTaken}
 use Rattle.ps_top.specs.Asking.{Answer, Asking}
 use Rattle.ps_top.specs.Asking.Asking.{Says, Asks, Finds, Leaves}
 use Rattle.ps_top.specs.Lines.{restart_line, verified_line}
@@ -24,7 +31,7 @@ use Rattle.ps_source.specs.Source.{Reading, IsResolvedAs, IsAcceptedAs, counts}
 use Rattle.ps_source.specs.Source.Reading.{stands_for, is_refused}
 use Rattle.ps_top.specs.declared.left.Left.{Left}
 use Rattle.ps_top.specs.declared.Status.{Status}
-use Rattle.ps_top.specs.declared.Status.TheVariants.{Done, Refused, Usage, BadInput}
+use Rattle.ps_top.specs.declared.Status.TheVariants.{Done, Refused, Usage, BadInput, Tripped}
 
 -- these bytes with this status
 abbrev pub answer : List ℕ → Status → Answer
@@ -55,40 +62,106 @@ check app = accepted app (λ net. Says (answer (check_text net) Done))
 abbrev pub cert : List ℕ → Asking
 cert app = accepted app (λ net. Says (answer (written (certificate net)) Done))
 
--- ---- run
+-- ---- run and fault
 
--- the lines of items whose scans have these states
-abbrev pub item_lines : Network → List Item → List State → List ℕ
-item_lines net [] ws = []
-item_lines net (restart ∷ items) ws = restart_line ++ item_lines net items ws
-item_lines net (scan now ins ∷ items) [] = []
-item_lines net (scan now ins ∷ items) (w ∷ ws) = report_text net now (report net w) ++ item_lines net items ws
+-- the world of two channels at the beginning
+abbrev pub first_world : Setup → Whole
+first_world setup = record { setup = setup; state = world_0 (machines_in setup) }
+
+-- the lengths of the regions of both channels, in bytes
+abbrev pub region_sizes : Setup → ImageSizes
+region_sizes setup = let x = world_0 (machines_in setup) in record { a_code = length x.a.code; a_cells = length x.a.cells; b_code = length x.b.code; b_cells = length x.b.cells }
+
+-- the scans of a trace that trip, by number, each with its cause, where these faults strike
+abbrev pub trips_of : Setup → List Fault → Scans → List (ℕ × Cause)
+trips_of setup faults scans = trips (machines_in setup) scans.items faults
+
+-- the cause with which the scan of this number trips, if it is one of those that trip
+abbrev pub cause_at : ℕ → List (ℕ × Cause) → Option Cause
+cause_at number [] = None
+cause_at number (trip ∷ tripped) = if trip.0 == number then Some trip.1 else cause_at number tripped
+
+-- the line of a scan with this state: where it trips, its TRIP line with the cause; after a trip, up to the next restart, the later
+-- TRIP line; and else the report line
+abbrev pub scan_line : Network → (now : ℕ) → State → Option Cause → (down : Bool) → List ℕ
+scan_line net now w (Some cause) down = trip_text net now (Some cause)
+scan_line net now w None true = trip_text net now None
+scan_line net now w None false = report_text net now (report net w)
+
+-- the lines of items, of which the first scan has this number, and whose scans have these states, where these scans trip; `down` says
+-- whether a scan tripped since the last restart
+abbrev pub item_lines : Network → List (ℕ × Cause) → (number : ℕ) → (down : Bool) → List Item → List State → List ℕ
+item_lines net tripped number down [] ws = []
+item_lines net tripped number down (restart ∷ items) ws = restart_line ++ item_lines net tripped number false items ws
+item_lines net tripped number down (scan now ins ∷ items) [] = []
+item_lines net tripped number down (scan now ins ∷ items) (w ∷ ws) =
+    scan_line net now w (cause_at number tripped) down ++ item_lines net tripped (suc number) (down || is_some (cause_at number tripped)) items ws
 
 -- the line of the end of a trace: none, or its refusal
 abbrev pub end_line : End → List ℕ
 end_line whole = []
 end_line (refused refusal) = refusal_text refusal
 
--- the status at the end of a trace
-abbrev pub end_status : End → Status
-end_status whole = Done
-end_status (refused refusal) = BadInput
+-- the status of a whole run, by whether a scan tripped
+abbrev pub status_if : (has_tripped : Bool) → Status
+status_if false = Done
+status_if true = Tripped
+
+-- whether there are trips
+abbrev pub are_some : List (ℕ × Cause) → Bool
+are_some [] = false
+are_some (trip ∷ tripped) = true
+
+-- the status at the end of a trace: a refusal decides before a trip
+abbrev pub end_status : End → List (ℕ × Cause) → Status
+end_status whole tripped = status_if (are_some tripped)
+end_status (refused refusal) tripped = BadInput
 
 -- a line for each item, and one for a refusal
-abbrev pub told : Network → Scans → List State → Answer
-told net scans ws = answer (item_lines net scans.items ws ++ end_line scans.end) (end_status scans.end)
+abbrev pub told : Network → List (ℕ × Cause) → Scans → List State → Answer
+told net tripped scans ws = answer (item_lines net tripped 1 false scans.items ws ++ end_line scans.end) (end_status scans.end tripped)
 
--- the scans of a trace have the lines of what they mean
-abbrev pub answer_scans : Network → Scans → Asking
-answer_scans net scans = Finds (List State) (Meaning net scans.items) (λ ws. Says (told net scans ws))
+-- the world after all events of the run is left
+abbrev pub leaves_world : Setup → List Fault → Scans → Left → Type 0
+leaves_world setup faults scans left = left.world ≡ Some (after_events (events (machines_in setup) scans.items faults) (first_world setup))
 
--- the trace of this name is run
-abbrev pub run_named : Network → List ℕ → Asking
-run_named net trace = Asks trace (λ text. answer_scans net (scans_of text net))
+-- the scans of a trace have the lines of what they mean, up to where the channels trip
+abbrev pub answer_scans : Network → Setup → List Fault → Scans → Asking
+answer_scans net setup faults scans =
+    Leaves (leaves_world setup faults scans) (Finds (List State) (Meaning net scans.items) (λ ws. Says (told net (trips_of setup faults scans) scans ws)))
+
+-- the trace of this name is run, where these faults strike
+abbrev pub run_named : Network → Setup → List Fault → List ℕ → Asking
+run_named net setup faults trace = Asks trace (λ text. answer_scans net setup faults (scans_of text net))
+
+-- what never changes of an application's world is found: both compilers' code, the sizes, and the budgets of turns
+abbrev pub with_setup : Network → (Setup → Asking) → Asking
+with_setup net next = Finds Setup (IsSetupOf net) next
+
+-- a fault file that is refused has its line, and with the faults of another the program goes on
+abbrev pub unless_refused : (List Fault → Asking) → List Fault → Option Refusal → Asking
+unless_refused next faults None = next faults
+unless_refused next faults (Some refusal) = Says (answer (refusal_text refusal) BadInput)
+
+-- the faults of the file of this name
+abbrev pub with_faults : Setup → List ℕ → (List Fault → Asking) → Asking
+with_faults setup faults next = Asks faults (λ text. let list = faults_of text (region_sizes setup) in unless_refused next list.faults list.refusal)
+
+-- an application's trace is run without faults
+abbrev pub run_quietly : List ℕ → Network → Asking
+run_quietly trace net = with_setup net (λ setup. run_named net setup [] trace)
+
+-- an application's trace is run, where the faults of a file strike
+abbrev pub run_struck : (trace faults : List ℕ) → Network → Asking
+run_struck trace faults net = with_setup net (λ setup. with_faults setup faults (λ list. run_named net setup list trace))
 
 -- `run APP TRACE`: the application is accepted, and then its trace is run
 abbrev pub run : List ℕ → List ℕ → Asking
-run app trace = accepted app (λ net. run_named net trace)
+run app trace = accepted app (run_quietly trace)
+
+-- `fault APP TRACE FAULTS`: the same, where the faults of a file strike
+abbrev pub fault : (app trace faults : List ℕ) → Asking
+fault app trace faults = accepted app (run_struck trace faults)
 
 -- ---- verify
 
@@ -127,6 +200,7 @@ verify app cert = Asks app (λ source. Finds Reading (IsResolvedAs source) (with
 -- what is said to words that ask this
 abbrev pub said : Command → Asking
 said (Run app trace) = run app trace
+said (FaultWords app trace faults) = fault app trace faults
 said (Check app) = check app
 said (Cert app) = cert app
 said (Verify app cert) = verify app cert

@@ -1,12 +1,15 @@
 // What a call leaves behind.
 
 use ps_checker::Checked;
+use ps_world::World;
 
 /// What a call of the program worked with, for the caller to look at.
 #[derive(Drop)]
 pub struct Left {
     /// The certificate that was checked: the number of the application's nodes, and that of the certificate's lines.
     pub checked: Option<Checked>,
+    /// The world of two channels that a run ended with.
+    pub world: Option<World>,
 }
 
 impl Left {
@@ -14,8 +17,12 @@ impl Left {
 
     /// Nothing is left yet. It takes no memory.
     pub fn new() -> Left
-        ensures { result.checked ≡ None }
+        ensures checked { result.checked ≡ None }
+        ensures world { result.world ≡ None }
     {
-        Left { checked: None }
+        Left {
+            checked: None,
+            world: None,
+        }
     }
 }

@@ -2,7 +2,8 @@
 //!
 //! `program` has the call that does all that the program does, by the definition `text`. One room for each command:
 //! `checking`, `certifying`, `verifying`, `running`; `saying` writes short answers. The loop over a trace is in `items`, over
-//! what performs a scan (`performing`) and what takes what comes of it (`taking`). `left` is what a call leaves behind.
+//! what performs a scan (`performing`, which is a world that faults strike, `striking`) and what takes what comes of it
+//! (`taking`). `left` is what a call leaves behind.
 #![tactic(auto)]
 
 mod certifying;
@@ -14,6 +15,7 @@ mod performing;
 mod program;
 mod running;
 mod saying;
+mod striking;
 mod taking;
 mod verifying;
 
@@ -30,9 +32,9 @@ pub enum Status {
     Refused,
     /// The words are not taken.
     Usage,
-    /// The certificate is refused, by a rule C or O, or the trace, by a rule T.
+    /// The certificate is refused, by a rule C or O, or the fault file, by a rule F, or the trace, by a rule T.
     BadInput,
-    /// A scan tripped.
+    /// A scan tripped, and the trace was read to its end.
     Tripped,
     /// A file could not be read.
     ReadFault,

@@ -5,15 +5,13 @@ ghost use Rattle.ps_model.specs.Meaning.Item.{scan as scan_item, restart as rest
 ghost use Rattle.ps_model.specs.Meaning.{Item};
 ghost use Rattle.ps_model.specs.Network.{Network, input_count, instance_count};
 ghost use Rattle.ps_top.specs.Outcomes.{Outcome, anew, outcome_of};
-ghost use Rattle.ps_top.specs.Performing.{IsWorldFor, Performs};
+ghost use Rattle.ps_top.specs.Performing.{IsStruckWorldFor, Performs};
 
+use crate::striking::StruckWorld;
 use ps_base::Refusal;
 use ps_model::app::App;
 use ps_model::channel::Verdict;
-use ps_model::laws::one_solution;
 use ps_model::report::{Report, Scan};
-use ps_world::World;
-use ps_world::laws::quiet_worlds_release;
 
 /// What performs the scans and restarts of an application, one after another.
 ///
@@ -58,13 +56,13 @@ pub(crate) trait Performer {
         ensures due { earliest self.new ≤ earliest self.old };
 }
 
-/// The world of two channels, with no faults: it releases each scan and refuses none.
-impl Performer for World {
+/// The world of two channels that faults strike: it makes each scan by its events, and refuses none.
+impl Performer for StruckWorld {
     type Verdict = Verdict;
 
-    ghost fits = { IsWorldFor };
+    ghost fits = { IsStruckWorldFor };
 
-    ghost earliest = { λ world. world.state.last };
+    ghost earliest = { λ p. p.world.state.last };
 
     ghost performs = { Performs };
 
@@ -74,15 +72,10 @@ impl Performer for World {
         scan: &Scan,
         report: &mut Report,
     ) -> Result<Verdict, Refusal> {
-        app.sound();
-        one_solution(app);
-        quiet_worlds_release(app);
-        let _time = scan.now;
-        Ok(self.make_scan(scan, &[], report))
+        Ok(self.make_scan(app, scan, report))
     }
 
-    fn perform_restart(&mut self, app: &App) {
-        quiet_worlds_release(app);
-        self.restart();
+    fn perform_restart(&mut self, _app: &App) {
+        self.world.restart();
     }
 }

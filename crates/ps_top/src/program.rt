@@ -13,7 +13,7 @@ use crate::Status;
 use crate::certifying::cert;
 use crate::checking::check;
 use crate::left::Left;
-use crate::running::run;
+use crate::running::{fault, run};
 use crate::saying::say;
 use crate::verifying::verify;
 use ps_outside::{Files, Sink};
@@ -37,6 +37,7 @@ fn do_words<F: Files, S: Sink>(
     match command_of(words) {
         Command::NotTaken => say(out, USAGE, Status::Usage),
         Command::Run { app, trace } => run(alloc, app, trace, files, out, left),
+        Command::Fault { app, trace, faults } => fault(alloc, app, trace, faults, files, out, left),
         Command::Check { app } => check(alloc, app, files, out, left),
         Command::Cert { app } => cert(alloc, app, files, out, left),
         Command::Verify { app, cert } => verify(alloc, app, cert, files, out, left),

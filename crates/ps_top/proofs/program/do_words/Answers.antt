@@ -1,6 +1,6 @@
 use Rattle.std.proofs.Common.{[], arith}
 use Rattle.ps_words.specs.Command.{usage_line}
-use Rattle.ps_words.specs.Command.Command.{Run, Check, Cert, Verify, NotTaken}
+use Rattle.ps_words.specs.Command.Command.{Run, Fault, Check, Cert, Verify, NotTaken}
 use Rattle.ps_top.specs.Program.{answer}
 use Rattle.ps_top.specs.declared.Status.TheVariants.{Usage}
 use Rattle.ps_top.proofs.Calling.{files_same, said_answers}
@@ -24,3 +24,7 @@ returns-in-Cert-clause-answers g c = words_answer c.args.words.now (Cert c.in-Ce
 pub returns-in-Verify-clause-answers : goal.returns-in-Verify-clause-answers
 returns-in-Verify-clause-answers g c =
     words_answer c.args.words.now (Verify c.in-Verify.app.now c.in-Verify.cert.now) _ _ _ _ _ c.verify.result c.in-Verify.ensures c.verify.ensures.answers
+
+pub returns-in-Fault-clause-answers : goal.returns-in-Fault-clause-answers
+returns-in-Fault-clause-answers g c =
+    words_answer c.args.words.now (Fault c.in-Fault.app.now c.in-Fault.trace.now c.in-Fault.faults.now) _ _ _ _ _ c.fault.result c.in-Fault.ensures c.fault.ensures.answers

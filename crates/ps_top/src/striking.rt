@@ -1,0 +1,117 @@
+// A world of two channels that the faults of a list strike.
+
+ghost use Rattle.std.specs.Prelude.{◌≡◌, ◌⊎◌, ◌≤◌, ◌<◌, suc, All, [], take, drop, length, IfOk};
+ghost use Rattle.std.specs.List.Sorted.{IsNonDecreasingBy};
+ghost use Rattle.ps_model.specs.declared.channel.Fault.{Fault};
+ghost use Rattle.ps_model.specs.Network.{Network, input_count, instance_count};
+ghost use Rattle.ps_trace.specs.FaultOrder.{AreInOrder, AreOfOneChannel};
+ghost use Rattle.ps_world.specs.Whole.{IsWorldOf};
+
+ghost use Rattle.ps_top.specs.Performing.{trips_with};
+
+use ps_model::app::App;
+use ps_model::channel::{Fault, Verdict};
+use ps_model::report::{Report, Scan};
+use ps_trace::Faults;
+use ps_world::World;
+
+/// A world of two channels, with the faults of a run and how far the run has come.
+#[derive(Drop)]
+pub(crate) struct StruckWorld {
+    pub(crate) world: World,
+    // in the order in which they strike
+    pub(crate) faults: Faults,
+    // the place of the first fault that is still to come
+    pub(crate) next: usize,
+    // how many scans were made; they are counted while faults are still to come
+    pub(crate) scans: u32,
+    // whether a scan tripped, in the whole run
+    pub(crate) tripped: bool,
+}
+
+// How many of these faults, which come in order, are of this scan or an earlier one: they stand first.
+fn count_upto(faults: &[Fault], scan: u32) -> usize
+    requires { IsNonDecreasingBy (λ (f : Fault). f.scan) faults.now }
+    ensures within { result ≤ length faults.now }
+    ensures upto { All (λ f. f.scan ≤ scan) (take result faults.now) }
+    ensures later { All (λ f. scan < f.scan) (drop result faults.now) }
+{
+    faults.partition_point(|fault| fault.scan <= scan)
+}
+
+// The number of the scan behind so many, counted while faults are still to come.
+fn number_behind(scans: u32, faults: &[Fault]) -> u32
+    requires { All (λ f. scans < f.scan) faults.now }
+    ensures { (faults.now ≡ []) ⊎ (result ≡ suc scans) }
+{
+    match faults {
+        [] => scans,
+        [first, ..] => {
+            prove!(scans < first.scan);
+            scans + 1
+        }
+    }
+}
+
+// The faults from a place on.
+fn faults_from(faults: &[Fault], place: usize) -> &[Fault]
+    requires { place ≤ length faults.now }
+    ensures { result.now ≡ drop place faults.now }
+{
+    &faults[place..]
+}
+
+// Whether a scan with this verdict trips.
+fn is_trip(verdict: Verdict) -> bool
+    ensures { result ≡ trips_with verdict }
+{
+    matches!(verdict, Verdict::Tripped(_))
+}
+
+impl StruckWorld {
+    ghost use Rattle.ps_top.specs.Outcomes.{performed};
+    ghost use Rattle.ps_top.specs.Performing.{IsStruckWorldFor, MakesScan};
+    ghost use Rattle.ps_top.specs.Running.{IsBeginning};
+
+    /// A run at its beginning, with faults that come in order and strike one channel. No scan is before the first, so a fault
+    /// of a scan 0 would never strike.
+    pub(crate) fn new(world: World, faults: Faults) -> StruckWorld
+        requires ordered { AreInOrder faults }
+        requires one_channel { AreOfOneChannel faults }
+        ensures begins { (net : Network) → IsWorldOf net world → IsBeginning net result }
+        ensures world { result.world ≡ world }
+        ensures faults { result.faults ≡ faults }
+    {
+        let next = count_upto(faults.as_slice(), 0);
+        StruckWorld {
+            world,
+            faults,
+            next,
+            scans: 0,
+            tripped: false,
+        }
+    }
+
+    /// Makes the next scan by its events, with the faults that are due. It takes no memory.
+    pub(crate) fn make_scan(&mut self, app: &App, scan: &Scan, report: &mut Report) -> Verdict
+        requires fits { IsStruckWorldFor app.now self.old }
+        requires due { self.old.world.state.last ≤ scan.now.now }
+        requires inputs { length scan.now.ins ≡ input_count app.now }
+        requires outputs { length report.old.outs ≡ length app.now.outputs }
+        requires diagnoses { length report.old.diags ≡ instance_count app.now }
+        ensures makes { MakesScan app.now self.old scan.entry.now.now scan.entry.now.ins (performed scan.entry.now.now result report.new) self.new }
+        ensures fits { IsStruckWorldFor app.now self.new }
+        ensures last { self.new.world.state.last ≤ scan.entry.now.now }
+        ensures outputs { length report.new.outs ≡ length app.now.outputs }
+        ensures diagnoses { length report.new.diags ≡ instance_count app.now }
+    {
+        let to_come = faults_from(self.faults.as_slice(), self.next);
+        let number = number_behind(self.scans, to_come);
+        let due = count_upto(to_come, number);
+        let verdict = self.world.make_scan(scan, &to_come[..due], report);
+        self.scans = number;
+        self.next += due;
+        self.tripped |= is_trip(verdict);
+        verdict
+    }
+}

@@ -69,7 +69,7 @@ only_at P name (suc k) other lt is p = absurd (omega (arith, lt))
 pub any_only : (P : List ℕ → Type 0) (name : List ℕ) → Any P (name ∷ []) → P name
 any_only P name any = only_at P name any.0 any.1 any.2 any.3 any.4
 
-memory_causes : (names : List (List ℕ)) {files files' : FilesSeen} (out : OutputSeen) → KeepsFiles files files' → Causes names files files' out out Memory
+pub memory_causes : (names : List (List ℕ)) {files files' : FilesSeen} (out : OutputSeen) → KeepsFiles files files' → Causes names files files' out out Memory
 memory_causes names out keeps = record {
   read_fault = λ is. cc;
   write_fault = λ is. cc;
@@ -218,4 +218,13 @@ answers_behind asking rest name names files files1 files' out out' left status k
   leaves = λ tells not_cut.
       (goes tells).leaves not_cut (subst (λ (h : List ℕ → Option (List ℕ)). IsLeft rest h left) keeps.held (answers.leaves (still_tells keeps tells) not_cut));
   causes = causes_behind name keeps answers.causes;
+}
+
+-- a call that found something, and did what it goes on as
+pub found_of_all : (X : Type 0) (Fits : X → Type 0) (next : X → Asking) (names : List (List ℕ)) (files files' : FilesSeen) (out out' : OutputSeen) (left : Left) (status : Status) (x : X) → Fits x →
+    Answers (next x) names files files' out out' left status → Answers (Finds X Fits next) names files files' out out' left status
+found_of_all X Fits next names files files' out out' left status x fits answers = record {
+  meets = λ tells. later_meets (Finds X Fits next) (next x) files files files' out out' left status (files_same files) (finds_on files.held left status X Fits next x fits) (answers.meets tells);
+  leaves = λ tells not_cut. (x, fits, answers.leaves tells not_cut);
+  causes = answers.causes;
 }

@@ -7,6 +7,7 @@ mod Standing
 mod Joined
 mod Timely
 mod Meant
+mod Faulted
 mod Setups
 mod Doing
 mod Judged

@@ -20,7 +20,8 @@ use Rattle.ps_world.specs.Lists.{is_same}
 use Rattle.ps_world.specs.Orders.{other, events, run_events}
 use Rattle.ps_world.specs.Answers.{AreTimely, SpareChannel, ReleaseRight, RunsAreRight, answers_of_run}
 use Rattle.ps_world.specs.Whole.{Setup, Whole, machines_in, after_events, IsSetupOf, IsWorldOf}
-use Rattle.ps_top.specs.Asking.{Answer, IsAnswer}
+use Rattle.ps_top.specs.Asking.{Answer, IsAnswer, IsLeft}
+use Rattle.ps_top.specs.declared.left.Left.{Left}
 use Rattle.ps_top.specs.Program.{answer, told, item_lines, end_line, trips_of, first_world, answer_scans}
 use Rattle.ps_top.specs.Resting.{answered, ran, answer_lines, any_trips, status_of, run_answer}
 use Rattle.ps_top.specs.declared.Status.TheVariants.{BadInput}
@@ -50,9 +51,9 @@ module _ (net : Network) (sound : IsSound net) (faults : List Fault) (one : AreO
       let run = one_run net sound nothing scans.items in
       let spared = one_spared faults one in
       let released : ReleaseRight net (answers_of_run net m scans.items faults) run.0 = right scans.items faults run.0 spared.0 timely spared.1 run.1 in
-      (run.0, (run.1, is
+      (run.0, run.1, is
           ∙ (λ i. answer (answer_lines net scans.items (answered net faults 1 scans.items (at_first i)) ++ end_line scans.end) (status_of scans.end (any_trips (answered net faults 1 scans.items (at_first i)))))
-          ∙ (λ i. answer (lines_are_meant net m faults scans.items run.0 released i ++ end_line scans.end) (status_is_meant net m faults scans.end scans.items i))))
+          ∙ (λ i. answer (lines_are_meant net m faults scans.items run.0 released i ++ end_line scans.end) (status_is_meant net m faults scans.end scans.items i)))
     where
       at_first : w ≡ first_world w.setup
       at_first = λ i. record { setup = w.setup; state = built.beginning i }
@@ -60,7 +61,7 @@ module _ (net : Network) (sound : IsSound net) (faults : List Fault) (one : AreO
   -- a trace whose header is refused
   pub refusal_answers : (held : List ℕ → Option (List ℕ)) (scans : Scans) (r : Refusal) (said : Answer) → scans ≡ only_refused r → said ≡ answer (refusal_text r) BadInput →
       IsAnswer (answer_scans net w.setup faults scans) held said
-  refusal_answers held scans r said is e = subst (λ (s : Scans). IsAnswer (answer_scans net w.setup faults s) held said) (sym is) ([], (refl, e))
+  refusal_answers held scans r said is e = subst (λ (s : Scans). IsAnswer (answer_scans net w.setup faults s) held said) (sym is) ([], refl, e)
 
   -- the world behind a run is that of all its events
   pub ran_is : (scans : Scans) → ran faults 1 scans.items w ≡ after_events (events (machines_in w.setup) scans.items faults) (first_world w.setup)
@@ -68,3 +69,14 @@ module _ (net : Network) (sound : IsSound net) (faults : List Fault) (one : AreO
     where
       after_run : World_state → World_state
       after_run x = after (machines_in w.setup) (run_events (machines_in w.setup) faults 1 scans.items x) x
+
+  -- what is left of a run whose world this is
+  pub run_leaves : (scans scans' : Scans) → scans ≡ scans' → (held : List ℕ → Option (List ℕ)) (behind : Whole) (left : Left) → left.world ≡ Some behind → behind ≡ ran faults 1 scans.items w →
+      IsLeft (answer_scans net w.setup faults scans') held left
+  run_leaves scans scans' same held behind left is_left ends =
+      let run = one_run net sound nothing scans'.items in
+      (is_left ∙ ap (λ (x : Whole). Some x) (ends ∙ ap (λ (s : Scans). ran faults 1 s.items w) same ∙ ran_is scans'), (run.0, run.1, tt))
+
+  -- and of one whose trace's header is refused: the world at the beginning
+  pub refusal_leaves : (scans : Scans) (r : Refusal) → scans ≡ only_refused r → (held : List ℕ → Option (List ℕ)) (left : Left) → left.world ≡ Some w → IsLeft (answer_scans net w.setup faults scans) held left
+  refusal_leaves scans r is held left is_left = run_leaves (only_refused r) scans (sym is) held w left is_left refl

@@ -23,9 +23,9 @@ use Rattle.ps_world.specs.Answers.{AreTimely}
 
 -- what holds of both cases of a test
 by_test : {X : Type 0} (P : X → Type 0) (b : Bool) (x y : X) → (b ≡ true → P x) → (b ≡ false → P y) → P (cond b x y)
-by_test P b x y passes fails = elim (cases_Bool b) [
-  | inl is ↦ subst (λ c. P (cond c x y)) (sym is) (passes is)
-  | inr is ↦ subst (λ c. P (cond c x y)) (sym is) (fails is)
+by_test P b x y on_true on_false = elim (cases_Bool b) [
+  | inl is ↦ subst (λ c. P (cond c x y)) (sym is) (on_true is)
+  | inr is ↦ subst (λ c. P (cond c x y)) (sym is) (on_false is)
 ]
 
 -- ---- Scan lines.

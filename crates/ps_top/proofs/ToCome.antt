@@ -11,7 +11,8 @@ use Rattle.ps_model.specs.declared.channel.Fault.{Fault}
 use Rattle.ps_trace.specs.FaultOrder.{AreInOrder}
 use Rattle.ps_world.specs.Orders.{of_scan}
 use Rattle.ps_model.specs.Network.{Network}
-use Rattle.ps_top.specs.Performing.{to_come, due}
+use Rattle.ps_world.specs.Worlds.{World_state}
+use Rattle.ps_top.specs.Performing.{to_come, due, IsStruckWorldFor}
 use Rattle.ps_top.specs.Running.{IsBeginning}
 use Rattle.ps_top.specs.declared.striking.StruckWorld.{StruckWorld}
 
@@ -87,6 +88,16 @@ pub record Stands (all : List Fault) (done : ℕ) (p : StruckWorld) : Type 0 whe
 -- at the beginning none was made
 pub first_stands : (net : Network) (p : StruckWorld) → IsBeginning net p → Stands p.faults 0 p
 first_stands net p begins = record { same = λ n lt. later_in_rest n 0 p.next p.faults lt begins.passed_over; counted = inr begins.none_made }
+
+-- and its world takes the first scan
+pub first_fits : (net : Network) (p : StruckWorld) → IsBeginning net p → IsStruckWorldFor net p
+first_fits net p begins = record {
+  setup = begins.world.setup;
+  rest = ap (λ (x : World_state). x.begun) begins.world.beginning;
+  within = begins.within;
+  ordered = IsNonDecreasingBy-drop (λ (f : Fault). f.scan) p.next p.faults (in_order_of_scans p.faults begins.ordered);
+  later = subst (λ n. All (λ f. n < f.scan) (to_come p)) (sym begins.none_made) begins.later;
+}
 
 -- the faults that are due are those of the next scan
 pub due_of_scan : (all : List Fault) (done : ℕ) (p : StruckWorld) → Stands all done p → due p ≡ of_scan (suc done) all

@@ -11,6 +11,7 @@ ghost use Rattle.ps_top.specs.Asking.{IsLeft};
 ghost use Rattle.ps_top.specs.declared.left.Left.{Left as LeftBehind};
 ghost use Rattle.ps_top.specs.Performing.{IsStruckWorldFor};
 ghost use Rattle.ps_top.specs.Program as program;
+ghost use Rattle.ps_top.specs.Refusing.{SaysNoFaults};
 ghost use Rattle.ps_top.specs.Resting.{ran, run_answer};
 ghost use Rattle.ps_top.specs.Running.{Fits, IsBeginning};
 ghost use Rattle.ps_trace.specs.Reading.{IsReadingTrace, file_of, input_count_of, items_left, last_of, refusal_of};
@@ -178,6 +179,18 @@ fn run_quietly<F: Files, S: Sink>(
     }
 }
 
+// Says why a fault file gives no faults.
+fn refuse_faults<S: Sink>(out: &mut S, why: TraceFail) -> Status
+    ensures says { SaysNoFaults why (output_seen S.tells S.taken S.faults out.old) (output_seen S.tells S.taken S.faults out.new) result }
+    ensures no_usage { result ≢ Status.Usage }
+{
+    match why {
+        TraceFail::Refused(refusal) => say_refused(out, &refusal, Status::BadInput),
+        TraceFail::Memory => Status::Memory,
+        TraceFail::Fault => Status::ReadFault,
+    }
+}
+
 // Runs the trace of this name, where the faults of a file strike this world.
 fn run_faults<F: Files, S: Sink>(
     alloc: Global,
@@ -197,14 +210,13 @@ fn run_faults<F: Files, S: Sink>(
     ensures checked { left.new.checked ≡ left.old.checked }
     ensures no_usage { result ≢ Status.Usage }
 {
-    match read_faults(alloc, files, faults, &world.sizes()) {
+    let sizes = world.sizes();
+    match read_faults(alloc, files, faults, &sizes) {
         Ok(faults) => {
             let world = StruckWorld::new(world, faults);
             run_named(alloc, app, trace, world, files, out, left)
         }
-        Err(TraceFail::Refused(refusal)) => say_refused(out, &refusal, Status::BadInput),
-        Err(TraceFail::Memory) => Status::Memory,
-        Err(TraceFail::Fault) => Status::ReadFault,
+        Err(why) => refuse_faults(out, why),
     }
 }
 

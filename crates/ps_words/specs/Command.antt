@@ -10,7 +10,6 @@ is_plain (b ∷ bytes) = not (b == 45)
 -- what the words ask of the program: a command with the names of its files, or nothing that is taken
 pub data Command : Type 0 where
   Run : (app trace : List ℕ) → Command
-  Fault : (app trace faults : List ℕ) → Command
   Check : (app : List ℕ) → Command
   Cert : (app : List ℕ) → Command
   Verify : (app cert : List ℕ) → Command
@@ -24,21 +23,15 @@ one_name name app = if bytes_eq name (codes "check") then Check app else if byte
 abbrev pub two_names : List ℕ → List ℕ → List ℕ → Command
 two_names name app other = if bytes_eq name (codes "run") then Run app other else if bytes_eq name (codes "verify") then Verify app other else NotTaken
 
--- the name of a command and three names of files
-abbrev pub three_names : List ℕ → List ℕ → List ℕ → List ℕ → Command
-three_names name app trace faults = if bytes_eq name (codes "fault") then Fault app trace faults else NotTaken
-
 -- words are taken where they are the name of a command and so many plain words as it has names of files
 abbrev pub command_of : List (List ℕ) → Command
 command_of (name ∷ app ∷ []) = if is_plain app then one_name name app else NotTaken
 command_of (name ∷ app ∷ other ∷ []) = if is_plain app && is_plain other then two_names name app other else NotTaken
-command_of (name ∷ app ∷ other ∷ third ∷ []) = if is_plain app && (is_plain other && is_plain third) then three_names name app other third else NotTaken
 command_of words = NotTaken
 
--- the names of files that a command gives, in the order in which their texts are asked for
+-- the names of files that a command gives
 abbrev pub names_of : Command → List (List ℕ)
 names_of (Run app trace) = app ∷ trace ∷ []
-names_of (Fault app trace faults) = app ∷ faults ∷ trace ∷ []
 names_of (Check app) = app ∷ []
 names_of (Cert app) = app ∷ []
 names_of (Verify app cert) = app ∷ cert ∷ []
@@ -46,4 +39,4 @@ names_of NotTaken = []
 
 -- the forms of the commands
 abbrev pub usage_line : List ℕ
-usage_line = codes "usage: plcsafe run APP TRACE | fault APP TRACE FAULTS | check APP | cert APP | verify APP CERT\n"
+usage_line = codes "usage: plcsafe run APP TRACE | check APP | cert APP | verify APP CERT\n"

@@ -7,19 +7,13 @@ ghost use Rattle.ps_words.specs.Seen.{command_seen};
 use crate::words::Words;
 
 /// The forms of the commands, as one line.
-pub const USAGE: &[u8] = b"usage: plcsafe run APP TRACE | fault APP TRACE FAULTS | check APP | cert APP | verify APP CERT\n";
+pub const USAGE: &[u8] = b"usage: plcsafe run APP TRACE | check APP | cert APP | verify APP CERT\n";
 
 /// What the words ask of the program.
 #[derive(Clone, Copy)]
 pub enum Command<'a> {
     /// `run APP TRACE`
     Run { app: &'a str, trace: &'a str },
-    /// `fault APP TRACE FAULTS`
-    Fault {
-        app: &'a str,
-        trace: &'a str,
-        faults: &'a str,
-    },
     /// `check APP`
     Check { app: &'a str },
     /// `cert APP`
@@ -62,22 +56,12 @@ fn two_names<'a>(name: &str, app: &'a str, other: &'a str) -> Command<'a>
     }
 }
 
-// What a command with three names of files asks.
-fn three_names<'a>(name: &str, app: &'a str, trace: &'a str, faults: &'a str) -> Command<'a>
-    ensures { command_seen result ≡ asked.three_names name.now app.now trace.now faults.now }
-{
-    match name {
-        "fault" => Command::Fault { app, trace, faults },
-        _ => Command::NotTaken,
-    }
-}
-
 /// What the words ask of the program. `NotTaken` comes exactly where the words are no command with its names of files,
 /// each a word that is neither empty nor begins with a hyphen. It takes no memory.
 pub fn command_of(words: &Words) -> Command<'_>
     ensures { command_seen result ≡ asked.command_of words.now }
 {
-    if words.len() < 2 || words.len() > 4 {
+    if words.len() < 2 || words.len() > 3 {
         return Command::NotTaken;
     }
     let name = words.at(0).as_str();
@@ -89,15 +73,8 @@ pub fn command_of(words: &Words) -> Command<'_>
         return one_name(name, app);
     }
     let other = words.at(2).as_str();
-    if !is_plain(other) {
-        return Command::NotTaken;
-    }
-    if words.len() == 3 {
-        return two_names(name, app, other);
-    }
-    let third = words.at(3).as_str();
-    if is_plain(third) {
-        three_names(name, app, other, third)
+    if is_plain(other) {
+        two_names(name, app, other)
     } else {
         Command::NotTaken
     }

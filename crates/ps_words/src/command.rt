@@ -11,8 +11,7 @@ use ps_base::Memory;
 use std::alloc::Global;
 
 /// The forms of the commands that the program has, as one line.
-pub const USAGE: &[u8] =
-    b"usage: plcsafe run APP TRACE | fault APP TRACE FAULTS | check APP | cert APP | verify APP CERT\n";
+pub const USAGE: &[u8] = b"usage: plcsafe run APP TRACE | check APP | cert APP | verify APP CERT\n";
 
 /// What the words ask of the program.
 #[derive(Clone, Copy)]
@@ -76,12 +75,12 @@ impl<'a> Command<'a> {
     {
         match self {
             Command::Run { .. }
-            | Command::Fault { .. }
             | Command::Check { .. }
             | Command::Cert { .. }
             | Command::Verify { .. }
             | Command::NotTaken => true,
-            Command::Image { .. }
+            Command::Fault { .. }
+            | Command::Image { .. }
             | Command::Load { .. }
             | Command::Demand { .. }
             | Command::Vote { .. }
@@ -127,6 +126,14 @@ fn begins_above_zero(word: &str) -> bool
     }
 }
 
+// Whether a number is from 1 to 1000.
+fn is_within(number: u32) -> bool
+    ensures within { result ≡ true → (1 ≤ number) × (number ≤ 1000) }
+    ensures outside { result ≡ false → (number < 1) ⊎ (1000 < number) }
+{
+    number >= 1 && number <= 1000
+}
+
 // What `load` asks with this word.
 fn load<'a>(word: &str) -> Command<'a>
     ensures { command_seen result ≡ asked.load word.now }
@@ -136,7 +143,7 @@ fn load<'a>(word: &str) -> Command<'a>
     }
     match word.parse::<u32>() {
         Ok(number) => {
-            if number >= 1 && number <= 1000 {
+            if is_within(number) {
                 Command::Load { number }
             } else {
                 Command::NotTaken

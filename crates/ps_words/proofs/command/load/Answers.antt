@@ -2,11 +2,12 @@ use Rattle.std.proofs.Common.{Ok, Err, arith}
 use Rattle.ps_words.proofs.Numbers.{reads, read_taken, not_read}
 use Rattle.ps_words.proofs.command.load.Goals as goal
 
-pub returns-then-number-le1000 : goal.returns-then-number-le1000
-returns-then-number-le1000 c =
+pub returns-then-is_within : goal.returns-then-is_within
+returns-then-is_within c =
     let digit = c.if-not-begins_above_zero.ensures.digit (grind arith) in
     let r = reads {E = Unit {0}} c.args.word.now (Ok c.in-Ok.number) digit.0 digit.1 c.in-Ok.ensures.value.0 in
-    read_taken c.args.word.now c.in-Ok.number digit.0 (omega arith) (omega arith) (r.0.0, r.1)
+    let within = c.if-is_within.ensures.within (grind arith) in
+    read_taken c.args.word.now c.in-Ok.number digit.0 within.0 within.1 (r.0.0, r.1)
 
 pub returns-in-Err : goal.returns-in-Err
 returns-in-Err c =

@@ -86,18 +86,18 @@ is_built NotTaken = true
 abbrev pub command_of : List (List ℕ) → Command
 command_of words = if list_all is_plain words && is_built (form_of words) then form_of words else NotTaken
 
--- the names of files that a command gives
+-- the names of files that a command gives, in the order in which their texts are asked for
 abbrev pub names_of : Command → List (List ℕ)
 names_of (Run app trace) = app ∷ trace ∷ []
-names_of (Fault app trace faults) = app ∷ trace ∷ faults ∷ []
+names_of (Fault app trace faults) = app ∷ faults ∷ trace ∷ []
 names_of (Check app) = app ∷ []
 names_of (Cert app) = app ∷ []
 names_of (Verify app cert) = app ∷ cert ∷ []
 names_of (Image app) = app ∷ []
 names_of (Load number) = []
 names_of (Demand app) = app ∷ []
-names_of (Vote app trace faults) = app ∷ trace ∷ faults ∷ []
-names_of (Heal app trace faults) = app ∷ trace ∷ faults ∷ []
+names_of (Vote app trace faults) = app ∷ faults ∷ trace ∷ []
+names_of (Heal app trace faults) = app ∷ faults ∷ trace ∷ []
 names_of NotTaken = []
 
 -- the forms of the commands that the program has

@@ -15,7 +15,7 @@ use Rattle.ps_trace.specs.Faults.{faults_of}
 use Rattle.ps_trace.specs.Scans.{Scans, scans_of}
 use Rattle.ps_world.specs.Whole.{Setup, IsSetupOf}
 use Rattle.ps_words.specs.Command.{Command, command_of}
-use Rattle.ps_words.specs.Command.Command.{Run, Fault as FaultWords, Check, Cert, Verify, NotTaken}
+use Rattle.ps_words.specs.Command.Command.{Run, Fault as FaultWords, Check, Cert, Verify, Image, Load, Demand, Vote, Heal, NotTaken}
 use Rattle.ps_top.specs.Asking.{Answer, Asking, IsAnswer, AsksFor}
 use Rattle.ps_top.specs.Asking.Asking.{Says, Asks, Finds, Leaves}
 use Rattle.ps_top.specs.Program.{Judged, Judges, verdict, leaves_checked, with_application, accepted, leaves_world, region_sizes, trips_of, unless_refused, with_faults, run_quietly, run_struck, answer_scans, run_named, verify_named, verify, said, told, text}
@@ -125,6 +125,11 @@ module _ (held : List ℕ → Option (List ℕ)) where
   said_determined (Check app) = accepted_determined app _ (λ s net r. says_determined held _)
   said_determined (Cert app) = accepted_determined app _ (λ s net r. says_determined held _)
   said_determined (Verify app c) = verify_determined app c
+  said_determined (Image app) = says_determined held _
+  said_determined (Load number) = says_determined held _
+  said_determined (Demand app) = says_determined held _
+  said_determined (Vote app trace faults) = says_determined held _
+  said_determined (Heal app trace faults) = says_determined held _
   said_determined NotTaken = says_determined held _
 
 pub one_answer : (words : List (List ℕ)) (held : List ℕ → Option (List ℕ)) (a b : Answer) → IsAnswer (text words) held a → IsAnswer (text words) held b → a ≡ b

@@ -14,7 +14,7 @@ use Rattle.ps_trace.specs.Faults.{faults_of}
 use Rattle.ps_trace.specs.Scans.{Scans, scans_of}
 use Rattle.ps_world.specs.Whole.{Setup, IsSetupOf}
 use Rattle.ps_words.specs.Command.{Command, command_of}
-use Rattle.ps_words.specs.Command.Command.{Run, Fault as FaultWords, Check, Cert, Verify, NotTaken}
+use Rattle.ps_words.specs.Command.Command.{Run, Fault as FaultWords, Check, Cert, Verify, Image, Load, Demand, Vote, Heal, NotTaken}
 use Rattle.ps_top.specs.Asking.{Answer, Asking, IsAnswer, AsksFor}
 use Rattle.ps_top.specs.Asking.Asking.{Says, Asks, Finds}
 use Rattle.ps_top.specs.Program.{Judged, Judges, verdict, with_application, accepted, region_sizes, trips_of, unless_refused, with_faults, run_quietly, run_struck, answer_scans, run_named, verify_named, verify, said, told, text}
@@ -97,6 +97,11 @@ module _ (held : List ℕ → Option (List ℕ)) where
     said_some (Check app) = accepted_some app _ (λ s net r. says_some _)
     said_some (Cert app) = accepted_some app _ (λ s net r. says_some _)
     said_some (Verify app c) = verify_some app c
+    said_some (Image app) = says_some _
+    said_some (Load number) = says_some _
+    said_some (Demand app) = says_some _
+    said_some (Vote app trace faults) = says_some _
+    said_some (Heal app trace faults) = says_some _
     said_some NotTaken = says_some _
 
 pub some_answer : (words : List (List ℕ)) (held : List ℕ → Option (List ℕ)) → ((source : List ℕ) → (reading : Reading) × IsAcceptedAs source reading) →

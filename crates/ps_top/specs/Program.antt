@@ -23,7 +23,7 @@ use Rattle.ps_world.specs.Whole.{Setup, Whole, machines_in, after_events, IsSetu
 use Rattle.ps_report.specs.Lines.{report_text, trip_text}
 use Rattle.ps_report.specs.Short.{refusal_text, check_text}
 use Rattle.ps_words.specs.Command.{Command, command_of, usage_line}
-use Rattle.ps_words.specs.Command.Command.{Run, Fault as FaultWords, Check, Cert, Verify, NotTaken}
+use Rattle.ps_words.specs.Command.Command.{Run, Fault as FaultWords, Check, Cert, Verify}
 use Rattle.ps_top.specs.Asking.{Answer, Asking}
 use Rattle.ps_top.specs.Asking.Asking.{Says, Asks, Finds, Leaves}
 use Rattle.ps_top.specs.Lines.{restart_line, verified_line}
@@ -197,14 +197,14 @@ verify app cert = Asks app (λ source. Finds Reading (IsResolvedAs source) (with
 
 -- ---- the words
 
--- what is said to words that ask this
+-- what is said to words that ask this; those that ask for a command that is not there get the usage line
 abbrev pub said : Command → Asking
 said (Run app trace) = run app trace
 said (FaultWords app trace faults) = fault app trace faults
 said (Check app) = check app
 said (Cert app) = cert app
 said (Verify app cert) = verify app cert
-said NotTaken = Says (answer usage_line Usage)
+said _ = Says (answer usage_line Usage)
 
 -- what the program has to say
 abbrev pub text : List (List ℕ) → Asking

@@ -16,6 +16,7 @@ use crate::left::Left;
 use crate::running::{fault, run};
 use crate::saying::say;
 use crate::verifying::verify;
+use ps_base::Memory;
 use ps_outside::{Files, Sink};
 use ps_words::{Command, USAGE, Words, command_of};
 use std::alloc::Global;
@@ -32,15 +33,25 @@ fn do_words<F: Files, S: Sink>(
         (files_seen F.tells F.held F.faults files.old) (files_seen F.tells F.held F.faults files.new)
         (output_seen S.tells S.taken S.faults out.old) (output_seen S.tells S.taken S.faults out.new) left.new result }
     ensures usage { result ≡ Status.Usage → asked.command_of words.now ≡ NotTaken }
-    ensures not_taken { asked.command_of words.now ≡ NotTaken → (result ≡ Status.Usage) ⊎ (result ≡ Status.WriteFault) }
+    ensures not_taken { asked.command_of words.now ≡ NotTaken → (result ≡ Status.Usage) ⊎ ((result ≡ Status.WriteFault) ⊎ (result ≡ Status.Memory)) }
 {
-    match command_of(words) {
+    let command = match command_of(alloc, words) {
+        Ok(command) => command,
+        Err(Memory) => return Status::Memory,
+    };
+    match command {
         Command::NotTaken => say(out, USAGE, Status::Usage),
         Command::Run { app, trace } => run(alloc, app, trace, files, out, left),
         Command::Fault { app, trace, faults } => fault(alloc, app, trace, faults, files, out, left),
         Command::Check { app } => check(alloc, app, files, out, left),
         Command::Cert { app } => cert(alloc, app, files, out, left),
         Command::Verify { app, cert } => verify(alloc, app, cert, files, out, left),
+        // `command_of` gives no command that the program does not have.
+        Command::Image { .. }
+        | Command::Load { .. }
+        | Command::Demand { .. }
+        | Command::Vote { .. }
+        | Command::Heal { .. } => unreachable!(),
     }
 }
 
@@ -83,9 +94,9 @@ pub fn top<F: Files, S: Sink>(
     ensures read_fault { result ≡ Status.ReadFault → Any (λ name. Rose (F.faults files.old name) (F.faults files.new name)) (asked.names_of (asked.command_of words.now)) }
     ensures write_fault { result ≡ Status.WriteFault → Rose (S.faults out.old) (S.faults out.new) }
 
-    // Usage comes exactly where the words are not taken, unless the output fails.
+    // Usage comes exactly where the words are not taken, unless the output fails or memory is wanting.
     ensures usage { result ≡ Status.Usage → asked.command_of words.now ≡ NotTaken }
-    ensures not_taken { asked.command_of words.now ≡ NotTaken → (result ≡ Status.Usage) ⊎ (result ≡ Status.WriteFault) }
+    ensures not_taken { asked.command_of words.now ≡ NotTaken → (result ≡ Status.Usage) ⊎ ((result ≡ Status.WriteFault) ⊎ (result ≡ Status.Memory)) }
 
     // Where nothing failed the call says all, or memory is wanting.
     ensures completes { IsTrue (F.tells files.old) →

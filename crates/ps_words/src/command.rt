@@ -1,27 +1,92 @@
-// The words of a call, and what they ask of the program.
+// What the words of a call ask of the program.
 
-ghost use Rattle.std.specs.Prelude.{◌≡◌};
+ghost use Rattle.std.specs.Prelude.{◌≡◌, ◌≤◌, ◌<◌, ◌⊎◌, IfOk, MatchOption, true, false, get_or};
+ghost use Rattle.std.specs.List.{list_all};
 ghost use Rattle.ps_words.specs.Command as asked;
-ghost use Rattle.ps_words.specs.Seen.{command_seen};
+ghost use Rattle.ps_words.specs.Seen.{command_seen, seen};
 
+use crate::parsing::is_parsed;
 use crate::words::Words;
+use ps_base::Memory;
+use std::alloc::Global;
 
-/// The forms of the commands, as one line.
+/// The forms of the commands that the program has, as one line.
 pub const USAGE: &[u8] = b"usage: plcsafe run APP TRACE | check APP | cert APP | verify APP CERT\n";
 
 /// What the words ask of the program.
 #[derive(Clone, Copy)]
 pub enum Command<'a> {
     /// `run APP TRACE`
-    Run { app: &'a str, trace: &'a str },
+    Run {
+        app: &'a str,
+        trace: &'a str,
+    },
+    /// `fault APP TRACE FAULTS`
+    Fault {
+        app: &'a str,
+        trace: &'a str,
+        faults: &'a str,
+    },
     /// `check APP`
-    Check { app: &'a str },
+    Check {
+        app: &'a str,
+    },
     /// `cert APP`
-    Cert { app: &'a str },
+    Cert {
+        app: &'a str,
+    },
     /// `verify APP CERT`
-    Verify { app: &'a str, cert: &'a str },
+    Verify {
+        app: &'a str,
+        cert: &'a str,
+    },
+    /// `image APP`
+    Image {
+        app: &'a str,
+    },
+    /// `load N`, with N from 1 to 1000
+    Load {
+        number: u32,
+    },
+    /// `demand APP`
+    Demand {
+        app: &'a str,
+    },
+    /// `vote APP TRACE FAULTS`
+    Vote {
+        app: &'a str,
+        trace: &'a str,
+        faults: &'a str,
+    },
+    /// `heal APP TRACE FAULTS`
+    Heal {
+        app: &'a str,
+        trace: &'a str,
+        faults: &'a str,
+    },
     /// The words are not taken.
     NotTaken,
+}
+
+impl<'a> Command<'a> {
+    // Whether the program has this command.
+    fn is_built(&self) -> bool
+        ensures { result ≡ asked.is_built (command_seen self.now) }
+    {
+        match self {
+            Command::Run { .. }
+            | Command::Check { .. }
+            | Command::Cert { .. }
+            | Command::Verify { .. }
+            | Command::NotTaken => true,
+            Command::Fault { .. }
+            | Command::Image { .. }
+            | Command::Load { .. }
+            | Command::Demand { .. }
+            | Command::Vote { .. }
+            | Command::Heal { .. } => false,
+        }
+    }
 }
 
 // Whether a word is neither empty nor begins with a hyphen.
@@ -34,20 +99,77 @@ fn is_plain(word: &str) -> bool
     }
 }
 
-// What a command with one name of a file asks.
-fn one_name<'a>(name: &str, app: &'a str) -> Command<'a>
-    ensures { command_seen result ≡ asked.one_name name.now app.now }
+// The texts of the words, where each of them is neither empty nor begins with a hyphen.
+fn plain_texts(alloc: Global, words: &Words) -> Result<Option<Vec<&str>>, Memory>
+    ensures { IfOk result (λ texts. MatchOption texts (list_all asked.is_plain words.now ≡ false)
+        (λ v. (seen v.items ≡ words.now) × (list_all asked.is_plain words.now ≡ true))) }
+{
+    let mut texts = Vec::new(alloc);
+    for i in 0..words.len() {
+        let text = words.at(i).as_str();
+        if !is_plain(text) {
+            return Ok(None);
+        }
+        texts.push(text)?;
+    }
+    Ok(Some(texts))
+}
+
+// Whether the first byte is a digit from 1 to 9.
+fn begins_above_zero(word: &str) -> bool
+    ensures digit { result ≡ true → (49 ≤ get_or word.now 0 0) × (get_or word.now 0 0 ≤ 57) }
+    ensures other { result ≡ false → (get_or word.now 0 0 < 49) ⊎ (57 < get_or word.now 0 0) }
+{
+    match word.as_bytes() {
+        [] => false,
+        [first, ..] => *first >= b'1' && *first <= b'9',
+    }
+}
+
+// Whether a number is from 1 to 1000.
+fn is_within(number: u32) -> bool
+    ensures within { result ≡ true → (1 ≤ number) × (number ≤ 1000) }
+    ensures outside { result ≡ false → (number < 1) ⊎ (1000 < number) }
+{
+    number >= 1 && number <= 1000
+}
+
+// What `load` asks with this word.
+fn load<'a>(word: &str) -> Command<'a>
+    ensures { command_seen result ≡ asked.load word.now }
+{
+    if !begins_above_zero(word) {
+        return Command::NotTaken;
+    }
+    match word.parse::<u32>() {
+        Ok(number) => {
+            if is_within(number) {
+                Command::Load { number }
+            } else {
+                Command::NotTaken
+            }
+        }
+        Err(_) => Command::NotTaken,
+    }
+}
+
+// What the name of a command asks with one word.
+fn one_word<'a>(name: &str, word: &'a str) -> Command<'a>
+    ensures { command_seen result ≡ asked.one_word name.now word.now }
 {
     match name {
-        "check" => Command::Check { app },
-        "cert" => Command::Cert { app },
+        "check" => Command::Check { app: word },
+        "cert" => Command::Cert { app: word },
+        "image" => Command::Image { app: word },
+        "load" => load(word),
+        "demand" => Command::Demand { app: word },
         _ => Command::NotTaken,
     }
 }
 
-// What a command with two names of files asks.
-fn two_names<'a>(name: &str, app: &'a str, other: &'a str) -> Command<'a>
-    ensures { command_seen result ≡ asked.two_names name.now app.now other.now }
+// What the name of a command asks with two words.
+fn two_words<'a>(name: &str, app: &'a str, other: &'a str) -> Command<'a>
+    ensures { command_seen result ≡ asked.two_words name.now app.now other.now }
 {
     match name {
         "run" => Command::Run { app, trace: other },
@@ -56,26 +178,50 @@ fn two_names<'a>(name: &str, app: &'a str, other: &'a str) -> Command<'a>
     }
 }
 
-/// What the words ask of the program. `NotTaken` comes exactly where the words are no command with its names of files,
-/// each a word that is neither empty nor begins with a hyphen. It takes no memory.
-pub fn command_of(words: &Words) -> Command<'_>
-    ensures { command_seen result ≡ asked.command_of words.now }
+// What the name of a command asks with three words.
+fn three_words<'a>(name: &str, app: &'a str, trace: &'a str, faults: &'a str) -> Command<'a>
+    ensures { command_seen result ≡ asked.three_words name.now app.now trace.now faults.now }
 {
-    if words.len() < 2 || words.len() > 3 {
-        return Command::NotTaken;
+    match name {
+        "fault" => Command::Fault { app, trace, faults },
+        "vote" => Command::Vote { app, trace, faults },
+        "heal" => Command::Heal { app, trace, faults },
+        _ => Command::NotTaken,
     }
-    let name = words.at(0).as_str();
-    let app = words.at(1).as_str();
-    if !is_plain(app) {
-        return Command::NotTaken;
-    }
+}
+
+// The form of a command that words have.
+fn form_of<'a>(words: &[&'a str]) -> Command<'a>
+    ensures { command_seen result ≡ asked.form_of (seen words.now) }
+{
     if words.len() == 2 {
-        return one_name(name, app);
-    }
-    let other = words.at(2).as_str();
-    if is_plain(other) {
-        two_names(name, app, other)
+        one_word(words[0], words[1])
+    } else if words.len() == 3 {
+        two_words(words[0], words[1], words[2])
+    } else if words.len() == 4 {
+        three_words(words[0], words[1], words[2], words[3])
     } else {
         Command::NotTaken
+    }
+}
+
+/// What the words ask of the program. `NotTaken` comes exactly where the words are no command that the program has with
+/// its further words, each neither empty nor beginning with a hyphen. The words are read by `clap`; an error: memory is
+/// wanting.
+pub fn command_of(alloc: Global, words: &Words) -> Result<Command<'_>, Memory>
+    ensures asked { IfOk result (λ command. command_seen command ≡ asked.command_of words.now) }
+    ensures built { IfOk result (λ command. asked.is_built (command_seen command) ≡ true) }
+{
+    let Some(texts) = plain_texts(alloc, words)? else {
+        return Ok(Command::NotTaken);
+    };
+    if !is_parsed(alloc, texts.as_slice())? {
+        return Ok(Command::NotTaken);
+    }
+    let command = form_of(texts.as_slice());
+    if command.is_built() {
+        Ok(command)
+    } else {
+        Ok(Command::NotTaken)
     }
 }

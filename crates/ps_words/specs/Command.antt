@@ -71,7 +71,7 @@ form_of words = NotTaken
 -- the program has this command
 abbrev pub is_built : Command → Bool
 is_built (Run app trace) = true
-is_built (Fault app trace faults) = false
+is_built (Fault app trace faults) = true
 is_built (Check app) = true
 is_built (Cert app) = true
 is_built (Verify app cert) = true
@@ -102,4 +102,4 @@ names_of NotTaken = []
 
 -- the forms of the commands that the program has
 abbrev pub usage_line : List ℕ
-usage_line = codes "usage: plcsafe run APP TRACE | check APP | cert APP | verify APP CERT\n"
+usage_line = codes "usage: plcsafe run APP TRACE | fault APP TRACE FAULTS | check APP | cert APP | verify APP CERT\n"

@@ -1,8 +1,6 @@
 // The tables, and the tests that each is met to its end.
 
-use crate::lines::demand_lines;
 use crate::tables::{rows_met, whole_met};
-use ps_base::{Fail, Refusal, Rule};
 
 // Three inputs, an output and three locals.
 const PLAIN: &str = "PROGRAM P \
@@ -93,44 +91,39 @@ fn kinds(rt: HostRuntime) {
     assert_eq!(rt; rows_met(rt.alloc(), (BLOCK, END), KINDS), Ok(16));
 }
 
-// Signals each of which reads the one before twice: Ln has 2 ^ n leaves.
-const DOUBLING: &str = "PROGRAM P \
-VAR_INPUT S_A : SAFEBOOL; END_VAR VAR_OUTPUT S_o : SAFEBOOL; END_VAR \
-VAR L1, L2, L3, L4, L5, L6, L7, L8, L9, L10 : SAFEBOOL; END_VAR \
-L1 := S_A AND S_A; L2 := L1 AND L1; L3 := L2 AND L2; L4 := L3 AND L3; L5 := L4 AND L4; \
-L6 := L5 AND L5; L7 := L6 AND L6; L8 := L7 AND L7; L9 := L8 AND L8; L10 := L9 AND L9; ";
+// Outputs of both types.
+const OUTPUTS: &str = "PROGRAM P \
+VAR_INPUT S_a, S_b : SAFEBOOL; b : BOOL; END_VAR \
+VAR_OUTPUT Lamp : BOOL; S_two, S_one : SAFEBOOL; END_VAR VAR_OUTPUT Horn : BOOL; S_three : SAFEBOOL; END_VAR \
+S_one := S_a; S_three := S_two OR S_one; Lamp := b; S_two := S_b AND S_one; Horn := b; \
+END_PROGRAM";
 
-// 512 leaves, and 1,000.
-const FEW: &str = "\
-S_o := L9; => S_o needs S_A
-S_o := L9 AND L8 AND L7 AND L6 AND L5 AND L3; => S_o needs S_A
-";
-
+// A line for each SAFEBOOL output, in the order of declaration.
 #[test]
-fn most_leaves(rt: HostRuntime) {
-    assert_eq!(rt; rows_met(rt.alloc(), (DOUBLING, END), FEW), Ok(2));
+fn outputs_in_order(rt: HostRuntime) {
+    let lines = "S_two needs S_b AND S_a\nS_one needs S_a\nS_three needs S_two@before OR S_a\n";
+    assert_eq!(rt; whole_met(rt.alloc(), OUTPUTS, lines), Ok(true));
 }
 
-// Whether an application is refused M1.
-fn is_large(rt: &HostRuntime, body: &str) -> Result<bool, ps_base::Memory> {
-    let text = format!(in rt.alloc(); "{DOUBLING}{body}{END}")?;
-    Ok(matches!(
-        demand_lines(rt.alloc(), text.as_str()),
-        Err(Fail::Refused(Refusal { rule: Rule::M1, .. }))
-    ))
+// No output is SAFEBOOL.
+#[test]
+fn no_output(rt: HostRuntime) {
+    let text =
+        "PROGRAM P VAR_INPUT S_a : SAFEBOOL; END_VAR VAR_OUTPUT Lamp : BOOL; END_VAR Lamp := S_a; END_PROGRAM";
+    assert_eq!(rt; whole_met(rt.alloc(), text, ""), Ok(true));
 }
 
-// 1,024 leaves.
-#[test]
-fn large_demand(rt: HostRuntime) {
-    assert_eq!(rt; is_large(&rt, "S_o := L10;"), Ok(true));
-}
+// A signal that is read before it is assigned.
+const FEEDBACK: &str =
+    "PROGRAM Fb VAR_INPUT S_In : SAFEBOOL; END_VAR VAR_OUTPUT S_O : SAFEBOOL; END_VAR \
+VAR X, Y : SAFEBOOL; END_VAR X := Y AND S_In; Y := S_In; S_O := X; END_PROGRAM";
 
-// 1,001 leaves.
 #[test]
-fn one_leaf_too_many(rt: HostRuntime) {
-    let body = "S_o := L9 AND L8 AND L7 AND L6 AND L5 AND L3 AND S_A;";
-    assert_eq!(rt; is_large(&rt, body), Ok(true));
+fn feedback(rt: HostRuntime) {
+    assert_eq!(rt;
+        whole_met(rt.alloc(), FEEDBACK, "S_O needs Y@before AND S_In\n"),
+        Ok(true)
+    );
 }
 
 // A press with an emergency stop, a guard, a two-hand control and contactors that are monitored.

@@ -1,73 +1,76 @@
 // From the text of an application to its lines.
 
-ghost use Rattle.std.specs.Prelude.{OnOk, ◌<◌, true, ◌≡◌};
-ghost use Rattle.ps_model.specs.Network.{signal_count};
-ghost use Rattle.ps_model.specs.Typing.{Accepted, is_safe_signal};
+ghost use Rattle.std.specs.Prelude.{OnOk};
+ghost use Rattle.ps_model.specs.Typing.{Accepted};
 
-use ps_base::{Bytes, Fail, Place, Refusal, Rule};
-use ps_demand::{DemandFail, demand_of, demand_text};
+use ps_base::{Bytes, Fail, Memory, Place, Refusal, Rule};
+use ps_demand::{NoLines, demand_lines as lines_of_app};
 use ps_flow::{FlowFail, FlowRefusal, derive};
 use ps_lexer::lex;
 use ps_model::app::App;
-use ps_model::typing::is_safe;
 use ps_parser::parse;
 use ps_resolve::resolve;
 use std::alloc::Global;
 
-// A refusal whose place is of no interest.
-fn refused(rule: Rule) -> Fail {
-    Fail::Refused(Refusal {
-        rule,
-        place: Place { line: 0, column: 0 },
-    })
+/// Why a text has no lines.
+#[derive(Clone, Copy, Debug, PartialEq, Eq)]
+pub enum NoText {
+    /// Memory is wanting.
+    Memory,
+    /// A rule refuses the text.
+    Refused(Refusal),
+    /// The demand of this signal has over 1,000 leaves.
+    Large(u16),
 }
 
-// Nothing, where SAFEBOOL flow accepts an application, and else its refusal.
-fn accept(alloc: Global, app: &App) -> Result<(), Fail>
+impl From<Memory> for NoText {
+    fn from(_memory: Memory) -> NoText {
+        NoText::Memory
+    }
+}
+
+impl From<Fail> for NoText {
+    fn from(fail: Fail) -> NoText {
+        match fail {
+            Fail::Memory => NoText::Memory,
+            Fail::Refused(refusal) => NoText::Refused(refusal),
+        }
+    }
+}
+
+impl From<NoLines> for NoText {
+    fn from(fail: NoLines) -> NoText {
+        match fail {
+            NoLines::Memory => NoText::Memory,
+            NoLines::Large(signal) => NoText::Large(signal),
+        }
+    }
+}
+
+// Nothing, where SAFEBOOL flow accepts an application, and else its rule, without a place.
+fn accept(alloc: Global, app: &App) -> Result<(), NoText>
     ensures { OnOk result (Accepted app.now) }
 {
     match derive(alloc, app) {
         Ok(_) => Ok(()),
-        Err(FlowFail::Memory) => Err(Fail::Memory),
-        Err(FlowFail::Refused(FlowRefusal { rule, .. })) => Err(refused(rule)),
+        Err(FlowFail::Memory) => Err(NoText::Memory),
+        Err(FlowFail::Refused(FlowRefusal { rule, .. })) => Err(NoText::Refused(Refusal {
+            rule,
+            place: Place { line: 0, column: 0 },
+        })),
     }
 }
 
-// Writes the line of a SAFEBOOL signal at the end.
-fn write_line(alloc: Global, app: &App, signal: u16, lines: &mut Bytes) -> Result<(), Fail>
-    requires accepted { Accepted app.now }
-    requires signal { signal < signal_count app.now }
-    requires safe { is_safe_signal app.now signal ≡ true }
-{
-    let demand = match demand_of(alloc, app, signal) {
-        Ok(demand) => demand,
-        Err(DemandFail::Memory) => return Err(Fail::Memory),
-        Err(DemandFail::Large) => return Err(refused(Rule::M1)),
-    };
-    let text = demand_text(alloc, app, signal, &demand)?;
-    if signal < app.declared_count() {
-        lines.extend_from_slice(app.signal_name(signal).as_bytes())?;
-    }
-    lines.extend_from_slice(b" needs ")?;
-    lines.extend_from_slice(text.as_slice())?;
-    lines.push(b'\n')?;
-    Ok(())
-}
-
-/// The line of each SAFEBOOL output of the application of a text, in order, each with a line feed behind it. A refusal is without its
-/// place; M1 is that of a demand with over 1,000 leaves.
-pub fn demand_lines(alloc: Global, text: &str) -> Result<Bytes, Fail> {
+// The application of a text.
+fn app_of(alloc: Global, text: &str) -> Result<App, Fail> {
     let tokens = lex(alloc, text.as_bytes())?;
     let source = parse(alloc, &tokens)?;
-    let app = resolve(alloc, &source)?;
+    resolve(alloc, &source)
+}
+
+/// The line of each SAFEBOOL output of the application of a text, in order, each with a line feed behind it.
+pub fn demand_lines(alloc: Global, text: &str) -> Result<Bytes, NoText> {
+    let app = app_of(alloc, text)?;
     accept(alloc, &app)?;
-    let mut lines = Bytes::new(alloc);
-    let mut signal = app.input_count();
-    for _ in 0..app.output_count() {
-        if signal < app.signal_count() && is_safe(&app, signal) {
-            write_line(alloc, &app, signal, &mut lines)?;
-        }
-        signal = signal.saturating_add(1);
-    }
-    Ok(lines)
+    Ok(lines_of_app(alloc, &app)?)
 }

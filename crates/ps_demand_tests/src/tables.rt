@@ -1,11 +1,11 @@
 // Tables of applications with the lines that are to be written for them.
 
-use crate::lines::demand_lines;
-use ps_base::{Fail, Memory};
+use crate::lines::{NoText, demand_lines};
+use ps_base::Memory;
 use std::alloc::Global;
 
 /// Whether these lines are written for the application of a text.
-pub fn whole_met(alloc: Global, text: &str, lines: &str) -> Result<bool, Fail> {
+pub fn whole_met(alloc: Global, text: &str, lines: &str) -> Result<bool, NoText> {
     let found = demand_lines(alloc, text)?;
     Ok(found.as_slice() == lines.as_bytes())
 }
@@ -20,8 +20,8 @@ fn row_met(alloc: Global, around: (&str, &str), row: &str) -> Result<bool, Memor
     let line = format!(in alloc; "{line}\n")?;
     match whole_met(alloc, text.as_str(), line.as_str()) {
         Ok(met) => Ok(met),
-        Err(Fail::Memory) => Err(Memory),
-        Err(Fail::Refused(_)) => Ok(false),
+        Err(NoText::Memory) => Err(Memory),
+        Err(NoText::Refused(_) | NoText::Large(_)) => Ok(false),
     }
 }
 

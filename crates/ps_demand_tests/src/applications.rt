@@ -158,3 +158,46 @@ fn press(rt: HostRuntime) {
     let line = "S_Ram needs S_EStop AND S_G1 AND S_G2 AND S_L AND S_R\n";
     assert_eq!(rt; whole_met(rt.alloc(), PRESS, line), Ok(true));
 }
+
+// A clamp that closes only while both hands are on their buttons.
+const STATION: &str = "PROGRAM Station
+VAR_INPUT S_Stop, S_Left, S_Right : SAFEBOOL; Ack : BOOL; END_VAR
+VAR_OUTPUT S_Clamp : SAFEBOOL; Lamp : BOOL; END_VAR
+VAR Stop : SF_EmergencyStop; Hands : SF_TwoHandControlTypeIII; END_VAR
+Stop(Activate := TRUE, S_EStopIn := S_Stop, Reset := Ack);
+Hands(Activate := Stop.S_EStopOut, S_Button1 := S_Left, S_Button2 := S_Right);
+S_Clamp := Stop.S_EStopOut AND Hands.S_TwoHandOut;
+Lamp := Stop.Error OR Hands.Error;
+END_PROGRAM";
+
+#[test]
+fn station(rt: HostRuntime) {
+    let line = "S_Clamp needs S_Stop AND S_Left AND S_Right\n";
+    assert_eq!(rt; whole_met(rt.alloc(), STATION, line), Ok(true));
+}
+
+// A robot cell: automatic work behind a locked guard, slow work by an enable switch in the mode of setting up.
+const CELL: &str = "PROGRAM Cell
+VAR_INPUT
+  S_Closed, S_Locked, S_Still, S_Auto, S_Setup, S_Ch1, S_Ch2 : SAFEBOOL;
+  Open, Ack : BOOL;
+END_VAR
+VAR_OUTPUT S_Work, S_Slow, S_Unlock : SAFEBOOL; END_VAR
+VAR Guard : SF_GuardLocking; Mode : SF_ModeSelector; Switch : SF_EnableSwitch; END_VAR
+Guard(Activate := TRUE, S_GuardMonitoring := S_Closed, S_SafetyActive := S_Still,
+  S_GuardLock := S_Locked, UnlockRequest := Open, Reset := Ack);
+Mode(Activate := TRUE, S_Mode0 := S_Auto, S_Mode1 := S_Setup, S_Unlock := S_Still,
+  AutoSetMode := TRUE, ModeMonitorTime := T#500ms, Reset := Ack);
+Switch(Activate := TRUE, S_SafetyActive := Mode.S_Mode1Sel, S_EnableSwitchCh1 := S_Ch1,
+  S_EnableSwitchCh2 := S_Ch2, Reset := Ack);
+S_Work := Guard.S_GuardLocked AND Mode.S_Mode0Sel;
+S_Slow := Switch.S_EnableSwitchOut;
+S_Unlock := Guard.S_UnlockGuard;
+END_PROGRAM";
+
+#[test]
+fn cell(rt: HostRuntime) {
+    let lines =
+        "S_Work needs S_Closed AND S_Locked\nS_Slow needs S_Ch1 AND S_Ch2\nS_Unlock needs S_Still\n";
+    assert_eq!(rt; whole_met(rt.alloc(), CELL, lines), Ok(true));
+}

@@ -14,3 +14,4 @@ pub mod Kept
 pub mod Slimmed
 pub mod PinPlaces
 pub mod Writing
+pub mod Lined

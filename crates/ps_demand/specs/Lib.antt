@@ -3,6 +3,7 @@ pub mod Requirement
 pub mod Demand
 pub mod Slim
 pub mod Texts
+pub mod Lines
 pub mod Laws
 -- Apparatus: how the program's formulas are seen, and what its passes keep for each signal.
 pub mod Answering

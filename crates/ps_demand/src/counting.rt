@@ -181,16 +181,26 @@ pub(crate) fn first_counts(alloc: Global, app: &App) -> Result<Vec<u32>, Memory>
     Ok(counts)
 }
 
-// How many leaves the demand of a safe signal has. It builds nothing, and visits each node of the application a bounded number of times.
+// How many leaves the demands of all signals have after all steps. It builds nothing, and visits each node of the application a
+// bounded number of times.
+pub(crate) fn count_signals(alloc: Global, app: &App) -> Result<Vec<u32>, Memory>
+    requires { Accepted app.now }
+    ensures { IfOk result (λ counts. AreCounts app.now (length app.now.steps) counts.items) }
+{
+    let mut counts = first_counts(alloc, app)?;
+    for k in 0..app.step_count() {
+        count_step(alloc, app, k, &mut counts)?;
+    }
+    Ok(counts)
+}
+
+// How many leaves the demand of a safe signal has.
 pub(crate) fn count_leaves(alloc: Global, app: &App, signal: u16) -> Result<u32, Memory>
     requires accepted { Accepted app.now }
     requires below { signal < signal_count app.now }
     requires safe { is_safe_signal app.now signal ≡ true }
     ensures { IfOk result (λ count. count ≡ saturated (leaf_count (demand app.now signal))) }
 {
-    let mut counts = first_counts(alloc, app)?;
-    for k in 0..app.step_count() {
-        count_step(alloc, app, k, &mut counts)?;
-    }
+    let counts = count_signals(alloc, app)?;
     Ok(counts[signal as usize])
 }

@@ -4,7 +4,7 @@
 //!
 //! Its rooms:
 //!
-//! - `demand` has the formulas, `answer` is where one is asked for, `text` writes one.
+//! - `demand` has the formulas, `answer` is where one is asked for, `text` writes one; `lines` writes those of all safe outputs.
 //! - `counting` decides by counting leaves whether a formula is Large, before anything is built; `slimming` builds the formulas of all
 //!   signals step by step and makes each slim as it goes; `joining` joins slim parts; `table` is what both passes keep.
 //! - `laws` has the laws: a safe signal is TRUE only where its demand holds, in each scan of each run, and to make a formula slim
@@ -17,10 +17,12 @@ mod demand;
 mod join;
 mod joining;
 pub mod laws;
+mod lines;
 mod slimming;
 mod table;
 mod text;
 
 pub use answer::demand_of;
 pub use demand::{Demand, DemandFail, Demands, MOST_LEAVES};
+pub use lines::{NoLines, demand_lines};
 pub use text::demand_text;

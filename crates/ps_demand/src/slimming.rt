@@ -314,6 +314,20 @@ fn first_demands(alloc: Global, app: &App) -> Result<Vec<Demand>, Memory>
     Ok(rows)
 }
 
+// The slim demands of all signals after all steps, where they are not Large. Each step is gone through once.
+pub(crate) fn slim_signals(alloc: Global, app: &App) -> Result<Vec<Demand>, Memory>
+    requires { Accepted app.now }
+    ensures { IfOk result (λ rows. AreSlim app.now (length app.now.steps) rows.items) }
+{
+    let mut counts = first_counts(alloc, app)?;
+    let mut rows = first_demands(alloc, app)?;
+    for k in 0..app.step_count() {
+        slim_step(alloc, app, k, counts.as_slice(), &mut rows)?;
+        count_step(alloc, app, k, &mut counts)?;
+    }
+    Ok(rows)
+}
+
 // The slim demand of a safe signal, where it is not Large.
 pub(crate) fn slim_demand(alloc: Global, app: &App, signal: u16) -> Result<Demand, Memory>
     requires accepted { Accepted app.now }
@@ -322,11 +336,6 @@ pub(crate) fn slim_demand(alloc: Global, app: &App, signal: u16) -> Result<Deman
     requires small { leaf_count (demand app.now signal) ≤ MOST_LEAVES }
     ensures { IfOk result (λ d. requirement d ≡ slim (demand app.now signal)) }
 {
-    let mut counts = first_counts(alloc, app)?;
-    let mut rows = first_demands(alloc, app)?;
-    for k in 0..app.step_count() {
-        slim_step(alloc, app, k, counts.as_slice(), &mut rows)?;
-        count_step(alloc, app, k, &mut counts)?;
-    }
+    let rows = slim_signals(alloc, app)?;
     copy(alloc, &rows[signal as usize])
 }

@@ -91,7 +91,7 @@ fn write_where(wanted: bool, text: &[u8], bytes: &mut Bytes) -> Result<(), Memor
 
 // Writes a demand at the end.
 #[cycle(write)]
-fn write_demand(app: &App, demand: &Demand, bytes: &mut Bytes) -> Result<(), Memory>
+pub(crate) fn write_demand(app: &App, demand: &Demand, bytes: &mut Bytes) -> Result<(), Memory>
     ensures { OnOk result (bytes.new ≡ bytes.old ++ demand_words app.now (requirement demand.now)) }
 {
     match demand {

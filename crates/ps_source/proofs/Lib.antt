@@ -2,3 +2,5 @@ pub mod Sourced
 pub mod Placing
 pub mod OneReading
 pub mod OneBreach
+pub mod Targets
+pub mod Demandable

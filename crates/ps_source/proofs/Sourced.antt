@@ -6,6 +6,7 @@ use Rattle.ps_base.specs.declared.failing.Refusal.{Refusal}
 use Rattle.ps_lexer.specs.declared.token.Tokens.{Tokens}
 use Rattle.ps_lexer.specs.Reading.{tokens, IsRefused}
 use Rattle.ps_parser.specs.Tree.{SourceTree}
+use Rattle.ps_source.specs.Demanding.{IsDemandableAs}
 use Rattle.ps_source.specs.Source.{Reading, IsProgram, IsResolvedAs, IsAcceptedAs}
 use Rattle.ps_source.specs.Source.Reading.{stands_for, is_refused}
 
@@ -46,3 +47,9 @@ module _ (text : List ℕ) where
   acceptance_of_whole (is_refused r) h =
       ⊎_elim (λ n. inl (resolution_of_whole (is_refused r) n))
       (λ f. inr (record { tree = f.tree; net = f.net; program = program_whole f.tree f.program; stands = f.stands; step = f.step; pin = f.pin; breach = f.breach; place = f.place })) h
+
+  pub demanding_of_whole : (reading : Reading) → IsDemandableAs front reading → IsDemandableAs text reading
+  demanding_of_whole (stands_for net) h = (acceptance_of_whole (stands_for net) h.0, h.1)
+  demanding_of_whole (is_refused r) h =
+      ⊎_elim (λ n. inl (acceptance_of_whole (is_refused r) n))
+      (λ m. inr (record { tree = m.tree; net = m.net; program = program_whole m.tree m.program; stands = m.stands; accepted = m.accepted; output = m.output; large = m.large; rule = m.rule; place = m.place })) h

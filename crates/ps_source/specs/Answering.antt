@@ -39,6 +39,12 @@ pub record IsChecked (a : Accepted) : Type 0 where
   pub derivation : a.certificate ≡ certificate a.app
   pub counts_are : a.checked ≡ counts a.app a.certificate
 
+-- what comes of a text by the rules L, P, N and S: a source and its accepted application, or the refusal
+abbrev pub IsSourcedAcceptance : List ℕ → Result (SourceTree × Accepted) Fail → Type 0
+IsSourcedAcceptance text (Ok r) = IsProgram text r.0 × Stands r.0 r.1.app × IsChecked r.1
+IsSourcedAcceptance text (Err NoMemory) = Unit {0}
+IsSourcedAcceptance text (Err (IsRefused refusal)) = IsAcceptedAs text (is_refused refusal)
+
 -- what comes of a text by the rules L, P, N and S: an accepted application, or the refusal
 abbrev pub IsAcceptance : List ℕ → Result Accepted Fail → Type 0
 IsAcceptance text (Ok a) = IsAcceptedAs text (stands_for a.app) × IsChecked a

@@ -9,7 +9,7 @@ ghost use Rattle.ps_flow.specs.Written.{written};
 ghost use Rattle.ps_names.specs.Stands.{Stands};
 ghost use Rattle.ps_parser.specs.Places.{step_place};
 ghost use Rattle.ps_source.specs.Source.{pin_name};
-ghost use Rattle.ps_source.specs.Answering.{IsResolution, IsChecked, IsAcceptance, app_of, certificate_of, checked_of};
+ghost use Rattle.ps_source.specs.Answering.{IsResolution, IsChecked, IsAcceptance, IsSourcedAcceptance, app_of, certificate_of, checked_of};
 
 use ps_base::{Bytes, Fail, Memory, Place, Refusal};
 use ps_checker::laws::derived_passes;
@@ -106,17 +106,25 @@ fn with_check(app: App, certificate: Certificate) -> Accepted
     }
 }
 
-// The accepted application of a text, by the rules L, P, N and S, tried in this order, with its certificate.
-pub(crate) fn accept(alloc: Global, text: &[u8]) -> Result<Accepted, Fail>
-    ensures { IsAcceptance text.now result }
+// The program of a text and its accepted application with its certificate, by the rules L, P, N and S, tried in this order.
+pub(crate) fn accept_source(alloc: Global, text: &[u8]) -> Result<(Source, Accepted), Fail>
+    ensures { IsSourcedAcceptance text.now result }
 {
     let (source, app) = resolve_text(alloc, text)?;
     match derive(alloc, &app) {
-        Ok(certificate) => Ok(with_check(app, certificate)),
+        Ok(certificate) => Ok((source, with_check(app, certificate))),
         Err(FlowFail::Memory) => Err(Fail::Memory),
         Err(FlowFail::Refused(breach)) => Err(Fail::Refused(Refusal {
             rule: breach.rule,
             place: place_of(&source, &app, breach),
         })),
     }
+}
+
+// The accepted application of a text, by the rules L, P, N and S, tried in this order, with its certificate.
+pub(crate) fn accept(alloc: Global, text: &[u8]) -> Result<Accepted, Fail>
+    ensures { IsAcceptance text.now result }
+{
+    let (_, accepted) = accept_source(alloc, text)?;
+    Ok(accepted)
 }

@@ -1,5 +1,5 @@
 use Rattle.ps_demand.specs.Passes.{AreCounts, AreSlim}
-use Rattle.ps_demand.proofs.slimming.slim_demand.Given as goal
+use Rattle.ps_demand.proofs.slimming.slim_signals.Given as goal
 
 abbrev pub invariant-loop-k : goal.invariant-loop-k
 invariant-loop-k l = record {

@@ -1,0 +1,63 @@
+-- What the text of a source gives where the demands of its outputs are asked for.
+use Rattle.std.specs.Prelude.{◌≡◌, ◌⊎◌, ℕ, List, Some, None, Result, Ok, Err, slice_get}
+use Rattle.ps_base.specs.declared.failing.Fail.{Fail}
+use Rattle.ps_base.specs.declared.failing.Fail.TheVariants.{Memory as NoMemory, Refused as IsRefused}
+use Rattle.ps_base.specs.declared.failing.Place.{Place}
+use Rattle.ps_base.specs.declared.failing.Refusal.{Refusal}
+use Rattle.ps_base.specs.declared.failing.Rule.TheVariants.{M1}
+use Rattle.ps_parser.specs.Places.{step_place}
+use Rattle.ps_parser.specs.Tree.{SourceTree}
+use Rattle.ps_names.specs.Stands.{Stands}
+use Rattle.ps_model.specs.Action.{assigns}
+use Rattle.ps_model.specs.Formula.{Formula}
+use Rattle.ps_model.specs.Network.{Network}
+use Rattle.ps_model.specs.Typing.{Accepted}
+use Rattle.ps_demand.specs.Lines.{NoneIsLarge, IsFirstLarge, demand_lines}
+use Rattle.ps_source.specs.Answering.{IsChecked, app_of}
+use Rattle.ps_source.specs.Source.{Reading, IsProgram, IsAcceptedAs}
+use Rattle.ps_source.specs.Source.Reading.{stands_for, is_refused}
+use Rattle.ps_source.specs.declared.demanding.Demanded.{Demanded}
+
+-- a place is that of the target of the step that assigns a signal
+pub record IsPlaceOfOutput (tree : SourceTree) (net : Network) (output : ℕ) (at : Place) : Type 0 where
+  pub step : ℕ
+  pub value : Formula
+  pub assigned : slice_get net.steps step ≡ Some (assigns output value)
+  pub place : step_place tree step None ≡ Some at
+
+-- The application of the text is accepted, and a SAFEBOOL output has a demand of over 1,000 leaves: the first such output, at the
+-- target of the step that assigns it. Profile.
+pub record BreaksDemand (source : List ℕ) (refusal : Refusal) : Type 0 where
+  pub tree : SourceTree
+  pub net : Network
+  pub program : IsProgram source tree
+  pub stands : Stands tree net
+  pub accepted : Accepted net
+  pub output : ℕ
+  pub large : IsFirstLarge net output
+  pub rule : refusal.rule ≡ M1
+  pub place : IsPlaceOfOutput tree net output refusal.place
+
+-- what the text gives by the rules L, P, N and S, and then by the rule M1
+abbrev pub IsDemandableAs : List ℕ → Reading → Type 0
+IsDemandableAs source (stands_for net) = IsAcceptedAs source (stands_for net) × NoneIsLarge net
+IsDemandableAs source (is_refused r) = IsAcceptedAs source (is_refused r) ⊎ BreaksDemand source r
+
+-- the application whose demands were asked for
+abbrev pub app_demanded : Demanded → Network
+app_demanded d = app_of d.accepted
+
+-- the lines of its demands
+abbrev pub lines_demanded : Demanded → List ℕ
+lines_demanded d = d.lines
+
+-- an accepted application, which was checked, with the lines of its demands
+pub record IsLined (d : Demanded) : Type 0 where
+  pub checked : IsChecked d.accepted
+  pub lines_are : d.lines ≡ demand_lines (app_of d.accepted)
+
+-- what comes of a text where the demands of its outputs are asked for: an application with their lines, or the refusal
+abbrev pub IsDemanding : List ℕ → Result Demanded Fail → Type 0
+IsDemanding text (Ok d) = IsDemandableAs text (stands_for (app_demanded d)) × IsLined d
+IsDemanding text (Err NoMemory) = Unit {0}
+IsDemanding text (Err (IsRefused refusal)) = IsDemandableAs text (is_refused refusal)

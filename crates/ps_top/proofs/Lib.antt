@@ -3,6 +3,7 @@ mod Calling
 mod Completing
 mod Applied
 mod ToCome
+mod Demanded
 mod Standing
 mod Joined
 mod Timely

@@ -18,11 +18,13 @@ use Rattle.ps_words.specs.Command.{Command, command_of}
 use Rattle.ps_words.specs.Command.Command.{Run, Fault as FaultWords, Check, Cert, Verify, Image, Load, Demand, Vote, Heal, NotTaken}
 use Rattle.ps_top.specs.Asking.{Answer, Asking, IsAnswer, AsksFor}
 use Rattle.ps_top.specs.Asking.Asking.{Says, Asks, Finds, Leaves}
-use Rattle.ps_top.specs.Program.{Judged, Judges, verdict, leaves_checked, with_application, accepted, leaves_world, region_sizes, trips_of, unless_refused, with_faults, run_quietly, run_struck, answer_scans, run_named, verify_named, verify, said, told, text}
+use Rattle.ps_top.specs.Program.{Judged, Judges, verdict, leaves_checked, with_application, accepted, leaves_world, region_sizes, trips_of, unless_refused, with_faults, run_quietly, run_struck, answer_scans, run_named, verify_named, verify, demanded, demand, said, told, text}
 use Rattle.ps_top.specs.Program.Judged.{derives, objects}
+use Rattle.ps_source.specs.Demanding.{IsDemandableAs}
 use Rattle.ps_source.specs.Source.{Reading, Resolves, IsResolvedAs, IsAcceptedAs, counts}
 use Rattle.ps_top.specs.declared.left.Left.{Left}
 use Rattle.ps_source.specs.Source.Reading.{stands_for, is_refused}
+use Rattle.ps_source.proofs.Demandable.{one_demanding}
 use Rattle.ps_source.proofs.OneReading.{one_resolution}
 use Rattle.ps_source.proofs.OneBreach.{one_acceptance}
 use Rattle.ps_top.proofs.OneJudgement.{one_judgement}
@@ -119,6 +121,15 @@ module _ (held : List ℕ → Option (List ℕ)) where
           (λ t. finds_determined held Judged (Judges net t) (verdict net) (λ x y p q. one_judgement net t x y p q) (λ j _. verdict_determined net j))
       go s (is_refused r) f = says_determined held _
 
+  demand_determined : (app : List ℕ) → IsDetermined (demand app) held
+  demand_determined app =
+      asks_determined held app (λ s. Finds Reading (IsDemandableAs s) (with_application (with_counts demanded)))
+      (λ s. finds_determined held Reading (IsDemandableAs s) (with_application (with_counts demanded)) (λ x y p q. one_demanding s x y p q) (go s))
+    where
+      go : (s : List ℕ) (r : Reading) → IsDemandableAs s r → IsDetermined (with_application (with_counts demanded) r) held
+      go s (stands_for net) f = leaves_determined held (leaves_checked (counts net (certificate net))) (demanded net) (says_determined held _)
+      go s (is_refused r) f = says_determined held _
+
   said_determined : (c : Command) → IsDetermined (said c) held
   said_determined (Run app trace) = accepted_determined app (run_quietly trace) (λ s net r. quiet_determined net (resolved_sound s net r) trace)
   said_determined (FaultWords app trace faults) = accepted_determined app (run_struck trace faults) (λ s net r. struck_determined net (resolved_sound s net r) trace faults)
@@ -127,7 +138,7 @@ module _ (held : List ℕ → Option (List ℕ)) where
   said_determined (Verify app c) = verify_determined app c
   said_determined (Image app) = says_determined held _
   said_determined (Load number) = says_determined held _
-  said_determined (Demand app) = says_determined held _
+  said_determined (Demand app) = demand_determined app
   said_determined (Vote app trace faults) = says_determined held _
   said_determined (Heal app trace faults) = says_determined held _
   said_determined NotTaken = says_determined held _

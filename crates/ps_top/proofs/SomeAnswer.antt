@@ -5,8 +5,10 @@ use Rattle.ps_model.specs.Network.{Network}
 use Rattle.ps_model.specs.Scanning.{State}
 use Rattle.ps_model.specs.Sound.{IsSound}
 use Rattle.ps_model.proofs.Runs.{one_run}
+use Rattle.ps_source.specs.Demanding.{IsDemandableAs}
 use Rattle.ps_source.specs.Source.{Reading, Resolves, IsResolvedAs, IsAcceptedAs}
 use Rattle.ps_source.specs.Source.Reading.{stands_for, is_refused}
+use Rattle.ps_source.proofs.Demandable.{some_demanding}
 use Rattle.ps_source.proofs.Sourced.{some_of}
 use Rattle.ps_model.specs.declared.channel.Fault.{Fault}
 use Rattle.ps_base.specs.declared.failing.Refusal.{Refusal}
@@ -17,7 +19,7 @@ use Rattle.ps_words.specs.Command.{Command, command_of}
 use Rattle.ps_words.specs.Command.Command.{Run, Fault as FaultWords, Check, Cert, Verify, Image, Load, Demand, Vote, Heal, NotTaken}
 use Rattle.ps_top.specs.Asking.{Answer, Asking, IsAnswer, AsksFor}
 use Rattle.ps_top.specs.Asking.Asking.{Says, Asks, Finds}
-use Rattle.ps_top.specs.Program.{Judged, Judges, verdict, with_application, accepted, region_sizes, trips_of, unless_refused, with_faults, run_quietly, run_struck, answer_scans, run_named, verify_named, verify, said, told, text}
+use Rattle.ps_top.specs.Program.{Judged, Judges, verdict, with_application, accepted, region_sizes, trips_of, unless_refused, with_faults, run_quietly, run_struck, answer_scans, run_named, verify_named, verify, demanded, demand, said, told, text}
 use Rattle.ps_top.specs.Program.Judged.{derives, objects}
 use Rattle.ps_top.proofs.OneAnswer.{with_counts, resolved_sound}
 use Rattle.ps_top.proofs.Setups.{some_setup}
@@ -91,6 +93,15 @@ module _ (held : List ℕ → Option (List ℕ)) where
             (λ t. finds_some Judged (Judges net t) (verdict net) (judges net t).0 (judges net t).1 (verdict_some net (judges net t).0))
         go s (is_refused r) = says_some _
 
+    demand_some : (app : List ℕ) → HasAnswer (demand app) held
+    demand_some app =
+        asks_some app (λ s. Finds Reading (IsDemandableAs s) (with_application (with_counts demanded)))
+        (λ s. let d = some_demanding s (accepts s).0 (accepts s).1 in finds_some Reading (IsDemandableAs s) (with_application (with_counts demanded)) d.0 d.1 (go d.0))
+      where
+        go : (r : Reading) → HasAnswer (with_application (with_counts demanded) r) held
+        go (stands_for net) = says_some _
+        go (is_refused r) = says_some _
+
     said_some : (c : Command) → HasAnswer (said c) held
     said_some (Run app trace) = accepted_some app (run_quietly trace) (λ s net r. quiet_some net (resolved_sound s net r) trace)
     said_some (FaultWords app trace faults) = accepted_some app (run_struck trace faults) (λ s net r. struck_some net (resolved_sound s net r) trace faults)
@@ -99,7 +110,7 @@ module _ (held : List ℕ → Option (List ℕ)) where
     said_some (Verify app c) = verify_some app c
     said_some (Image app) = says_some _
     said_some (Load number) = says_some _
-    said_some (Demand app) = says_some _
+    said_some (Demand app) = demand_some app
     said_some (Vote app trace faults) = says_some _
     said_some (Heal app trace faults) = says_some _
     said_some NotTaken = says_some _

@@ -20,13 +20,15 @@ use Rattle.ps_trace.specs.Scans.End.{whole, refused}
 use Rattle.ps_world.specs.Worlds.{world_0}
 use Rattle.ps_world.specs.Orders.{events, trips}
 use Rattle.ps_world.specs.Whole.{Setup, Whole, machines_in, after_events, IsSetupOf}
+use Rattle.ps_demand.specs.Lines.{demand_lines}
 use Rattle.ps_report.specs.Lines.{report_text, trip_text}
 use Rattle.ps_report.specs.Short.{refusal_text, check_text}
 use Rattle.ps_words.specs.Command.{Command, command_of, usage_line}
-use Rattle.ps_words.specs.Command.Command.{Run, Fault as FaultWords, Check, Cert, Verify}
+use Rattle.ps_words.specs.Command.Command.{Run, Fault as FaultWords, Check, Cert, Verify, Demand}
 use Rattle.ps_top.specs.Asking.{Answer, Asking}
 use Rattle.ps_top.specs.Asking.Asking.{Says, Asks, Finds, Leaves}
 use Rattle.ps_top.specs.Lines.{restart_line, verified_line}
+use Rattle.ps_source.specs.Demanding.{IsDemandableAs}
 use Rattle.ps_source.specs.Source.{Reading, IsResolvedAs, IsAcceptedAs, counts}
 use Rattle.ps_source.specs.Source.Reading.{stands_for, is_refused}
 use Rattle.ps_top.specs.declared.left.Left.{Left}
@@ -61,6 +63,20 @@ check app = accepted app (λ net. Says (answer (check_text net) Done))
 -- `cert APP`: the certificate, a line for each of its lines
 abbrev pub cert : List ℕ → Asking
 cert app = accepted app (λ net. Says (answer (written (certificate net)) Done))
+
+-- ---- demand
+
+-- The application of an accepted source whose certificate was checked, where no SAFEBOOL output has a demand that is too large.
+abbrev pub demandable : List ℕ → (Network → Asking) → Asking
+demandable app next = Asks app (λ source. Finds Reading (IsDemandableAs source) (with_application (λ net. Leaves (leaves_checked (counts net (certificate net))) (next net))))
+
+-- what each SAFEBOOL output demands, a line for each
+abbrev pub demanded : Network → Asking
+demanded net = Says (answer (demand_lines net) Done)
+
+-- `demand APP`: the lines of what the outputs demand
+abbrev pub demand : List ℕ → Asking
+demand app = demandable app demanded
 
 -- ---- run and fault
 
@@ -204,6 +220,7 @@ said (FaultWords app trace faults) = fault app trace faults
 said (Check app) = check app
 said (Cert app) = cert app
 said (Verify app cert) = verify app cert
+said (Demand app) = demand app
 said _ = Says (answer usage_line Usage)
 
 -- what the program has to say

@@ -2,6 +2,7 @@
 
 ghost use Rattle.std.specs.Prelude.{◌≡◌, List, Option, IsSome, ℕ};
 ghost use Rattle.ps_model.specs.Meaning.{Item, Meaning, nothing};
+ghost use Rattle.ps_demand.specs.Laws.{EachHasDemands};
 ghost use Rattle.ps_model.specs.Network.{Network};
 ghost use Rattle.ps_model.specs.Scanning.{State};
 ghost use Rattle.ps_top.specs.Asking.{Answer, AsksFor, IsAnswer};
@@ -11,12 +12,23 @@ ghost use Rattle.ps_top.specs.Program.{Judged, Judges};
 ghost use Rattle.ps_source.specs.Source.{Reading, IsAcceptedAs, IsResolvedAs};
 ghost use Rattle.ps_source.specs.Source.Reading.{stands_for};
 
+use ps_model::block_laws::each_demands;
+
 /// In each report line of a run a SAFEBOOL output is TRUE only where its skeleton is: the lines are those of the states of
 /// `Meaning`, and these keep it for every application that a source is accepted for.
 pub fn lines_keep_skeletons()
     ensures { (source : List ℕ) (net : Network) (items : List Item) (ws : List State) →
         IsAcceptedAs source (stands_for net) → Meaning net items ws → AreSafeScans net nothing items ws }
 {}
+
+/// In each report line of a run a SAFEBOOL output is TRUE only where its demand holds of the inputs of the scan and the signals of the scan
+/// before: the lines are those of the states of `Meaning`, and these keep it for every application that a source is accepted for.
+pub fn lines_meet_demands()
+    ensures { (source : List ℕ) (net : Network) (items : List Item) (ws : List State) →
+        IsAcceptedAs source (stands_for net) → Meaning net items ws → EachHasDemands net nothing items ws }
+{
+    each_demands();
+}
 
 /// The program has one answer alone, for its words and the texts that are held: one list of bytes, and one status.
 pub fn one_answer()

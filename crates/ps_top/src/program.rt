@@ -12,6 +12,7 @@ ghost use Rattle.ps_words.specs.Command.Command.{NotTaken};
 use crate::Status;
 use crate::certifying::cert;
 use crate::checking::check;
+use crate::demanding::demand;
 use crate::left::Left;
 use crate::running::{fault, run};
 use crate::saying::say;
@@ -46,10 +47,10 @@ fn do_words<F: Files, S: Sink>(
         Command::Check { app } => check(alloc, app, files, out, left),
         Command::Cert { app } => cert(alloc, app, files, out, left),
         Command::Verify { app, cert } => verify(alloc, app, cert, files, out, left),
+        Command::Demand { app } => demand(alloc, app, files, out, left),
         // `command_of` gives no command that the program does not have.
         Command::Image { .. }
         | Command::Load { .. }
-        | Command::Demand { .. }
         | Command::Vote { .. }
         | Command::Heal { .. } => unreachable!(),
     }

@@ -77,7 +77,7 @@ is_built (Cert app) = true
 is_built (Verify app cert) = true
 is_built (Image app) = false
 is_built (Load number) = false
-is_built (Demand app) = false
+is_built (Demand app) = true
 is_built (Vote app trace faults) = false
 is_built (Heal app trace faults) = false
 is_built NotTaken = true
@@ -102,4 +102,4 @@ names_of NotTaken = []
 
 -- the forms of the commands that the program has
 abbrev pub usage_line : List ℕ
-usage_line = codes "usage: plcsafe run APP TRACE | fault APP TRACE FAULTS | check APP | cert APP | verify APP CERT\n"
+usage_line = codes "usage: plcsafe run APP TRACE | fault APP TRACE FAULTS | check APP | cert APP | verify APP CERT | demand APP\n"

@@ -1,6 +1,6 @@
 use Rattle.std.proofs.Common.{◌∙◌, [], sym, ap, arith}
 use Rattle.ps_words.specs.Command.{usage_line}
-use Rattle.ps_words.specs.Command.Command.{Run, Fault, Check, Cert, Verify, NotTaken}
+use Rattle.ps_words.specs.Command.Command.{Run, Fault, Check, Cert, Verify, Demand, NotTaken}
 use Rattle.ps_words.specs.Seen.{command_seen}
 use Rattle.ps_top.specs.Program.{answer}
 use Rattle.ps_top.specs.declared.Status.TheVariants.{Usage}
@@ -32,3 +32,7 @@ returns-in-Verify-clause-answers g c =
 pub returns-in-Fault-clause-answers : goal.returns-in-Fault-clause-answers
 returns-in-Fault-clause-answers g c =
     words_answer c.args.words.now (Fault c.in-Fault.app.now c.in-Fault.trace.now c.in-Fault.faults.now) _ _ _ _ _ c.fault.result (sym (ap command_seen c.in-Fault.is) ∙ c.in-Ok.ensures.asked) c.fault.ensures.answers
+
+pub returns-in-Demand-clause-answers : goal.returns-in-Demand-clause-answers
+returns-in-Demand-clause-answers g c =
+    words_answer c.args.words.now (Demand c.in-Demand.app.now) _ _ _ _ _ c.demand.result (sym (ap command_seen c.in-Demand.is) ∙ c.in-Ok.ensures.asked) c.demand.ensures.answers

@@ -1,0 +1,36 @@
+// `demand APP`.
+
+ghost use Rattle.std.specs.Prelude.{◌≡◌, ◌≢◌, ◌∷◌, []};
+ghost use Rattle.ps_top.specs.Calls.{Answers, files_seen, output_seen};
+ghost use Rattle.ps_top.specs.Program as program;
+
+use crate::Status;
+use crate::checking::refuse;
+use crate::left::Left;
+use crate::saying::say_lines;
+use ps_outside::{Files, Sink};
+use ps_source::read_demanded;
+use std::alloc::Global;
+
+// `demand APP`: what each SAFEBOOL output of an accepted application demands, line by line.
+pub(crate) fn demand<F: Files, S: Sink>(
+    alloc: Global,
+    app: &str,
+    files: &mut F,
+    out: &mut S,
+    left: &mut Left,
+) -> Status
+    ensures answers { Answers (program.demand app.now) (app.now ∷ [])
+        (files_seen F.tells F.held F.faults files.old) (files_seen F.tells F.held F.faults files.new)
+        (output_seen S.tells S.taken S.faults out.old) (output_seen S.tells S.taken S.faults out.new) left.new result }
+    ensures no_usage { result ≢ Status.Usage }
+{
+    match read_demanded(alloc, app, files) {
+        Ok(demanded) => {
+            let (lines, checked) = demanded.into_parts();
+            left.checked = Some(checked);
+            say_lines(out, lines.as_slice(), Status::Done)
+        }
+        Err(why) => refuse(out, why),
+    }
+}

@@ -18,10 +18,11 @@ use Rattle.ps_words.specs.Command.{Command, command_of}
 use Rattle.ps_words.specs.Command.Command.{Run, Fault as FaultWords, Check, Cert, Verify, Image, Load, Demand, Vote, Heal, NotTaken}
 use Rattle.ps_top.specs.Asking.{Answer, Asking, IsAnswer, AsksFor}
 use Rattle.ps_top.specs.Asking.Asking.{Says, Asks, Finds, Leaves}
-use Rattle.ps_top.specs.Program.{Judged, Judges, verdict, leaves_checked, with_application, accepted, leaves_world, region_sizes, trips_of, unless_refused, with_faults, run_quietly, run_struck, answer_scans, run_named, verify_named, verify, demanded, demand, said, told, text}
+use Rattle.ps_top.specs.Program.{Judged, Judges, verdict, leaves_checked, with_application, accepted, leaves_world, answer, image_lines, imaged, region_sizes, trips_of, unless_refused, with_faults, run_quietly, run_struck, answer_scans, run_named, verify_named, verify, demanded, demand, said, told, text}
 use Rattle.ps_top.specs.Program.Judged.{derives, objects}
 use Rattle.ps_source.specs.Demanding.{IsDemandableAs}
 use Rattle.ps_source.specs.Source.{Reading, Resolves, IsResolvedAs, IsAcceptedAs, counts}
+use Rattle.ps_top.specs.declared.Status.TheVariants.{Done}
 use Rattle.ps_top.specs.declared.left.Left.{Left}
 use Rattle.ps_source.specs.Source.Reading.{stands_for, is_refused}
 use Rattle.ps_source.proofs.Demandable.{one_demanding}
@@ -136,7 +137,7 @@ module _ (held : List ℕ → Option (List ℕ)) where
   said_determined (Check app) = accepted_determined app _ (λ s net r. says_determined held _)
   said_determined (Cert app) = accepted_determined app _ (λ s net r. says_determined held _)
   said_determined (Verify app c) = verify_determined app c
-  said_determined (Image app) = says_determined held _
+  said_determined (Image app) = accepted_determined app imaged (λ s net r. setup_determined net (λ setup. Says (answer (image_lines setup) Done)) (λ setup. says_determined held _))
   said_determined (Load number) = says_determined held _
   said_determined (Demand app) = demand_determined app
   said_determined (Vote app trace faults) = says_determined held _

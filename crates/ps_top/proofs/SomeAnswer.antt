@@ -19,8 +19,9 @@ use Rattle.ps_words.specs.Command.{Command, command_of}
 use Rattle.ps_words.specs.Command.Command.{Run, Fault as FaultWords, Check, Cert, Verify, Image, Load, Demand, Vote, Heal, NotTaken}
 use Rattle.ps_top.specs.Asking.{Answer, Asking, IsAnswer, AsksFor}
 use Rattle.ps_top.specs.Asking.Asking.{Says, Asks, Finds}
-use Rattle.ps_top.specs.Program.{Judged, Judges, verdict, with_application, accepted, region_sizes, trips_of, unless_refused, with_faults, run_quietly, run_struck, answer_scans, run_named, verify_named, verify, demanded, demand, said, told, text}
+use Rattle.ps_top.specs.Program.{Judged, Judges, verdict, with_application, accepted, answer, image_lines, imaged, region_sizes, trips_of, unless_refused, with_faults, run_quietly, run_struck, answer_scans, run_named, verify_named, verify, demanded, demand, said, told, text}
 use Rattle.ps_top.specs.Program.Judged.{derives, objects}
+use Rattle.ps_top.specs.declared.Status.TheVariants.{Done}
 use Rattle.ps_top.proofs.OneAnswer.{with_counts, resolved_sound}
 use Rattle.ps_top.proofs.Setups.{some_setup}
 
@@ -108,7 +109,7 @@ module _ (held : List ℕ → Option (List ℕ)) where
     said_some (Check app) = accepted_some app _ (λ s net r. says_some _)
     said_some (Cert app) = accepted_some app _ (λ s net r. says_some _)
     said_some (Verify app c) = verify_some app c
-    said_some (Image app) = says_some _
+    said_some (Image app) = accepted_some app imaged (λ s net r. setup_some net (λ setup. Says (answer (image_lines setup) Done)) (λ setup. says_some _))
     said_some (Load number) = says_some _
     said_some (Demand app) = demand_some app
     said_some (Vote app trace faults) = says_some _

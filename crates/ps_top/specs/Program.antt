@@ -2,6 +2,7 @@
 use Rattle.std.specs.Prelude.{◌≡◌, ◌⊎◌, ℕ, suc, Bool, true, false, ◌==◌, ◌||◌, if◌then◌else◌, List, [], ◌∷◌, ◌++◌, Option, Some, None, is_some, length}
 use Rattle.ps_base.specs.declared.failing.Refusal.{Refusal}
 use Rattle.ps_model.specs.declared.channel.Cause.{Cause}
+use Rattle.ps_model.specs.declared.channel.Channel.TheVariants.{A, B}
 use Rattle.ps_model.specs.declared.channel.Fault.{Fault}
 use Rattle.ps_model.specs.declared.channel.ImageSizes.{ImageSizes}
 use Rattle.ps_model.specs.Network.{Network}
@@ -21,10 +22,11 @@ use Rattle.ps_world.specs.Worlds.{world_0}
 use Rattle.ps_world.specs.Orders.{events, trips}
 use Rattle.ps_world.specs.Whole.{Setup, Whole, machines_in, after_events, IsSetupOf}
 use Rattle.ps_demand.specs.Lines.{demand_lines}
+use Rattle.ps_report.specs.Image.{image_part}
 use Rattle.ps_report.specs.Lines.{report_text, trip_text}
 use Rattle.ps_report.specs.Short.{refusal_text, check_text}
 use Rattle.ps_words.specs.Command.{Command, command_of, usage_line}
-use Rattle.ps_words.specs.Command.Command.{Run, Fault as FaultWords, Check, Cert, Verify, Demand}
+use Rattle.ps_words.specs.Command.Command.{Run, Fault as FaultWords, Check, Cert, Verify, Image, Demand}
 use Rattle.ps_top.specs.Asking.{Answer, Asking}
 use Rattle.ps_top.specs.Asking.Asking.{Says, Asks, Finds, Leaves}
 use Rattle.ps_top.specs.Lines.{restart_line, verified_line}
@@ -78,7 +80,11 @@ demanded net = Says (answer (demand_lines net) Done)
 abbrev pub demand : List ℕ → Asking
 demand app = demandable app demanded
 
--- ---- run and fault
+-- ---- the channels of an application
+
+-- what never changes of an application's world is found: both compilers' code, the sizes, and the budgets of turns
+abbrev pub with_setup : Network → (Setup → Asking) → Asking
+with_setup net next = Finds Setup (IsSetupOf net) next
 
 -- the world of two channels at the beginning
 abbrev pub first_world : Setup → Whole
@@ -87,6 +93,22 @@ first_world setup = record { setup = setup; state = world_0 (machines_in setup) 
 -- the lengths of the regions of both channels, in bytes
 abbrev pub region_sizes : Setup → ImageSizes
 region_sizes setup = let x = world_0 (machines_in setup) in record { a_code = length x.a.code; a_cells = length x.a.cells; b_code = length x.b.code; b_cells = length x.b.cells }
+
+-- ---- image
+
+-- the text of an application's images: channel A's part, and then channel B's
+abbrev pub image_lines : Setup → List ℕ
+image_lines setup = image_part A setup.image_a (region_sizes setup).a_cells setup.budget_a ++ image_part B setup.image_b (region_sizes setup).b_cells setup.budget_b
+
+-- the images of an application are said
+abbrev pub imaged : Network → Asking
+imaged net = with_setup net (λ setup. Says (answer (image_lines setup) Done))
+
+-- `image APP`: the code of both channels
+abbrev pub image : List ℕ → Asking
+image app = accepted app imaged
+
+-- ---- run and fault
 
 -- the scans of a trace that trip, by number, each with its cause, where these faults strike
 abbrev pub trips_of : Setup → List Fault → Scans → List (ℕ × Cause)
@@ -149,10 +171,6 @@ answer_scans net setup faults scans =
 -- the trace of this name is run, where these faults strike
 abbrev pub run_named : Network → Setup → List Fault → List ℕ → Asking
 run_named net setup faults trace = Asks trace (λ text. answer_scans net setup faults (scans_of text net))
-
--- what never changes of an application's world is found: both compilers' code, the sizes, and the budgets of turns
-abbrev pub with_setup : Network → (Setup → Asking) → Asking
-with_setup net next = Finds Setup (IsSetupOf net) next
 
 -- a fault file that is refused has its line, and with the faults of another the program goes on
 abbrev pub unless_refused : (List Fault → Asking) → List Fault → Option Refusal → Asking
@@ -220,6 +238,7 @@ said (FaultWords app trace faults) = fault app trace faults
 said (Check app) = check app
 said (Cert app) = cert app
 said (Verify app cert) = verify app cert
+said (Image app) = image app
 said (Demand app) = demand app
 said _ = Says (answer usage_line Usage)
 

@@ -1,7 +1,7 @@
 //! The program `plcsafe`, over any files and any output.
 //!
 //! `program` has the call that does all that the program does, by the definition `text`. One room for each command:
-//! `checking`, `certifying`, `verifying`, `demanding`, `running`; `saying` writes short answers. The loop over a trace is in `items`, over
+//! `checking`, `certifying`, `verifying`, `imaging`, `demanding`, `running`; `saying` writes short answers. The loop over a trace is in `items`, over
 //! what performs a scan (`performing`, which is a world that faults strike, `striking`) and what takes what comes of it
 //! (`taking`). `left` is what a call leaves behind.
 #![tactic(auto)]
@@ -9,6 +9,7 @@
 mod certifying;
 mod checking;
 mod demanding;
+mod imaging;
 mod items;
 pub mod laws;
 mod left;

@@ -13,6 +13,7 @@ use crate::Status;
 use crate::certifying::cert;
 use crate::checking::check;
 use crate::demanding::demand;
+use crate::imaging::image;
 use crate::left::Left;
 use crate::running::{fault, run};
 use crate::saying::say;
@@ -47,10 +48,10 @@ fn do_words<F: Files, S: Sink>(
         Command::Check { app } => check(alloc, app, files, out, left),
         Command::Cert { app } => cert(alloc, app, files, out, left),
         Command::Verify { app, cert } => verify(alloc, app, cert, files, out, left),
+        Command::Image { app } => image(alloc, app, files, out, left),
         Command::Demand { app } => demand(alloc, app, files, out, left),
         // `command_of` gives no command that the program does not have.
-        Command::Image { .. }
-        | Command::Load { .. }
+        Command::Load { .. }
         | Command::Vote { .. }
         | Command::Heal { .. } => unreachable!(),
     }

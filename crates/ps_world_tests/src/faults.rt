@@ -13,13 +13,15 @@ fn hold_both(rt: &impl Abort, alloc: Global, rows: &str) -> Result<(), Fail> {
     hold(rt, alloc, MOTOR, ORDINARY, rows, Way::ByTurns(Channel::A))
 }
 
-// Faults that a Compare shows, and one on which both channels then agree.
+// Faults that a Compare shows, one on which both channels then agree, one that writes what stands there, and one that is not
+// reached.
 const SHOWN: &str = "\
 none => 0 1,0,8001;0 1,0,8002;0 1,0,8003;1 1,0,8000;0 1,0,8000;0 1,0,8004;
 before 3 A memory 81 8000 => 0 1,0,8001;0 1,0,8002;Differ(0);Down;Down;Down;
 before 3 B memory 68 7fff => 0 1,0,8001;0 1,0,8002;Differ(0);Down;Down;Down;
 before 3 A memory 81 8001 => 0 1,0,8001;0 1,0,8002;Differ(3);Down;Down;Down;
 before 4 A memory 81 8000 => 0 1,0,8001;0 1,0,8002;0 1,0,8003;1 1,0,8000;0 1,0,8000;0 1,0,8004;
+before 1 A memory 96 00 => 0 1,0,8001;0 1,0,8002;0 1,0,8003;1 1,0,8000;0 1,0,8000;0 1,0,8004;
 before 7 A code 0 ff => 0 1,0,8001;0 1,0,8002;0 1,0,8003;1 1,0,8000;0 1,0,8000;0 1,0,8004;
 ";
 

@@ -1,7 +1,12 @@
 // A world, and the report that its Compares write. A call that may not come where it is asked for fails the test.
 
+ghost use Rattle.std.specs.Prelude.{IfOk};
+ghost use Rattle.ps_model.specs.Typing.{Accepted};
+ghost use Rattle.ps_world_tests.specs.Beginning.{IsBeginning};
+
 use crate::application::application;
-use ps_base::Bytes;
+use ps_base::{Bytes, Memory};
+use ps_model::app::App;
 use ps_model::channel::{Channel, Fault, OutOfRegion, Region, Verdict};
 use ps_model::report::{Report, Scan};
 use ps_world::World;
@@ -31,11 +36,21 @@ impl Model for Stage {
         × (length s.report.outs ≡ s.world.setup.sizes.outputs) × (length s.report.diags ≡ s.world.setup.sizes.instances) };
 }
 
+// The world of an accepted application, at the beginning.
+#[tactic(auto, using(crate::proofs::Beginnings::is_beginning))]
+fn world_of(alloc: Global, app: &App) -> Result<World, Memory>
+    requires { Accepted app.now }
+    ensures { IfOk result (IsBeginning app.now) }
+{
+    let world = World::build(alloc, app)?;
+    Ok(world)
+}
+
 impl Stage {
     /// The world of the application of a text, at the beginning.
     pub fn of(alloc: Global, text: &str) -> Result<Stage, Fail> {
         let app = application(alloc, text)?;
-        let world = World::build(alloc, &app)?;
+        let world = world_of(alloc, &app)?;
         let report = Report::for_app(alloc, &app)?;
         let inputs = app.input_count() as usize;
         Ok(Stage {

@@ -1,7 +1,7 @@
 use Rattle.std.proofs.Common.{sym, ap, ◌∙◌, refl}
 use Rattle.ps_model.specs.Stored.{loaded}
-use Rattle.ps_stackvm.proofs.Calls.{not_loaded}
-use Rattle.ps_stackvm.proofs.call.step_here.Goals as goal
+use Rattle.ps_stackvm.proofs.Instances.{not_loaded}
+use Rattle.ps_stackvm.proofs.instance.step_here.Goals as goal
 
 pub returns-in-None-clause-none : goal.returns-in-None-clause-none
 returns-in-None-clause-none g c =

@@ -5,7 +5,7 @@ use Rattle.std.proofs.lemmas.Nat.Bits.{shr_and_one}
 use Rattle.ps_machine.specs.Bytes.{bit, replaced}
 use Rattle.ps_model.specs.PinBits.{pin_of}
 use Rattle.ps_stackvm.proofs.Outputs.{output_more, outputs_end}
-use Rattle.ps_stackvm.proofs.pins.put_outputs.Goals as goal
+use Rattle.ps_stackvm.proofs.instance.put_outputs.Goals as goal
 
 pub loop-j-preserved : goal.loop-j-preserved
 loop-j-preserved c =

@@ -21,7 +21,7 @@ not_loaded exact kind bytes are none None e = refl
 not_loaded exact kind bytes are none (Some k) e = absurd (none k (exact.loaded_is_stored kind bytes k are e))
 
 -- sixteen bytes at a place that were lent, and given back as these
-written_at : (c new : List ℕ) (p : ℕ) → length new ≡ 16 → put_mid p (p + 16 - p) c new ≡ replaced c p new
+pub written_at : (c new : List ℕ) (p : ℕ) → length new ≡ 16 → put_mid p (p + 16 - p) c new ≡ replaced c p new
 written_at c new p long =
     let k : p + 16 - p ≡ 16 = omega arith in
     let e : p + 16 ≡ p + length new = omega arith in
@@ -43,7 +43,7 @@ has_stepped kind kind' same pins cells new after place first n o given count is 
       kept = steps.kept;
       loads = steps.loads;
       writes = is
-      ∙ ap (λ c. replaced c first (map bit (shown n o))) (written_at cells new place (ap length steps.stores))
-      ∙ ap (λ l. replaced (replaced cells place l) first (map bit (shown n o))) steps.stores
-      ∙ ap (λ l. replaced (replaced cells place (stored kept)) first (map bit l)) (ap (λ m. shown m o) number ∙ steps.shows.outputs);
+          ∙ ap (λ c. replaced c first (map bit (shown n o))) (written_at cells new place (ap length steps.stores))
+          ∙ ap (λ l. replaced (replaced cells place l) first (map bit (shown n o))) steps.stores
+          ∙ ap (λ l. replaced (replaced cells place (stored kept)) first (map bit l)) (ap (λ m. shown m o) number ∙ steps.shows.outputs);
     }

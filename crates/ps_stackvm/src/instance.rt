@@ -17,7 +17,12 @@ use ps_model::kind::safe_count;
 /// Steps an instance as a block with these pins. Its sixteen bytes stand at `place`: what they load to is stepped and stored
 /// there. From `first` on the outputs are written, a byte 0 or 1 each: safe outputs in order, Ready, Error. False where the
 /// sixteen bytes are of no state of the block's kind, and then nothing is written.
-pub fn step_instance<B: SafetyBlock>(cells: &mut [u8], place: usize, first: usize, pins: Pins) -> bool
+pub fn step_instance<B: SafetyBlock>(
+    cells: &mut [u8],
+    place: usize,
+    first: usize,
+    pins: Pins,
+) -> bool
     requires bytes { place + 16 ≤ length cells.old }
     requires outs { first + output_count B.KIND ≤ length cells.old }
     ensures stepped { result ≡ true → HasStepped B.KIND pins place first cells.old cells.new }

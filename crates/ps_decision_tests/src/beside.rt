@@ -37,11 +37,6 @@ impl Beside {
         })
     }
 
-    /// The plain evaluator's report of the last scan, all FALSE and 0 before the first.
-    pub fn report(&self) -> &Report {
-        self.others.report()
-    }
-
     /// Makes a scan of all four. True exactly where the others agree on it, and channel C is done after at most its budget of
     /// turns and reports what the plain evaluator reports.
     pub fn scan(&mut self, alloc: Global, app: &App, scan: &Scan) -> Result<bool, Memory>
@@ -65,7 +60,7 @@ impl Beside {
         Ok(
             self.decision.progress() == Progress::Done
                 && self.decision.report_into(&mut report)
-                && same_report(&report, self.report()),
+                && same_report(&report, self.others.report()),
         )
     }
 }

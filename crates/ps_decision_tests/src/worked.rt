@@ -1,117 +1,43 @@
-// The worked tables of the timers, of the mode selector, of a press and of M are met to their end.
+// The worked tables of M, of the timers, of the mode selector and of a press are met to their end.
 
 use crate::beside::met;
+use ps_base::Fail;
 use ps_channel_tests::blocks;
 use ps_channel_tests::press::{PRESS, PRESS_AT_WORK};
 use ps_channel_tests::texts::{DEEP, MOTOR};
 use ps_channel_tests::wires::{FEEDBACK, FEEDBACK_ROWS};
+use std::alloc::Global;
 
-#[test]
-fn ordinary_use(rt: HostRuntime) {
-    let found = met(rt.alloc(), MOTOR, blocks::ORDINARY_USE);
-    assert_eq!(rt; found, Ok(6));
-}
-
-#[test]
-fn held_reset(rt: HostRuntime) {
-    let found = met(rt.alloc(), MOTOR, blocks::HELD_RESET);
-    assert_eq!(rt; found, Ok(3));
-}
+// Each application with a table of its rows.
+const TABLES: [(&str, &str); 18] = [
+    (MOTOR, blocks::ORDINARY_USE),
+    (MOTOR, blocks::HELD_RESET),
+    (MOTOR, LARGEST_TIME),
+    (blocks::CONTACTS, blocks::LATE_CONTACT),
+    (blocks::CONTACTS, blocks::CONTACT_IN_TIME),
+    (blocks::CONTACTS_AT_ONCE, blocks::LIMIT_ZERO),
+    (blocks::OPPOSED_CONTACTS, blocks::ANTIVALENT_CONTACTS),
+    (blocks::TWO_HANDS, blocks::SECOND_BUTTON_IN_TIME),
+    (blocks::TWO_HANDS, blocks::SECOND_BUTTON_LATE),
+    (blocks::TWO_HANDS, blocks::NO_SECOND_BUTTON),
+    (blocks::MODES, blocks::MODE_SELECTOR),
+    (blocks::DEEP_RESET, blocks::MODE_SELECTOR),
+    (blocks::ENABLING, blocks::ENABLE_SWITCH),
+    (blocks::LOCKING, blocks::GUARD_LOCKING),
+    (blocks::REQUESTING, blocks::SAFETY_REQUEST),
+    (PRESS, PRESS_AT_WORK),
+    (FEEDBACK, FEEDBACK_ROWS),
+    (DEEP, DEEPEST),
+];
 
 // The earliest and the latest time.
-#[test]
-fn largest_time(rt: HostRuntime) {
-    let rows = "\
+const LARGEST_TIME: &str = "\
 0 000 0 8001
 4294967295 000 0 8002
 ";
-    assert_eq!(rt; met(rt.alloc(), MOTOR, rows), Ok(2));
-}
-
-#[test]
-fn late_contact(rt: HostRuntime) {
-    let found = met(rt.alloc(), blocks::CONTACTS, blocks::LATE_CONTACT);
-    assert_eq!(rt; found, Ok(3));
-}
-
-#[test]
-fn contact_in_time(rt: HostRuntime) {
-    let found = met(rt.alloc(), blocks::CONTACTS, blocks::CONTACT_IN_TIME);
-    assert_eq!(rt; found, Ok(3));
-}
-
-#[test]
-fn limit_zero(rt: HostRuntime) {
-    let found = met(rt.alloc(), blocks::CONTACTS_AT_ONCE, blocks::LIMIT_ZERO);
-    assert_eq!(rt; found, Ok(3));
-}
-
-#[test]
-fn antivalent_contacts(rt: HostRuntime) {
-    let found = met(
-        rt.alloc(),
-        blocks::OPPOSED_CONTACTS,
-        blocks::ANTIVALENT_CONTACTS,
-    );
-    assert_eq!(rt; found, Ok(6));
-}
-
-#[test]
-fn second_button_in_time(rt: HostRuntime) {
-    let found = met(rt.alloc(), blocks::TWO_HANDS, blocks::SECOND_BUTTON_IN_TIME);
-    assert_eq!(rt; found, Ok(4));
-}
-
-#[test]
-fn second_button_late(rt: HostRuntime) {
-    let found = met(rt.alloc(), blocks::TWO_HANDS, blocks::SECOND_BUTTON_LATE);
-    assert_eq!(rt; found, Ok(4));
-}
-
-#[test]
-fn no_second_button(rt: HostRuntime) {
-    let found = met(rt.alloc(), blocks::TWO_HANDS, blocks::NO_SECOND_BUTTON);
-    assert_eq!(rt; found, Ok(4));
-}
-
-#[test]
-fn mode_selector(rt: HostRuntime) {
-    let found = met(rt.alloc(), blocks::MODES, blocks::MODE_SELECTOR);
-    assert_eq!(rt; found, Ok(10));
-}
-
-#[test]
-fn enable_switch(rt: HostRuntime) {
-    let found = met(rt.alloc(), blocks::ENABLING, blocks::ENABLE_SWITCH);
-    assert_eq!(rt; found, Ok(9));
-}
-
-#[test]
-fn guard_locking(rt: HostRuntime) {
-    let found = met(rt.alloc(), blocks::LOCKING, blocks::GUARD_LOCKING);
-    assert_eq!(rt; found, Ok(10));
-}
-
-#[test]
-fn safety_request(rt: HostRuntime) {
-    let found = met(rt.alloc(), blocks::REQUESTING, blocks::SAFETY_REQUEST);
-    assert_eq!(rt; found, Ok(12));
-}
-
-#[test]
-fn press_at_work(rt: HostRuntime) {
-    assert_eq!(rt; met(rt.alloc(), PRESS, PRESS_AT_WORK), Ok(18));
-}
-
-#[test]
-fn feedback(rt: HostRuntime) {
-    assert_eq!(rt; met(rt.alloc(), FEEDBACK, FEEDBACK_ROWS), Ok(3));
-}
 
 // S_O is S_A OR S_B AND S_C.
-#[test]
-fn deepest_expression(rt: HostRuntime) {
-    let rows = "\
+const DEEPEST: &str = "\
 0 000 0
 10 001 0
 20 010 0
@@ -119,11 +45,30 @@ fn deepest_expression(rt: HostRuntime) {
 40 100 1
 50 110 1
 ";
-    assert_eq!(rt; met(rt.alloc(), DEEP, rows), Ok(6));
+
+// How many applications meet their table to its end, one after the other, before the first that does not.
+fn all_met(alloc: Global, tables: &[(&str, &str)]) -> Result<u32, Fail> {
+    let mut count: u32 = 0;
+    for (text, rows) in tables {
+        if met(alloc, text, rows)? as usize != rows.lines().count() {
+            return Ok(count);
+        }
+        count = count.saturating_add(1);
+    }
+    Ok(count)
 }
 
 #[test]
-fn deepest_expression_at_the_last_pin(rt: HostRuntime) {
-    let found = met(rt.alloc(), blocks::DEEP_RESET, blocks::MODE_SELECTOR);
-    assert_eq!(rt; found, Ok(10));
+fn worked_tables(rt: HostRuntime) {
+    assert_eq!(rt; all_met(rt.alloc(), &TABLES), Ok(18));
+}
+
+// A table is not met behind a row that tells another code.
+#[test]
+fn wrong_code(rt: HostRuntime) {
+    let rows = "\
+0 00 0 8001
+10 10 0 8000
+";
+    assert_eq!(rt; met(rt.alloc(), blocks::CONTACTS, rows), Ok(1));
 }

@@ -4,8 +4,6 @@
 // not 0 as PLACE=BYTE, the place in decimal and the byte in hexadecimal, the most turns, and what the progress byte then says:
 // run, done, or the number of a trap.
 
-ghost use Rattle.std.specs.Prelude.{◌<◌, ◌^◌, length, IfOk};
-
 use ps_base::{Fail, Memory};
 use ps_channel_tests::blocks::MODES;
 use ps_channel_tests::code::application;

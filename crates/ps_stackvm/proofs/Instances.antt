@@ -1,5 +1,5 @@
 -- A step of an instance in the cells, from what its block answers.
-use Rattle.std.proofs.Common.{◌≡◌, ℕ, ◌+◌, ◌-◌, List, ◌++◌, length, take, drop, map, Option, Some, None, refl, sym, ap, ◌∙◌, subst, arith}
+use Rattle.std.proofs.Common.{◌≡◌, ℕ, ◌+◌, ◌-◌, List, ◌++◌, length, take, drop, map, Option, Some, None, refl, ap, ◌∙◌, subst, arith}
 use Rattle.std.proofs.lemmas.List.{drop-drop}
 use borrow.Rule.Slice.PartMut.{put_mid}
 use Rattle.ps_model.specs.declared.kind.Kind.{Kind}
@@ -12,7 +12,7 @@ use Rattle.ps_block.specs.declared.block.Outs.{Outs}
 use Rattle.ps_block.specs.declared.block.Pins.{Pins}
 use Rattle.ps_block.specs.Shown.{shown}
 use Rattle.ps_block.specs.Stepping.{stepped_by}
-use Rattle.ps_stackvm.specs.Stepping.{IsStepInBytes, HasStepped, stepped_in}
+use Rattle.ps_stackvm.specs.Stepping.{IsStepInBytes, HasStepped}
 
 -- bytes for which no state of the kind is stored do not load
 pub not_loaded : LoadsExactly → (kind : Kind) (bytes : List ℕ) → AreBytes bytes → ((k : Kept) → Loads kind bytes k → ⊥) →

@@ -1,12 +1,13 @@
-// Scans of a motor behind an emergency stop through channel A, and then through channel B.
+// Scans of a motor behind an emergency stop through channel A, then through channel B, and then through channel C.
 
 ghost use Rattle.std.specs.Prelude.{◌≡◌, length, true, IfOk};
 ghost use Rattle.ps_model.specs.Network.{input_count, instance_count};
 ghost use Rattle.ps_model.specs.Sized.{AreSizesOf};
 
 use ps_base::Fail;
-use ps_channel_tests::code::{application, equation_code_of, stack_code_of};
+use ps_channel_tests::code::{accept, application, equation_code_of, stack_code_of};
 use ps_channel_tests::texts::MOTOR;
+use ps_decision::{DecisionChannel, decision_image, turns_c};
 use ps_eqvm::EquationChannel;
 use ps_model::app::App;
 use ps_model::report::{Report, Scan};
@@ -77,6 +78,16 @@ fn equation_channel(alloc: Global, app: &App) -> Result<EquationChannel, Fail>
     Ok(EquationChannel::new(alloc, &code, &sizes)?)
 }
 
+// A new channel C of an application.
+fn decision_channel(alloc: Global, app: &App) -> Result<DecisionChannel, Fail>
+    ensures { IfOk result (λ channel. AreSizesOf app.now channel.sizes) }
+{
+    accept(alloc, app)?;
+    let code = decision_image(alloc, app)?;
+    let sizes = Sizes::of(alloc, app)?;
+    Ok(DecisionChannel::new(alloc, &code, &sizes)?)
+}
+
 // So many scans through channel A.
 fn run_stack(
     channel: &mut StackChannel,
@@ -127,19 +138,55 @@ fn run_equation(
     tally
 }
 
-// So many scans of an application through both channels, A and then B.
-fn run_both(alloc: Global, app: &App, scans: u32) -> Result<(Tally, Tally), Fail> {
-    let mut stack = stack_channel(alloc, app)?;
-    let mut equation = equation_channel(alloc, app)?;
-    let mut scan = Scan::for_app(alloc, app)?;
-    let mut report = Report::for_app(alloc, app)?;
-    let a = run_stack(&mut stack, app, &mut scan, &mut report, scans);
-    let b = run_equation(&mut equation, app, &mut scan, &mut report, scans);
-    Ok((a, b))
+// So many scans through channel C.
+fn run_decision(
+    channel: &mut DecisionChannel,
+    app: &App,
+    scan: &mut Scan,
+    report: &mut Report,
+    scans: u32,
+) -> Tally
+    requires sizes { AreSizesOf app.now channel.old.sizes }
+    requires ins { length scan.old.ins ≡ input_count app.now }
+    ensures { length scan.new.ins ≡ input_count app.now }
+{
+    let mut tally = Tally::new();
+    let budget = turns_c(app);
+    for k in 0..scans {
+        fill(scan, k);
+        channel.begin(scan);
+        let turns = channel.turns(budget);
+        if is_sized(report, app) && channel.report_into(report) {
+            tally.add(turns, report);
+        }
+    }
+    tally
 }
 
-/// So many scans of the motor through both channels, A and then B.
-pub fn run(alloc: Global, scans: u32) -> Result<(Tally, Tally), Fail> {
+/// What scans came to in each channel.
+#[derive(Clone, Copy)]
+pub struct Tallies {
+    pub a: Tally,
+    pub b: Tally,
+    pub c: Tally,
+}
+
+// So many scans of an application through each channel.
+fn run_each(alloc: Global, app: &App, scans: u32) -> Result<Tallies, Fail> {
+    let mut stack = stack_channel(alloc, app)?;
+    let mut equation = equation_channel(alloc, app)?;
+    let mut decision = decision_channel(alloc, app)?;
+    let mut scan = Scan::for_app(alloc, app)?;
+    let mut report = Report::for_app(alloc, app)?;
+    Ok(Tallies {
+        a: run_stack(&mut stack, app, &mut scan, &mut report, scans),
+        b: run_equation(&mut equation, app, &mut scan, &mut report, scans),
+        c: run_decision(&mut decision, app, &mut scan, &mut report, scans),
+    })
+}
+
+/// So many scans of the motor through each channel.
+pub fn run(alloc: Global, scans: u32) -> Result<Tallies, Fail> {
     let app = application(alloc, MOTOR)?;
-    run_both(alloc, &app, scans)
+    run_each(alloc, &app, scans)
 }

@@ -1,6 +1,6 @@
 //! Measures parts of the product alone. It counts the scans of the trace T of the inputs S_In, Ack and Run:
 //! a measure of the reader of traces. Its word, if any, is a number of scans, one each 10 ms, which it makes of a motor behind an
-//! emergency stop through channel A, and then through channel B: a measure of the channels.
+//! emergency stop through channels A, B and C, one after the other: a measure of the channels.
 //!
 //! It prints how many scans come before the trace's first restart or its end, or why none is read; and of each channel how
 //! many turns the scans take, and after how many of them the motor is on.
@@ -9,6 +9,7 @@
 mod channels;
 mod traces;
 
+use channels::Tallies;
 use ps_outside::DiskFiles;
 use std::rt::Env;
 use std::{env, io};
@@ -30,12 +31,13 @@ fn print_trace(rt: &HostRuntime) -> io::Result<()> {
     }
 }
 
-// Prints what so many scans through both channels come to.
+// Prints what so many scans through each channel come to.
 fn print_channels(rt: &HostRuntime, scans: u32) -> io::Result<()> {
     match channels::run(rt.alloc(), scans) {
-        Ok((a, b)) => {
+        Ok(Tallies { a, b, c }) => {
             println!(rt; "A scans {scans} turns {} on {}", a.turns, a.on)?;
-            println!(rt; "B scans {scans} turns {} on {}", b.turns, b.on)
+            println!(rt; "B scans {scans} turns {} on {}", b.turns, b.on)?;
+            println!(rt; "C scans {scans} turns {} on {}", c.turns, c.on)
         }
         Err(fail) => println!(rt; "{fail}"),
     }

@@ -1,5 +1,6 @@
 //! Tests of both channels. Whole texts go through channel A, channel B and the plain evaluator side by side; and each channel
-//! runs bytes that were worked out by hand. The way from a text to both codes is public, for measurements.
+//! runs bytes that were worked out by hand. The way from a text to both codes is public, for measurements, and the tables are, for
+//! the tests of channel C.
 //!
 //! - `code`: from a text to its application, its codes and their figures. `texts`: texts whose codes are known from outside;
 //!   `codes`, `wide`: their tests.
@@ -8,8 +9,7 @@
 //! - `channel_a`, `channel_b`: turns, traps and spoiled bytes of one channel.
 #![tactic(auto)]
 
-#[cfg(test)]
-mod blocks;
+pub mod blocks;
 #[cfg(test)]
 mod channel_a;
 #[cfg(test)]
@@ -17,14 +17,12 @@ mod channel_b;
 pub mod code;
 #[cfg(test)]
 mod codes;
-#[cfg(test)]
-mod press;
+pub mod press;
 pub mod side_by_side;
 pub mod tables;
 pub mod texts;
 #[cfg(test)]
 mod wide;
-#[cfg(test)]
-mod wires;
+pub mod wires;
 #[cfg(test)]
 mod worked;

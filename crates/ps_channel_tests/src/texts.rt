@@ -1,5 +1,8 @@
 // Texts whose codes are known from outside.
 
+use ps_base::Memory;
+use std::alloc::Global;
+
 /// An emergency stop, and a motor behind it.
 pub const MOTOR: &str = "PROGRAM M
 VAR_INPUT S_In : SAFEBOOL; Ack, Run : BOOL; END_VAR
@@ -31,3 +34,19 @@ S_A OR S_B AND S_C
 ))))))))))))))));
 END_PROGRAM
 ";
+
+/// The text of an application that is the AND of so many inputs.
+pub fn wide(alloc: Global, inputs: u32) -> Result<String, Memory> {
+    let mut declared = String::from_str(alloc, "S_0")?;
+    let mut value = String::from_str(alloc, "S_0")?;
+    for i in 1..inputs {
+        let declaration = format!(in alloc; ", S_{i}")?;
+        let operand = format!(in alloc; " AND S_{i}")?;
+        declared.push_str(declaration.as_str())?;
+        value.push_str(operand.as_str())?;
+    }
+    let text = format!(in alloc;
+        "PROGRAM W\nVAR_INPUT {declared} : SAFEBOOL; END_VAR\nVAR_OUTPUT S_O : SAFEBOOL; END_VAR\nS_O := {value};\nEND_PROGRAM\n"
+    )?;
+    Ok(text)
+}

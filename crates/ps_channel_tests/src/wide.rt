@@ -6,26 +6,11 @@ use crate::code::{Figures, accept, application};
 use crate::codes::figures;
 use crate::side_by_side::SideBySide;
 use crate::tables::scan_of;
+use crate::texts::wide;
 use ps_base::{Fail, Memory};
 use ps_model::app::App;
 use ps_model::report::Scan;
 use std::alloc::Global;
-
-// The text of an application that is the AND of so many inputs.
-fn wide(alloc: Global, inputs: u32) -> Result<String, Memory> {
-    let mut declared = String::from_str(alloc, "S_0")?;
-    let mut value = String::from_str(alloc, "S_0")?;
-    for i in 1..inputs {
-        let declaration = format!(in alloc; ", S_{i}")?;
-        let operand = format!(in alloc; " AND S_{i}")?;
-        declared.push_str(declaration.as_str())?;
-        value.push_str(operand.as_str())?;
-    }
-    let text = format!(in alloc;
-        "PROGRAM W\nVAR_INPUT {declared} : SAFEBOOL; END_VAR\nVAR_OUTPUT S_O : SAFEBOOL; END_VAR\nS_O := {value};\nEND_PROGRAM\n"
-    )?;
-    Ok(text)
-}
 
 // The figures of the application of 512 inputs, which are the most.
 fn widest_figures(alloc: Global) -> Result<(Figures, Figures), Fail> {

@@ -132,26 +132,9 @@ fn deepest_expression(rt: HostRuntime) {
     assert_eq!(rt; met(rt.alloc(), DEEP, rows), Ok(6));
 }
 
-// The selector of modes, where at Reset, the last of thirteen pins, ORs and ANDs are nested as deep as a text can have them.
-const DEEP_RESET: &str = "PROGRAM Modes
-VAR_INPUT S_A : SAFEBOOL; S_B : SAFEBOOL; S_U : SAFEBOOL; Ack : BOOL; END_VAR
-VAR_OUTPUT S_M1 : SAFEBOOL; END_VAR
-VAR K : SF_ModeSelector; END_VAR
-K(Activate := TRUE, S_Mode0 := S_A, S_Mode1 := S_B, S_Unlock := S_U, AutoSetMode := TRUE,
-ModeMonitorTime := T#1s, Reset :=
-Ack OR S_A AND (Ack OR S_A AND (Ack OR S_A AND (Ack OR S_A AND (
-Ack OR S_A AND (Ack OR S_A AND (Ack OR S_A AND (Ack OR S_A AND (
-Ack OR S_A AND (Ack OR S_A AND (Ack OR S_A AND (Ack OR S_A AND (
-Ack OR S_A AND (Ack OR S_A AND (Ack OR S_A AND (Ack OR S_A AND (
-Ack OR S_A AND Ack
-)))))))))))))))));
-S_M1 := K.S_Mode1Sel;
-END_PROGRAM
-";
-
 #[test]
 fn deepest_expression_at_the_last_pin(rt: HostRuntime) {
-    let found = met(rt.alloc(), DEEP_RESET, blocks::MODE_SELECTOR);
+    let found = met(rt.alloc(), blocks::DEEP_RESET, blocks::MODE_SELECTOR);
     assert_eq!(rt; found, Ok(10));
 }
 

@@ -1,4 +1,4 @@
--- Channel A as a machine.
+-- Channel C as a machine.
 use Rattle.std.specs.Prelude.{ℕ, ◌+◌, ◌*◌, List, replicate}
 use Rattle.ps_model.specs.declared.sizes.Sizes.{Sizes}
 use Rattle.ps_machine.specs.Machines.{Workings, Machine, machine_of}

@@ -1,31 +1,27 @@
 // CALL: one step of an instance.
 
-ghost use Rattle.std.specs.Prelude.{◌≡◌, ℕ, ◌+◌, ◌*◌, ◌≤◌, None, IfSome, IfNone, length, map};
-ghost use Rattle.ps_model.specs.Blocks.{block, output_count};
-ghost use Rattle.ps_model.specs.BlockLaws.{AreBytes};
+ghost use Rattle.std.specs.Prelude.{◌≡◌, ℕ, ◌+◌, ◌*◌, ◌≤◌, length};
+ghost use Rattle.ps_model.specs.Blocks.{output_count};
 ghost use Rattle.ps_model.specs.Budgets.{boolean_count};
 ghost use Rattle.ps_model.specs.PinBits.{pin_of};
 ghost use Rattle.ps_model.specs.Stored.{loaded};
-ghost use Rattle.ps_machine.specs.Bytes.{bit, replaced};
-ghost use Rattle.ps_block.specs.Shown.{shown};
 ghost use Rattle.ps_stackvm.specs.Calling.{pins_in};
-ghost use Rattle.ps_stackvm.specs.Stepping.{IsStepInBytes};
-ghost use Rattle.ps_decision.specs.Cells.{block_bytes, pin_bytes, with_offset};
+ghost use Rattle.ps_decision.specs.Cells.{block_bytes, pin_bytes};
 ghost use Rattle.ps_decision.specs.Calling.{after_call, called_as, called_with};
 
 use crate::cells::{set_offset, time, trap};
 use crate::layout::{INSTANCE_SIZE, SIGNALS_AT};
-use crate::pins::{pins_in_cells, put_outputs};
+use crate::pins::pins_in_cells;
 use ps_actuators::{Edm, OutControl, SafetyRequest};
-use ps_block::{Outs, Pins, SafetyBlock};
+use ps_block::{Pins, SafetyBlock};
 use ps_guards::{GuardLocking, GuardMonitoring};
 use ps_machine::calls::kind_by_number;
-use ps_model::block_laws::loads_exactly;
 use ps_model::budget::boolean_count;
-use ps_model::kind::{Kind, output_count, safe_count};
+use ps_model::kind::{Kind, output_count};
 use ps_operator::{EnableSwitch, ModeSelector, TwoHandThree, TwoHandTwo};
 use ps_sensors::{Antivalent, EmergencyStop, Equivalent, Espe};
 use ps_stackvm::Trap;
+use ps_stackvm::instance::step_instance;
 
 // What a CALL names beside a kind: the instance, its first output signal and its limit in ms. `signals` is how many
 // signals there are, and `next` is where the following row stands.
@@ -66,103 +62,53 @@ fn call_as(cells: &mut [u8], kind: Kind, site: Site)
     requires { SIGNALS_AT + site.signals + INSTANCE_SIZE * site.instance + 16 ≤ length cells.old }
     ensures { cells.new ≡ called_as site.signals site.instance site.first site.limit site.next kind cells.old }
 {
-    if u32::from(site.first) + u32::from(output_count(kind)) > u32::from(site.signals) {
+    match kind {
+        Kind::Equivalent => call_block::<Equivalent>(cells, site),
+        Kind::Antivalent => call_block::<Antivalent>(cells, site),
+        Kind::EmergencyStop => call_block::<EmergencyStop>(cells, site),
+        Kind::Espe => call_block::<Espe>(cells, site),
+        Kind::ModeSelector => call_block::<ModeSelector>(cells, site),
+        Kind::TwoHandTwo => call_block::<TwoHandTwo>(cells, site),
+        Kind::TwoHandThree => call_block::<TwoHandThree>(cells, site),
+        Kind::GuardMonitoring => call_block::<GuardMonitoring>(cells, site),
+        Kind::GuardLocking => call_block::<GuardLocking>(cells, site),
+        Kind::EnableSwitch => call_block::<EnableSwitch>(cells, site),
+        Kind::SafetyRequest => call_block::<SafetyRequest>(cells, site),
+        Kind::OutControl => call_block::<OutControl>(cells, site),
+        Kind::Edm => call_block::<Edm>(cells, site),
+    }
+}
+
+// The same as a block, with a code of its own for each kind, in which the counts of pins and outputs are constants.
+#[inline(never)]
+fn call_block<B: SafetyBlock>(cells: &mut [u8], site: Site)
+    requires { SIGNALS_AT + site.signals + INSTANCE_SIZE * site.instance + 16 ≤ length cells.old }
+    ensures { cells.new ≡ called_as site.signals site.instance site.first site.limit site.next B.KIND cells.old }
+{
+    if u32::from(site.first) + u32::from(output_count(B::KIND)) > u32::from(site.signals) {
         return trap(cells, Trap::NoSignal);
     }
-    match pins_in_cells(cells, boolean_count(kind)) {
-        Some(bits) => step_instance(cells, kind, bits, site),
+    match pins_in_cells(cells, boolean_count(B::KIND)) {
+        Some(bits) => step_block::<B>(cells, bits, site),
         None => trap(cells, Trap::NotBoolean),
     }
 }
 
-// The step of an instance with pins that are there.
-fn step_instance(cells: &mut [u8], kind: Kind, bits: u32, site: Site)
+// The step of an instance as a block, with pins that are there. The row behind follows.
+fn step_block<B: SafetyBlock>(cells: &mut [u8], bits: u32, site: Site)
     requires end { SIGNALS_AT + site.signals + INSTANCE_SIZE * site.instance + 16 ≤ length cells.old }
-    requires outs { site.first + output_count kind ≤ site.signals }
-    requires pins { (j : ℕ) → pin_of bits j ≡ pins_in (pin_bytes (boolean_count kind) cells.old) j }
-    ensures { cells.new ≡ called_with site.signals site.instance site.first site.limit site.next kind (loaded kind (block_bytes site.signals site.instance cells.old)) cells.old }
+    requires outs { site.first + output_count B.KIND ≤ site.signals }
+    requires pins { (j : ℕ) → pin_of bits j ≡ pins_in (pin_bytes (boolean_count B.KIND) cells.old) j }
+    ensures { cells.new ≡ called_with site.signals site.instance site.first site.limit site.next B.KIND (loaded B.KIND (block_bytes site.signals site.instance cells.old)) cells.old }
 {
-    let place = site.place();
     let pins = Pins {
         bits,
         limit: site.limit,
         now: time(cells),
     };
-    match step_as(kind, &mut cells[place..place + 16], pins) {
-        Some(outs) => show(cells, kind, outs, site),
-        None => trap(cells, Trap::NoState),
+    let first = SIGNALS_AT + site.first as usize;
+    if !step_instance::<B>(cells, site.place(), first, pins) {
+        return trap(cells, Trap::NoState);
     }
-}
-
-// A step of a block of the kind whose sixteen bytes are these: load, step, store. None where they load for no state, and then
-// they stay.
-fn step_as(kind: Kind, bytes: &mut [u8], pins: Pins) -> Option<Outs>
-    requires { length bytes.old ≡ 16 }
-    ensures steps { IfSome result (IsStepInBytes kind pins bytes.old bytes.new) }
-    ensures none { IfNone result (loaded kind bytes.old ≡ None) }
-    ensures kept { IfNone result (bytes.new ≡ bytes.old) }
-{
-    match kind {
-        Kind::Equivalent => step_block::<Equivalent>(bytes, pins),
-        Kind::Antivalent => step_block::<Antivalent>(bytes, pins),
-        Kind::EmergencyStop => step_block::<EmergencyStop>(bytes, pins),
-        Kind::Espe => step_block::<Espe>(bytes, pins),
-        Kind::ModeSelector => step_block::<ModeSelector>(bytes, pins),
-        Kind::TwoHandTwo => step_block::<TwoHandTwo>(bytes, pins),
-        Kind::TwoHandThree => step_block::<TwoHandThree>(bytes, pins),
-        Kind::GuardMonitoring => step_block::<GuardMonitoring>(bytes, pins),
-        Kind::GuardLocking => step_block::<GuardLocking>(bytes, pins),
-        Kind::EnableSwitch => step_block::<EnableSwitch>(bytes, pins),
-        Kind::SafetyRequest => step_block::<SafetyRequest>(bytes, pins),
-        Kind::OutControl => step_block::<OutControl>(bytes, pins),
-        Kind::Edm => step_block::<Edm>(bytes, pins),
-    }
-}
-
-// The same for one kind.
-fn step_block<B: SafetyBlock>(bytes: &mut [u8], pins: Pins) -> Option<Outs>
-    requires { length bytes.old ≡ 16 }
-    ensures steps { IfSome result (IsStepInBytes B.KIND pins bytes.old bytes.new) }
-    ensures none { IfNone result (loaded B.KIND bytes.old ≡ None) }
-    ensures kept { IfNone result (bytes.new ≡ bytes.old) }
-{
-    loads_exactly();
-    let Some(block) = bytes.as_mut_array::<16>() else {
-        unreachable!()
-    };
-    match B::load(block) {
-        Some(mut state) => {
-            let outs = B::step(&mut state, pins);
-            B::store(&state, block);
-            Some(outs)
-        }
-        None => {
-            are_bytes(block);
-            None
-        }
-    }
-}
-
-// The values of sixteen bytes are below 256.
-fn are_bytes(bytes: &[u8; 16])
-    ensures { AreBytes bytes.now }
-{
-    for byte in bytes {
-        let _value = *byte;
-    }
-}
-
-// The outputs are written, and the row behind follows.
-fn show(cells: &mut [u8], kind: Kind, outs: Outs, site: Site)
-    requires end { SIGNALS_AT + site.signals ≤ length cells.old }
-    requires outs { site.first + output_count kind ≤ site.signals }
-    ensures { cells.new ≡ with_offset site.next (replaced cells.old (SIGNALS_AT + site.first) (map bit (shown (length (block kind).outputs) outs))) }
-{
-    put_outputs(
-        cells,
-        SIGNALS_AT + site.first as usize,
-        safe_count(kind),
-        outs,
-    );
     set_offset(cells, site.next);
 }

@@ -4,7 +4,6 @@ ghost use Rattle.std.specs.Prelude.{◌≡◌, ◌+◌, ◌*◌};
 
 use crate::cells::{begin, progress};
 use crate::layout::{INSTANCE_SIZE, SIGNALS_AT};
-use crate::report::{has_report, write_diags, write_outputs};
 use crate::turn::{turn, turns};
 use ps_base::Memory;
 use ps_machine::bytes::overwrite;
@@ -12,6 +11,7 @@ use ps_machine::{CodeImage, ScanMachine};
 use ps_model::channel::{OutOfRegion, Progress, Region};
 use ps_model::report::{Report, Scan};
 use ps_model::sizes::Sizes;
+use ps_stackvm::report::read_report;
 use std::alloc::Global;
 use std::marker::Model;
 
@@ -124,12 +124,7 @@ impl DecisionChannel {
         ensures kept { result ≡ false → into.new ≡ into.old }
         ensures sized { (length into.new.outs ≡ length into.old.outs) × (length into.new.diags ≡ length into.old.diags) }
     {
-        if !has_report(&self.cells, &self.sizes) {
-            return false;
-        }
-        write_outputs(&self.cells, &self.sizes, &mut into.outs);
-        write_diags(&self.cells, &self.sizes, &mut into.diags);
-        true
+        read_report(&self.cells, SIGNALS_AT, &self.sizes, into)
     }
 
     /// The length of a region in bytes.

@@ -1,8 +1,9 @@
 //! Channel C: a machine that runs decision code, on any bytes, and the compiler of that code. Where channel A computes a value
 //! on a stack, channel C goes on at one place or at another.
 //!
-//! - `channel`: the channel, with its code and its cells; `cells`, `layout` and `report` are its cells.
+//! - `channel`: the channel, with its code and its cells; `cells` and `layout` are its cells.
 //! - `turn`: one turn, by `fetch`, `act` and `call`; `pins` is what a call takes from the pin cells.
+//! - The step of an instance and the report of the cells are those of channel A, from its crate.
 //! - `row`: the rows of decision code; the traps are those of channel A.
 //! - `image`: the code of an application; `emit` writes the rows of its values, and `budget` counts them.
 //! - `laws`: what the code promises, and how long it is.
@@ -21,7 +22,6 @@ mod image;
 pub mod laws;
 mod layout;
 mod pins;
-mod report;
 mod row;
 mod turn;
 

@@ -1,4 +1,5 @@
 pub mod Outputs
+pub mod Instances
 pub mod Calls
 pub mod Gathering
 pub mod Popping

@@ -8,5 +8,5 @@ pub mod Turn
 pub mod Channel
 pub mod Code
 pub mod Stands
--- Apparatus of contracts: one step of an instance in its sixteen bytes.
+-- One step of an instance, in its sixteen bytes and in the cells: what the CALLs of channels A and C share.
 pub mod Stepping

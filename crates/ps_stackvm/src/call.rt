@@ -1,28 +1,24 @@
 // CALL: one step of an instance.
 
-ghost use Rattle.std.specs.Prelude.{◌≡◌, ℕ, ◌+◌, ◌-◌, ◌*◌, ◌<◌, ◌≤◌, None, IfSome, IfNone, length, map, slice_index};
-ghost use Rattle.ps_model.specs.Blocks.{block, output_count};
-ghost use Rattle.ps_model.specs.BlockLaws.{AreBytes};
+ghost use Rattle.std.specs.Prelude.{◌≡◌, ℕ, ◌+◌, ◌*◌, ◌≤◌, length, slice_index};
+ghost use Rattle.ps_model.specs.Blocks.{output_count};
 ghost use Rattle.ps_model.specs.Budgets.{boolean_count};
 ghost use Rattle.ps_model.specs.Stored.{loaded};
-ghost use Rattle.ps_machine.specs.Bytes.{bit, replaced};
 ghost use Rattle.ps_model.specs.PinBits.{pin_of};
-ghost use Rattle.ps_block.specs.Shown.{shown};
-ghost use Rattle.ps_stackvm.specs.Cells.{block_bytes, with_pc, with_height};
+ghost use Rattle.ps_stackvm.specs.Cells.{block_bytes};
 ghost use Rattle.ps_stackvm.specs.Calling.{after_call, called_as, called_with, pins_in, topmost};
-ghost use Rattle.ps_stackvm.specs.Stepping.{IsStepInBytes};
 
 use crate::cells::{set_pc, time, trap};
+use crate::instance::step_instance;
 use crate::layout::{HEIGHT_AT, INSTANCE_SIZE, SIGNALS_AT, STACK_SIZE};
-use crate::pins::{pins_on_stack, put_outputs};
+use crate::pins::pins_on_stack;
 use crate::trap::Trap;
 use ps_actuators::{Edm, OutControl, SafetyRequest};
-use ps_block::{Outs, Pins, SafetyBlock};
+use ps_block::{Pins, SafetyBlock};
 use ps_guards::{GuardLocking, GuardMonitoring};
 use ps_machine::calls::kind_by_number;
-use ps_model::block_laws::loads_exactly;
 use ps_model::budget::boolean_count;
-use ps_model::kind::{Kind, output_count, safe_count};
+use ps_model::kind::{Kind, output_count};
 use ps_operator::{EnableSwitch, ModeSelector, TwoHandThree, TwoHandTwo};
 use ps_sensors::{Antivalent, EmergencyStop, Equivalent, Espe};
 
@@ -135,7 +131,7 @@ fn call_apart<B: SafetyBlock>(
     }
 }
 
-// The step of an instance as a block, with pins that are there.
+// The step of an instance as a block, with pins that are there. It pops them.
 fn step_block<B: SafetyBlock>(cells: &mut [u8], bits: u32, site: Site)
     requires end { SIGNALS_AT + site.signals + INSTANCE_SIZE * site.instance + 16 ≤ length cells.old }
     requires outs { site.first + output_count B.KIND ≤ site.signals }
@@ -144,64 +140,16 @@ fn step_block<B: SafetyBlock>(cells: &mut [u8], bits: u32, site: Site)
     requires pins { (j : ℕ) → pin_of bits j ≡ pins_in (topmost (boolean_count B.KIND) cells.old) j }
     ensures { cells.new ≡ called_with site.signals site.instance site.first site.limit site.next B.KIND (loaded B.KIND (block_bytes site.signals site.instance cells.old)) cells.old }
 {
-    let place = site.place();
+    let height = cells[HEIGHT_AT] - boolean_count(B::KIND);
     let pins = Pins {
         bits,
         limit: site.limit,
         now: time(cells),
     };
-    match step_here::<B>(&mut cells[place..place + 16], pins) {
-        Some(outs) => show(cells, B::KIND, outs, site),
-        None => trap(cells, Trap::NoState),
+    let first = SIGNALS_AT + site.first as usize;
+    if !step_instance::<B>(cells, site.place(), first, pins) {
+        return trap(cells, Trap::NoState);
     }
-}
-
-// A step of a block whose sixteen bytes are these: load, step, store. None where they load for no state, and then they stay.
-fn step_here<B: SafetyBlock>(bytes: &mut [u8], pins: Pins) -> Option<Outs>
-    requires { length bytes.old ≡ 16 }
-    ensures steps { IfSome result (IsStepInBytes B.KIND pins bytes.old bytes.new) }
-    ensures none { IfNone result (loaded B.KIND bytes.old ≡ None) }
-    ensures kept { IfNone result (bytes.new ≡ bytes.old) }
-{
-    loads_exactly();
-    let Some(block) = bytes.as_mut_array::<16>() else {
-        unreachable!()
-    };
-    match B::load(block) {
-        Some(mut state) => {
-            let outs = B::step(&mut state, pins);
-            B::store(&state, block);
-            Some(outs)
-        }
-        None => {
-            are_bytes(block);
-            None
-        }
-    }
-}
-
-// The values of sixteen bytes are below 256.
-fn are_bytes(bytes: &[u8; 16])
-    ensures { AreBytes bytes.now }
-{
-    for byte in bytes {
-        let _value = *byte;
-    }
-}
-
-// The pins are popped, and the outputs are written.
-fn show(cells: &mut [u8], kind: Kind, outs: Outs, site: Site)
-    requires end { SIGNALS_AT + site.signals ≤ length cells.old }
-    requires outs { site.first + output_count kind ≤ site.signals }
-    requires tall { boolean_count kind ≤ slice_index cells.old HEIGHT_AT }
-    ensures { cells.new ≡ with_pc site.next (replaced (with_height (slice_index cells.old HEIGHT_AT - boolean_count kind) cells.old) (SIGNALS_AT + site.first) (map bit (shown (length (block kind).outputs) outs))) }
-{
-    cells[HEIGHT_AT] -= boolean_count(kind);
-    put_outputs(
-        cells,
-        SIGNALS_AT + site.first as usize,
-        safe_count(kind),
-        outs,
-    );
+    cells[HEIGHT_AT] = height;
     set_pc(cells, site.next);
 }

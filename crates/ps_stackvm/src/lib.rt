@@ -1,7 +1,8 @@
 //! Channel A: a machine that runs stack code, on any bytes. It steps each instance as a typed block.
 //!
-//! - `channel`: the channel, with its code and its cells; `cells`, `layout` and `report` are its cells.
+//! - `channel`: the channel, with its code and its cells; `cells` and `layout` are its cells.
 //! - `turn`: one turn, by `fetch`, `stack` and `call`; `pins` is what a call takes from the stack.
+//! - `instance` and `report`: the step of an instance in the cells, and the report that they hold; channel C has them too.
 //! - `instruction` and `trap`: the instructions and the traps with their numbers.
 //!
 //! What the bytes are and what a turn does is defined in specs/, for any code and any cells.
@@ -11,10 +12,11 @@ mod call;
 mod cells;
 mod channel;
 mod fetch;
+pub mod instance;
 mod instruction;
 mod layout;
 mod pins;
-mod report;
+pub mod report;
 mod stack;
 mod trap;
 mod turn;

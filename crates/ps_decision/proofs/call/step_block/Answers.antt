@@ -1,11 +1,17 @@
-use Rattle.std.proofs.Common.{sym, ap, ◌∙◌, refl}
-use Rattle.ps_model.specs.Stored.{loaded}
-use Rattle.ps_stackvm.proofs.Calls.{not_loaded}
+use Rattle.std.proofs.Common.{refl, ◌∙◌}
+use Rattle.ps_decision.proofs.Calls.{called_none, called_some}
 use Rattle.ps_decision.proofs.call.step_block.Goals as goal
 
-pub returns-in-None-clause-none : goal.returns-in-None-clause-none
-returns-in-None-clause-none g c =
-    let kind = g.B.SafetyBlock.KIND in
-    let block = c.in-Some.block.now in
-    ap (loaded kind) (sym c.in-Some.ensures.cases.same)
-    ∙ not_loaded c.loads_exactly.ensures kind block c.are_bytes.ensures c.in-None.ensures.none (loaded kind block) refl
+pub returns-then-not-step_instance : goal.returns-then-not-step_instance
+returns-then-not-step_instance g c =
+    let site = c.args.site in
+    c.trap.ensures
+    ∙ called_none site.signals site.instance site.first site.limit site.next g.B.SafetyBlock.KIND c.args.cells.now c.step_instance.new.cells c.place.result c.place.ensures
+    (c.step_instance.ensures.kept c.if-not-step_instance.true) (c.step_instance.ensures.none c.if-not-step_instance.true)
+
+pub returns : goal.returns
+returns g c =
+    let site = c.args.site in
+    c.set_offset.ensures
+    ∙ called_some site.signals site.instance site.first site.limit site.next g.B.SafetyBlock.KIND c.args.cells.now c.step_instance.new.cells c.place.result c.place.ensures
+    (record { bits = c.args.bits; limit = site.limit; now = c.time.result }) (c.step_instance.ensures.stepped c.if-not-step_instance.false) refl c.time.ensures c.requires.pins

@@ -7,4 +7,4 @@ use Rattle.ps_stackvm.proofs.report.diags_hold.Given as goal
 
 abbrev pub invariant-loop-i : goal.invariant-loop-i
 invariant-loop-i l =
-    list_all (λ i. not (is_no_bit (ready_byte l.sizes 74 l.cells i)) && not (is_no_bit (error_byte l.sizes 74 l.cells i))) (range_with_len 0 l.i) ≡ true
+    list_all (λ i. not (is_no_bit (ready_byte l.sizes l.signals_at l.cells i)) && not (is_no_bit (error_byte l.sizes l.signals_at l.cells i))) (range_with_len 0 l.i) ≡ true

@@ -7,13 +7,13 @@ use Rattle.ps_stackvm.proofs.report.write_diags.Goals as goal
 
 pub set-requires : goal.set-requires
 set-requires c =
-    let is : ℕ → Diag = diag_at c.args.sizes.now 74 c.args.cells.now in
+    let is : ℕ → Diag = diag_at c.args.sizes.now c.args.signals_at c.args.cells.now in
     let size = length_part is c.args.diags.now c.loop-i.i (omega arith) in
     let same = ap length c.loop-i.invariant in
     omega arith
 
 pub loop-i-preserved : goal.loop-i-preserved
 loop-i-preserved c =
-    let is : ℕ → Diag = diag_at c.args.sizes.now 74 c.args.cells.now in
+    let is : ℕ → Diag = diag_at c.args.sizes.now c.args.signals_at c.args.cells.now in
     c.set.ensures ∙ ap (λ l. slice_set l c.loop-i.i c.diag.result) c.loop-i.invariant
     ∙ set_more is c.args.diags.now c.loop-i.i c.diag.result (omega arith) c.diag.ensures

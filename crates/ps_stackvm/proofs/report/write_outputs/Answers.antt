@@ -6,13 +6,13 @@ use Rattle.ps_stackvm.proofs.report.write_outputs.Goals as goal
 
 pub set-requires : goal.set-requires
 set-requires c =
-    let is : ℕ → Bool = λ j. output_byte c.args.sizes.now 74 c.args.cells.now j == 1 in
+    let is : ℕ → Bool = λ j. output_byte c.args.sizes.now c.args.signals_at c.args.cells.now j == 1 in
     let size = length_part is c.args.outs.now c.loop-j.j (omega arith) in
     let same = ap length c.loop-j.invariant in
     omega arith
 
 pub loop-j-preserved : goal.loop-j-preserved
 loop-j-preserved c =
-    let is : ℕ → Bool = λ j. output_byte c.args.sizes.now 74 c.args.cells.now j == 1 in
+    let is : ℕ → Bool = λ j. output_byte c.args.sizes.now c.args.signals_at c.args.cells.now j == 1 in
     c.set.ensures ∙ ap (λ l. slice_set l c.loop-j.j (is c.loop-j.j)) c.loop-j.invariant
     ∙ set_more is c.args.outs.now c.loop-j.j (is c.loop-j.j) (omega arith) refl

@@ -5,4 +5,4 @@ use Rattle.ps_machine.specs.Reporting.{output_byte}
 use Rattle.ps_stackvm.proofs.report.write_outputs.Given as goal
 
 abbrev pub invariant-loop-j : goal.invariant-loop-j
-invariant-loop-j l = l.outs ≡ map (λ j. output_byte l.sizes 74 l.cells j == 1) (range_with_len 0 l.j) ++ drop l.j l.initial.outs
+invariant-loop-j l = l.outs ≡ map (λ j. output_byte l.sizes l.signals_at l.cells j == 1) (range_with_len 0 l.j) ++ drop l.j l.initial.outs

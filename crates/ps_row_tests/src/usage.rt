@@ -34,7 +34,7 @@ verify A --
 check --help
 frob A T
 runA T
-run	A T
+run\tA T
 fault A T
 fault A T T T
 image

@@ -1,16 +1,24 @@
 // All that the program does, over the system.
 
-ghost use Rattle.std.specs.Prelude.{◌≡◌, ◌⊎◌};
+ghost use Rattle.std.specs.Prelude.{◌≡◌, ◌⊎◌, ◌≤◌, ℕ, List, IsTrue, Any, IfOk, IfErr};
+ghost use Rattle.std.specs.IoError.{error_kind};
+ghost use Rattle.ps_edge.specs.Exit.{exit_number, number_without_words};
+ghost use Rattle.ps_outside.specs.Outside.{Rose};
+ghost use Rattle.ps_top.specs.Asking.{Answer, IsAnswer};
+ghost use Rattle.ps_top.specs.Meets.{IsCut, AppendsAll, AppendsPart};
+ghost use Rattle.ps_top.specs.Program as program;
 ghost use Rattle.ps_words.specs.Command as asked;
 ghost use Rattle.ps_words.specs.Command.Command.{NotTaken};
 
 use crate::exit::{ended, exit_code, exit_code_without_words};
+use crate::output::Output;
 use ps_base::{Label, Memory};
-use ps_outside::{DiskFiles, StdSink};
+use ps_outside::{DiskFiles, Files, StdSink};
 use ps_top::{Left, Status, Words, top};
-use std::io::{BufWriter, Print, Write};
-use std::rt::{Env, Files};
-use std::{env, io};
+use std::alloc::Global;
+use std::io::{BufWriter, Print};
+use std::rt::Env;
+use std::{env, io, rt};
 
 /// The words after the program's name. An error: the system does not give them, as where one is not UTF-8, or memory is
 /// wanting.
@@ -24,33 +32,56 @@ pub fn words_of<R: Env + AllocGlobal>(system: &R) -> io::Result<Words> {
     Ok(words)
 }
 
-/// Does what the words ask, over the files of the system, with lines that go to a writer, which is flushed at the end.
+/// Does what the words ask, and flushes the output at the end: all that the program does, over any files and any output.
 ///
-/// Usage comes exactly where the words are not taken, unless the output fails. A flush that fails is a write that failed.
-pub fn run<R: Files + AllocGlobal, W: Write + Drop>(system: &R, words: &Words, out: W) -> Status
+/// A flush that fails is a write that failed.
+pub fn run<F: Files, O: Output>(alloc: Global, words: &Words, files: &mut F, out: &mut O) -> Status
+    // Over files that tell: a call that was not cut short has the status of the text, and an output that tells took all of it.
+    ensures status { IsTrue (F.tells files.old) → ¬ IsCut result →
+        (answer : Answer) × IsAnswer (program.text words.now) (F.held files.old) answer × (result ≡ answer.status) }
+    ensures whole { IsTrue (F.tells files.old) → ¬ IsCut result →
+        AppendsAll (IsAnswer (program.text words.now) (F.held files.old)) (O.tells out.old) (O.taken out.old) (O.taken out.new) result }
+
+    // Where memory is wanting nothing is written.
+    ensures memory { IsTrue (O.tells out.old) → result ≡ Status.Memory → O.taken out.new ≡ O.taken out.old }
+
+    // Faults have causes.
+    ensures read_fault { result ≡ Status.ReadFault → Any (λ name. Rose (F.faults files.old name) (F.faults files.new name)) (asked.names_of (asked.command_of words.now)) }
+    ensures write_fault { result ≡ Status.WriteFault → Rose (O.faults out.old) (O.faults out.new) }
+
+    // Usage comes exactly where the words are not taken, unless the output fails or memory is wanting.
     ensures usage { result ≡ Status.Usage → asked.command_of words.now ≡ NotTaken }
-    ensures not_taken { asked.command_of words.now ≡ NotTaken → (result ≡ Status.Usage) ⊎ (result ≡ Status.WriteFault) }
+    ensures not_taken { asked.command_of words.now ≡ NotTaken → (result ≡ Status.Usage) ⊎ ((result ≡ Status.WriteFault) ⊎ (result ≡ Status.Memory)) }
 {
-    let mut files = DiskFiles::new(system);
-    let mut sink = StdSink::new(out);
-    let status = top(
-        system.alloc(),
-        words,
-        &mut files,
-        &mut sink,
-        &mut Left::new(),
-    );
-    ended(status, sink.finish())
+    let status = top(alloc, words, files, out, &mut Left::new());
+    ended(status, out.finish())
 }
 
-/// Does all that the program does, and says the number with which it exits.
-pub fn exit_of_program<R: Env + Files + Print + AllocGlobal>(system: &R) -> u8 {
-    let words = match words_of(system) {
+/// Does what the words ask, over the files and the standard output of the system, and says the number with which the program
+/// exits. Without words it does nothing.
+pub fn exit_of_words<R: rt::Files + Print + AllocGlobal>(system: &R, words: io::Result<Words>) -> u8
+    ensures no_words { IfErr words (λ error. result ≡ number_without_words (error_kind error)) }
+    ensures in_range { IfOk words (λ list. result ≤ 7) }
+    ensures usage { IfOk words (λ list. result ≡ exit_number Status.Usage → asked.command_of list ≡ NotTaken) }
+    ensures not_taken { IfOk words (λ list. asked.command_of list ≡ NotTaken →
+        (result ≡ exit_number Status.Usage) ⊎ ((result ≡ exit_number Status.WriteFault) ⊎ (result ≡ exit_number Status.Memory))) }
+{
+    let words = match words {
         Ok(words) => words,
         Err(error) => return exit_code_without_words(error.kind()),
     };
-    match BufWriter::new(system.alloc(), io::writer(system)) {
-        Ok(out) => exit_code(run(system, &words, out)),
+    let alloc = system.alloc();
+    match BufWriter::new(alloc, io::writer(system)) {
+        Ok(out) => {
+            let mut files = DiskFiles::new(system);
+            let mut sink = StdSink::new(out);
+            exit_code(run(alloc, &words, &mut files, &mut sink))
+        }
         Err(_) => exit_code(Status::Memory),
     }
+}
+
+/// Does all that the program does, and says the number with which it exits.
+pub fn exit_of_program<R: Env + rt::Files + Print + AllocGlobal>(system: &R) -> u8 {
+    exit_of_words(system, words_of(system))
 }

@@ -6,6 +6,7 @@
 //! - `sources`, `texts`, `names`, `drivers`, `flow`, `sizes`: what `check` says of texts.
 //! - `certificates`, `forged`: what `cert` writes, and what `verify` says of certificates.
 //! - `traces`, `usage`, `outside`, `left`: traces, words that are not taken, failures, and what a call leaves.
+//! - `exits`: the numbers with which the program exits.
 #![tactic(auto)]
 
 #[cfg(test)]
@@ -18,6 +19,8 @@ mod calls;
 mod certificates;
 #[cfg(test)]
 mod drivers;
+#[cfg(test)]
+mod exits;
 #[cfg(test)]
 mod flow;
 #[cfg(test)]

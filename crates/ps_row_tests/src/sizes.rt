@@ -51,6 +51,55 @@ fn most_inputs(rt: HostRuntime) -> Result<(), Fail> {
     Ok(())
 }
 
+// Far past the limit the rule is named, and no memory is wanting.
+#[test]
+fn seventy_thousand_names(rt: HostRuntime) -> Result<(), Fail> {
+    let text = repeated(
+        rt.alloc(),
+        &[
+            (1, "PROGRAM W VAR_INPUT "),
+            (69_999, "a#, "),
+            (1, "b : BOOL; END_VAR END_PROGRAM"),
+        ],
+    )?;
+    check(
+        &rt,
+        rt.alloc(),
+        text.as_str(),
+        "refused N11 line 1 column 9",
+    )?;
+    Ok(())
+}
+
+/// A program without a value, and so many further bytes.
+fn bytes(alloc: Global, further: u32) -> Result<String, Memory> {
+    repeated(
+        alloc,
+        &[
+            (1, "PROGRAM P END_PROGRAM"),
+            (
+                further / 64,
+                "                                                                ",
+            ),
+            (further % 64, " "),
+        ],
+    )
+}
+
+#[test]
+fn most_bytes(rt: HostRuntime) -> Result<(), Fail> {
+    let most = bytes(rt.alloc(), 1_048_576 - 21)?;
+    check(
+        &rt,
+        rt.alloc(),
+        most.as_str(),
+        "accepted inputs 0 outputs 0 locals 0 instances 0 steps 0 nodes 0",
+    )?;
+    let more = bytes(rt.alloc(), 1_048_577 - 21)?;
+    check(&rt, rt.alloc(), more.as_str(), "refused L5 line 1 column 1")?;
+    Ok(())
+}
+
 // 513 inputs, and a literal as the value.
 #[test]
 fn more_inputs_beside_a_literal(rt: HostRuntime) -> Result<(), Fail> {

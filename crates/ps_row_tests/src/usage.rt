@@ -30,8 +30,38 @@ cert
 cert A T
 verify A
 verify A T T
+verify A --
+check --help
 frob A T
 runA T
+run\tA T
+fault A T
+fault A T T T
+image
+image A T
+load
+load 0
+load 00
+load 01
+load +1
+load -1
+load 1.0
+load x
+load 1x
+load 1001
+load 4294967297
+load 18446744073709551617
+load 1 1
+demand
+demand A T
+vote A T
+vote A T T T
+heal A T
+heal A T T T
+help check
+help A
+version
+plcsafe check A
 ";
 
 #[test]

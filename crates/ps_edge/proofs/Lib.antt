@@ -1,0 +1,2 @@
+-- how a run ends after its flush
+pub mod Ending

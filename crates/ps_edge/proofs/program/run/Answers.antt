@@ -1,0 +1,22 @@
+use Rattle.std.proofs.Common.{◌∙◌, subst}
+use Rattle.ps_top.specs.Meets.{IsCut}
+use Rattle.ps_top.specs.declared.Status.{Status}
+use Rattle.ps_edge.proofs.Ending.{not_cut}
+use Rattle.ps_edge.proofs.program.run.Goals as goal
+
+pub returns-clause-status : goal.returns-clause-status
+returns-clause-status g c = λ tells not.
+    let is = not_cut c.finish.result c.top-status.result c.ended.result c.ended.ensures.same c.ended.ensures.write_fault not in
+    let found = c.top-status.ensures.status tells (subst (λ (s : Status). ¬ IsCut s) is not) in
+    (found.0, found.1, is ∙ found.2)
+
+pub returns-clause-whole : goal.returns-clause-whole
+returns-clause-whole g c = λ tells not.
+    let is = not_cut c.finish.result c.top-status.result c.ended.result c.ended.ensures.same c.ended.ensures.write_fault not in
+    let found = c.top-status.ensures.whole tells (subst (λ (s : Status). ¬ IsCut s) is not) in
+    record {
+      answer = found.answer;
+      right = found.right;
+      ended = is ∙ found.ended;
+      appended = λ told. c.finish.ensures.kept ∙ found.appended told;
+    }

@@ -15,6 +15,10 @@ pub words_answer : (words : List (List ℕ)) (command : Command) (files files' :
 words_answer words command files files' out out' left status is answers =
     subst (λ (c : Command). Answers (said c) (names_of c) files files' out out' left status) is answers
 
+-- a call that ends with Tripped was not cut short
+pub not_cut_tripped : ¬ IsCut Tripped
+not_cut_tripped cut = grind arith
+
 -- a call that was cut short, or was not
 cut_or_not : (status : Status) → IsCut status ⊎ (¬ IsCut status)
 cut_or_not Done = inr (λ cut. grind arith)

@@ -16,3 +16,4 @@ mod Safe
 mod OneJudgement
 mod OneAnswer
 mod SomeAnswer
+mod Quiet

@@ -50,10 +50,13 @@ module _ (net : Network) (sound : IsSound net) (faults : List Fault) (one : AreO
       let m = machines_in w.setup in
       let run = one_run net sound nothing scans.items in
       let spared = one_spared faults one in
-      let released : ReleaseRight net (answers_of_run net m scans.items faults) run.0 = right scans.items faults run.0 spared.0 timely spared.1 run.1 in
-      (run.0, run.1, is
-          ∙ (λ i. answer (answer_lines net scans.items (answered net faults 1 scans.items (at_first i)) ++ end_line scans.end) (status_of scans.end (any_trips (answered net faults 1 scans.items (at_first i)))))
-          ∙ (λ i. answer (lines_are_meant net m faults scans.items run.0 released i ++ end_line scans.end) (status_is_meant net m faults scans.end scans.items i)))
+      let released : ReleaseRight net (answers_of_run net m scans.items faults) run.0 = right scans.items faults run.0 spared.0 timely spared.1 run.1 in (
+        run.0,
+        run.1,
+        is
+            ∙ (λ i. answer (answer_lines net scans.items (answered net faults 1 scans.items (at_first i)) ++ end_line scans.end) (status_of scans.end (any_trips (answered net faults 1 scans.items (at_first i)))))
+            ∙ (λ i. answer (lines_are_meant net m faults scans.items run.0 released i ++ end_line scans.end) (status_is_meant net m faults scans.end scans.items i)),
+      )
     where
       at_first : w ≡ first_world w.setup
       at_first = λ i. record { setup = w.setup; state = built.beginning i }

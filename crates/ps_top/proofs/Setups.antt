@@ -62,10 +62,13 @@ abbrev setup_of : Network → Setup
 setup_of net = record { sizes = sizes_of net; image_a = code_a net; image_b = code_b net; budget_a = turns_a net; budget_b = turns_b net }
 
 pub some_setup : (net : Network) → (setup : Setup) × IsSetupOf net setup
-some_setup net = (setup_of net, record {
-  sizes = record { signals = refl; instances = refl; inputs = refl; outputs = refl; first_pins = refl; kinds = refl };
-  image_a = refl;
-  image_b = refl;
-  budget_a = refl;
-  budget_b = refl;
-})
+some_setup net = (
+  setup_of net,
+  record {
+    sizes = record { signals = refl; instances = refl; inputs = refl; outputs = refl; first_pins = refl; kinds = refl };
+    image_a = refl;
+    image_b = refl;
+    budget_a = refl;
+    budget_b = refl;
+  },
+)

@@ -19,7 +19,6 @@ use Rattle.ps_world.specs.Verdicts.{verdict, report_given}
 use Rattle.ps_world.specs.Whole.{Whole, machines_in, after_events}
 use Rattle.ps_world.proofs.Turning.{after_append}
 use Rattle.ps_top.specs.Asking.{Answer}
-
 use Rattle.ps_top.specs.Doing.{Did, all, refused, unread, refused_item, unwritten, next, no_items}
 use Rattle.ps_top.specs.Meets.{IsCut, AppendsPart, Gives}
 use Rattle.ps_top.specs.Outcomes.{Outcome, performed, refuses, outcome_line}
@@ -153,8 +152,7 @@ module _ (net : Network) (faults : List Fault) where
     line_begun : (items : List Item) (taken : ℕ) → Begun done (item ∷ items) p (take taken (outcome_line net outcome))
     line_begun items taken =
         let line = outcome_line net outcome in
-        let more = lines (suc goes.made) items mid.world in
-        (
+        let more = lines (suc goes.made) items mid.world in (
           drop taken line ++ more,
           sym (append_assoc (take taken line) (drop taken line) more) ∙ ap (λ front. front ++ more) (take-append-drop taken line) ∙ sym (goes.line_first items),
         )
@@ -214,13 +212,13 @@ module _ (net : Network) (faults : List Fault) where
         GivesAsEnded tells start now ended
     told_gives bytes tells start now (Ok x) wrote came = (
       all_given wanted (answer bytes (status_if after.tripped)) tells start now (whole_not_cut after.tripped)
-      (ap (λ l. answer l (status_if after.tripped)) (sym (append-nil bytes)) ∙ answer_is bytes whole came.0 came.1) wrote,
+          (ap (λ l. answer l (status_if after.tripped)) (sym (append-nil bytes)) ∙ answer_is bytes whole came.0 came.1) wrote,
       came.0.ends,
     )
     told_gives bytes tells start now (Err (Refused refusal)) wrote came = (
       (λ later status ends gives.
-      given_behind wanted (answer (refusal_text refusal) BadInput) bytes tells start now later status (answer_is bytes (is_refused refusal) came.0 came.1) wrote gives
-      (no_memory_said BadInput status (λ cut. grind arith) ends) (no_read_said BadInput status (λ cut. grind arith) ends)),
+          given_behind wanted (answer (refusal_text refusal) BadInput) bytes tells start now later status (answer_is bytes (is_refused refusal) came.0 came.1) wrote gives
+          (no_memory_said BadInput status (λ cut. grind arith) ends) (no_read_said BadInput status (λ cut. grind arith) ends)),
       came.0.ends,
     )
     told_gives bytes tells start now (Err Unread) wrote begun = part_unread wanted tells start now (begun_part bytes tells start now wrote begun)

@@ -7,7 +7,7 @@ ghost use Rattle.ps_top.specs.Calls.{Answers, files_seen, output_seen};
 ghost use Rattle.ps_top.specs.Meets.{IsCut, AppendsAll, AppendsPart};
 ghost use Rattle.ps_top.specs.Program as program;
 ghost use Rattle.ps_words.specs.Command as asked;
-ghost use Rattle.ps_words.specs.Command.Command.{NotTaken};
+ghost use Rattle.ps_words.specs.Command.Command.{Run, NotTaken};
 
 use crate::Status;
 use crate::certifying::cert;
@@ -51,9 +51,7 @@ fn do_words<F: Files, S: Sink>(
         Command::Image { app } => image(alloc, app, files, out, left),
         Command::Demand { app } => demand(alloc, app, files, out, left),
         // `command_of` gives no command that the program does not have.
-        Command::Load { .. }
-        | Command::Vote { .. }
-        | Command::Heal { .. } => unreachable!(),
+        Command::Load { .. } | Command::Vote { .. } | Command::Heal { .. } => unreachable!(),
     }
 }
 
@@ -73,6 +71,9 @@ pub fn top<F: Files, S: Sink>(
         (answer : Answer) × IsAnswer (program.text words.now) (F.held files.old) answer × (result ≡ answer.status) }
     ensures whole { IsTrue (F.tells files.old) → ¬ IsCut result →
         AppendsAll (IsAnswer (program.text words.now) (F.held files.old)) (S.tells out.old) (S.taken out.old) (S.taken out.new) result }
+
+    // A run without faults never trips.
+    ensures quiet { IsTrue (F.tells files.old) → (app trace : List ℕ) → asked.command_of words.now ≡ Run app trace → result ≢ Status.Tripped }
 
     // One that was cut short appends a beginning of it, and where memory is wanting nothing.
     ensures stopped { IsTrue (F.tells files.old) → result ≡ Status.WriteFault →

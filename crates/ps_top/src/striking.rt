@@ -6,7 +6,6 @@ ghost use Rattle.ps_model.specs.declared.channel.Fault.{Fault};
 ghost use Rattle.ps_model.specs.Network.{Network, input_count, instance_count};
 ghost use Rattle.ps_trace.specs.FaultOrder.{AreInOrder, AreOfOneChannel};
 ghost use Rattle.ps_world.specs.Whole.{IsWorldOf};
-
 ghost use Rattle.ps_top.specs.Performing.{trips_with};
 
 use ps_model::app::App;

@@ -66,9 +66,12 @@ returns-in-Ok-clause-leaves g c = λ ft not_cut left is_left.
     let text = found.0 in
     let ft' : IsTrue (g.F.Files.tells c.start.new.files) = subst (λ (b : Bool). IsTrue b) (sym c.in-Ok.ensures.telling) ft in
     let held' : g.F.Files.held c.start.new.files (file_of reader) ≡ Some text = ap (λ h. h (file_of reader)) c.in-Ok.ensures.kept ∙ ap held c.in-Ok.ensures.name ∙ found.1 in
-    let right = c.runs_are_right.ensures c.requires.accepted p.world.setup c.requires.first.world.setup in
-    (text, found.1, run_leaves net c.sound.ensures p.faults c.requires.first.one_channel p.world c.requires.first.world right (items_left reader text) (scans_of text net)
-    (c.in-Ok.ensures.begins ft text found.1) held c.answer_scans.new.runner.performer.world left is_left (c.answer_scans.ensures.world ft' text held' (c.in-Ok.ensures.reads ft text found.1) not_cut))
+    let right = c.runs_are_right.ensures c.requires.accepted p.world.setup c.requires.first.world.setup in (
+      text,
+      found.1,
+      run_leaves net c.sound.ensures p.faults c.requires.first.one_channel p.world c.requires.first.world right (items_left reader text) (scans_of text net)
+          (c.in-Ok.ensures.begins ft text found.1) held c.answer_scans.new.runner.performer.world left is_left (c.answer_scans.ensures.world ft' text held' (c.in-Ok.ensures.reads ft text found.1) not_cut),
+    )
 
 pub returns-in-Err-Refused-clause-causes : goal.returns-in-Err-Refused-clause-causes
 returns-in-Err-Refused-clause-causes g c =
@@ -110,9 +113,12 @@ returns-in-Err-Refused-clause-leaves g c = λ ft not_cut left is_left.
     let refusal = c.in-Err-Refused.refusal in
     let is = c.in-Err-Refused.is ∙ ap Err c.in-Err-Refused.field-0-is in
     let found = some_of (held c.args.trace.now) (c.start.ensures.found ft (subst (λ (r : Result TraceReader TraceFail). IsRead r) (sym is) tt)) in
-    let right = c.runs_are_right.ensures c.requires.accepted p.world.setup c.requires.first.world.setup in
-    (found.0, found.1, refusal_leaves net c.sound.ensures p.faults c.requires.first.one_channel p.world c.requires.first.world right (scans_of found.0 net) refusal
-    (ap scans_behind (c.start.ensures.refuses ft found.0 found.1 refusal is)) held left is_left)
+    let right = c.runs_are_right.ensures c.requires.accepted p.world.setup c.requires.first.world.setup in (
+      found.0,
+      found.1,
+      refusal_leaves net c.sound.ensures p.faults c.requires.first.one_channel p.world c.requires.first.world right (scans_of found.0 net) refusal
+          (ap scans_behind (c.start.ensures.refuses ft found.0 found.1 refusal is)) held left is_left,
+    )
 
 pub returns-in-Err-Memory-clause-meets : goal.returns-in-Err-Memory-clause-meets
 returns-in-Err-Memory-clause-meets g c = λ ft. memory_meets _ _ _ _ _

@@ -7,7 +7,8 @@ use ps_top::{Left, Status, Words, top};
 use std::test::Fail;
 
 /// The usage line.
-const USAGE: &str = "usage: plcsafe run APP TRACE | fault APP TRACE FAULTS | check APP | cert APP | verify APP CERT | image APP | demand APP\n";
+const USAGE: &str =
+    "usage: plcsafe run APP TRACE | fault APP TRACE FAULTS | check APP | cert APP | verify APP CERT | image APP | demand APP\n";
 
 /// Words that are not taken, a call to a line.
 const WORDS: &str = "\

@@ -1,5 +1,5 @@
 -- How a run goes on from the text of a fault file.
-use Rattle.std.proofs.Common.{◌≡◌, ℕ, IsTrue, List, [], ◌∷◌, Option, Some, None, length, refl, ap, subst, sym, arith}
+use Rattle.std.proofs.Common.{◌≡◌, ℕ, IsTrue, List, ◌∷◌, Option, Some, None, length, refl, ap, subst, sym, arith}
 use Rattle.ps_base.specs.declared.failing.Refusal.{Refusal}
 use Rattle.ps_model.specs.declared.channel.Fault as Model
 use Rattle.ps_model.specs.declared.channel.ImageSizes.{ImageSizes}

@@ -1,6 +1,6 @@
 -- What a run writes by the answers of its world is what its scans mean, up to where the channels trip.
-use Rattle.std.proofs.Common.{◌≡◌, ◌≤◌, ◌<◌, ◌+◌, ◌∙◌, ◌⊎◌, ◌++◌, ℕ, suc, Bool, true, false, cond, List, [], ◌∷◌, Option, Some, None, length, refl, sym, ap, subst, inl, inr, arith}
-use Rattle.std.specs.Prelude.{◌||◌, ◌==◌, is_some}
+use Rattle.std.proofs.Common.{◌≡◌, ◌≤◌, ◌<◌, ◌+◌, ◌∙◌, ◌++◌, ℕ, suc, Bool, true, false, cond, List, [], ◌∷◌, Option, Some, None, length, refl, sym, ap, subst, inl, inr, arith}
+use Rattle.std.specs.Prelude.{◌||◌, is_some}
 use Rattle.std.proofs.lemmas.Bool.{cases_Bool, eq-eqb, ne_eqb}
 use Rattle.ps_model.specs.declared.channel.Cause.{Cause}
 use Rattle.ps_model.specs.declared.channel.Fault.{Fault}
@@ -11,9 +11,9 @@ use Rattle.ps_model.specs.Network.{Network, instance_count}
 use Rattle.ps_model.specs.Scanning.{State}
 use Rattle.ps_model.specs.Meaning.{Item, report}
 use Rattle.ps_model.specs.Meaning.Item.{scan, restart}
-use Rattle.ps_report.specs.Lines.{report_text, trip_text}
+use Rattle.ps_report.specs.Lines.{report_text}
 use Rattle.ps_seat.specs.Outcomes.{Outcome as Given, gives, lacks, outcome}
-use Rattle.ps_trace.specs.Scans.{Scans, End}
+use Rattle.ps_trace.specs.Scans.{End}
 use Rattle.ps_trace.specs.Scans.End.{whole, refused}
 use Rattle.ps_world.specs.Worlds.{Machines, World_state, Begin, Restart, world_0}
 use Rattle.ps_world.specs.Steps.{world_step, after}

@@ -6,9 +6,8 @@ use Rattle.ps_model.specs.declared.channel.Channel.{Channel}
 use Rattle.ps_model.specs.declared.channel.Channel.TheVariants.{A, B}
 use Rattle.ps_model.specs.declared.channel.Fault.{Fault}
 use Rattle.ps_model.specs.Network.{Network, input_count}
-use Rattle.ps_model.specs.Scanning.{State}
 use Rattle.ps_model.specs.Sound.{IsSound}
-use Rattle.ps_model.specs.Meaning.{nothing, Meaning}
+use Rattle.ps_model.specs.Meaning.{nothing}
 use Rattle.ps_model.proofs.Runs.{one_run}
 use Rattle.ps_report.specs.Short.{refusal_text}
 use Rattle.ps_trace.specs.FaultOrder.{AreOfOneChannel}
@@ -19,10 +18,10 @@ use Rattle.ps_world.specs.Steps.{after}
 use Rattle.ps_world.specs.Lists.{is_same}
 use Rattle.ps_world.specs.Orders.{other, events, run_events}
 use Rattle.ps_world.specs.Answers.{AreTimely, SpareChannel, ReleaseRight, RunsAreRight, answers_of_run}
-use Rattle.ps_world.specs.Whole.{Setup, Whole, machines_in, after_events, IsSetupOf, IsWorldOf}
+use Rattle.ps_world.specs.Whole.{Whole, machines_in, after_events, IsWorldOf}
 use Rattle.ps_top.specs.Asking.{Answer, IsAnswer, IsLeft}
 use Rattle.ps_top.specs.declared.left.Left.{Left}
-use Rattle.ps_top.specs.Program.{answer, told, item_lines, end_line, trips_of, first_world, answer_scans}
+use Rattle.ps_top.specs.Program.{answer, end_line, first_world, answer_scans}
 use Rattle.ps_top.specs.Resting.{answered, ran, answer_lines, any_trips, status_of, run_answer}
 use Rattle.ps_top.specs.declared.Status.TheVariants.{BadInput}
 use Rattle.ps_top.proofs.Joined.{lines_are_meant, status_is_meant}

@@ -1,7 +1,6 @@
 -- A run without faults never trips.
-use Rattle.std.proofs.Common.{◌≡◌, ◌∙◌, ◌∷◌, ℕ, suc, List, [], Option, length, ap, sym, refl, subst}
+use Rattle.std.proofs.Common.{◌≡◌, ◌∙◌, ◌∷◌, ℕ, suc, List, [], Option, length, ap, sym, refl}
 use Rattle.ps_model.specs.declared.channel.Verdict.{Verdict}
-use Rattle.ps_model.specs.declared.channel.Verdict.TheVariants.{Released}
 use Rattle.ps_model.specs.Budgets.{turns_a, turns_b}
 use Rattle.ps_model.specs.Network.{Network, input_count, instance_count}
 use Rattle.ps_model.specs.Scanning.{State}
@@ -24,8 +23,7 @@ use Rattle.ps_trace.specs.Scans.{Scans, End, scans_of}
 use Rattle.ps_trace.specs.Scans.End.{whole, refused}
 use Rattle.ps_world.specs.Worlds.{Machines, World_state, Restart, world_0}
 use Rattle.ps_world.specs.Steps.{world_step, after}
-use Rattle.ps_world.specs.Verdicts.{verdict}
-use Rattle.ps_world.specs.Orders.{of_scan, at_compare, scan_events, verdicts, tripped_from}
+use Rattle.ps_world.specs.Orders.{of_scan, scan_events, verdicts, tripped_from}
 use Rattle.ps_world.specs.Answers.{answers, AreTimely, ReleaseAll, QuietRunsRelease}
 use Rattle.ps_world.specs.Whole.{Setup, machines_in, IsSetupOf}
 use Rattle.ps_world.proofs.Built.{keeps_a, keeps_b, sized_for_a, sized_for_b}

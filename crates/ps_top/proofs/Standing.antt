@@ -12,23 +12,22 @@ use Rattle.ps_model.specs.Meaning.Item.{scan, restart}
 use Rattle.ps_report.specs.Short.{refusal_text}
 use Rattle.ps_trace.specs.Scans.{Scans, End}
 use Rattle.ps_trace.specs.Scans.End.{whole, refused as is_refused}
-use Rattle.ps_trace.specs.Reading.{Begins, only_refused}
 use Rattle.ps_world.specs.Steps.{after}
 use Rattle.ps_world.specs.Orders.{of_scan, at_compare, scan_events, run_events}
 use Rattle.ps_world.specs.Verdicts.{verdict, report_given}
 use Rattle.ps_world.specs.Whole.{Whole, machines_in, after_events}
 use Rattle.ps_world.proofs.Turning.{after_append}
 use Rattle.ps_top.specs.Asking.{Answer}
-use Rattle.ps_top.specs.Doing.{Did, all, refused, unread, refused_item, unwritten, next, no_items}
+use Rattle.ps_top.specs.Doing.{Did, all, refused, unread, refused_item, unwritten, next}
 use Rattle.ps_top.specs.Meets.{IsCut, AppendsPart, Gives}
 use Rattle.ps_top.specs.Outcomes.{Outcome, performed, refuses, outcome_line}
-use Rattle.ps_top.specs.Performing.{to_come, due, trips_with, compared, MakesScan, Performs}
+use Rattle.ps_top.specs.Performing.{due, trips_with, MakesScan, Performs}
 use Rattle.ps_top.specs.Program.{answer, end_line, status_if}
 use Rattle.ps_top.specs.Resting.{answered, ran, answer_lines, any_trips, status_of, run_answer}
 use Rattle.ps_top.specs.declared.items.Cut.{Cut}
 use Rattle.ps_top.specs.declared.items.Cut.TheVariants.{Refused, Unread, Unwritten}
 use Rattle.ps_top.specs.declared.Status.{Status}
-use Rattle.ps_top.specs.declared.Status.TheVariants.{BadInput, ReadFault, WriteFault, Memory}
+use Rattle.ps_top.specs.declared.Status.TheVariants.{BadInput, ReadFault, WriteFault}
 use Rattle.ps_top.specs.declared.striking.StruckWorld.{StruckWorld}
 use Rattle.ps_top.proofs.Calling.{no_read_said, no_memory_said}
 use Rattle.ps_top.proofs.Meeting.{all_given, given_behind, part_given, part_unread}

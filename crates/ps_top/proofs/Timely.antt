@@ -1,14 +1,12 @@
 -- The scans of a trace have a value for each input, and times that do not fall.
-use Rattle.std.proofs.Common.{◌≡◌, ◌≤◌, ◌<◌, ◌^◌, ◌∙◌, ℕ, Bool, true, false, cond, List, [], ◌∷◌, Option, Some, None, length, map, refl, sym, ap, subst, inl, inr, arith}
+use Rattle.std.proofs.Common.{◌≡◌, ◌≤◌, ◌<◌, ◌^◌, ℕ, Bool, true, false, cond, List, [], ◌∷◌, Option, Some, None, length, map, sym, subst, inl, inr}
 use Rattle.std.specs.Prelude.{not, ◌==◌, ◌&&◌, nat_lt, is_some, slice_index_or}
 use Rattle.std.specs.Char.{is_ascii_digit}
 use Rattle.std.specs.List.{list_all, filter_map, range_with_len}
 use Rattle.std.proofs.lemmas.Bool.{cases_Bool, ltb-true, ltb-false}
 use Rattle.std.proofs.lemmas.List.{length-map}
 use Rattle.std.proofs.lemmas.List.FromFn.{length-map-range_with_len}
-use Rattle.std.proofs.lemmas.Option.{same_Some}
-use Rattle.ps_base.specs.declared.failing.Rule.{Rule}
-use Rattle.ps_base.specs.declared.failing.Rule.TheVariants.{T2, T3, T4, T5, T6, T7}
+use Rattle.ps_base.specs.declared.failing.Rule.TheVariants.{T2, T3, T4, T5, T7}
 use Rattle.ps_lines.specs.Lines.{Line}
 use Rattle.ps_lines.specs.Lines.Line.{Kept, KeptLast, Long, Large}
 use Rattle.ps_model.specs.Network.{Network, input_count}
@@ -17,7 +15,7 @@ use Rattle.ps_trace.specs.Trace.{Said, value_of, scan_at_time, scan_line, is_res
 use Rattle.ps_trace.specs.Trace.Said.{skips, restarts, scans, breaks}
 use Rattle.ps_trace.specs.Header.{Header, header_said, names_said, names_another, not_once_each, inputs_named, place_of, input_names}
 use Rattle.ps_trace.specs.Header.Header.{no_header, places, wrong}
-use Rattle.ps_trace.specs.Scans.{Scans, Headed, said_of, last_after, onto_scans, inputs_of, number_after, scans_from, header_of, onto_headed, header_from, header_in, scans_behind, scans_of, trace_lines}
+use Rattle.ps_trace.specs.Scans.{Scans, Headed, said_of, last_after, onto_scans, number_after, scans_from, header_of, onto_headed, header_from, header_in, scans_behind, scans_of, trace_lines}
 use Rattle.ps_trace.specs.Scans.Headed.{begins, fails}
 use Rattle.ps_world.specs.Answers.{AreTimely}
 

@@ -15,7 +15,7 @@ use Rattle.ps_flow.specs.Written.{written}
 use Rattle.ps_checker.specs.Counts.{Counts}
 use Rattle.ps_checker.specs.Derives.{Derives}
 use Rattle.ps_checker.specs.Objections.{Objects}
-use Rattle.ps_trace.specs.Faults.{FaultList, faults_of}
+use Rattle.ps_trace.specs.Faults.{faults_of}
 use Rattle.ps_trace.specs.Scans.{Scans, End, scans_of}
 use Rattle.ps_trace.specs.Scans.End.{whole, refused}
 use Rattle.ps_world.specs.Worlds.{world_0}

@@ -1,6 +1,6 @@
 -- What a run writes, by what the world of two channels answers scan by scan: the recursion of the loop. That it is what the
 -- scans mean, up to where the channels trip, is a law.
-use Rattle.std.specs.Prelude.{◌≡◌, ℕ, Bool, true, false, ◌||◌, List, [], ◌∷◌, ◌++◌, length}
+use Rattle.std.specs.Prelude.{ℕ, Bool, false, ◌||◌, List, [], ◌∷◌, ◌++◌, length}
 use Rattle.ps_model.specs.declared.channel.Fault.{Fault}
 use Rattle.ps_model.specs.Network.{Network, instance_count}
 use Rattle.ps_model.specs.Meaning.{Item, scan, restart}

@@ -11,7 +11,8 @@ use ps_base::Memory;
 use std::alloc::Global;
 
 /// The forms of the commands that the program has, as one line.
-pub const USAGE: &[u8] = b"usage: plcsafe run APP TRACE | fault APP TRACE FAULTS | check APP | cert APP | verify APP CERT | image APP | demand APP\n";
+pub const USAGE: &[u8] =
+    b"usage: plcsafe run APP TRACE | fault APP TRACE FAULTS | check APP | cert APP | verify APP CERT | image APP | demand APP\n";
 
 /// What the words ask of the program.
 #[derive(Clone, Copy)]
@@ -82,9 +83,7 @@ impl<'a> Command<'a> {
             | Command::Image { .. }
             | Command::Demand { .. }
             | Command::NotTaken => true,
-            Command::Load { .. }
-            | Command::Vote { .. }
-            | Command::Heal { .. } => false,
+            Command::Load { .. } | Command::Vote { .. } | Command::Heal { .. } => false,
         }
     }
 }

@@ -1,4 +1,4 @@
-use Rattle.std.proofs.Common.{◌≡◌, ◌∙◌, ◌++◌, length, refl, ap}
+use Rattle.std.proofs.Common.{◌∙◌, ◌++◌, length, refl, ap}
 use Rattle.std.specs.Prelude.{List, ℕ}
 use Rattle.ps_model.specs.Budgets.{turns_a, turns_b}
 use Rattle.ps_model.specs.declared.channel.Channel.TheVariants.{B}

@@ -1,4 +1,4 @@
-use Rattle.std.proofs.Common.{◌≡◌, ◌∙◌, ℕ, List, [], Some, IsTrue, ap, sym, subst, arith}
+use Rattle.std.proofs.Common.{◌∙◌, ℕ, List, [], Some, ap, sym, subst, arith}
 use Rattle.ps_checker.specs.Counts.{Counts}
 use Rattle.ps_flow.specs.Derivation.{certificate}
 use Rattle.ps_flow.specs.declared.certificate.CertLine.{CertLine}
@@ -10,11 +10,10 @@ use Rattle.ps_source.specs.declared.accepting.Accepted.{Accepted}
 use Rattle.ps_world.specs.Whole.{Setup, IsSetupOf}
 use Rattle.ps_top.specs.Asking.Asking.{Says, Leaves}
 use Rattle.ps_top.specs.Calls.{KeepsFiles, SaysAnswer, files_seen, output_seen}
-use Rattle.ps_top.specs.Meets.{IsCut}
 use Rattle.ps_top.specs.Program.{answer, leaves_checked, image_lines, imaged}
 use Rattle.ps_top.specs.declared.Status.TheVariants.{Done}
 use Rattle.ps_top.proofs.Applied.{no_application_answers, accepted_answers}
-use Rattle.ps_top.proofs.Calling.{files_same, found_of_all, memory_answers, said_answers}
+use Rattle.ps_top.proofs.Calling.{files_same, found_of_all, said_answers}
 use Rattle.ps_top.proofs.imaging.image.Goals as goal
 
 pub returns-in-Ok-both_parts-clause-answers : goal.returns-in-Ok-both_parts-clause-answers

@@ -3,7 +3,7 @@ use Rattle.ps_report.specs.Short.{refusal_text}
 use Rattle.ps_trace.specs.Reading.{file_of, items_left}
 use Rattle.ps_top.specs.Calls.{KeepsFiles, KeepsOutput, files_seen, output_seen}
 use Rattle.ps_top.specs.Meets.{Gives}
-use Rattle.ps_top.specs.Program.{answer, status_if}
+use Rattle.ps_top.specs.Program.{answer}
 use Rattle.ps_top.specs.Resting.{run_answer}
 use Rattle.ps_top.specs.declared.items.Cut.{Cut}
 use Rattle.ps_top.specs.declared.Status.{Status}

@@ -5,15 +5,13 @@ use Rattle.ps_trace.specs.Reading.{IsRead, file_of, items_left}
 use Rattle.ps_trace.specs.Scans.{Scans, scans_of, scans_behind}
 use Rattle.ps_trace.specs.declared.trace.TraceFail.{TraceFail}
 use Rattle.ps_trace.specs.declared.trace.TraceReader.{TraceReader}
-use Rattle.ps_world.specs.Answers.{AreTimely}
-use Rattle.ps_model.specs.Network.{input_count}
 use Rattle.ps_top.specs.Calls.{NameRose, KeepsFiles, Causes, files_seen, output_seen}
 use Rattle.ps_top.specs.Program.{answer, answer_scans}
 use Rattle.ps_top.specs.Resting.{run_answer}
 use Rattle.ps_top.specs.declared.Status.TheVariants.{BadInput}
-use Rattle.ps_top.proofs.Calling.{output_same, memory_causes, unread_causes, said_causes, causes_later, no_read_said, any_only}
+use Rattle.ps_top.proofs.Calling.{output_same, memory_causes, said_causes, causes_later, no_read_said, any_only}
 use Rattle.ps_top.proofs.Meant.{run_answers, refusal_answers, run_leaves, refusal_leaves}
-use Rattle.ps_top.proofs.Meeting.{memory_meets, unread_meets, streamed_meets}
+use Rattle.ps_top.proofs.Meeting.{memory_meets, streamed_meets}
 use Rattle.ps_top.proofs.Timely.{scans_timely}
 use Rattle.ps_top.proofs.running.answer_trace.Goals as goal
 

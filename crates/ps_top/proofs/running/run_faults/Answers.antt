@@ -1,18 +1,15 @@
-use Rattle.std.proofs.Common.{◌≡◌, ◌∷◌, ◌∙◌, [], ℕ, List, Option, Some, None, Err, Result, IsTrue, ap, subst, sym, refl, arith}
-use Rattle.ps_base.specs.declared.failing.Refusal.{Refusal}
+use Rattle.std.proofs.Common.{◌≡◌, ◌∷◌, ◌∙◌, [], List, Err, Result, ap, subst, sym}
 use Rattle.ps_model.specs.declared.channel.Fault.{Fault}
 use Rattle.ps_model.specs.declared.channel.ImageSizes.{ImageSizes}
-use Rattle.ps_report.specs.Short.{refusal_text}
 use Rattle.ps_source.proofs.Sourced.{some_of}
-use Rattle.ps_trace.specs.Faults.{FaultList, faults_of}
+use Rattle.ps_trace.specs.Faults.{faults_of}
 use Rattle.ps_trace.specs.Reading.{IsRead}
 use Rattle.ps_trace.specs.declared.faults.Faults.{Faults}
 use Rattle.ps_trace.specs.declared.trace.TraceFail.{TraceFail}
 use Rattle.ps_world.specs.Whole.{Whole}
 use Rattle.ps_top.specs.Asking.{Asking}
-use Rattle.ps_top.specs.Calls.{Answers, NameRose, files_seen, output_seen}
-use Rattle.ps_top.specs.Program.{answer, region_sizes, unless_refused, run_named, with_faults}
-use Rattle.ps_top.specs.declared.Status.TheVariants.{BadInput}
+use Rattle.ps_top.specs.Calls.{Answers, files_seen, output_seen}
+use Rattle.ps_top.specs.Program.{region_sizes, run_named, with_faults}
 use Rattle.ps_top.proofs.Faulted.{faults_on, sizes_at_first, unfound, no_faults_answers}
 use Rattle.ps_top.proofs.Calling.{answers_behind}
 use Rattle.ps_top.proofs.running.run_faults.Goals as goal

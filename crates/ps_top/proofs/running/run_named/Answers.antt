@@ -1,7 +1,7 @@
-use Rattle.std.proofs.Common.{◌≡◌, ◌∷◌, [], Some, IsTrue, refl, subst}
+use Rattle.std.proofs.Common.{◌∷◌, [], Some, refl, subst}
 use Rattle.ps_top.specs.Asking.{IsLeft}
 use Rattle.ps_top.specs.Calls.{NameRose, files_seen, output_seen}
-use Rattle.ps_top.specs.Meets.{IsCut, Meets}
+use Rattle.ps_top.specs.Meets.{Meets}
 use Rattle.ps_top.specs.Program.{run_named}
 use Rattle.ps_top.specs.declared.left.Left.{Left}
 use Rattle.ps_top.specs.declared.striking.StruckWorld.{StruckWorld}

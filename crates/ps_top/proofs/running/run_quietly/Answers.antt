@@ -1,4 +1,4 @@
-use Rattle.std.proofs.Common.{◌≡◌, ◌∷◌, ◌∙◌, [], List, ap, subst, sym}
+use Rattle.std.proofs.Common.{◌≡◌, ◌∷◌, ◌∙◌, [], List, subst}
 use Rattle.ps_model.specs.declared.channel.Fault.{Fault}
 use Rattle.ps_world.specs.Whole.{Setup, Whole, IsSetupOf}
 use Rattle.ps_top.specs.Calls.{Answers, files_seen, output_seen}

@@ -1,4 +1,4 @@
-use Rattle.std.proofs.Common.{◌<◌, ◌≤◌, ◌∙◌, ◌+◌, take, drop, length, leb, leb-true, leb-false, subst, sym, arith, rules}
+use Rattle.std.proofs.Common.{◌<◌, ◌≤◌, ◌+◌, length, leb, leb-true, leb-false, subst, sym, arith, rules}
 use Rattle.std.proofs.lemmas.List.{get_or-take, get_or-drop, length-take-le, length-drop}
 use Rattle.std.proofs.lemmas.List.Sorted.{IsPartitionPoint-from_clause, IsPartitionedBy-leb}
 use Rattle.ps_model.specs.declared.channel.Fault.{Fault}

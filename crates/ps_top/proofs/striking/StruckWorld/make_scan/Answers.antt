@@ -1,4 +1,4 @@
-use Rattle.std.proofs.Common.{◌≡◌, ◌≤◌, ◌<◌, ◌∙◌, ◌+◌, ◌++◌, ◌⊎◌, suc, [], List, take, drop, length, sym, ap, subst, arith}
+use Rattle.std.proofs.Common.{◌≡◌, ◌≤◌, ◌<◌, ◌∙◌, ◌++◌, ◌⊎◌, suc, [], List, take, drop, length, sym, ap, subst, arith}
 use Rattle.std.specs.Prelude.{◌||◌, All}
 use Rattle.std.specs.List.Sorted.{IsNonDecreasingBy}
 use Rattle.std.proofs.lemmas.List.{drop-drop, take-append-drop, length-drop}

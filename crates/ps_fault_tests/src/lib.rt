@@ -5,7 +5,7 @@
 //! - `motor`: the application and the trace that most faults strike, and what a run of it writes.
 //! - `code`, `cells`, `turns`: faults that strike the code, the cells, and amid the turns of a scan.
 //! - `refused`, `reached`, `outside`: fault files that are refused, faults that are not reached, and files that are not held.
-//! - `left`: the world that a call leaves. `demands`: what safe outputs demand.
+//! - `left`: the world that a call leaves. `demands`: what safe outputs demand. `images`: the images.
 #![tactic(auto)]
 
 #[cfg(test)]
@@ -16,6 +16,8 @@ mod cells;
 mod code;
 #[cfg(test)]
 mod demands;
+#[cfg(test)]
+mod images;
 #[cfg(test)]
 mod left;
 #[cfg(test)]

@@ -1,0 +1,128 @@
+// Calls of the program, and what they have to write.
+
+use ps_base::{Label, Memory};
+use ps_outside::{MemFiles, MemSink};
+use ps_top::{Left, Status, Words, top};
+use std::alloc::Global;
+use std::process::Abort;
+
+/// The bytes that a sink has room for.
+pub const ROOM: u32 = 1_048_576;
+
+/// The words of a text, parted by single spaces.
+pub fn words_of(alloc: Global, text: &str) -> Result<Words, Memory> {
+    let mut words = Words::new(alloc);
+    for word in text.split(' ') {
+        words.push(Label::of(String::from_str(alloc, word)?))?;
+    }
+    Ok(words)
+}
+
+/// Files that hold an application under `A`, a trace under `T` and a fault file under `F`.
+pub fn files_of(alloc: Global, held: (&str, &str, &str)) -> Result<MemFiles, Memory> {
+    let (app, trace, faults) = held;
+    let mut files = MemFiles::new(alloc);
+    files.put("A", app.as_bytes())?;
+    files.put("T", trace.as_bytes())?;
+    files.put("F", faults.as_bytes())?;
+    Ok(files)
+}
+
+/// Asserts that a call with these words writes this text and ends with this status, where `A`, `T` and `F` are held.
+pub fn gives(
+    rt: &impl Abort,
+    alloc: Global,
+    words: &str,
+    held: (&str, &str, &str),
+    wanted: (&str, Status),
+) -> Result<(), Memory> {
+    let (text, status) = wanted;
+    let (_, _, faults) = held;
+    let mut files = files_of(alloc, held)?;
+    let mut out = MemSink::new(alloc, ROOM)?;
+    let list = words_of(alloc, words)?;
+    let found = top(alloc, &list, &mut files, &mut out, &mut Left::new());
+    assert_eq!(rt; out.taken(), text.as_bytes(), "{words}, {faults}");
+    assert_eq!(rt; found, status, "{words}, {faults}");
+    Ok(())
+}
+
+/// Asserts of each fault file of a table that `fault` of an application and a trace writes this text with it, and ends with
+/// this status. A row is a fault file, a bar for each line feed but the last.
+pub fn each_gives(
+    rt: &impl Abort,
+    alloc: Global,
+    held: (&str, &str),
+    rows: &str,
+    wanted: (&str, Status),
+) -> Result<(), Memory> {
+    let (app, trace) = held;
+    for row in rows.lines() {
+        let lines = row.replace(alloc, '|', "\n")?;
+        let lines = lines.as_str();
+        let faults = format!(in alloc; "{lines}\n")?;
+        gives(
+            rt,
+            alloc,
+            "fault A T F",
+            (app, trace, faults.as_str()),
+            wanted,
+        )?;
+    }
+    Ok(())
+}
+
+/// Asserts of each fault file of a table what `fault` of an application and a trace writes first for it, and that it ends with
+/// this status. A row is a fault file as above and, behind ` => `, the line.
+pub fn each_is_refused(
+    rt: &impl Abort,
+    alloc: Global,
+    held: (&str, &str),
+    rows: &str,
+) -> Result<(), Memory> {
+    for row in rows.lines() {
+        match row.split_once(" => ") {
+            Some((faults, line)) => {
+                let text = format!(in alloc; "{line}\n")?;
+                let wanted = (text.as_str(), Status::BadInput);
+                each_gives(rt, alloc, held, faults, wanted)?;
+            }
+            None => assert!(rt; false, "no row: {row}"),
+        }
+    }
+    Ok(())
+}
+
+/// The trace and the text of a table. A row is a line of the trace and, behind ` => `, the line that is written for
+/// it, if any.
+pub fn trace_and_text(alloc: Global, rows: &str) -> Result<(String, String), Memory> {
+    let mut trace = String::new(alloc);
+    let mut text = String::new(alloc);
+    for row in rows.lines() {
+        match row.split_once(" => ") {
+            Some((line, written)) => {
+                trace.push_str(line)?;
+                text.push_str(written)?;
+                text.push_str("\n")?;
+            }
+            None => trace.push_str(row)?,
+        }
+        trace.push_str("\n")?;
+    }
+    Ok((trace, text))
+}
+
+/// Asserts of each fault file of a table that `fault` of an application writes a trace's text with it, and ends with this status. The
+/// trace and the text stand in a table of their own, whose rows are as above.
+pub fn each_walks(
+    rt: &impl Abort,
+    alloc: Global,
+    app: &str,
+    walk: &str,
+    rows: &str,
+    status: Status,
+) -> Result<(), Memory> {
+    let (trace, text) = trace_and_text(alloc, walk)?;
+    let wanted = (text.as_str(), status);
+    each_gives(rt, alloc, (app, trace.as_str()), rows, wanted)
+}

@@ -1,0 +1,71 @@
+// The world that a call leaves.
+
+use crate::calls::{ROOM, files_of, trace_and_text, words_of};
+use crate::motor::{MOTOR, USE};
+use crate::reached::{BAD_LINE, STRUCK};
+use ps_base::Memory;
+use ps_outside::MemSink;
+use ps_top::{Left, top};
+use std::alloc::Global;
+use std::test::Fail;
+
+/// Whether the world that a call leaves is tripped, if it leaves one.
+fn left_by(alloc: Global, words: &str, held: (&str, &str, &str)) -> Result<Option<bool>, Memory> {
+    let mut files = files_of(alloc, held)?;
+    let mut out = MemSink::new(alloc, ROOM)?;
+    let mut left = Left::new();
+    let words = words_of(alloc, words)?;
+    let _status = top(alloc, &words, &mut files, &mut out, &mut left);
+    match &left.world {
+        Some(world) => Ok(Some(world.is_tripped())),
+        None => Ok(None),
+    }
+}
+
+#[test]
+fn after_scans(rt: HostRuntime) -> Result<(), Fail> {
+    let alloc = rt.alloc();
+    let quiet = (MOTOR, USE, "before 4 A memory 81 8000");
+    assert_eq!(rt; left_by(alloc, "run A T", quiet)?, Some(false));
+    assert_eq!(rt; left_by(alloc, "fault A T F", quiet)?, Some(false));
+    let struck = (MOTOR, USE, STRUCK);
+    assert_eq!(rt; left_by(alloc, "run A T", struck)?, Some(false));
+    assert_eq!(rt; left_by(alloc, "fault A T F", struck)?, Some(true));
+    Ok(())
+}
+
+#[test]
+fn after_a_restart(rt: HostRuntime) -> Result<(), Fail> {
+    let alloc = rt.alloc();
+    let ends = "time S_In Ack Run\n0 1 0 1\n10 1 0 1\n20 1 0 1\nrestart\n";
+    let held = (MOTOR, ends, STRUCK);
+    assert_eq!(rt; left_by(alloc, "fault A T F", held)?, Some(false));
+    let held = (MOTOR, ends, "before 2 B code 0 00");
+    assert_eq!(rt; left_by(alloc, "fault A T F", held)?, Some(false));
+    let goes_on = "time S_In Ack Run\n0 1 0 1\nrestart\n10 1 0 1\n20 1 0 1\n";
+    let held = (MOTOR, goes_on, "before 3 A code 0 ff");
+    assert_eq!(rt; left_by(alloc, "fault A T F", held)?, Some(true));
+    Ok(())
+}
+
+#[test]
+fn after_a_refusal_of_the_trace(rt: HostRuntime) -> Result<(), Fail> {
+    let alloc = rt.alloc();
+    let (trace, _) = trace_and_text(alloc, BAD_LINE)?;
+    let held = (MOTOR, trace.as_str(), STRUCK);
+    assert_eq!(rt; left_by(alloc, "fault A T F", held)?, Some(true));
+    assert_eq!(rt; left_by(alloc, "run A T", held)?, Some(false));
+    Ok(())
+}
+
+#[test]
+fn none_without_a_run(rt: HostRuntime) -> Result<(), Fail> {
+    let alloc = rt.alloc();
+    let held = (MOTOR, USE, "before 1 A memory 97 00");
+    for words in ["fault A T F", "check A", "demand A", "fault A T"] {
+        assert_eq!(rt; left_by(alloc, words, held)?, None, "{words}");
+    }
+    let held = ("PROGRAM P", USE, STRUCK);
+    assert_eq!(rt; left_by(alloc, "fault A T F", held)?, None);
+    Ok(())
+}

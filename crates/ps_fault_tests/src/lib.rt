@@ -1,0 +1,32 @@
+//! Tests of whole calls of the program with faults, with demands and with images, over files and a sink in memory: which text is
+//! written, and with which status the call ends.
+//!
+//! - `calls`: how a call is made and what it has to write, once or for each fault file of a table.
+//! - `motor`: the application and the trace that most faults strike, and what a run of it writes.
+//! - `code`, `cells`, `turns`: faults that strike the code, the cells, and amid the turns of a scan.
+//! - `refused`, `reached`, `outside`: fault files that are refused, faults that are not reached, and files that are not held.
+//! - `left`: the world that a call leaves. `demands`: what safe outputs demand. `images`: the images.
+#![tactic(auto)]
+
+#[cfg(test)]
+mod calls;
+#[cfg(test)]
+mod cells;
+#[cfg(test)]
+mod code;
+#[cfg(test)]
+mod demands;
+#[cfg(test)]
+mod images;
+#[cfg(test)]
+mod left;
+#[cfg(test)]
+mod motor;
+#[cfg(test)]
+mod outside;
+#[cfg(test)]
+mod reached;
+#[cfg(test)]
+mod refused;
+#[cfg(test)]
+mod turns;

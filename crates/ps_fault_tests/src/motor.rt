@@ -1,0 +1,98 @@
+// A motor behind an emergency stop, an ordinary use of it, and what is written for that use.
+
+use crate::calls::{each_gives, gives};
+use ps_base::Memory;
+use ps_top::Status;
+use std::alloc::Global;
+use std::process::Abort;
+use std::test::Fail;
+
+/// The application.
+pub const MOTOR: &str = "\
+PROGRAM M
+VAR_INPUT
+  S_In : SAFEBOOL;
+  Ack, Run : BOOL;
+END_VAR
+VAR_OUTPUT S_Motor : SAFEBOOL; END_VAR
+VAR E : SF_EmergencyStop; END_VAR
+E(Activate := TRUE, S_EStopIn := S_In, Reset := Ack);
+S_Motor := E.S_EStopOut AND Run;
+END_PROGRAM
+";
+
+/// The trace of an ordinary use: the stop is reset, and pressed.
+pub const USE: &str = "\
+time S_In Ack Run
+0 1 0 1
+10 1 0 1
+20 1 0 1
+30 1 1 1
+40 1 0 0
+50 0 0 1
+";
+
+/// What is written for it where no fault shows.
+pub const ORDINARY: &str = "\
+0 S_Motor=0 E=1,0,8001
+10 S_Motor=0 E=1,0,8002
+20 S_Motor=0 E=1,0,8003
+30 S_Motor=1 E=1,0,8000
+40 S_Motor=0 E=1,0,8000
+50 S_Motor=0 E=1,0,8004
+";
+
+// The line of the first scan, and what stands behind the cause of a trip in the second.
+const SCAN: &str = "0 S_Motor=0 E=1,0,8001\n";
+
+const TRIPPED: &str = " S_Motor=0
+20 TRIP S_Motor=0
+30 TRIP S_Motor=0
+40 TRIP S_Motor=0
+50 TRIP S_Motor=0
+";
+
+/// Asserts of each fault file of a table that the motor trips with it in its ordinary use, with this text.
+pub fn each_trips(rt: &impl Abort, alloc: Global, rows: &str, text: &str) -> Result<(), Memory> {
+    each_gives(rt, alloc, (MOTOR, USE), rows, (text, Status::Tripped))
+}
+
+/// Asserts of each fault file of a table that the motor trips with it in the second scan of its ordinary use. A row is a
+/// fault file and, behind ` => `, the cause.
+pub fn each_trips_second(rt: &impl Abort, alloc: Global, rows: &str) -> Result<(), Memory> {
+    for row in rows.lines() {
+        match row.split_once(" => ") {
+            Some((faults, cause)) => {
+                let text = format!(in alloc; "{SCAN}10 TRIP {cause}{TRIPPED}")?;
+                each_trips(rt, alloc, faults, text.as_str())?;
+            }
+            None => assert!(rt; false, "no row: {row}"),
+        }
+    }
+    Ok(())
+}
+
+/// Asserts of each fault file of a table that it does not show in the motor's ordinary use.
+pub fn none_shows(rt: &impl Abort, alloc: Global, rows: &str) -> Result<(), Memory> {
+    each_gives(rt, alloc, (MOTOR, USE), rows, (ORDINARY, Status::Done))
+}
+
+/// Asserts that `fault` of the motor in its ordinary use writes this text with this fault file, and ends with this status.
+pub fn strikes(
+    rt: &impl Abort,
+    alloc: Global,
+    faults: &str,
+    wanted: (&str, Status),
+) -> Result<(), Memory> {
+    gives(rt, alloc, "fault A T F", (MOTOR, USE, faults), wanted)
+}
+
+#[test]
+fn no_fault(rt: HostRuntime) -> Result<(), Fail> {
+    let alloc = rt.alloc();
+    let wanted = (ORDINARY, Status::Done);
+    strikes(&rt, alloc, "", wanted)?;
+    strikes(&rt, alloc, "# none\n\n \t\r\n", wanted)?;
+    gives(&rt, alloc, "run A T", (MOTOR, USE, ""), wanted)?;
+    Ok(())
+}

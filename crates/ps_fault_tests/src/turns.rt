@@ -1,0 +1,91 @@
+// Faults that strike amid the turns of a scan.
+
+use crate::motor::{each_trips, each_trips_second, none_shows};
+use std::test::Fail;
+
+/// Faults that change an output behind its assignment.
+const OUTPUT: &str = "\
+before 3 turn 16 A memory 77 01
+before 0003 turn 016 A memory 077 01
+";
+
+/// What is written with them.
+const OUTPUT_TEXT: &str = "\
+0 S_Motor=0 E=1,0,8001
+10 S_Motor=0 E=1,0,8002
+20 TRIP differ 0 S_Motor=0
+30 TRIP S_Motor=0
+40 TRIP S_Motor=0
+50 TRIP S_Motor=0
+";
+
+#[test]
+fn an_output_behind_its_assignment(rt: HostRuntime) -> Result<(), Fail> {
+    each_trips(&rt, rt.alloc(), OUTPUT, OUTPUT_TEXT)?;
+    Ok(())
+}
+
+/// Faults of a code that is written once it was read, and of a channel that ends before its first instruction.
+const CODE: &str = "\
+before 3 turn 16 A memory 81 1234
+before 3 turn 1 A memory 5 01
+";
+
+/// What is written with them.
+const CODE_TEXT: &str = "\
+0 S_Motor=0 E=1,0,8001
+10 S_Motor=0 E=1,0,8002
+20 TRIP differ 3 S_Motor=0
+30 TRIP S_Motor=0
+40 TRIP S_Motor=0
+50 TRIP S_Motor=0
+";
+
+#[test]
+fn codes_that_differ(rt: HostRuntime) -> Result<(), Fail> {
+    each_trips(&rt, rt.alloc(), CODE, CODE_TEXT)?;
+    Ok(())
+}
+
+/// A channel that ends before the first instruction of the scan in which the motor runs.
+const ENDED: &str = "before 4 turn 1 A memory 5 01";
+
+/// What is written with it.
+const ENDED_TEXT: &str = "\
+0 S_Motor=0 E=1,0,8001
+10 S_Motor=0 E=1,0,8002
+20 S_Motor=0 E=1,0,8003
+30 TRIP differ 0 S_Motor=0
+40 TRIP S_Motor=0
+50 TRIP S_Motor=0
+";
+
+#[test]
+fn a_channel_that_ends_at_once(rt: HostRuntime) -> Result<(), Fail> {
+    each_trips(&rt, rt.alloc(), ENDED, ENDED_TEXT)?;
+    Ok(())
+}
+
+/// Channels that go back to their beginning, that run again behind their end, and whose progress is none.
+const PROGRESS: &str = "\
+before 2 turn 12 A memory 0 00000000 => stuck A
+before 2 turn 17 A memory 5 00 => stuck A
+before 2 turn 11 B memory 4 ff => stuck B
+before 2 turn 2 A memory 5 08 => trap A 7
+before 2 turn 2 A memory 5 09 => trap A 0
+";
+
+#[test]
+fn progress_of_a_channel(rt: HostRuntime) -> Result<(), Fail> {
+    each_trips_second(&rt, rt.alloc(), PROGRESS)?;
+    Ok(())
+}
+
+/// Faults before an assignment that overwrites them.
+const OVERWRITTEN: &str = "before 3 turn 15 A memory 77 01";
+
+#[test]
+fn an_output_before_its_assignment(rt: HostRuntime) -> Result<(), Fail> {
+    none_shows(&rt, rt.alloc(), OVERWRITTEN)?;
+    Ok(())
+}

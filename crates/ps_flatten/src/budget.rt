@@ -8,14 +8,14 @@ use ps_base::Memory;
 const MOST_NAMES: u32 = 4_000;
 /// The most statements of one body that is laid flat.
 const MOST_STATEMENTS: u32 = 20_000;
-/// The most bytes that one body takes when it is laid flat, each name, literal and group with `ITEM_BYTES` more than its
-/// text. A flat source that takes more is answered as want of memory. No application within the limits needs so many.
+/// The most bytes that the copies of a text take, each name, literal and group with `ITEM_BYTES` more than its text. Copies
+/// that take more are answered as want of memory.
 pub const MOST_FLAT_BYTES: u64 = 1_073_741_824;
 
 // What a name, a literal or a group takes beside its text.
 const ITEM_BYTES: u64 = 64;
 
-/// What may still be written of one body: declared names, statements and bytes.
+/// What may still be written: declared names and statements of one body, and bytes of all.
 #[derive(Drop)]
 pub struct Budget {
     names: u32,
@@ -24,13 +24,19 @@ pub struct Budget {
 }
 
 impl Budget {
-    /// The budget of a body of which nothing is written.
+    /// The budget of a text of which nothing is written.
     pub fn new() -> Budget {
         Budget {
             names: MOST_NAMES,
             statements: MOST_STATEMENTS,
             bytes: MOST_FLAT_BYTES,
         }
+    }
+
+    /// The budget of one more body.
+    pub fn begin_body(&mut self) {
+        self.names = MOST_NAMES;
+        self.statements = MOST_STATEMENTS;
     }
 
     /// Takes one declared name.

@@ -8,6 +8,7 @@ ghost use Rattle.ps_derived_rules.specs.BlockRules.{offences};
 ghost use Rattle.ps_flatten.specs.Flattening.{Flattens};
 
 use crate::body::{lay_blocks, lay_program};
+use crate::budget::Budget;
 use ps_base::{Fail, Memory};
 use ps_derived::{Library, copy_of};
 use ps_derived_rules::first_offence;
@@ -30,8 +31,14 @@ fn build(alloc: Global, library: &Library) -> Result<Source, Memory>
 {
     all_kept(library.blocks.as_slice());
     library.program.kept();
-    let blocks = lay_blocks(alloc, library.blocks.as_slice())?;
-    let (sections, statements) = lay_program(alloc, &blocks, &library.program)?;
+    let mut budget = Budget::new();
+    let blocks = lay_blocks(
+        alloc,
+        &mut budget,
+        library.blocks.as_slice(),
+        &library.program,
+    )?;
+    let (sections, statements) = lay_program(alloc, &mut budget, &blocks, &library.program)?;
     let name = copy_of(alloc, &library.program.name)?;
     Ok(Source {
         name,
@@ -46,7 +53,8 @@ fn build(alloc: Global, library: &Library) -> Result<Source, Memory>
 /// the lowest rule that does, at the earliest of its places. A program without function blocks is its own flat source.
 ///
 /// Time and memory are in proportion to the text and to the flat sources of the function blocks of which the program has
-/// copies, each within the limits of B4 and `MOST_FLAT_BYTES`. A flat source with more bytes is answered as want of memory.
+/// copies, each of which is within the limits of B4. Where these take more than `MOST_FLAT_BYTES` in all, the answer is want
+/// of memory.
 pub fn flatten(alloc: Global, library: &Library) -> Result<Source, Fail>
     ensures { Flattens library.now result }
 {

@@ -12,6 +12,7 @@ mod limits;
 mod read_library;
 mod sizes;
 
+pub use declared::{Declared, copy_of, declared_names, index};
 pub use library::{Library, Sources};
 pub use read_library::parse_library;
 pub use sizes::is_within_limits;

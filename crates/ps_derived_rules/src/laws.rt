@@ -1,0 +1,19 @@
+// Laws of the rules B.
+
+ghost use Rattle.std.specs.Prelude.{◌≡◌, [], true, None, ◌↔◌, IsTrue};
+ghost use Rattle.ps_names.specs.Offences.{refused, IsFirst};
+ghost use Rattle.ps_derived.specs.declared.library.Library.{Library};
+ghost use Rattle.ps_derived.specs.Limits.{IsWithinLimits};
+ghost use Rattle.ps_derived_rules.specs.BlockRules.{offences, is_within};
+
+/// A refusal names one of the offences against the rules B, and none of them comes before it. Where there is no offence
+/// it names none.
+pub fn names_the_first()
+    ensures first { (l : Library) → IsFirst (offences l) (refused (offences l)) }
+    ensures none { (l : Library) → refused (offences l) ≡ None → offences l ≡ [] }
+{}
+
+/// Rule B4 refuses a text exactly where it is not within the limits.
+pub fn limits_are_kept()
+    ensures { (l : Library) → IsTrue (is_within l) ↔ IsWithinLimits l }
+{}

@@ -1,0 +1,40 @@
+// What is said of a text, in one line.
+
+use ps_base::Fail;
+use ps_derived::parse_library;
+use ps_flatten::flatten;
+use ps_lexer::lex;
+use ps_model::app::App;
+use ps_parser::Source;
+use ps_resolve::resolve;
+use std::alloc::Global;
+use std::test::Fail as TestFail;
+
+/// The flat source of a text.
+pub fn flat(alloc: Global, text: &str) -> Result<Source, Fail> {
+    let tokens = lex(alloc, text.as_bytes())?;
+    let library = parse_library(alloc, &tokens)?;
+    flatten(alloc, &library)
+}
+
+// The application that stands for a text.
+fn application(alloc: Global, text: &str) -> Result<App, Fail> {
+    let source = flat(alloc, text)?;
+    resolve(alloc, &source)
+}
+
+/// The figures of a text's application, or the rule that refuses it, with its place.
+pub fn said(alloc: Global, text: &str) -> Result<String, TestFail> {
+    match application(alloc, text) {
+        Ok(app) => Ok(format!(in alloc;
+            "inputs {} outputs {} locals {} instances {} steps {} nodes {}",
+            app.input_count(),
+            app.output_count(),
+            app.local_count(),
+            app.instance_count(),
+            app.step_count(),
+            app.node_count()
+        )?),
+        Err(fail) => Ok(format!(in alloc; "{fail}")?),
+    }
+}

@@ -1,0 +1,10 @@
+pub mod Mapping
+pub mod Lookups
+pub mod Copies
+pub mod Alike
+pub mod Growing
+pub mod Making
+pub mod Given
+pub mod Wholes
+pub mod Whole
+pub mod Unbroken

@@ -1,6 +1,6 @@
 // All that the program does, over the system.
 
-ghost use Rattle.std.specs.Prelude.{◌≡◌, ◌⊎◌, ◌≤◌, ℕ, List, IsTrue, Any, IfOk, IfErr};
+ghost use Rattle.std.specs.Prelude.{◌≡◌, ◌≢◌, ◌⊎◌, ◌≤◌, ℕ, List, IsTrue, Any, IfOk, IfErr};
 ghost use Rattle.std.specs.IoError.{error_kind};
 ghost use Rattle.ps_edge.specs.Exit.{exit_number, number_without_words};
 ghost use Rattle.ps_outside.specs.Outside.{Rose};
@@ -41,6 +41,9 @@ pub fn run<F: Files, O: Output>(alloc: Global, words: &Words, files: &mut F, out
         (answer : Answer) × IsAnswer (program.text words.now) (F.held files.old) answer × (result ≡ answer.status) }
     ensures whole { IsTrue (F.tells files.old) → ¬ IsCut result →
         AppendsAll (IsAnswer (program.text words.now) (F.held files.old)) (O.tells out.old) (O.taken out.old) (O.taken out.new) result }
+
+    // Whatever was taken is handed on, unless a write failed.
+    ensures handed_on { result ≢ Status.WriteFault → IsTrue (O.is_handed_on out.new) }
 
     // Where memory is wanting nothing is written.
     ensures memory { IsTrue (O.tells out.old) → result ≡ Status.Memory → O.taken out.new ≡ O.taken out.old }

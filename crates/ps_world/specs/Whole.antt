@@ -1,14 +1,17 @@
 -- A world as its callers see it.
 use Rattle.std.specs.Prelude.{◌≡◌, ℕ, List}
+use Rattle.ps_model.specs.declared.channel.Channel.{Channel}
+use Rattle.ps_model.specs.declared.channel.Region.{Region}
 use Rattle.ps_model.specs.declared.sizes.Sizes.{Sizes}
 use Rattle.ps_model.specs.Network.{Network}
 use Rattle.ps_model.specs.Sized.{AreSizesOf}
 use Rattle.ps_model.specs.Budgets.{turns_a, turns_b}
+use Rattle.ps_machine.specs.StoredChannel.{region_of}
 use Rattle.ps_stackvm.specs.Channel.{machine_a}
 use Rattle.ps_stackvm.specs.Code.{code_a}
 use Rattle.ps_eqvm.specs.Channel.{machine_b}
 use Rattle.ps_eqvm.specs.Code.{code_b}
-use Rattle.ps_world.specs.Worlds.{Machines, World_state, Event, world_0}
+use Rattle.ps_world.specs.Worlds.{Machines, World_state, Event, channel, world_0}
 use Rattle.ps_world.specs.Steps.{world_step, after}
 
 -- what never changes of a world: the sizes of the application, the code of both channels as compiled, and both budgets of turns
@@ -27,6 +30,10 @@ pub record Whole : Type 0 where
 -- the machines of channels A and B with what never changes of a world
 abbrev pub machines_in : Setup → Machines
 machines_in s = record { a = machine_a s.sizes s.image_a s.budget_a; b = machine_b s.sizes s.image_b s.budget_b }
+
+-- the bytes of a region of a channel, as they are stored
+abbrev pub region_in : Channel → Region → Whole → List ℕ
+region_in ch region w = region_of region (record { sizes = w.setup.sizes; code = (channel ch w.state).code; cells = (channel ch w.state).cells })
 
 -- the world after an event
 abbrev pub happened : Event → Whole → Whole

@@ -3,12 +3,11 @@
 ghost use Rattle.std.specs.Prelude.{◌≡◌, ◌≤◌, ◌<◌, ◌^◌, ◌&&◌, ◌||◌, ◌+◌, false, true, is_err, length, nat_lt, None, IfSome, IfNone, IfOk, []};
 ghost use Rattle.ps_model.specs.Typing.{Accepted};
 ghost use Rattle.ps_machine.specs.Channels.{ended};
-ghost use Rattle.ps_machine.specs.StoredChannel.{region_of};
 ghost use Rattle.ps_world.specs.Worlds.{machine, channel};
 ghost use Rattle.ps_world.specs.Worlds.Event.{Begin, Turn, Spoil, Compare, Restart};
 ghost use Rattle.ps_world.specs.Steps.{both_ended};
 ghost use Rattle.ps_world.specs.Verdicts.{verdict, report_given, judged, cause_of};
-ghost use Rattle.ps_world.specs.Whole.{machines_in, happened, after_events, IsWorldOf};
+ghost use Rattle.ps_world.specs.Whole.{machines_in, region_in, happened, after_events, IsWorldOf};
 ghost use Rattle.ps_world.specs.Orders.{spoils_before, next_turn, turn_events, events_before_compare, at_compare, scan_events};
 ghost use Rattle.ps_seat.specs.Outcomes.{outcome};
 ghost use Rattle.ps_seat.specs.Outcomes.Outcome.{gives};
@@ -159,6 +158,7 @@ impl World {
         bytes: &[u8],
     ) -> Result<(), OutOfRegion>
         ensures bytes { self.new ≡ happened (Spoil of region at bytes.now) self.old }
+        ensures refused { is_err result ≡ nat_lt (length (region_in of region self.old)) (at + length bytes.now) }
     {
         match of {
             Channel::A => self.a.spoil(region, at, bytes),

@@ -1,7 +1,7 @@
 use Rattle.std.proofs.Common.{◌∙◌, subst}
 use Rattle.ps_top.specs.Meets.{IsCut}
 use Rattle.ps_top.specs.declared.Status.{Status}
-use Rattle.ps_edge.proofs.Ending.{not_cut, read_failed}
+use Rattle.ps_edge.proofs.Ending.{not_cut, read_failed, flushed}
 use Rattle.ps_edge.proofs.program.run.Goals as goal
 
 pub returns-clause-status : goal.returns-clause-status
@@ -20,6 +20,10 @@ returns-clause-whole g c = λ tells not.
       ended = is ∙ found.ended;
       appended = λ told. c.finish.ensures.kept ∙ found.appended told;
     }
+
+pub returns-clause-handed_on : goal.returns-clause-handed_on
+returns-clause-handed_on g c = λ not.
+    flushed c.finish.result c.ended.result c.finish.ensures.handed_on c.ended.ensures.write_fault not
 
 pub returns-clause-read_fault : goal.returns-clause-read_fault
 returns-clause-read_fault g c = λ is.

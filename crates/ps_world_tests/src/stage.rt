@@ -1,0 +1,129 @@
+// A world, and the report that its Compares write. A call that may not come where it is asked for fails the test.
+
+ghost use Rattle.std.specs.Prelude.{IfOk};
+ghost use Rattle.ps_model.specs.Typing.{Accepted};
+ghost use Rattle.ps_world_tests.specs.Beginning.{IsBeginning};
+
+use crate::application::application;
+use ps_base::Memory;
+use ps_model::app::App;
+use ps_model::channel::{Channel, Fault, Verdict};
+use ps_model::report::{Report, Scan};
+use ps_world::World;
+use std::alloc::Global;
+use std::marker::Model;
+use std::process::Abort;
+use std::test::Fail;
+
+/// A world with the report of its last Compare, the number of its inputs, and the time in ms of its last scan.
+#[derive(Drop)]
+pub struct Stage {
+    world: World,
+    report: Report,
+    inputs: usize,
+    last: u32,
+}
+
+impl Model for Stage {
+    ghost use Rattle.std.specs.Prelude.{◌≡◌, ◌≤◌, length};
+    ghost use Rattle.ps_world.specs.Whole.{Whole};
+
+    ghost Value = { Whole };
+
+    ghost view = { λ s. s.world };
+
+    ghost invariant = { λ s. (s.world.setup.sizes.inputs ≡ s.inputs) × (s.world.state.last ≤ s.last)
+        × (length s.report.outs ≡ s.world.setup.sizes.outputs) × (length s.report.diags ≡ s.world.setup.sizes.instances) };
+}
+
+// The world of an accepted application, at the beginning.
+#[tactic(auto, using(crate::proofs::Beginnings::is_beginning))]
+fn world_of(alloc: Global, app: &App) -> Result<World, Memory>
+    requires { Accepted app.now }
+    ensures { IfOk result (IsBeginning app.now) }
+{
+    let world = World::build(alloc, app)?;
+    Ok(world)
+}
+
+impl Stage {
+    /// The world of the application of a text, at the beginning.
+    pub fn of(alloc: Global, text: &str) -> Result<Stage, Fail> {
+        let app = application(alloc, text)?;
+        let world = world_of(alloc, &app)?;
+        let report = Report::for_app(alloc, &app)?;
+        let inputs = app.input_count() as usize;
+        Ok(Stage {
+            world,
+            report,
+            inputs,
+            last: 0,
+        })
+    }
+
+    /// The world.
+    pub fn world(&self) -> &World {
+        &self.world
+    }
+
+    /// The report of the last Compare, blank before the first.
+    pub fn report(&self) -> &Report {
+        &self.report
+    }
+
+    /// Makes a scan with these faults.
+    pub fn make_scan(&mut self, rt: &impl Abort, scan: &Scan, faults: &[Fault]) -> Verdict {
+        assert!(rt; !self.world.scan_begun());
+        assert!(rt; self.last <= scan.now);
+        assert!(rt; scan.ins.len() == self.inputs);
+        self.last = scan.now;
+        self.world.make_scan(scan, faults, &mut self.report)
+    }
+
+    /// Begins a scan.
+    pub fn begin(&mut self, rt: &impl Abort, scan: &Scan) {
+        assert!(rt; !self.world.scan_begun());
+        assert!(rt; !self.world.is_tripped());
+        assert!(rt; self.last <= scan.now);
+        assert!(rt; scan.ins.len() == self.inputs);
+        self.last = scan.now;
+        self.world.begin(scan);
+    }
+
+    /// One turn of a channel.
+    pub fn turn(&mut self, rt: &impl Abort, of: Channel) {
+        assert!(rt; self.world.scan_begun());
+        assert!(rt; !self.world.ended(of));
+        self.world.turn(of);
+    }
+
+    /// The Spoil that a fault asks for, now. Whether it is in its region.
+    pub fn spoil(&mut self, fault: &Fault) -> bool {
+        let Fault {
+            channel,
+            region,
+            at,
+            bytes,
+            ..
+        } = fault;
+        self.world
+            .spoil(*channel, *region, *at, bytes.as_slice())
+            .is_ok()
+    }
+
+    /// Compares.
+    pub fn compare(&mut self, rt: &impl Abort) -> Verdict {
+        if !self.world.is_tripped() {
+            assert!(rt; self.world.scan_begun());
+            assert!(rt; self.world.ended(Channel::A));
+            assert!(rt; self.world.ended(Channel::B));
+        }
+        self.world.compare(&mut self.report)
+    }
+
+    /// Begins anew.
+    pub fn restart(&mut self, rt: &impl Abort) {
+        assert!(rt; !self.world.scan_begun());
+        self.world.restart();
+    }
+}

@@ -40,7 +40,7 @@ def condition(row, says):
             on.remove(name), on.remove(last)
             parts.append(f"{now} is held")
     parts = [phrase(name, says, True) for name in on] + [phrase(name, says, False) for name in off] + parts
-    return " & ".join(parts) or "else"
+    return " and ".join(parts) or "else"
 
 
 def ways(rows):
@@ -71,7 +71,7 @@ def diagram(file, meanings):
         for place, (next_state, those) in enumerate(ways_of, 1):
             label = " or ".join(condition(row, says) for row in those)
             anew = ", its time begins anew" if next_state == state else ""
-            lines.append(f"    s{state} --> s{next_state} : {place}. {label}{anew}")
+            lines.append(f"    s{state} --> s{next_state} : ({place}) {label}{anew}")
     errors = ",".join(f"s{state}" for state in ways(rows) if state.startswith("C"))
     lines += ["    classDef enabled fill:#dff0d8,stroke:#3c763d", "    classDef error fill:#f2dede,stroke:#a94442"]
     lines += ["    class s8000 enabled", f"    class {errors} error", "```"]

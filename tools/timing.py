@@ -52,6 +52,7 @@ def picture(trace, written):
     rows = names + outputs + instances
     wide, high = LEFT + WIDE * len(columns) + 10, TOP + HIGH * len(rows) + 10
     parts = [f'<svg xmlns="http://www.w3.org/2000/svg" width="{wide}" height="{high}" viewBox="0 0 {wide} {high}">', f"<style>{STYLE}</style>"]
+    parts.append('<rect width="100%" height="100%" fill="#fff"/>')
     for i, column in enumerate(columns):
         x = LEFT + WIDE * i
         if column.has_tripped:
@@ -60,10 +61,10 @@ def picture(trace, written):
     for row, name in enumerate(rows):
         y = TOP + HIGH * row
         parts.append(f'<text x="4" y="{y + 14}">{name}</text>')
-        if name in instances and row >= len(names) + len(outputs):
+        if name in instances:
             parts += codes(columns, name, y)
         else:
-            parts.append(wave([(c.values | c.outputs).get(name, False) if row >= len(names) else c.values[name] for c in columns], y))
+            parts.append(wave([(column.values | column.outputs)[name] for column in columns], y))
     for i in restarts:
         x = LEFT + WIDE * i
         parts.append(f'<line class="restart" x1="{x}" y1="{TOP - 8}" x2="{x}" y2="{high}"/>')

@@ -2,7 +2,7 @@
 """Timing pictures of the examples, made from what the program writes.
 
 timing.py --write    draws each run of the files `*.expected` below examples/, as an SVG beside its trace, and each run with a fault
-                     that a restart follows
+                     that trips and is followed by a restart
 timing.py --check    asks whether the pictures are those of the files; by its status
 
 A picture has a column for each scan, with its time, and a row for each input of the trace, each output, and each instance with
@@ -99,7 +99,7 @@ def pictures():
         for call in path.read_text().split("$ ./plcsafe ")[1:]:
             first, *written = call.splitlines()
             words = first.split()
-            is_drawn = words[0] == "run" or words[0] == "fault" and "restart" in written
+            is_drawn = words[0] == "run" or words[0] == "fault" and "restart" in written and " TRIP" in call
             if is_drawn and len(written) > 2 and "refused" not in call:
                 app, last = pathlib.Path(words[1]).stem, pathlib.Path(words[-1])
                 yield ROOT / last.parent / f"{app}-{last.stem}.svg", picture(ROOT / words[2], written[:-1])

@@ -76,7 +76,7 @@ is_built (Check app) = true
 is_built (Cert app) = true
 is_built (Verify app cert) = true
 is_built (Image app) = true
-is_built (Load number) = false
+is_built (Load number) = true
 is_built (Demand app) = true
 is_built (Vote app trace faults) = false
 is_built (Heal app trace faults) = false
@@ -102,4 +102,4 @@ names_of NotTaken = []
 
 -- the forms of the commands that the program has
 abbrev pub usage_line : List ℕ
-usage_line = codes "usage: plcsafe run APP TRACE | fault APP TRACE FAULTS | check APP | cert APP | verify APP CERT | image APP | demand APP\n"
+usage_line = codes "usage: plcsafe run APP TRACE | fault APP TRACE FAULTS | check APP | cert APP | verify APP CERT | image APP | load N | demand APP\n"

@@ -12,7 +12,7 @@ use std::alloc::Global;
 
 /// The forms of the commands that the program has, as one line.
 pub const USAGE: &[u8] =
-    b"usage: plcsafe run APP TRACE | fault APP TRACE FAULTS | check APP | cert APP | verify APP CERT | image APP | demand APP\n";
+    b"usage: plcsafe run APP TRACE | fault APP TRACE FAULTS | check APP | cert APP | verify APP CERT | image APP | load N | demand APP\n";
 
 /// What the words ask of the program.
 #[derive(Clone, Copy)]
@@ -81,9 +81,10 @@ impl<'a> Command<'a> {
             | Command::Cert { .. }
             | Command::Verify { .. }
             | Command::Image { .. }
+            | Command::Load { .. }
             | Command::Demand { .. }
             | Command::NotTaken => true,
-            Command::Load { .. } | Command::Vote { .. } | Command::Heal { .. } => false,
+            Command::Vote { .. } | Command::Heal { .. } => false,
         }
     }
 }

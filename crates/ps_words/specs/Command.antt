@@ -1,5 +1,5 @@
 -- What words ask of the program.
-use Rattle.std.specs.Prelude.{ℕ, Bool, true, false, not, ◌&&◌, ◌==◌, List, [], ◌∷◌, codes, if◌then◌else◌, nat_le}
+use Rattle.std.specs.Prelude.{◌≤◌, ℕ, Bool, true, false, not, ◌&&◌, ◌==◌, List, [], ◌∷◌, codes, if◌then◌else◌, nat_le}
 use Rattle.std.specs.List.{list_all}
 use Rattle.std.specs.Str.{bytes_eq, all_ascii_digits}
 use Rattle.std.specs.Str.Parse.{digits_value}
@@ -85,6 +85,11 @@ is_built NotTaken = true
 -- Words are taken where none is empty or begins with a hyphen, and they have the form of a command that the program has.
 abbrev pub command_of : List (List ℕ) → Command
 command_of words = if list_all is_plain words && is_built (form_of words) then form_of words else NotTaken
+
+-- the number of a load is from 1 to 1000
+abbrev pub IsBounded : Command → Type 0
+IsBounded (Load number) = (1 ≤ number) × (number ≤ 1000)
+IsBounded command = Unit {0}
 
 -- the names of files that a command gives, in the order in which their texts are asked for
 abbrev pub names_of : Command → List (List ℕ)

@@ -5,7 +5,7 @@
 //! - `motor`, `press`, `blocks`, `applications`: runs of applications.
 //! - `sources`, `texts`, `names`, `drivers`, `flow`, `sizes`: what `check` says of texts.
 //! - `certificates`, `forged`: what `cert` writes, and what `verify` says of certificates.
-//! - `traces`, `usage`, `outside`, `left`: traces, words that are not taken, failures, and what a call leaves.
+//! - `traces`, `loads`, `usage`, `outside`, `left`: traces, loads, words that are not taken, failures, and what a call leaves.
 //! - `exits`: the numbers with which the program exits.
 #![tactic(auto)]
 
@@ -27,6 +27,8 @@ mod flow;
 mod forged;
 #[cfg(test)]
 mod left;
+#[cfg(test)]
+mod loads;
 #[cfg(test)]
 mod motor;
 #[cfg(test)]

@@ -21,6 +21,6 @@ fn a_summary_that_is_not_written(rt: HostRuntime) -> Result<(), Fail> {
     let words = words_of(alloc, "load 2")?;
     let status = top(alloc, &words, &mut files, &mut out, &mut left);
     assert_eq!(rt; status, Status::WriteFault);
-    assert_eq!(rt; out.taken(), b"");
+    assert!(rt; out.taken().is_empty());
     Ok(())
 }

@@ -1,6 +1,7 @@
 -- What a load counts of its scans is what they mean.
-use Rattle.std.proofs.Common.{◌≡◌, ◌≤◌, ◌<◌, ◌+◌, ◌*◌, ◌∙◌, ◌++◌, ℕ, suc, Bool, IsTrue, List, [], ◌∷◌, Result, Ok, Err, length, map, refl, sym, ap, subst, arith}
-use Rattle.std.specs.Prelude.{fold, flat_map, min, sum_by, Some}
+use Rattle.std.proofs.Common.{◌≡◌, ◌≤◌, ◌<◌, ◌+◌, ◌*◌, ◌∙◌, ◌++◌, ℕ, suc, Bool, true, cond, List, [], ◌∷◌, Result, Ok, Err, length, map, refl, sym, ap, subst, ⊎_elim, arith}
+use Rattle.std.specs.Prelude.{fold, flat_map, min, sum_by, Some, is_some}
+use Rattle.std.proofs.lemmas.Option.{same_Some}
 use Rattle.std.proofs.lemmas.List.Sums.{sum_by-cons, count_by-le-length}
 use Rattle.std.proofs.lemmas.List.FromFn.{length-map-range_with_len}
 use Rattle.ps_base.specs.declared.failing.Refusal.{Refusal}
@@ -15,6 +16,12 @@ use Rattle.ps_model.proofs.FieldPlaces.{report_diags}
 use Rattle.ps_model.proofs.Runs.{one_run}
 use Rattle.ps_model.specs.Meaning.{Item, Past, Runs, Meaning, report, last, nothing}
 use Rattle.ps_model.specs.Meaning.Item.{scan, restart}
+use Rattle.ps_report.specs.Short.{refusal_text}
+use Rattle.ps_source.specs.Answering.{Reads, IsFault}
+use Rattle.ps_source.specs.Source.{Reading, IsAcceptedAs}
+use Rattle.ps_source.specs.Source.Reading.{is_refused as is_refused_source}
+use Rattle.ps_source.specs.declared.accepting.NoApplication.{NoApplication}
+use Rattle.ps_source.specs.declared.accepting.NoApplication.TheVariants.{Memory as NoMemory, Fault as FaultSource, Refused as RefusedSource}
 use Rattle.ps_trace.specs.Scans.{Scans, End}
 use Rattle.ps_trace.specs.Scans.End.{whole, refused as is_refused}
 use Rattle.ps_world.specs.Worlds.{Machines, World_state, Restart, world_0}
@@ -22,7 +29,9 @@ use Rattle.ps_world.specs.Whole.{Whole, machines_in, IsWorldOf}
 use Rattle.ps_world.specs.Steps.{world_step, after}
 use Rattle.ps_world.specs.Orders.{of_scan, scan_events}
 use Rattle.ps_world.specs.Answers.{answers, AreTimely, ReleaseAll, QuietRunsRelease}
-use Rattle.ps_outside.specs.Outside.{last_count}
+use Rattle.ps_load.specs.Holding.{Load, held_of, faults_of}
+use Rattle.ps_load.specs.Texts.{app_text}
+use Rattle.ps_outside.specs.Outside.{Rose, last_count}
 use Rattle.ps_top.specs.Asking.{Answer}
 use Rattle.ps_top.specs.Asking.Asking.{Says, Finds}
 use Rattle.ps_top.specs.Calls.{FilesSeen, OutputSeen, SaysAnswer, Answers}
@@ -31,16 +40,19 @@ use Rattle.ps_top.specs.Counting.{none_counted, with_more, counted_report, count
 use Rattle.ps_top.specs.Doing.{Did}
 use Rattle.ps_top.specs.Outcomes.{Outcome, performed}
 use Rattle.ps_top.specs.Performing.{Performs}
-use Rattle.ps_top.specs.Program.{true_outputs, true_errors, summary, sum_scans, leaves_world, first_world}
+use Rattle.ps_top.specs.Program.{answer, with_application, true_outputs, true_errors, summary, sum_scans, sum_trace, load, leaves_world, first_world}
+use Rattle.ps_top.specs.Refusing.{SaysNoApplication}
 use Rattle.ps_top.specs.Resting.{answered, outcomes, ran}
 use Rattle.ps_top.specs.declared.counting.Counter.{Counter}
 use Rattle.ps_top.specs.declared.Status.{Status}
+use Rattle.ps_top.specs.declared.Status.TheVariants.{Refused as RefusedStatus, Memory as MemoryStatus}
 use Rattle.ps_top.specs.declared.items.Cut.{Cut}
 use Rattle.ps_top.specs.declared.items.Cut.TheVariants.{Refused, Unread, Unwritten}
 use Rattle.ps_top.specs.declared.left.Left.{Left}
 use Rattle.ps_top.specs.declared.striking.StruckWorld.{StruckWorld}
-use Rattle.ps_top.proofs.Calling.{files_same, found_of_all, goes_answers, leaves_on, said_answers}
+use Rattle.ps_top.proofs.Calling.{files_same, found_of_all, goes_answers, leaves_on, memory_answers, said_answers}
 use Rattle.ps_top.proofs.Meant.{ran_is}
+use Rattle.ps_top.proofs.OneAnswer.{with_counts}
 use Rattle.ps_top.proofs.Standing.{TakesAll, CameTo, came_to}
 use Rattle.ps_top.proofs.ToCome.{Stands}
 
@@ -74,16 +86,29 @@ module _ (net : Network) (p after : StruckWorld) (scans : Scans) (c' : Counter) 
   all_taken c [] is = is
   all_taken c (o ∷ os) takes = subst (λ (d : Counter). c' ≡ fold counted d os) takes.1 (all_taken takes.0 os takes.2)
 
+  -- what comes of the scans
+  abbrev coming : List (Outcome Verdict)
+  coming = outcomes scans.items (answered net p.faults 1 scans.items p.world)
+
   told_counts : (bytes : List ℕ) (ended : Result (Unit {0}) Cut) → CameTo net p.faults silent counts 0 scans p after none_counted c' bytes ended → (bytes ≡ []) × CountsAsEnded ended
-  told_counts bytes (Ok x) came = (came.0.written ∙ nothing_said _, (all_taken none_counted _ came.0.taken, came.1, came.0.ends))
-  told_counts bytes (Err (Refused refusal)) came = (came.0.written ∙ nothing_said _, (came.1, came.0.ends))
-  told_counts bytes (Err Unread) begun = (none_begun bytes begun.0 (begun.1 ∙ nothing_said _), tt)
-  told_counts bytes (Err Unwritten) begun = (none_begun bytes begun.0 (begun.1 ∙ nothing_said _), tt)
+  told_counts bytes (Ok x) came = (came.0.written ∙ nothing_said coming, (all_taken none_counted coming came.0.taken, came.1, came.0.ends))
+  told_counts bytes (Err (Refused refusal)) came = (came.0.written ∙ nothing_said coming, (came.1, came.0.ends))
+  told_counts bytes (Err Unread) begun = (none_begun bytes begun.0 (begun.1 ∙ nothing_said coming), tt)
+  told_counts bytes (Err Unwritten) begun = (none_begun bytes begun.0 (begun.1 ∙ nothing_said coming), tt)
 
   -- the items of a load's trace were done from the first one on
-  pub items_count : (time : ℕ) (bytes : List ℕ) (ended : Result (Unit {0}) Cut) → Stands p.faults 0 p →
-      Did (Performs net) silent counts time p none_counted scans bytes ended after c' → (bytes ≡ []) × CountsAsEnded ended
-  items_count time bytes ended stands did = told_counts bytes ended (came_to net p.faults silent counts 0 time p none_counted scans bytes ended after c' stands did)
+  pub items_count : (time : ℕ) (c : Counter) (bytes : List ℕ) (ended : Result (Unit {0}) Cut) → c ≡ none_counted → Stands p.faults 0 p →
+      Did (Performs net) silent counts time p c scans bytes ended after c' → (bytes ≡ []) × CountsAsEnded ended
+  items_count time c bytes ended none stands did =
+      told_counts bytes ended
+      (came_to net p.faults silent counts 0 time p none_counted scans bytes ended after c' stands (subst (λ (d : Counter). Did (Performs net) silent counts time p d scans bytes ended after c') none did))
+
+-- reading a text of a load never fails
+pub never_fails : (old new : Load) (name : List ℕ) → is_some (held_of old name) ≡ true → is_some (held_of new name) ≡ true → ¬ (Rose (faults_of old name) (faults_of new name))
+never_fails old new name in_old in_new rose =
+    let before : faults_of old name ≡ 0 = ap (λ b. cond b 0 old.others) in_old in
+    let now : faults_of new name ≡ 0 = ap (λ b. cond b 0 new.others) in_new in
+    ⊎_elim (λ more. omega (arith, more, before, now)) (λ end. omega (arith, end, now)) rose
 
 -- ---- The meaning.
 
@@ -113,11 +138,11 @@ counted_together c [] within =
     let trues : c.trues ≡ with_more c.trues 0 = omega (arith, within.1) in
     let errors : c.errors ≡ with_more c.errors 0 = omega (arith, within.2) in
     (λ i. record { scans = scans i; trues = trues i; errors = errors i })
-counted_together c (report ∷ reports) within =
-    let scans : with_more (with_more c.scans 1) (length reports) ≡ with_more c.scans (length reports + 1) = omega arith in
-    let trues = more_and_more c.trues (true_outputs report) (sum_by true_outputs reports) ∙ ap (with_more c.trues) (sym (sum_by-cons true_outputs report reports)) in
-    let errors = more_and_more c.errors (true_errors report) (sum_by true_errors reports) ∙ ap (with_more c.errors) (sym (sum_by-cons true_errors report reports)) in
-    counted_together (counted_report c report) reports (within_more c report) ∙ (λ i. record { scans = (scans ∙ ap (with_more c.scans) (omega arith)) i; trues = trues i; errors = errors i })
+counted_together c (r ∷ reports) within =
+    let scans : with_more (with_more c.scans 1) (length reports) ≡ with_more c.scans (length (r ∷ reports)) = omega arith in
+    let trues = more_and_more c.trues (true_outputs r) (sum_by true_outputs reports) ∙ ap (with_more c.trues) (sym (sum_by-cons true_outputs r reports)) in
+    let errors = more_and_more c.errors (true_errors r) (sum_by true_errors reports) ∙ ap (with_more c.errors) (sym (sum_by-cons true_errors r reports)) in
+    counted_together (counted_report c r) reports (within_more c r) ∙ (λ i. record { scans = scans i; trues = trues i; errors = errors i })
 
 module _ (net : Network) (m : Machines) where
   -- what comes of items where no fault strikes, from a number on
@@ -211,3 +236,15 @@ module _ (net : Network) (sound : IsSound net) (n : ℕ) (w : Whole) (built : Is
       (found_of_all (List State) (Meaning net scans.items) (λ us. Says (summary n scans.end (map (report net) us))) [] files files out out' left status ws means
       (said_answers (summary n scans.end (map (report net) ws)) [] files files out out' left status (no_cut_summary n scans.end (map (report net) ws)) (files_same files)
       (subst (λ (a : Answer). SaysAnswer a out out' status) (said_at scans.end) says)))
+
+-- a load whose application is refused, or for which memory is wanting
+pub no_load_answers : (n : ℕ) (A : Type 0) (Fits : List ℕ → A → Type 0) (files : FilesSeen) (out out' : OutputSeen) (left : Left) (status : Status) (why : NoApplication) →
+    Reads {A = A} Fits IsAcceptedAs (Some app_text) (Err why) → ¬ (IsFault {A = A} (Err why)) → SaysNoApplication why out out' status → Answers (load n) [] files files out out' left status
+no_load_answers n A Fits files out out' left status (RefusedSource r) read no_fault says =
+    found_of_all Reading (IsAcceptedAs app_text) (with_application (with_counts (sum_trace n))) [] files files out out' left status (is_refused_source r)
+    (subst (λ (text : List ℕ). IsAcceptedAs text (is_refused_source r)) (same_Some read.0 app_text (sym read.1)) read.2)
+    (said_answers (answer (refusal_text r) RefusedStatus) [] files files out out' left status (λ cut. grind arith) (files_same files) says)
+no_load_answers n A Fits files out out' left status NoMemory read no_fault says =
+    subst (λ (s : Status). Answers (load n) [] files files out out' left s) (sym says.0)
+    (subst (λ (o : OutputSeen). Answers (load n) [] files files out o left MemoryStatus) (sym says.1) (memory_answers (load n) [] files files out left (files_same files)))
+no_load_answers n A Fits files out out' left status FaultSource read no_fault says = absurd (no_fault tt)

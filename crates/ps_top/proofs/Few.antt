@@ -1,5 +1,5 @@
 -- A trace has no more items than bytes.
-use Rattle.std.proofs.Common.{◌≡◌, ◌≤◌, ◌+◌, ℕ, Bool, true, false, cond, List, [], ◌∷◌, length, arith}
+use Rattle.std.proofs.Common.{◌≡◌, ◌≤◌, ◌+◌, ℕ, suc, Bool, true, false, cond, List, [], ◌∷◌, length, arith}
 use Rattle.std.specs.Prelude.{◌==◌, drop}
 use Rattle.std.proofs.lemmas.Bool.{cases_Bool}
 use Rattle.ps_lines.specs.Lines.{Line, RawLine, raw_lines, onto_first, bytes_of, lines_from}
@@ -13,24 +13,24 @@ use Rattle.ps_trace.specs.Scans.{Scans, Headed, said_of, last_after, number_afte
 use Rattle.ps_trace.specs.Scans.Headed.{begins, fails}
 use Rattle.ps_base.specs.declared.limits.TheConstants.{LARGEST_TRACE, LONGEST_TRACE_LINE}
 
-onto_few : (b n : ℕ) (lines : List RawLine) → length lines ≤ n → length (onto_first b lines) ≤ n + 1
+onto_few : (b n : ℕ) (lines : List RawLine) → length lines ≤ n → length (onto_first b lines) ≤ suc n
 onto_few b n [] few = omega arith
 onto_few b n (Ended line ∷ lines) few = omega (arith, few)
 onto_few b n (Last line ∷ lines) few = omega (arith, few)
 
 raw_few : (text : List ℕ) → length (raw_lines text) ≤ length text
 raw_few [] = omega arith
-raw_few (b ∷ text) = either (b == 10)
+raw_few (b ∷ text) = either (b == 10) (raw_few text)
   where
-    either : (feeds : Bool) → length (cond feeds (Ended [] ∷ raw_lines text) (onto_first b (raw_lines text))) ≤ length text + 1
-    either true = omega (arith, raw_few text)
-    either false = onto_few b (length text) (raw_lines text) (raw_few text)
+    either : (feeds : Bool) → length (raw_lines text) ≤ length text → length (cond feeds (Ended [] ∷ raw_lines text) (onto_first b (raw_lines text))) ≤ suc (length text)
+    either true few = omega (arith, few)
+    either false few = onto_few b (length text) (raw_lines text) few
 
 lines_few : (largest longest at : ℕ) (lines : List RawLine) → length (lines_from largest longest at lines) ≤ length lines
 lines_few largest longest at [] = omega arith
 lines_few largest longest at (line ∷ lines) = omega (arith, lines_few largest longest (at + bytes_of line) lines)
 
-onto_scans_few : (found : List ℕ) (said : Said) (number n : ℕ) (later : Scans) → length later.items ≤ n → length (onto_scans found said number later).items ≤ n + 1
+onto_scans_few : (found : List ℕ) (said : Said) (number n : ℕ) (later : Scans) → length later.items ≤ n → length (onto_scans found said number later).items ≤ suc n
 onto_scans_few found skips number n later few = omega (arith, few)
 onto_scans_few found restarts number n later few = omega (arith, few)
 onto_scans_few found (scans now values) number n later few = omega (arith, few)
@@ -47,7 +47,7 @@ scans_few found number last (line ∷ lines) =
 abbrev AreFew : ℕ → Headed → Type 0
 AreFew n headed = length (scans_behind headed).items ≤ n
 
-onto_headed_few : (header : Header) (number next : ℕ) (lines : List Line) (later : Headed) → AreFew (length lines) later → AreFew (length lines + 1) (onto_headed header number next lines later)
+onto_headed_few : (header : Header) (number next : ℕ) (lines : List Line) (later : Headed) → AreFew (length lines) later → AreFew (suc (length lines)) (onto_headed header number next lines later)
 onto_headed_few no_header number next lines later few = omega (arith, few)
 onto_headed_few (places found) number next lines later few = omega (arith, scans_few found next 0 lines)
 onto_headed_few (wrong rule) number next lines later few = omega arith

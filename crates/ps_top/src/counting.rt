@@ -1,6 +1,6 @@
 // What counts the scans of a load, in the place of what writes them.
 
-ghost use Rattle.std.specs.Prelude.{◌≡◌, [], Unit, count_by};
+ghost use Rattle.std.specs.Prelude.{◌≡◌, []};
 ghost use Rattle.ps_report.specs.Short.{load_text};
 ghost use Rattle.ps_top.specs.Counting.{counted, counted_report, none_counted};
 ghost use Rattle.ps_top.specs.Program.{true_errors, true_outputs};

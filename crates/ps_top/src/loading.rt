@@ -1,6 +1,7 @@
 // `load N`: the scans of a generated trace, which are counted and not written.
 
-ghost use Rattle.std.specs.Prelude.{◌≡◌, ◌≢◌, ◌⊎◌, ◌≤◌, [], Some, Unit, codes};
+ghost use Rattle.std.specs.Prelude.{◌≡◌, ◌≢◌, ◌≤◌, [], Some, codes};
+ghost use Rattle.ps_load.specs.Holding.{held_of};
 ghost use Rattle.ps_load.specs.Texts.{trace_text};
 ghost use Rattle.ps_model.specs.Network.{input_count};
 ghost use Rattle.ps_model.specs.Typing.{Accepted};
@@ -52,11 +53,12 @@ fn sum_scans<S: Sink>(
     requires none { runner.old.taker ≡ none_counted }
     requires inputs { input_count_of trace.old ≡ input_count app.now }
     requires file { file_of trace.old ≡ codes "trace" }
-    requires reading { IsReadingTrace trace.old (trace_text files.old.number) }
-    ensures says { SaysAnswer (load_answer number app.now runner.old.performer.faults runner.old.performer.world (items_left trace.old (trace_text files.old.number)))
+    requires held { held_of files.old (codes "trace") ≡ Some (trace_text number) }
+    requires reading { IsReadingTrace trace.old (trace_text number) }
+    ensures says { SaysAnswer (load_answer number app.now runner.old.performer.faults runner.old.performer.world (items_left trace.old (trace_text number)))
         (output_seen S.tells S.taken S.faults out.old) (output_seen S.tells S.taken S.faults out.new) result }
     ensures world { ¬ IsCut result →
-        runner.new.performer.world ≡ ran runner.old.performer.faults 1 (items_left trace.old (trace_text files.old.number)).items runner.old.performer.world }
+        runner.new.performer.world ≡ ran runner.old.performer.faults 1 (items_left trace.old (trace_text number)).items runner.old.performer.world }
 {
     match do_items(app, trace, runner, files, out) {
         Ok(()) => say(out, runner.taker.summary(number).as_slice(), Status::Done),
@@ -81,7 +83,7 @@ fn read_sums<S: Sink>(
     requires first { IsBeginning app.now runner.old.performer }
     requires quiet { runner.old.performer.faults ≡ [] }
     requires none { runner.old.taker ≡ none_counted }
-    requires number { files.old.number ≡ number }
+    requires held { held_of files.old (codes "trace") ≡ Some (trace_text number) }
     requires last { number ≤ 1000 }
     ensures answers { (files : FilesSeen) (left : LeftBehind) → left.world ≡ Some runner.new.performer.world →
         Answers (program.sum_scans number app.now runner.old.performer.world.setup (scans_of (trace_text number) app.now)) []
@@ -111,7 +113,7 @@ fn sum_in_world<S: Sink>(
 ) -> Status
     requires accepted { Accepted app.now }
     requires first { IsWorldOf app.now world }
-    requires number { files.old.number ≡ number }
+    requires held { held_of files.old (codes "trace") ≡ Some (trace_text number) }
     requires last { number ≤ 1000 }
     ensures answers { (files : FilesSeen) → Answers (program.sum_scans number app.now world.setup (scans_of (trace_text number) app.now)) []
         files files (output_seen S.tells S.taken S.faults out.old) (output_seen S.tells S.taken S.faults out.new) left.new result }
@@ -139,7 +141,7 @@ fn sum_trace<S: Sink>(
     left: &mut Left,
 ) -> Status
     requires accepted { Accepted app.now }
-    requires number { files.old.number ≡ number }
+    requires held { held_of files.old (codes "trace") ≡ Some (trace_text number) }
     requires last { number ≤ 1000 }
     ensures answers { (files : FilesSeen) → Answers (program.sum_trace number app.now) []
         files files (output_seen S.tells S.taken S.faults out.old) (output_seen S.tells S.taken S.faults out.new) left.new result }

@@ -7,8 +7,6 @@ use Rattle.ps_model.specs.Scanning.{State}
 use Rattle.ps_model.specs.Meaning.{Meaning, nothing, report}
 use Rattle.ps_model.proofs.Runs.{one_run}
 use Rattle.ps_flow.specs.Derivation.{certificate}
-use Rattle.ps_names.proofs.Whole.{network_is_sound}
-use Rattle.ps_parser.specs.Names.{IsPlainName}
 use Rattle.ps_model.specs.declared.channel.Fault.{Fault}
 use Rattle.ps_base.specs.declared.failing.Refusal.{Refusal}
 use Rattle.ps_trace.specs.Faults.{faults_of}
@@ -27,6 +25,7 @@ use Rattle.ps_top.specs.declared.Status.TheVariants.{Done}
 use Rattle.ps_top.specs.declared.left.Left.{Left}
 use Rattle.ps_source.specs.Source.Reading.{stands_for, is_refused}
 use Rattle.ps_source.proofs.Demandable.{one_demanding}
+use Rattle.ps_source.proofs.Keeping.{resolved_sound}
 use Rattle.ps_source.proofs.OneReading.{one_resolution}
 use Rattle.ps_source.proofs.OneBreach.{one_acceptance}
 use Rattle.ps_top.proofs.OneJudgement.{one_judgement}
@@ -62,13 +61,6 @@ module _ (held : List ℕ → Option (List ℕ)) where
 -- what is asked behind an accepted application, whose certificate leaves its counts
 abbrev pub with_counts : (Network → Asking) → Network → Asking
 with_counts next net = Leaves (leaves_checked (counts net (certificate net))) (next net)
-
--- what stands for a source keeps the whole invariant
-pub resolved_sound : (s : List ℕ) (net : Network) → Resolves s net → IsSound net
-resolved_sound s net r =
-    let p = r.tree in
-    let within = r.program.spelt.within in
-    subst IsSound (sym r.stands.is) (network_is_sound IsPlainName p r.stands.unbroken within.grammatical within.nested)
 
 module _ (held : List ℕ → Option (List ℕ)) where
   -- what is said of the states that scans mean

@@ -23,7 +23,8 @@ use Rattle.ps_top.specs.Asking.Asking.{Says, Asks, Finds}
 use Rattle.ps_top.specs.Program.{Judged, Judges, verdict, with_application, accepted_source, accepted, summary, sum_scans, sum_trace, load, answer, image_lines, imaged, region_sizes, trips_of, unless_refused, with_faults, run_quietly, run_struck, answer_scans, run_named, verify_named, verify, demanded, demand, said, told, text}
 use Rattle.ps_top.specs.Program.Judged.{derives, objects}
 use Rattle.ps_top.specs.declared.Status.TheVariants.{Done}
-use Rattle.ps_top.proofs.OneAnswer.{with_counts, resolved_sound}
+use Rattle.ps_source.proofs.Keeping.{resolved_sound}
+use Rattle.ps_top.proofs.OneAnswer.{with_counts}
 use Rattle.ps_top.proofs.Setups.{some_setup}
 
 -- where all names that are asked for are held there is an answer

@@ -32,7 +32,7 @@ pub use ps_words::Words;
 pub enum Status {
     /// All was done.
     Done,
-    /// The source is refused, by a rule L, P, N or S, or for `demand` by the rule M1.
+    /// The source is refused, by a rule L, P, B, N or S, or for `demand` by the rule M1.
     Refused,
     /// The words are not taken.
     Usage,

@@ -33,6 +33,7 @@ fn counts_of_the_certificate(rt: HostRuntime) -> Result<(), Fail> {
     assert_eq!(rt; left_by(alloc, "check A", MOTOR, "")?, Some((5, 3)));
     assert_eq!(rt; left_by(alloc, "cert A", MOTOR, "")?, Some((5, 3)));
     assert_eq!(rt; left_by(alloc, "run A T", MOTOR, trace)?, Some((5, 3)));
+    assert_eq!(rt; left_by(alloc, "load 1", "", "")?, Some((25, 10)));
     let cert = "0 SRC\n3 SRC\n3 SRC\n2 AND 3\n";
     assert_eq!(rt; left_by(alloc, "verify A T", MOTOR, cert)?, Some((5, 4)));
     Ok(())

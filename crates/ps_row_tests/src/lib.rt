@@ -2,10 +2,10 @@
 //! call ends.
 //!
 //! - `calls`: how a call is made and what it has to write; `tables`: the same of each row of a table.
-//! - `motor`, `press`, `blocks`, `applications`: runs of applications.
+//! - `motor`, `press`, `blocks`, `applications`: runs of applications. `nested`, `machine`: applications with function blocks.
 //! - `sources`, `texts`, `names`, `drivers`, `flow`, `sizes`: what `check` says of texts.
 //! - `certificates`, `forged`: what `cert` writes, and what `verify` says of certificates.
-//! - `traces`, `usage`, `outside`, `left`: traces, words that are not taken, failures, and what a call leaves.
+//! - `traces`, `loads`, `usage`, `outside`, `left`: traces, loads, words that are not taken, failures, and what a call leaves.
 //! - `exits`: the numbers with which the program exits.
 #![tactic(auto)]
 
@@ -28,9 +28,15 @@ mod forged;
 #[cfg(test)]
 mod left;
 #[cfg(test)]
+mod loads;
+#[cfg(test)]
+mod machine;
+#[cfg(test)]
 mod motor;
 #[cfg(test)]
 mod names;
+#[cfg(test)]
+mod nested;
 #[cfg(test)]
 mod outside;
 #[cfg(test)]

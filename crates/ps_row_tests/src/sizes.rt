@@ -62,12 +62,27 @@ fn seventy_thousand_names(rt: HostRuntime) -> Result<(), Fail> {
             (1, "b : BOOL; END_VAR END_PROGRAM"),
         ],
     )?;
-    check(
-        &rt,
-        rt.alloc(),
-        text.as_str(),
-        "refused N11 line 1 column 9",
-    )?;
+    check(&rt, rt.alloc(), text.as_str(), "refused B4 line 1 column 9")?;
+    Ok(())
+}
+
+// The limit on statements is tried before the rules on names.
+#[test]
+fn most_statements(rt: HostRuntime) -> Result<(), Fail> {
+    for (count, line) in [
+        (20_000, "refused N7 line 1 column 41"),
+        (20_001, "refused B4 line 1 column 9"),
+    ] {
+        let text = repeated(
+            rt.alloc(),
+            &[
+                (1, "PROGRAM W VAR x : BOOL; END_VAR"),
+                (count, " x := x;"),
+                (1, " END_PROGRAM"),
+            ],
+        )?;
+        check(&rt, rt.alloc(), text.as_str(), line)?;
+    }
     Ok(())
 }
 

@@ -6,10 +6,7 @@ use Rattle.ps_base.specs.declared.failing.Refusal.{Refusal}
 use Rattle.ps_base.specs.declared.failing.Rule.TheVariants.{M1}
 use Rattle.ps_model.specs.Action.{assigns}
 use Rattle.ps_model.specs.Network.{Network, input_count}
-use Rattle.ps_model.specs.Sound.{IsSound}
 use Rattle.ps_model.specs.Typing.{is_safe_signal}
-use Rattle.ps_names.proofs.Whole.{network_is_sound}
-use Rattle.ps_parser.specs.Names.{IsPlainName}
 use Rattle.ps_parser.specs.Places.{step_place}
 use Rattle.ps_parser.specs.Tree.{SourceTree}
 use Rattle.ps_demand.specs.declared.demand.TheConstants.{MOST_LEAVES}
@@ -17,19 +14,13 @@ use Rattle.ps_demand.specs.Demand.{demand}
 use Rattle.ps_demand.specs.Lines.{IsSafeOutput, IsLarge, NoneIsLarge, IsFirstLarge}
 use Rattle.ps_demand.specs.Requirement.{leaf_count}
 use Rattle.ps_source.specs.Demanding.{IsPlaceOfOutput, BreaksDemand, IsDemandableAs}
-use Rattle.ps_source.specs.Source.{Reading, Resolves, IsAcceptedAs}
+use Rattle.ps_source.specs.Source.{Reading, IsAcceptedAs}
 use Rattle.ps_source.specs.Source.Reading.{stands_for, is_refused}
 use Rattle.ps_source.proofs.OneBreach.{one_acceptance}
+use Rattle.ps_source.proofs.Keeping.{resolved_sound}
 use Rattle.ps_source.proofs.OneReading.{one_program}
 use Rattle.ps_source.proofs.Placing.{target_placed}
 use Rattle.ps_source.proofs.Targets.{Assigning, assigning, one_target}
-
--- what stands for a source keeps the whole invariant
-pub resolved_sound : (s : List ℕ) (net : Network) → Resolves s net → IsSound net
-resolved_sound s net r =
-    let p = r.tree in
-    let within = r.program.spelt.within in
-    subst IsSound (sym r.stands.is) (network_is_sound IsPlainName p r.stands.unbroken within.grammatical within.nested)
 
 -- the application that breaks the rule M1 is accepted
 breaker_accepted : (s : List ℕ) (r : Refusal) → (b : BreaksDemand s r) → IsAcceptedAs s (stands_for b.net)

@@ -1,4 +1,5 @@
 pub mod Sourced
+pub mod Keeping
 pub mod Placing
 pub mod OneReading
 pub mod OneBreach

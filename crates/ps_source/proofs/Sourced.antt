@@ -6,8 +6,9 @@ use Rattle.ps_base.specs.declared.failing.Refusal.{Refusal}
 use Rattle.ps_lexer.specs.declared.token.Tokens.{Tokens}
 use Rattle.ps_lexer.specs.Reading.{tokens, IsRefused}
 use Rattle.ps_parser.specs.Tree.{SourceTree}
+use Rattle.ps_derived.specs.declared.library.Library.{Library}
 use Rattle.ps_source.specs.Demanding.{IsDemandableAs}
-use Rattle.ps_source.specs.Source.{Reading, IsProgram, IsResolvedAs, IsAcceptedAs}
+use Rattle.ps_source.specs.Source.{Reading, IsText, IsProgram, IsResolvedAs, IsAcceptedAs}
 use Rattle.ps_source.specs.Source.Reading.{stands_for, is_refused}
 
 pub some_of : {X : Type 0} (o : Option X) → IsSome o → (x : X) × (o ≡ Some x)
@@ -31,8 +32,11 @@ module _ (text : List ℕ) where
   refused_whole : (r : Refusal) → IsRefused front r → IsRefused text r
   refused_whole r h = ⊎_elim (λ big. inl (large big.0, big.1)) (λ few. subst (λ (s : List ℕ). IsRefused s r) (small few.0) (inr few)) h
 
+  text_whole : (l : Library) → IsText front l → IsText text l
+  text_whole l h = record { lexed = h.lexed; tokens_are = tokens_whole h.lexed h.tokens_are; spelt = h.spelt }
+
   program_whole : (p : SourceTree) → IsProgram front p → IsProgram text p
-  program_whole p h = record { lexed = h.lexed; tokens_are = tokens_whole h.lexed h.tokens_are; spelt = h.spelt }
+  program_whole p h = record { library = h.library; text = text_whole h.library h.text; unbroken = h.unbroken; is = h.is }
 
   pub resolution_of_whole : (reading : Reading) → IsResolvedAs front reading → IsResolvedAs text reading
   resolution_of_whole (stands_for net) h = record { tree = h.tree; program = program_whole h.tree h.program; stands = h.stands }
@@ -40,7 +44,9 @@ module _ (text : List ℕ) where
       ⊎_elim (λ l. inl (refused_whole r l))
       (λ more. ⊎_elim
       (λ g. inr (inl (record { lexed = g.lexed; tokens_are = tokens_whole g.lexed g.tokens_are; breaks = g.breaks })))
-      (λ n. inr (inr (record { tree = n.tree; program = program_whole n.tree n.program; names = n.names }))) more) h
+      (λ last. ⊎_elim
+      (λ b. inr (inr (inl (record { library = b.library; text = text_whole b.library b.text; blocks = b.blocks }))))
+      (λ n. inr (inr (inr (record { tree = n.tree; program = program_whole n.tree n.program; names = n.names })))) last) more) h
 
   pub acceptance_of_whole : (reading : Reading) → IsAcceptedAs front reading → IsAcceptedAs text reading
   acceptance_of_whole (stands_for net) h = (resolution_of_whole (stands_for net) h.0, h.1)

@@ -27,7 +27,7 @@ certificate_of accepted = accepted.certificate
 abbrev pub checked_of : Accepted → Counts
 checked_of accepted = accepted.checked
 
--- what comes of a text by the rules L, P and N: a source and its application, or the refusal
+-- what comes of a text by the rules L, P, B and N: its flat source and the application, or the refusal
 abbrev pub IsResolution : List ℕ → Result (SourceTree × Network) Fail → Type 0
 IsResolution text (Ok r) = IsProgram text r.0 × Stands r.0 r.1
 IsResolution text (Err NoMemory) = Unit {0}
@@ -39,13 +39,13 @@ pub record IsChecked (a : Accepted) : Type 0 where
   pub derivation : a.certificate ≡ certificate a.app
   pub counts_are : a.checked ≡ counts a.app a.certificate
 
--- what comes of a text by the rules L, P, N and S: a source and its accepted application, or the refusal
+-- what comes of a text by the rules L, P, B, N and S: a flat source and its accepted application, or the refusal
 abbrev pub IsSourcedAcceptance : List ℕ → Result (SourceTree × Accepted) Fail → Type 0
 IsSourcedAcceptance text (Ok r) = IsProgram text r.0 × Stands r.0 r.1.app × IsChecked r.1
 IsSourcedAcceptance text (Err NoMemory) = Unit {0}
 IsSourcedAcceptance text (Err (IsRefused refusal)) = IsAcceptedAs text (is_refused refusal)
 
--- what comes of a text by the rules L, P, N and S: an accepted application, or the refusal
+-- what comes of a text by the rules L, P, B, N and S: an accepted application, or the refusal
 abbrev pub IsAcceptance : List ℕ → Result Accepted Fail → Type 0
 IsAcceptance text (Ok a) = IsAcceptedAs text (stands_for a.app) × IsChecked a
 IsAcceptance text (Err NoMemory) = Unit {0}

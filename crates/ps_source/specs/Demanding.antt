@@ -38,7 +38,7 @@ pub record BreaksDemand (source : List ℕ) (refusal : Refusal) : Type 0 where
   pub rule : refusal.rule ≡ M1
   pub place : IsPlaceOfOutput tree net output refusal.place
 
--- what the text gives by the rules L, P, N and S, and then by the rule M1
+-- what the text gives by the rules L, P, B, N and S, and then by the rule M1
 abbrev pub IsDemandableAs : List ℕ → Reading → Type 0
 IsDemandableAs source (stands_for net) = IsAcceptedAs source (stands_for net) × NoneIsLarge net
 IsDemandableAs source (is_refused r) = IsAcceptedAs source (is_refused r) ⊎ BreaksDemand source r

@@ -1,14 +1,16 @@
 -- What the text of a source gives: the application that it stands for, or its first refusal.
-use Rattle.std.specs.Prelude.{◌≡◌, ◌⊎◌, ℕ, List, Option, Some, None, Ok, Err, slice_get, length}
+use Rattle.std.specs.Prelude.{◌≡◌, ◌⊎◌, ℕ, List, [], Option, Some, None, Ok, Err, slice_get, length}
 use Rattle.ps_base.specs.declared.failing.Fail.TheVariants.{Refused}
 use Rattle.ps_base.specs.declared.failing.Refusal.{Refusal}
 use Rattle.ps_lexer.specs.declared.token.Tokens.{Tokens}
 use Rattle.ps_lexer.specs.Reading.{tokens}
-use Rattle.ps_parser.specs.declared.heads.Heads.TheVariants.{Program}
 use Rattle.ps_parser.specs.Language.{IsSpelt, IsRefused}
-use Rattle.ps_parser.specs.Parsing.{sources}
 use Rattle.ps_parser.specs.Places.{step_place}
 use Rattle.ps_parser.specs.Tree.{SourceTree}
+use Rattle.ps_derived.specs.declared.library.Library.{Library}
+use Rattle.ps_derived.specs.Flat.{flat}
+use Rattle.ps_derived.specs.Texts.{libraries}
+use Rattle.ps_derived_rules.specs.BlockRules.{offences as block_offences}
 use Rattle.ps_names.specs.Offences.{refused}
 use Rattle.ps_names.specs.Rules.{offences}
 use Rattle.ps_names.specs.Stands.{Stands}
@@ -26,17 +28,30 @@ pub data Reading : Type 0 where
   stands_for : Network → Reading
   is_refused : Refusal → Reading
 
--- the tokens of the text are the spelling of this program
-pub record IsProgram (source : List ℕ) (p : SourceTree) : Type 0 where
+-- the tokens of the text are the spelling of these function blocks and this program
+pub record IsText (source : List ℕ) (l : Library) : Type 0 where
   pub lexed : Tokens
   pub tokens_are : tokens source (Ok lexed)
-  pub spelt : IsSpelt (sources Program) lexed.list p
+  pub spelt : IsSpelt libraries lexed.list l
+
+-- the text breaks no rule B, and this program is its flat source: the program without derived instances
+pub record IsProgram (source : List ℕ) (p : SourceTree) : Type 0 where
+  pub library : Library
+  pub text : IsText source library
+  pub unbroken : block_offences library ≡ []
+  pub is : p ≡ flat library
 
 -- the tokens of the text are refused, by the rules P
 pub record BreaksGrammar (source : List ℕ) (refusal : Refusal) : Type 0 where
   pub lexed : Tokens
   pub tokens_are : tokens source (Ok lexed)
-  pub breaks : IsRefused (sources Program) lexed.list lexed.end refusal
+  pub breaks : IsRefused libraries lexed.list lexed.end refusal
+
+-- the text breaks a rule B, and this offence is the one that is named
+pub record BreaksBlocks (source : List ℕ) (refusal : Refusal) : Type 0 where
+  pub library : Library
+  pub text : IsText source library
+  pub blocks : refused (block_offences library) ≡ Some refusal
 
 -- the program breaks a rule N, and this offence is the one that is named
 pub record BreaksNames (source : List ℕ) (refusal : Refusal) : Type 0 where
@@ -67,10 +82,10 @@ pub record BreaksFlow (source : List ℕ) (refusal : Refusal) : Type 0 where
   pub breach : IsFirstBreach net refusal.rule step pin
   pub place : step_place tree step (pin_name net (slice_get net.steps step) pin) ≡ Some refusal.place
 
--- what the text gives by the rules L, P and N, tried in this order
+-- what the text gives by the rules L, P, B and N, tried in this order
 abbrev pub IsResolvedAs : List ℕ → Reading → Type 0
 IsResolvedAs source (stands_for net) = Resolves source net
-IsResolvedAs source (is_refused r) = tokens source (Err (Refused r)) ⊎ BreaksGrammar source r ⊎ BreaksNames source r
+IsResolvedAs source (is_refused r) = tokens source (Err (Refused r)) ⊎ BreaksGrammar source r ⊎ BreaksBlocks source r ⊎ BreaksNames source r
 
 -- what it gives by these rules and then by the rules S
 abbrev pub IsAcceptedAs : List ℕ → Reading → Type 0

@@ -14,12 +14,14 @@ ghost use Rattle.ps_source.specs.Answering.{IsResolution, IsChecked, IsAcceptanc
 use ps_base::{Bytes, Fail, Memory, Place, Refusal};
 use ps_checker::laws::derived_passes;
 use ps_checker::{Checked, check};
+use ps_derived::parse_library;
+use ps_flatten::flatten;
 use ps_flow::{Certificate, FlowFail, FlowRefusal, derive, write_certificate};
 use ps_lexer::lex;
 use ps_model::app::App;
 use ps_model::pins::pin_name;
 use ps_model::step::Step;
-use ps_parser::{Source, parse};
+use ps_parser::Source;
 use ps_resolve::resolve;
 use std::alloc::Global;
 
@@ -59,12 +61,13 @@ pub enum NoApplication {
     Refused(Refusal),
 }
 
-// The program of a text and the application that stands for it, by the rules L, P and N, tried in this order.
+// The flat source of a text and the application that stands for it, by the rules L, P, B and N, tried in this order.
 pub(crate) fn resolve_text(alloc: Global, text: &[u8]) -> Result<(Source, App), Fail>
     ensures { IsResolution text.now result }
 {
     let tokens = lex(alloc, text)?;
-    let source = parse(alloc, &tokens)?;
+    let library = parse_library(alloc, &tokens)?;
+    let source = flatten(alloc, &library)?;
     let app = resolve(alloc, &source)?;
     Ok((source, app))
 }
@@ -106,7 +109,7 @@ fn with_check(app: App, certificate: Certificate) -> Accepted
     }
 }
 
-// The program of a text and its accepted application with its certificate, by the rules L, P, N and S, tried in this order.
+// The flat source of a text and its accepted application with its certificate, by the rules L, P, B, N and S, tried in this order.
 pub(crate) fn accept_source(alloc: Global, text: &[u8]) -> Result<(Source, Accepted), Fail>
     ensures { IsSourcedAcceptance text.now result }
 {
@@ -121,7 +124,7 @@ pub(crate) fn accept_source(alloc: Global, text: &[u8]) -> Result<(Source, Accep
     }
 }
 
-// The accepted application of a text, by the rules L, P, N and S, tried in this order, with its certificate.
+// The accepted application of a text, by the rules L, P, B, N and S, tried in this order, with its certificate.
 pub(crate) fn accept(alloc: Global, text: &[u8]) -> Result<Accepted, Fail>
     ensures { IsAcceptance text.now result }
 {

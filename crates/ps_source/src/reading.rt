@@ -16,7 +16,7 @@ use ps_model::app::App;
 use ps_outside::{Files, ReadFail, read_upto};
 use std::alloc::Global;
 
-/// Reads the application of this name, by the rules L, P and N.
+/// Reads the application of this name, by the rules L, P, B and N. Where it has function blocks, it is that of its flat source.
 pub fn read_resolved<F: Files>(
     alloc: Global,
     app: &str,
@@ -39,7 +39,7 @@ pub fn read_resolved<F: Files>(
     }
 }
 
-/// Reads the accepted application of this name, by the rules L, P, N and S.
+/// Reads the accepted application of this name, by the rules L, P, B, N and S.
 pub fn read_accepted<F: Files>(
     alloc: Global,
     app: &str,
@@ -63,7 +63,7 @@ pub fn read_accepted<F: Files>(
     }
 }
 
-/// Reads the accepted application of this name with the lines of what its outputs demand, by the rules L, P, N and S, and then by the
+/// Reads the accepted application of this name with the lines of what its outputs demand, by the rules L, P, B, N and S, and then by the
 /// rule M1: the demand of each SAFEBOOL output has at most 1,000 leaves before it is made slim.
 pub fn read_demanded<F: Files>(
     alloc: Global,

@@ -1,15 +1,15 @@
 -- What calls promise, put together from their parts.
 use Rattle.std.specs.Prelude.{slice_index_or}
-use Rattle.std.proofs.Common.{◌≡◌, ◌⊎◌, ◌<◌, ℕ, zero, suc, Bool, IsTrue, List, [], ◌∷◌, Option, Some, Any, refl, sym, ◌∙◌, subst, inl, inr, ⊎_elim, arith}
+use Rattle.std.proofs.Common.{◌≡◌, ◌⊎◌, ◌<◌, ℕ, zero, suc, Bool, IsTrue, List, [], ◌∷◌, Option, Some, Any, refl, sym, ◌∙◌, subst, inl, inr, ⊎_elim, append-nil, arith}
 use Rattle.ps_outside.specs.Outside.{Rose}
 use Rattle.ps_top.specs.Asking.{Answer, Asking, IsAnswer, AsksFor, IsLeft}
 use Rattle.ps_top.specs.Asking.Asking.{Says, Asks, Finds, Leaves}
 use Rattle.ps_top.specs.Calls.{FilesSeen, OutputSeen, NameRose, KeepsFiles, KeepsOutput, Causes, Answers, SaysAnswer}
-use Rattle.ps_top.specs.Meets.{IsCut, Meets}
+use Rattle.ps_top.specs.Meets.{IsCut, Gives, Meets}
 use Rattle.ps_top.specs.declared.Status.{Status}
 use Rattle.ps_top.specs.declared.Status.TheVariants.{ReadFault, WriteFault, Memory}
 use Rattle.ps_top.specs.declared.left.Left.{Left}
-use Rattle.ps_top.proofs.Meeting.{rose_earlier, gives_wider, memory_meets, unread_meets, said_meets}
+use Rattle.ps_top.proofs.Meeting.{rose_earlier, gives_wider, given_behind, part_given, memory_meets, unread_meets, said_meets}
 
 -- ---- causes
 
@@ -127,6 +127,28 @@ said_causes names {out = out} {out1 = out1} {out' = out'} {said = said} {status 
   output_stays = record { counts = omega (arith, stays.counts, says.output_stays.counts); telling = says.output_stays.telling ∙ stays.telling };
 }
 
+-- an answer was said by a call that wrote nothing before
+pub says_behind : {said : Answer} {out out1 out' : OutputSeen} {status : Status} → ¬ IsCut said.status → KeepsOutput out out1 → (IsTrue out.tells → out1.taken ≡ out.taken) →
+    SaysAnswer said out1 out' status → SaysAnswer said out out' status
+says_behind {said} {out} {out1} {out'} {status} no_cut stays same says = record {
+  gives = given_behind (λ a. a ≡ said) said [] out.tells out.taken out1.taken out'.taken status refl (λ on. same on ∙ sym (append-nil out.taken))
+      (subst (λ (b : Bool). Gives (λ a. a ≡ said) b out1.taken out'.taken status) stays.telling says.gives)
+      (no_memory_said said.status status no_cut says.ends) (no_read_said said.status status no_cut says.ends);
+  ends = says.ends;
+  write_fault = λ is. rose_earlier out.faults out1.faults out'.faults stays.counts (says.write_fault is);
+  output_stays = record { counts = omega (arith, stays.counts, says.output_stays.counts); telling = says.output_stays.telling ∙ stays.telling };
+}
+
+-- the answer is to be said, but a write that takes nothing fails
+pub says_nothing : (said : Answer) (out out' : OutputSeen) → KeepsOutput out out' → (IsTrue out.tells → out'.taken ≡ out.taken) → Rose out.faults out'.faults → SaysAnswer said out out' WriteFault
+says_nothing said out out' stays same rose = record {
+  gives = part_given (λ a. a ≡ said) out.tells out.taken out'.taken
+      (record { answer = said; right = refl; written = []; owed = said.bytes; whole = refl; appended = λ on. same on ∙ sym (append-nil out.taken) });
+  ends = inr refl;
+  write_fault = λ is. rose;
+  output_stays = stays;
+}
+
 -- ---- answers
 
 -- memory is wanting before anything was written
@@ -220,11 +242,17 @@ answers_behind asking rest name names files files1 files' out out' left status k
   causes = causes_behind name keeps answers.causes;
 }
 
+-- a call that did what is asked of it as it goes on
+pub goes_answers : (asking rest : Asking) (names : List (List ℕ)) (files files' : FilesSeen) (out out' : OutputSeen) (left : Left) (status : Status) →
+    (IsTrue files.tells → GoesOnAs asking rest files.held left status) → Answers rest names files files' out out' left status → Answers asking names files files' out out' left status
+goes_answers asking rest names files files' out out' left status goes answers = record {
+  meets = λ tells. later_meets asking rest files files files' out out' left status (files_same files) (goes tells) (answers.meets tells);
+  leaves = λ tells not_cut. (goes tells).leaves not_cut (answers.leaves tells not_cut);
+  causes = answers.causes;
+}
+
 -- a call that found something, and did what it goes on as
 pub found_of_all : (X : Type 0) (Fits : X → Type 0) (next : X → Asking) (names : List (List ℕ)) (files files' : FilesSeen) (out out' : OutputSeen) (left : Left) (status : Status) (x : X) → Fits x →
     Answers (next x) names files files' out out' left status → Answers (Finds X Fits next) names files files' out out' left status
-found_of_all X Fits next names files files' out out' left status x fits answers = record {
-  meets = λ tells. later_meets (Finds X Fits next) (next x) files files files' out out' left status (files_same files) (finds_on files.held left status X Fits next x fits) (answers.meets tells);
-  leaves = λ tells not_cut. (x, fits, answers.leaves tells not_cut);
-  causes = answers.causes;
-}
+found_of_all X Fits next names files files' out out' left status x fits answers =
+    goes_answers (Finds X Fits next) (next x) names files files' out out' left status (λ tells. finds_on files.held left status X Fits next x fits) answers

@@ -17,3 +17,5 @@ mod OneJudgement
 mod OneAnswer
 mod SomeAnswer
 mod Quiet
+mod Few
+mod Counted

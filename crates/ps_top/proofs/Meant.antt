@@ -7,7 +7,7 @@ use Rattle.ps_model.specs.declared.channel.Channel.TheVariants.{A, B}
 use Rattle.ps_model.specs.declared.channel.Fault.{Fault}
 use Rattle.ps_model.specs.Network.{Network, input_count}
 use Rattle.ps_model.specs.Sound.{IsSound}
-use Rattle.ps_model.specs.Meaning.{nothing}
+use Rattle.ps_model.specs.Meaning.{Item, nothing}
 use Rattle.ps_model.proofs.Runs.{one_run}
 use Rattle.ps_report.specs.Short.{refusal_text}
 use Rattle.ps_trace.specs.FaultOrder.{AreOfOneChannel}
@@ -41,6 +41,14 @@ one_spared (f ∷ faults) one = (other f.channel, (others_differ f.channel f.cha
     all_spared [] each = tt
     all_spared (g ∷ gs) each = (others_differ f.channel g.channel (each 0 g (omega arith)), all_spared gs (λ i d lt. each (suc i) d (omega (arith, lt))))
 
+-- the world behind a run is that of all its events
+pub ran_is : (net : Network) (faults : List Fault) (w : Whole) → IsWorldOf net w → (items : List Item) →
+    ran faults 1 items w ≡ after_events (events (machines_in w.setup) items faults) (first_world w.setup)
+ran_is net faults w built items = λ i. record { setup = w.setup; state = (after_run (built.beginning i)) }
+  where
+    after_run : World_state → World_state
+    after_run x = after (machines_in w.setup) (run_events (machines_in w.setup) faults 1 items x) x
+
 module _ (net : Network) (sound : IsSound net) (faults : List Fault) (one : AreOfOneChannel faults) (w : Whole) (built : IsWorldOf net w) (right : RunsAreRight net (machines_in w.setup)) where
   -- what is written of a run answers it
   pub run_answers : (scans : Scans) → AreTimely (input_count net) 0 scans.items → (held : List ℕ → Option (List ℕ)) (said : Answer) → said ≡ run_answer net faults w scans →
@@ -65,19 +73,12 @@ module _ (net : Network) (sound : IsSound net) (faults : List Fault) (one : AreO
       IsAnswer (answer_scans net w.setup faults scans) held said
   refusal_answers held scans r said is e = subst (λ (s : Scans). IsAnswer (answer_scans net w.setup faults s) held said) (sym is) ([], refl, e)
 
-  -- the world behind a run is that of all its events
-  pub ran_is : (scans : Scans) → ran faults 1 scans.items w ≡ after_events (events (machines_in w.setup) scans.items faults) (first_world w.setup)
-  ran_is scans = λ i. record { setup = w.setup; state = (after_run (built.beginning i)) }
-    where
-      after_run : World_state → World_state
-      after_run x = after (machines_in w.setup) (run_events (machines_in w.setup) faults 1 scans.items x) x
-
   -- what is left of a run whose world this is
   pub run_leaves : (scans scans' : Scans) → scans ≡ scans' → (held : List ℕ → Option (List ℕ)) (behind : Whole) (left : Left) → left.world ≡ Some behind → behind ≡ ran faults 1 scans.items w →
       IsLeft (answer_scans net w.setup faults scans') held left
   run_leaves scans scans' same held behind left is_left ends =
       let run = one_run net sound nothing scans'.items in
-      (is_left ∙ ap (λ (x : Whole). Some x) (ends ∙ ap (λ (s : Scans). ran faults 1 s.items w) same ∙ ran_is scans'), (run.0, run.1, tt))
+      (is_left ∙ ap (λ (x : Whole). Some x) (ends ∙ ap (λ (s : Scans). ran faults 1 s.items w) same ∙ ran_is net faults w built scans'.items), (run.0, run.1, tt))
 
   -- and of one whose trace's header is refused: the world at the beginning
   pub refusal_leaves : (scans : Scans) (r : Refusal) → scans ≡ only_refused r → (held : List ℕ → Option (List ℕ)) (left : Left) → left.world ≡ Some w → IsLeft (answer_scans net w.setup faults scans) held left

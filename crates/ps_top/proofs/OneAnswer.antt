@@ -1,24 +1,23 @@
 -- The program has one answer alone, and none where a name that it asks for is not held.
-use Rattle.std.proofs.Common.{◌≡◌, ◌∙◌, ℕ, List, [], Option, Some, None, sym, ap, subst, ⊎_elim}
+use Rattle.std.proofs.Common.{◌≡◌, ◌∙◌, ℕ, List, [], Option, Some, None, map, sym, ap, subst, ⊎_elim}
 use Rattle.std.proofs.lemmas.Option.{same_Some}
 use Rattle.ps_model.specs.Network.{Network}
 use Rattle.ps_model.specs.Sound.{IsSound}
 use Rattle.ps_model.specs.Scanning.{State}
-use Rattle.ps_model.specs.Meaning.{Meaning, nothing}
+use Rattle.ps_model.specs.Meaning.{Meaning, nothing, report}
 use Rattle.ps_model.proofs.Runs.{one_run}
 use Rattle.ps_flow.specs.Derivation.{certificate}
-use Rattle.ps_names.proofs.Whole.{network_is_sound}
-use Rattle.ps_parser.specs.Names.{IsPlainName}
 use Rattle.ps_model.specs.declared.channel.Fault.{Fault}
 use Rattle.ps_base.specs.declared.failing.Refusal.{Refusal}
 use Rattle.ps_trace.specs.Faults.{faults_of}
 use Rattle.ps_trace.specs.Scans.{Scans, scans_of}
+use Rattle.ps_load.specs.Texts.{app_text, trace_text}
 use Rattle.ps_world.specs.Whole.{Setup, IsSetupOf}
 use Rattle.ps_words.specs.Command.{Command, command_of}
 use Rattle.ps_words.specs.Command.Command.{Run, Fault as FaultWords, Check, Cert, Verify, Image, Load, Demand, Vote, Heal, NotTaken}
 use Rattle.ps_top.specs.Asking.{Answer, Asking, IsAnswer, AsksFor}
 use Rattle.ps_top.specs.Asking.Asking.{Says, Asks, Finds, Leaves}
-use Rattle.ps_top.specs.Program.{Judged, Judges, verdict, leaves_checked, with_application, accepted, leaves_world, answer, image_lines, imaged, region_sizes, trips_of, unless_refused, with_faults, run_quietly, run_struck, answer_scans, run_named, verify_named, verify, demanded, demand, said, told, text}
+use Rattle.ps_top.specs.Program.{Judged, Judges, verdict, leaves_checked, with_application, accepted_source, accepted, summary, sum_scans, sum_trace, load, leaves_world, answer, image_lines, imaged, region_sizes, trips_of, unless_refused, with_faults, run_quietly, run_struck, answer_scans, run_named, verify_named, verify, demanded, demand, said, told, text}
 use Rattle.ps_top.specs.Program.Judged.{derives, objects}
 use Rattle.ps_source.specs.Demanding.{IsDemandableAs}
 use Rattle.ps_source.specs.Source.{Reading, Resolves, IsResolvedAs, IsAcceptedAs, counts}
@@ -26,6 +25,7 @@ use Rattle.ps_top.specs.declared.Status.TheVariants.{Done}
 use Rattle.ps_top.specs.declared.left.Left.{Left}
 use Rattle.ps_source.specs.Source.Reading.{stands_for, is_refused}
 use Rattle.ps_source.proofs.Demandable.{one_demanding}
+use Rattle.ps_source.proofs.Keeping.{resolved_sound}
 use Rattle.ps_source.proofs.OneReading.{one_resolution}
 use Rattle.ps_source.proofs.OneBreach.{one_acceptance}
 use Rattle.ps_top.proofs.OneJudgement.{one_judgement}
@@ -62,20 +62,22 @@ module _ (held : List ℕ → Option (List ℕ)) where
 abbrev pub with_counts : (Network → Asking) → Network → Asking
 with_counts next net = Leaves (leaves_checked (counts net (certificate net))) (next net)
 
--- what stands for a source keeps the whole invariant
-pub resolved_sound : (s : List ℕ) (net : Network) → Resolves s net → IsSound net
-resolved_sound s net r =
-    let p = r.tree in
-    let within = r.program.spelt.within in
-    subst IsSound (sym r.stands.is) (network_is_sound IsPlainName p r.stands.unbroken within.grammatical within.nested)
-
 module _ (held : List ℕ → Option (List ℕ)) where
+  -- what is said of the states that scans mean
+  meaning_determined : (net : Network) → IsSound net → (scans : Scans) (told_of : List State → Answer) → IsDetermined (Finds (List State) (Meaning net scans.items) (λ ws. Says (told_of ws))) held
+  meaning_determined net sound scans told_of =
+      finds_determined held (List State) (Meaning net scans.items) (λ ws. Says (told_of ws))
+      (λ x y p q. let only = (one_run net sound nothing scans.items).2 in only x p ∙ sym (only y q)) (λ ws runs. says_determined held (told_of ws))
+
   scans_determined : (net : Network) → IsSound net → (setup : Setup) (faults : List Fault) (scans : Scans) → IsDetermined (answer_scans net setup faults scans) held
   scans_determined net sound setup faults scans =
       leaves_determined held (leaves_world setup faults scans) (Finds (List State) (Meaning net scans.items) (λ ws. Says (told net (trips_of setup faults scans) scans ws)))
-      (finds_determined held (List State) (Meaning net scans.items) (λ ws. Says (told net (trips_of setup faults scans) scans ws))
-      (λ x y p q. let only = (one_run net sound nothing scans.items).2 in only x p ∙ sym (only y q))
-      (λ ws runs. says_determined held (told net (trips_of setup faults scans) scans ws)))
+      (meaning_determined net sound scans (told net (trips_of setup faults scans) scans))
+
+  sums_determined : (n : ℕ) (net : Network) → IsSound net → (setup : Setup) (scans : Scans) → IsDetermined (sum_scans n net setup scans) held
+  sums_determined n net sound setup scans =
+      leaves_determined held (leaves_world setup [] scans) (Finds (List State) (Meaning net scans.items) (λ ws. Says (summary n scans.end (map (report net) ws))))
+      (meaning_determined net sound scans (λ ws. summary n scans.end (map (report net) ws)))
 
   trace_determined : (net : Network) → IsSound net → (setup : Setup) (faults : List Fault) (trace : List ℕ) → IsDetermined (run_named net setup faults trace) held
   trace_determined net sound setup faults trace =
@@ -98,14 +100,20 @@ module _ (held : List ℕ → Option (List ℕ)) where
       (λ t. let list = faults_of t (region_sizes setup) in
       unless_determined (λ struck. run_named net setup struck trace) list.faults list.refusal (trace_determined net sound setup list.faults trace)))
 
-  accepted_determined : (app : List ℕ) (next : Network → Asking) → ((s : List ℕ) (net : Network) → Resolves s net → IsDetermined (next net) held) → IsDetermined (accepted app next) held
-  accepted_determined app next each =
-      asks_determined held app (λ s. Finds Reading (IsAcceptedAs s) (with_application (with_counts next)))
-      (λ s. finds_determined held Reading (IsAcceptedAs s) (with_application (with_counts next)) (λ x y p q. one_acceptance s x y p q) (go s))
+  source_determined : (s : List ℕ) (next : Network → Asking) → ((net : Network) → Resolves s net → IsDetermined (next net) held) → IsDetermined (accepted_source s next) held
+  source_determined s next each = finds_determined held Reading (IsAcceptedAs s) (with_application (with_counts next)) (λ x y p q. one_acceptance s x y p q) go
     where
-      go : (s : List ℕ) (r : Reading) → IsAcceptedAs s r → IsDetermined (with_application (with_counts next) r) held
-      go s (stands_for net) f = leaves_determined held (leaves_checked (counts net (certificate net))) (next net) (each s net f.0)
-      go s (is_refused r) f = says_determined held _
+      go : (r : Reading) → IsAcceptedAs s r → IsDetermined (with_application (with_counts next) r) held
+      go (stands_for net) f = leaves_determined held (leaves_checked (counts net (certificate net))) (next net) (each net f.0)
+      go (is_refused r) f = says_determined held _
+
+  accepted_determined : (app : List ℕ) (next : Network → Asking) → ((s : List ℕ) (net : Network) → Resolves s net → IsDetermined (next net) held) → IsDetermined (accepted app next) held
+  accepted_determined app next each = asks_determined held app (λ s. accepted_source s next) (λ s. source_determined s next (each s))
+
+  load_determined : (n : ℕ) → IsDetermined (load n) held
+  load_determined n =
+      source_determined app_text (sum_trace n)
+      (λ net r. setup_determined net (λ setup. sum_scans n net setup (scans_of (trace_text n) net)) (λ setup. sums_determined n net (resolved_sound app_text net r) setup (scans_of (trace_text n) net)))
 
   verdict_determined : (net : Network) (j : Judged) → IsDetermined (verdict net j) held
   verdict_determined net (derives lines) = leaves_determined held _ _ (says_determined held _)
@@ -138,7 +146,7 @@ module _ (held : List ℕ → Option (List ℕ)) where
   said_determined (Cert app) = accepted_determined app _ (λ s net r. says_determined held _)
   said_determined (Verify app c) = verify_determined app c
   said_determined (Image app) = accepted_determined app imaged (λ s net r. setup_determined net (λ setup. Says (answer (image_lines setup) Done)) (λ setup. says_determined held _))
-  said_determined (Load number) = says_determined held _
+  said_determined (Load number) = load_determined number
   said_determined (Demand app) = demand_determined app
   said_determined (Vote app trace faults) = says_determined held _
   said_determined (Heal app trace faults) = says_determined held _

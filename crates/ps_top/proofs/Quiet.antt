@@ -31,7 +31,8 @@ use Rattle.ps_world.proofs.Run.{quiet_runs_release}
 use Rattle.ps_top.specs.Asking.{Answer, IsAnswer}
 use Rattle.ps_top.specs.Program.{with_application, run, run_quietly, end_status, trips_of}
 use Rattle.ps_top.specs.declared.Status.TheVariants.{Tripped}
-use Rattle.ps_top.proofs.OneAnswer.{with_counts, resolved_sound}
+use Rattle.ps_source.proofs.Keeping.{resolved_sound}
+use Rattle.ps_top.proofs.OneAnswer.{with_counts}
 use Rattle.ps_top.proofs.Timely.{scans_timely}
 
 -- where every scan is released none trips

@@ -1,6 +1,6 @@
 -- The program has an answer wherever all names that it asks for are held.
-use Rattle.std.proofs.Common.{ℕ, List, [], Option, Some, None, IsSome, refl, inl, inr}
-use Rattle.ps_model.specs.Meaning.{Meaning, nothing}
+use Rattle.std.proofs.Common.{ℕ, List, [], Option, Some, None, IsSome, map, refl, inl, inr}
+use Rattle.ps_model.specs.Meaning.{Meaning, nothing, report}
 use Rattle.ps_model.specs.Network.{Network}
 use Rattle.ps_model.specs.Scanning.{State}
 use Rattle.ps_model.specs.Sound.{IsSound}
@@ -14,15 +14,17 @@ use Rattle.ps_model.specs.declared.channel.Fault.{Fault}
 use Rattle.ps_base.specs.declared.failing.Refusal.{Refusal}
 use Rattle.ps_trace.specs.Faults.{faults_of}
 use Rattle.ps_trace.specs.Scans.{Scans, scans_of}
+use Rattle.ps_load.specs.Texts.{app_text, trace_text}
 use Rattle.ps_world.specs.Whole.{Setup, IsSetupOf}
 use Rattle.ps_words.specs.Command.{Command, command_of}
 use Rattle.ps_words.specs.Command.Command.{Run, Fault as FaultWords, Check, Cert, Verify, Image, Load, Demand, Vote, Heal, NotTaken}
 use Rattle.ps_top.specs.Asking.{Answer, Asking, IsAnswer, AsksFor}
 use Rattle.ps_top.specs.Asking.Asking.{Says, Asks, Finds}
-use Rattle.ps_top.specs.Program.{Judged, Judges, verdict, with_application, accepted, answer, image_lines, imaged, region_sizes, trips_of, unless_refused, with_faults, run_quietly, run_struck, answer_scans, run_named, verify_named, verify, demanded, demand, said, told, text}
+use Rattle.ps_top.specs.Program.{Judged, Judges, verdict, with_application, accepted_source, accepted, summary, sum_scans, sum_trace, load, answer, image_lines, imaged, region_sizes, trips_of, unless_refused, with_faults, run_quietly, run_struck, answer_scans, run_named, verify_named, verify, demanded, demand, said, told, text}
 use Rattle.ps_top.specs.Program.Judged.{derives, objects}
 use Rattle.ps_top.specs.declared.Status.TheVariants.{Done}
-use Rattle.ps_top.proofs.OneAnswer.{with_counts, resolved_sound}
+use Rattle.ps_source.proofs.Keeping.{resolved_sound}
+use Rattle.ps_top.proofs.OneAnswer.{with_counts}
 use Rattle.ps_top.proofs.Setups.{some_setup}
 
 -- where all names that are asked for are held there is an answer
@@ -42,11 +44,12 @@ module _ (held : List ℕ → Option (List ℕ)) where
   finds_some : (X : Type 0) (Fits : X → Type 0) (next : X → Asking) (x : X) → Fits x → HasAnswer (next x) held → HasAnswer (Finds X Fits next) held
   finds_some X Fits next x fits later = λ all. let rest = later (λ other asks. all other (x, fits, asks)) in (rest.0, (x, fits, rest.1))
 
+  meaning_some : (net : Network) → IsSound net → (scans : Scans) (told_of : List State → Answer) → HasAnswer (Finds (List State) (Meaning net scans.items) (λ ws. Says (told_of ws))) held
+  meaning_some net sound scans told_of =
+      let run = one_run net sound nothing scans.items in finds_some (List State) (Meaning net scans.items) (λ ws. Says (told_of ws)) run.0 run.1 (says_some (told_of run.0))
+
   scans_some : (net : Network) → IsSound net → (setup : Setup) (faults : List Fault) (scans : Scans) → HasAnswer (answer_scans net setup faults scans) held
-  scans_some net sound setup faults scans =
-      let run = one_run net sound nothing scans.items in
-      let tripped = trips_of setup faults scans in
-      finds_some (List State) (Meaning net scans.items) (λ ws. Says (told net tripped scans ws)) run.0 run.1 (says_some (told net tripped scans run.0))
+  scans_some net sound setup faults scans = meaning_some net sound scans (told net (trips_of setup faults scans) scans)
 
   trace_some : (net : Network) → IsSound net → (setup : Setup) (faults : List Fault) (trace : List ℕ) → HasAnswer (run_named net setup faults trace) held
   trace_some net sound setup faults trace = asks_some trace (λ t. answer_scans net setup faults (scans_of t net)) (λ t. scans_some net sound setup faults (scans_of t net))
@@ -70,14 +73,21 @@ module _ (held : List ℕ → Option (List ℕ)) where
 
   module _ (accepts : (source : List ℕ) → (reading : Reading) × IsAcceptedAs source reading) (resolves : (source : List ℕ) → (reading : Reading) × IsResolvedAs source reading)
       (judges : (net : Network) (certificate : List ℕ) → (judged : Judged) × Judges net certificate judged) where
-    accepted_some : (app : List ℕ) (next : Network → Asking) → ((s : List ℕ) (net : Network) → Resolves s net → HasAnswer (next net) held) → HasAnswer (accepted app next) held
-    accepted_some app next each =
-        asks_some app (λ s. Finds Reading (IsAcceptedAs s) (with_application (with_counts next)))
-        (λ s. finds_some Reading (IsAcceptedAs s) (with_application (with_counts next)) (accepts s).0 (accepts s).1 (go s (accepts s).0 (accepts s).1))
+    source_some : (s : List ℕ) (next : Network → Asking) → ((net : Network) → Resolves s net → HasAnswer (next net) held) → HasAnswer (accepted_source s next) held
+    source_some s next each = finds_some Reading (IsAcceptedAs s) (with_application (with_counts next)) (accepts s).0 (accepts s).1 (go (accepts s).0 (accepts s).1)
       where
-        go : (s : List ℕ) (r : Reading) → IsAcceptedAs s r → HasAnswer (with_application (with_counts next) r) held
-        go s (stands_for net) f = each s net f.0
-        go s (is_refused r) f = says_some _
+        go : (r : Reading) → IsAcceptedAs s r → HasAnswer (with_application (with_counts next) r) held
+        go (stands_for net) f = each net f.0
+        go (is_refused r) f = says_some _
+
+    accepted_some : (app : List ℕ) (next : Network → Asking) → ((s : List ℕ) (net : Network) → Resolves s net → HasAnswer (next net) held) → HasAnswer (accepted app next) held
+    accepted_some app next each = asks_some app (λ s. accepted_source s next) (λ s. source_some s next (each s))
+
+    load_some : (n : ℕ) → HasAnswer (load n) held
+    load_some n =
+        source_some app_text (sum_trace n)
+        (λ net r. setup_some net (λ setup. sum_scans n net setup (scans_of (trace_text n) net))
+        (λ setup. let scans = scans_of (trace_text n) net in meaning_some net (resolved_sound app_text net r) scans (λ ws. summary n scans.end (map (report net) ws))))
 
     verdict_some : (net : Network) (j : Judged) → HasAnswer (verdict net j) held
     verdict_some net (derives lines) = says_some _
@@ -110,7 +120,7 @@ module _ (held : List ℕ → Option (List ℕ)) where
     said_some (Cert app) = accepted_some app _ (λ s net r. says_some _)
     said_some (Verify app c) = verify_some app c
     said_some (Image app) = accepted_some app imaged (λ s net r. setup_some net (λ setup. Says (answer (image_lines setup) Done)) (λ setup. says_some _))
-    said_some (Load number) = says_some _
+    said_some (Load number) = load_some number
     said_some (Demand app) = demand_some app
     said_some (Vote app trace faults) = says_some _
     said_some (Heal app trace faults) = says_some _

@@ -1,6 +1,6 @@
 -- What a run wrote of the items of a trace, by what its world answered.
 use Rattle.std.proofs.Common.{◌≡◌, ◌∙◌, ◌++◌, ℕ, suc, Bool, true, false, IsTrue, List, [], ◌∷◌, Result, Ok, Err, length, refl, sym, ap, subst, take, drop, append_assoc, append-nil, ◌⊎◌, arith}
-use Rattle.std.specs.Prelude.{◌||◌}
+use Rattle.std.specs.Prelude.{◌||◌, flat_map}
 use Rattle.std.proofs.Math.Bool.{or_assoc, or-false}
 use Rattle.std.proofs.lemmas.List.{take-append-drop}
 use Rattle.ps_base.specs.declared.failing.Refusal.{Refusal}
@@ -23,7 +23,7 @@ use Rattle.ps_top.specs.Meets.{IsCut, AppendsPart, Gives}
 use Rattle.ps_top.specs.Outcomes.{Outcome, performed, refuses, outcome_line}
 use Rattle.ps_top.specs.Performing.{due, trips_with, MakesScan, Performs}
 use Rattle.ps_top.specs.Program.{answer, end_line, status_if}
-use Rattle.ps_top.specs.Resting.{answered, ran, answer_lines, any_trips, status_of, run_answer}
+use Rattle.ps_top.specs.Resting.{answered, ran, outcomes, any_trips, status_of, run_answer}
 use Rattle.ps_top.specs.declared.items.Cut.{Cut}
 use Rattle.ps_top.specs.declared.items.Cut.TheVariants.{Refused, Unread, Unwritten}
 use Rattle.ps_top.specs.declared.Status.{Status}
@@ -42,19 +42,19 @@ pub no_cut_status : (b : Bool) (status : Status) → status ≡ status_if b → 
 no_cut_status b status is = subst (λ (s : Status). ¬ IsCut s) (sym is) (whole_not_cut b)
 
 module _ (net : Network) (faults : List Fault) where
-  -- the lines of items from a number on, by the answers of a world
-  abbrev lines : (number : ℕ) → List Item → Whole → List ℕ
-  lines number items w = answer_lines net items (answered net faults number items w)
+  -- what comes of items from a number on, by the answers of a world
+  abbrev coming : (number : ℕ) → List Item → Whole → List (Outcome Verdict)
+  coming number items w = outcomes items (answered net faults number items w)
 
   -- whether one of their scans trips
   abbrev any_of : (number : ℕ) → List Item → Whole → Bool
   any_of number items w = any_trips (answered net faults number items w)
 
-  -- A run goes on behind an item: what is to come of the item and later ones is its line and what is to come of those.
+  -- A run goes on behind an item: what is to come of the item and later ones is its outcome and what is to come of those.
   record Goes (done : ℕ) (item : Item) (outcome : Outcome Verdict) (p after : StruckWorld) : Type 0 where
     made : ℕ
     stands : Stands faults made after
-    line_first : (items : List Item) → lines (suc done) (item ∷ items) p.world ≡ outcome_line net outcome ++ lines (suc made) items after.world
+    first : (items : List Item) → coming (suc done) (item ∷ items) p.world ≡ outcome ∷ coming (suc made) items after.world
     same_end : (items : List Item) → ran faults (suc done) (item ∷ items) p.world ≡ ran faults (suc made) items after.world
     same_trip : (items : List Item) → (p.tripped || any_of (suc done) (item ∷ items) p.world) ≡ (after.tripped || any_of (suc made) items after.world)
 
@@ -80,9 +80,9 @@ module _ (net : Network) (faults : List Fault) where
     goes_scan = record {
       made = suc done;
       stands = stands_behind faults done p after stands makes.leaves makes.counts;
-      line_first = λ items.
-          (λ i. outcome_line net (outcome_of (same_due i)) ++ lines (suc (suc done)) items (behind_scan (same_due i)))
-          ∙ (λ i. outcome_line net (sym makes.compares i) ++ lines (suc (suc done)) items (sym makes.happens i));
+      first = λ items.
+          (λ i. outcome_of (same_due i) ∷ coming (suc (suc done)) items (behind_scan (same_due i)))
+          ∙ (λ i. sym makes.compares i ∷ coming (suc (suc done)) items (sym makes.happens i));
       same_end = λ items.
           (λ i. record {
             setup = p.world.setup;
@@ -103,81 +103,97 @@ module _ (net : Network) (faults : List Fault) where
   goes_on done restart outcome p after stands begins = record {
     made = done;
     stands = subst (λ (q : StruckWorld). Stands faults done q) (sym begins.1) (record { same = stands.same; counted = stands.counted });
-    line_first = λ items. (λ i. outcome_line net (sym begins.0 i) ++ lines (suc done) items (sym begins.1 i).world);
+    first = λ items. (λ i. sym begins.0 i ∷ coming (suc done) items (sym begins.1 i).world);
     same_end = λ items. (λ i. ran faults (suc done) items (sym begins.1 i).world);
     same_trip = λ items. (λ i. (sym begins.1 i).tripped || any_of (suc done) items (sym begins.1 i).world);
   }
-
-  -- All items were done: this was written, and this is the world behind them.
-  record Came (done : ℕ) (items : List Item) (p after : StruckWorld) (bytes : List ℕ) : Type 0 where
-    written : bytes ≡ lines (suc done) items p.world
-    ends : after.world ≡ ran faults (suc done) items p.world
-    tripped : after.tripped ≡ (p.tripped || any_of (suc done) items p.world)
-
-  -- these bytes begin the lines of the items
-  abbrev Begun : (done : ℕ) → List Item → StruckWorld → (bytes : List ℕ) → Type 0
-  Begun done items p bytes = (owed : List ℕ) × (bytes ++ owed ≡ lines (suc done) items p.world)
-
-  -- what was done of the scans of a trace, by how it ended
-  abbrev CameTo : (done : ℕ) → Scans → (p after : StruckWorld) → (bytes : List ℕ) → Result (Unit {0}) Cut → Type 0
-  CameTo done scans p after bytes (Ok x) = Came done scans.items p after bytes × (scans.end ≡ whole)
-  CameTo done scans p after bytes (Err (Refused refusal)) = Came done scans.items p after bytes × (scans.end ≡ is_refused refusal)
-  CameTo done scans p after bytes (Err Unread) = Begun done scans.items p bytes
-  CameTo done scans p after bytes (Err Unwritten) = Begun done scans.items p bytes
-
-  no_item : (done : ℕ) (p : StruckWorld) → Came done [] p p []
-  no_item done p = record { written = refl; ends = refl; tripped = sym (or-false p.tripped) }
-
-  module _ (done : ℕ) (item : Item) (outcome : Outcome Verdict) (p mid : StruckWorld) (goes : Goes done item outcome p mid) where
-    came_behind : (items : List Item) (after : StruckWorld) (bytes : List ℕ) → Came (goes.made) items mid after bytes → Came done (item ∷ items) p after (outcome_line net outcome ++ bytes)
-    came_behind items after bytes came = record {
-      written = ap (λ l. outcome_line net outcome ++ l) came.written ∙ sym (goes.line_first items);
-      ends = came.ends ∙ sym (goes.same_end items);
-      tripped = came.tripped ∙ sym (goes.same_trip items);
-    }
-
-    begun_behind : (items : List Item) (bytes : List ℕ) → Begun (goes.made) items mid bytes → Begun done (item ∷ items) p (outcome_line net outcome ++ bytes)
-    begun_behind items bytes begun =
-        (begun.0, append_assoc (outcome_line net outcome) bytes begun.0 ∙ ap (λ l. outcome_line net outcome ++ l) begun.1 ∙ sym (goes.line_first items))
-
-    came_to_behind : (rest : Scans) (after : StruckWorld) (bytes : List ℕ) (ended : Result (Unit {0}) Cut) → CameTo (goes.made) rest mid after bytes ended →
-        CameTo done (record { items = item ∷ rest.items; end = rest.end }) p after (outcome_line net outcome ++ bytes) ended
-    came_to_behind rest after bytes (Ok x) came = (came_behind rest.items after bytes came.0, came.1)
-    came_to_behind rest after bytes (Err (Refused refusal)) came = (came_behind rest.items after bytes came.0, came.1)
-    came_to_behind rest after bytes (Err Unread) begun = begun_behind rest.items bytes begun
-    came_to_behind rest after bytes (Err Unwritten) begun = begun_behind rest.items bytes begun
-
-    -- a part of the item's line was written
-    line_begun : (items : List Item) (taken : ℕ) → Begun done (item ∷ items) p (take taken (outcome_line net outcome))
-    line_begun items taken =
-        let line = outcome_line net outcome in
-        let more = lines (suc goes.made) items mid.world in (
-          drop taken line ++ more,
-          sym (append_assoc (take taken line) (drop taken line) more) ∙ ap (λ front. front ++ more) (take-append-drop taken line) ∙ sym (goes.line_first items),
-        )
 
   -- a world that faults strike refuses no item
   no_refusal : (item : Item) (refusal : Refusal) (p after : StruckWorld) → Performs net p item (refuses refusal) after → ⊥
   no_refusal (scan now ins) refusal p after makes = let compares = makes.compares in cc
   no_refusal restart refusal p after begins = let anew_is = begins.0 in cc
 
-  came_to : {T : Type 0} (takes : T → Outcome Verdict → T → Type 0) (done time : ℕ) (p : StruckWorld) (t : T) (scans : Scans) (bytes : List ℕ) (ended : Result (Unit {0}) Cut) (after : StruckWorld) (t' : T) →
-      Stands faults done p → Did (Performs net) (outcome_line net) takes time p t scans bytes ended after t' → CameTo done scans p after bytes ended
-  came_to takes done _ _ _ _ _ _ _ _ stands (all time p t scans is) =
-      subst (λ (s : Scans). CameTo done s p p [] (Ok tt)) (sym is) (no_item done p, refl)
-  came_to takes done _ _ _ _ _ _ _ _ stands (refused time p t scans refusal is) =
-      subst (λ (s : Scans). CameTo done s p p [] (Err (Refused refusal))) (sym is) (no_item done p, refl)
-  came_to takes done _ _ _ _ _ _ _ _ stands (unread time p t scans) = (lines (suc done) scans.items p.world, refl)
-  came_to takes done _ _ _ _ _ _ _ _ stands (refused_item time p t scans item rest refusal p' begins is_due performs) = absurd (no_refusal item refusal p p' performs)
-  came_to takes done _ _ _ _ _ _ _ _ stands (unwritten time p t scans item rest outcome p' t' taken begins is_due performs) =
-      subst (λ (s : Scans). Begun done s.items p (take taken (outcome_line net outcome))) (sym begins)
-      (line_begun done item outcome p p' (goes_on done item outcome p p' stands performs) rest.items taken)
-  came_to takes done _ _ _ _ _ _ _ _ stands (next time p t scans item rest outcome p' t' bytes ended p'' t'' begins is_due performs took did) =
-      let goes = goes_on done item outcome p p' stands performs in
-      subst (λ (s : Scans). CameTo done s p p'' (outcome_line net outcome ++ bytes) ended) (sym begins)
-      (came_to_behind done item outcome p p' goes rest p'' bytes ended (came_to takes goes.made _ p' t' rest bytes ended p'' t'' goes.stands did))
+  module _ {T : Type 0} (said : Outcome Verdict → List ℕ) (takes : T → Outcome Verdict → T → Type 0) where
+    -- what is said of items from a number on, by the answers of a world
+    abbrev saying : (number : ℕ) → List Item → Whole → List ℕ
+    saying number items w = flat_map said (coming number items w)
 
-  -- ---- A whole trace, from the beginning of a run.
+    -- these outcomes were taken, one after another
+    abbrev pub TakesAll : T → List (Outcome Verdict) → T → Type 0
+    TakesAll t [] t' = t' ≡ t
+    TakesAll t (outcome ∷ later) t' = (mid : T) × takes t outcome mid × TakesAll mid later t'
+
+    -- All items were done: this was written, this was taken, and this is the world behind them.
+    pub record Came (done : ℕ) (items : List Item) (p after : StruckWorld) (t t' : T) (bytes : List ℕ) : Type 0 where
+      pub written : bytes ≡ saying (suc done) items p.world
+      pub taken : TakesAll t (coming (suc done) items p.world) t'
+      pub ends : after.world ≡ ran faults (suc done) items p.world
+      pub tripped : after.tripped ≡ (p.tripped || any_of (suc done) items p.world)
+
+    -- these bytes begin what is said of the items
+    abbrev pub Begun : (done : ℕ) → List Item → StruckWorld → (bytes : List ℕ) → Type 0
+    Begun done items p bytes = (owed : List ℕ) × (bytes ++ owed ≡ saying (suc done) items p.world)
+
+    -- what was done of the scans of a trace, by how it ended
+    abbrev pub CameTo : (done : ℕ) → Scans → (p after : StruckWorld) (t t' : T) → (bytes : List ℕ) → Result (Unit {0}) Cut → Type 0
+    CameTo done scans p after t t' bytes (Ok x) = Came done scans.items p after t t' bytes × (scans.end ≡ whole)
+    CameTo done scans p after t t' bytes (Err (Refused refusal)) = Came done scans.items p after t t' bytes × (scans.end ≡ is_refused refusal)
+    CameTo done scans p after t t' bytes (Err Unread) = Begun done scans.items p bytes
+    CameTo done scans p after t t' bytes (Err Unwritten) = Begun done scans.items p bytes
+
+    no_item : (done : ℕ) (p : StruckWorld) (t : T) → Came done [] p p t t []
+    no_item done p t = record { written = refl; taken = refl; ends = refl; tripped = sym (or-false p.tripped) }
+
+    module _ (done : ℕ) (item : Item) (outcome : Outcome Verdict) (p mid : StruckWorld) (goes : Goes done item outcome p mid) where
+      -- what is said of the item first
+      said_first : (items : List Item) → saying (suc done) (item ∷ items) p.world ≡ said outcome ++ saying (suc goes.made) items mid.world
+      said_first items = ap (λ (l : List (Outcome Verdict)). flat_map said l) (goes.first items)
+
+      begun_behind : (items : List Item) (bytes : List ℕ) → Begun goes.made items mid bytes → Begun done (item ∷ items) p (said outcome ++ bytes)
+      begun_behind items bytes begun = (begun.0, append_assoc (said outcome) bytes begun.0 ∙ ap (λ l. said outcome ++ l) begun.1 ∙ sym (said_first items))
+
+      -- a part of what is said of the item was written
+      part_begun : (items : List Item) (taken : ℕ) → Begun done (item ∷ items) p (take taken (said outcome))
+      part_begun items taken =
+          let line = said outcome in
+          let more = saying (suc goes.made) items mid.world in (
+            drop taken line ++ more,
+            sym (append_assoc (take taken line) (drop taken line) more) ∙ ap (λ front. front ++ more) (take-append-drop taken line) ∙ sym (said_first items),
+          )
+
+      module _ (t t-mid : T) (took : takes t outcome t-mid) where
+        came_behind : (items : List Item) (after : StruckWorld) (t' : T) (bytes : List ℕ) → Came goes.made items mid after t-mid t' bytes → Came done (item ∷ items) p after t t' (said outcome ++ bytes)
+        came_behind items after t' bytes came = record {
+          written = ap (λ l. said outcome ++ l) came.written ∙ sym (said_first items);
+          taken = subst (λ (l : List (Outcome Verdict)). TakesAll t l t') (sym (goes.first items)) (t-mid, took, came.taken);
+          ends = came.ends ∙ sym (goes.same_end items);
+          tripped = came.tripped ∙ sym (goes.same_trip items);
+        }
+
+        came_to_behind : (rest : Scans) (after : StruckWorld) (t' : T) (bytes : List ℕ) (ended : Result (Unit {0}) Cut) → CameTo goes.made rest mid after t-mid t' bytes ended →
+            CameTo done (record { items = item ∷ rest.items; end = rest.end }) p after t t' (said outcome ++ bytes) ended
+        came_to_behind rest after t' bytes (Ok x) came = (came_behind rest.items after t' bytes came.0, came.1)
+        came_to_behind rest after t' bytes (Err (Refused refusal)) came = (came_behind rest.items after t' bytes came.0, came.1)
+        came_to_behind rest after t' bytes (Err Unread) begun = begun_behind rest.items bytes begun
+        came_to_behind rest after t' bytes (Err Unwritten) begun = begun_behind rest.items bytes begun
+
+    pub came_to : (done time : ℕ) (p : StruckWorld) (t : T) (scans : Scans) (bytes : List ℕ) (ended : Result (Unit {0}) Cut) (after : StruckWorld) (t' : T) →
+        Stands faults done p → Did (Performs net) said takes time p t scans bytes ended after t' → CameTo done scans p after t t' bytes ended
+    came_to done _ _ _ _ _ _ _ _ stands (all time p t scans is) =
+        subst (λ (s : Scans). CameTo done s p p t t [] (Ok tt)) (sym is) (no_item done p t, refl)
+    came_to done _ _ _ _ _ _ _ _ stands (refused time p t scans refusal is) =
+        subst (λ (s : Scans). CameTo done s p p t t [] (Err (Refused refusal))) (sym is) (no_item done p t, refl)
+    came_to done _ _ _ _ _ _ _ _ stands (unread time p t scans) = (saying (suc done) scans.items p.world, refl)
+    came_to done _ _ _ _ _ _ _ _ stands (refused_item time p t scans item rest refusal p' begins is_due performs) = absurd (no_refusal item refusal p p' performs)
+    came_to done _ _ _ _ _ _ _ _ stands (unwritten time p t scans item rest outcome p' t' taken begins is_due performs) =
+        subst (λ (s : Scans). Begun done s.items p (take taken (said outcome))) (sym begins)
+        (part_begun done item outcome p p' (goes_on done item outcome p p' stands performs) rest.items taken)
+    came_to done _ _ _ _ _ _ _ _ stands (next time p t scans item rest outcome p' t' bytes ended p'' t'' begins is_due performs took did) =
+        let goes = goes_on done item outcome p p' stands performs in
+        subst (λ (s : Scans). CameTo done s p p'' t t'' (said outcome ++ bytes) ended) (sym begins)
+        (came_to_behind done item outcome p p' goes t t' took rest p'' t'' bytes ended (came_to goes.made _ p' t' rest bytes ended p'' t'' goes.stands did))
+
+  -- ---- A whole trace that is written line by line, from the beginning of a run.
 
   module _ (scans : Scans) (p after : StruckWorld) (none_tripped : p.tripped ≡ false) where
     abbrev wanted : Answer → Type 0
@@ -192,39 +208,40 @@ module _ (net : Network) (faults : List Fault) where
     GivesAsEnded tells start now (Err Unread) = Gives wanted tells start now ReadFault
     GivesAsEnded tells start now (Err Unwritten) = Gives wanted tells start now WriteFault
 
-    begun_part : (bytes : List ℕ) (tells : Bool) (start now : List ℕ) → (IsTrue tells → now ≡ start ++ bytes) → Begun 0 scans.items p bytes → AppendsPart wanted tells start now
-    begun_part bytes tells start now wrote begun = record {
-      answer = run_answer net faults p.world scans;
-      right = refl;
-      written = bytes;
-      owed = begun.0 ++ end_line scans.end;
-      whole = sym (append_assoc bytes begun.0 (end_line scans.end)) ∙ ap (λ l. l ++ end_line scans.end) begun.1;
-      appended = wrote;
-    }
+    module _ {T : Type 0} (takes : T → Outcome Verdict → T → Type 0) (t t' : T) where
+      begun_part : (bytes : List ℕ) (tells : Bool) (start now : List ℕ) → (IsTrue tells → now ≡ start ++ bytes) → Begun (outcome_line net) takes 0 scans.items p bytes → AppendsPart wanted tells start now
+      begun_part bytes tells start now wrote begun = record {
+        answer = run_answer net faults p.world scans;
+        right = refl;
+        written = bytes;
+        owed = begun.0 ++ end_line scans.end;
+        whole = sym (append_assoc bytes begun.0 (end_line scans.end)) ∙ ap (λ l. l ++ end_line scans.end) begun.1;
+        appended = wrote;
+      }
 
-    -- the answer, where all items came and the trace ends so
-    answer_is : (bytes : List ℕ) (end : End) → Came 0 scans.items p after bytes → scans.end ≡ end → answer (bytes ++ end_line end) (status_of end after.tripped) ≡ run_answer net faults p.world scans
-    answer_is bytes end came is = λ i. answer (came.written i ++ end_line (sym is i))
-        (status_of (sym is i) ((came.tripped ∙ ap (λ b. b || any_of 1 scans.items p.world) none_tripped) i))
+      -- the answer, where all items came and the trace ends so
+      answer_is : (bytes : List ℕ) (end : End) → Came (outcome_line net) takes 0 scans.items p after t t' bytes → scans.end ≡ end → answer (bytes ++ end_line end) (status_of end after.tripped) ≡ run_answer net faults p.world scans
+      answer_is bytes end came is = λ i. answer (came.written i ++ end_line (sym is i))
+          (status_of (sym is i) ((came.tripped ∙ ap (λ b. b || any_of 1 scans.items p.world) none_tripped) i))
 
-    told_gives : (bytes : List ℕ) (tells : Bool) (start now : List ℕ) (ended : Result (Unit {0}) Cut) → (IsTrue tells → now ≡ start ++ bytes) → CameTo 0 scans p after bytes ended →
-        GivesAsEnded tells start now ended
-    told_gives bytes tells start now (Ok x) wrote came = (
-      all_given wanted (answer bytes (status_if after.tripped)) tells start now (whole_not_cut after.tripped)
-          (ap (λ l. answer l (status_if after.tripped)) (sym (append-nil bytes)) ∙ answer_is bytes whole came.0 came.1) wrote,
-      came.0.ends,
-    )
-    told_gives bytes tells start now (Err (Refused refusal)) wrote came = (
-      (λ later status ends gives.
-          given_behind wanted (answer (refusal_text refusal) BadInput) bytes tells start now later status (answer_is bytes (is_refused refusal) came.0 came.1) wrote gives
-          (no_memory_said BadInput status (λ cut. grind arith) ends) (no_read_said BadInput status (λ cut. grind arith) ends)),
-      came.0.ends,
-    )
-    told_gives bytes tells start now (Err Unread) wrote begun = part_unread wanted tells start now (begun_part bytes tells start now wrote begun)
-    told_gives bytes tells start now (Err Unwritten) wrote begun = part_given wanted tells start now (begun_part bytes tells start now wrote begun)
+      told_gives : (bytes : List ℕ) (tells : Bool) (start now : List ℕ) (ended : Result (Unit {0}) Cut) → (IsTrue tells → now ≡ start ++ bytes) → CameTo (outcome_line net) takes 0 scans p after t t' bytes ended →
+          GivesAsEnded tells start now ended
+      told_gives bytes tells start now (Ok x) wrote came = (
+        all_given wanted (answer bytes (status_if after.tripped)) tells start now (whole_not_cut after.tripped)
+            (ap (λ l. answer l (status_if after.tripped)) (sym (append-nil bytes)) ∙ answer_is bytes whole came.0 came.1) wrote,
+        came.0.ends,
+      )
+      told_gives bytes tells start now (Err (Refused refusal)) wrote came = (
+        (λ later status ends gives.
+            given_behind wanted (answer (refusal_text refusal) BadInput) bytes tells start now later status (answer_is bytes (is_refused refusal) came.0 came.1) wrote gives
+            (no_memory_said BadInput status (λ cut. grind arith) ends) (no_read_said BadInput status (λ cut. grind arith) ends)),
+        came.0.ends,
+      )
+      told_gives bytes tells start now (Err Unread) wrote begun = part_unread wanted tells start now (begun_part bytes tells start now wrote begun)
+      told_gives bytes tells start now (Err Unwritten) wrote begun = part_given wanted tells start now (begun_part bytes tells start now wrote begun)
 
-    -- the items of a trace were done from the first one on
-    pub items_give : {T : Type 0} (takes : T → Outcome Verdict → T → Type 0) (time : ℕ) (t t' : T) (bytes : List ℕ) (tells : Bool) (start now : List ℕ) (ended : Result (Unit {0}) Cut) →
-        Stands faults 0 p → Did (Performs net) (outcome_line net) takes time p t scans bytes ended after t' → (IsTrue tells → now ≡ start ++ bytes) → GivesAsEnded tells start now ended
-    items_give takes time t t' bytes tells start now ended stands did wrote =
-        told_gives bytes tells start now ended wrote (came_to takes 0 time p t scans bytes ended after t' stands did)
+      -- the items of a trace were done from the first one on
+      pub items_give : (time : ℕ) (bytes : List ℕ) (tells : Bool) (start now : List ℕ) (ended : Result (Unit {0}) Cut) →
+          Stands faults 0 p → Did (Performs net) (outcome_line net) takes time p t scans bytes ended after t' → (IsTrue tells → now ≡ start ++ bytes) → GivesAsEnded tells start now ended
+      items_give time bytes tells start now ended stands did wrote =
+          told_gives bytes tells start now ended wrote (came_to (outcome_line net) takes 0 time p t scans bytes ended after t' stands did)

@@ -1,10 +1,12 @@
 -- What the program writes, for its words and the texts that are held.
-use Rattle.std.specs.Prelude.{◌≡◌, ◌⊎◌, ℕ, suc, Bool, true, false, ◌==◌, ◌||◌, if◌then◌else◌, List, [], ◌∷◌, ◌++◌, Option, Some, None, is_some, length}
+use Rattle.std.specs.Prelude.{◌≡◌, ◌⊎◌, ℕ, suc, Bool, true, false, ◌==◌, ◌||◌, if◌then◌else◌, List, [], ◌∷◌, ◌++◌, Option, Some, None, is_some, length, map, count_by, sum_by}
 use Rattle.ps_base.specs.declared.failing.Refusal.{Refusal}
 use Rattle.ps_model.specs.declared.channel.Cause.{Cause}
 use Rattle.ps_model.specs.declared.channel.Channel.TheVariants.{A, B}
 use Rattle.ps_model.specs.declared.channel.Fault.{Fault}
 use Rattle.ps_model.specs.declared.channel.ImageSizes.{ImageSizes}
+use Rattle.ps_model.specs.declared.report.Diag.{Diag}
+use Rattle.ps_model.specs.declared.report.Report.{Report}
 use Rattle.ps_model.specs.Network.{Network}
 use Rattle.ps_model.specs.Scanning.{State}
 use Rattle.ps_model.specs.Meaning.{Item, scan, restart, Meaning, report}
@@ -12,6 +14,7 @@ use Rattle.ps_flow.specs.declared.certificate.CertLine.{CertLine}
 use Rattle.ps_flow.specs.Derivation.{certificate}
 use Rattle.ps_flow.specs.Read.{IsCertificate, RefusesText}
 use Rattle.ps_flow.specs.Written.{written}
+use Rattle.ps_load.specs.Texts.{app_text, trace_text}
 use Rattle.ps_checker.specs.Counts.{Counts}
 use Rattle.ps_checker.specs.Derives.{Derives}
 use Rattle.ps_checker.specs.Objections.{Objects}
@@ -24,9 +27,9 @@ use Rattle.ps_world.specs.Whole.{Setup, Whole, machines_in, after_events, IsSetu
 use Rattle.ps_demand.specs.Lines.{demand_lines}
 use Rattle.ps_report.specs.Image.{image_part}
 use Rattle.ps_report.specs.Lines.{report_text, trip_text}
-use Rattle.ps_report.specs.Short.{refusal_text, check_text}
+use Rattle.ps_report.specs.Short.{refusal_text, check_text, load_text}
 use Rattle.ps_words.specs.Command.{Command, command_of, usage_line}
-use Rattle.ps_words.specs.Command.Command.{Run, Fault as FaultWords, Check, Cert, Verify, Image, Demand}
+use Rattle.ps_words.specs.Command.Command.{Run, Fault as FaultWords, Check, Cert, Verify, Image, Load, Demand}
 use Rattle.ps_top.specs.Asking.{Answer, Asking}
 use Rattle.ps_top.specs.Asking.Asking.{Says, Asks, Finds, Leaves}
 use Rattle.ps_top.specs.Lines.{restart_line, verified_line}
@@ -52,9 +55,13 @@ abbrev pub with_application : (Network → Asking) → Reading → Asking
 with_application next (stands_for net) = next net
 with_application next (is_refused refusal) = Says (answer (refusal_text refusal) Refused)
 
--- the application of an accepted source, whose certificate was checked
+-- the application of this source, which is accepted and whose certificate was checked
+abbrev pub accepted_source : List ℕ → (Network → Asking) → Asking
+accepted_source source next = Finds Reading (IsAcceptedAs source) (with_application (λ net. Leaves (leaves_checked (counts net (certificate net))) (next net)))
+
+-- the application of the source of this name
 abbrev pub accepted : List ℕ → (Network → Asking) → Asking
-accepted app next = Asks app (λ source. Finds Reading (IsAcceptedAs source) (with_application (λ net. Leaves (leaves_checked (counts net (certificate net))) (next net))))
+accepted app next = Asks app (λ source. accepted_source source next)
 
 -- ---- check and cert
 
@@ -197,6 +204,34 @@ run app trace = accepted app (run_quietly trace)
 abbrev pub fault : (app trace faults : List ℕ) → Asking
 fault app trace faults = accepted app (run_struck trace faults)
 
+-- ---- load
+
+-- how many outputs of a report are TRUE
+abbrev pub true_outputs : Report → ℕ
+true_outputs r = count_by (λ out. out) r.outs
+
+-- how many instances of a report have Error
+abbrev pub true_errors : Report → ℕ
+true_errors r = count_by (λ (d : Diag). d.error) r.diags
+
+-- the summary of a load whose scans have these reports; a trace that is refused has its line in place of it
+abbrev pub summary : (n : ℕ) → End → List Report → Answer
+summary n whole reports = answer (load_text n (length reports) (sum_by true_outputs reports) (sum_by true_errors reports)) Done
+summary n (refused refusal) reports = answer (refusal_text refusal) BadInput
+
+-- the scans of a load's trace are summed up by what they mean
+abbrev pub sum_scans : (n : ℕ) → Network → Setup → Scans → Asking
+sum_scans n net setup scans =
+    Leaves (leaves_world setup [] scans) (Finds (List State) (Meaning net scans.items) (λ ws. Says (summary n scans.end (map (report net) ws))))
+
+-- the trace of a load is run without faults
+abbrev pub sum_trace : (n : ℕ) → Network → Asking
+sum_trace n net = with_setup net (λ setup. sum_scans n net setup (scans_of (trace_text n) net))
+
+-- `load N`: the application of a load is accepted, and then its trace is run
+abbrev pub load : (n : ℕ) → Asking
+load n = accepted_source app_text (sum_trace n)
+
 -- ---- verify
 
 -- a certificate's lines derive the application, or an objection stands first
@@ -239,6 +274,7 @@ said (Check app) = check app
 said (Cert app) = cert app
 said (Verify app cert) = verify app cert
 said (Image app) = image app
+said (Load n) = load n
 said (Demand app) = demand app
 said _ = Says (answer usage_line Usage)
 

@@ -1,7 +1,8 @@
 -- What a run writes, by what the world of two channels answers scan by scan: the recursion of the loop. That it is what the
 -- scans mean, up to where the channels trip, is a law.
-use Rattle.std.specs.Prelude.{ℕ, Bool, false, ◌||◌, List, [], ◌∷◌, ◌++◌, length}
+use Rattle.std.specs.Prelude.{ℕ, Bool, false, ◌||◌, List, [], ◌∷◌, ◌++◌, flat_map, length}
 use Rattle.ps_model.specs.declared.channel.Fault.{Fault}
+use Rattle.ps_model.specs.declared.channel.Verdict.{Verdict}
 use Rattle.ps_model.specs.Network.{Network, instance_count}
 use Rattle.ps_model.specs.Meaning.{Item, scan, restart}
 use Rattle.ps_world.specs.Answers.{Answer as Answered, answers}
@@ -10,8 +11,7 @@ use Rattle.ps_world.specs.Whole.{Whole, machines_in, after_events}
 use Rattle.ps_trace.specs.Scans.{Scans, End}
 use Rattle.ps_trace.specs.Scans.End.{whole, refused}
 use Rattle.ps_top.specs.Asking.{Answer}
-use Rattle.ps_top.specs.Lines.{restart_line}
-use Rattle.ps_top.specs.Outcomes.{performed, outcome_line}
+use Rattle.ps_top.specs.Outcomes.{Outcome, performed, anew, outcome_line}
 use Rattle.ps_top.specs.Performing.{trips_with}
 use Rattle.ps_top.specs.Program.{answer, end_line, status_if}
 use Rattle.ps_top.specs.declared.Status.{Status}
@@ -25,12 +25,16 @@ answered net faults number items w = answers (machines_in w.setup) (length net.o
 abbrev pub ran : List Fault → (number : ℕ) → List Item → Whole → Whole
 ran faults number items w = after_events (run_events (machines_in w.setup) faults number items w.state) w
 
--- the lines of items whose scans have these answers
+-- what comes of items whose scans have these answers
+abbrev pub outcomes : List Item → List Answered → List (Outcome Verdict)
+outcomes [] given = []
+outcomes (restart ∷ items) given = anew ∷ outcomes items given
+outcomes (scan now ins ∷ items) [] = []
+outcomes (scan now ins ∷ items) (a ∷ given) = performed now a.verdict a.report ∷ outcomes items given
+
+-- their lines
 abbrev pub answer_lines : Network → List Item → List Answered → List ℕ
-answer_lines net [] given = []
-answer_lines net (restart ∷ items) given = restart_line ++ answer_lines net items given
-answer_lines net (scan now ins ∷ items) [] = []
-answer_lines net (scan now ins ∷ items) (a ∷ given) = outcome_line net (performed now a.verdict a.report) ++ answer_lines net items given
+answer_lines net items given = flat_map (outcome_line net) (outcomes items given)
 
 -- whether one of these answers trips
 abbrev pub any_trips : List Answered → Bool

@@ -1,6 +1,6 @@
 // The loop that does the items of a trace.
 
-ghost use Rattle.std.specs.Prelude.{◌≡◌, ◌≤◌, ℕ, List, IsTrue, Some};
+ghost use Rattle.std.specs.Prelude.{◌≡◌, ◌≤◌, ℕ, List, IfOk, IsTrue, Some};
 ghost use Rattle.ps_model.specs.Meaning.Item.{scan as scan_item, restart as restart_item};
 ghost use Rattle.ps_model.specs.Network.{input_count};
 ghost use Rattle.ps_outside.specs.Outside.{Rose};
@@ -11,11 +11,12 @@ ghost use Rattle.ps_trace.specs.Reading.{IsReadingTrace, file_of, input_count_of
 
 use crate::performing::Performer;
 use crate::taking::Taker;
-use ps_base::Refusal;
+use ps_base::{Memory, Refusal};
 use ps_model::app::App;
 use ps_model::report::{Report, Scan};
 use ps_outside::{Files, Sink};
 use ps_trace::{Next, TraceReader, TraceStop};
+use std::alloc::Global;
 
 /// Why the items of a trace were not all done.
 #[derive(Clone, Copy, Debug, PartialEq, Eq)]
@@ -47,6 +48,29 @@ pub(crate) struct Runner<P, T> {
     pub(crate) taker: T,
     pub(crate) scan: Scan,
     pub(crate) report: Report,
+}
+
+impl<P: Performer + Drop, T: Taker<P::Verdict> + Drop> Runner<P, T> {
+    /// What the scans of an application are done with, before the first. It takes the memory for a scan and its report.
+    pub(crate) fn for_app(
+        alloc: Global,
+        app: &App,
+        performer: P,
+        taker: T,
+    ) -> Result<Runner<P, T>, Memory>
+        requires performer { P.fits app.now performer }
+        requires taker { T.fits app.now taker }
+        ensures fits { IfOk result (Fits (P.fits app.now) (T.fits app.now) app.now) }
+        ensures performer { IfOk result (λ r. r.performer ≡ performer) }
+        ensures taker { IfOk result (λ r. r.taker ≡ taker) }
+    {
+        Ok(Runner {
+            performer,
+            taker,
+            scan: Scan::for_app(alloc, app)?,
+            report: Report::for_app(alloc, app)?,
+        })
+    }
 }
 
 impl<P: Performer, T: Taker<P::Verdict>> Runner<P, T> {

@@ -1,18 +1,20 @@
 //! The program `plcsafe`, over any files and any output.
 //!
 //! `program` has the call that does all that the program does, by the definition `text`. One room for each command:
-//! `checking`, `certifying`, `verifying`, `imaging`, `demanding`, `running`; `saying` writes short answers. The loop over a trace is in `items`, over
-//! what performs a scan (`performing`, which is a world that faults strike, `striking`) and what takes what comes of it
-//! (`taking`). `left` is what a call leaves behind.
+//! `checking`, `certifying`, `verifying`, `imaging`, `loading`, `demanding`, `running`; `saying` writes short answers. The loop
+//! over a trace is in `items`, over what performs a scan (`performing`, which is a world that faults strike, `striking`) and what
+//! takes what comes of it (`taking`, which writes lines, or `counting`). `left` is what a call leaves behind.
 #![tactic(auto)]
 
 mod certifying;
 mod checking;
+mod counting;
 mod demanding;
 mod imaging;
 mod items;
 pub mod laws;
 mod left;
+mod loading;
 mod performing;
 mod program;
 mod running;
@@ -30,7 +32,7 @@ pub use ps_words::Words;
 pub enum Status {
     /// All was done.
     Done,
-    /// The source is refused, by a rule L, P, N or S, or for `demand` by the rule M1.
+    /// The source is refused, by a rule L, P, B, N or S, or for `demand` by the rule M1.
     Refused,
     /// The words are not taken.
     Usage,

@@ -15,6 +15,7 @@ use crate::checking::check;
 use crate::demanding::demand;
 use crate::imaging::image;
 use crate::left::Left;
+use crate::loading::load;
 use crate::running::{fault, run};
 use crate::saying::say;
 use crate::verifying::verify;
@@ -49,9 +50,10 @@ fn do_words<F: Files, S: Sink>(
         Command::Cert { app } => cert(alloc, app, files, out, left),
         Command::Verify { app, cert } => verify(alloc, app, cert, files, out, left),
         Command::Image { app } => image(alloc, app, files, out, left),
+        Command::Load { number } => load(alloc, number, out, left),
         Command::Demand { app } => demand(alloc, app, files, out, left),
         // `command_of` gives no command that the program does not have.
-        Command::Load { .. } | Command::Vote { .. } | Command::Heal { .. } => unreachable!(),
+        Command::Vote { .. } | Command::Heal { .. } => unreachable!(),
     }
 }
 

@@ -24,7 +24,6 @@ use crate::saying::say_refused;
 use crate::striking::StruckWorld;
 use ps_base::Memory;
 use ps_model::app::App;
-use ps_model::report::{Report, Scan};
 use ps_outside::{Files, Sink};
 use ps_report::LineBuffer;
 use ps_source::read_accepted;
@@ -33,24 +32,17 @@ use ps_world::World;
 use ps_world::laws::runs_are_right;
 use std::alloc::Global;
 
-impl Runner<StruckWorld, LineBuffer> {
-    // What the scans of an application are done with, before the first. It takes all their memory.
-    fn for_app(
-        alloc: Global,
-        app: &App,
-        world: StruckWorld,
-    ) -> Result<Runner<StruckWorld, LineBuffer>, Memory>
-        requires { IsStruckWorldFor app.now world }
-        ensures fits { IfOk result (Fits (IsStruckWorldFor app.now) (λ room. line_room app.now ≤ room) app.now) }
-        ensures world { IfOk result (λ r. r.performer ≡ world) }
-    {
-        Ok(Runner {
-            performer: world,
-            taker: LineBuffer::for_app(alloc, app)?,
-            scan: Scan::for_app(alloc, app)?,
-            report: Report::for_app(alloc, app)?,
-        })
-    }
+// What the scans of an application are done with, before the first, each with its line. It takes all their memory.
+fn line_runner(
+    alloc: Global,
+    app: &App,
+    world: StruckWorld,
+) -> Result<Runner<StruckWorld, LineBuffer>, Memory>
+    requires { IsStruckWorldFor app.now world }
+    ensures fits { IfOk result (Fits (IsStruckWorldFor app.now) (λ room. line_room app.now ≤ room) app.now) }
+    ensures world { IfOk result (λ r. r.performer ≡ world) }
+{
+    Runner::for_app(alloc, app, world, LineBuffer::for_app(alloc, app)?)
 }
 
 // The status at the end of a trace that is whole.
@@ -144,7 +136,7 @@ fn run_named<F: Files, S: Sink>(
     ensures checked { left.new.checked ≡ left.old.checked }
     ensures no_usage { result ≢ Status.Usage }
 {
-    let mut runner = match Runner::for_app(alloc, app, world) {
+    let mut runner = match line_runner(alloc, app, world) {
         Ok(runner) => runner,
         Err(Memory) => return Status::Memory,
     };

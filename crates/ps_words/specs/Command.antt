@@ -1,5 +1,5 @@
 -- What words ask of the program.
-use Rattle.std.specs.Prelude.{ℕ, Bool, true, false, not, ◌&&◌, ◌==◌, List, [], ◌∷◌, codes, if◌then◌else◌, nat_le}
+use Rattle.std.specs.Prelude.{◌≤◌, ℕ, Bool, true, false, not, ◌&&◌, ◌==◌, List, [], ◌∷◌, codes, if◌then◌else◌, nat_le}
 use Rattle.std.specs.List.{list_all}
 use Rattle.std.specs.Str.{bytes_eq, all_ascii_digits}
 use Rattle.std.specs.Str.Parse.{digits_value}
@@ -76,7 +76,7 @@ is_built (Check app) = true
 is_built (Cert app) = true
 is_built (Verify app cert) = true
 is_built (Image app) = true
-is_built (Load number) = false
+is_built (Load number) = true
 is_built (Demand app) = true
 is_built (Vote app trace faults) = false
 is_built (Heal app trace faults) = false
@@ -85,6 +85,11 @@ is_built NotTaken = true
 -- Words are taken where none is empty or begins with a hyphen, and they have the form of a command that the program has.
 abbrev pub command_of : List (List ℕ) → Command
 command_of words = if list_all is_plain words && is_built (form_of words) then form_of words else NotTaken
+
+-- the number of a load is from 1 to 1000
+abbrev pub IsBounded : Command → Type 0
+IsBounded (Load number) = (1 ≤ number) × (number ≤ 1000)
+IsBounded command = Unit {0}
 
 -- the names of files that a command gives, in the order in which their texts are asked for
 abbrev pub names_of : Command → List (List ℕ)
@@ -102,4 +107,4 @@ names_of NotTaken = []
 
 -- the forms of the commands that the program has
 abbrev pub usage_line : List ℕ
-usage_line = codes "usage: plcsafe run APP TRACE | fault APP TRACE FAULTS | check APP | cert APP | verify APP CERT | image APP | demand APP\n"
+usage_line = codes "usage: plcsafe run APP TRACE | fault APP TRACE FAULTS | check APP | cert APP | verify APP CERT | image APP | load N | demand APP\n"

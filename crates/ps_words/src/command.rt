@@ -12,7 +12,7 @@ use std::alloc::Global;
 
 /// The forms of the commands that the program has, as one line.
 pub const USAGE: &[u8] =
-    b"usage: plcsafe run APP TRACE | fault APP TRACE FAULTS | check APP | cert APP | verify APP CERT | image APP | demand APP\n";
+    b"usage: plcsafe run APP TRACE | fault APP TRACE FAULTS | check APP | cert APP | verify APP CERT | image APP | load N | demand APP\n";
 
 /// What the words ask of the program.
 #[derive(Clone, Copy)]
@@ -81,9 +81,10 @@ impl<'a> Command<'a> {
             | Command::Cert { .. }
             | Command::Verify { .. }
             | Command::Image { .. }
+            | Command::Load { .. }
             | Command::Demand { .. }
             | Command::NotTaken => true,
-            Command::Load { .. } | Command::Vote { .. } | Command::Heal { .. } => false,
+            Command::Vote { .. } | Command::Heal { .. } => false,
         }
     }
 }
@@ -135,7 +136,8 @@ fn is_within(number: u32) -> bool
 
 // What `load` asks with this word.
 fn load<'a>(word: &str) -> Command<'a>
-    ensures { command_seen result ≡ asked.load word.now }
+    ensures asked { command_seen result ≡ asked.load word.now }
+    ensures bounded { asked.IsBounded (command_seen result) }
 {
     if !begins_above_zero(word) {
         return Command::NotTaken;
@@ -154,7 +156,8 @@ fn load<'a>(word: &str) -> Command<'a>
 
 // What the name of a command asks with one word.
 fn one_word<'a>(name: &str, word: &'a str) -> Command<'a>
-    ensures { command_seen result ≡ asked.one_word name.now word.now }
+    ensures asked { command_seen result ≡ asked.one_word name.now word.now }
+    ensures bounded { asked.IsBounded (command_seen result) }
 {
     match name {
         "check" => Command::Check { app: word },
@@ -168,7 +171,8 @@ fn one_word<'a>(name: &str, word: &'a str) -> Command<'a>
 
 // What the name of a command asks with two words.
 fn two_words<'a>(name: &str, app: &'a str, other: &'a str) -> Command<'a>
-    ensures { command_seen result ≡ asked.two_words name.now app.now other.now }
+    ensures asked { command_seen result ≡ asked.two_words name.now app.now other.now }
+    ensures bounded { asked.IsBounded (command_seen result) }
 {
     match name {
         "run" => Command::Run { app, trace: other },
@@ -179,7 +183,8 @@ fn two_words<'a>(name: &str, app: &'a str, other: &'a str) -> Command<'a>
 
 // What the name of a command asks with three words.
 fn three_words<'a>(name: &str, app: &'a str, trace: &'a str, faults: &'a str) -> Command<'a>
-    ensures { command_seen result ≡ asked.three_words name.now app.now trace.now faults.now }
+    ensures asked { command_seen result ≡ asked.three_words name.now app.now trace.now faults.now }
+    ensures bounded { asked.IsBounded (command_seen result) }
 {
     match name {
         "fault" => Command::Fault { app, trace, faults },
@@ -191,7 +196,8 @@ fn three_words<'a>(name: &str, app: &'a str, trace: &'a str, faults: &'a str) ->
 
 // The form of a command that words have.
 fn form_of<'a>(words: &[&'a str]) -> Command<'a>
-    ensures { command_seen result ≡ asked.form_of (seen words.now) }
+    ensures asked { command_seen result ≡ asked.form_of (seen words.now) }
+    ensures bounded { asked.IsBounded (command_seen result) }
 {
     if words.len() == 2 {
         one_word(words[0], words[1])
@@ -210,6 +216,7 @@ fn form_of<'a>(words: &[&'a str]) -> Command<'a>
 pub fn command_of(alloc: Global, words: &Words) -> Result<Command<'_>, Memory>
     ensures asked { IfOk result (λ command. command_seen command ≡ asked.command_of words.now) }
     ensures built { IfOk result (λ command. asked.is_built (command_seen command) ≡ true) }
+    ensures bounded { IfOk result (λ command. asked.IsBounded (command_seen command)) }
 {
     let Some(texts) = plain_texts(alloc, words)? else {
         return Ok(Command::NotTaken);

@@ -1,6 +1,6 @@
 use Rattle.std.proofs.Common.{◌∙◌, [], sym, ap, arith}
 use Rattle.ps_words.specs.Command.{usage_line}
-use Rattle.ps_words.specs.Command.Command.{Run, Fault, Check, Cert, Verify, Image, Demand, NotTaken}
+use Rattle.ps_words.specs.Command.Command.{Run, Fault, Check, Cert, Verify, Image, Load, Demand, NotTaken}
 use Rattle.ps_words.specs.Seen.{command_seen}
 use Rattle.ps_top.specs.Program.{answer}
 use Rattle.ps_top.specs.declared.Status.TheVariants.{Usage}
@@ -40,3 +40,7 @@ returns-in-Demand-clause-answers g c =
 pub returns-in-Image-clause-answers : goal.returns-in-Image-clause-answers
 returns-in-Image-clause-answers g c =
     words_answer c.args.words.now (Image c.in-Image.app.now) _ _ _ _ _ c.image.result (sym (ap command_seen c.in-Image.is) ∙ c.in-Ok.ensures.asked) c.image.ensures.answers
+
+pub returns-in-Load-clause-answers : goal.returns-in-Load-clause-answers
+returns-in-Load-clause-answers g c =
+    words_answer c.args.words.now (Load c.in-Load.number) _ _ _ _ _ c.load.result (sym (ap command_seen c.in-Load.is) ∙ c.in-Ok.ensures.asked) (c.load.ensures.answers _)

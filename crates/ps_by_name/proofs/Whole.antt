@@ -1,0 +1,6 @@
+-- The law.
+use Rattle.std.proofs.Common.{◌≡◌, ℕ, Bool, List}
+use Rattle.ps_by_name.specs.Laws.{NamesAreNumbers}
+
+pub names_are_numbers : NamesAreNumbers
+names_are_numbers p net stands old ins dt new = ?

@@ -1,6 +1,7 @@
 -- The law.
 use Rattle.std.proofs.Common.{◌≡◌, ℕ, Bool, List}
 use Rattle.ps_by_name.specs.Laws.{NamesAreNumbers}
+use Rattle.ps_by_name.proofs.Walk.{all_hold}
 
 pub names_are_numbers : NamesAreNumbers
 names_are_numbers p net stands old ins dt new = ?

@@ -1,3 +1,4 @@
 pub mod Walk
 pub mod Drives
+pub mod Seen
 pub mod Whole

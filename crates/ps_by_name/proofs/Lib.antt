@@ -1,4 +1,5 @@
 pub mod Walk
 pub mod Drives
 pub mod Seen
+pub mod Valued
 pub mod Whole

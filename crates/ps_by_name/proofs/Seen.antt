@@ -1,19 +1,20 @@
 -- What a name reads is what its number reads.
-use Rattle.std.proofs.Common.{◌≡◌, ℕ, zero, suc, ◌+◌, ◌-◌, ◌<◌, ◌≤◌, Bool, true, false, cond, ◌||◌, ◌&&◌, List, [], ◌∷◌, ◌++◌, Option, None, Some, length, map, filter, take, slice_get, nat_le, nat_lt, refl, sym, ap, subst, ◌∙◌, arith, not, if◌then◌else◌}
-use Rattle.std.specs.Prelude.{count_by, sum_by, position, unwrap_or}
+use Rattle.std.proofs.Common.{◌≡◌, ℕ, zero, suc, ◌+◌, ◌-◌, ◌<◌, ◌≤◌, Bool, true, false, cond, ◌||◌, ◌&&◌, List, [], ◌∷◌, ◌++◌, Option, None, Some, length, map, filter, take, slice_get, nat_le, nat_lt, refl, sym, ap, subst, ◌∙◌, arith, not, if◌then◌else◌, length-append}
+use Rattle.std.specs.Prelude.{count_by, sum_by, position, unwrap_or, codes}
 use Rattle.std.specs.Option.{option_map}
 use Rattle.std.specs.List.{list_any}
 use Rattle.std.specs.Str.{bytes_eq}
 use Rattle.std.proofs.lemmas.Bool.{false≢true, ltb-true, lt-ltb, le-ltb}
 use Rattle.std.proofs.lemmas.Bool.Decides.{nat_tests}
-use Rattle.std.proofs.lemmas.List.{take-map}
+use Rattle.std.proofs.lemmas.List.{take-map, length-map}
 use Rattle.std.proofs.lemmas.List.Folds.{list_any-append}
 use Rattle.std.proofs.lemmas.List.Quantifiers.{position-Some}
 use Rattle.std.proofs.lemmas.Slice.Eq.{bytes_eq-Decides}
 use Rattle.ps_base.specs.LetterCase.{folded, is_same_name}
 use Rattle.ps_base.specs.declared.failing.Refusal.{Refusal}
 use Rattle.ps_model.specs.declared.kind.Kind.{Kind}
-use Rattle.ps_model.specs.Blocks.{block, output_count, idle}
+use Rattle.ps_model.specs.Blocks.{Pin, Output, block, output_count}
+use Rattle.ps_model.proofs.OutputLengths.{output_count_is}
 use Rattle.ps_model.specs.Pins.{pin_names}
 use Rattle.ps_model.specs.Network as net
 use Rattle.ps_model.specs.Network.{Network}
@@ -30,7 +31,7 @@ use Rattle.ps_names.specs.Rules.{pin_at, puts, has_output, wrong, at_read_pin}
 use Rattle.ps_names.specs.Stands.{number, number_at, number_as, output_at, outputs_before, pin_number, pin_number_at, pin_number_as, action, network_of}
 use Rattle.ps_names.proofs.Unbroken.{IsUnbroken}
 use Rattle.ps_names.proofs.Targets.{IsInstance, instance_number, below_all, names_it}
-use Rattle.ps_names.proofs.ReadNames.{IsRead, IsSignal}
+use Rattle.ps_names.proofs.ReadNames.{IsRead, IsSignal, read_instance}
 use Rattle.ps_names.proofs.OneDriver.{declared_is}
 use Rattle.ps_names.proofs.OneCall.{one_place_of}
 use Rattle.ps_names.proofs.FirstPins.{pins_before}
@@ -55,6 +56,38 @@ in_filter {X = X} p (y ∷ xs) i x h = by (λ j g. in_filter p xs j x g) (p y) r
     by later true e zero g = let same : y ≡ x = cc in (0, g, sym (ap p same) ∙ e)
     by later true e (suc i) g = let r = later i g in (suc r.0, r.1, r.2)
     by later false e i g = let r = later i g in (suc r.0, r.1, r.2)
+
+-- ---- outputs of a kind
+
+-- how many pins a kind has
+pub pins_of : (kind : Kind) → length (pin_names kind) ≡ length (block kind).inputs + output_count kind
+pins_of kind =
+    let a = length-append (map (λ (p : Pin). p.name) (block kind).inputs) (map (λ (o : Output). o.name) (block kind).outputs ++ (codes "Ready" ∷ codes "Error" ∷ [])) in
+    let b = length-append (map (λ (o : Output). o.name) (block kind).outputs) (codes "Ready" ∷ codes "Error" ∷ []) in
+    let c = length-map (block kind).inputs (λ (p : Pin). p.name) in
+    let d = length-map (block kind).outputs (λ (o : Output). o.name) in
+    let e = output_count_is kind in
+    omega arith
+
+has_it : (b : Bool) (q : Name) → unless b (wrong q) ≡ [] → b ≡ true
+has_it true q h = refl
+has_it false q h = cc
+
+behind_inputs : (j m : ℕ) → not (nat_lt j m) ≡ true → m ≤ j
+behind_inputs j m h = grind (arith, nat_tests)
+
+-- an output that a kind has is one of its outputs
+output_small : (kind : Kind) (q : Name) → has_output kind q ≡ true → output_at kind q < output_count kind
+output_small kind q h = by (pin_at kind q) refl h
+  where
+    by : (o : Option ℕ) → pin_at kind q ≡ o → puts kind o ≡ true → unwrap_or (pin_at kind q) 0 - length (block kind).inputs < output_count kind
+    by None e p = absurd (false≢true p)
+    by (Some j) e p =
+        let low = behind_inputs j (length (block kind).inputs) p in
+        let high = (position-Some (is_same_name q.text) (pin_names kind) j [] e).0 in
+        let all = pins_of kind in
+        let is : unwrap_or (pin_at kind q) 0 ≡ j = ap (λ o. unwrap_or o 0) e in
+        omega arith
 
 module _ (es : List Entry) (w : State) where
   -- the map has the value of a signal under its name
@@ -182,3 +215,11 @@ module _ (name : List ℕ) (es : List Entry) (ss : List StatementTree) (clean : 
     pin_read_at n t pin small =
         (λ i. if called_before n t (output_numbered t.kind pin) small k i then (is i).output (folded n.text) pin else (was i).output (folded n.text) pin)
         ∙ (λ i. if net.is_new app k (sym (first_is n t) i + output_numbered t.kind pin) then pin_by_name es new n t pin i else pin_by_name es old n t pin i)
+
+    pub pin_read : (n q : Name) → at_read_pin n q (sort_of es n) ≡ [] → output_seen scan (before k) (folded n.text) (folded q.text) ≡ read_at app old new k (pin_number es n q)
+    pin_read n q fine =
+        let t = read_instance es n q fine in
+        let sort = ap (sort_at es) t.declared ∙ ap (option_map (λ e. e.sort)) t.is ∙ ap Some t.sort in
+        pin_read_at n t (folded q.text) (output_small t.kind q (has_it (has_output t.kind q) q (ap (at_read_pin n q) (sym sort) ∙ fine)))
+        ∙ ap (read_at app old new k)
+        (sym (ap (λ o. pin_number_at es o q) t.declared ∙ ap (λ s. pin_number_as es s t.at q) (ap (option_map (λ e. e.sort)) t.is ∙ ap Some t.sort)))

@@ -21,6 +21,7 @@ use Rattle.ps_names.specs.Stands as stands
 use Rattle.ps_names.specs.Stands.{number, pin_number, all_joined, any_joined, factor_formula, factor_formulas, product_formulas, sum_formula}
 use Rattle.ps_names.proofs.Distinct.{none_left, none_right, none_at}
 use Rattle.ps_names.proofs.Lists.{found_at}
+use Rattle.ps_names.proofs.Unbroken.{none_inside}
 use Rattle.ps_by_name.specs.Reading.{Reading, factor_value, product_value, sum_value}
 use Rattle.ps_by_name.specs.Equations.{actual_of, given, actuals}
 
@@ -104,3 +105,35 @@ module _ (es : List Entry) (reading : Reading) (v : ℕ → Bool)
   actual_is (product (factor (Literal b p) no_factor) no_product) h = record { pin = λ default. alone b; duration = λ t. no_time_either t ((b && true) || false) b }
   actual_is (product (factor (Time t p) no_factor) no_product) h = record { pin = λ default. refl; duration = λ u. refl }
   actual_is s h = valued s h
+
+  module _ (n : Name) (args : List ArgumentTree) (fine : Fine (flat_map (argument_uses n) args)) where
+    found_is : (pin : List ℕ) (o : Option ArgumentTree) → find (λ a. is_same_name a.pin.text pin) args ≡ o → IsAlike (given reading o) (stands.given es o)
+    found_is pin None found = record { pin = λ default. refl; duration = λ t. refl }
+    found_is pin (Some a) found =
+        let r = found_at (λ a. is_same_name a.pin.text pin) args a found in
+        actual_is a.value (none_right (broken_by es (gives n a.pin)) _ (none_inside (broken_by es) (argument_uses n) args r.0 a fine r.1))
+
+    abbrev by_names : blocks.Pin → Actual
+    by_names p = given reading (find (λ a. is_same_name a.pin.text p.name) args)
+
+    abbrev by_numbers : blocks.Pin → Actual
+    by_numbers p = stands.given es (find (λ a. is_same_name a.pin.text p.name) args)
+
+    one_is : (p : blocks.Pin) → IsAlike (by_names p) (by_numbers p)
+    one_is p = found_is p.name (find (λ a. is_same_name a.pin.text p.name) args) refl
+
+    pins_are : (default : Bool) (ps : List blocks.Pin) (j : ℕ) → pin_value (λ _. false) default (get_or (map by_names ps) j free) ≡ pin_value v default (get_or (map by_numbers ps) j free)
+    pins_are default [] j = refl
+    pins_are default (p ∷ ps) zero = (one_is p).pin default
+    pins_are default (p ∷ ps) (suc j) = pins_are default ps j
+
+    times_are : (ps qs : List blocks.Pin) → times_at ps (map by_names qs) ≡ times_at ps (map by_numbers qs)
+    times_are [] qs = refl
+    times_are (p ∷ ps) [] = refl
+    times_are (p ∷ ps) (q ∷ qs) = (λ i. (one_is q).duration p.ty i + times_are ps qs i)
+
+    -- an instance moves alike
+    pub moved_alike : (kind : Kind) (dt : ℕ) (s : blocks.Block_state) →
+        moved kind (limit_of kind (actuals reading kind args)) (pins_under (λ _. false) kind (actuals reading kind args)) dt s
+        ≡ moved kind (limit_of kind (stands.actuals es kind args)) (pins_under v kind (stands.actuals es kind args)) dt s
+    moved_alike kind dt s = (λ i. moved kind ((block kind).fixed_limit + times_are (block kind).inputs (block kind).inputs i) (λ j. pins_are (pin_at kind j).free (block kind).inputs j i) dt s)

@@ -2,4 +2,5 @@ pub mod Walk
 pub mod Drives
 pub mod Seen
 pub mod Valued
+pub mod KindsFound
 pub mod Whole

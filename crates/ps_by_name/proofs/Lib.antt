@@ -3,4 +3,5 @@ pub mod Drives
 pub mod Seen
 pub mod Valued
 pub mod KindsFound
+pub mod EachStep
 pub mod Whole

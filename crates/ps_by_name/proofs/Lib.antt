@@ -4,4 +4,5 @@ pub mod Seen
 pub mod Valued
 pub mod KindsFound
 pub mod EachStep
+pub mod Declaring
 pub mod Whole

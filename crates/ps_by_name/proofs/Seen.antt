@@ -149,7 +149,7 @@ module _ (name : List ℕ) (es : List Entry) (ss : List StatementTree) (clean : 
   input_number Nothing k h = absurd (false≢true h)
 
   -- a signal is an input where its number is one of an input
-  begun_signal : (n : Name) → IsRead es n → is_among (folded n.text) (begun es).driven ≡ nat_lt (number es n) (net.input_count app)
+  pub begun_signal : (n : Name) → IsRead es n → is_among (folded n.text) (begun es).driven ≡ nat_lt (number es n) (net.input_count app)
   begun_signal n t =
       same_test (is_among (folded n.text) (begun es).driven) (nat_lt (number es n) (net.input_count app)) there back
     where

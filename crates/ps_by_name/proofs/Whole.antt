@@ -4,6 +4,7 @@ use Rattle.ps_by_name.specs.Laws.{NamesAreNumbers}
 use Rattle.ps_by_name.proofs.Walk.{all_hold}
 use Rattle.ps_by_name.proofs.Drives.{same_test}
 use Rattle.ps_by_name.proofs.Seen.{signal_read}
+use Rattle.ps_by_name.proofs.Declaring.{own}
 use Rattle.ps_by_name.proofs.EachStep.{target_read}
 use Rattle.ps_by_name.proofs.KindsFound.{kind_is}
 use Rattle.ps_by_name.proofs.Valued.{sum_is}

@@ -1,5 +1,5 @@
 -- What stands before each statement of a list.
-use Rattle.std.proofs.Common.{◌≡◌, ℕ, zero, suc, Bool, true, false, List, [], ◌∷◌, ◌++◌, Some, map, take, slice_get, refl, sym, ap, subst, ◌∙◌, append_assoc, ◌||◌}
+use Rattle.std.proofs.Common.{◌≡◌, ◌↔◌, ℕ, zero, suc, Bool, true, false, List, [], ◌∷◌, ◌++◌, Some, map, take, slice_get, refl, sym, ap, subst, ◌∙◌, append_assoc, ◌||◌}
 use Rattle.std.specs.List.{list_any}
 use Rattle.std.proofs.lemmas.List.{append-nil}
 use Rattle.std.proofs.lemmas.List.Folds.{list_any-append}
@@ -73,3 +73,21 @@ at_first [] (suc n) k x at = at
 at_first (y ∷ xs) zero k x at = cc
 at_first (y ∷ xs) (suc n) zero x at = at
 at_first (y ∷ xs) (suc n) (suc k) x at = at_first xs n k x at
+
+-- ---- statements one after another
+
+module _ (callee : Name → Callee) (path : List ℕ) (scan : Scan) where
+  -- two lists of statements hold as one
+  pub hold_append : (before : Before) (xs ys : List StatementTree) →
+      StatementsHold callee path scan before (xs ++ ys) ↔ (StatementsHold callee path scan before xs × StatementsHold callee path scan (and_then before (statements_leave callee path xs)) ys)
+  hold_append before [] ys = (
+    λ h. (tt, subst (λ b. StatementsHold callee path scan b ys) (sym (then_nothing before)) h),
+    λ h. subst (λ b. StatementsHold callee path scan b ys) (then_nothing before) h.1,
+  )
+  hold_append before (x ∷ xs) ys =
+      let rest = hold_append (and_then before (statement_leaves callee path x)) xs ys in
+      let moved = then_then before (statement_leaves callee path x) (statements_leave callee path xs) in
+      (
+        λ h. let r = rest.0 h.1 in ((h.0, r.0), subst (λ b. StatementsHold callee path scan b ys) moved r.1),
+        λ h. (h.0.0, rest.1 (h.0.1, subst (λ b. StatementsHold callee path scan b ys) (sym moved) h.1)),
+      )

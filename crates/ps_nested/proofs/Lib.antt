@@ -1,1 +1,3 @@
-
+pub mod PathNames
+pub mod Inside
+pub mod Whole

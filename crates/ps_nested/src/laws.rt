@@ -1,8 +1,10 @@
-// Laws of texts with function blocks.
+// The law of texts with function blocks.
 
-ghost use Rattle.std.specs.Prelude.{◌≡◌};
+ghost use Rattle.ps_nested.specs.Laws.{NestedIsFlat};
 
-/// Nothing yet.
-pub fn nothing_yet()
-    ensures { 1 ≡ 1 }
+/// Nested is flat: of a text that breaks no rule on function blocks, where its flat source stands for an application, a state
+/// solves the equations of a scan of the application exactly where it has its sizes and is, by its dotted names, what a scan of
+/// the text leaves.
+pub fn nested_is_flat()
+    ensures { NestedIsFlat }
 {}

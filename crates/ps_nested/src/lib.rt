@@ -1,7 +1,6 @@
-//! What a text with function blocks means, and that this is what its flat source means.
+//! What a scan of a text with function blocks means, over the text itself, and that this is what its flat source means.
 //!
-//! - specs: `Nested` is the equations of a scan over the text itself, by paths of instance names; it does not speak of the
-//!   flat source. `ByName` sees a state of an application as a map of names.
+//! - specs: `Nested` is the equations of a scan, by paths of instance names; it does not speak of the flat source.
 //! - `laws`: nested is flat.
 #![tactic(auto)]
 

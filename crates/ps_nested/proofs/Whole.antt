@@ -1,0 +1,7 @@
+-- Nested is flat.
+use Rattle.std.proofs.Common.{◌≡◌, ◌↔◌, ℕ, Bool, List, []}
+use Rattle.ps_nested.specs.Laws.{NestedIsFlat}
+use Rattle.ps_nested.proofs.Inside.{all_hold_inside}
+
+pub nested_is_flat : NestedIsFlat
+nested_is_flat l net unbroken stands old ins dt new = ?

@@ -1,3 +1,4 @@
 pub mod PathNames
 pub mod Inside
+pub mod Pairs
 pub mod Whole

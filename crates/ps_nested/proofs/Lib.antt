@@ -1,4 +1,5 @@
 pub mod PathNames
 pub mod Inside
 pub mod Pairs
+pub mod Together
 pub mod Whole

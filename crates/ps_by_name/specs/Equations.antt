@@ -113,14 +113,13 @@ module _ (callee : Name → Callee) (path : List ℕ) where
       output = λ n q. dotted_seen before n q (callee n);
     }
 
-    -- each input of a copy has the value of its argument, and stands before what follows
+    -- each input of a copy has the value of its argument, as it is read where the call stands
     abbrev pub InputsHold : Before → List ℕ → List ArgumentTree → List Name → Type 0
     InputsHold before copy args [] = Unit {0}
     InputsHold before copy args (x ∷ xs) =
-        (scan.new.signal (at copy x) ≡ argument_value (reading_at before) (find (λ a. same x a.pin) args))
-        × InputsHold (and_then before (drives (at copy x))) copy args xs
+        (scan.new.signal (at copy x) ≡ argument_value (reading_at before) (find (λ a. same x a.pin) args)) × InputsHold before copy args xs
 
-    -- a call: the instance moves; or the inputs of the copy have the values of their arguments, and then its body holds
+    -- a call: the instance moves; or the inputs of the copy have the values of their arguments, and with them driven its body holds
     abbrev pub CallHolds : Before → Name → List ArgumentTree → Callee → Type 0
     CallHolds before n args standard = Moves scan (at path n) (reading_at before) args (kind_at scan.instances (at path n))
     CallHolds before n args (derived b) =

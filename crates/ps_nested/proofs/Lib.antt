@@ -1,5 +1,8 @@
 pub mod PathNames
 pub mod Inside
+pub mod Plainly
+pub mod FirstInputs
+pub mod FineCalls
 pub mod Pairs
 pub mod Together
 pub mod Instances

@@ -35,6 +35,9 @@ use Rattle.ps_by_name.proofs.Whole.{names_are_numbers}
 use Rattle.ps_nested.specs.Nested.{body_of, bodies_of, program_of}
 use Rattle.ps_nested.specs.Laws.{NestedIsFlat}
 use Rattle.ps_nested.proofs.Pairs.{Pair, laid_of, bodies, laid_append, bodies_append}
+use Rattle.ps_nested.proofs.Plainly.{own_name}
+use Rattle.ps_nested.proofs.FineCalls.{statements_fine}
+use Rattle.ps_nested.proofs.FirstInputs.{never_both}
 use Rattle.ps_nested.proofs.Together.{both, through, leaves_flat, holds_flat}
 use Rattle.ps_nested.proofs.Instances.{HasInstances, AllHave, all_have, block_same, sections_same}
 

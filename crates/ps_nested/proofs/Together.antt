@@ -1,6 +1,11 @@
 -- The statements of a body say what its flat statements say.
-use Rattle.std.proofs.Common.{◌≡◌, ◌↔◌, ℕ, Bool, true, false, cond, List, [], ◌∷◌, ◌++◌, Option, None, Some, map, refl, sym, ap, subst, ◌∙◌, ◌&&◌, ◌||◌}
-use Rattle.std.specs.List.{flat_map, find}
+use Rattle.std.proofs.Common.{◌≡◌, ◌↔◌, ℕ, Bool, true, false, cond, List, [], ◌∷◌, ◌++◌, Option, None, Some, map, refl, sym, ap, subst, ◌∙◌, ◌&&◌, ◌||◌, if◌then◌else◌}
+use Rattle.std.specs.List.{flat_map, find, list_any, AllByRecursion}
+use Rattle.std.specs.Str.{bytes_eq}
+use Rattle.std.proofs.lemmas.List.{append-nil}
+use Rattle.std.proofs.lemmas.List.Folds.{list_any-append}
+use Rattle.std.proofs.lemmas.Slice.Eq.{bytes_eq-Decides}
+use Rattle.std.proofs.Math.Bool.{or-false}
 use Rattle.ps_base.specs.LetterCase.{folded, is_same_name}
 use Rattle.ps_model.specs.declared.kind.Kind.{Kind}
 use Rattle.ps_model.specs.Blocks.{block}
@@ -11,8 +16,8 @@ use Rattle.ps_parser.specs.Tree.{FactorTree, Signal, Pin, Literal, Time, Group, 
 use Rattle.ps_derived.specs.declared.declared.Declared.{Declared}
 use Rattle.ps_derived.specs.Bodies.{same, first_declared, inputs}
 use Rattle.ps_derived.specs.Dotted.{inside, statement_inside}
-use Rattle.ps_derived.specs.Flat.{FlatBlock, DerivedInstance, instance_of, output_spelt, output_read, factor_flat, product_flat, sum_flat, argument_flat, input_assigned, call_flat, statement_flat}
-use Rattle.ps_by_name.specs.Paths.{at, copy_at}
+use Rattle.ps_derived.specs.Flat.{FlatBlock, DerivedInstance, instance_if, instance_of, output_spelt, output_read, factor_flat, product_flat, sum_flat, argument_flat, input_assigned, call_flat, statement_flat}
+use Rattle.ps_by_name.specs.Paths.{at, copy_at, is_among}
 use Rattle.ps_by_name.specs.Reading.{Scan, Before, Reading, nothing, and_then, drives, calls, signal_seen, output_seen, factor_value, product_value, sum_value}
 use Rattle.ps_by_name.specs.Equations.{Callee, argument_value, actual_of, given, actuals, kind_at, HasMoved, Moves, inputs_driven, call_leaves, statement_leaves, statements_leave, dotted_seen, reading_at, InputsHold, CallHolds, StatementHolds, StatementsHold}
 use Rattle.ps_by_name.specs.Texts.{plain}
@@ -20,6 +25,9 @@ use Rattle.ps_by_name.proofs.Walk.{then_nothing, then_then, leave_append, hold_a
 use Rattle.ps_nested.specs.Nested.{callee_of}
 use Rattle.ps_nested.proofs.PathNames.{at_inside, at_same, copy_same}
 use Rattle.ps_nested.proofs.Inside.{all_leave_inside, all_hold_inside}
+use Rattle.ps_nested.proofs.Plainly.{HasNoDot, own_name, one_copy}
+use Rattle.ps_nested.proofs.FirstInputs.{IsInputOf, inputs_are, never_both}
+use Rattle.ps_nested.proofs.FineCalls.{OutputRead, FactorFine, ProductFine, SumFine, StatementFine}
 use Rattle.ps_nested.proofs.Pairs.{Pair, laid_of, bodies, Seen, no_instance, instance, instance_there, callee_seen, seen, instance_is, callee_of_is, spelt_same}
 
 -- ---- equivalences
@@ -29,6 +37,10 @@ both f g = (λ h. (f.0 h.0, g.0 h.1), λ h. (f.1 h.0, g.1 h.1))
 
 pub through : {A B C : Type 0} → (A ↔ B) → (B ↔ C) → A ↔ C
 through f g = (λ a. g.0 (f.0 a), λ c. f.1 (g.1 c))
+
+all_push : {X : Type 0} (P : X → Type 0) (xs : List X) (x : X) → AllByRecursion P xs → P x → AllByRecursion P (xs ++ x ∷ [])
+all_push P [] x h one = (one, tt)
+all_push P (y ∷ xs) x h one = (h.0, all_push P xs x h.1 one)
 
 pub same_type : (A B : Type 0) → ◌≡◌ {A = Type 0} A B → A ↔ B
 same_type A B e = subst (λ X. A ↔ X) e (λ a. a, λ a. a)
@@ -129,15 +141,108 @@ module _ (ps : List Pair) (ds : List Declared) (path : List ℕ) where
   inputs_leave g args [] = refl
   inputs_leave g args (x ∷ xs) = (λ i. and_then (input_driven g args x i) (inputs_leave g args xs i))
 
-  inputs_hold : (scan : Scan) (before : Before) (g : Name) (args : List ArgumentTree) (xs : List Name) →
-      ◌≡◌ {A = Type 0} (InputsHold who path scan before (copy_at path g) args xs) (StatementsHold plain path scan before (map (assigned g args) xs))
-  inputs_hold scan before g args [] = refl
-  inputs_hold scan before g args (x ∷ xs) =
-      let o = find (λ a. same x a.pin) args in
-      let one = ap (λ p. ◌≡◌ {A = Bool} (scan.new.signal p) (argument_value (nested scan before) o)) (sym (at_inside path g x)) ∙ argument_laid scan before o (inside g x) in
-      let rest = inputs_hold scan (and_then before (drives (at (copy_at path g) x))) g args xs
-      ∙ ap (λ l. StatementsHold plain path scan (and_then before l) (map (assigned g args) xs)) (sym (input_driven g args x)) in
-      (λ i. one i × rest i)
+  -- one more input of a copy
+  more_driven : (copy : List ℕ) (xs : List Name) (x : Name) → inputs_driven copy (xs ++ x ∷ []) ≡ and_then (inputs_driven copy xs) (drives (at copy x))
+  more_driven copy [] x = then_nothing (drives (at copy x))
+  more_driven copy (y ∷ xs) x = ap (and_then (drives (at copy y))) (more_driven copy xs x) ∙ sym (then_then (drives (at copy y)) (inputs_driven copy xs) (drives (at copy x)))
+
+  none_called : (copy : List ℕ) (xs : List Name) → (inputs_driven copy xs).called ≡ []
+  none_called copy [] = refl
+  none_called copy (x ∷ xs) = none_called copy xs
+
+  unlike : (p q : List ℕ) → (p ≡ q → ⊥) → bytes_eq p q ≡ false
+  unlike p q apart = by (bytes_eq p q) refl
+    where
+      by : (b : Bool) → bytes_eq p q ≡ b → b ≡ false
+      by true h = absurd (apart ((bytes_eq-Decides p q).0 h))
+      by false h = refl
+
+  none_driven : (copy p : List ℕ) (P : Name → Type 0) (xs : List Name) → AllByRecursion P xs → ((x : Name) → P x → p ≡ at copy x → ⊥) → is_among p (inputs_driven copy xs).driven ≡ false
+  none_driven copy p P [] all apart = refl
+  none_driven copy p P (x ∷ xs) all apart = (λ i. unlike p (at copy x) (apart x all.0) i || none_driven copy p P xs all.1 apart i)
+
+  -- ---- arguments are read alike before and after the inputs of the copy
+
+  module _ (scan : Scan) (before : Before) (n g : Name) (is : folded g.text ≡ folded n.text) (block : FlatBlock)
+      (here : flat_instance n ≡ Some (record { name = g; block = block })) (plain_ : HasNoDot (folded n.text))
+      (xs : List Name) (of_block : AllByRecursion (IsInputOf block.declared) xs) where
+    abbrev after : Before
+    after = and_then before (inputs_driven (copy_at path g) xs)
+
+    seen_alike : (p : List ℕ) → is_among p (inputs_driven (copy_at path g) xs).driven ≡ false → signal_seen scan before p ≡ signal_seen scan after p
+    seen_alike p none =
+        ap (λ b. if b then scan.new.signal p else scan.old.signal p)
+        (sym (list_any-append (bytes_eq p) before.driven (inputs_driven (copy_at path g) xs).driven ∙ ap (λ b. is_among p before.driven || b) none ∙ or-false (is_among p before.driven)))
+
+    output_alike : (p pin : List ℕ) → output_seen scan before p pin ≡ output_seen scan after p pin
+    output_alike p pin =
+        ap (λ l. if is_among p l then scan.new.output p pin else scan.old.output p pin)
+        (sym (ap (λ l. before.called ++ l) (none_called (copy_at path g) xs) ∙ append-nil before.called))
+
+    own_apart : (m : Name) → HasNoDot (folded m.text) → is_among (at path m) (inputs_driven (copy_at path g) xs).driven ≡ false
+    own_apart m plain_m = none_driven (copy_at path g) (at path m) (IsInputOf block.declared) xs of_block (λ x input e. own_name path m g x plain_m e)
+
+    output_apart : (m q : Name) → HasNoDot (folded m.text) → OutputRead q (flat_instance m) → is_among (at (copy_at path m) q) (inputs_driven (copy_at path g) xs).driven ≡ false
+    output_apart m q plain_m output = none_driven (copy_at path g) (at (copy_at path m) q) (IsInputOf block.declared) xs of_block apart
+      where
+        apart : (x : Name) → IsInputOf block.declared x → at (copy_at path m) q ≡ at (copy_at path g) x → ⊥
+        apart x input e =
+            let one = one_copy path m q g x plain_m (subst HasNoDot (sym is) plain_) e in
+            let same_instance : flat_instance m ≡ flat_instance n = ap (λ t. instance_if (laid_of ps) (find (λ d. bytes_eq t (folded d.name.text)) ds)) (one.0 ∙ is) in
+            never_both block.declared q x one.1 (subst (OutputRead q) (same_instance ∙ here) output) input
+
+    dotted_alike : (m q : Name) → HasNoDot (folded m.text) → OutputRead q (flat_instance m) → (s : Seen m) →
+        dotted_seen who path scan before m q (callee_seen m s) ≡ dotted_seen who path scan after m q (callee_seen m s)
+    dotted_alike m q plain_m output no_instance = output_alike (at path m) (folded q.text)
+    dotted_alike m q plain_m output (instance h e p) = seen_alike (at (copy_at path m) q) (output_apart m q plain_m output)
+
+    mutual
+      factor_alike : (f : FactorTree) → FactorFine (laid_of ps) ds f → factor_value (nested scan before) f ≡ factor_value (nested scan after) f
+      factor_alike (Signal m) fine = seen_alike (at path m) (own_apart m fine)
+      factor_alike (Pin m q) fine =
+          ap (dotted_seen who path scan before m q) (callee_of_is ps m ds) ∙ dotted_alike m q fine.0 fine.1 (seen ps ds m)
+          ∙ sym (ap (dotted_seen who path scan after m q) (callee_of_is ps m ds))
+      factor_alike (Literal b p) fine = refl
+      factor_alike (Time t p) fine = refl
+      factor_alike (Group s) fine = sum_alike s fine
+
+      product_alike : (p : ProductTree) → ProductFine (laid_of ps) ds p → product_value (nested scan before) p ≡ product_value (nested scan after) p
+      product_alike no_factor fine = refl
+      product_alike (factor f fs) fine = (λ i. factor_alike f fine.0 i && product_alike fs fine.1 i)
+
+      sum_alike : (s : SumTree) → SumFine (laid_of ps) ds s → sum_value (nested scan before) s ≡ sum_value (nested scan after) s
+      sum_alike no_product fine = refl
+      sum_alike (product p qs) fine = (λ i. product_alike p fine.0 i || sum_alike qs fine.1 i)
+
+    argument_alike : (args : List ArgumentTree) (test : ArgumentTree → Bool) → AllByRecursion (λ (a : ArgumentTree). SumFine (laid_of ps) ds a.value) args →
+        argument_value (nested scan before) (find test args) ≡ argument_value (nested scan after) (find test args)
+    argument_alike [] test fine = refl
+    argument_alike (a ∷ args) test fine = by (test a) (argument_alike args test fine.1)
+      where
+        by : (b : Bool) → argument_value (nested scan before) (find test args) ≡ argument_value (nested scan after) (find test args) →
+            argument_value (nested scan before) (cond b (Some a) (find test args)) ≡ argument_value (nested scan after) (cond b (Some a) (find test args))
+        by true rest = sum_alike a.value fine.0
+        by false rest = rest
+
+  module _ (scan : Scan) (before : Before) (n g : Name) (is : folded g.text ≡ folded n.text) (block : FlatBlock)
+      (here : flat_instance n ≡ Some (record { name = g; block = block })) (plain_ : HasNoDot (folded n.text))
+      (args : List ArgumentTree) (fine : AllByRecursion (λ (a : ArgumentTree). SumFine (laid_of ps) ds a.value) args) where
+    inputs_hold : (given_ xs : List Name) → AllByRecursion (IsInputOf block.declared) given_ → AllByRecursion (IsInputOf block.declared) xs →
+        ◌≡◌ {A = Type 0} (InputsHold who path scan before (copy_at path g) args xs)
+        (StatementsHold plain path scan (and_then before (inputs_driven (copy_at path g) given_)) (map (assigned g args) xs))
+    inputs_hold given_ [] were are = refl
+    inputs_hold given_ (x ∷ xs) were are =
+        let o = find (λ a. same x a.pin) args in
+        let after_ = and_then before (inputs_driven (copy_at path g) given_) in
+        let one = ap (λ p. ◌≡◌ {A = Bool} (scan.new.signal p) (argument_value (nested scan before) o)) (sym (at_inside path g x))
+        ∙ ap (◌≡◌ {A = Bool} (scan.new.signal (at path (inside g x)))) (argument_alike scan before n g is block here plain_ given_ were args (λ a. same x a.pin) fine)
+        ∙ argument_laid scan after_ o (inside g x) in
+        let moved : and_then before (inputs_driven (copy_at path g) (given_ ++ x ∷ [])) ≡ and_then after_ (statement_leaves plain path (assigned g args x)) =
+        ap (and_then before) (more_driven (copy_at path g) given_ x) ∙ sym (then_then before (inputs_driven (copy_at path g) given_) (drives (at (copy_at path g) x)))
+        ∙ ap (and_then after_) (sym (input_driven g args x)) in
+        let rest = inputs_hold (given_ ++ x ∷ []) xs (all_push (IsInputOf block.declared) given_ x were are.0) are.1
+        ∙ ap (λ l. StatementsHold plain path scan l (map (assigned g args) xs)) moved in
+        (λ i. one i × rest i)
 
   -- ---- a call
 
@@ -157,12 +262,15 @@ module _ (ps : List Pair) (ds : List Declared) (path : List ℕ) where
   call_leaves_as n args (instance g is p) = copy_leaves n g is args p
 
   copy_holds : (scan : Scan) (before : Before) (n g : Name) (is : folded g.text ≡ folded n.text) (args : List ArgumentTree) (p : Pair) →
+      flat_instance n ≡ Some (record { name = g; block = p.laid }) → StatementFine (laid_of ps) ds (Call n args) →
       CallHolds who path scan before n args (callee_seen n (instance g is p)) ↔ StatementsHold plain path scan before (copied g args p)
-  copy_holds scan before n g is args p =
+  copy_holds scan before n g is args p here fine =
       let given_ = map (assigned g args) (inputs p.laid.declared) in
       let inside_ = map (statement_inside g) p.laid.flat.statements in
       let front = same_type _ _
-      ((λ i. InputsHold who path scan before (copy_same path n g (sym is) i) args (sym p.meant.inputs_are i)) ∙ inputs_hold scan before g args (inputs p.laid.declared)) in
+      ((λ i. InputsHold who path scan before (copy_same path n g (sym is) i) args (sym p.meant.inputs_are i)) 
+      ∙ inputs_hold scan before n g is p.laid here fine.0 args fine.1 [] (inputs p.laid.declared) tt (inputs_are p.laid.declared)
+      ∙ ap (λ l. StatementsHold plain path scan l given_) (then_nothing before)) in
       let back = through
       (same_type _ _
       ((λ i. p.body.Holds scan (copy_same path n g (sym is) i) (and_then before (inputs_driven (copy_same path n g (sym is) i) (sym p.meant.inputs_are i))))
@@ -173,9 +281,10 @@ module _ (ps : List Pair) (ds : List Declared) (path : List ℕ) where
       through (both front back) (joined.1, joined.0)
 
   call_holds_as : (scan : Scan) (before : Before) (n : Name) (args : List ArgumentTree) (s : Seen n) →
+      flat_instance n ≡ instance_there n s → StatementFine (laid_of ps) ds (Call n args) →
       CallHolds who path scan before n args (callee_seen n s) ↔ StatementsHold plain path scan before (call_flat (laid_of ps) ds n args (instance_there n s))
-  call_holds_as scan before n args no_instance = through (same_type _ _ (moves_laid scan before args (at path n) (kind_at scan.instances (at path n)))) alone
-  call_holds_as scan before n args (instance g is p) = copy_holds scan before n g is args p
+  call_holds_as scan before n args no_instance here fine = through (same_type _ _ (moves_laid scan before args (at path n) (kind_at scan.instances (at path n)))) alone
+  call_holds_as scan before n args (instance g is p) here fine = copy_holds scan before n g is args p here fine
 
   -- ---- statements
 
@@ -185,13 +294,13 @@ module _ (ps : List Pair) (ds : List Declared) (path : List ℕ) where
       ap (call_leaves path n) (callee_of_is ps n ds) ∙ call_leaves_as n args (seen ps ds n)
       ∙ sym (ap (λ o. statements_leave plain path (call_flat (laid_of ps) ds n args o)) (instance_is ps n ds))
 
-  pub statement_holds_flat : (scan : Scan) (before : Before) (s : StatementTree) →
+  pub statement_holds_flat : (scan : Scan) (before : Before) (s : StatementTree) → StatementFine (laid_of ps) ds s →
       StatementHolds who path scan before s ↔ StatementsHold plain path scan before (statement_flat (laid_of ps) ds s)
-  statement_holds_flat scan before (Assign (target.Name n) s) = through (same_type _ _ (λ i. scan.new.signal (at path n) ≡ sum_laid scan before s i)) alone
-  statement_holds_flat scan before (Assign (target.Pin n q) s) = alone
-  statement_holds_flat scan before (Call n args) =
+  statement_holds_flat scan before (Assign (target.Name n) s) fine = through (same_type _ _ (λ i. scan.new.signal (at path n) ≡ sum_laid scan before s i)) alone
+  statement_holds_flat scan before (Assign (target.Pin n q) s) fine = alone
+  statement_holds_flat scan before (Call n args) fine =
       through (same_type _ _ (ap (CallHolds who path scan before n args) (callee_of_is ps n ds)))
-      (through (call_holds_as scan before n args (seen ps ds n))
+      (through (call_holds_as scan before n args (seen ps ds n) (instance_is ps n ds) fine)
       (same_type _ _ (sym (ap (λ o. StatementsHold plain path scan before (call_flat (laid_of ps) ds n args o)) (instance_is ps n ds)))))
 
   pub leaves_flat : (ss : List StatementTree) → statements_leave who path ss ≡ statements_leave plain path (flat_map (statement_flat (laid_of ps) ds) ss)
@@ -200,10 +309,10 @@ module _ (ps : List Pair) (ds : List Declared) (path : List ℕ) where
       (λ i. and_then (statement_leaves_flat s i) (leaves_flat ss i))
       ∙ sym (leave_append plain path (statement_flat (laid_of ps) ds s) (flat_map (statement_flat (laid_of ps) ds) ss))
 
-  pub holds_flat : (scan : Scan) (before : Before) (ss : List StatementTree) →
+  pub holds_flat : (scan : Scan) (before : Before) (ss : List StatementTree) → AllByRecursion (StatementFine (laid_of ps) ds) ss →
       StatementsHold who path scan before ss ↔ StatementsHold plain path scan before (flat_map (statement_flat (laid_of ps) ds) ss)
-  holds_flat scan before [] = (λ h. h, λ h. h)
-  holds_flat scan before (s ∷ ss) =
+  holds_flat scan before [] fine = (λ h. h, λ h. h)
+  holds_flat scan before (s ∷ ss) fine =
       let joined = hold_append plain path scan before (statement_flat (laid_of ps) ds s) (flat_map (statement_flat (laid_of ps) ds) ss) in
       let moved = same_type _ _ (ap (λ l. StatementsHold plain path scan (and_then before l) (flat_map (statement_flat (laid_of ps) ds) ss)) (statement_leaves_flat s)) in
-      through (both (statement_holds_flat scan before s) (through (holds_flat scan (and_then before (statement_leaves who path s)) ss) moved)) (joined.1, joined.0)
+      through (both (statement_holds_flat scan before s fine.0) (through (holds_flat scan (and_then before (statement_leaves who path s)) ss fine.1) moved)) (joined.1, joined.0)

@@ -1,12 +1,14 @@
 -- Nested is flat.
-use Rattle.std.proofs.Common.{◌≡◌, ◌↔◌, ℕ, Bool, true, false, cond, List, [], ◌∷◌, ◌++◌, Option, None, Some, map, filter, slice_get, refl, sym, ap, subst, ◌∙◌, if◌then◌else◌}
-use Rattle.std.specs.List.{flat_map}
+use Rattle.std.proofs.Common.{◌≡◌, ◌↔◌, ℕ, Bool, true, false, cond, List, [], ◌∷◌, ◌++◌, Option, None, Some, map, filter, slice_get, refl, sym, ap, subst, ◌∙◌, append_assoc}
+use Rattle.std.specs.List.{flat_map, AllByRecursion}
 use Rattle.std.proofs.lemmas.List.{append-nil}
 use Rattle.std.proofs.lemmas.List.Elements.{filter-append}
 use Rattle.ps_base.specs.LetterCase.{folded}
 use Rattle.ps_model.specs.Scanning.{State}
 use Rattle.ps_parser.specs.declared.name.Name.{Name}
+use Rattle.ps_parser.specs.declared.heads.Heads.{Heads}
 use Rattle.ps_parser.specs.declared.heads.Heads.TheVariants.{Block, Program}
+use Rattle.ps_parser.specs.Parsing.{IsSourceWithin}
 use Rattle.ps_parser.specs.declared.section.Part.{Part}
 use Rattle.ps_parser.specs.declared.section.Part.TheVariants.{Input, Output, Local}
 use Rattle.ps_parser.specs.declared.section.Declaration.{Declaration}
@@ -20,7 +22,8 @@ use Rattle.ps_names.specs.Uses.{statement_uses, called}
 use Rattle.ps_names.proofs.Distinct.{none_left, none_right}
 use Rattle.ps_derived.specs.declared.declared.Declared.{Declared}
 use Rattle.ps_derived.specs.declared.library.Library.{Library}
-use Rattle.ps_derived.specs.Bodies.{declared_names}
+use Rattle.ps_derived.specs.Bodies.{declared_names, inputs}
+use Rattle.ps_derived.specs.Texts.{IsLibraryWithin}
 use Rattle.ps_derived.specs.Flat.{FlatBlock, block_in, declaration_flat, section_flat, body_flat, block_flat, blocks_flat, flat}
 use Rattle.ps_derived_rules.specs.declared.interface.Interface.{Interface}
 use Rattle.ps_derived_rules.specs.Interfaces.{interface_of}
@@ -35,53 +38,102 @@ use Rattle.ps_by_name.proofs.Whole.{names_are_numbers}
 use Rattle.ps_nested.specs.Nested.{body_of, bodies_of, program_of}
 use Rattle.ps_nested.specs.Laws.{NestedIsFlat}
 use Rattle.ps_nested.proofs.Pairs.{Pair, laid_of, bodies, laid_append, bodies_append}
-use Rattle.ps_nested.proofs.Plainly.{own_name}
-use Rattle.ps_nested.proofs.FineCalls.{statements_fine}
-use Rattle.ps_nested.proofs.FirstInputs.{never_both}
+use Rattle.ps_nested.proofs.FineCalls.{faces, StatementFine, statements_fine}
 use Rattle.ps_nested.proofs.Together.{both, through, leaves_flat, holds_flat}
 use Rattle.ps_nested.proofs.Instances.{HasInstances, AllHave, all_have, block_same, sections_same}
 
 -- ---- function blocks, one after the other
 
+-- the statements of a body are fine over these function blocks
+abbrev BodyFine : List Pair → SourceTree → Type 0
+BodyFine ps s = AllByRecursion (StatementFine (laid_of ps) (declared_names s.sections)) s.statements
+
 -- a function block laid flat over those before it, and what it means
-abbrev pair_of : List Pair → SourceTree → Pair
-pair_of ps s = record {
+abbrev pair_of : (ps : List Pair) (s : SourceTree) → BodyFine ps s → Pair
+pair_of ps s fine = record {
   laid = block_flat (laid_of ps) s;
   body = body_of (bodies ps) s;
   meant = record {
     name = refl;
     inputs_are = refl;
     leaves = λ path. leaves_flat ps (declared_names s.sections) path s.statements;
-    holds = λ scan path before. holds_flat ps (declared_names s.sections) path scan before s.statements;
+    holds = λ scan path before. holds_flat ps (declared_names s.sections) path scan before s.statements fine;
   };
 }
 
-abbrev pairs_of : List Pair → List SourceTree → List Pair
-pairs_of ps [] = ps
-pairs_of ps (s ∷ ss) = pairs_of (ps ++ pair_of ps s ∷ []) ss
+-- each is fine over those before it
+abbrev AllFine : List Pair → List SourceTree → Type 0
+AllFine ps [] = Unit {0}
+AllFine ps (s ∷ ss) = (fine : BodyFine ps s) × AllFine (ps ++ pair_of ps s fine ∷ []) ss
 
-laid_are : (ps : List Pair) (ss : List SourceTree) → blocks_flat (laid_of ps) ss ≡ laid_of (pairs_of ps ss)
-laid_are ps [] = refl
-laid_are ps (s ∷ ss) = ap (λ bs. blocks_flat bs ss) (sym (laid_append ps (pair_of ps s ∷ []))) ∙ laid_are (ps ++ pair_of ps s ∷ []) ss
+abbrev pairs_of : (ps : List Pair) (ss : List SourceTree) → AllFine ps ss → List Pair
+pairs_of ps [] fine = ps
+pairs_of ps (s ∷ ss) fine = pairs_of (ps ++ pair_of ps s fine.0 ∷ []) ss fine.1
 
-bodies_are : (ps : List Pair) (ss : List SourceTree) → bodies_of (bodies ps) ss ≡ bodies (pairs_of ps ss)
-bodies_are ps [] = refl
-bodies_are ps (s ∷ ss) = ap (λ bs. bodies_of bs ss) (sym (bodies_append ps (pair_of ps s ∷ []))) ∙ bodies_are (ps ++ pair_of ps s ∷ []) ss
+laid_are : (ps : List Pair) (ss : List SourceTree) (fine : AllFine ps ss) → blocks_flat (laid_of ps) ss ≡ laid_of (pairs_of ps ss fine)
+laid_are ps [] fine = refl
+laid_are ps (s ∷ ss) fine = ap (λ bs. blocks_flat bs ss) (sym (laid_append ps (pair_of ps s fine.0 ∷ []))) ∙ laid_are (ps ++ pair_of ps s fine.0 ∷ []) ss fine.1
 
--- where their types fit, each has the instances of its flat source
-pairs_have : (names : List Name) (before : List Interface) (ps : List Pair) (ss : List SourceTree) → AllHave ps → blocks_break names before ss ≡ [] → AllHave (pairs_of ps ss)
-pairs_have names before ps [] have h = have
-pairs_have names before ps (s ∷ ss) have h =
+bodies_are : (ps : List Pair) (ss : List SourceTree) (fine : AllFine ps ss) → bodies_of (bodies ps) ss ≡ bodies (pairs_of ps ss fine)
+bodies_are ps [] fine = refl
+bodies_are ps (s ∷ ss) fine = ap (λ bs. bodies_of bs ss) (sym (bodies_append ps (pair_of ps s fine.0 ∷ []))) ∙ bodies_are (ps ++ pair_of ps s fine.0 ∷ []) ss fine.1
+
+-- ---- what bodies see of them
+
+faces_append : (bs cs : List FlatBlock) → faces (bs ++ cs) ≡ faces bs ++ faces cs
+faces_append [] cs = refl
+faces_append (b ∷ bs) cs = ap (λ l. record { name = b.name; scope = b.declared; inputs = inputs b.declared } ∷ l) (faces_append bs cs)
+
+one_more_face : (ps : List Pair) (s : SourceTree) (fine : BodyFine ps s) → faces (laid_of (ps ++ pair_of ps s fine ∷ [])) ≡ faces (laid_of ps) ++ interface_of s ∷ []
+one_more_face ps s fine = ap faces (laid_append ps (pair_of ps s fine ∷ [])) ∙ faces_append (laid_of ps) (block_flat (laid_of ps) s ∷ [])
+
+faces_are : (ps : List Pair) (ss : List SourceTree) (fine : AllFine ps ss) → faces (laid_of (pairs_of ps ss fine)) ≡ faces (laid_of ps) ++ map interface_of ss
+faces_are ps [] fine = sym (append-nil (faces (laid_of ps)))
+faces_are ps (s ∷ ss) fine =
+    faces_are (ps ++ pair_of ps s fine.0 ∷ []) ss fine.1 ∙ ap (λ l. l ++ map interface_of ss) (one_more_face ps s fine.0)
+    ∙ append_assoc (faces (laid_of ps)) (interface_of s ∷ []) (map interface_of ss)
+
+-- ---- where no rule is broken
+
+-- the parts of what a body that breaks no rule has none of: its types, and its uses of names
+record BodyUnbroken (names : List Name) (before : List Interface) (heads : Heads) (s : SourceTree) : Type 0 where
+  types : flat_map (typed_wrongly heads names before) (declared_names s.sections) ≡ []
+  uses : flat_map (misused before (declared_names s.sections)) (flat_map statement_uses s.statements) ≡ []
+
+body_unbroken : (names : List Name) (before : List Interface) (heads : Heads) (s : SourceTree) → body_breaks names before heads s ≡ [] → BodyUnbroken names before heads s
+body_unbroken names before heads s h =
     let ds = declared_names s.sections in
-    let types = flat_map (typed_wrongly Block names before) ds in
+    let types = flat_map (typed_wrongly heads names before) ds in
     let uses = flat_map (misused before ds) (flat_map statement_uses s.statements) in
     let calls = flat_map (miscalled_by before ds) s.statements in
     let counts = flat_map (called_wrongly before (flat_map called s.statements) (map (λ (d : Declared). d.name) ds)) ds in
-    let body = none_left (body_breaks names before Block s) (blocks_break names (before ++ interface_of s ∷ []) ss) h in
-    let typed = none_left types uses (none_left (types ++ uses) calls (none_left (types ++ uses ++ calls) counts body)) in
-    pairs_have names (before ++ interface_of s ∷ []) (ps ++ pair_of ps s ∷ []) ss
-    (all_have ps (pair_of ps s) have (λ path. block_same ps have path names before s typed))
-    (none_right (body_breaks names before Block s) (blocks_break names (before ++ interface_of s ∷ []) ss) h)
+    let both_ = none_left (types ++ uses) calls (none_left (types ++ uses ++ calls) counts h) in
+    record { types = none_left types uses both_; uses = none_right types uses both_ }
+
+body_fine : (depth : ℕ) (names : List Name) (heads : Heads) (ps : List Pair) (s : SourceTree) → IsSourceWithin depth s → body_breaks names (faces (laid_of ps)) heads s ≡ [] → BodyFine ps s
+body_fine depth names heads ps s within h =
+    statements_fine (laid_of ps) (declared_names s.sections) s.statements within.grammatical.2 (body_unbroken names (faces (laid_of ps)) heads s h).uses
+
+all_fine : (depth : ℕ) (names : List Name) (ps : List Pair) (ss : List SourceTree) → AllByRecursion (IsSourceWithin depth) ss → blocks_break names (faces (laid_of ps)) ss ≡ [] → AllFine ps ss
+all_fine depth names ps [] within h = tt
+all_fine depth names ps (s ∷ ss) within h =
+    let later = blocks_break names (faces (laid_of ps) ++ interface_of s ∷ []) ss in
+    let fine = body_fine depth names Block ps s within.0 (none_left (body_breaks names (faces (laid_of ps)) Block s) later h) in
+    (
+      fine,
+      all_fine depth names (ps ++ pair_of ps s fine ∷ []) ss within.1
+      (ap (λ l. blocks_break names l ss) (one_more_face ps s fine) ∙ none_right (body_breaks names (faces (laid_of ps)) Block s) later h),
+    )
+
+-- where their types fit, each has the instances of its flat source
+pairs_have : (names : List Name) (before : List Interface) (ps : List Pair) (ss : List SourceTree) (fine : AllFine ps ss) → AllHave ps → blocks_break names before ss ≡ [] → AllHave (pairs_of ps ss fine)
+pairs_have names before ps [] fine have h = have
+pairs_have names before ps (s ∷ ss) fine have h =
+    let later = blocks_break names (before ++ interface_of s ∷ []) ss in
+    let body = body_unbroken names before Block s (none_left (body_breaks names before Block s) later h) in
+    pairs_have names (before ++ interface_of s ∷ []) (ps ++ pair_of ps s fine.0 ∷ []) ss fine.1
+    (all_have ps (pair_of ps s fine.0) have (λ path. block_same ps have path names before s body.types))
+    (none_right (body_breaks names before Block s) later h)
 
 -- ---- inputs of the program
 
@@ -149,31 +201,41 @@ other_way es fs a b m = record {
 }
 
 -- the program means what it means laid flat
-program_same : (ps : List Pair) (s : SourceTree) → AllHave ps → MeanTheSame (entries s) (entries (body_flat (laid_of ps) s)) (body_of (bodies ps) s) (plain_body (body_flat (laid_of ps) s))
-program_same ps s have = record {
+program_same : (ps : List Pair) (s : SourceTree) → AllHave ps → BodyFine ps s → MeanTheSame (entries s) (entries (body_flat (laid_of ps) s)) (body_of (bodies ps) s) (plain_body (body_flat (laid_of ps) s))
+program_same ps s have fine = record {
   inputs = program_inputs (laid_of ps) s.sections;
   instances = sections_same ps have [] s.sections;
   leaves = leaves_flat ps (declared_names s.sections) [] s.statements;
-  holds = λ scan before. holds_flat ps (declared_names s.sections) [] scan before s.statements;
+  holds = λ scan before. holds_flat ps (declared_names s.sections) [] scan before s.statements fine;
 }
 
-blocks_fine : (l : Library) → offences l ≡ [] → blocks_break (block_names l.blocks) [] l.blocks ≡ []
-blocks_fine l h =
+-- what the function blocks and the program break, of a text that breaks no rule
+record TextUnbroken (l : Library) : Type 0 where
+  blocks : blocks_break (block_names l.blocks) [] l.blocks ≡ []
+  program : body_breaks (block_names l.blocks) (map interface_of l.blocks) Program l.program ≡ []
+
+text_unbroken : (l : Library) → offences l ≡ [] → TextUnbroken l
+text_unbroken l h =
     let wrong = named_wrongly (block_names l.blocks) in
     let blocks = blocks_break (block_names l.blocks) [] l.blocks in
     let program = body_breaks (block_names l.blocks) (map interface_of l.blocks) Program l.program in
-    none_right wrong blocks (none_left (wrong ++ blocks) program (none_left (wrong ++ blocks ++ program) (too_large l) h))
+    let all = none_left (wrong ++ blocks ++ program) (too_large l) h in
+    record { blocks = none_right wrong blocks (none_left (wrong ++ blocks) program all); program = none_right (wrong ++ blocks) program all }
 
-text_same : (l : Library) → offences l ≡ [] → MeanTheSame (entries l.program) (entries (flat l)) (program_of l) (plain_body (flat l))
-text_same l h =
-    let ps = pairs_of [] l.blocks in
-    subst (λ b. MeanTheSame (entries l.program) (entries (flat l)) b (plain_body (flat l))) (sym (ap (λ bs. body_of bs l.program) (bodies_are [] l.blocks)))
-    (subst (λ bs. MeanTheSame (entries l.program) (entries (body_flat bs l.program)) (body_of (bodies ps) l.program) (plain_body (body_flat bs l.program))) (sym (laid_are [] l.blocks))
-    (program_same ps l.program (pairs_have (block_names l.blocks) [] [] l.blocks tt (blocks_fine l h))))
+text_same : (depth : ℕ) (l : Library) → IsLibraryWithin depth l → offences l ≡ [] → MeanTheSame (entries l.program) (entries (flat l)) (program_of l) (plain_body (flat l))
+text_same depth l within h =
+    let names = block_names l.blocks in
+    let unbroken = text_unbroken l h in
+    let fine = all_fine depth names [] l.blocks within.blocks unbroken.blocks in
+    let ps = pairs_of [] l.blocks fine in
+    let program = body_fine depth names Program ps l.program within.program (ap (λ x. body_breaks names x Program l.program) (faces_are [] l.blocks fine) ∙ unbroken.program) in
+    subst (λ b. MeanTheSame (entries l.program) (entries (flat l)) b (plain_body (flat l))) (sym (ap (λ bs. body_of bs l.program) (bodies_are [] l.blocks fine)))
+    (subst (λ bs. MeanTheSame (entries l.program) (entries (body_flat bs l.program)) (body_of (bodies ps) l.program) (plain_body (body_flat bs l.program))) (sym (laid_are [] l.blocks fine))
+    (program_same ps l.program (pairs_have names [] [] l.blocks fine tt unbroken.blocks) program))
 
 pub nested_is_flat : NestedIsFlat
-nested_is_flat l net unbroken stands old ins dt new =
-    let same = text_same l unbroken in
+nested_is_flat depth l net within unbroken stands old ins dt new =
+    let same = text_same depth l within unbroken in
     let was = by_name (entries (flat l)) old in
     let is = by_name (entries (flat l)) new in
     let names = scanned_same (entries (flat l)) (entries l.program) (plain_body (flat l)) (program_of l) (other_way (entries l.program) (entries (flat l)) (program_of l) (plain_body (flat l)) same) was ins dt is in

@@ -44,18 +44,7 @@ use Rattle.ps_by_name.specs.Texts.{plain, inputs_among, begun}
 use Rattle.ps_by_name.specs.ByName.{by_name, place_of, signal_value}
 use Rattle.ps_by_name.proofs.Walk.{driven_any}
 use Rattle.ps_by_name.proofs.Drives.{read_number, drives_signal}
-use Rattle.ps_by_name.proofs.Seen.{signal_by_name, begun_signal}
-
--- an element with its count, among those that pass
-pub filtered : {X : Type 0} (p : X → Bool) (xs : List X) (i : ℕ) (x : X) → slice_get (filter p xs) i ≡ Some x →
-    (k : ℕ) × (slice_get xs k ≡ Some x) × (p x ≡ true) × (count_by p (take k xs) ≡ i)
-filtered p xs i x h =
-    let inside = slice_get_within (filter p xs) i x h in
-    let all = length-filter p xs in
-    let r = nth p xs i (omega arith) in
-    let there : slice_get (filter p xs) i ≡ Some r.1 = ap (slice_get (filter p xs)) (sym r.4) ∙ filter_at p xs r.0 r.1 r.2 r.3 in
-    let one : r.1 ≡ x = (let q : Some r.1 ≡ Some x = sym there ∙ h in cc) in
-    (r.0, r.2 ∙ ap Some one, ap p (sym one) ∙ r.3, r.4)
+use Rattle.ps_by_name.proofs.Seen.{filtered, signal_by_name, input_number, begun_signal}
 
 module _ (name : List ℕ) (es : List Entry) (ss : List StatementTree) (clean : IsUnbroken es ss) where
   abbrev app : Network
@@ -89,13 +78,6 @@ module _ (name : List ℕ) (es : List Entry) (ss : List StatementTree) (clean : 
   input_signal (Instance v) h = absurd (false≢true h)
   input_signal Nothing h = absurd (false≢true h)
 
-  input_as : (s : Sort) (k : ℕ) → is_input s ≡ true → number_as es s k ≡ inputs (take k es)
-  input_as (InputSignal v) k h = refl
-  input_as (OutputSignal v) k h = absurd (false≢true h)
-  input_as (LocalSignal v) k h = absurd (false≢true h)
-  input_as (Instance v) k h = absurd (false≢true h)
-  input_as Nothing k h = absurd (false≢true h)
-
   -- ---- inputs
 
   -- the map has an input's value under its name
@@ -103,7 +85,7 @@ module _ (name : List ℕ) (es : List Entry) (ss : List StatementTree) (clean : 
   input_by_name w k e at =
       let f = filtered (λ x. is_input x.sort) es k e at in
       let signal = input_signal e.sort f.2 in
-      signal_by_name es w e.name (own f.0 e f.1 signal) ∙ ap (signal_in w) (own_number f.0 e f.1 signal ∙ input_as e.sort f.0 f.2 ∙ f.3)
+      signal_by_name es w e.name (own f.0 e f.1 signal) ∙ ap (signal_in w) (own_number f.0 e f.1 signal ∙ input_number name es ss clean e.sort f.0 f.2 ∙ f.3)
 
   -- each number of an input has its name
   pub input_at : (s : ℕ) → s < net.input_count app → (e : Entry) × (slice_get (inputs_among es) s ≡ Some e)

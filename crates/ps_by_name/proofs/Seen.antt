@@ -8,6 +8,8 @@ use Rattle.std.proofs.lemmas.Bool.{false≢true, ltb-true, lt-ltb, le-ltb}
 use Rattle.std.proofs.lemmas.Bool.Decides.{nat_tests}
 use Rattle.std.proofs.lemmas.List.{take-map, length-map}
 use Rattle.std.proofs.lemmas.List.Folds.{list_any-append}
+use Rattle.std.proofs.lemmas.List.Sums.{length-filter}
+use Rattle.std.proofs.lemmas.Option.{slice_get_within}
 use Rattle.std.proofs.lemmas.List.Quantifiers.{position-Some}
 use Rattle.std.proofs.lemmas.Slice.Eq.{bytes_eq-Decides}
 use Rattle.ps_base.specs.LetterCase.{folded, is_same_name}
@@ -33,7 +35,7 @@ use Rattle.ps_names.proofs.Unbroken.{IsUnbroken}
 use Rattle.ps_names.proofs.Targets.{IsInstance, instance_number, below_all, names_it}
 use Rattle.ps_names.proofs.ReadNames.{IsRead, IsSignal, read_instance}
 use Rattle.ps_names.proofs.OneDriver.{declared_is}
-use Rattle.ps_names.proofs.OneCall.{one_place_of}
+use Rattle.ps_names.proofs.OneCall.{one_place_of, nth}
 use Rattle.ps_names.proofs.FirstPins.{pins_before}
 use Rattle.ps_names.proofs.Drivers.{inputs_are}
 use Rattle.ps_names.proofs.Lists.{any_at, passes_at, in_map, map_at}
@@ -46,16 +48,16 @@ use Rattle.ps_by_name.specs.ByName.{by_name, place_of, signal_value, output_valu
 use Rattle.ps_by_name.proofs.Walk.{driven_any, called_any, at_first}
 use Rattle.ps_by_name.proofs.Drives.{same_test, read_number, drives_signal, calls_instance}
 
--- an element that passed a filter
-pub in_filter : {X : Type 0} (p : X → Bool) (xs : List X) (i : ℕ) (x : X) → slice_get (filter p xs) i ≡ Some x → (k : ℕ) × (slice_get xs k ≡ Some x) × (p x ≡ true)
-in_filter p [] i x h = cc
-in_filter {X = X} p (y ∷ xs) i x h = by (λ j g. in_filter p xs j x g) (p y) refl i h
-  where
-    by : ((j : ℕ) → slice_get (filter p xs) j ≡ Some x → (k : ℕ) × (slice_get xs k ≡ Some x) × (p x ≡ true)) → (b : Bool) → p y ≡ b → (i : ℕ) →
-        slice_get (cond b (y ∷ filter p xs) (filter p xs)) i ≡ Some x → (k : ℕ) × (slice_get (y ∷ xs) k ≡ Some x) × (p x ≡ true)
-    by later true e zero g = let same : y ≡ x = cc in (0, g, sym (ap p same) ∙ e)
-    by later true e (suc i) g = let r = later i g in (suc r.0, r.1, r.2)
-    by later false e i g = let r = later i g in (suc r.0, r.1, r.2)
+-- an element with its count, among those that pass
+pub filtered : {X : Type 0} (p : X → Bool) (xs : List X) (i : ℕ) (x : X) → slice_get (filter p xs) i ≡ Some x →
+    (k : ℕ) × (slice_get xs k ≡ Some x) × (p x ≡ true) × (count_by p (take k xs) ≡ i)
+filtered p xs i x h =
+    let inside = slice_get_within (filter p xs) i x h in
+    let all = length-filter p xs in
+    let r = nth p xs i (omega arith) in
+    let there : slice_get (filter p xs) i ≡ Some r.1 = ap (slice_get (filter p xs)) (sym r.4) ∙ filter_at p xs r.0 r.1 r.2 r.3 in
+    let one : r.1 ≡ x = (let q : Some r.1 ≡ Some x = sym there ∙ h in cc) in
+    (r.0, r.2 ∙ ap Some one, ap p (sym one) ∙ r.3, r.4)
 
 -- ---- outputs of a kind
 
@@ -141,7 +143,7 @@ module _ (name : List ℕ) (es : List Entry) (ss : List StatementTree) (clean : 
   not_input (Instance v) k d h = absurd d
   not_input Nothing k d h = absurd d
 
-  input_number : (s : Sort) (k : ℕ) → is_input s ≡ true → number_as es s k ≡ inputs (take k es)
+  pub input_number : (s : Sort) (k : ℕ) → is_input s ≡ true → number_as es s k ≡ inputs (take k es)
   input_number (InputSignal v) k h = refl
   input_number (OutputSignal v) k h = absurd (false≢true h)
   input_number (LocalSignal v) k h = absurd (false≢true h)
@@ -157,7 +159,7 @@ module _ (name : List ℕ) (es : List Entry) (ss : List StatementTree) (clean : 
       there h =
           let r = passes_at (bytes_eq (folded n.text)) (begun es).driven h in
           let e = in_map (λ (x : Entry). folded x.name.text) (inputs_among es) r.0 r.1 r.2 in
-          let f = in_filter (λ x. is_input x.sort) es r.0 e.0 e.1 in
+          let f = filtered (λ x. is_input x.sort) es r.0 e.0 e.1 in
           let one : folded n.text ≡ folded e.0.name.text = (bytes_eq-Decides (folded n.text) r.1).0 r.3 ∙ sym e.2 in
           let place = one_place_of name es ss clean f.0 t.at e.0 t.entry f.1 t.is (sym one ∙ names_it es n t.at t.entry t.declared t.is) in
           let entry : e.0 ≡ t.entry = (let q : Some e.0 ≡ Some t.entry = sym f.1 ∙ ap (slice_get es) place ∙ t.is in cc) in

@@ -7,3 +7,4 @@ pub mod Pairs
 pub mod Together
 pub mod Instances
 pub mod Whole
+pub mod WholeRuns

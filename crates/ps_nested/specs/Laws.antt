@@ -1,7 +1,9 @@
--- Nested is flat.
-use Rattle.std.specs.Prelude.{◌≡◌, ◌↔◌, ℕ, Bool, List, []}
+-- Nested is flat: of one scan, and of runs of scans.
+use Rattle.std.specs.Prelude.{◌≡◌, ◌↔◌, ℕ, Bool, List, [], map}
+use Rattle.std.specs.List.{AllByRecursion}
 use Rattle.ps_model.specs.Network.{Network}
 use Rattle.ps_model.specs.Scanning.{State, Solves}
+use Rattle.ps_model.specs.Meaning.{Item, Meaning}
 use Rattle.ps_names.specs.Names.{entries}
 use Rattle.ps_names.specs.Stands.{Stands}
 use Rattle.ps_derived.specs.declared.library.Library.{Library}
@@ -11,6 +13,7 @@ use Rattle.ps_derived_rules.specs.BlockRules.{offences}
 use Rattle.ps_by_name.specs.ByName.{by_name}
 use Rattle.ps_by_name.specs.Laws.{HasSizes}
 use Rattle.ps_nested.specs.Nested.{Nested}
+use Rattle.ps_nested.specs.Runs.{TextMeaning}
 
 -- Of a text of the grammar that breaks no rule on function blocks, where its flat source stands for an application: a state
 -- solves the equations of the application exactly where it has its sizes and, by its dotted names, is what a scan of the text
@@ -19,3 +22,10 @@ abbrev pub NestedIsFlat : Type 0
 NestedIsFlat = (depth : ℕ) (l : Library) (net : Network) → IsLibraryWithin depth l → offences l ≡ [] → Stands (flat l) net →
     (old : State) (ins : List Bool) (dt : ℕ) (new : State) →
     Solves net old ins dt new ↔ (HasSizes net new × Nested l (by_name (entries (flat l)) old) ins dt (by_name (entries (flat l)) new))
+
+-- Of such a text: states are what a list of scans and restarts means of the application exactly where they have its sizes and
+-- are, by its dotted names, what the list means of the text.
+abbrev pub NestedRunsAreFlat : Type 0
+NestedRunsAreFlat = (depth : ℕ) (l : Library) (net : Network) → IsLibraryWithin depth l → offences l ≡ [] → Stands (flat l) net →
+    (items : List Item) (ws : List State) →
+    Meaning net items ws ↔ (AllByRecursion (HasSizes net) ws × TextMeaning l items (map (by_name (entries (flat l))) ws))

@@ -1,10 +1,15 @@
-// The law of texts with function blocks.
+// The laws of texts with function blocks.
 
-ghost use Rattle.ps_nested.specs.Laws.{NestedIsFlat};
+ghost use Rattle.ps_nested.specs.Laws.{NestedIsFlat, NestedRunsAreFlat};
 
-/// Nested is flat: of a text that breaks no rule on function blocks, where its flat source stands for an application, a state
-/// solves the equations of a scan of the application exactly where it has its sizes and is, by its dotted names, what a scan of
-/// the text leaves.
+/// Nested is flat: of a text of the grammar that breaks no rule on function blocks, where its flat source stands for an
+/// application, a state solves the equations of a scan of the application exactly where it has its sizes and is, by its
+/// dotted names, what a scan of the text leaves.
 pub fn nested_is_flat()
     ensures { NestedIsFlat }
+{}
+
+/// Runs of scans and restarts of such a text mean what they mean of the application of its flat source.
+pub fn nested_runs_are_flat()
+    ensures { NestedRunsAreFlat }
 {}

@@ -11,6 +11,7 @@ use Rattle.ps_lexer.specs.Spelling.{continues_name}
 use Rattle.ps_parser.specs.declared.name.Name.{Name}
 use Rattle.ps_parser.specs.Names.{IsPlainName}
 use Rattle.ps_by_name.specs.Paths.{at, copy_at}
+use Rattle.ps_nested.specs.Laws.{written, PathsAreApart}
 
 -- no byte is a dot
 abbrev pub HasNoDot : List ℕ → Type 0
@@ -63,3 +64,23 @@ pub one_copy : (path : List ℕ) (m q n x : Name) → HasNoDot (folded m.text) �
 one_copy path m q n x h k e =
     split_once (folded m.text) (folded n.text) (folded q.text) (folded x.text) h k
     (append_cancel_left path (folded m.text ++ 46 ∷ folded q.text) (folded n.text ++ 46 ∷ folded x.text) (sym (below path m q) ∙ e ∙ below path n x))
+
+-- ---- whole paths
+
+written_apart : (p q : List (List ℕ)) → AllByRecursion HasNoDot p → AllByRecursion HasNoDot q → (m n : List ℕ) → HasNoDot m → HasNoDot n → written m p ≡ written n q → m ∷ p ≡ n ∷ q
+written_apart [] [] hp hq m n hm hn e = ap (λ x. x ∷ []) e
+written_apart [] (b ∷ q) hp hq m n hm hn e = absurd (never_dotted m n (written b q) hm e)
+written_apart (a ∷ p) [] hp hq m n hm hn e = absurd (never_dotted n m (written a p) hn (sym e))
+written_apart (a ∷ p) (b ∷ q) hp hq m n hm hn e =
+    let split = split_once m n (written a p) (written b q) hm hn e in
+    let rest = written_apart p q hp.1 hq.1 a b hp.0 hq.0 split.1 in
+    (λ i. split.0 i ∷ rest i)
+
+all_plain : (names : List Name) → AllByRecursion (λ (n : Name). IsPlainName n.text) names → AllByRecursion HasNoDot (map (λ (n : Name). folded n.text) names)
+all_plain [] h = tt
+all_plain (n ∷ names) h = (plain_name n.text h.0, all_plain names h.1)
+
+pub paths_are_apart : PathsAreApart
+paths_are_apart m ms n ns hm hn e =
+    written_apart (map (λ (x : Name). folded x.text) ms) (map (λ (x : Name). folded x.text) ns) (all_plain ms hm.1) (all_plain ns hn.1)
+    (folded m.text) (folded n.text) (plain_name m.text hm.0) (plain_name n.text hn.0) e

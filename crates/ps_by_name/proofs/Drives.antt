@@ -1,9 +1,9 @@
 -- A statement drives the signal of a name, and calls the instance of a name, exactly where its step drives the number.
-use Rattle.std.proofs.Common.{◌≡◌, ℕ, ◌+◌, ◌<◌, ◌≤◌, Bool, true, false, ◌||◌, ◌&&◌, ◌⊎◌, inl, inr, List, [], ◌∷◌, Some, length, take, slice_get, get_or, nat_le, nat_lt, refl, sym, ap, subst, ◌∙◌, arith, take-take}
-use Rattle.std.specs.Prelude.{count_by, sum_by, position, unwrap_or, ◌==◌}
+use Rattle.std.proofs.Common.{◌≡◌, ℕ, ◌+◌, ◌<◌, ◌≤◌, Bool, true, false, ◌||◌, ◌&&◌, ◌⊎◌, inl, inr, List, [], Some, length, take, slice_get, nat_le, nat_lt, refl, sym, ap, subst, ◌∙◌, arith, take-take}
+use Rattle.std.specs.Prelude.{sum_by, position, unwrap_or, ◌==◌}
 use Rattle.std.specs.Option.{option_map}
 use Rattle.std.specs.Str.{bytes_eq}
-use Rattle.std.proofs.lemmas.Bool.{false≢true, cases_order, lt-leb, lt-ltb, le-leb, leb-true, ltb-true, eqb-true, eq-eqb, and_parts, and_from}
+use Rattle.std.proofs.lemmas.Bool.{cases_order, lt-leb, lt-ltb, le-leb, leb-true, ltb-true, eqb-true, eq-eqb, and_parts, and_from}
 use Rattle.std.proofs.lemmas.Bool.Decides.{nat_tests}
 use Rattle.std.proofs.lemmas.List.{get_or-take, length-take-le}
 use Rattle.std.proofs.lemmas.List.Sums.{sum_by_more_le}
@@ -16,7 +16,7 @@ use Rattle.ps_model.specs.Network as net
 use Rattle.ps_model.specs.Network.{Network}
 use Rattle.ps_parser.specs.declared.name.Name.{Name}
 use Rattle.ps_parser.specs.declared.statement.Target.TheVariants.{Name as Whole, Pin as OfPin}
-use Rattle.ps_parser.specs.Tree.{ArgumentTree, SumTree, StatementTree, Assign, Call}
+use Rattle.ps_parser.specs.Tree.{StatementTree, Assign, Call}
 use Rattle.ps_names.specs.declared.entry.Entry.{Entry}
 use Rattle.ps_names.specs.declared.entry.Sort.{Sort}
 use Rattle.ps_names.specs.declared.entry.Sort.TheVariants.{InputSignal, OutputSignal, LocalSignal, Instance, Nothing}

@@ -1,7 +1,6 @@
 -- The equation of a statement by names is that of its step by numbers.
-use Rattle.std.proofs.Common.{◌≡◌, ℕ, suc, ◌+◌, ◌<◌, Bool, true, false, List, [], ◌∷◌, Option, None, Some, length, map, take, slice_get, slice_index_or, refl, sym, ap, subst, ◌∙◌, arith}
+use Rattle.std.proofs.Common.{◌≡◌, ℕ, ◌+◌, ◌<◌, Bool, false, List, [], Some, length, slice_get, slice_index_or, refl, sym, ap, subst, ◌∙◌, arith}
 use Rattle.std.specs.Option.{option_map}
-use Rattle.std.specs.Prelude.{unwrap_or}
 use Rattle.std.proofs.lemmas.Option.{slice_get_within}
 use Rattle.ps_base.specs.LetterCase.{folded}
 use Rattle.ps_model.specs.declared.kind.Kind.{Kind}
@@ -13,7 +12,7 @@ use Rattle.ps_model.specs.Network.{Network}
 use Rattle.ps_model.specs.Scanning.{State, signal_in, block_in, read_at, pins_under, limit_of}
 use Rattle.ps_model.proofs.Once.{element_at}
 use Rattle.ps_parser.specs.declared.name.Name.{Name}
-use Rattle.ps_parser.specs.declared.statement.Target.TheVariants.{Name as Whole, Pin as OfPin}
+use Rattle.ps_parser.specs.declared.statement.Target.TheVariants.{Name as Whole}
 use Rattle.ps_parser.specs.Tree.{SumTree, ArgumentTree, StatementTree, Assign, Call}
 use Rattle.ps_names.specs.declared.entry.Entry.{Entry}
 use Rattle.ps_names.specs.declared.entry.Sort.{Sort}
@@ -32,7 +31,7 @@ use Rattle.ps_by_name.specs.Reading.{Scan, Reading, sum_value}
 use Rattle.ps_by_name.specs.Equations as equations
 use Rattle.ps_by_name.specs.Equations.{reading_at, HasMoved, Moves, StatementHolds, kind_at}
 use Rattle.ps_by_name.specs.Texts.{plain, instances_in}
-use Rattle.ps_by_name.specs.ByName.{by_name, output_numbered}
+use Rattle.ps_by_name.specs.ByName.{by_name}
 use Rattle.ps_by_name.proofs.Seen.{before, signal_by_name, pin_by_name, block_by_name, signal_read, pin_read, first_is, pins_of}
 use Rattle.ps_by_name.proofs.Valued.{sum_is, moved_alike}
 use Rattle.ps_by_name.proofs.KindsFound.{output_is, kind_is}

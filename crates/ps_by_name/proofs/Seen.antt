@@ -1,6 +1,6 @@
 -- What a name reads is what its number reads.
-use Rattle.std.proofs.Common.{◌≡◌, ℕ, zero, suc, ◌+◌, ◌-◌, ◌<◌, ◌≤◌, Bool, true, false, cond, ◌||◌, ◌&&◌, List, [], ◌∷◌, ◌++◌, Option, None, Some, length, map, filter, take, slice_get, nat_le, nat_lt, refl, sym, ap, subst, ◌∙◌, arith, not, if◌then◌else◌, length-append}
-use Rattle.std.specs.Prelude.{count_by, sum_by, position, unwrap_or, codes}
+use Rattle.std.proofs.Common.{◌≡◌, ℕ, ◌+◌, ◌-◌, ◌<◌, ◌≤◌, Bool, true, false, ◌||◌, List, [], ◌∷◌, ◌++◌, Option, None, Some, length, map, filter, take, slice_get, nat_lt, refl, sym, ap, ◌∙◌, arith, not, if◌then◌else◌, length-append}
+use Rattle.std.specs.Prelude.{count_by, sum_by, unwrap_or, codes}
 use Rattle.std.specs.Option.{option_map}
 use Rattle.std.specs.List.{list_any}
 use Rattle.std.specs.Str.{bytes_eq}
@@ -13,7 +13,6 @@ use Rattle.std.proofs.lemmas.Option.{slice_get_within}
 use Rattle.std.proofs.lemmas.List.Quantifiers.{position-Some}
 use Rattle.std.proofs.lemmas.Slice.Eq.{bytes_eq-Decides}
 use Rattle.ps_base.specs.LetterCase.{folded, is_same_name}
-use Rattle.ps_base.specs.declared.failing.Refusal.{Refusal}
 use Rattle.ps_model.specs.declared.kind.Kind.{Kind}
 use Rattle.ps_model.specs.Blocks.{Pin, Output, block, output_count}
 use Rattle.ps_model.proofs.OutputLengths.{output_count_is}
@@ -26,9 +25,9 @@ use Rattle.ps_parser.specs.Tree.{StatementTree}
 use Rattle.ps_names.specs.declared.entry.Entry.{Entry}
 use Rattle.ps_names.specs.declared.entry.Sort.{Sort}
 use Rattle.ps_names.specs.declared.entry.Sort.TheVariants.{InputSignal, OutputSignal, LocalSignal, Instance, Nothing}
-use Rattle.ps_names.specs.Names.{is_input, is_output, is_local, is_instance, declared_at, sort_at, sort_of}
+use Rattle.ps_names.specs.Names.{is_input, sort_at, sort_of}
 use Rattle.ps_names.specs.Offences.{unless}
-use Rattle.ps_names.specs.Limits.{inputs, outputs, locals, outputs_of}
+use Rattle.ps_names.specs.Limits.{inputs}
 use Rattle.ps_names.specs.Rules.{pin_at, puts, has_output, wrong, at_read_pin}
 use Rattle.ps_names.specs.Stands.{number, number_at, number_as, output_at, outputs_before, pin_number, pin_number_at, pin_number_as, action, network_of}
 use Rattle.ps_names.proofs.Unbroken.{IsUnbroken}
@@ -42,9 +41,9 @@ use Rattle.ps_names.proofs.Lists.{any_at, passes_at, in_map, map_at}
 use Rattle.ps_names.proofs.Whole.{filter_at}
 use Rattle.ps_by_name.specs.Paths.{is_among}
 use Rattle.ps_by_name.specs.Reading.{Scan, Before, and_then, signal_seen, output_seen}
-use Rattle.ps_by_name.specs.Equations.{statement_leaves, statements_leave}
+use Rattle.ps_by_name.specs.Equations.{statements_leave}
 use Rattle.ps_by_name.specs.Texts.{plain, inputs_among, begun}
-use Rattle.ps_by_name.specs.ByName.{by_name, place_of, signal_value, output_value, block_value, output_numbered}
+use Rattle.ps_by_name.specs.ByName.{by_name, signal_value, output_value, block_value, output_numbered}
 use Rattle.ps_by_name.proofs.Walk.{driven_any, called_any, at_first}
 use Rattle.ps_by_name.proofs.Drives.{same_test, read_number, drives_signal, calls_instance}
 

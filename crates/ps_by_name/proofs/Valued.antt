@@ -1,5 +1,5 @@
 -- The value of a sum by names is that of its formula by numbers, where no rule is broken in it.
-use Rattle.std.proofs.Common.{◌≡◌, ℕ, zero, suc, ◌+◌, Bool, true, false, ◌||◌, ◌&&◌, List, [], ◌∷◌, ◌++◌, Option, None, Some, map, get_or, refl, sym, ap, ◌∙◌}
+use Rattle.std.proofs.Common.{◌≡◌, ℕ, zero, suc, ◌+◌, Bool, true, false, ◌||◌, ◌&&◌, List, [], ◌∷◌, ◌++◌, Option, None, Some, map, get_or, refl, sym, ◌∙◌}
 use Rattle.std.specs.List.{flat_map, find}
 use Rattle.std.proofs.lemmas.Grind.{flat_map-append}
 use Rattle.ps_base.specs.LetterCase.{is_same_name}
@@ -9,7 +9,7 @@ use Rattle.ps_model.specs.declared.kind.Ty.TheVariants as ty
 use Rattle.ps_model.specs.Blocks as blocks
 use Rattle.ps_model.specs.Blocks.{block, moved}
 use Rattle.ps_model.specs.Formula.{Formula, Formulas, no_operand, operand, value, all_true, any_true}
-use Rattle.ps_model.specs.Action.{Actual, free, literal, time, wired}
+use Rattle.ps_model.specs.Action.{Actual, free, literal, wired}
 use Rattle.ps_model.specs.Scanning.{pin_at, pin_value, pins_under, time_value, times_at, limit_of}
 use Rattle.ps_parser.specs.declared.name.Name.{Name}
 use Rattle.ps_parser.specs.Tree.{FactorTree, Signal, Pin, Literal, Time, Group, ProductTree, no_factor, factor, SumTree, no_product, product, ArgumentTree}
@@ -19,7 +19,7 @@ use Rattle.ps_names.specs.Uses.{Use, gives, factor_uses, product_uses, sum_uses,
 use Rattle.ps_names.specs.Rules.{broken_by, at_read, at_read_pin}
 use Rattle.ps_names.specs.Stands as stands
 use Rattle.ps_names.specs.Stands.{number, pin_number, all_joined, any_joined, factor_formula, factor_formulas, product_formulas, sum_formula}
-use Rattle.ps_names.proofs.Distinct.{none_left, none_right, none_at}
+use Rattle.ps_names.proofs.Distinct.{none_left, none_right}
 use Rattle.ps_names.proofs.Lists.{found_at}
 use Rattle.ps_names.proofs.Unbroken.{none_inside}
 use Rattle.ps_by_name.specs.Reading.{Reading, factor_value, product_value, sum_value}

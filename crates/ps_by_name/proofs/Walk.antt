@@ -1,5 +1,5 @@
 -- What stands before each statement of a list.
-use Rattle.std.proofs.Common.{◌≡◌, ◌↔◌, ℕ, zero, suc, Bool, true, false, List, [], ◌∷◌, ◌++◌, Some, map, take, slice_get, refl, sym, ap, subst, ◌∙◌, append_assoc, ◌||◌}
+use Rattle.std.proofs.Common.{◌≡◌, ◌↔◌, ℕ, zero, suc, Bool, List, [], ◌∷◌, ◌++◌, Some, map, take, slice_get, refl, sym, ap, subst, ◌∙◌, append_assoc, ◌||◌}
 use Rattle.std.specs.List.{list_any}
 use Rattle.std.proofs.lemmas.List.{append-nil}
 use Rattle.std.proofs.lemmas.List.Folds.{list_any-append}
@@ -7,7 +7,7 @@ use Rattle.ps_parser.specs.declared.name.Name.{Name}
 use Rattle.ps_parser.specs.Tree.{StatementTree}
 use Rattle.ps_by_name.specs.Paths.{is_among}
 use Rattle.ps_by_name.specs.Reading.{Scan, Before, nothing, and_then}
-use Rattle.ps_by_name.specs.Equations.{Body, Callee, statement_leaves, statements_leave, StatementHolds, StatementsHold}
+use Rattle.ps_by_name.specs.Equations.{Callee, statement_leaves, statements_leave, StatementHolds, StatementsHold}
 
 -- ---- what stands before, joined
 
@@ -44,7 +44,7 @@ module _ (callee : Name → Callee) (path : List ℕ) where
     all_hold before (x ∷ ss) each = (
       subst (λ b. StatementHolds callee path scan b x) (then_nothing before) (each zero x refl),
       all_hold (and_then before (statement_leaves callee path x)) ss
-      (λ k s at. subst (λ b. StatementHolds callee path scan b s) (sym (then_then before (statement_leaves callee path x) (statements_leave callee path (take k ss)))) (each (suc k) s at)),
+          (λ k s at. subst (λ b. StatementHolds callee path scan b s) (sym (then_then before (statement_leaves callee path x) (statements_leave callee path (take k ss)))) (each (suc k) s at)),
     )
 
   -- ---- a test of each statement says what they leave
@@ -86,8 +86,7 @@ module _ (callee : Name → Callee) (path : List ℕ) (scan : Scan) where
   )
   hold_append before (x ∷ xs) ys =
       let rest = hold_append (and_then before (statement_leaves callee path x)) xs ys in
-      let moved = then_then before (statement_leaves callee path x) (statements_leave callee path xs) in
-      (
+      let moved = then_then before (statement_leaves callee path x) (statements_leave callee path xs) in (
         λ h. let r = rest.0 h.1 in ((h.0, r.0), subst (λ b. StatementsHold callee path scan b ys) moved r.1),
         λ h. (h.0.0, rest.1 (h.0.1, subst (λ b. StatementsHold callee path scan b ys) (sym moved) h.1)),
       )

@@ -1,9 +1,8 @@
 -- By names a source means what its application means.
-use Rattle.std.proofs.Common.{◌≡◌, ◌↔◌, ℕ, ◌+◌, ◌<◌, ◌≤◌, Bool, true, false, List, [], ◌∷◌, Some, map, take, slice_get, slice_index_or, refl, sym, ap, subst, ◌∙◌, arith}
+use Rattle.std.proofs.Common.{◌≡◌, ◌↔◌, ℕ, ◌+◌, ◌<◌, Bool, true, false, List, [], Some, slice_get, slice_index_or, sym, ap, subst, ◌∙◌, arith}
 use Rattle.std.proofs.lemmas.List.{length-map}
 use Rattle.std.proofs.lemmas.Option.{slice_get_within}
 use Rattle.std.proofs.lemmas.Bool.{false≢true, eqb-true}
-use Rattle.ps_base.specs.LetterCase.{folded}
 use Rattle.ps_model.specs.Formula.{Formula, value}
 use Rattle.ps_model.specs.Blocks.{moved, outs, output_count}
 use Rattle.ps_model.specs.Network as net
@@ -12,11 +11,11 @@ use Rattle.ps_model.specs.Action.{Action, Actual, assigns, calls}
 use Rattle.ps_model.specs.Scanning.{State, Solves, signal_in, block_in, read_at, pins_under, limit_of}
 use Rattle.ps_parser.specs.declared.name.Name.{Name}
 use Rattle.ps_parser.specs.declared.statement.Target.TheVariants.{Name as Whole, Pin as OfPin}
-use Rattle.ps_parser.specs.Tree.{SumTree, ArgumentTree, StatementTree, Assign, Call, SourceTree}
+use Rattle.ps_parser.specs.Tree.{ArgumentTree, StatementTree, Assign, Call, SourceTree}
 use Rattle.ps_names.specs.declared.entry.Entry.{Entry}
 use Rattle.ps_names.specs.Names.{entries, sort_of}
 use Rattle.ps_names.specs.Rules.{offences}
-use Rattle.ps_names.specs.Stands.{Stands, number, kind_of, sort_or, sum_formula, actuals, signal_named, action, network}
+use Rattle.ps_names.specs.Stands.{number, kind_of, sort_or, sum_formula, actuals, signal_named, action, network}
 use Rattle.ps_names.proofs.Unbroken.{IsUnbroken, unbroken}
 use Rattle.ps_names.proofs.Lists.{in_map, map_at}
 use Rattle.ps_names.proofs.OneDriver.{no_pin_at, callee_at, instances_are}

@@ -1,5 +1,5 @@
 -- The map that a state of an application is, by the names of its source.
-use Rattle.std.specs.Prelude.{ℕ, Bool, false, List, ◌+◌, ◌-◌, Option, None, Some, position, count_by, length, take, unwrap_or}
+use Rattle.std.specs.Prelude.{ℕ, Bool, false, List, ◌+◌, ◌-◌, Option, Some, position, length, unwrap_or}
 use Rattle.std.specs.Str.{bytes_eq}
 use Rattle.ps_base.specs.LetterCase.{folded}
 use Rattle.ps_model.specs.declared.kind.Kind.{Kind}
@@ -8,7 +8,7 @@ use Rattle.ps_model.specs.Pins.{pin_names}
 use Rattle.ps_model.specs.Scanning.{State, signal_in, block_in}
 use Rattle.ps_names.specs.declared.entry.Entry.{Entry}
 use Rattle.ps_names.specs.declared.entry.Sort.{Sort}
-use Rattle.ps_names.specs.declared.entry.Sort.TheVariants.{InputSignal, OutputSignal, LocalSignal, Instance, Nothing}
+use Rattle.ps_names.specs.declared.entry.Sort.TheVariants.{InputSignal, OutputSignal, LocalSignal, Instance}
 use Rattle.ps_names.specs.Names.{sort_at}
 use Rattle.ps_names.specs.Stands.{number_at, outputs_before}
 use Rattle.ps_by_name.specs.Reading.{Values}

@@ -14,10 +14,10 @@ use Rattle.ps_model.specs.Scanning.{pins_under, limit_of}
 use Rattle.ps_parser.specs.declared.name.Name.{Name}
 use Rattle.ps_parser.specs.declared.statement.Target.{Target}
 use Rattle.ps_parser.specs.declared.statement.Target.TheVariants as target
-use Rattle.ps_parser.specs.Tree.{FactorTree, Time, ProductTree, no_factor, factor, SumTree, no_product, product, ArgumentTree, StatementTree, Assign, Call}
+use Rattle.ps_parser.specs.Tree.{Time, no_factor, factor, SumTree, no_product, product, ArgumentTree, StatementTree, Assign, Call}
 use Rattle.ps_names.specs.Names.{same}
 use Rattle.ps_by_name.specs.Paths.{at, copy_at}
-use Rattle.ps_by_name.specs.Reading.{Values, Scan, Before, Reading, nothing, drives, calls, and_then, signal_seen, output_seen, sum_value}
+use Rattle.ps_by_name.specs.Reading.{Scan, Before, Reading, nothing, drives, calls, and_then, signal_seen, output_seen, sum_value}
 
 -- A body, as those see it that use it: its name and its inputs, and of a copy of it at a path the instances of the thirteen
 -- kinds in it, what its statements drive and call, and what holds of a scan where this stands before them.

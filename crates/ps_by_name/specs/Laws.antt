@@ -1,5 +1,5 @@
 -- By names a source means what its application means.
-use Rattle.std.specs.Prelude.{◌≡◌, ◌↔◌, ℕ, Bool, List, [], length}
+use Rattle.std.specs.Prelude.{◌≡◌, ◌↔◌, ℕ, Bool, List, length}
 use Rattle.ps_model.specs.Network.{Network, signal_count, instance_count}
 use Rattle.ps_model.specs.Scanning.{State, Solves}
 use Rattle.ps_parser.specs.Tree.{SourceTree}

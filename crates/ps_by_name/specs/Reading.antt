@@ -1,5 +1,5 @@
 -- What the equations of a scan speak of, and what a body reads.
-use Rattle.std.specs.Prelude.{ℕ, Bool, true, false, List, [], ◌∷◌, ◌++◌, ◌&&◌, ◌||◌, Option, None, Some, if◌then◌else◌}
+use Rattle.std.specs.Prelude.{ℕ, Bool, true, false, List, [], ◌∷◌, ◌++◌, ◌&&◌, ◌||◌, if◌then◌else◌}
 use Rattle.ps_model.specs.declared.named.Instance.{Instance}
 use Rattle.ps_model.specs.Blocks.{Block_state}
 use Rattle.ps_parser.specs.declared.name.Name.{Name}

@@ -1,7 +1,6 @@
 -- Calls of a text of the grammar that breaks no rule: names have no dot, and behind the dot of a derived instance stands an output.
-use Rattle.std.proofs.Common.{◌≡◌, Bool, true, false, List, [], ◌∷◌, ◌++◌, Option, None, Some, map, refl, sym, ap, subst, ◌∙◌, if◌then◌else◌, cond}
-use Rattle.std.specs.List.{flat_map, find, AllByRecursion}
-use Rattle.std.specs.Option.{option_map}
+use Rattle.std.proofs.Common.{◌≡◌, Bool, true, false, List, [], ◌∷◌, ◌++◌, Option, None, Some, refl, sym, ◌∙◌, if◌then◌else◌, cond}
+use Rattle.std.specs.List.{flat_map, AllByRecursion}
 use Rattle.std.proofs.lemmas.Grind.{flat_map-append}
 use Rattle.ps_base.specs.LetterCase.{folded}
 use Rattle.ps_base.specs.declared.failing.Refusal.{Refusal}
@@ -12,13 +11,13 @@ use Rattle.ps_parser.specs.Tree.{FactorTree, Signal, Pin, Literal, Time, Group, 
 use Rattle.ps_parser.specs.Names.{IsPlainName}
 use Rattle.ps_parser.specs.Whole.{FactorWhole, ProductWhole, MoreFactorsWhole, SumWhole, MoreProductsWhole, ArgumentWhole, StatementWhole}
 use Rattle.ps_names.specs.Offences.{unless}
-use Rattle.ps_names.specs.Uses.{Use, reads_pin, runs, gives, factor_uses, product_uses, sum_uses, value_uses, argument_uses, statement_uses}
+use Rattle.ps_names.specs.Uses.{Use, runs, gives, factor_uses, product_uses, sum_uses, value_uses, argument_uses, statement_uses}
 use Rattle.ps_names.proofs.Distinct.{none_left, none_right}
 use Rattle.ps_derived.specs.declared.declared.Declared.{Declared}
 use Rattle.ps_derived.specs.Bodies.{same, is_local, is_output, first_declared, inputs}
 use Rattle.ps_derived.specs.Flat.{FlatBlock, DerivedInstance, block_named, block_in, instance_by, instance_if, instance_of}
 use Rattle.ps_derived_rules.specs.declared.interface.Interface.{Interface}
-use Rattle.ps_derived_rules.specs.Interfaces.{interface_named, derived_if, derived_of, is_in, has_output}
+use Rattle.ps_derived_rules.specs.Interfaces.{interface_named, derived_if, is_in}
 use Rattle.ps_derived_rules.specs.BlockRules.{misread, misused}
 use Rattle.ps_nested.proofs.Plainly.{HasNoDot, plain_name}
 

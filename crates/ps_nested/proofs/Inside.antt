@@ -1,18 +1,18 @@
 -- What statements say inside an instance is what they say in its copy.
-use Rattle.std.proofs.Common.{◌≡◌, ℕ, Bool, true, false, cond, List, [], ◌∷◌, ◌++◌, Option, None, Some, map, refl, sym, ap, ◌∙◌, ◌&&◌, ◌||◌}
+use Rattle.std.proofs.Common.{◌≡◌, ℕ, Bool, true, false, cond, List, [], ◌∷◌, Option, None, Some, map, refl, ap, ◌∙◌, ◌&&◌, ◌||◌}
 use Rattle.std.specs.List.{find}
 use Rattle.ps_base.specs.LetterCase.{folded, is_same_name}
 use Rattle.ps_model.specs.declared.kind.Kind.{Kind}
 use Rattle.ps_model.specs.Blocks.{block}
-use Rattle.ps_model.specs.Action.{Actual, literal}
+use Rattle.ps_model.specs.Action.{literal}
 use Rattle.ps_parser.specs.declared.name.Name.{Name}
 use Rattle.ps_parser.specs.declared.statement.Target.{Target}
 use Rattle.ps_parser.specs.declared.statement.Target.TheVariants as target
 use Rattle.ps_parser.specs.Tree.{FactorTree, Signal, Pin, Literal, Time, Group, ProductTree, no_factor, factor, SumTree, no_product, product, ArgumentTree, StatementTree, Assign, Call}
-use Rattle.ps_derived.specs.Dotted.{inside, factor_inside, product_inside, sum_inside, target_inside, argument_inside, statement_inside}
+use Rattle.ps_derived.specs.Dotted.{factor_inside, product_inside, sum_inside, target_inside, argument_inside, statement_inside}
 use Rattle.ps_by_name.specs.Paths.{at, copy_at}
 use Rattle.ps_by_name.specs.Reading.{Scan, Before, Reading, and_then, drives, calls, signal_seen, output_seen, factor_value, product_value, sum_value}
-use Rattle.ps_by_name.specs.Equations.{actual_of, given, actuals, kind_at, HasMoved, Moves, target_leaves, statement_leaves, statements_leave, reading_at, AssignmentHolds, StatementHolds, StatementsHold}
+use Rattle.ps_by_name.specs.Equations.{actual_of, given, actuals, kind_at, HasMoved, Moves, target_leaves, statement_leaves, statements_leave, reading_at, StatementHolds, StatementsHold}
 use Rattle.ps_by_name.specs.Texts.{plain}
 use Rattle.ps_nested.proofs.PathNames.{at_inside}
 

@@ -1,5 +1,5 @@
 -- The instances of the thirteen kinds in a text are those of its flat source.
-use Rattle.std.proofs.Common.{◌≡◌, ℕ, Bool, true, false, cond, ◌||◌, List, [], ◌∷◌, ◌++◌, Option, None, Some, map, filter, refl, sym, ap, ◌∙◌, if◌then◌else◌}
+use Rattle.std.proofs.Common.{◌≡◌, ℕ, Bool, true, false, ◌||◌, List, [], ◌∷◌, ◌++◌, Option, None, Some, map, refl, sym, ap, ◌∙◌, if◌then◌else◌}
 use Rattle.std.specs.List.{flat_map}
 use Rattle.std.specs.Prelude.{codes}
 use Rattle.std.specs.Option.{option_map}
@@ -27,15 +27,15 @@ use Rattle.ps_names.proofs.Distinct.{none_left, none_right}
 use Rattle.ps_derived.specs.declared.declared.Declared.{Declared}
 use Rattle.ps_derived.specs.Bodies.{is_input, is_output, is_local, declared_as, declares, section_declares, declared_names}
 use Rattle.ps_derived.specs.Dotted.{inside, declaration_inside}
-use Rattle.ps_derived.specs.Flat.{FlatBlock, block_in, declarations_in, copy_declares, declaration_flat, section_flat, body_flat, block_flat}
+use Rattle.ps_derived.specs.Flat.{FlatBlock, block_in, declarations_in, copy_declares, declaration_flat, section_flat, block_flat}
 use Rattle.ps_derived_rules.specs.declared.interface.Interface.{Interface}
-use Rattle.ps_derived_rules.specs.BlockRules.{names_signal, fits_in, typed_wrongly}
+use Rattle.ps_derived_rules.specs.BlockRules.{names_signal, typed_wrongly}
 use Rattle.ps_by_name.specs.Paths.{at, copy_at}
-use Rattle.ps_by_name.specs.Equations.{Callee, standard, derived}
+use Rattle.ps_by_name.specs.Equations.{standard, derived}
 use Rattle.ps_by_name.specs.Texts.{instance_at, instances_in}
 use Rattle.ps_nested.specs.Nested.{callee_in, instances_by, instances_of}
 use Rattle.ps_nested.proofs.PathNames.{at_inside}
-use Rattle.ps_nested.proofs.Pairs.{Pair, laid_of, bodies, Looked, nothing, found, laid_there, callee_there, either, look_named, look_in, laid_in, callee_is}
+use Rattle.ps_nested.proofs.Pairs.{Pair, laid_of, bodies, Looked, nothing, found, laid_there, callee_there, either, look_named, laid_in, callee_is}
 
 -- what these declarations declare as locals
 abbrev pub as_locals : List Declaration → List Entry

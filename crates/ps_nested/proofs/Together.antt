@@ -1,6 +1,6 @@
 -- The statements of a body say what its flat statements say.
 use Rattle.std.proofs.Common.{◌≡◌, ◌↔◌, ℕ, Bool, true, false, cond, List, [], ◌∷◌, ◌++◌, Option, None, Some, map, refl, sym, ap, subst, ◌∙◌, ◌&&◌, ◌||◌, if◌then◌else◌}
-use Rattle.std.specs.List.{flat_map, find, list_any, AllByRecursion}
+use Rattle.std.specs.List.{flat_map, find, AllByRecursion}
 use Rattle.std.specs.Str.{bytes_eq}
 use Rattle.std.proofs.lemmas.List.{append-nil}
 use Rattle.std.proofs.lemmas.List.Folds.{list_any-append}
@@ -9,7 +9,7 @@ use Rattle.std.proofs.Math.Bool.{or-false}
 use Rattle.ps_base.specs.LetterCase.{folded, is_same_name}
 use Rattle.ps_model.specs.declared.kind.Kind.{Kind}
 use Rattle.ps_model.specs.Blocks.{block}
-use Rattle.ps_model.specs.Action.{Actual, literal}
+use Rattle.ps_model.specs.Action.{literal}
 use Rattle.ps_parser.specs.declared.name.Name.{Name}
 use Rattle.ps_parser.specs.declared.statement.Target.TheVariants as target
 use Rattle.ps_parser.specs.Tree.{FactorTree, Signal, Pin, Literal, Time, Group, ProductTree, no_factor, factor, SumTree, no_product, product, ArgumentTree, StatementTree, Assign, Call}
@@ -18,7 +18,7 @@ use Rattle.ps_derived.specs.Bodies.{same, first_declared, inputs}
 use Rattle.ps_derived.specs.Dotted.{inside, statement_inside}
 use Rattle.ps_derived.specs.Flat.{FlatBlock, DerivedInstance, instance_if, instance_of, output_spelt, output_read, factor_flat, product_flat, sum_flat, argument_flat, input_assigned, call_flat, statement_flat}
 use Rattle.ps_by_name.specs.Paths.{at, copy_at, is_among}
-use Rattle.ps_by_name.specs.Reading.{Scan, Before, Reading, nothing, and_then, drives, calls, signal_seen, output_seen, factor_value, product_value, sum_value}
+use Rattle.ps_by_name.specs.Reading.{Scan, Before, Reading, and_then, drives, calls, signal_seen, output_seen, factor_value, product_value, sum_value}
 use Rattle.ps_by_name.specs.Equations.{Callee, argument_value, actual_of, given, actuals, kind_at, HasMoved, Moves, inputs_driven, call_leaves, statement_leaves, statements_leave, dotted_seen, reading_at, InputsHold, CallHolds, StatementHolds, StatementsHold}
 use Rattle.ps_by_name.specs.Texts.{plain}
 use Rattle.ps_by_name.proofs.Walk.{then_nothing, then_then, leave_append, hold_append}
@@ -268,7 +268,7 @@ module _ (ps : List Pair) (ds : List Declared) (path : List ℕ) where
       let given_ = map (assigned g args) (inputs p.laid.declared) in
       let inside_ = map (statement_inside g) p.laid.flat.statements in
       let front = same_type _ _
-      ((λ i. InputsHold who path scan before (copy_same path n g (sym is) i) args (sym p.meant.inputs_are i)) 
+      ((λ i. InputsHold who path scan before (copy_same path n g (sym is) i) args (sym p.meant.inputs_are i))
       ∙ inputs_hold scan before n g is p.laid here fine.0 args fine.1 [] (inputs p.laid.declared) tt (inputs_are p.laid.declared)
       ∙ ap (λ l. StatementsHold plain path scan l given_) (then_nothing before)) in
       let back = through

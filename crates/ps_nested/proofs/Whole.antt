@@ -1,10 +1,9 @@
 -- Nested is flat.
-use Rattle.std.proofs.Common.{◌≡◌, ◌↔◌, ℕ, Bool, true, false, cond, List, [], ◌∷◌, ◌++◌, Option, None, Some, map, filter, slice_get, refl, sym, ap, subst, ◌∙◌, append_assoc}
+use Rattle.std.proofs.Common.{◌≡◌, ◌↔◌, ℕ, Bool, cond, List, [], ◌∷◌, ◌++◌, Option, None, Some, map, slice_get, refl, sym, ap, subst, ◌∙◌, append_assoc}
 use Rattle.std.specs.List.{flat_map, AllByRecursion}
 use Rattle.std.proofs.lemmas.List.{append-nil}
 use Rattle.std.proofs.lemmas.List.Elements.{filter-append}
 use Rattle.ps_base.specs.LetterCase.{folded}
-use Rattle.ps_model.specs.Scanning.{State}
 use Rattle.ps_parser.specs.declared.name.Name.{Name}
 use Rattle.ps_parser.specs.declared.heads.Heads.{Heads}
 use Rattle.ps_parser.specs.declared.heads.Heads.TheVariants.{Block, Program}
@@ -31,16 +30,15 @@ use Rattle.ps_derived_rules.specs.BlockRules.{typed_wrongly, misused, miscalled_
 use Rattle.ps_by_name.specs.Paths.{is_among}
 use Rattle.ps_by_name.specs.Reading.{Values, Scan, Before, and_then}
 use Rattle.ps_by_name.specs.Equations.{Body}
-use Rattle.ps_by_name.specs.Texts.{instances_in, plain_body, inputs_among, begun, scan_of, Scanned}
+use Rattle.ps_by_name.specs.Texts.{plain_body, inputs_among, begun, scan_of, Scanned}
 use Rattle.ps_by_name.specs.ByName.{by_name}
-use Rattle.ps_by_name.specs.Laws.{HasSizes}
 use Rattle.ps_by_name.proofs.Whole.{names_are_numbers}
 use Rattle.ps_nested.specs.Nested.{body_of, bodies_of, program_of}
 use Rattle.ps_nested.specs.Laws.{NestedIsFlat}
 use Rattle.ps_nested.proofs.Pairs.{Pair, laid_of, bodies, laid_append, bodies_append}
 use Rattle.ps_nested.proofs.FineCalls.{faces, StatementFine, statements_fine}
 use Rattle.ps_nested.proofs.Together.{both, through, leaves_flat, holds_flat}
-use Rattle.ps_nested.proofs.Instances.{HasInstances, AllHave, all_have, block_same, sections_same}
+use Rattle.ps_nested.proofs.Instances.{AllHave, all_have, block_same, sections_same}
 
 -- ---- function blocks, one after the other
 
@@ -118,11 +116,10 @@ all_fine : (depth : ℕ) (names : List Name) (ps : List Pair) (ss : List SourceT
 all_fine depth names ps [] within h = tt
 all_fine depth names ps (s ∷ ss) within h =
     let later = blocks_break names (faces (laid_of ps) ++ interface_of s ∷ []) ss in
-    let fine = body_fine depth names Block ps s within.0 (none_left (body_breaks names (faces (laid_of ps)) Block s) later h) in
-    (
+    let fine = body_fine depth names Block ps s within.0 (none_left (body_breaks names (faces (laid_of ps)) Block s) later h) in (
       fine,
       all_fine depth names (ps ++ pair_of ps s fine ∷ []) ss within.1
-      (ap (λ l. blocks_break names l ss) (one_more_face ps s fine) ∙ none_right (body_breaks names (faces (laid_of ps)) Block s) later h),
+          (ap (λ l. blocks_break names l ss) (one_more_face ps s fine) ∙ none_right (body_breaks names (faces (laid_of ps)) Block s) later h),
     )
 
 -- where their types fit, each has the instances of its flat source
@@ -186,9 +183,9 @@ scanned_same : (es fs : List Entry) (a b : Body) → MeanTheSame es fs a b → (
 scanned_same es fs a b m old ins dt new h = record {
   inputs = λ k e at. h.inputs k e (ap (λ l. slice_get l k) m.inputs ∙ at);
   statements =
-    subst (b.Holds (scan_of b old dt new) []) (begun_same es fs m.inputs)
-    (subst (λ x. b.Holds (record { old = old; new = new; dt = dt; instances = x }) [] (begun es)) m.instances
-    ((m.holds (scan_of a old dt new) (begun es)).0 h.statements));
+      subst (b.Holds (scan_of b old dt new) []) (begun_same es fs m.inputs)
+      (subst (λ x. b.Holds (record { old = old; new = new; dt = dt; instances = x }) [] (begun es)) m.instances
+      ((m.holds (scan_of a old dt new) (begun es)).0 h.statements));
   undriven = λ p none. h.undriven p ((λ i. is_among p (and_then (begun_same es fs m.inputs i) (m.leaves i)).driven) ∙ none);
 }
 

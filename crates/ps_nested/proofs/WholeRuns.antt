@@ -1,29 +1,23 @@
 -- Runs of scans of a text are runs of scans of the application of its flat source.
-use Rattle.std.proofs.Common.{◌≡◌, ◌↔◌, ℕ, zero, suc, Bool, false, List, [], ◌∷◌, Option, None, Some, map, replicate, get_or, ◌+◌, refl, sym, ap, subst, ◌∙◌}
+use Rattle.std.proofs.Common.{◌≡◌, ◌↔◌, ℕ, zero, suc, Bool, false, List, [], ◌∷◌, Option, None, Some, map, replicate, get_or, ◌+◌, refl, sym, ap, subst}
 use Rattle.std.specs.List.{AllByRecursion}
-use Rattle.std.specs.Option.{option_map}
-use Rattle.std.specs.Prelude.{slice_get}
-use Rattle.ps_model.specs.Blocks.{Block_state, idle}
+use Rattle.ps_model.specs.Blocks.{idle}
 use Rattle.ps_model.specs.Network.{Network, signal_count, instance_count}
 use Rattle.ps_model.specs.Scanning.{State, Solves}
-use Rattle.ps_model.specs.Meaning.{Item, scan, restart, Past, nothing, last, first_state, old_state, passed, Runs, Meaning}
+use Rattle.ps_model.specs.Meaning.{Item, scan, restart, Past, nothing, last, first_state, old_state, passed, Runs}
 use Rattle.ps_names.specs.declared.entry.Entry.{Entry}
 use Rattle.ps_names.specs.declared.entry.Sort.{Sort}
 use Rattle.ps_names.specs.declared.entry.Sort.TheVariants.{InputSignal, OutputSignal, LocalSignal, Instance, Nothing}
 use Rattle.ps_names.specs.Names.{entries, sort_at}
-use Rattle.ps_names.specs.Stands.{Stands, number_at, outputs_before}
+use Rattle.ps_names.specs.Stands.{number_at, outputs_before}
 use Rattle.ps_derived.specs.declared.library.Library.{Library}
-use Rattle.ps_derived.specs.Texts.{IsLibraryWithin}
 use Rattle.ps_derived.specs.Flat.{flat}
-use Rattle.ps_derived_rules.specs.BlockRules.{offences}
-use Rattle.ps_by_name.specs.Reading.{Values}
 use Rattle.ps_by_name.specs.ByName.{by_name, place_of, signal_value, output_value, block_value, output_numbered}
 use Rattle.ps_by_name.specs.Laws.{HasSizes}
 use Rattle.ps_nested.specs.Nested.{Nested}
 use Rattle.ps_nested.specs.Runs as text
 use Rattle.ps_nested.specs.Runs.{blank, Earlier, old_values, time_passed, TextRuns}
 use Rattle.ps_nested.specs.Laws.{NestedRunsAreFlat}
-use Rattle.ps_nested.proofs.Together.{through}
 use Rattle.ps_nested.proofs.Whole.{nested_is_flat}
 
 -- a list of one value has it everywhere
@@ -114,8 +108,7 @@ module _ (l : Library) (net : Network)
   runs_same past (scan now ins ∷ items) [] = (λ h. absurd h, λ h. absurd h.1)
   runs_same past (scan now ins ∷ items) (w ∷ ws) =
       let here = one_scan past now ins w in
-      let rest = runs_same (last now w) items ws in
-      (
+      let rest = runs_same (last now w) items ws in (
         λ h. let a = here.0 h.0 in let b = rest.0 h.1 in ((a.0, b.0), (a.1, b.1)),
         λ h. (here.1 (h.0.0, h.1.0), rest.1 (h.0.1, h.1.1)),
       )

@@ -6,7 +6,7 @@ use Rattle.std.specs.List.{flat_map}
 use Rattle.ps_model.specs.declared.named.Instance.{Instance}
 use Rattle.ps_parser.specs.declared.name.Name.{Name}
 use Rattle.ps_parser.specs.declared.section.Part.{Part}
-use Rattle.ps_parser.specs.declared.section.Part.TheVariants.{Input, Output, Local}
+use Rattle.ps_parser.specs.declared.section.Part.TheVariants.{Local}
 use Rattle.ps_parser.specs.Tree.{SourceTree}
 use Rattle.ps_names.specs.Names.{entry_of, entries}
 use Rattle.ps_derived.specs.declared.declared.Declared.{Declared}

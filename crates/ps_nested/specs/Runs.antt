@@ -1,5 +1,5 @@
 -- Runs of scans of a text with function blocks: what a list of scans and restarts means, with the equations of the text.
-use Rattle.std.specs.Prelude.{◌≡◌, ℕ, Bool, false, List, [], ◌∷◌, ◌-◌}
+use Rattle.std.specs.Prelude.{◌≡◌, ℕ, false, List, [], ◌∷◌, ◌-◌}
 use Rattle.ps_model.specs.Blocks.{idle}
 use Rattle.ps_model.specs.Meaning.{Item, scan, restart}
 use Rattle.ps_derived.specs.declared.library.Library.{Library}

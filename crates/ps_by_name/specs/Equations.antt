@@ -1,5 +1,8 @@
 -- The equations of the statements of a body, in the copy at a path: those of a scan of an application, with names in the place
 -- of numbers, and with what stands before a statement given. The copy of a function block has the equations of its own body.
+-- The position of a statement is the list of the numbers of the calls that lead to it and then its own number, and what stands
+-- before it is what has a smaller position. So before a statement of a copy stand all that stands before the copy's call, the
+-- inputs of the copy, and the statements before it in the body, each with all that its call drives.
 use Rattle.std.specs.Prelude.{◌≡◌, ℕ, Bool, false, List, [], ◌∷◌, ◌+◌, Option, None, Some, map, length, slice_get, slice_index_or}
 use Rattle.std.specs.Option.{option_map}
 use Rattle.std.specs.List.{find}
@@ -66,7 +69,7 @@ pub record HasMoved (scan : Scan) (p : List ℕ) (kind : Kind) (args : List Actu
   pub shows : (j : ℕ) (pin : List ℕ) → slice_get (pin_names kind) (length (block kind).inputs + j) ≡ Some pin →
       scan.new.output p (folded pin) ≡ slice_index_or (outs kind (scan.new.block p).code (scan.new.block p).mode) j false
 
--- the same, where the path is that of an instance
+-- the same, where the path is that of an instance; a text that stands for an application calls no other name
 abbrev pub Moves : Scan → List ℕ → Reading → List ArgumentTree → Option Kind → Type 0
 Moves scan p reading args None = Unit {0}
 Moves scan p reading args (Some kind) = HasMoved scan p kind (actuals reading kind args)
@@ -83,7 +86,7 @@ abbrev pub call_leaves : List ℕ → Name → Callee → Before
 call_leaves path n standard = calls (at path n)
 call_leaves path n (derived b) = and_then (inputs_driven (copy_at path n) b.inputs) (b.leaves (copy_at path n))
 
--- what an assignment drives; a pin is no target of a text that stands
+-- what an assignment drives; a text that stands for an application has no pin as a target
 abbrev pub target_leaves : List ℕ → Target → Before
 target_leaves path (target.Name n) = drives (at path n)
 target_leaves path (target.Pin n q) = nothing

@@ -1,0 +1,10 @@
+pub mod PathNames
+pub mod Inside
+pub mod Plainly
+pub mod FirstInputs
+pub mod FineCalls
+pub mod Pairs
+pub mod Together
+pub mod Instances
+pub mod Whole
+pub mod WholeRuns

@@ -20,6 +20,7 @@ pub fn votes_exactly()
 pub fn spoiled_seat_is_outvoted(app: &App)
     ensures { Accepted app.now → (setup : Setup) → IsSetupOf app.now setup → SpoiledSeatIsOutvoted app.now (machines_in setup) }
 {
+    app.sound();
     stack_code_keeps_the_meaning(app);
     equation_code_keeps_the_meaning(app);
     decision_code_keeps_the_meaning(app);
@@ -30,6 +31,7 @@ pub fn spoiled_seat_is_outvoted(app: &App)
 pub fn mended_seats(app: &App)
     ensures { Accepted app.now → (setup : Setup) → IsSetupOf app.now setup → MendedSeats app.now (machines_in setup) }
 {
+    app.sound();
     stack_code_keeps_the_meaning(app);
     equation_code_keeps_the_meaning(app);
     decision_code_keeps_the_meaning(app);

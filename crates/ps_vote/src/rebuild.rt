@@ -1,10 +1,9 @@
 // The cells of a seat that is rebuilt, made from those of another.
 
-ghost use Rattle.std.specs.Prelude.{◌≡◌, ◌+◌, ◌*◌, ◌≤◌, ◌++◌, length, take, drop, slice_index, ℕ, List};
+ghost use Rattle.std.specs.Prelude.{◌≡◌, ◌+◌, ◌*◌, ◌<◌, ◌≤◌, ◌^◌, length, take, drop, slice_index, ℕ, List};
 ghost use Rattle.ps_machine.specs.Bytes.{replaced};
 ghost use Rattle.ps_machine.specs.Channels.Own.{is_remade};
 ghost use Rattle.ps_eqvm.specs.Plain.{complement};
-ghost use Rattle.ps_machine.proofs.Instances.{bytes_at};
 ghost use Rattle.ps_seat.specs.Seats.{meeting};
 ghost use Rattle.ps_vote.specs.Healing.{bytes_from, counted_block, counted_blocks, filled};
 
@@ -75,7 +74,7 @@ fn count_block(bytes: &mut [u8], limit: u32, now: u32)
 // The same for instance i.
 fn count_instance(blocks: &mut [u8], i: usize, limit: u32, now: u32)
     requires { 16 * i + 16 ≤ length blocks.old }
-    ensures { blocks.new ≡ replaced blocks.old (16 * i) (counted_block limit now (bytes_at i blocks.old)) }
+    ensures { blocks.new ≡ replaced blocks.old (16 * i) (counted_block limit now (take 16 (drop (16 * i) blocks.old))) }
 {
     count_block(&mut blocks[16 * i..16 * i + 16], limit, now);
 }

@@ -1,10 +1,10 @@
 -- Without a Spoil the turns of a scan lead to one world, whether channels take turns or one finishes before the other.
-use Rattle.std.proofs.Common.{◌≡◌, ℕ, zero, suc, ◌+◌, ◌<◌, ◌≤◌, true, false, cond, List, [], ◌∷◌, Option, Some, None, refl, ap, ◌∙◌, arith}
+use Rattle.std.proofs.Common.{◌≡◌, ℕ, zero, suc, ◌+◌, ◌≤◌, true, false, cond, List, [], ◌∷◌, Option, Some, None, refl, ap, ◌∙◌, arith}
 use Rattle.std.specs.Prelude.{◌&&◌}
 use Rattle.ps_model.specs.declared.channel.Channel.{Channel}
 use Rattle.ps_model.specs.declared.channel.Channel.TheVariants.{A, B}
-use Rattle.ps_machine.specs.Machines.{Machine, turned}
-use Rattle.ps_machine.specs.Channels.{Channel_state, after_turn, ended}
+use Rattle.ps_machine.specs.Machines.{turned}
+use Rattle.ps_machine.specs.Channels.{after_turn, ended}
 use Rattle.ps_world.specs.Worlds.{Machines, World_state, Event, Turn}
 use Rattle.ps_world.specs.Steps.{world_step, after, both_ended}
 use Rattle.ps_world.specs.Orders.{in_turn, next_turn, turn_events}

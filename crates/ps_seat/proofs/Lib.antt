@@ -1,1 +1,3 @@
 pub mod Turning
+pub mod Sized
+pub mod Left

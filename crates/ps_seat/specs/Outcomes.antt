@@ -1,5 +1,5 @@
 -- What a channel that has ended gives of its scan.
-use Rattle.std.specs.Prelude.{List, ℕ, Option, Some, None}
+use Rattle.std.specs.Prelude.{◌≡◌, List, ℕ, length, Option, Some, None}
 use Rattle.ps_model.specs.declared.channel.Progress.{Progress}
 use Rattle.ps_model.specs.declared.channel.Progress.TheVariants.{Running, Done, Trapped}
 use Rattle.ps_model.specs.declared.report.Report.{Report}
@@ -22,3 +22,7 @@ outcome_by Done (Some report) = gives report
 -- the outcome of a channel with these cells
 abbrev pub outcome : Machine → (cells : List ℕ) → Outcome
 outcome m cells = outcome_by (m.progress cells) (m.report cells)
+
+-- every report that the cells of a machine can hold is of so many outputs and instances
+abbrev pub GivesSized : Machine → (outputs instances : ℕ) → Type 0
+GivesSized m outputs instances = (cells : List ℕ) (r : Report) → m.report cells ≡ Some r → (length r.outs ≡ outputs) × (length r.diags ≡ instances)

@@ -2,7 +2,7 @@
 
 ghost use Rattle.std.specs.Prelude.{◌≡◌, ◌≤◌, ◌+◌, false, true, IfOk, IfErr, OnOk, OnErr, is_err, length, nat_lt};
 ghost use Rattle.ps_machine.specs.Channels.{ended};
-ghost use Rattle.ps_machine.specs.Channels.Own.{begins, makes_turn, struck, restarts};
+ghost use Rattle.ps_machine.specs.Channels.Own.{begins, makes_turn, struck, restarts, is_remade};
 ghost use Rattle.ps_machine.specs.StoredChannel.{region_of};
 ghost use Rattle.ps_seat.specs.Seats.{machine_in, meeting, new_seat, stored_in, Finishes};
 ghost use Rattle.ps_seat.specs.Outcomes.{outcome};
@@ -70,6 +70,13 @@ impl<C: ScanMachine> Seat<C> {
         })
     }
 
+    /// The channel as it is.
+    pub fn channel(&self) -> &C
+        ensures { C.stored result.now ≡ stored_in self.now }
+    {
+        &self.channel
+    }
+
     /// The length of a region in bytes.
     pub fn region_len(&self, region: Region) -> u32
         ensures { result ≡ length (region_of region (stored_in self.now)) }
@@ -129,8 +136,15 @@ impl<C: ScanMachine> Seat<C> {
     pub fn restart(&mut self)
         ensures { self.new ≡ meeting C.workings restarts self.old }
     {
-        self.channel.renew(&self.image);
+        self.remake();
         self.turns = 0;
+    }
+
+    /// Remakes the channel from the code as compiled, with blank cells; the turn count stays.
+    pub fn remake(&mut self)
+        ensures { self.new ≡ meeting C.workings (is_remade (C.workings self.old.sizes).blank) self.old }
+    {
+        self.channel.renew(&self.image);
     }
 
     /// Writes the report of a channel that has ended into one of the application's sizes, or answers why

@@ -12,8 +12,8 @@ use Rattle.ps_stackvm.specs.Stands.{StandsA}
 use Rattle.ps_eqvm.specs.Channel.{machine_b}
 use Rattle.ps_eqvm.specs.Code.{code_b}
 use Rattle.ps_eqvm.specs.Stands.{StandsB}
+use Rattle.ps_seat.specs.Outcomes.{GivesSized}
 use Rattle.ps_world.specs.Whole.{Setup, machines_in, IsSetupOf}
-use Rattle.ps_world.specs.Laws.{GivesSized}
 
 pub sized_a : (sizes : Sizes) (image : List ℕ) (budget : ℕ) → GivesSized (machine_a sizes image budget) sizes.outputs sizes.instances
 sized_a sizes image budget cells r h = report_in_sized sizes _ _ r h

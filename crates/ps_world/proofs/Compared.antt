@@ -1,8 +1,6 @@
 -- What a verdict says of the outcomes of the two channels.
-use Rattle.std.proofs.Common.{◌⊎◌, inl, inr, ◌≡◌, ℕ, Bool, true, false, cond, List, length, Option, Some, None, refl, sym, ap, ◌∙◌}
+use Rattle.std.proofs.Common.{◌⊎◌, inl, inr, ◌≡◌, ℕ, Bool, true, false, cond, Option, Some, None, refl, sym, ap, ◌∙◌}
 use Rattle.ps_model.specs.declared.channel.Channel.TheVariants.{A, B}
-use Rattle.ps_model.specs.declared.channel.Progress.{Progress}
-use Rattle.ps_model.specs.declared.channel.Progress.TheVariants.{Running, Done, Trapped}
 use Rattle.ps_model.specs.declared.channel.Cause.{Cause}
 use Rattle.ps_model.specs.declared.channel.Cause.TheVariants.{Differ}
 use Rattle.ps_model.specs.declared.channel.Verdict.{Verdict}
@@ -10,34 +8,17 @@ use Rattle.ps_model.specs.declared.channel.Verdict.TheVariants.{Released, Trippe
 use Rattle.ps_model.specs.declared.report.Report.{Report}
 use Rattle.ps_model.specs.Fields.{first_difference}
 use Rattle.ps_model.proofs.FieldPlaces.{equal_from_no_difference, no_difference_from_equal}
-use Rattle.ps_machine.specs.Machines.{Machine}
 use Rattle.ps_world.specs.Worlds.{Machines, World_state}
-use Rattle.ps_seat.specs.Outcomes.{Outcome, gives, lacks, outcome_by, outcome}
+use Rattle.ps_seat.specs.Outcomes.{Outcome, gives, lacks, outcome, GivesSized}
+use Rattle.ps_seat.proofs.Sized.{IsSized, outcome_sized}
 use Rattle.ps_world.specs.Verdicts.{cause_of, agreed, judged, verdict}
-use Rattle.ps_world.specs.Laws.{GivesSized, Disagree, TripsExactly}
+use Rattle.ps_world.specs.Laws.{Disagree, TripsExactly}
 
 -- both outcomes are this report
 pub record Agree (a b : Outcome) : Type 0 where
   pub report : Report
   pub a_gives : a ≡ gives report
   pub b_gives : b ≡ gives report
-
--- the sizes of a report that a channel gives
-pub record IsSized (outputs instances : ℕ) (o : Outcome) : Type 0 where
-  pub outs : (r : Report) → o ≡ gives r → length r.outs ≡ outputs
-  pub diags : (r : Report) → o ≡ gives r → length r.diags ≡ instances
-
-report_is : (p : Progress) (o : Option Report) (r : Report) → outcome_by p o ≡ gives r → o ≡ Some r
-report_is (Trapped n) o r h = absurd (cc)
-report_is Running o r h = absurd (cc)
-report_is Done None r h = absurd (cc)
-report_is Done (Some q) r h = cc
-
-pub outcome_sized : (m : Machine) (outputs instances : ℕ) (cells : List ℕ) → GivesSized m outputs instances → IsSized outputs instances (outcome m cells)
-outcome_sized m outputs instances cells sized = record {
-  outs = λ r h. (sized cells r (report_is (m.progress cells) (m.report cells) r h)).0;
-  diags = λ r h. (sized cells r (report_is (m.progress cells) (m.report cells) r h)).1;
-}
 
 not_released : (d : Option ℕ) → agreed d ≡ Released → d ≡ None
 not_released None h = refl

@@ -1,25 +1,14 @@
 -- Without a Spoil the turns of a scan lead to one world, whether channels take turns or one finishes before the other.
-use Rattle.std.proofs.Common.{◌≡◌, ℕ, zero, suc, ◌+◌, ◌<◌, ◌≤◌, true, false, cond, List, [], ◌∷◌, Option, Some, None, refl, ap, ◌∙◌, arith}
+use Rattle.std.proofs.Common.{◌≡◌, ℕ, zero, suc, ◌+◌, ◌≤◌, true, false, cond, List, [], ◌∷◌, Option, Some, None, refl, ap, ◌∙◌, arith}
 use Rattle.std.specs.Prelude.{◌&&◌}
 use Rattle.ps_model.specs.declared.channel.Channel.{Channel}
 use Rattle.ps_model.specs.declared.channel.Channel.TheVariants.{A, B}
-use Rattle.ps_machine.specs.Machines.{Machine, turned}
-use Rattle.ps_machine.specs.Channels.{Channel_state, after_turn, ended}
+use Rattle.ps_machine.specs.Machines.{turned}
+use Rattle.ps_machine.specs.Channels.{after_turn, ended}
 use Rattle.ps_world.specs.Worlds.{Machines, World_state, Event, Turn}
 use Rattle.ps_world.specs.Steps.{world_step, after, both_ended}
 use Rattle.ps_world.specs.Orders.{in_turn, next_turn, turn_events}
-use Rattle.ps_world.proofs.Bounded.{turns_are_left}
-
--- a channel has so many turns left
-pub record HasLeft (m : Machine) (s : Channel_state) (k : ℕ) : Type 0 where
-  pub each : (j : ℕ) → j < k → ended m (turned (after_turn m) j s) ≡ false
-  pub over : ended m (turned (after_turn m) k s) ≡ true
-
-one_less : (m : Machine) (s : Channel_state) (k : ℕ) → HasLeft m s (suc k) → HasLeft m (after_turn m s) k
-one_less m s k h = record { each = λ j low. h.each (suc j) (omega arith); over = h.over }
-
-goes : (m : Machine) (s : Channel_state) (k : ℕ) → HasLeft m s (suc k) → ended m s ≡ false
-goes m s k h = h.each 0 (omega arith)
+use Rattle.ps_seat.proofs.Left.{HasLeft, one_less, goes}
 
 -- the world with both channels after so many turns of each
 abbrev pub finished : Machines → (ka kb : ℕ) → World_state → World_state
@@ -76,15 +65,3 @@ turns_finish m (suc left) done last x (suc ka) (suc kb) ha hb few =
         both_ended m x ≡ false → (ch : Channel) → next_turn m last x ≡ ch → after m (turn_events m [] (suc left) done last x) x ≡ finished m (suc ka) (suc kb) x
     by_channel go_a go_b more A next = turns_go_on m left done last x A more next ∙ go_a (omega arith)
     by_channel go_a go_b more B next = turns_go_on m left done last x B more next ∙ go_b (omega arith)
-
-turns_of_turned : (m : Machine) (k : ℕ) (s : Channel_state) → (turned (after_turn m) k s).turns ≡ s.turns + k
-turns_of_turned m zero s = omega arith
-turns_of_turned m (suc k) s = turns_of_turned m k (after_turn m s) ∙ omega arith
-
--- the turns that a channel has left are within its budget
-pub left_within : (m : Machine) (s : Channel_state) (k : ℕ) → s.turns ≤ m.budget → HasLeft m s k → s.turns + k ≤ m.budget
-left_within m s zero few h = omega arith
-left_within m s (suc j) few h =
-    let low = turns_are_left m (turned (after_turn m) j s) (h.each j (omega arith)) in
-    let count = turns_of_turned m j s in
-    omega arith

@@ -12,12 +12,13 @@ use Rattle.ps_model.specs.Meaning.{Past, nothing, old_state, Meaning, Runs, repo
 use Rattle.ps_model.specs.PastAfter.{past_after}
 use Rattle.ps_machine.specs.Keeping.{Keeps}
 use Rattle.ps_world.specs.Worlds.{Machines, World_state, Event, Begin, Turn, Spoil, Compare, Restart, machine, channel, world_0}
-use Rattle.ps_seat.specs.Outcomes.{gives, outcome_by, outcome}
+use Rattle.ps_seat.specs.Outcomes.{gives, outcome_by, outcome, GivesSized}
+use Rattle.ps_seat.proofs.Sized.{outcome_sized}
 use Rattle.ps_world.specs.Verdicts.{judged, verdict, is_trip, report_or, given_with, report_given}
 use Rattle.ps_world.specs.Steps.{world_step, after, May, Lawful}
 use Rattle.ps_world.specs.Lists.{IsSpared, items_of}
-use Rattle.ps_world.specs.Laws.{GivesSized, Compares, report_meant, ReleasedIsRight, NeverTrips}
-use Rattle.ps_world.proofs.Compared.{Agree, outcome_sized, released_agree, agree_released, not_down, up_verdict}
+use Rattle.ps_world.specs.Laws.{Compares, report_meant, ReleasedIsRight, NeverTrips}
+use Rattle.ps_world.proofs.Compared.{Agree, released_agree, agree_released, not_down, up_verdict}
 use Rattle.ps_world.proofs.Standing.{Holds, beginning_holds, step_holds, after_holds, is_over}
 
 pub lawful_front : (m : Machines) (n : ℕ) (es : List Event) (e : Event) (x : World_state) → Lawful m n (es ++ e ∷ []) x → Lawful m n es x

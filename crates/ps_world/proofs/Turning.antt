@@ -1,20 +1,16 @@
 -- The turns of a scan, one after another.
 use Rattle.std.proofs.Common.{◌≡◌, ℕ, suc, ◌+◌, ◌≤◌, true, false, cond, List, [], ◌∷◌, ◌++◌, map, Option, Some, refl, sym, ap, ◌∙◌, arith}
-use Rattle.std.specs.Prelude.{not, ◌||◌, ◌&&◌, ◌==◌}
+use Rattle.std.specs.Prelude.{◌&&◌, ◌==◌}
 use Rattle.std.specs.List.{filter}
-use Rattle.std.proofs.lemmas.Bool.{le-leb}
-use Rattle.std.proofs.Math.Bool.{or-true}
 use Rattle.ps_model.specs.declared.channel.Channel.{Channel}
 use Rattle.ps_model.specs.declared.channel.Channel.TheVariants.{A, B}
 use Rattle.ps_model.specs.declared.channel.Fault.{Fault}
 use Rattle.ps_model.specs.declared.channel.Region.{Region}
-use Rattle.ps_machine.specs.Machines.{Machine}
-use Rattle.ps_machine.specs.Progressing.{is_running}
-use Rattle.ps_machine.specs.Channels.{Channel_state, ended}
+use Rattle.ps_machine.specs.Channels.{ended}
 use Rattle.ps_world.specs.Worlds.{Machines, World_state, Event, Turn, Spoil, machine, channel}
 use Rattle.ps_world.specs.Steps.{world_step, after, both_ended}
 use Rattle.ps_world.specs.Orders.{spoil_of, spoils_before, next_turn, turn_events}
-use Rattle.ps_world.proofs.Bounded.{same_turns, turns_are_left}
+use Rattle.ps_seat.proofs.Left.{spent, same_turns, turns_are_left}
 
 pub after_append : (m : Machines) (es fs : List Event) (x : World_state) → after m (es ++ fs) x ≡ after m fs (after m es x)
 after_append m [] fs x = refl
@@ -69,9 +65,6 @@ turns_go m faults left done last ch x more next =
     let y = after m spoils x in
     let go : Channel → List Event = λ c. Turn c ∷ turn_events m faults left (done + 1) (Some c) (world_step m (Turn c) y) in
     after_append m spoils (cond (both_ended m y) [] (go (next_turn m last y))) x ∙ ap (λ e. after m (cond e [] (go (next_turn m last y))) y) more ∙ ap (λ c. after m (go c) y) (sym next)
-
-spent : (m : Machine) (s : Channel_state) → m.budget ≤ s.turns → ended m s ≡ true
-spent m s high = ap (λ b. not (is_running (m.progress s.cells)) || b) (le-leb m.budget s.turns high) ∙ or-true (not (is_running (m.progress s.cells)))
 
 -- where all turns of both budgets are made both channels have ended
 pub all_spent : (m : Machines) (x : World_state) → x.a.turns ≤ m.a.budget → x.b.turns ≤ m.b.budget → m.a.budget + m.b.budget ≤ x.a.turns + x.b.turns → both_ended m x ≡ true

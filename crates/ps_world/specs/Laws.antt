@@ -1,5 +1,5 @@
 -- The laws of a world of two machines, over lists of events in any order of turns, with restarts and with Spoils of any bytes at any place.
-use Rattle.std.specs.Prelude.{◌≡◌, ◌↔◌, ◌≤◌, ℕ, ◌+◌, Bool, true, false, List, [], ◌∷◌, ◌++◌, length, Some}
+use Rattle.std.specs.Prelude.{◌≡◌, ◌↔◌, ◌≤◌, ℕ, ◌+◌, Bool, true, false, List, [], ◌∷◌, ◌++◌, length}
 use Rattle.ps_model.specs.declared.channel.Channel.{Channel}
 use Rattle.ps_model.specs.declared.channel.Cause.{Cause}
 use Rattle.ps_model.specs.declared.channel.Verdict.TheVariants.{Released, Tripped, Down}
@@ -9,7 +9,6 @@ use Rattle.ps_model.specs.Network.{Network, input_count, instance_count}
 use Rattle.ps_model.specs.Scanning.{State}
 use Rattle.ps_model.specs.Meaning.{nothing, old_state, Meaning, report}
 use Rattle.ps_model.specs.PastAfter.{past_after}
-use Rattle.ps_machine.specs.Machines.{Machine}
 use Rattle.ps_machine.specs.Channels.{alone}
 use Rattle.ps_world.specs.Worlds.{Machines, World_state, Event, Begin, Compare, machine, channel, world_0}
 use Rattle.ps_seat.specs.Outcomes.{gives, outcome}
@@ -42,10 +41,6 @@ module _ (net : Network) (m : Machines) where
   NeverTrips = (es : List Event) (ws : List State) → Compares es → HasNoSpoil es → Meaning net (items_of es) ws →
       (verdict m (after m es (world_0 m)) ≡ Released)
       × (report_given m (length net.outputs) (instance_count net) (after m es (world_0 m)) ≡ report_meant net es ws)
-
--- every report that the cells of a machine can hold is of so many outputs and instances
-abbrev pub GivesSized : Machine → (outputs instances : ℕ) → Type 0
-GivesSized m outputs instances = (cells : List ℕ) (r : Report) → m.report cells ≡ Some r → (length r.outs ≡ outputs) × (length r.diags ≡ instances)
 
 -- a channel gives no report, or the two reports differ
 pub record Disagree (m : Machines) (x : World_state) : Type 0 where

@@ -1,4 +1,4 @@
-use Rattle.std.proofs.Common.{◌≡◌, ◌∙◌, ℕ, ◌+◌, sym, ap, subst}
+use Rattle.std.proofs.Common.{◌∙◌, ◌+◌, sym, ap, subst}
 use Rattle.ps_machine.specs.Progressing.{is_running}
 use Rattle.ps_machine.specs.StoredChannel.{Stored}
 use Rattle.ps_seat.specs.Seats.{Seat_state, Finishes}

@@ -8,7 +8,8 @@ use Rattle.ps_stackvm.specs.Channel.{workings_a}
 use Rattle.ps_eqvm.specs.Channel.{workings_b}
 use Rattle.ps_world.specs.Whole.{Whole, machines_in, after_events}
 use Rattle.ps_world.specs.Orders.{turn_events}
-use Rattle.ps_world.proofs.Quick.{HasLeft, left_within, turns_finish}
+use Rattle.ps_seat.proofs.Left.{HasLeft, left_within}
+use Rattle.ps_world.proofs.Quick.{turns_finish}
 use Rattle.ps_world.proofs.world.World.finish_both.Goals as goal
 
 pub invariant_of-self : goal.invariant_of-self

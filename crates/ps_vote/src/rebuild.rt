@@ -4,8 +4,9 @@ ghost use Rattle.std.specs.Prelude.{◌≡◌, ◌+◌, ◌*◌, ◌<◌, ◌≤
 ghost use Rattle.ps_machine.specs.Bytes.{replaced};
 ghost use Rattle.ps_machine.specs.Channels.Own.{is_remade};
 ghost use Rattle.ps_eqvm.specs.Plain.{complement};
+ghost use Rattle.ps_model.specs.declared.sizes.Sizes.{Sizes};
 ghost use Rattle.ps_seat.specs.Seats.{meeting};
-ghost use Rattle.ps_vote.specs.Healing.{bytes_from, counted_block, counted_blocks, filled};
+ghost use Rattle.ps_vote.specs.Healing.{bytes_from, counted, counted_block, counted_blocks, filled};
 
 use ps_decision::DecisionChannel;
 use ps_machine::ScanMachine;
@@ -80,7 +81,7 @@ fn count_instance(blocks: &mut [u8], i: usize, limit: u32, now: u32)
 }
 
 // The same for every instance, by its limit.
-pub(crate) fn count_instances(blocks: &mut [u8], limits: &[u32], now: u32)
+fn count_instances(blocks: &mut [u8], limits: &[u32], now: u32)
     requires { length blocks.old ≡ 16 * length limits.now }
     ensures { blocks.new ≡ counted_blocks limits.now now blocks.old }
 {
@@ -96,6 +97,16 @@ pub(crate) fn complement(bytes: &mut [u8])
     for byte in bytes.iter_mut() {
         *byte = 255 - *byte;
     }
+}
+
+// Bytes of signals and instances, as channels A and C keep them, become as channel B stores them.
+pub(crate) fn store_counted(bytes: &mut [u8], limits: &[u32], now: u32)
+    requires { 16 * length limits.now ≤ length bytes.old }
+    ensures { (z : Sizes) → length bytes.old ≡ z.signals + 16 * z.instances → length limits.now ≡ z.instances → bytes.new ≡ complement (counted z limits.now now bytes.old) }
+{
+    let signals = bytes.len() - 16 * limits.len();
+    count_instances(&mut bytes[signals..], limits, now);
+    complement(bytes);
 }
 
 // A seat gets its code as compiled, and blank cells with a time and with signals and instances from their places on.

@@ -11,7 +11,7 @@ ghost use Rattle.ps_vote.specs.Votes.{vote, vote_of, report_in, report_given, ag
 ghost use Rattle.ps_vote.specs.Whole.{machines_in, happened, with_rebuilt, IsWorldOf};
 
 use crate::limits::limits;
-use crate::rebuild::{complement, count_instances, fill, read};
+use crate::rebuild::{complement, fill, read, store_counted};
 use crate::seat::{DirtySeats, Seat, Vote, VoteSizes};
 use ps_base::Memory;
 use ps_decision::{DecisionChannel, decision_image, turns_c};
@@ -341,9 +341,7 @@ impl VoteWorld {
         ensures { self.new ≡ with_rebuilt Seat.B self.old }
     {
         read(self.a.channel(), STACK_SIGNALS_AT as usize, &mut self.room);
-        let signals = self.room.len() - 16 * self.limits.len();
-        count_instances(&mut self.room[signals..], &self.limits, self.last);
-        complement(&mut self.room);
+        store_counted(&mut self.room, &self.limits, self.last);
         let mut time = self.last.to_be_bytes();
         complement(&mut time);
         fill(&mut self.b, LAST_AT as u32, &time, SIGNALS_AT as u32, &self.room);

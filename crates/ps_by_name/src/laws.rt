@@ -4,7 +4,6 @@ ghost use Rattle.ps_by_name.specs.Laws.{NamesAreNumbers};
 
 /// Names are numbers: where a source stands for an application, a state solves the equations of a scan of the application
 /// exactly where it has its sizes and is, by its names, what a scan of the source leaves.
-#[tactic(auto, using(crate::proofs::Whole::names_are_numbers))]
 pub fn names_are_numbers()
     ensures { NamesAreNumbers }
 {}

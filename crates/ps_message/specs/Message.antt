@@ -19,9 +19,13 @@ abbrev pub reason : Advice → (name : List ℕ) → List ℕ
 reason advice name =
     if length name == 0 || length advice.of_name.now == 0 then advice.sentence.now else name ++ advice.of_name.now
 
--- what helps, and where more is said, as `rename one (docs/refusals.md, N1)`
+-- where more is said of the rule, as ` (docs/refusals.md, N1)`, and the end of the line
+abbrev pub reference : Advice → List ℕ
+reference advice = codes " (docs/refusals.md, " ++ advice.name.now ++ codes ")\n"
+
+-- what helps, and where more is said
 abbrev pub remedy : Advice → List ℕ
-remedy advice = advice.remedy.now ++ codes " (docs/refusals.md, " ++ advice.name.now ++ codes ")\n"
+remedy advice = advice.remedy.now ++ reference advice
 
 -- the whole message: where, what is wrong, the line with a caret, and what helps
 abbrev pub message_text : Advice → (file text : List ℕ) → Place → List ℕ
@@ -43,3 +47,7 @@ pub record IsShort (advice : Advice) : Type 0 where
 -- these bytes are the message of a refusal, with an advice on its rule
 abbrev pub Says : (file text : List ℕ) → Refusal → List ℕ → Type 0
 Says file text refusal bytes = (advice : Advice) × IsOf refusal.rule advice × (bytes ≡ message_text advice file text refusal.place)
+
+-- the last byte is a line feed
+abbrev pub IsEnded : List ℕ → Type 0
+IsEnded bytes = (front : List ℕ) × (bytes ≡ front ++ codes "\n")

@@ -1,7 +1,7 @@
 // The whole message.
 
 ghost use Rattle.std.specs.Prelude.{◌≡◌, ◌≤◌, ◌++◌, codes, decimal, length, IfOk, OnOk};
-ghost use Rattle.ps_message.specs.Message.{heading, reason, remedy, message_text, Says, IsShort};
+ghost use Rattle.ps_message.specs.Message.{heading, reason, reference, remedy, message_text, Says, IsEnded};
 ghost use Rattle.ps_message.specs.Quoted.{line_of, behind, name_at, quoted};
 
 use crate::advice::{Advice, advice_on};
@@ -12,7 +12,7 @@ use ps_base::{Bytes, Memory, Place, Refusal};
 use std::alloc::Global;
 
 /// The most bytes of a message.
-pub const LONGEST_MESSAGE: usize = 4_096;
+pub const LONGEST_MESSAGE: usize = 2_200;
 
 // The most bytes of a file's name that are shown.
 const MOST_OF_FILE: usize = 255;
@@ -58,14 +58,22 @@ fn add_reason(message: &mut Bytes, advice: &Advice, name: &[u8]) -> Result<(), M
     message.extend_from_slice(b"\n")
 }
 
+// Where more is said of the rule, and the end of the line.
+fn add_reference(message: &mut Bytes, advice: &Advice) -> Result<(), Memory>
+    ensures { OnOk result (message.new ≡ message.old ++ reference advice.now) }
+{
+    message.extend_from_slice(b" (docs/refusals.md, ")?;
+    message.extend_from_slice(advice.name.as_bytes())?;
+    message.extend_from_slice(b")\n")?;
+    Ok(())
+}
+
 // What helps, in a line.
 fn add_remedy(message: &mut Bytes, advice: &Advice) -> Result<(), Memory>
     ensures { OnOk result (message.new ≡ message.old ++ remedy advice.now) }
 {
     message.extend_from_slice(advice.remedy.as_bytes())?;
-    message.extend_from_slice(b" (docs/refusals.md, ")?;
-    message.extend_from_slice(advice.name.as_bytes())?;
-    message.extend_from_slice(b")\n")
+    add_reference(message, advice)
 }
 
 // The message with an advice.
@@ -92,10 +100,11 @@ fn written(
 /// with a caret under it, and what helps. Every byte of the file's name and of the line that is no printable ASCII character
 /// stands as an escape, as `\x1b`. Of a long name the last 255 bytes are shown, and of a line up to 40 bytes before the place
 /// and 60 from it on. A place with column 0 is a line alone, and has no caret; a line without bytes, or one that there is not,
-/// is not quoted. It takes memory for at most 4,096 bytes, however long the text is, and time linear in the text.
+/// is not quoted. It takes memory for at most 2,200 bytes, however long the text is, and time linear in the text.
 pub fn message(alloc: Global, file: &[u8], text: &[u8], refusal: &Refusal) -> Result<Bytes, Memory>
     ensures says { IfOk result (λ bytes. Says file.now text.now refusal.now bytes) }
-    ensures bounded { IfOk result (λ bytes. length bytes ≤ 4096) }
+    ensures bounded { IfOk result (λ bytes. length bytes ≤ LONGEST_MESSAGE) }
+    ensures ended { IfOk result IsEnded }
 {
     written(alloc, &advice_on(refusal.rule), file, text, &refusal.place)
 }

@@ -54,7 +54,7 @@ length-heading : (file : List ℕ) (place : Place) (advice : Advice) → IsShort
     length (heading file place advice) ≤ 1052
 length-heading file place advice short line column =
     heading-size (last_shown 255 file) (decimal place.line) (if place.column == 0 then [] else codes ":" ++ decimal place.column) advice.name.now
-        (length-last_shown 255 file) (length-number place.line line) (length-column place.column column) short.name
+    (length-last_shown 255 file) (length-number place.line line) (length-column place.column column) short.name
 
 length-reason : (advice : Advice) (name : List ℕ) → IsShort advice → length name ≤ 64 → length (reason advice name) ≤ 264
 length-reason advice name short few =
@@ -90,7 +90,7 @@ line-size n shown mark s m =
 length-quoted : (line : List ℕ) (column : ℕ) → length (quoted line column) ≤ 580
 length-quoted line column =
     line-size (length line) (window (before line column) (behind line column)) (if column == 0 then [] else caret (before line column))
-        (length-window (before line column) (behind line column)) (column-size column (caret (before line column)) (length-caret (before line column)))
+    (length-window (before line column) (behind line column)) (column-size column (caret (before line column)) (length-caret (before line column)))
 
 -- the parts of a remedy
 remedy-size : (help name : List ℕ) → length help ≤ 200 → length name ≤ 3 → length (help ++ (codes " (docs/refusals.md, " ++ name ++ codes ")\n")) ≤ 225
@@ -110,9 +110,9 @@ pub length-message : (advice : Advice) (file text : List ℕ) (place : Place) �
 length-message advice file text place short line column =
     let here : List ℕ = line_of text place.line in
     message-size (heading file place advice) (reason advice (name_at (behind here place.column))) (quoted here place.column) (remedy advice)
-        (length-heading file place advice short line column)
-        (length-reason advice (name_at (behind here place.column)) short (length-name_at (behind here place.column)))
-        (length-quoted here place.column) (length-remedy advice short)
+    (length-heading file place advice short line column)
+    (length-reason advice (name_at (behind here place.column)) short (length-name_at (behind here place.column)))
+    (length-quoted here place.column) (length-remedy advice short)
 
 -- a text that ends with a reference ends with a line feed
 ends : (body help start name : List ℕ) →
@@ -123,6 +123,7 @@ ends body help start name = simp append_assoc
 pub message-ended : (advice : Advice) (file text : List ℕ) (place : Place) → IsEnded (message_text advice file text place)
 message-ended advice file text place =
     let here : List ℕ = line_of text place.line in
-    let body : List ℕ = heading file place advice ++ reason advice (name_at (behind here place.column)) ++ codes "\n" ++ quoted here place.column in
-    (body ++ (advice.remedy.now ++ (codes " (docs/refusals.md, " ++ advice.name.now ++ codes ")")),
-     ends body advice.remedy.now (codes " (docs/refusals.md, ") advice.name.now)
+    let body : List ℕ = heading file place advice ++ reason advice (name_at (behind here place.column)) ++ codes "\n" ++ quoted here place.column in (
+      body ++ (advice.remedy.now ++ (codes " (docs/refusals.md, " ++ advice.name.now ++ codes ")")),
+      ends body advice.remedy.now (codes " (docs/refusals.md, ") advice.name.now,
+    )

@@ -1,6 +1,6 @@
 // The whole message.
 
-ghost use Rattle.std.specs.Prelude.{◌≡◌, ◌≤◌, ◌++◌, codes, decimal, length, IfOk, OnOk};
+ghost use Rattle.std.specs.Prelude.{◌≡◌, ◌<◌, ◌≤◌, ◌^◌, ◌++◌, codes, decimal, length, IfOk, OnOk};
 ghost use Rattle.ps_message.specs.Message.{heading, reason, reference, remedy, message_text, Says, IsEnded};
 ghost use Rattle.ps_message.specs.Quoted.{line_of, behind, name_at, quoted};
 
@@ -76,22 +76,24 @@ fn add_remedy(message: &mut Bytes, advice: &Advice) -> Result<(), Memory>
     add_reference(message, advice)
 }
 
-// The message with an advice.
+// The message with an advice, at a line and a column.
 fn written(
     alloc: Global,
     advice: &Advice,
     file: &[u8],
     text: &[u8],
-    place: &Place,
+    line: u32,
+    column: u32,
 ) -> Result<Bytes, Memory>
-    ensures { IfOk result (λ bytes. bytes ≡ message_text advice.now file.now text.now place.now) }
+    ensures says { IfOk result (λ bytes. bytes ≡ message_text advice.now file.now text.now (record { line = line; column = column })) }
+    ensures numbers { (line < 2 ^ 32) × (column < 2 ^ 32) }
 {
-    let line = line_at(text, place.line);
-    let (_front, back) = cut_at(line, place.column);
+    let here = line_at(text, line);
+    let (_front, back) = cut_at(here, column);
     let mut message = Bytes::new(alloc);
-    add_heading(&mut message, file, place, advice)?;
+    add_heading(&mut message, file, &Place { line, column }, advice)?;
     add_reason(&mut message, advice, name_of(back))?;
-    add_quoted(&mut message, line, place.column)?;
+    add_quoted(&mut message, here, column)?;
     add_remedy(&mut message, advice)?;
     Ok(message)
 }
@@ -106,5 +108,13 @@ pub fn message(alloc: Global, file: &[u8], text: &[u8], refusal: &Refusal) -> Re
     ensures bounded { IfOk result (λ bytes. length bytes ≤ LONGEST_MESSAGE) }
     ensures ended { IfOk result IsEnded }
 {
-    written(alloc, &advice_on(refusal.rule), file, text, &refusal.place)
+    let place = &refusal.place;
+    written(
+        alloc,
+        &advice_on(refusal.rule),
+        file,
+        text,
+        place.line,
+        place.column,
+    )
 }

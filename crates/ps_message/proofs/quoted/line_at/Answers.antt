@@ -19,13 +19,13 @@ line_given text n index given place taken =
 pub returns-in-Some : goal.returns-in-Some
 returns-in-Some c =
     let given = nth_from_yields_List c.nth.result c.nth.new.self c.saturating_sub-index.result c.nth.ensures.ran
-        (YieldsList-from_slice_split _ (λ b. eqb b 10) c.args.text.now c.split.ensures.rest c.split.ensures.done c.split.ensures.closure (λ x r q k. search rules)) in
+    (YieldsList-from_slice_split _ (λ b. eqb b 10) c.args.text.now c.split.ensures.rest c.split.ensures.done c.split.ensures.closure (λ x r q k. search rules)) in
     line_given c.args.text.now c.args.number c.saturating_sub-index.result (Some c.in-Some.line.now) c.saturating_sub-index.ensures
-        (ap (λ (o : Option (Bor (List ℕ))). option_map (λ (x : Bor (List ℕ)). x.now) o) (sym c.in-Some.is) ∙ given)
+    (ap (λ (o : Option (Bor (List ℕ))). option_map (λ (x : Bor (List ℕ)). x.now) o) (sym c.in-Some.is) ∙ given)
 
 pub returns-in-None : goal.returns-in-None
 returns-in-None c =
     let given = nth_from_yields_List c.nth.result c.nth.new.self c.saturating_sub-index.result c.nth.ensures.ran
-        (YieldsList-from_slice_split _ (λ b. eqb b 10) c.args.text.now c.split.ensures.rest c.split.ensures.done c.split.ensures.closure (λ x r q k. search rules)) in
+    (YieldsList-from_slice_split _ (λ b. eqb b 10) c.args.text.now c.split.ensures.rest c.split.ensures.done c.split.ensures.closure (λ x r q k. search rules)) in
     line_given c.args.text.now c.args.number c.saturating_sub-index.result None c.saturating_sub-index.ensures
-        (ap (λ (o : Option (Bor (List ℕ))). option_map (λ (x : Bor (List ℕ)). x.now) o) (sym c.in-None.is) ∙ given)
+    (ap (λ (o : Option (Bor (List ℕ))). option_map (λ (x : Bor (List ℕ)). x.now) o) (sym c.in-None.is) ∙ given)

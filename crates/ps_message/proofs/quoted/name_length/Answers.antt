@@ -8,7 +8,7 @@ pub returns-clause-length : goal.returns-clause-length
 returns-clause-length c =
     let all_passed : length c.args.bytes.now ≡ c.loop-index.index = omega arith in
     sym (position_or_len_is (λ (b : ℕ). not (is_of_name b)) c.args.bytes.now (length c.args.bytes.now) 0 (omega arith)
-        (λ k below. c.loop-index.invariant k (omega arith)) (λ inside. absurd (omega arith)))
+    (λ k below. c.loop-index.invariant k (omega arith)) (λ inside. absurd (omega arith)))
 
 -- the byte at hand ends it
 pub returns-then-not-goes_into_name-clause-length : goal.returns-then-not-goes_into_name-clause-length

@@ -1,5 +1,6 @@
 -- How long a message and its parts are.
-use Rattle.std.proofs.Common.{◌≡◌, ℕ, ◌+◌, ◌-◌, ◌*◌, ◌^◌, ◌<◌, ◌≤◌, Bool, true, false, not, ◌==◌, ◌||◌, nat_lt, if◌then◌else◌, List, [], ◌∷◌, ◌++◌, length, take, drop, replicate, codes, decimal, refl, sym, ◌∙◌, arith, length-append, length-drop, lit≤, append_assoc}
+use Rattle.std.proofs.Common.{◌≡◌, ℕ, ◌+◌, ◌-◌, ◌*◌, ◌^◌, ◌<◌, ◌≤◌, Bool, true, false, not, ◌==◌, ◌||◌, nat_lt, nat_le, IsTrue, ◌&&◌, if◌then◌else◌, List, [], ◌∷◌, ◌++◌, length, take, drop, replicate, codes, decimal, refl, sym, ◌∙◌, arith, length-append, length-drop, lit≤, append_assoc}
+use Rattle.std.proofs.lemmas.Bool.Decides.{nat_tests}
 use Rattle.std.proofs.lemmas.List.{length-take, length-replicate}
 use Rattle.std.specs.List.{before_first}
 use Rattle.std.proofs.lemmas.Fmt.{length-decimal-le}
@@ -9,7 +10,23 @@ use Rattle.ps_base.specs.declared.failing.Place.{Place}
 use Rattle.ps_message.specs.declared.advice.Advice.{Advice}
 use Rattle.ps_message.specs.Shown.{is_printable, shown_byte, shown, dots, first_shown, last_shown}
 use Rattle.ps_message.specs.Quoted.{line_of, before, behind, is_of_name, name_at, window, caret, quoted}
-use Rattle.ps_message.specs.Message.{heading, reason, reference, remedy, message_text, IsShort, IsEnded}
+use Rattle.ps_message.specs.Message.{heading, reason, reference, remedy, message_text, is_short, IsEnded}
+
+-- no part of an advice is long
+pub record IsShort (advice : Advice) : Type 0 where
+  pub name : length advice.name.now ≤ 3
+  pub sentence : length advice.sentence.now ≤ 200
+  pub of_name : length advice.of_name.now ≤ 200
+  pub remedy : length advice.remedy.now ≤ 200
+
+-- four tests together
+four : (a b c d : ℕ) → IsTrue (nat_le a 3 && nat_le b 200 && nat_le c 200 && nat_le d 200) → (a ≤ 3) × (b ≤ 200) × (c ≤ 200) × (d ≤ 200)
+four a b c d holds = grind (arith, nat_tests)
+
+pub short-advice : (advice : Advice) → IsTrue (is_short advice) → IsShort advice
+short-advice advice holds =
+    let all = four (length advice.name.now) (length advice.sentence.now) (length advice.of_name.now) (length advice.remedy.now) holds in
+    record { name = all.0; sentence = all.1; of_name = all.2; remedy = all.3 }
 
 -- a byte is shown by at most four
 length-shown_byte : (b : ℕ) → length (shown_byte b) ≤ 4

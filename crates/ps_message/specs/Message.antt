@@ -1,5 +1,5 @@
 -- The message of a refusal.
-use Rattle.std.specs.Prelude.{◌≡◌, ℕ, ◌≤◌, ◌==◌, ◌||◌, List, [], ◌++◌, codes, decimal, length, if◌then◌else◌}
+use Rattle.std.specs.Prelude.{◌≡◌, ℕ, Bool, nat_le, ◌==◌, ◌||◌, ◌&&◌, List, [], ◌++◌, codes, decimal, length, if◌then◌else◌}
 use Rattle.ps_base.specs.declared.failing.Rule.{Rule}
 use Rattle.ps_base.specs.declared.failing.Place.{Place}
 use Rattle.ps_base.specs.declared.failing.Refusal.{Refusal}
@@ -38,11 +38,10 @@ abbrev pub IsOf : Rule → Advice → Type 0
 IsOf rule advice = advice.name.now ≡ rule_text rule
 
 -- no part of an advice is long
-pub record IsShort (advice : Advice) : Type 0 where
-  pub name : length advice.name.now ≤ 3
-  pub sentence : length advice.sentence.now ≤ 200
-  pub of_name : length advice.of_name.now ≤ 200
-  pub remedy : length advice.remedy.now ≤ 200
+abbrev pub is_short : Advice → Bool
+is_short advice =
+    nat_le (length advice.name.now) 3 && nat_le (length advice.sentence.now) 200 && nat_le (length advice.of_name.now) 200
+    && nat_le (length advice.remedy.now) 200
 
 -- these bytes are the message of a refusal, with an advice on its rule
 abbrev pub Says : (file text : List ℕ) → Refusal → List ℕ → Type 0

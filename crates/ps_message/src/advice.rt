@@ -1,7 +1,7 @@
 // What is said of each rule: one row a rule, with the words of docs/refusals.md.
 
-ghost use Rattle.std.specs.Prelude.{◌≡◌, ◌≤◌, length};
-ghost use Rattle.ps_message.specs.Message.{IsOf, IsShort};
+ghost use Rattle.std.specs.Prelude.{IsTrue};
+ghost use Rattle.ps_message.specs.Message.{IsOf, is_short};
 
 use ps_base::Rule;
 
@@ -21,7 +21,7 @@ pub struct Advice {
 /// What is said of a rule.
 pub fn advice_on(rule: Rule) -> Advice
     ensures name { IsOf rule result }
-    ensures short { IsShort result }
+    ensures short { IsTrue (is_short result) }
 {
     match rule {
         Rule::L1 => Advice {

@@ -1,7 +1,7 @@
 use Rattle.std.proofs.Common.{ℕ, List, Result, Ok, Err, IfOk, length, ◌≤◌, ◌≡◌, sym, subst}
 use Rattle.ps_base.specs.declared.failing.Place.{Place}
 use Rattle.ps_message.specs.Message.{message_text, IsEnded}
-use Rattle.ps_message.proofs.Bounds.{length-message, message-ended}
+use Rattle.ps_message.proofs.Bounds.{short-advice, length-message, message-ended}
 use Rattle.ps_message.proofs.writing.message.Goals as goal
 
 -- what holds of a text holds of what is given, where it is that text
@@ -13,7 +13,7 @@ pub returns-clause-bounded : goal.returns-clause-bounded
 returns-clause-bounded c =
     let place : Place = c.args.refusal.now.place in
     of_given (λ bytes. length bytes ≤ 2200) (message_text c.advice_on.result c.args.file.now c.args.text.now place)
-    (length-message c.advice_on.result c.args.file.now c.args.text.now place c.advice_on.ensures.short c.written.ensures.numbers.0 c.written.ensures.numbers.1)
+    (length-message c.advice_on.result c.args.file.now c.args.text.now place (short-advice c.advice_on.result c.advice_on.ensures.short) c.written.ensures.numbers.0 c.written.ensures.numbers.1)
     c.written.result c.written.ensures.says
 
 pub returns-clause-ended : goal.returns-clause-ended

@@ -1,5 +1,5 @@
 -- How long a message and its parts are.
-use Rattle.std.proofs.Common.{◌≡◌, ℕ, ◌+◌, ◌-◌, ◌*◌, ◌^◌, ◌<◌, ◌≤◌, Bool, true, false, not, ◌==◌, ◌||◌, nat_lt, nat_le, IsTrue, ◌&&◌, if◌then◌else◌, List, [], ◌∷◌, ◌++◌, length, take, drop, replicate, codes, decimal, refl, sym, ◌∙◌, arith, length-append, length-drop, lit≤, append_assoc}
+use Rattle.std.proofs.Common.{◌≡◌, ℕ, ◌+◌, ◌-◌, ◌*◌, ◌^◌, ◌<◌, ◌≤◌, Bool, true, false, not, ◌==◌, ◌||◌, nat_lt, nat_le, IsTrue, ◌&&◌, if◌then◌else◌, List, [], ◌∷◌, ◌++◌, length, take, drop, replicate, codes, decimal, arith, length-append, length-drop, lit≤, append_assoc}
 use Rattle.std.proofs.lemmas.Bool.Decides.{nat_tests}
 use Rattle.std.proofs.lemmas.List.{length-take, length-replicate}
 use Rattle.std.specs.List.{before_first}
@@ -10,7 +10,7 @@ use Rattle.ps_base.specs.declared.failing.Place.{Place}
 use Rattle.ps_message.specs.declared.advice.Advice.{Advice}
 use Rattle.ps_message.specs.Shown.{is_printable, shown_byte, shown, dots, first_shown, last_shown}
 use Rattle.ps_message.specs.Quoted.{line_of, before, behind, is_of_name, name_at, window, caret, quoted}
-use Rattle.ps_message.specs.Message.{heading, reason, reference, remedy, message_text, is_short, IsEnded}
+use Rattle.ps_message.specs.Message.{heading, reason, remedy, message_text, is_short, IsEnded}
 
 -- no part of an advice is long
 pub record IsShort (advice : Advice) : Type 0 where

@@ -5,7 +5,7 @@ use Rattle.ps_base.specs.declared.failing.Place.{Place}
 use Rattle.ps_base.specs.declared.failing.Refusal.{Refusal}
 use Rattle.ps_report.specs.Short.{rule_text}
 use Rattle.ps_message.specs.declared.advice.Advice.{Advice}
-use Rattle.ps_message.specs.Shown.{shown, last_shown}
+use Rattle.ps_message.specs.Shown.{last_shown}
 use Rattle.ps_message.specs.Quoted.{line_of, behind, name_at, quoted}
 
 -- where the refusal is and by which rule, as `motor.st:4:15: N2: `; of a longer name of a file the last 255 bytes

@@ -1,4 +1,4 @@
-use Rattle.std.proofs.Common.{◌≡◌, ◌++◌, codes, replicate}
+use Rattle.std.proofs.Common.{◌≡◌, ◌++◌, replicate}
 use Rattle.ps_message.proofs.quoted.add_caret.Given as goal
 
 abbrev pub invariant-loop : goal.invariant-loop

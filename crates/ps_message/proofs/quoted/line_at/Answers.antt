@@ -1,5 +1,5 @@
 -- The pieces that `split` gives are the lines of the text, and `nth` takes one of them.
-use Rattle.std.proofs.Common.{◌≡◌, eqb, ℕ, ◌-◌, List, [], Option, Some, None, Bor, rules, refl, sym, ◌∙◌, ap, get_or, unwrap_or}
+use Rattle.std.proofs.Common.{◌≡◌, eqb, ℕ, ◌-◌, List, [], Option, Some, None, Bor, rules, sym, ◌∙◌, ap, get_or, unwrap_or}
 use Rattle.std.specs.List.{slice_split, slice_get}
 use Rattle.std.specs.Option.{option_map}
 use Rattle.std.proofs.lemmas.Option.{unwrap_or-slice_get}

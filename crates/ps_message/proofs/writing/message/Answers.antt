@@ -1,0 +1,23 @@
+use Rattle.std.proofs.Common.{ℕ, List, Result, Ok, Err, IfOk, length, ◌≤◌, ◌≡◌, sym, subst}
+use Rattle.ps_base.specs.declared.failing.Place.{Place}
+use Rattle.ps_message.specs.Message.{message_text, IsEnded}
+use Rattle.ps_message.proofs.Bounds.{short-advice, length-message, message-ended}
+use Rattle.ps_message.proofs.writing.message.Goals as goal
+
+-- what holds of a text holds of what is given, where it is that text
+of_given : {E : Type 0} (P : List ℕ → Type 0) (text : List ℕ) → P text → (r : Result (List ℕ) E) → IfOk r (λ bytes. bytes ≡ text) → IfOk r P
+of_given P text holds (Ok bytes) same = subst P (sym same) holds
+of_given P text holds (Err e) same = same
+
+pub returns-clause-bounded : goal.returns-clause-bounded
+returns-clause-bounded c =
+    let place : Place = c.args.refusal.now.place in
+    of_given (λ bytes. length bytes ≤ 2200) (message_text c.advice_on.result c.args.file.now c.args.text.now place)
+    (length-message c.advice_on.result c.args.file.now c.args.text.now place (short-advice c.advice_on.result c.advice_on.ensures.short) c.written.ensures.numbers.0 c.written.ensures.numbers.1)
+    c.written.result c.written.ensures.says
+
+pub returns-clause-ended : goal.returns-clause-ended
+returns-clause-ended c =
+    let place : Place = c.args.refusal.now.place in
+    of_given IsEnded (message_text c.advice_on.result c.args.file.now c.args.text.now place)
+    (message-ended c.advice_on.result c.args.file.now c.args.text.now place) c.written.result c.written.ensures.says

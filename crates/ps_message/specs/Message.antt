@@ -1,0 +1,52 @@
+-- The message of a refusal.
+use Rattle.std.specs.Prelude.{◌≡◌, ℕ, Bool, nat_le, ◌==◌, ◌||◌, ◌&&◌, List, [], ◌++◌, codes, decimal, length, if◌then◌else◌}
+use Rattle.ps_base.specs.declared.failing.Rule.{Rule}
+use Rattle.ps_base.specs.declared.failing.Place.{Place}
+use Rattle.ps_base.specs.declared.failing.Refusal.{Refusal}
+use Rattle.ps_report.specs.Short.{rule_text}
+use Rattle.ps_message.specs.declared.advice.Advice.{Advice}
+use Rattle.ps_message.specs.Shown.{last_shown}
+use Rattle.ps_message.specs.Quoted.{line_of, behind, name_at, quoted}
+
+-- where the refusal is and by which rule, as `motor.st:4:15: N2: `; of a longer name of a file the last 255 bytes
+abbrev pub heading : (file : List ℕ) → Place → Advice → List ℕ
+heading file place advice =
+    last_shown 255 file ++ codes ":" ++ decimal place.line ++ (if place.column == 0 then [] else codes ":" ++ decimal place.column)
+    ++ codes ": " ++ advice.name.now ++ codes ": "
+
+-- what is wrong: the name at the place with what is said of it, or the sentence where there is no name or nothing to say of it
+abbrev pub reason : Advice → (name : List ℕ) → List ℕ
+reason advice name =
+    if length name == 0 || length advice.of_name.now == 0 then advice.sentence.now else name ++ advice.of_name.now
+
+-- where more is said of the rule, as ` (docs/refusals.md, N1)`, and the end of the line
+abbrev pub reference : Advice → List ℕ
+reference advice = codes " (docs/refusals.md, " ++ advice.name.now ++ codes ")\n"
+
+-- what helps, and where more is said
+abbrev pub remedy : Advice → List ℕ
+remedy advice = advice.remedy.now ++ reference advice
+
+-- the whole message: where, what is wrong, the line with a caret, and what helps
+abbrev pub message_text : Advice → (file text : List ℕ) → Place → List ℕ
+message_text advice file text place =
+    let line = line_of text place.line in
+    heading file place advice ++ reason advice (name_at (behind line place.column)) ++ codes "\n" ++ quoted line place.column ++ remedy advice
+
+-- an advice goes by the name of its rule
+abbrev pub IsOf : Rule → Advice → Type 0
+IsOf rule advice = advice.name.now ≡ rule_text rule
+
+-- no part of an advice is long
+abbrev pub is_short : Advice → Bool
+is_short advice =
+    nat_le (length advice.name.now) 3 && nat_le (length advice.sentence.now) 200 && nat_le (length advice.of_name.now) 200
+    && nat_le (length advice.remedy.now) 200
+
+-- these bytes are the message of a refusal, with an advice on its rule
+abbrev pub Says : (file text : List ℕ) → Refusal → List ℕ → Type 0
+Says file text refusal bytes = (advice : Advice) × IsOf refusal.rule advice × (bytes ≡ message_text advice file text refusal.place)
+
+-- the last byte is a line feed
+abbrev pub IsEnded : List ℕ → Type 0
+IsEnded bytes = (front : List ℕ) × (bytes ≡ front ++ codes "\n")

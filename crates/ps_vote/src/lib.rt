@@ -1,0 +1,20 @@
+//! The world of three seats: the scans of an application made out of single events in channels A, B and C, with a vote of two out
+//! of three, and seats that are rebuilt from another.
+//!
+//! - `seat`: the seats, what a vote answers, and which seats are dirty.
+//! - `world`: `VoteWorld`, three seats of `ps_seat`. Each call that changes it is its event of `world_step`.
+//! - `rebuild`: the cells of a seat that is healed, made from those of another; `limits` has the limits that it needs.
+//! - `laws`: what holds over every list of events: a spoiled seat is outvoted, and so is each of several that are healed one
+//!   before the other.
+//!
+//! No law looks into a compiler or a table: they are over any three machines that keep an application's meaning.
+#![tactic(auto)]
+
+pub mod laws;
+mod limits;
+mod rebuild;
+mod seat;
+mod world;
+
+pub use seat::{DirtySeats, Seat, Vote, VoteSizes};
+pub use world::VoteWorld;

@@ -1,12 +1,10 @@
 -- What a load counts of its scans is what they mean.
-use Rattle.std.proofs.Common.{◌≡◌, ◌≤◌, ◌<◌, ◌+◌, ◌*◌, ◌∙◌, ◌++◌, ℕ, suc, Bool, true, cond, List, [], ◌∷◌, Result, Ok, Err, length, map, refl, sym, ap, subst, ⊎_elim, arith}
-use Rattle.std.specs.Prelude.{fold, flat_map, min, sum_by, Some, is_some}
+use Rattle.std.proofs.Common.{◌≡◌, ◌≤◌, ◌+◌, ◌*◌, ◌∙◌, ◌++◌, ℕ, suc, true, cond, List, [], ◌∷◌, Result, Ok, Err, length, map, refl, sym, ap, subst, ⊎_elim, arith}
+use Rattle.std.specs.Prelude.{fold, flat_map, sum_by, Some, is_some}
 use Rattle.std.proofs.lemmas.Option.{same_Some}
 use Rattle.std.proofs.lemmas.List.Sums.{sum_by-cons, count_by-le-length}
 use Rattle.std.proofs.lemmas.List.FromFn.{length-map-range_with_len}
-use Rattle.ps_base.specs.declared.failing.Refusal.{Refusal}
 use Rattle.ps_model.specs.declared.channel.Verdict.{Verdict}
-use Rattle.ps_model.specs.declared.channel.Verdict.TheVariants.{Released}
 use Rattle.ps_model.specs.declared.report.Diag.{Diag}
 use Rattle.ps_model.specs.declared.report.Report.{Report}
 use Rattle.ps_model.specs.Network.{Network, input_count, instance_count}

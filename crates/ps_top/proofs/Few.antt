@@ -1,7 +1,6 @@
 -- A trace has no more items than bytes.
-use Rattle.std.proofs.Common.{◌≡◌, ◌≤◌, ◌+◌, ℕ, suc, Bool, true, false, cond, List, [], ◌∷◌, length, arith}
+use Rattle.std.proofs.Common.{◌≤◌, ◌+◌, ℕ, suc, Bool, true, false, cond, List, [], ◌∷◌, length, arith}
 use Rattle.std.specs.Prelude.{◌==◌, drop}
-use Rattle.std.proofs.lemmas.Bool.{cases_Bool}
 use Rattle.ps_lines.specs.Lines.{Line, RawLine, raw_lines, onto_first, bytes_of, lines_from}
 use Rattle.ps_lines.specs.Lines.RawLine.{Ended, Last}
 use Rattle.ps_model.specs.Network.{Network}
@@ -9,8 +8,7 @@ use Rattle.ps_trace.specs.Header.{Header, input_names}
 use Rattle.ps_trace.specs.Header.Header.{no_header, places, wrong}
 use Rattle.ps_trace.specs.Trace.{Said}
 use Rattle.ps_trace.specs.Trace.Said.{skips, restarts, scans, breaks}
-use Rattle.ps_trace.specs.Scans.{Scans, Headed, said_of, last_after, number_after, onto_scans, scans_from, header_of, onto_headed, header_from, header_in, scans_behind, scans_of, trace_lines}
-use Rattle.ps_trace.specs.Scans.Headed.{begins, fails}
+use Rattle.ps_trace.specs.Scans.{Scans, Headed, said_of, last_after, number_after, onto_scans, scans_from, header_of, onto_headed, header_from, scans_behind, scans_of, trace_lines}
 use Rattle.ps_base.specs.declared.limits.TheConstants.{LARGEST_TRACE, LONGEST_TRACE_LINE}
 
 onto_few : (b n : ℕ) (lines : List RawLine) → length lines ≤ n → length (onto_first b lines) ≤ suc n

@@ -1,5 +1,5 @@
 -- What a load counts of its scans, one after another.
-use Rattle.std.specs.Prelude.{◌≡◌, ◌+◌, ℕ, List, fold, min}
+use Rattle.std.specs.Prelude.{◌+◌, ℕ, List, fold, min}
 use Rattle.ps_model.specs.declared.channel.Fault.{Fault}
 use Rattle.ps_model.specs.declared.channel.Verdict.{Verdict}
 use Rattle.ps_model.specs.declared.channel.Verdict.TheVariants.{Released, Tripped, Down}

@@ -1,4 +1,4 @@
-use Rattle.std.proofs.Common.{◌≡◌, ◌∙◌, [], List, ℕ, Some, true, Err, ap, subst, sym, refl}
+use Rattle.std.proofs.Common.{◌≡◌, ◌∙◌, [], List, ℕ, Some, ap, subst, sym, refl}
 use Rattle.std.specs.Prelude.{codes, is_some}
 use Rattle.std.proofs.lemmas.Option.{same_Some}
 use Rattle.ps_checker.specs.Counts.{Counts}
@@ -14,7 +14,7 @@ use Rattle.ps_top.specs.Calls.{output_seen}
 use Rattle.ps_source.specs.Source.{Reading}
 use Rattle.ps_source.specs.declared.accepting.Accepted.{Accepted}
 use Rattle.ps_top.proofs.Counted.{never_fails, no_load_answers}
-use Rattle.ps_top.specs.Program.{leaves_checked, with_application, load, sum_trace}
+use Rattle.ps_top.specs.Program.{leaves_checked, with_application, sum_trace}
 use Rattle.ps_top.proofs.Calling.{found_of_all, goes_answers, leaves_on}
 use Rattle.ps_top.proofs.OneAnswer.{with_counts}
 use Rattle.ps_top.proofs.loading.load.Goals as goal

@@ -1,4 +1,4 @@
-use Rattle.std.proofs.Common.{◌≡◌, ◌≤◌, ◌∙◌, [], ◌∷◌, ℕ, List, Some, true, Err, length, ap, subst, sym, refl, arith}
+use Rattle.std.proofs.Common.{◌≡◌, ◌≤◌, ◌∙◌, [], List, Some, true, Err, length, ap, subst, sym, refl, arith}
 use Rattle.std.specs.Prelude.{codes, is_some}
 use Rattle.ps_load.proofs.Parts.{trace_length}
 use Rattle.ps_load.specs.Holding.{held_of}

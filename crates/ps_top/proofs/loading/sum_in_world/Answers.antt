@@ -1,6 +1,5 @@
-use Rattle.std.proofs.Common.{◌≡◌, ◌∙◌, [], List, Some, ap, subst, sym, refl}
+use Rattle.std.proofs.Common.{◌∙◌, [], Some, ap, subst, sym, refl}
 use Rattle.ps_load.specs.Texts.{trace_text}
-use Rattle.ps_model.specs.declared.channel.Fault.{Fault}
 use Rattle.ps_trace.specs.Scans.{scans_of}
 use Rattle.ps_world.specs.Whole.{Whole}
 use Rattle.ps_top.specs.Calls.{Answers, output_seen}

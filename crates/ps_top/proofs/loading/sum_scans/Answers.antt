@@ -1,4 +1,4 @@
-use Rattle.std.proofs.Common.{◌≡◌, ◌∙◌, ◌++◌, [], ℕ, List, Some, true, Err, Result, IsTrue, ap, subst, sym, refl, inl, inr, append-nil, arith}
+use Rattle.std.proofs.Common.{◌≡◌, ◌∙◌, ◌++◌, [], ℕ, List, true, Err, Result, IsTrue, ap, subst, sym, refl, append-nil, arith}
 use Rattle.std.specs.Prelude.{fold, is_some}
 use Rattle.ps_load.specs.Holding.{held_of}
 use Rattle.ps_load.specs.Texts.{trace_text}

@@ -34,5 +34,5 @@ returns-clause-answers g c =
       causes = c.answer_trace-status.ensures.causes;
     }
 
-pub for_app-requires : goal.for_app-requires
-for_app-requires g c = first_fits c.args.app.now c.args.world c.requires.first
+pub line_runner-requires : goal.line_runner-requires
+line_runner-requires g c = first_fits c.args.app.now c.args.world c.requires.first

@@ -29,14 +29,14 @@ pub sizes_at_first : (w : Whole) {net : Network} → IsWorldOf net w → sizes_i
 sizes_at_first w built = ap sizes_in built.beginning
 
 module _ (setup : Setup) (name text : List ℕ) (next : List Model.Fault → Asking) where
-  abbrev behind_text : FaultList → Asking
+  abbrev behind_text : FaultList Model.Fault → Asking
   behind_text list = unless_refused next list.faults list.refusal
 
   -- behind the faults of a file that is held
   pub faults_on : (struck : List Model.Fault) (held : List ℕ → Option (List ℕ)) (left : Left) (status : Status) → held name ≡ Some text →
       faults_of text (region_sizes setup) ≡ record { faults = struck; refusal = None } → GoesOnAs (with_faults setup name next) (next struck) held left status
   faults_on struck held left status is gives =
-      subst (λ (list : FaultList). GoesOnAs (with_faults setup name next) (behind_text list) held left status) gives
+      subst (λ (list : FaultList Model.Fault). GoesOnAs (with_faults setup name next) (behind_text list) held left status) gives
       (asks_on held left status name text (λ t. behind_text (faults_of t (region_sizes setup))) is)
 
 -- what a read of a fault file comes to that gives no faults

@@ -1,99 +1,105 @@
 -- What the tests of a fault line say of the faults before it.
-use Rattle.std.proofs.Common.{◌≡◌, ◌≤◌, ◌++◌, ℕ, List, [], ◌∷◌, false, Option, Some, None, get_or, refl, ap, arith}
-use Rattle.std.specs.List.{All}
+use Rattle.std.proofs.Common.{◌≡◌, ◌≤◌, ◌++◌, ◌∙◌, ℕ, List, [], ◌∷◌, Bool, true, false, Option, Some, None, get_or, refl, sym, ap, subst, arith}
+use Rattle.std.specs.Prelude.{not, ◌&&◌}
+use Rattle.std.specs.List.{All, AllPairs}
 use Rattle.std.proofs.lemmas.Grind.{common_steps}
 use Rattle.std.proofs.lemmas.List.Elements.{All-push}
 use Rattle.std.proofs.lemmas.List.Quantifiers.{all_pairs_push}
-use Rattle.ps_model.specs.declared.channel.Channel.{Channel}
-use Rattle.ps_model.specs.declared.channel.Channel.TheVariants.{A, B}
-use Rattle.ps_model.specs.declared.channel.Fault.{Fault}
-use Rattle.ps_model.specs.declared.channel.ImageSizes.{ImageSizes}
+use Rattle.std.proofs.lemmas.Option.{same_Some}
 use Rattle.ps_trace.specs.declared.fault_file.Before.{Before}
-use Rattle.ps_trace.specs.Faults.{falls, is_other, fault_judged, form_judged, fault_said, words_struck, before_next, first_channel}
+use Rattle.ps_trace.specs.declared.target.FaultLine.{FaultLine}
+use Rattle.ps_trace.specs.Faults.{Targets, falls, is_other, fault_judged, form_judged, fault_said, words_struck, before_next, first_struck}
 use Rattle.ps_trace.specs.Faults.Struck.{strikes}
-use Rattle.ps_trace.specs.FaultOrder.{IsNoLater, AreInOrder, AreOfOneChannel}
+use Rattle.ps_trace.specs.FaultOrder.{StrikesNoLater, StrikeInOrder, StrikeOne}
 
--- a fault strikes no later than the line before, in its channel
-pub record IsUpTo (before : Before) (fault : Fault) : Type 0 where
-  pub scan : fault.scan ≤ before.scan
-  pub turn : fault.scan ≡ before.scan → fault.turn ≤ before.turn
-  pub channel : before.channel ≡ Some fault.channel
+module _ {Who Fault : Type 0} (t : Targets Who Fault) where
+  -- a fault line strikes no later than the line before, and the first one where a file may strike one alone
+  pub record IsUpTo (before : Before Who) (line : FaultLine Who) : Type 0 where
+    pub scan : line.scan ≤ before.scan
+    pub turn : line.scan ≡ before.scan → line.turn ≤ before.turn
+    pub first : t.one_alone ≡ true → before.first ≡ Some line.who
 
--- a fault strikes no earlier than the line before, and in its channel if there is one
-pub record IsFrom (before : Before) (fault : Fault) : Type 0 where
-  pub scan : before.scan ≤ fault.scan
-  pub turn : before.scan ≡ fault.scan → before.turn ≤ fault.turn
-  pub channel : (channel : Channel) → before.channel ≡ Some channel → channel ≡ fault.channel
+  -- a fault line strikes no earlier than the line before, and the first one, if there is one, where a file may strike one alone
+  pub record IsFrom (before : Before Who) (line : FaultLine Who) : Type 0 where
+    pub scan : before.scan ≤ line.scan
+    pub turn : before.scan ≡ line.scan → before.turn ≤ line.turn
+    pub first : t.one_alone ≡ true → (who : Who) → before.first ≡ Some who → who ≡ line.who
 
--- a channel that is no other one is the first
-same_channel : (first : Option Channel) (channel other : Channel) → is_other first channel ≡ false → first ≡ Some other → other ≡ channel
-same_channel None channel other same is = cc
-same_channel (Some A) A other same is = cc
-same_channel (Some A) B other same is = cc
-same_channel (Some B) A other same is = cc
-same_channel (Some B) B other same is = cc
+  -- one that is no other is the first
+  same_first : ((a b : Who) → t.is_same a b ≡ true → a ≡ b) → (first : Option Who) (who other : Who) → is_other t.is_same first who ≡ false → first ≡ Some other → other ≡ who
+  same_first equal None who other no_other is = cc
+  same_first equal (Some first) who other no_other is = sym (same_Some first other is) ∙ equal first who (not_not (t.is_same first who) no_other)
+    where
+      not_not : (b : Bool) → not b ≡ false → b ≡ true
+      not_not true e = refl
+      not_not false e = cc
 
--- a fault that passed the tests
-judged_from : (sizes : ImageSizes) (before : Before) (said fault : Fault) → fault_judged sizes before said ≡ strikes fault → IsFrom before fault
-judged_from sizes before said fault is =
-    let same : said ≡ fault = grind (arith, common_steps) in
-    let behind : falls before fault.scan fault.turn ≡ false = grind (arith, common_steps) in
-    let one : is_other before.channel fault.channel ≡ false = grind (arith, common_steps) in
-    record {
-      scan = grind (arith, common_steps);
-      turn = λ equal. grind (arith, common_steps);
-      channel = λ channel first. same_channel before.channel fault.channel channel one first;
-    }
+  -- a fault line that passed the tests
+  judged_from : ((a b : Who) → t.is_same a b ≡ true → a ≡ b) → (before : Before Who) (said line : FaultLine Who) → fault_judged t before said ≡ strikes line → IsFrom before line
+  judged_from equal before said line is =
+      let same : said ≡ line = grind (arith, common_steps) in
+      let behind : falls before line.scan line.turn ≡ false = grind (arith, common_steps) in
+      let one : (t.one_alone && is_other t.is_same before.first line.who) ≡ false = grind (arith, common_steps) in
+      record {
+        scan = grind (arith, common_steps);
+        turn = λ same_scan. grind (arith, common_steps);
+        first = λ alone who first. same_first equal before.first line.who who (subst (λ (b : Bool). (b && is_other t.is_same before.first line.who) ≡ false) alone one) first;
+      }
 
--- a line that has the form of a fault, and passed the tests
-formed_from : (sizes : ImageSizes) (before : Before) (said : Option Fault) (fault : Fault) → form_judged sizes before said ≡ strikes fault → IsFrom before fault
-formed_from sizes before None fault is = cc
-formed_from sizes before (Some said) fault is = judged_from sizes before said fault is
+  -- a line that has the form of a fault, and passed the tests
+  formed_from : ((a b : Who) → t.is_same a b ≡ true → a ≡ b) → (before : Before Who) (said : Option (FaultLine Who)) (line : FaultLine Who) → form_judged t before said ≡ strikes line → IsFrom before line
+  formed_from equal before None line is = cc
+  formed_from equal before (Some said) line is = judged_from equal before said line is
 
--- a line that strikes is no earlier than the line before
-pub struck_from : (sizes : ImageSizes) (before : Before) (words : List (List ℕ)) (fault : Fault) → words_struck sizes before words ≡ strikes fault → IsFrom before fault
-struck_from sizes before [] fault is = cc
-struck_from sizes before (word ∷ words) fault is = formed_from sizes before (fault_said (word ∷ words)) fault is
+  -- a line that strikes is no earlier than the line before
+  pub struck_from : ((a b : Who) → t.is_same a b ≡ true → a ≡ b) → (before : Before Who) (words : List (List ℕ)) (line : FaultLine Who) → words_struck t before words ≡ strikes line → IsFrom before line
+  struck_from equal before [] line is = cc
+  struck_from equal before (word ∷ words) line is = formed_from equal before (fault_said t.named (word ∷ words)) line is
 
--- a fault behind those up to the line before strikes no earlier than they
-no_earlier : (before : Before) (first fault : Fault) → IsUpTo before first → IsFrom before fault → IsNoLater first fault
-no_earlier before first fault upto from = (
-  omega (arith, upto.scan, from.scan),
-  λ same. omega (arith, upto.turn (omega (arith, upto.scan, from.scan)), from.turn (omega (arith, upto.scan, from.scan))),
-)
+  -- a fault line behind those up to the line before strikes no earlier than they
+  no_earlier : (before : Before Who) (first line : FaultLine Who) → IsUpTo before first → IsFrom before line → StrikesNoLater first line
+  no_earlier before first line upto from = (
+    omega (arith, upto.scan, from.scan),
+    λ same. omega (arith, upto.turn (omega (arith, upto.scan, from.scan)), from.turn (omega (arith, upto.scan, from.scan))),
+  )
 
--- one fault more keeps the order
-pub in_order-push : (before : Before) (faults : List Fault) (fault : Fault) → All (IsUpTo before) faults → IsFrom before fault → AreInOrder faults →
-    AreInOrder (faults ++ fault ∷ [])
-in_order-push before faults fault upto from ordered =
-    all_pairs_push IsNoLater faults fault ordered (λ k d within. no_earlier before (get_or faults k d) fault (upto k d within) from)
+  -- who the first fault line strikes, with this one behind it
+  first_is : (first : Option Who) (who : Who) → ((other : Who) → first ≡ Some other → other ≡ who) → first_struck first who ≡ who
+  first_is None who same = refl
+  first_is (Some other) who same = same other refl
 
--- one fault more keeps the channel
-pub of_one_channel-push : (before : Before) (faults : List Fault) (fault : Fault) → All (IsUpTo before) faults → IsFrom before fault → AreOfOneChannel faults →
-    AreOfOneChannel (faults ++ fault ∷ [])
-of_one_channel-push before faults fault upto from one =
-    all_pairs_push (λ first second. first.channel ≡ second.channel) faults fault one (λ k d within. from.channel (get_or faults k d).channel (upto k d within).channel)
+  module _ (parts : Fault → FaultLine Who) where
+    -- the lines of all these faults are up to the line before
+    abbrev pub AreUpTo : Before Who → List Fault → Type 0
+    AreUpTo before faults = All (λ fault. IsUpTo before (parts fault)) faults
 
--- the channel of the first fault line, with this fault behind it
-first_is : (first : Option Channel) (channel : Channel) → ((other : Channel) → first ≡ Some other → other ≡ channel) → first_channel first channel ≡ channel
-first_is None channel same = refl
-first_is (Some other) channel same = same other refl
+    -- one fault more keeps the order
+    pub in_order-push : (before : Before Who) (faults : List Fault) (fault : Fault) → AreUpTo before faults → IsFrom before (parts fault) → StrikeInOrder parts faults →
+        StrikeInOrder parts (faults ++ fault ∷ [])
+    in_order-push before faults fault upto from ordered =
+        all_pairs_push (λ a b. StrikesNoLater (parts a) (parts b)) faults fault ordered (λ k d within. no_earlier before (parts (get_or faults k d)) (parts fault) (upto k d within) from)
 
--- all faults are up to the line that came last
-pub up_to-push : (before : Before) (faults : List Fault) (fault : Fault) → All (IsUpTo before) faults → IsFrom before fault →
-    All (IsUpTo (before_next (strikes fault) before)) (faults ++ fault ∷ [])
-up_to-push before faults fault upto from =
-    All-push (IsUpTo (before_next (strikes fault) before)) faults fault
-    (λ k d within.
-    let first = get_or faults k d in
-    let no_later = no_earlier before first fault (upto k d within) from in
-    record {
-      scan = no_later.0;
-      turn = no_later.1;
-      channel = ap (λ (c : Option Channel). Some (first_channel c fault.channel)) (upto k d within).channel;
-    })
-    record {
-      scan = omega arith;
-      turn = λ same. omega arith;
-      channel = ap (λ (c : Channel). Some c) (first_is before.channel fault.channel from.channel);
-    }
+    -- one fault more strikes the same one
+    pub one-push : t.one_alone ≡ true → (before : Before Who) (faults : List Fault) (fault : Fault) → AreUpTo before faults → IsFrom before (parts fault) → StrikeOne parts faults →
+        StrikeOne parts (faults ++ fault ∷ [])
+    one-push alone before faults fault upto from one =
+        all_pairs_push (λ a b. (parts a).who ≡ (parts b).who) faults fault one (λ k d within. from.first alone (parts (get_or faults k d)).who ((upto k d within).first alone))
+
+    -- all faults are up to the line that came last
+    pub up_to-push : (before : Before Who) (faults : List Fault) (fault : Fault) → AreUpTo before faults → IsFrom before (parts fault) →
+        AreUpTo (before_next (strikes (parts fault)) before) (faults ++ fault ∷ [])
+    up_to-push before faults fault upto from =
+        All-push (λ f. IsUpTo (before_next (strikes (parts fault)) before) (parts f)) faults fault
+        (λ k d within.
+        let first = get_or faults k d in
+        let no_later = no_earlier before (parts first) (parts fault) (upto k d within) from in
+        record {
+          scan = no_later.0;
+          turn = no_later.1;
+          first = λ alone. ap (λ (c : Option Who). Some (first_struck c (parts fault).who)) ((upto k d within).first alone);
+        })
+        record {
+          scan = omega arith;
+          turn = λ same. omega arith;
+          first = λ alone. ap (λ (c : Who). Some c) (first_is before.first (parts fault).who (from.first alone));
+        }

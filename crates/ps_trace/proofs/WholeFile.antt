@@ -9,10 +9,9 @@ use Rattle.ps_base.specs.declared.limits.TheConstants.{MOST_FAULT_LINES, LONGEST
 use Rattle.ps_lines.specs.Lines.{RawLine, Line, onto_first, raw_lines, bytes_of, kept_of, lines_from}
 use Rattle.ps_lines.specs.Lines.RawLine.{Ended, Last}
 use Rattle.ps_lines.specs.Lines.Line.{Kept, KeptLast, Long, Large}
-use Rattle.ps_model.specs.declared.channel.ImageSizes.{ImageSizes}
 use Rattle.ps_trace.specs.declared.fault_file.Before.{Before}
 use Rattle.ps_trace.specs.Scans.{at_line, number_after}
-use Rattle.ps_trace.specs.Faults.{Struck, before_next, faults_from, faults_of, line_struck, no_fault, onto_faults, struck_of}
+use Rattle.ps_trace.specs.Faults.{Struck, Targets, before_next, faults_from, faults_in, line_struck, no_fault, onto_faults, struck_of}
 use Rattle.ps_trace.specs.Faults.Struck.{broken}
 use Rattle.ps_trace.specs.FaultSays.{faults_read}
 use Rattle.ps_trace.specs.declared.fault_file.TheConstants.{LARGEST_READ}
@@ -50,98 +49,99 @@ lines_read at lines = lines_from LARGEST_READ LONGEST_FAULT_LINE at lines
 abbrev all_lines : List RawLine → List Line
 all_lines lines = map (kept_of LONGEST_FAULT_LINE) lines
 
--- a line that a rule refuses is the file's refusal, whatever stands behind it
-refused_here : (sizes : ImageSizes) (before : Before) (number : ℕ) (line : Line) (rest : List Line) (rule : Rule) → struck_of sizes before number line ≡ broken rule →
-    faults_from sizes before number (line ∷ rest) ≡ record { faults = []; refusal = Some (at_line rule number) }
-refused_here sizes before number line rest rule is =
-    ap (λ (said : Struck). onto_faults said number (faults_from sizes (before_next said before) (number_after line number) rest)) is
-
--- so two lines that one rule refuses refuse their files alike
-refused_alike : (sizes : ImageSizes) (before : Before) (number : ℕ) (line other : Line) (rest others : List Line) (rule : Rule) →
-    struck_of sizes before number line ≡ broken rule → struck_of sizes before number other ≡ broken rule →
-    faults_from sizes before number (line ∷ rest) ≡ faults_from sizes before number (other ∷ others)
-refused_alike sizes before number line other rest others rule is that =
-    refused_here sizes before number line rest rule is ∙ sym (refused_here sizes before number other others rule that)
-
--- line 1,001 is refused, whatever it is
-struck_many : (sizes : ImageSizes) (before : Before) (number : ℕ) (line : Line) → MOST_FAULT_LINES < number → struck_of sizes before number line ≡ broken F5
-struck_many sizes before number line many =
-    ap (λ (b : Bool). if b then broken F5 else line_struck sizes before line) (lt-ltb MOST_FAULT_LINES number many)
-
-struck_few : (sizes : ImageSizes) (before : Before) (number : ℕ) (line : Line) → number ≤ MOST_FAULT_LINES → struck_of sizes before number line ≡ line_struck sizes before line
-struck_few sizes before number line few =
-    ap (λ (b : Bool). if b then broken F5 else line_struck sizes before line) (le-ltb MOST_FAULT_LINES number few)
-
--- a line that is too long is refused, also where it is not kept
-struck_long : (sizes : ImageSizes) (before : Before) (number : ℕ) (large : Bool) → number ≤ MOST_FAULT_LINES →
-    struck_of sizes before number (if large then Large else Long) ≡ broken F1
-struck_long sizes before number true few = struck_few sizes before number Large few
-struck_long sizes before number false few = struck_few sizes before number Long few
-
 -- a line of which no byte stands past the largest size is read as it is
 read_near : (at : ℕ) (line : RawLine) → at + bytes_of line ≤ LARGEST_READ → read_line at line ≡ kept_of LONGEST_FAULT_LINE line
 read_near at line near =
     ap (λ (b : Bool). if b then Large else kept_of LONGEST_FAULT_LINE line) (le-ltb LARGEST_READ (at + bytes_of line) near)
 
--- a line that is too long is refused on both sides
-both_long : (sizes : ImageSizes) (before : Before) (number at : ℕ) (line : RawLine) (rest others : List Line) → number ≤ MOST_FAULT_LINES →
-    kept_of LONGEST_FAULT_LINE line ≡ Long → faults_from sizes before number (read_line at line ∷ rest) ≡ faults_from sizes before number (kept_of LONGEST_FAULT_LINE line ∷ others)
-both_long sizes before number at line rest others few long =
-    refused_alike sizes before number (read_line at line) (kept_of LONGEST_FAULT_LINE line) rest others F1
-    (ap (λ (l : Line). struck_of sizes before number (if nat_lt LARGEST_READ (at + bytes_of line) then Large else l)) long
-    ∙ struck_long sizes before number (nat_lt LARGEST_READ (at + bytes_of line)) few)
-    (ap (struck_of sizes before number) long ∙ struck_few sizes before number Long few)
+module _ {Who Fault : Type 0} (t : Targets Who Fault) where
+  -- a line that a rule refuses is the file's refusal, whatever stands behind it
+  refused_here : (before : Before Who) (number : ℕ) (line : Line) (rest : List Line) (rule : Rule) → struck_of t before number line ≡ broken rule →
+      faults_from t before number (line ∷ rest) ≡ record { faults = []; refusal = Some (at_line rule number) }
+  refused_here before number line rest rule is =
+      ap (λ (said : Struck Who). onto_faults t said number (faults_from t (before_next said before) (number_after line number) rest)) is
 
--- a line that is kept gives the same on both sides, where the lines behind it do
-both_kept : (sizes : ImageSizes) (before : Before) (number at : ℕ) (line : RawLine) (kept : Line) (rest others : List Line) →
-    at + bytes_of line ≤ LARGEST_READ → kept_of LONGEST_FAULT_LINE line ≡ kept →
-    ((next : Before) → faults_from sizes next (number_after kept number) rest ≡ faults_from sizes next (number_after kept number) others) →
-    faults_from sizes before number (read_line at line ∷ rest) ≡ faults_from sizes before number (kept_of LONGEST_FAULT_LINE line ∷ others)
-both_kept sizes before number at line kept rest others near is later =
-    ap (λ (l : Line). faults_from sizes before number (l ∷ rest)) (read_near at line near ∙ is)
-    ∙ ap (onto_faults (struck_of sizes before number kept) number) (later (before_next (struck_of sizes before number kept) before))
-    ∙ sym (ap (λ (l : Line). faults_from sizes before number (l ∷ others)) is)
+  -- so two lines that one rule refuses refuse their files alike
+  refused_alike : (before : Before Who) (number : ℕ) (line other : Line) (rest others : List Line) (rule : Rule) →
+      struck_of t before number line ≡ broken rule → struck_of t before number other ≡ broken rule →
+      faults_from t before number (line ∷ rest) ≡ faults_from t before number (other ∷ others)
+  refused_alike before number line other rest others rule is that =
+      refused_here before number line rest rule is ∙ sym (refused_here before number other others rule that)
 
--- a line that a line feed ends, behind lines of at most 600 bytes and their line feeds
-both_ended : (sizes : ImageSizes) (before : Before) (number at : ℕ) (bytes : List ℕ) (rest others : List Line) → at + 601 ≤ 601 * number →
-    (length bytes ≤ LONGEST_FAULT_LINE → (next : Before) → faults_from sizes next (number + 1) rest ≡ faults_from sizes next (number + 1) others) →
-    faults_from sizes before number (read_line at (Ended bytes) ∷ rest) ≡ faults_from sizes before number (kept_of LONGEST_FAULT_LINE (Ended bytes) ∷ others)
-both_ended sizes before number at bytes rest others near later =
-    ⊎_elim (λ few. ⊎_elim
-    (λ short. both_kept sizes before number at (Ended bytes) (Kept (strip_carriage_return bytes)) rest others (omega (arith, near, few.1, short.1))
-    (ap (λ (b : Bool). if b then Long else Kept (strip_carriage_return bytes)) (le-ltb LONGEST_FAULT_LINE (length bytes) short.1)) (later short.1))
-    (λ long. both_long sizes before number at (Ended bytes) rest others few.1
-    (ap (λ (b : Bool). if b then Long else Kept (strip_carriage_return bytes)) (lt-ltb LONGEST_FAULT_LINE (length bytes) long.1)))
-    (leb_tells (length bytes) LONGEST_FAULT_LINE))
-    (λ many. refused_alike sizes before number (read_line at (Ended bytes)) (kept_of LONGEST_FAULT_LINE (Ended bytes)) rest others F5
-    (struck_many sizes before number (read_line at (Ended bytes)) many.1) (struck_many sizes before number (kept_of LONGEST_FAULT_LINE (Ended bytes)) many.1))
-    (leb_tells number MOST_FAULT_LINES)
+  -- line 1,001 is refused, whatever it is
+  struck_many : (before : Before Who) (number : ℕ) (line : Line) → MOST_FAULT_LINES < number → struck_of t before number line ≡ broken F5
+  struck_many before number line many =
+      ap (λ (b : Bool). if b then broken F5 else line_struck t before line) (lt-ltb MOST_FAULT_LINES number many)
 
--- a line that the text's end ends
-both_last : (sizes : ImageSizes) (before : Before) (number at : ℕ) (bytes : List ℕ) (rest others : List Line) → at + 601 ≤ 601 * number → rest ≡ others →
-    faults_from sizes before number (read_line at (Last bytes) ∷ rest) ≡ faults_from sizes before number (kept_of LONGEST_FAULT_LINE (Last bytes) ∷ others)
-both_last sizes before number at bytes rest others near same =
-    ⊎_elim (λ few. ⊎_elim
-    (λ short. both_kept sizes before number at (Last bytes) (KeptLast bytes) rest others (omega (arith, near, few.1, short.1))
-    (ap (λ (b : Bool). if b then Long else KeptLast bytes) (le-ltb LONGEST_FAULT_LINE (length bytes) short.1)) (λ next. ap (faults_from sizes next number) same))
-    (λ long. both_long sizes before number at (Last bytes) rest others few.1
-    (ap (λ (b : Bool). if b then Long else KeptLast bytes) (lt-ltb LONGEST_FAULT_LINE (length bytes) long.1)))
-    (leb_tells (length bytes) LONGEST_FAULT_LINE))
-    (λ many. refused_alike sizes before number (read_line at (Last bytes)) (kept_of LONGEST_FAULT_LINE (Last bytes)) rest others F5
-    (struck_many sizes before number (read_line at (Last bytes)) many.1) (struck_many sizes before number (kept_of LONGEST_FAULT_LINE (Last bytes)) many.1))
-    (leb_tells number MOST_FAULT_LINES)
+  struck_few : (before : Before Who) (number : ℕ) (line : Line) → number ≤ MOST_FAULT_LINES → struck_of t before number line ≡ line_struck t before line
+  struck_few before number line few =
+      ap (λ (b : Bool). if b then broken F5 else line_struck t before line) (le-ltb MOST_FAULT_LINES number few)
 
-both_sides : (lines : List RawLine) (sizes : ImageSizes) (before : Before) (number at : ℕ) → EndsLast lines → at + 601 ≤ 601 * number →
-    faults_from sizes before number (lines_read at lines) ≡ faults_from sizes before number (all_lines lines)
-unfolding EndsLast
-both_sides [] sizes before number at ends near = refl
-both_sides (Ended bytes ∷ lines) sizes before number at ends near =
-    both_ended sizes before number at bytes (lines_read (at + (length bytes + 1)) lines) (all_lines lines) near
-    (λ short next. both_sides lines sizes next (number + 1) (at + (length bytes + 1)) ends (omega (arith, near, short)))
-both_sides (Last bytes ∷ lines) sizes before number at ends near =
-    both_last sizes before number at bytes (lines_read (at + length bytes) lines) (all_lines lines) near
-    (ap (lines_read (at + length bytes)) ends ∙ sym (ap all_lines ends))
+  -- a line that is too long is refused, also where it is not kept
+  struck_long : (before : Before Who) (number : ℕ) (large : Bool) → number ≤ MOST_FAULT_LINES →
+      struck_of t before number (if large then Large else Long) ≡ broken F1
+  struck_long before number true few = struck_few before number Large few
+  struck_long before number false few = struck_few before number Long few
 
--- what the reader gives of the lines that it looks at is what the file gives
-pub faults_whole : (text : List ℕ) (sizes : ImageSizes) → faults_read text sizes ≡ faults_of text sizes
-faults_whole text sizes = both_sides (raw_lines text) sizes no_fault 1 0 (raw_lines_end text) (omega arith)
+  -- a line that is too long is refused on both sides
+  both_long : (before : Before Who) (number at : ℕ) (line : RawLine) (rest others : List Line) → number ≤ MOST_FAULT_LINES →
+      kept_of LONGEST_FAULT_LINE line ≡ Long → faults_from t before number (read_line at line ∷ rest) ≡ faults_from t before number (kept_of LONGEST_FAULT_LINE line ∷ others)
+  both_long before number at line rest others few long =
+      refused_alike before number (read_line at line) (kept_of LONGEST_FAULT_LINE line) rest others F1
+      (ap (λ (l : Line). struck_of t before number (if nat_lt LARGEST_READ (at + bytes_of line) then Large else l)) long
+      ∙ struck_long before number (nat_lt LARGEST_READ (at + bytes_of line)) few)
+      (ap (struck_of t before number) long ∙ struck_few before number Long few)
+
+  -- a line that is kept gives the same on both sides, where the lines behind it do
+  both_kept : (before : Before Who) (number at : ℕ) (line : RawLine) (kept : Line) (rest others : List Line) →
+      at + bytes_of line ≤ LARGEST_READ → kept_of LONGEST_FAULT_LINE line ≡ kept →
+      ((next : Before Who) → faults_from t next (number_after kept number) rest ≡ faults_from t next (number_after kept number) others) →
+      faults_from t before number (read_line at line ∷ rest) ≡ faults_from t before number (kept_of LONGEST_FAULT_LINE line ∷ others)
+  both_kept before number at line kept rest others near is later =
+      ap (λ (l : Line). faults_from t before number (l ∷ rest)) (read_near at line near ∙ is)
+      ∙ ap (onto_faults t (struck_of t before number kept) number) (later (before_next (struck_of t before number kept) before))
+      ∙ sym (ap (λ (l : Line). faults_from t before number (l ∷ others)) is)
+
+  -- a line that a line feed ends, behind lines of at most 600 bytes and their line feeds
+  both_ended : (before : Before Who) (number at : ℕ) (bytes : List ℕ) (rest others : List Line) → at + 601 ≤ 601 * number →
+      (length bytes ≤ LONGEST_FAULT_LINE → (next : Before Who) → faults_from t next (number + 1) rest ≡ faults_from t next (number + 1) others) →
+      faults_from t before number (read_line at (Ended bytes) ∷ rest) ≡ faults_from t before number (kept_of LONGEST_FAULT_LINE (Ended bytes) ∷ others)
+  both_ended before number at bytes rest others near later =
+      ⊎_elim (λ few. ⊎_elim
+      (λ short. both_kept before number at (Ended bytes) (Kept (strip_carriage_return bytes)) rest others (omega (arith, near, few.1, short.1))
+      (ap (λ (b : Bool). if b then Long else Kept (strip_carriage_return bytes)) (le-ltb LONGEST_FAULT_LINE (length bytes) short.1)) (later short.1))
+      (λ long. both_long before number at (Ended bytes) rest others few.1
+      (ap (λ (b : Bool). if b then Long else Kept (strip_carriage_return bytes)) (lt-ltb LONGEST_FAULT_LINE (length bytes) long.1)))
+      (leb_tells (length bytes) LONGEST_FAULT_LINE))
+      (λ many. refused_alike before number (read_line at (Ended bytes)) (kept_of LONGEST_FAULT_LINE (Ended bytes)) rest others F5
+      (struck_many before number (read_line at (Ended bytes)) many.1) (struck_many before number (kept_of LONGEST_FAULT_LINE (Ended bytes)) many.1))
+      (leb_tells number MOST_FAULT_LINES)
+
+  -- a line that the text's end ends
+  both_last : (before : Before Who) (number at : ℕ) (bytes : List ℕ) (rest others : List Line) → at + 601 ≤ 601 * number → rest ≡ others →
+      faults_from t before number (read_line at (Last bytes) ∷ rest) ≡ faults_from t before number (kept_of LONGEST_FAULT_LINE (Last bytes) ∷ others)
+  both_last before number at bytes rest others near same =
+      ⊎_elim (λ few. ⊎_elim
+      (λ short. both_kept before number at (Last bytes) (KeptLast bytes) rest others (omega (arith, near, few.1, short.1))
+      (ap (λ (b : Bool). if b then Long else KeptLast bytes) (le-ltb LONGEST_FAULT_LINE (length bytes) short.1)) (λ next. ap (faults_from t next number) same))
+      (λ long. both_long before number at (Last bytes) rest others few.1
+      (ap (λ (b : Bool). if b then Long else KeptLast bytes) (lt-ltb LONGEST_FAULT_LINE (length bytes) long.1)))
+      (leb_tells (length bytes) LONGEST_FAULT_LINE))
+      (λ many. refused_alike before number (read_line at (Last bytes)) (kept_of LONGEST_FAULT_LINE (Last bytes)) rest others F5
+      (struck_many before number (read_line at (Last bytes)) many.1) (struck_many before number (kept_of LONGEST_FAULT_LINE (Last bytes)) many.1))
+      (leb_tells number MOST_FAULT_LINES)
+
+  both_sides : (lines : List RawLine) (before : Before Who) (number at : ℕ) → EndsLast lines → at + 601 ≤ 601 * number →
+      faults_from t before number (lines_read at lines) ≡ faults_from t before number (all_lines lines)
+  unfolding EndsLast
+  both_sides [] before number at ends near = refl
+  both_sides (Ended bytes ∷ lines) before number at ends near =
+      both_ended before number at bytes (lines_read (at + (length bytes + 1)) lines) (all_lines lines) near
+      (λ short next. both_sides lines next (number + 1) (at + (length bytes + 1)) ends (omega (arith, near, short)))
+  both_sides (Last bytes ∷ lines) before number at ends near =
+      both_last before number at bytes (lines_read (at + length bytes) lines) (all_lines lines) near
+      (ap (lines_read (at + length bytes)) ends ∙ sym (ap all_lines ends))
+
+  -- what the reader gives of the lines that it looks at is what the file gives
+  pub faults_whole : (text : List ℕ) → faults_read t text ≡ faults_in t text
+  faults_whole text = both_sides (raw_lines text) no_fault 1 0 (raw_lines_end text) (omega arith)

@@ -1,5 +1,5 @@
 -- What a fault file says.
-use Rattle.std.specs.Prelude.{ℕ, List, [], ◌∷◌, ◌+◌, ◌*◌, Bool, true, false, ◌==◌, ◌||◌, ◌&&◌, nat_lt, nat_le, if◌then◌else◌, Option, Some, None, Result, Ok, Err, length, map, codes}
+use Rattle.std.specs.Prelude.{ℕ, List, [], ◌∷◌, ◌+◌, ◌*◌, Bool, true, false, not, ◌==◌, ◌||◌, ◌&&◌, nat_lt, nat_le, if◌then◌else◌, Option, Some, None, Result, Ok, Err, length, map, codes}
 use Rattle.std.specs.Str.{bytes_eq}
 use Rattle.hex.specs.Hex.{decode_of}
 use Rattle.hex.specs.declared.error.FromHexError.{FromHexError}
@@ -16,6 +16,7 @@ use Rattle.ps_model.specs.declared.channel.Region.TheVariants.{Code, Cells}
 use Rattle.ps_model.specs.declared.channel.Fault.{Fault}
 use Rattle.ps_model.specs.declared.channel.ImageSizes.{ImageSizes}
 use Rattle.ps_trace.specs.declared.fault_file.Before.{Before}
+use Rattle.ps_trace.specs.declared.target.FaultLine.{FaultLine}
 use Rattle.ps_trace.specs.Words.{fields, number_of}
 use Rattle.ps_trace.specs.Scans.{at_line, number_after}
 
@@ -34,9 +35,17 @@ abbrev pub above_zero : Option ℕ → Option ℕ
 above_zero None = None
 above_zero (Some n) = if n == 0 then None else Some n
 
--- the channel that a word names
-abbrev pub channel_of : List ℕ → Option Channel
-channel_of word = if bytes_eq word (codes "A") then Some A else if bytes_eq word (codes "B") then Some B else None
+-- Who the faults of a file strike, and what a fault is that strikes one.
+pub record Targets (Who Fault : Type 0) : Type 0 where
+  -- who a word names, and whether two are the same
+  pub named : List ℕ → Option Who
+  pub is_same : Who → Who → Bool
+  -- the length of a region
+  pub length_of : Who → Region → ℕ
+  -- the fault of a line with this number
+  pub made : (number : ℕ) → FaultLine Who → Fault
+  -- whether a file may strike one alone
+  pub one_alone : Bool
 
 -- the region that a word names
 abbrev pub region_of : List ℕ → Option Region
@@ -51,27 +60,128 @@ value_if_ok (Err error) = None
 abbrev pub bytes_said : List ℕ → Option (List ℕ)
 bytes_said word = if nat_lt 0 (length word) && nat_le (length word) (2 * MOST_FAULT_BYTES) then value_if_ok (decode_of word) else None
 
--- a fault, where each of its parts is right
-abbrev pub fault_of_parts : (scan turn : Option ℕ) → Option Channel → Option Region → Option ℕ → Option (List ℕ) → Option Fault
-fault_of_parts (Some scan) (Some turn) (Some channel) (Some region) (Some at) (Some bytes) =
-    Some record { scan = scan; turn = turn; channel = channel; region = region; at = at; bytes = bytes }
-fault_of_parts _ _ _ _ _ _ = None
+-- a fault line, where each of its parts is right
+abbrev pub line_of_parts : {Who : Type 0} → (scan turn : Option ℕ) → Option Who → Option Region → Option ℕ → Option (List ℕ) → Option (FaultLine Who)
+line_of_parts (Some scan) (Some turn) (Some who) (Some region) (Some at) (Some bytes) =
+    Some record { scan = scan; turn = turn; who = who; region = region; at = at; bytes = bytes }
+line_of_parts _ _ _ _ _ _ = None
 
--- the last four words: channel, region, offset and bytes
-abbrev pub target_said : (scan turn : Option ℕ) → List (List ℕ) → Option Fault
-target_said scan turn (channel ∷ region ∷ at ∷ bytes ∷ []) = fault_of_parts scan turn (channel_of channel) (region_of region) (number_of at) (bytes_said bytes)
-target_said scan turn _ = None
+module _ {Who : Type 0} (named : List ℕ → Option Who) where
+  -- the last four words: who, region, offset and bytes
+  abbrev pub target_said : (scan turn : Option ℕ) → List (List ℕ) → Option (FaultLine Who)
+  target_said scan turn (who ∷ region ∷ at ∷ bytes ∷ []) = line_of_parts scan turn (named who) (region_of region) (number_of at) (bytes_said bytes)
+  target_said scan turn _ = None
 
--- behind the scan: the word `turn` and a turn, or turn 0
-abbrev pub turn_said : Option ℕ → List (List ℕ) → Option Fault
-turn_said scan words =
-    if bytes_eq (first_of words) (codes "turn") then target_said scan (above_zero (number_of (first_of (others_of words)))) (others_of (others_of words))
-    else target_said scan (Some 0) words
+  -- behind the scan: the word `turn` and a turn, or turn 0
+  abbrev pub turn_said : Option ℕ → List (List ℕ) → Option (FaultLine Who)
+  turn_said scan words =
+      if bytes_eq (first_of words) (codes "turn") then target_said scan (above_zero (number_of (first_of (others_of words)))) (others_of (others_of words))
+      else target_said scan (Some 0) words
 
--- the fault that the words of a line are: `before`, a scan, perhaps a turn, and what it strikes
-abbrev pub fault_said : List (List ℕ) → Option Fault
-fault_said words =
-    if bytes_eq (first_of words) (codes "before") then turn_said (above_zero (number_of (first_of (others_of words)))) (others_of (others_of words)) else None
+  -- the fault line that words are: `before`, a scan, perhaps a turn, and what it strikes
+  abbrev pub fault_said : List (List ℕ) → Option (FaultLine Who)
+  fault_said words =
+      if bytes_eq (first_of words) (codes "before") then turn_said (above_zero (number_of (first_of (others_of words)))) (others_of (others_of words)) else None
+
+-- `Before` has the scan and the turn of the fault line before, and who the first one strikes.
+
+-- before the first fault line
+abbrev pub no_fault : {Who : Type 0} → Before Who
+no_fault = record { scan = 0; turn = 0; first = None }
+
+-- whether a scan, or with equal scans a turn, is less than that of the fault line before
+abbrev pub falls : {Who : Type 0} → Before Who → (scan turn : ℕ) → Bool
+falls before scan turn = nat_lt scan before.scan || (scan == before.scan && nat_lt turn before.turn)
+
+-- who the first fault line strikes, with a fault line behind
+abbrev pub first_struck : {Who : Type 0} → Option Who → Who → Who
+first_struck None who = who
+first_struck (Some first) who = first
+
+-- whether a fault line strikes another one than the first does
+abbrev pub is_other : {Who : Type 0} → (Who → Who → Bool) → Option Who → Who → Bool
+is_other is_same None who = false
+is_other is_same (Some first) who = not (is_same first who)
+
+-- What a line says: nothing, as it is skipped; a fault; or it is refused by a rule.
+pub data Struck (Who : Type 0) : Type 0 where
+  skipped : Struck Who
+  strikes : FaultLine Who → Struck Who
+  broken : Rule → Struck Who
+
+-- what stands before the next line
+abbrev pub before_next : {Who : Type 0} → Struck Who → Before Who → Before Who
+before_next (strikes line) before = record { scan = line.scan; turn = line.turn; first = Some (first_struck before.first line.who) }
+before_next _ before = before
+
+-- the faults of a file up to its end or its first refused line
+pub record FaultList (Fault : Type 0) : Type 0 where
+  pub faults : List Fault
+  pub refusal : Option Refusal
+
+module _ {Who Fault : Type 0} (t : Targets Who Fault) where
+  -- a fault line behind others
+  abbrev pub fault_judged : Before Who → FaultLine Who → Struck Who
+  fault_judged before line =
+      if falls before line.scan line.turn then broken F2
+      else if nat_lt (t.length_of line.who line.region) (line.at + length line.bytes) then broken F3
+      else if t.one_alone && is_other t.is_same before.first line.who then broken F4
+      else strikes line
+
+  -- a line, by the fault line that its words are: it is refused where they are none
+  abbrev pub form_judged : Before Who → Option (FaultLine Who) → Struck Who
+  form_judged before None = broken F1
+  form_judged before (Some line) = fault_judged before line
+
+  -- the words of a line that count
+  abbrev pub words_struck : Before Who → List (List ℕ) → Struck Who
+  words_struck before [] = skipped
+  words_struck before (word ∷ words) = form_judged before (fault_said t.named (word ∷ words))
+
+  -- a line, if it isn't line 1,001 of the file
+  abbrev pub line_struck : Before Who → Line → Struck Who
+  line_struck before (Kept line) = words_struck before (fields line)
+  line_struck before (KeptLast line) = words_struck before (fields line)
+  line_struck before Long = broken F1
+  line_struck before Large = broken F1
+
+  -- what a line with this number says, in front of what the later lines give
+  abbrev pub onto_faults : Struck Who → ℕ → FaultList Fault → FaultList Fault
+  onto_faults skipped number later = later
+  onto_faults (strikes line) number later = record { faults = t.made number line ∷ later.faults; refusal = later.refusal }
+  onto_faults (broken rule) number later = record { faults = []; refusal = Some (at_line rule number) }
+
+  -- what a line with this number says: line 1,001 is refused
+  abbrev pub struck_of : Before Who → ℕ → Line → Struck Who
+  struck_of before number line = if nat_lt MOST_FAULT_LINES number then broken F5 else line_struck before line
+
+  -- the faults of the lines from one with this number on
+  abbrev pub faults_from : Before Who → ℕ → List Line → FaultList Fault
+  faults_from before number [] = record { faults = []; refusal = None }
+  faults_from before number (line ∷ lines) =
+      onto_faults (struck_of before number line) number
+      (faults_from (before_next (struck_of before number line) before) (number_after line number) lines)
+
+-- the lines of a fault file, which has no largest size
+abbrev pub fault_lines : List ℕ → List Line
+fault_lines text = map (kept_of LONGEST_FAULT_LINE) (raw_lines text)
+
+-- the faults that a fault file gives, or its first refusal
+abbrev pub faults_in : {Who Fault : Type 0} → Targets Who Fault → List ℕ → FaultList Fault
+faults_in t text = faults_from t no_fault 1 (fault_lines text)
+
+-- ---- The fault file of two channels.
+
+-- the channel that a word names
+abbrev pub channel_of : List ℕ → Option Channel
+channel_of word = if bytes_eq word (codes "A") then Some A else if bytes_eq word (codes "B") then Some B else None
+
+-- whether two channels are the same
+abbrev pub is_same_channel : Channel → Channel → Bool
+is_same_channel A A = true
+is_same_channel A B = false
+is_same_channel B A = false
+is_same_channel B B = true
 
 -- the length of a region of a channel
 abbrev pub region_size : ImageSizes → Channel → Region → ℕ
@@ -80,91 +190,14 @@ region_size sizes A Cells = sizes.a_cells
 region_size sizes B Code = sizes.b_code
 region_size sizes B Cells = sizes.b_cells
 
--- `Before` has the scan and the turn of the fault line before, and the channel of the first one.
+-- the fault of a line, which keeps no number
+abbrev pub channel_fault : ℕ → FaultLine Channel → Fault
+channel_fault number line = record { scan = line.scan; turn = line.turn; channel = line.who; region = line.region; at = line.at; bytes = line.bytes }
 
--- before the first fault line
-abbrev pub no_fault : Before
-no_fault = record { scan = 0; turn = 0; channel = None }
+-- the channels of a world of two, of which a file strikes one alone
+abbrev pub two_channels : ImageSizes → Targets Channel Fault
+two_channels sizes = record { named = channel_of; is_same = is_same_channel; length_of = region_size sizes; made = channel_fault; one_alone = true }
 
--- whether a scan, or with equal scans a turn, is less than that of the fault line before
-abbrev pub falls : Before → (scan turn : ℕ) → Bool
-falls before scan turn = nat_lt scan before.scan || (scan == before.scan && nat_lt turn before.turn)
-
--- whether a channel is not that of the first fault line
-abbrev pub is_other : Option Channel → Channel → Bool
-is_other None channel = false
-is_other (Some A) A = false
-is_other (Some A) B = true
-is_other (Some B) A = true
-is_other (Some B) B = false
-
--- What a line says: nothing, as it is skipped; a fault; or it is refused by a rule.
-pub data Struck : Type 0 where
-  skipped : Struck
-  strikes : Fault → Struck
-  broken : Rule → Struck
-
--- a fault behind others
-abbrev pub fault_judged : ImageSizes → Before → Fault → Struck
-fault_judged sizes before fault =
-    if falls before fault.scan fault.turn then broken F2
-    else if nat_lt (region_size sizes fault.channel fault.region) (fault.at + length fault.bytes) then broken F3
-    else if is_other before.channel fault.channel then broken F4
-    else strikes fault
-
--- a line, by the fault that its words are: it is refused where they are none
-abbrev pub form_judged : ImageSizes → Before → Option Fault → Struck
-form_judged sizes before None = broken F1
-form_judged sizes before (Some fault) = fault_judged sizes before fault
-
--- the words of a line that count
-abbrev pub words_struck : ImageSizes → Before → List (List ℕ) → Struck
-words_struck sizes before [] = skipped
-words_struck sizes before (word ∷ words) = form_judged sizes before (fault_said (word ∷ words))
-
--- a line, if it isn't line 1,001 of the file
-abbrev pub line_struck : ImageSizes → Before → Line → Struck
-line_struck sizes before (Kept line) = words_struck sizes before (fields line)
-line_struck sizes before (KeptLast line) = words_struck sizes before (fields line)
-line_struck sizes before Long = broken F1
-line_struck sizes before Large = broken F1
-
--- the channel of the first fault line, with a fault behind
-abbrev pub first_channel : Option Channel → Channel → Channel
-first_channel None channel = channel
-first_channel (Some first) channel = first
-
--- what stands before the next line
-abbrev pub before_next : Struck → Before → Before
-before_next (strikes fault) before = record { scan = fault.scan; turn = fault.turn; channel = Some (first_channel before.channel fault.channel) }
-before_next _ before = before
-
--- the faults of a file up to its end or its first refused line
-pub record FaultList : Type 0 where
-  pub faults : List Fault
-  pub refusal : Option Refusal
-
--- what a line with this number says, in front of what the later lines give
-abbrev pub onto_faults : Struck → ℕ → FaultList → FaultList
-onto_faults skipped number later = later
-onto_faults (strikes fault) number later = record { faults = fault ∷ later.faults; refusal = later.refusal }
-onto_faults (broken rule) number later = record { faults = []; refusal = Some (at_line rule number) }
-
--- what a line with this number says: line 1,001 is refused
-abbrev pub struck_of : ImageSizes → Before → ℕ → Line → Struck
-struck_of sizes before number line = if nat_lt MOST_FAULT_LINES number then broken F5 else line_struck sizes before line
-
--- the faults of the lines from one with this number on
-abbrev pub faults_from : ImageSizes → Before → ℕ → List Line → FaultList
-faults_from sizes before number [] = record { faults = []; refusal = None }
-faults_from sizes before number (line ∷ lines) =
-    onto_faults (struck_of sizes before number line) number
-    (faults_from sizes (before_next (struck_of sizes before number line) before) (number_after line number) lines)
-
--- the lines of a fault file, which has no largest size
-abbrev pub fault_lines : List ℕ → List Line
-fault_lines text = map (kept_of LONGEST_FAULT_LINE) (raw_lines text)
-
--- the faults that a fault file gives, or its first refusal
-abbrev pub faults_of : List ℕ → ImageSizes → FaultList
-faults_of text sizes = faults_from sizes no_fault 1 (fault_lines text)
+-- the faults of channels that a fault file gives, or its first refusal
+abbrev pub faults_of : List ℕ → ImageSizes → FaultList Fault
+faults_of text sizes = faults_in (two_channels sizes) text

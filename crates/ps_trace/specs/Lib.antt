@@ -11,3 +11,4 @@ pub mod Feeds
 pub mod LineSays
 pub mod HeaderSays
 pub mod FaultSays
+pub mod Channels

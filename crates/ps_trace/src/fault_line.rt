@@ -1,25 +1,26 @@
-// The lines of a fault file of two channels.
+// The lines of a fault file.
 
 ghost use Rattle.std.specs.Prelude.{◌≡◌, ◌≤◌, ◌-◌, ◌∷◌, length, take, drop, IfOk};
 ghost use Rattle.ps_trace.specs.Words.{number_of, words};
-ghost use Rattle.ps_trace.specs.Faults.{above_zero, bytes_said, channel_of, fault_said, first_of, fault_of_parts, others_of, region_of, target_said};
+ghost use Rattle.ps_trace.specs.Faults.{above_zero, bytes_said, fault_said, first_of, line_of_parts, others_of, region_of, target_said};
 
+use crate::target::{FaultLine, Target};
 use crate::words::{next_word, number};
 use ps_base::limits::MOST_FAULT_BYTES;
 use ps_base::{Bytes, Memory};
-use ps_model::channel::{Channel, Fault, Region};
+use ps_model::channel::Region;
 use std::alloc::Global;
 
-// The fault that a line is, whose first word stands from `from` to `upto`. None: it does not have the form of one.
-pub(crate) fn read_fault(
+// The parts of the fault that a line is, whose first word stands from `from` to `upto`. None: it does not have the form of one.
+pub(crate) fn read_fault<W: Target>(
     alloc: Global,
     line: &[u8],
     from: usize,
     upto: usize,
-) -> Result<Option<Fault>, Memory>
+) -> Result<Option<FaultLine<W>>, Memory>
     requires ordered { from ≤ upto }
     requires within { upto ≤ length line.now }
-    ensures { IfOk result (λ fault. fault ≡ fault_said (take (upto - from) (drop from line.now) ∷ words (drop upto line.now))) }
+    ensures { IfOk result (λ fault. fault ≡ fault_said W.named_by (take (upto - from) (drop from line.now) ∷ words (drop upto line.now))) }
 {
     if &line[from..upto] != b"before".as_slice() {
         return Ok(None);
@@ -34,18 +35,18 @@ pub(crate) fn read_fault(
     read_target(alloc, line, next, scan, count(turn))
 }
 
-// The channel, the region, the offset and the bytes of a fault, which stand from `at` on.
-fn read_target(
+// Who is struck, the region, the offset and the bytes of a fault, which stand from `at` on.
+fn read_target<W: Target>(
     alloc: Global,
     line: &[u8],
     at: usize,
     scan: Option<u32>,
     turn: Option<u32>,
-) -> Result<Option<Fault>, Memory>
+) -> Result<Option<FaultLine<W>>, Memory>
     requires { at ≤ length line.now }
-    ensures { IfOk result (λ fault. fault ≡ target_said scan turn (words (drop at line.now))) }
+    ensures { IfOk result (λ fault. fault ≡ target_said W.named_by scan turn (words (drop at line.now))) }
 {
-    let (channel, next) = take_word(line, at);
+    let (who, next) = take_word(line, at);
     let (region, next) = take_word(line, next);
     let (offset, next) = take_word(line, next);
     let (bytes, next) = take_word(line, next);
@@ -53,31 +54,31 @@ fn read_target(
         return Ok(None);
     }
     let bytes = read_bytes(alloc, bytes)?;
-    Ok(fault(
+    Ok(fault_line(
         scan,
         turn,
-        channel_named(channel),
+        W::named(who),
         region_named(region),
         number(offset),
         bytes,
     ))
 }
 
-// A fault, where each of its parts is right.
-fn fault(
+// A fault line, where each of its parts is right.
+fn fault_line<W: Target>(
     scan: Option<u32>,
     turn: Option<u32>,
-    channel: Option<Channel>,
+    who: Option<W>,
     region: Option<Region>,
     at: Option<u32>,
     bytes: Option<Bytes>,
-) -> Option<Fault>
-    ensures { result ≡ fault_of_parts scan turn channel region at bytes }
+) -> Option<FaultLine<W>>
+    ensures { result ≡ line_of_parts scan turn who region at bytes }
 {
-    Some(Fault {
+    Some(FaultLine {
         scan: scan?,
         turn: turn?,
-        channel: channel?,
+        who: who?,
         region: region?,
         at: at?,
         bytes: bytes?,
@@ -104,18 +105,6 @@ fn count(word: &[u8]) -> Option<u32>
     match number(word) {
         Some(0) => None,
         other => other,
-    }
-}
-
-fn channel_named(word: &[u8]) -> Option<Channel>
-    ensures { result ≡ channel_of word.now }
-{
-    if word == b"A".as_slice() {
-        Some(Channel::A)
-    } else if word == b"B".as_slice() {
-        Some(Channel::B)
-    } else {
-        None
     }
 }
 

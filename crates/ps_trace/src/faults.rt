@@ -32,6 +32,13 @@ impl Faults {
         }
     }
 
+    // These faults.
+    pub(crate) fn of(items: Vec<Fault>) -> Faults
+        ensures { result ≡ items.items }
+    {
+        Faults { items }
+    }
+
     /// One more fault at the end.
     pub fn push(&mut self, fault: Fault) -> Result<(), Memory>
         ensures { OnOk result (self.new ≡ self.old ++ fault ∷ []) }

@@ -1,16 +1,20 @@
 //! Traces and fault files, read line by line.
 #![tactic(auto)]
 
+mod channels;
 mod fault_file;
 mod fault_line;
 mod faults;
 mod header;
 mod plain_line;
 mod scan_line;
+mod target;
 mod trace;
 mod words;
 
-pub use fault_file::read_faults;
+pub use channels::read_faults;
+pub use fault_file::read_faults_of;
 pub use faults::Faults;
+pub use target::{FaultLine, Target};
 pub use trace::{Next, TraceFail, TraceReader, TraceStop};
 pub use words::{next_word, number};

@@ -24,7 +24,7 @@ use ps_lines::{Got, Limits, LineReader, ReadFailed};
 use ps_model::app::App;
 use ps_model::report::Scan;
 use ps_outside::Files;
-use std::alloc::{AllocError, Global};
+use std::alloc::{AllocError, AllocFailed, Global};
 use thiserror::Error;
 
 const LIMITS: Limits = Limits {
@@ -55,6 +55,14 @@ impl From<AllocError> for TraceFail {
     ghost from_gives = { λ _ fail. fail ≡ NoMemory };
 
     fn from(_error: AllocError) -> TraceFail {
+        TraceFail::Memory
+    }
+}
+
+impl<T: Drop> From<AllocFailed<T>> for TraceFail {
+    ghost from_gives = { λ _ fail. fail ≡ NoMemory };
+
+    fn from(_error: AllocFailed<T>) -> TraceFail {
         TraceFail::Memory
     }
 }

@@ -1,14 +1,14 @@
 // The tests. A failed assertion names its row.
 
 use crate::application::MOTOR;
-use crate::scripts::SCRIPTS;
-use crate::tables::TABLES;
+use crate::scripts::scripts;
+use crate::tables::tables;
 use crate::{rows, script};
 use std::test::Fail;
 
 #[test]
 fn traces_with_faults_and_restarts(rt: HostRuntime) -> Result<(), Fail> {
-    for table in TABLES {
+    for table in tables() {
         rows::hold(&rt, rt.alloc(), table)?;
     }
     Ok(())
@@ -16,7 +16,7 @@ fn traces_with_faults_and_restarts(rt: HostRuntime) -> Result<(), Fail> {
 
 #[test]
 fn single_events(rt: HostRuntime) -> Result<(), Fail> {
-    for text in SCRIPTS {
+    for text in scripts() {
         script::hold(&rt, rt.alloc(), MOTOR, text)?;
     }
     Ok(())

@@ -1,9 +1,9 @@
 -- The sixteen bytes of each instance, as seat B keeps them.
-use Rattle.std.proofs.Common.{◌≡◌, ◌≢◌, ℕ, zero, suc, ◌+◌, ◌*◌, ◌<◌, ◌≤◌, List, [], ◌∷◌, ◌++◌, length, take, drop, get_or, refl, sym, ap, ◌∙◌, inl, inr, subst, lit<, arith, length-append, length-drop, take-append-drop, Option, Some}
+use Rattle.std.proofs.Common.{◌≡◌, ℕ, zero, suc, ◌+◌, ◌*◌, ◌<◌, ◌≤◌, List, [], ◌∷◌, ◌++◌, length, take, drop, get_or, refl, sym, ap, ◌∙◌, inl, inr, subst, lit<, arith, length-append, length-drop, take-append-drop, Some}
 use Rattle.std.specs.Prelude.{slice_get, slice_index}
 use Rattle.std.specs.Int.{w32, to_be_bytes}
 use Rattle.std.proofs.lemmas.Bool.{cases_eq}
-use Rattle.std.proofs.lemmas.List.{drop-drop, drop_at, take_at, drop_all, nil_from_length, length-take-le}
+use Rattle.std.proofs.lemmas.List.{drop-drop, drop_at, take_at, nil_from_length, length-take-le}
 use Rattle.ps_model.specs.Kept.{healed}
 use Rattle.ps_model.specs.Stored.{kept_in}
 use Rattle.ps_machine.specs.Bytes.{replaced}

@@ -1,5 +1,5 @@
 -- What seat B keeps of an instance stands for what its source keeps.
-use Rattle.std.proofs.Common.{◌≡◌, ◌≢◌, ℕ, zero, suc, ◌+◌, ◌*◌, ◌-◌, ◌<◌, ◌≤◌, ◌^◌, Bool, true, false, cond, List, [], ◌∷◌, ◌++◌, length, take, drop, get_or, refl, sym, ap, ◌∙◌, subst, arith, Option, Some, None, lit<}
+use Rattle.std.proofs.Common.{◌≡◌, ℕ, zero, suc, ◌-◌, ◌<◌, ◌^◌, Bool, true, false, cond, List, [], ◌∷◌, ◌++◌, refl, sym, ap, ◌∙◌, subst, arith, Some, None, lit<}
 use Rattle.std.specs.Prelude.{slice_index, slice_get, nat_lt, ◌==◌, replicate}
 use Rattle.std.specs.List.{list_any}
 use Rattle.std.specs.Int.{w16, w32, to_be_bytes}
@@ -19,7 +19,6 @@ use Rattle.ps_model.proofs.Keeping.{heals}
 use Rattle.ps_model.proofs.Sixteen.{load_of_store}
 use Rattle.ps_machine.specs.Bytes.{replaced}
 use Rattle.ps_machine.specs.Standing.{StandsBlock, limit_from, limit_in}
-use Rattle.ps_eqvm.specs.Plain.{complement}
 use Rattle.ps_eqvm.proofs.Again.{bytes-append, one, four}
 use Rattle.ps_eqvm.proofs.Complements.{complement_small}
 use Rattle.ps_eqvm.proofs.StoredBytes.{bit_low}

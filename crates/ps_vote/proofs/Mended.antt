@@ -1,14 +1,12 @@
 -- Every vote releases the report of the meaning: over mended lists, and so over lists that spoil one seat.
-use Rattle.std.proofs.Common.{inl, inr, ◌≡◌, ◌≢◌, ℕ, ◌<◌, ◌^◌, Bool, true, false, cond, List, [], ◌∷◌, ◌++◌, length, refl, sym, ap, ◌∙◌, subst}
-use Rattle.ps_model.specs.declared.channel.Region.{Region}
+use Rattle.std.proofs.Common.{inl, inr, ◌≡◌, ℕ, ◌<◌, ◌^◌, true, false, cond, List, [], ◌∷◌, ◌++◌, length, sym, ap, ◌∙◌, subst}
 use Rattle.ps_model.specs.Network.{Network, input_count, instance_count}
 use Rattle.ps_model.specs.Scanning.{State}
-use Rattle.ps_model.specs.Meaning.{Past, nothing, old_state, Meaning, Runs, report}
+use Rattle.ps_model.specs.Meaning.{Past, nothing, Meaning, Runs}
 use Rattle.ps_model.specs.PastAfter.{past_after}
 use Rattle.ps_machine.specs.Keeping.{Keeps}
 use Rattle.ps_seat.specs.Outcomes.{GivesSized}
 use Rattle.ps_vote.specs.declared.seat.Seat.{Seat}
-use Rattle.ps_vote.specs.declared.seat.Vote.{Vote}
 use Rattle.ps_vote.specs.declared.seat.Vote.TheVariants.{All, Two, Split}
 use Rattle.ps_vote.specs.Worlds.{Machines, World_state, Event, Begin, Turn, Spoil, TakeVote, Restart, Heal, is_same, machine, channel, source, rebuilt, mark, world_0}
 use Rattle.ps_vote.specs.Votes.{vote}
@@ -16,8 +14,7 @@ use Rattle.ps_vote.specs.Steps.{world_step, after, is_in_region, May, Lawful}
 use Rattle.ps_vote.specs.Lists.{SpoilsOnly, HasNoSpoil, OthersAreClean, IsMended, items_of}
 use Rattle.ps_vote.specs.Laws.{VoteComes, ReleasesMeaning, SpoiledSeatIsOutvoted, MendedSeats}
 use Rattle.ps_vote.proofs.Seated.{same_or_other, same_either_way, none_marked, mark_in}
-use Rattle.ps_vote.proofs.Voted.{Shares}
-use Rattle.ps_vote.proofs.Standing.{Sound, beginning_sound, MayBeOut, may_be_out, voted, voted_all, healed_clean, goes_on, after_sound}
+use Rattle.ps_vote.proofs.Standing.{Sound, beginning_sound, may_be_out, voted, voted_all, healed_clean, goes_on, after_sound}
 
 lawful_front : (m : Machines) (n : ℕ) (es : List Event) (e : Event) (x : World_state) → Lawful m n (es ++ e ∷ []) x → Lawful m n es x
 lawful_front m n [] e x law = tt

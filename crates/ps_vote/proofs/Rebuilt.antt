@@ -1,17 +1,15 @@
 -- A seat that was rebuilt stands where its source stands.
-use Rattle.std.proofs.Common.{◌≡◌, ℕ, zero, suc, ◌+◌, ◌*◌, ◌-◌, ◌<◌, ◌≤◌, ◌^◌, Bool, cond, List, [], ◌∷◌, ◌++◌, length, take, drop, refl, sym, ap, ◌∙◌, subst, arith, length-append, length-drop, take-append-drop, append-nil}
-use Rattle.std.specs.Prelude.{slice_index, nat_lt, map, replicate}
-use Rattle.std.specs.List.{range_with_len}
-use Rattle.std.specs.Int.{w32, to_be_bytes, from_be_bytes}
+use Rattle.std.proofs.Common.{◌≡◌, ℕ, ◌+◌, ◌*◌, ◌≤◌, List, ◌++◌, length, take, drop, refl, sym, ap, ◌∙◌, subst, arith, length-drop, append-nil}
+use Rattle.std.specs.Prelude.{slice_index, nat_lt}
 use Rattle.std.proofs.lemmas.Bool.{cond-false, le-ltb}
-use Rattle.std.proofs.lemmas.List.{get_or-drop, drop-drop, drop_at, take_at, drop_all, length-take-le, length-replicate}
-use Rattle.std.proofs.lemmas.List.FromFn.{fill_by_all, length-map-range_with_len}
+use Rattle.std.proofs.lemmas.List.{get_or-drop, drop-drop, drop_at, drop_all, length-take-le}
+use Rattle.std.proofs.lemmas.List.FromFn.{fill_by_all}
 use Rattle.ps_model.specs.Network.{Network, signal_count, instance_count, kind_at}
 use Rattle.ps_model.specs.Scanning.{State, block_in}
-use Rattle.ps_machine.specs.Bytes.{replaced, overwritten, be4}
+use Rattle.ps_machine.specs.Bytes.{replaced, overwritten}
 use Rattle.ps_machine.specs.Standing.{StandsBlock, StandsIn}
-use Rattle.ps_machine.proofs.Instances.{bytes_at, block_is}
-use Rattle.ps_machine.proofs.Places.{length-replaced, index_before}
+use Rattle.ps_machine.proofs.Instances.{block_is}
+use Rattle.ps_machine.proofs.Places.{length-replaced}
 use Rattle.ps_vote.specs.Healing.{bytes_from, filled}
 
 -- ---- Cells that are filled.

@@ -1,9 +1,8 @@
 -- What a vote says of the reports of the three seats.
 use Rattle.std.proofs.Common.{◌⊎◌, inl, inr, ◌≡◌, ℕ, Bool, true, false, cond, List, length, Option, Some, None, refl, sym, ap, ◌∙◌, subst}
-use Rattle.std.specs.Prelude.{unwrap_or}
 use Rattle.std.proofs.lemmas.Bool.{cases_Bool, false≢true}
 use Rattle.ps_model.specs.declared.report.Report.{Report}
-use Rattle.ps_model.specs.Fields.{first_difference, blank_report}
+use Rattle.ps_model.specs.Fields.{first_difference}
 use Rattle.ps_model.proofs.FieldPlaces.{equal_from_no_difference, no_difference_from_equal}
 use Rattle.ps_machine.specs.Machines.{Machine}
 use Rattle.ps_seat.specs.Outcomes.{Outcome, gives, lacks, GivesSized}

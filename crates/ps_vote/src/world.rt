@@ -9,7 +9,6 @@ ghost use Rattle.ps_vote.specs.Worlds.Event.{Begin, Turn, Spoil, TakeVote, Resta
 ghost use Rattle.ps_vote.specs.Steps.{all_ended, region_in};
 ghost use Rattle.ps_vote.specs.Votes.{vote, vote_of, report_in, report_given, agree, shown, HasRoom};
 ghost use Rattle.ps_vote.specs.Whole.{machines_in, happened, with_rebuilt, IsWorldOf};
-
 ghost use Rattle.ps_model.specs.Budgets.{turns_a, turns_b};
 ghost use Rattle.ps_model.specs.Network.{instance_count};
 ghost use Rattle.ps_stackvm.specs.Channel.{workings_a};
@@ -40,10 +39,12 @@ use std::marker::Model;
 
 // Where the time of the scan stands in the cells of channel A, and where its signals begin.
 const STACK_TIME_AT: u32 = 6;
+
 const STACK_SIGNALS_AT: u32 = 74;
 
 // The same of channel C.
 const DECISION_TIME_AT: u32 = 5;
+
 const DECISION_SIGNALS_AT: u32 = 22;
 
 /// Three channels of one application, which make its scans event by event, and whose reports are voted on two out of three. A seat
@@ -116,14 +117,7 @@ fn agree(has: bool, report: &Report, has_other: bool, other: &Report) -> bool
 }
 
 // What a vote answers of the reports of the three seats, of which each may be none.
-fn vote_of(
-    has_a: bool,
-    a: &Report,
-    has_b: bool,
-    b: &Report,
-    has_c: bool,
-    c: &Report,
-) -> Vote
+fn vote_of(has_a: bool, a: &Report, has_b: bool, b: &Report, has_c: bool, c: &Report) -> Vote
     requires outs_b { length a.now.outs ≡ length b.now.outs }
     requires diags_b { length a.now.diags ≡ length b.now.diags }
     requires outs_c { length a.now.outs ≡ length c.now.outs }
@@ -261,8 +255,8 @@ impl VoteWorld {
         self.b.begin(scan);
         self.c.begin(scan);
         self.last = scan.now;
-        self.begun = true;
         self.outvoted = None;
+        self.begun = true;
     }
 
     /// Whether a seat has ended: its progress is not Running, or it has spent its budget of turns.
@@ -400,28 +394,58 @@ impl VoteWorld {
     fn rebuild_a(&mut self)
         ensures { self.new ≡ with_rebuilt Seat.A self.old }
     {
-        read(self.c.channel(), DECISION_SIGNALS_AT as usize, &mut self.room.bytes);
+        read(
+            self.c.channel(),
+            DECISION_SIGNALS_AT as usize,
+            &mut self.room.bytes,
+        );
         let time = self.last.to_be_bytes();
-        fill(&mut self.a, STACK_TIME_AT, &time, STACK_SIGNALS_AT, &self.room.bytes);
+        fill(
+            &mut self.a,
+            STACK_TIME_AT,
+            &time,
+            STACK_SIGNALS_AT,
+            &self.room.bytes,
+        );
     }
 
     // Rebuilds seat B from seat A.
     fn rebuild_b(&mut self)
         ensures { self.new ≡ with_rebuilt Seat.B self.old }
     {
-        read(self.a.channel(), STACK_SIGNALS_AT as usize, &mut self.room.bytes);
+        read(
+            self.a.channel(),
+            STACK_SIGNALS_AT as usize,
+            &mut self.room.bytes,
+        );
         store_counted(&mut self.room.bytes, &self.limits, self.last);
         let mut time = self.last.to_be_bytes();
         complement(&mut time);
-        fill(&mut self.b, LAST_AT as u32, &time, SIGNALS_AT as u32, &self.room.bytes);
+        fill(
+            &mut self.b,
+            LAST_AT as u32,
+            &time,
+            SIGNALS_AT as u32,
+            &self.room.bytes,
+        );
     }
 
     // Rebuilds seat C from seat A.
     fn rebuild_c(&mut self)
         ensures { self.new ≡ with_rebuilt Seat.C self.old }
     {
-        read(self.a.channel(), STACK_SIGNALS_AT as usize, &mut self.room.bytes);
+        read(
+            self.a.channel(),
+            STACK_SIGNALS_AT as usize,
+            &mut self.room.bytes,
+        );
         let time = self.last.to_be_bytes();
-        fill(&mut self.c, DECISION_TIME_AT, &time, DECISION_SIGNALS_AT, &self.room.bytes);
+        fill(
+            &mut self.c,
+            DECISION_TIME_AT,
+            &time,
+            DECISION_SIGNALS_AT,
+            &self.room.bytes,
+        );
     }
 }

@@ -1,4 +1,4 @@
-use Rattle.std.proofs.Common.{◌≡◌, suc, ◌+◌, ◌-◌, ◌∷◌, ◌∙◌, drop, sym, ap, arith}
+use Rattle.std.proofs.Common.{◌≡◌, ◌+◌, ◌-◌, ◌∷◌, ◌∙◌, drop, sym, ap, arith}
 use Rattle.ps_model.specs.Steps.{action}
 use Rattle.ps_machine.specs.Standing.{limit_from}
 use Rattle.ps_decision.proofs.Counted.{are_calls}

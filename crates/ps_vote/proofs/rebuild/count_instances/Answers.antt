@@ -1,4 +1,4 @@
-use Rattle.std.proofs.Common.{◌≡◌, ◌+◌, ◌*◌, ◌∙◌, refl, length, sym, subst, arith}
+use Rattle.std.proofs.Common.{◌+◌, ◌∙◌, refl, sym, subst, arith}
 use Rattle.ps_vote.proofs.Chunks.{CountedTo, counted_more, all_counted}
 use Rattle.ps_vote.proofs.rebuild.count_instances.Goals as goal
 

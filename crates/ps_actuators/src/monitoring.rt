@@ -9,7 +9,7 @@ ghost use Rattle.ps_model.specs.PinBits.{pin_of};
 ghost use Rattle.ps_actuators.specs.EdmStates.{code_of};
 
 use ps_block::{Image, Outs, Pins, SafetyBlock, Seen};
-use ps_model::kind::Kind;
+use ps_model::Kind;
 
 /// A state of the table, one for each DiagCode.
 #[derive(Clone, Copy, PartialEq, Eq, Debug)]

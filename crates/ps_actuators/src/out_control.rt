@@ -8,7 +8,7 @@ ghost use Rattle.ps_block.specs.Seeing.{conditions_of};
 ghost use Rattle.ps_actuators.specs.OutControlStates.{code_of};
 
 use ps_block::{Image, Outs, Pins, SafetyBlock, Seen};
-use ps_model::kind::Kind;
+use ps_model::Kind;
 
 /// A state of the table, one for each DiagCode.
 #[derive(Clone, Copy, PartialEq, Eq, Debug)]

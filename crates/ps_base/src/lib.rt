@@ -1,9 +1,9 @@
-// The words that all crates share: want of memory, places and refusals, lists of bytes, and the limits.
+//! The words that all crates share: want of memory, places and refusals, lists of bytes, and the limits.
 #![tactic(auto)]
 
-pub mod failing;
+mod failing;
 pub mod limits;
-pub mod lists;
+mod lists;
 
 pub use failing::{Fail, Memory, Place, Refusal, Rule};
 pub use lists::{Bytes, Label};

@@ -9,9 +9,7 @@ use ps_channel_tests::code::{accept, application, equation_code_of, stack_code_o
 use ps_channel_tests::texts::MOTOR;
 use ps_decision::{DecisionChannel, decision_image, turns_c};
 use ps_eqvm::EquationChannel;
-use ps_model::app::App;
-use ps_model::report::{Report, Scan};
-use ps_model::sizes::Sizes;
+use ps_model::{App, Report, Scan, Sizes};
 use ps_stackvm::StackChannel;
 use std::alloc::Global;
 

@@ -4,7 +4,7 @@ ghost use Rattle.std.specs.Prelude.{◌≡◌, length};
 ghost use Rattle.ps_trace.specs.Reading.{input_count_of};
 
 use ps_base::limits::LARGEST_TRACE;
-use ps_model::report::Scan;
+use ps_model::Scan;
 use ps_outside::Files;
 use ps_text_tests::inputs::{application, no_scan};
 use ps_trace::{Next, TraceFail, TraceReader, TraceStop};

@@ -6,8 +6,7 @@ ghost use Rattle.ps_model.specs.Kept.{Kept, fresh, stepped_at};
 ghost use Rattle.ps_model.specs.Stored.{Loads};
 ghost use Rattle.ps_model.specs.PinBits.{pin_of};
 
-use ps_model::kind::Kind;
-use ps_model::report::Diag;
+use ps_model::{Diag, Kind};
 
 /// The pins of a step, its limit and its time.
 #[derive(Clone, Copy, PartialEq, Eq, Debug)]

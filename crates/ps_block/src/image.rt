@@ -7,7 +7,7 @@ ghost use Rattle.ps_model.specs.Blocks.{block};
 ghost use Rattle.ps_model.specs.Kept.{Kept};
 ghost use Rattle.ps_model.specs.Stored.{Loads, stored, is_last, is_mode};
 
-use ps_model::kind::{Kind, auxiliary_pin, reset_pin};
+use ps_model::{Kind, auxiliary_pin, reset_pin};
 
 /// What the sixteen bytes of an instance hold (profile). Bytes 0 and 1 are the DiagCode, 2 the last
 /// Reset, 3 the last auxiliary input, 4 the latched mode, and 5 to 8 the time in ms at which the state

@@ -1,6 +1,6 @@
 // Rows and their places, and a step by rows of what may be nothing that the kind keeps.
 
-use ps_model::kind::Kind;
+use ps_model::Kind;
 use ps_rows::{CountedBlock, MaskRow, RowRange, next_of, row, row_count, state_rows};
 use std::process::Abort;
 

@@ -1,7 +1,7 @@
 // Walks of a block: by its typed state, as channel A and the evaluator step it, and beside it by channel B's rows.
 
 use ps_block::{Outs, Pins, SafetyBlock};
-use ps_model::kind::Kind;
+use ps_model::Kind;
 use ps_rows::CountedBlock;
 use std::process::Abort;
 

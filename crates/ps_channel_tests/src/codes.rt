@@ -5,7 +5,7 @@ use crate::code::{
 };
 use crate::texts::{DEEP, MOTOR, TIMES};
 use ps_base::Fail;
-use ps_model::app::App;
+use ps_model::App;
 use std::alloc::Global;
 
 // CONST 1, LOAD S_In, CONST 0, CONST 0, LOAD Ack, CALL; LOAD E.S_EStopOut, LOAD Run, AND, STORE S_Motor, END

@@ -7,9 +7,7 @@ ghost use Rattle.ps_channel_tests.specs.SideBySide.{IsOf};
 use crate::code::{accept, application};
 use crate::side_by_side::SideBySide;
 use ps_base::{Fail, Memory};
-use ps_model::app::App;
-use ps_model::report::{Diags, Scan};
-use ps_model::values::Bits;
+use ps_model::{App, Bits, Diags, Scan};
 use std::alloc::Global;
 
 // Whether the outputs are these digits.

@@ -8,8 +8,7 @@ use crate::side_by_side::SideBySide;
 use crate::tables::scan_of;
 use crate::texts::wide;
 use ps_base::{Fail, Memory};
-use ps_model::app::App;
-use ps_model::report::Scan;
+use ps_model::{App, Scan};
 use std::alloc::Global;
 
 // The figures of the application of 512 inputs, which are the most.

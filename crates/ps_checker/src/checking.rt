@@ -25,12 +25,7 @@ use crate::covering::is_covered;
 use crate::objection::{Checked, Objection};
 use ps_base::Rule;
 use ps_flow::{CertLine, Certificate, LineRule};
-use ps_model::app::App;
-use ps_model::kind::Ty;
-use ps_model::node::{Node, Shape};
-use ps_model::pins::input_count;
-use ps_model::step::{Arg, Args, Step};
-use ps_model::typing::{input_type, is_safe};
+use ps_model::{App, Arg, Args, Node, Shape, Step, Ty, input_count, input_type, is_safe};
 
 // Whether all premises are numbers of the first i lines.
 fn are_earlier(premises: &[u32], i: usize) -> bool

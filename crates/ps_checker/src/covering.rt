@@ -15,12 +15,7 @@ ghost use Rattle.ps_checker.specs.Marks.{is_marked};
 
 use ps_base::limits::MOST_NODES;
 use ps_flow::CertLine;
-use ps_model::app::App;
-use ps_model::kind::Ty;
-use ps_model::node::node_count;
-use ps_model::pins::input_count;
-use ps_model::step::{Arg, Args, Step};
-use ps_model::typing::{input_type, is_safe};
+use ps_model::{App, Arg, Args, Step, Ty, input_count, input_type, is_safe, node_count};
 
 // Marks each node of which a line speaks.
 fn mark_spoken(lines: &[CertLine], marks: &mut [bool])

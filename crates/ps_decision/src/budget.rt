@@ -7,10 +7,7 @@ ghost use Rattle.ps_model.specs.Budgets.{IsCall};
 ghost use Rattle.ps_model.specs.Steps.{action};
 ghost use Rattle.ps_decision.specs.Budget.{decisions, count_at_pin, count_of_step, turns_c};
 
-use ps_model::app::App;
-use ps_model::budget::boolean_count;
-use ps_model::expr::Expr;
-use ps_model::step::{Arg, Args, Step};
+use ps_model::{App, Arg, Args, Expr, Step, boolean_count};
 
 /// The budget of channel C: the number of rows of an application's code, the one that ends the scan among them. A scan of intact
 /// code is Done after at most so many turns, since a DECIDE passes rows over.

@@ -15,13 +15,11 @@ use crate::pins::pins_in_cells;
 use ps_actuators::{Edm, OutControl, SafetyRequest};
 use ps_block::{Pins, SafetyBlock};
 use ps_guards::{GuardLocking, GuardMonitoring};
-use ps_machine::calls::kind_by_number;
-use ps_model::budget::boolean_count;
-use ps_model::kind::{Kind, output_count};
+use ps_machine::kind_by_number;
+use ps_model::{Kind, boolean_count, output_count};
 use ps_operator::{EnableSwitch, ModeSelector, TwoHandThree, TwoHandTwo};
 use ps_sensors::{Antivalent, EmergencyStop, Equivalent, Espe};
-use ps_stackvm::Trap;
-use ps_stackvm::instance::step_instance;
+use ps_stackvm::{Trap, step_instance};
 
 // What a CALL names beside a kind: the instance, its first output signal and its limit in ms. `signals` is how many
 // signals there are, and `next` is where the following row stands.

@@ -7,7 +7,7 @@ ghost use Rattle.ps_decision.specs.Cells.{offset_of, progress_of, scan_time, pla
 ghost use Rattle.ps_decision.specs.Turn.{begin_c};
 
 use crate::layout::{FIRST_PIN, PIN_CELLS, PINS_AT, PROGRESS_AT, SIGNALS_AT, TIME_AT};
-use ps_model::channel::Progress;
+use ps_model::Progress;
 use ps_stackvm::Trap;
 
 // The number in the two bytes at a place, the highest first.

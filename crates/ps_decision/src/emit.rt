@@ -12,8 +12,7 @@ ghost use Rattle.ps_decision.specs.Rows.{bytes_of, encoded};
 use crate::budget::decisions;
 use crate::row::Row;
 use ps_base::Memory;
-use ps_model::expr::Expr;
-use ps_model::step::Arg;
+use ps_model::{Arg, Expr};
 
 // How many bytes a DECIDE and a SET have.
 const DECIDE_SIZE: u32 = 11;

@@ -19,12 +19,8 @@ use crate::laws::{decision_code_is_short, decision_code_keeps_the_meaning};
 use crate::layout::FIRST_PIN;
 use crate::row::Row;
 use ps_base::Memory;
-use ps_machine::CodeImage;
-use ps_machine::calls::{call_limit, free_value};
-use ps_model::app::App;
-use ps_model::budget::boolean_count;
-use ps_model::kind::{Kind, kind_number};
-use ps_model::step::{Args, Step};
+use ps_machine::{CodeImage, call_limit, free_value};
+use ps_model::{App, Args, Kind, Step, boolean_count, kind_number};
 use std::alloc::Global;
 
 /// The decision code of an accepted application: its steps in order, and END behind them (profile). Run by channel C, from cells

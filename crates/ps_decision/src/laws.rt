@@ -10,7 +10,7 @@ ghost use Rattle.ps_decision.specs.Channel.{machine_c};
 ghost use Rattle.ps_decision.specs.Code.{network_rows, code_c};
 ghost use Rattle.ps_decision.specs.Stands.{StandsC};
 
-use ps_model::app::App;
+use ps_model::App;
 
 /// Decision code keeps the meaning: from cells that stand for any state, a scan that is not earlier is Running up to the last
 /// of at most `turns_c` turns, which makes it Done, and none traps. After it the cells stand for the state that solves the scan,

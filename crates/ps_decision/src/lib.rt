@@ -20,7 +20,7 @@ mod emit;
 mod fetch;
 mod image;
 pub mod laws;
-mod layout;
+pub mod layout;
 mod pins;
 mod row;
 mod turn;

@@ -10,10 +10,7 @@ use ps_channel_tests::code::{accept, application};
 use ps_channel_tests::side_by_side::{SideBySide, same_report};
 use ps_channel_tests::tables;
 use ps_decision::{DecisionChannel, decision_image, turns_c};
-use ps_model::app::App;
-use ps_model::channel::Progress;
-use ps_model::report::{Report, Scan};
-use ps_model::sizes::Sizes;
+use ps_model::{App, Progress, Report, Scan, Sizes};
 use std::alloc::Global;
 
 /// Channel C of an application beside its channels A and B and the plain evaluator.

@@ -4,9 +4,7 @@ use ps_base::Fail;
 use ps_channel_tests::code::{Figures, accept, application};
 use ps_channel_tests::texts::{DEEP, MOTOR, TIMES, wide};
 use ps_decision::{DecisionChannel, DecisionImage, decision_image, turns_c};
-use ps_model::app::App;
-use ps_model::channel::Region;
-use ps_model::sizes::Sizes;
+use ps_model::{App, Region, Sizes};
 use std::alloc::Global;
 
 // The decision code of an application, where its SAFEBOOL flow is accepted.

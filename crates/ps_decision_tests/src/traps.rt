@@ -9,8 +9,7 @@ use ps_channel_tests::blocks::MODES;
 use ps_channel_tests::code::application;
 use ps_channel_tests::texts::MOTOR;
 use ps_decision::{DecisionChannel, DecisionImage};
-use ps_model::channel::{Progress, Region};
-use ps_model::sizes::Sizes;
+use ps_model::{Progress, Region, Sizes};
 use std::alloc::Global;
 
 // The bytes of words in hexadecimal; none where a word is no byte.

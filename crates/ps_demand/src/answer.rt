@@ -8,7 +8,7 @@ ghost use Rattle.ps_demand.specs.Answering.{IsAnswer};
 use crate::counting::count_leaves;
 use crate::demand::{Demand, DemandFail, MOST_LEAVES};
 use crate::slimming::slim_demand;
-use ps_model::app::App;
+use ps_model::App;
 use std::alloc::Global;
 
 /// What a SAFEBOOL output of an accepted application demands of the inputs of the same scan and of the signals of the scan before,

@@ -14,12 +14,9 @@ ghost use Rattle.ps_demand.specs.Requirement.{leaf_count};
 
 use crate::table::write_over;
 use ps_base::Memory;
-use ps_model::app::App;
-use ps_model::demands::{Need, demand};
-use ps_model::expr::Expr;
-use ps_model::kind::{Kind, Ty, safe_count};
-use ps_model::step::{Arg, Args, Step};
-use ps_model::typing::{input_type, is_safe};
+use ps_model::{
+    App, Arg, Args, Expr, Kind, Need, Step, Ty, demand, input_type, is_safe, safe_count,
+};
 use std::alloc::Global;
 
 // Whether a value is SAFEBOOL.

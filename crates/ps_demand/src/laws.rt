@@ -3,7 +3,7 @@
 ghost use Rattle.ps_model.specs.Typing.{Accepted};
 ghost use Rattle.ps_demand.specs.Laws.{ValuesMeetDemands, ScansMeetDemands, RunsMeetDemands, SlimHoldsTheSame};
 
-use ps_model::app::App;
+use ps_model::App;
 use ps_model::block_laws::each_demands;
 
 /// A formula made slim holds exactly where it did.

@@ -14,8 +14,7 @@ use crate::demand::{Demand, MOST_LEAVES};
 use crate::slimming::slim_signals;
 use crate::text::write_demand;
 use ps_base::{Bytes, Memory};
-use ps_model::app::App;
-use ps_model::typing::is_safe;
+use ps_model::{App, is_safe};
 use std::alloc::Global;
 use thiserror::Error;
 

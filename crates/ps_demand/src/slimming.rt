@@ -22,14 +22,10 @@ use crate::join::Join;
 use crate::joining::{add_part, slim_of_parts};
 use crate::table::write_over;
 use ps_base::Memory;
-use ps_model::app::App;
-use ps_model::demands::{Need, demand};
-use ps_model::driver::Driver;
-use ps_model::expr::Expr;
-use ps_model::kind::{Kind, Ty, safe_count};
-use ps_model::pins::pin_row;
-use ps_model::step::{Arg, Args, Step};
-use ps_model::typing::{input_type, is_safe};
+use ps_model::{
+    App, Arg, Args, Driver, Expr, Kind, Need, Step, Ty, demand, input_type, is_safe, pin_row,
+    safe_count,
+};
 use std::alloc::Global;
 
 // Whether a signal has a driver before step k.

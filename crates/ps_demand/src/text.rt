@@ -14,10 +14,7 @@ ghost use Rattle.ps_demand.specs.Views.{requirement};
 use crate::demand::{Demand, Demands};
 use crate::join::Join;
 use ps_base::{Bytes, Memory};
-use ps_model::app::App;
-use ps_model::driver::Driver;
-use ps_model::kind::output_count;
-use ps_model::pins::{pin_count, pin_name};
+use ps_model::{App, Driver, output_count, pin_count, pin_name};
 use std::alloc::Global;
 
 // Writes the name of an output of an instance at the end.

@@ -7,7 +7,7 @@ use ps_base::{Bytes, Fail, Memory, Place, Refusal, Rule};
 use ps_demand::{NoLines, demand_lines as lines_of_app};
 use ps_flow::{FlowFail, FlowRefusal, derive};
 use ps_lexer::lex;
-use ps_model::app::App;
+use ps_model::App;
 use ps_parser::parse;
 use ps_resolve::resolve;
 use std::alloc::Global;

@@ -11,7 +11,7 @@ ghost use Rattle.ps_names.specs.Tables.{Has};
 ghost use Rattle.ps_derived_rules.specs.BlockRules.{names_type, names_signal, named_as_type, named_wrongly, block_names};
 
 use ps_base::{Memory, Refusal, Rule};
-use ps_model::kind::{Kind, kind_named};
+use ps_model::{Kind, kind_named};
 use ps_names::{note_again, note_if};
 use ps_parser::{Name, Source};
 use ps_table::Table;

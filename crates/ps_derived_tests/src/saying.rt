@@ -4,7 +4,7 @@ use ps_base::Fail;
 use ps_derived::parse_library;
 use ps_flatten::flatten;
 use ps_lexer::lex;
-use ps_model::app::App;
+use ps_model::App;
 use ps_parser::Source;
 use ps_resolve::resolve;
 use std::alloc::Global;

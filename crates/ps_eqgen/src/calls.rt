@@ -6,8 +6,7 @@ ghost use Rattle.ps_model.specs.Scanning.{limit_of};
 ghost use Rattle.ps_model.specs.Args.{actual};
 ghost use Rattle.ps_machine.specs.Limits.{literal_time};
 
-use ps_model::kind::Kind;
-use ps_model::step::{Arg, Args};
+use ps_model::{Arg, Args, Kind};
 use ps_rows::{boolean_pins, own_limit};
 
 // The TIME literal that stands at a pin in ms, and else 0.

@@ -13,8 +13,7 @@ use ps_base::Memory;
 use ps_eqvm::layout::WORK_CELLS;
 use ps_eqvm::opcode::{Gate, Opcode};
 use ps_eqvm::operand::{constant, work_cell};
-use ps_model::expr::Expr;
-use ps_model::step::Arg;
+use ps_model::{Arg, Expr};
 
 /// The operand that has the value of an expression which is placed at a level.
 pub fn operand(e: &Expr, level: u8) -> u16

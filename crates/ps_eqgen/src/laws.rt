@@ -10,7 +10,7 @@ ghost use Rattle.ps_eqvm.specs.Code.{network_rows, code_b};
 ghost use Rattle.ps_eqvm.specs.Channel.{machine_b};
 ghost use Rattle.ps_eqvm.specs.Stands.{StandsB};
 
-use ps_model::app::App;
+use ps_model::App;
 
 /// Equation code keeps the meaning: from cells that stand for any state, a scan that is not earlier is
 /// Running up to the last of exactly `turns_b` turns, which makes it Done, and none traps. After it the

@@ -51,10 +51,12 @@ abbrev mutual
   expression_rows d (all_of es) = group_rows d all_row es
   expression_rows d (any_of es) = group_rows d any_row es
 
+  -- the rows of a group: its first operand is set into work cell d, and then come the others
   pub group_rows : ℕ → (join : ℕ → ℕ → EquationRow) → Formulas → List EquationRow
   group_rows d join no_operand = []
   group_rows d join (operand e es) = expression_rows (d + 1) e ++ (set_row (work d) (operand_at (d + 1) e) ∷ later_rows d join es)
 
+  -- the rows of the operands behind the first, each joined to work cell d
   pub later_rows : ℕ → (join : ℕ → ℕ → EquationRow) → Formulas → List EquationRow
   later_rows d join no_operand = []
   later_rows d join (operand e es) = expression_rows (d + 1) e ++ (join (work d) (operand_at (d + 1) e) ∷ later_rows d join es)

@@ -19,8 +19,8 @@ use crate::operand::Found;
 use crate::plain::PlainCells;
 use crate::trap::Trap;
 use crate::words::with_bit;
-use ps_machine::bytes::number_in_two;
-use ps_model::kind::Kind;
+use ps_machine::number_in_two;
+use ps_model::Kind;
 use ps_rows::{all_outputs, boolean_pins, kind_with_number};
 
 /// What a look at the operands of a row finds.

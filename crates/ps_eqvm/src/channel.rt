@@ -6,11 +6,8 @@ use crate::layout::{INSTANCE_SIZE, SIGNALS_AT};
 use crate::plain::PlainCells;
 use crate::{report, turn};
 use ps_base::Memory;
-use ps_machine::bytes::{overwrite, progress_of_byte};
-use ps_machine::{CodeImage, ScanMachine};
-use ps_model::channel::{OutOfRegion, Progress, Region};
-use ps_model::report::{Report, Scan};
-use ps_model::sizes::Sizes;
+use ps_machine::{CodeImage, ScanMachine, overwrite, progress_of_byte};
+use ps_model::{OutOfRegion, Progress, Region, Report, Scan, Sizes};
 use std::alloc::Global;
 use std::marker::Model;
 

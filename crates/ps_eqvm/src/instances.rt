@@ -5,7 +5,7 @@ ghost use Rattle.std.specs.Prelude.{◌≡◌, length, replicate};
 use crate::kept::{read, store};
 use crate::layout::INSTANCE_SIZE;
 use ps_base::Memory;
-use ps_machine::bytes::replace;
+use ps_machine::replace;
 use ps_rows::CountedBlock;
 use std::alloc::Global;
 use std::marker::Model;

@@ -7,7 +7,7 @@ ghost use Rattle.ps_rows.specs.Counted.{kept_of};
 ghost use Rattle.ps_eqvm.specs.Plain.{complement};
 ghost use Rattle.ps_eqvm.specs.Instances.{sixteen_at, LoadAs, LoadNowhere};
 
-use ps_machine::bytes::{number_in_four, number_in_two};
+use ps_machine::{number_in_four, number_in_two};
 use ps_rows::CountedBlock;
 
 // The number in the eight bytes at a place, the highest first.

@@ -10,9 +10,7 @@ ghost use Rattle.ps_eqvm.specs.Plain.{plain_bytes, IsSized};
 
 use crate::layout::SIGNALS_AT;
 use crate::plain::PlainCells;
-use ps_model::report::{Diag, Diags};
-use ps_model::sizes::Sizes;
-use ps_model::values::Bits;
+use ps_model::{Bits, Diag, Diags, Sizes};
 use ps_rows::all_outputs;
 
 // The signal behind the outputs of an instance: Ready and Error are the last two of them.

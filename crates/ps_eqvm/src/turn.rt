@@ -13,7 +13,7 @@ use crate::gates::set_or_join;
 use crate::opcode::{Gate, Opcode};
 use crate::plain::PlainCells;
 use crate::trap::Trap;
-use ps_machine::bytes::{number_in_four, number_in_two};
+use ps_machine::{number_in_four, number_in_two};
 
 // SET, ALL or ANY at a place of the code.
 fn turn_gate(plain: &mut PlainCells, signals: u16, instances: u16, how: Gate, code: &[u8], at: u32)

@@ -21,13 +21,7 @@ use crate::certificate::{CertLine, Certificate, LineRule, Premises};
 use crate::refusal::{FlowFail, FlowRefusal, PinFail, StepFail};
 use ps_base::limits::MOST_NODES;
 use ps_base::{Memory, Rule};
-use ps_model::app::App;
-use ps_model::expr::Expr;
-use ps_model::kind::Ty;
-use ps_model::node::node_count;
-use ps_model::pins::input_count;
-use ps_model::step::{Arg, Args, Step};
-use ps_model::typing::{input_type, is_safe};
+use ps_model::{App, Arg, Args, Expr, Step, Ty, input_count, input_type, is_safe, node_count};
 use std::alloc::Global;
 
 // Whether a value is SAFEBOOL, and the node after its last one.

@@ -4,7 +4,7 @@ ghost use Rattle.std.specs.Prelude.{◌≡◌, ◌+◌, ◌≤◌, ◌<◌, ◌^
 ghost use Rattle.ps_machine.specs.Bytes.{be2, be4, replaced, overwritten};
 ghost use Rattle.ps_machine.specs.Progressing.{progress_said};
 
-use ps_model::channel::{OutOfRegion, Progress};
+use ps_model::{OutOfRegion, Progress};
 
 /// What a progress byte says, by its plain value: Running for 0, Done for 1, Trapped with the value
 /// less 1 for 2 to 8, and Trapped(0) for 9 to 255 (profile).

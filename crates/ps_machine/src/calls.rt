@@ -7,10 +7,7 @@ ghost use Rattle.ps_model.specs.Args.{actual};
 ghost use Rattle.ps_machine.specs.Kinds.{kind_of};
 ghost use Rattle.ps_machine.specs.Limits.{literal_time};
 
-use ps_model::budget::boolean_count;
-use ps_model::kind::{Kind, fixed_limit, kind_numbered};
-use ps_model::pins::pin_row;
-use ps_model::step::{Arg, Args};
+use ps_model::{Arg, Args, Kind, boolean_count, fixed_limit, kind_numbered, pin_row};
 
 /// The kind with a number of code, and None exactly where no kind has it.
 pub fn kind_by_number(number: u8) -> Option<Kind>

@@ -11,11 +11,13 @@
 //! (Channels), and the promise of a compiler (Keeping).
 #![tactic(auto)]
 
-pub mod bytes;
-pub mod calls;
-pub mod image;
+mod bytes;
+mod calls;
+mod image;
 pub mod laws;
-pub mod machine;
+mod machine;
 
+pub use bytes::{number_in_four, number_in_two, overwrite, progress_of_byte, replace};
+pub use calls::{call_limit, free_value, kind_by_number};
 pub use image::CodeImage;
 pub use machine::ScanMachine;

@@ -8,9 +8,7 @@ ghost use Rattle.ps_machine.specs.StoredChannel.{Stored, as_compiled, region_of,
 
 use crate::image::CodeImage;
 use ps_base::Memory;
-use ps_model::channel::{OutOfRegion, Progress, Region};
-use ps_model::report::{Report, Scan};
-use ps_model::sizes::Sizes;
+use ps_model::{OutOfRegion, Progress, Region, Report, Scan, Sizes};
 use std::alloc::Global;
 
 /// A machine of a channel: it has its own copy of the code and its cells, and remembers nothing else.

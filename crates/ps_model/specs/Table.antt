@@ -41,6 +41,8 @@ abbrev pub otherwise : Guard
 otherwise c = true
 
 -- ---- The words of the guards.
+
+-- a pin is TRUE, by its number
 abbrev pub pin : ℕ → Guard
 pin j c = c.pin j
 

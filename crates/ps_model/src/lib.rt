@@ -13,23 +13,43 @@
 //! - Channels: `channel` has the words of the machines and of the worlds over them.
 #![tactic(auto)]
 
-pub mod app;
+mod app;
 pub mod block_laws;
-pub mod budget;
-pub mod channel;
-pub mod demands;
-pub mod driver;
-pub mod expr;
-pub mod kind;
+mod budget;
+mod channel;
+mod demands;
+mod driver;
+mod expr;
+mod kind;
 pub mod laws;
-pub mod named;
-pub mod node;
+mod named;
+mod node;
 mod pin_tables;
-pub mod pins;
-pub mod report;
-pub mod sizes;
-pub mod step;
-pub mod typing;
-pub mod values;
+mod pins;
+mod report;
+mod sizes;
+mod step;
+mod typing;
+mod values;
 
+pub use app::App;
+pub use budget::{
+    boolean_count, equation_rows, equation_rows_of_step, instructions, instructions_of_step,
+};
+pub use channel::{Cause, Channel, Fault, ImageSizes, OutOfRegion, Progress, Region, Verdict};
+pub use demands::{Need, demand};
+pub use driver::Driver;
+pub use expr::{Expr, Exprs, evaluate};
+pub use kind::{
+    Kind, Ty, auxiliary_pin, fixed_limit, kind_name, kind_named, kind_number, kind_numbered,
+    output_count, reset_pin, safe_count,
+};
+pub use named::{Instance, Instances, Signal, Signals};
+pub use node::{Node, Shape, node_count, write_nodes};
+pub use pins::{PinRow, input_count, pin_count, pin_name, pin_named, pin_row};
 pub use ps_base::{Bytes, Fail, Label, Memory, Place, Refusal, Rule, limits};
+pub use report::{Diag, Diags, Report, Scan};
+pub use sizes::Sizes;
+pub use step::{Arg, Args, Step, Steps};
+pub use typing::{input_type, is_safe};
+pub use values::{Bits, FirstPins, Kinds};

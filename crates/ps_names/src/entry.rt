@@ -1,7 +1,7 @@
 // What declared names are.
 
 use ps_base::Place;
-use ps_model::kind::{Kind, Ty};
+use ps_model::{Kind, Ty};
 use ps_parser::Name;
 
 /// What the name of a type stands for: SAFEBOOL or BOOL, or a kind of function block.

@@ -10,7 +10,7 @@ ghost use Rattle.ps_block.specs.Seeing.{conditions_of};
 ghost use Rattle.ps_operator.specs.ModeSelectorStates.{number_of, code_of, mode_of, bits_of};
 
 use ps_block::{Image, Outs, Pins, SafetyBlock, Seen};
-use ps_model::kind::Kind;
+use ps_model::Kind;
 
 /// One of the eight modes.
 #[derive(Clone, Copy, PartialEq, Eq, Debug)]

@@ -9,7 +9,7 @@ ghost use Rattle.ps_operator.specs.TwoHandThreeStates.{code_of};
 
 use crate::two_hand::CommonPhase;
 use ps_block::{Image, Outs, Pins, SafetyBlock, Seen};
-use ps_model::kind::Kind;
+use ps_model::Kind;
 
 /// A state of the table, one for each DiagCode: those of type II, and three in which the second button came late or not at all.
 #[derive(Clone, Copy, PartialEq, Eq, Debug)]

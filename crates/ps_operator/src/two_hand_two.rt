@@ -4,7 +4,7 @@ ghost use Rattle.ps_model.specs.declared.kind.Kind.TheVariants.{TwoHandTwo as Tw
 
 use crate::two_hand::CommonPhase;
 use ps_block::{Image, Outs, Pins, SafetyBlock, Seen};
-use ps_model::kind::Kind;
+use ps_model::Kind;
 
 /// The state of a two-hand control of type II: the state of the table, and the time in ms at which it
 /// was entered.

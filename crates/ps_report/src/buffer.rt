@@ -8,10 +8,7 @@ ghost use Rattle.ps_report.specs.Lines.{cause_text, given_cause, named_value, ou
 
 use crate::line::{put, put_named_diag, put_named_value, put_number};
 use ps_base::Memory;
-use ps_model::app::App;
-use ps_model::channel::{Cause, Channel};
-use ps_model::report::{Diags, Report};
-use ps_model::values::Bits;
+use ps_model::{App, Bits, Cause, Channel, Diags, Report};
 use std::alloc::Global;
 use std::marker::Model;
 

@@ -4,7 +4,7 @@ ghost use Rattle.std.specs.Prelude.{◌≡◌};
 ghost use Rattle.ps_report.specs.Short.{check_text, load_text};
 
 use crate::short::ShortLine;
-use ps_model::app::App;
+use ps_model::App;
 
 /// The summary of a load: `load 1 scans 1000 true 500 errors 0`, with its number, the number of scans, and the numbers of TRUE
 /// outputs and of TRUE Errors. It takes no memory.

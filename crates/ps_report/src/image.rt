@@ -6,7 +6,7 @@ ghost use Rattle.ps_report.specs.Image.{image_part, size_line, code_line};
 use crate::buffer::letter;
 use itoa::Buffer;
 use ps_base::{Bytes, Memory};
-use ps_model::channel::Channel;
+use ps_model::Channel;
 use std::alloc::Global;
 
 // The bytes of code in a full line.

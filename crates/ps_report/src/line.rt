@@ -5,7 +5,7 @@ ghost use Rattle.ps_report.specs.Digits.{truth_digit};
 ghost use Rattle.ps_report.specs.Lines.{code_text, named_value, named_diag};
 
 use itoa::Buffer;
-use ps_model::report::Diag;
+use ps_model::Diag;
 
 // These bytes at the end of a line that has room for them.
 pub(crate) fn put(line: &mut Vec<u8>, bytes: &[u8])

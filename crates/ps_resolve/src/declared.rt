@@ -6,7 +6,7 @@ ghost use Rattle.ps_base.specs.LetterCase.{is_same_name};
 ghost use Rattle.ps_names.specs.Names.{kind_called, type_named, sort_in, entry_of, declares, section_entries};
 
 use ps_base::{Bytes, Memory};
-use ps_model::kind::{Kind, Ty, kind_named};
+use ps_model::{Kind, Ty, kind_named};
 use ps_names::{Entry, Sort, TypeNamed};
 use ps_parser::{Declaration, Name, Part, Section};
 use std::alloc::Global;

@@ -12,7 +12,7 @@ ghost use Rattle.ps_resolve.specs.Counting.{counts_of, signals_of, extra_of};
 
 use ps_base::limits::{MOST_INPUTS, MOST_INSTANCES, MOST_NODES, MOST_OUTPUTS, MOST_SIGNALS};
 use ps_base::{Place, Refusal, Rule};
-use ps_model::kind::output_count;
+use ps_model::output_count;
 use ps_names::{Entry, Sort, note_if};
 use ps_parser::{Argument, Factor, Product, Statement, Sum};
 

@@ -7,8 +7,7 @@ ghost use Rattle.ps_names.specs.Stands.{ty_of, signal_named, instance_named};
 ghost use Rattle.ps_resolve.specs.Spelt.{IsFit};
 
 use ps_base::{Bytes, Label, Memory};
-use ps_model::kind::Ty;
-use ps_model::named::{Instance, Instances, Signal, Signals};
+use ps_model::{Instance, Instances, Signal, Signals, Ty};
 use ps_names::{Entry, Sort};
 use ps_parser::Part;
 use std::alloc::Global;

@@ -20,7 +20,7 @@ use crate::reads::read_names;
 use crate::steps::steps_of;
 use crate::uses::{Names, check_statements};
 use ps_base::{Fail, Memory, Place, Refusal};
-use ps_model::app::App;
+use ps_model::App;
 use ps_names::{Entry, index};
 use ps_parser::{Part, Source, Statement};
 use ps_table::Table;

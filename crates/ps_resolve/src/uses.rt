@@ -13,8 +13,7 @@ ghost use Rattle.ps_names.specs.Tables.{IndexesDeclared};
 
 use crate::literal::literal_of;
 use ps_base::{Memory, Refusal, Rule};
-use ps_model::kind::Kind;
-use ps_model::pins::{input_count, pin_named};
+use ps_model::{Kind, input_count, pin_named};
 use ps_names::{Entry, Sort, note};
 use ps_parser::{Argument, Factor, Name, Product, Statement, Sum, Target};
 use ps_table::Table;

@@ -9,7 +9,7 @@ ghost use Rattle.ps_model.specs.declared.kind.Kind.{Kind};
 ghost use Rattle.ps_rows.specs.Kinds.{IsEntryOf};
 
 use crate::view::pin;
-use ps_model::kind::Kind;
+use ps_model::Kind;
 
 // What the table says of a kind.
 #[derive(Clone, Copy, PartialEq, Eq, Debug)]

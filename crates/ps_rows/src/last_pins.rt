@@ -6,7 +6,7 @@ ghost use Rattle.ps_model.specs.Stored.{bit, is_last};
 ghost use Rattle.ps_model.specs.PinBits.{pin_of};
 ghost use Rattle.ps_rows.specs.Counted.{bit_of};
 
-use ps_model::kind::Kind;
+use ps_model::Kind;
 
 // The bits of the two pins among a kind's Boolean pins, and 0 for one that the kind lacks.
 #[derive(Clone, Copy)]

@@ -15,7 +15,7 @@ use crate::last_pins::{is_on, last_pins, may_keep};
 use crate::mask_row::{ANEW, LATCH};
 use crate::table::next_of;
 use crate::view::{BlockView, conditions_in, pin};
-use ps_model::kind::Kind;
+use ps_model::Kind;
 
 /// What a channel keeps of an instance whose timer counts down (profile).
 #[derive(Clone, Copy, PartialEq, Eq, Debug)]

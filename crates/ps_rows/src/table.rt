@@ -14,7 +14,7 @@ use crate::{
     edm, enable_switch, equivalent, guard_locking, guard_monitoring, modes, out_control,
     safety_request, stop, two_hand_three, two_hand_two,
 };
-use ps_model::kind::Kind;
+use ps_model::Kind;
 
 /// How many rows a kind has, from 30 to 89.
 pub fn row_count(kind: Kind) -> u16

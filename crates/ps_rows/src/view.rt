@@ -8,7 +8,7 @@ ghost use Rattle.ps_rows.specs.Names.{complemented, first_pins};
 ghost use Rattle.ps_model.specs.PinBits.{pin_of};
 ghost use Rattle.ps_rows.specs.Viewed.{names_in};
 
-use ps_model::kind::Kind;
+use ps_model::Kind;
 
 /// What a step of a block reads beside its state (profile).
 #[derive(Clone, Copy, PartialEq, Eq, Debug)]

@@ -9,7 +9,7 @@ ghost use Rattle.ps_scan.specs.Instances.{kept_instance, instance_of};
 use ps_actuators::{Edm, EdmState, OutControl, OutControlState, SafetyRequest, SafetyRequestState};
 use ps_block::{Outs, Pins, SafetyBlock};
 use ps_guards::{GuardLocking, GuardLockingState, GuardMonitoring, GuardMonitoringState};
-use ps_model::kind::Kind;
+use ps_model::Kind;
 use ps_operator::{
     EnableSwitch, EnableSwitchState, ModeSelector, ModeSelectorState, TwoHandThree,
     TwoHandThreeState, TwoHandTwo, TwoHandTwoState,

@@ -11,9 +11,7 @@ use crate::pins::write_at;
 use crate::steps::do_steps;
 use ps_base::Memory;
 use ps_block::{Outs, Pins};
-use ps_model::app::App;
-use ps_model::report::Report;
-use ps_model::values::Bits;
+use ps_model::{App, Bits, Report};
 use std::alloc::Global;
 use std::marker::Model;
 

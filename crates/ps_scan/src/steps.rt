@@ -13,12 +13,8 @@ ghost use Rattle.ps_scan.specs.Midway.{Midway};
 use crate::pins::{pin_bits, shown_values};
 use crate::scanner::Scanner;
 use ps_block::Pins;
-use ps_machine::calls::call_limit;
-use ps_model::app::App;
-use ps_model::expr::{Expr, evaluate};
-use ps_model::kind::safe_count;
-use ps_model::report::Diags;
-use ps_model::step::{Args, Step};
+use ps_machine::call_limit;
+use ps_model::{App, Args, Diags, Expr, Step, evaluate, safe_count};
 
 // Assigns the value of an expression: step k does so.
 fn assign(app: &App, k: u16, target: usize, value: &Expr, w: &mut Scanner)

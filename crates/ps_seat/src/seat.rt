@@ -10,9 +10,7 @@ ghost use Rattle.ps_seat.specs.Outcomes.Outcome.{gives, lacks};
 
 use ps_base::Memory;
 use ps_machine::{CodeImage, ScanMachine};
-use ps_model::channel::{OutOfRegion, Progress, Region};
-use ps_model::report::{Report, Scan};
-use ps_model::sizes::Sizes;
+use ps_model::{OutOfRegion, Progress, Region, Report, Scan, Sizes};
 use std::alloc::Global;
 use std::marker::Model;
 

@@ -10,7 +10,7 @@ ghost use Rattle.ps_block.specs.Stepping.{IsStep};
 ghost use Rattle.ps_sensors.specs.Stop.{code_of};
 
 use ps_block::{Image, Outs, Pins, SafetyBlock, Seen};
-use ps_model::kind::Kind;
+use ps_model::Kind;
 
 /// A state of the table, one for each DiagCode.
 #[derive(Clone, Copy, PartialEq, Eq, Debug)]

@@ -10,8 +10,7 @@ use crate::accepting::{Accepted, accept_source};
 use ps_base::{Bytes, Fail, Place, Refusal, Rule};
 use ps_checker::Checked;
 use ps_demand::{NoLines, demand_lines};
-use ps_model::app::App;
-use ps_model::driver::Driver;
+use ps_model::{App, Driver};
 use ps_parser::Source;
 use std::alloc::Global;
 

@@ -12,7 +12,7 @@ use crate::accepting::{Accepted, NoApplication, accept, resolve_text};
 use crate::demanding::{Demanded, with_demands};
 use ps_base::limits::LARGEST_SOURCE;
 use ps_base::{Bytes, Fail};
-use ps_model::app::App;
+use ps_model::App;
 use ps_outside::{Files, ReadFail, read_upto};
 use std::alloc::Global;
 

@@ -7,8 +7,7 @@ ghost use Rattle.ps_stackvm.specs.Code.{bytes_of, expression_code, group_code, p
 ghost use Rattle.ps_stackgen.specs.Written.{join_at};
 
 use ps_base::Memory;
-use ps_model::expr::Expr;
-use ps_model::step::Arg;
+use ps_model::{Arg, Expr};
 use ps_stackvm::Instruction;
 
 /// Writes what stands at a Boolean pin: the code of a value, and a constant for all else. `free` is the pin's

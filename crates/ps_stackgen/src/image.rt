@@ -15,11 +15,8 @@ ghost use Rattle.ps_stackvm.specs.Stands.{StandsA};
 use crate::emit::{emit_expression, emit_pin};
 use crate::laws::{stack_code_is_short, stack_code_keeps_the_meaning};
 use ps_base::Memory;
-use ps_machine::calls::{call_limit, free_value};
-use ps_model::app::App;
-use ps_model::budget::boolean_count;
-use ps_model::kind::{Kind, kind_number};
-use ps_model::step::{Args, Step};
+use ps_machine::{call_limit, free_value};
+use ps_model::{App, Args, Kind, Step, boolean_count, kind_number};
 use ps_stackvm::{Instruction, StackImage};
 use std::alloc::Global;
 

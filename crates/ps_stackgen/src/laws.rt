@@ -10,7 +10,7 @@ ghost use Rattle.ps_stackvm.specs.Code.{network_code, code_a};
 ghost use Rattle.ps_stackvm.specs.Channel.{machine_a};
 ghost use Rattle.ps_stackvm.specs.Stands.{StandsA};
 
-use ps_model::app::App;
+use ps_model::App;
 
 /// Stack code keeps the meaning: from cells that stand for any state, a scan that is not earlier is
 /// Running up to the last of exactly `turns_a` turns, which makes it Done, and none traps. After it the

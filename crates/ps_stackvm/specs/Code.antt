@@ -34,10 +34,12 @@ abbrev mutual
   expression_code (all_of es) = group_code And es
   expression_code (any_of es) = group_code Or es
 
+  -- the code of a group: its first operand, and then the others
   pub group_code : Instruction → Formulas → List Instruction
   group_code join no_operand = []
   group_code join (operand e es) = expression_code e ++ later_code join es
 
+  -- the code of the operands behind the first, each joined to what stands before it
   pub later_code : Instruction → Formulas → List Instruction
   later_code join no_operand = []
   later_code join (operand e es) = expression_code e ++ (join ∷ later_code join es)

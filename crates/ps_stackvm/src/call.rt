@@ -16,9 +16,8 @@ use crate::trap::Trap;
 use ps_actuators::{Edm, OutControl, SafetyRequest};
 use ps_block::{Pins, SafetyBlock};
 use ps_guards::{GuardLocking, GuardMonitoring};
-use ps_machine::calls::kind_by_number;
-use ps_model::budget::boolean_count;
-use ps_model::kind::{Kind, output_count};
+use ps_machine::kind_by_number;
+use ps_model::{Kind, boolean_count, output_count};
 use ps_operator::{EnableSwitch, ModeSelector, TwoHandThree, TwoHandTwo};
 use ps_sensors::{Antivalent, EmergencyStop, Equivalent, Espe};
 

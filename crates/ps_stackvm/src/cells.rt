@@ -9,7 +9,7 @@ ghost use Rattle.ps_stackvm.specs.Turn.{begin_a};
 
 use crate::layout::{HEIGHT_AT, PROGRESS_AT, SIGNALS_AT, STACK_AT, STACK_SIZE, TIME_AT};
 use crate::trap::Trap;
-use ps_model::channel::Progress;
+use ps_model::Progress;
 
 // The number in the two bytes at a place, the highest first.
 pub(crate) fn number_at(bytes: &[u8], at: usize) -> u16

@@ -7,11 +7,8 @@ use crate::layout::{INSTANCE_SIZE, SIGNALS_AT};
 use crate::report::read_report;
 use crate::turn::{turn, turns};
 use ps_base::Memory;
-use ps_machine::bytes::overwrite;
-use ps_machine::{CodeImage, ScanMachine};
-use ps_model::channel::{OutOfRegion, Progress, Region};
-use ps_model::report::{Report, Scan};
-use ps_model::sizes::Sizes;
+use ps_machine::{CodeImage, ScanMachine, overwrite};
+use ps_model::{OutOfRegion, Progress, Region, Report, Scan, Sizes};
 use std::alloc::Global;
 use std::marker::Model;
 

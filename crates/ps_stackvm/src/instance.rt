@@ -12,7 +12,7 @@ ghost use Rattle.ps_stackvm.specs.Stepping.{IsStepInBytes, HasStepped};
 use crate::cells::byte_of;
 use ps_block::{Outs, Pins, SafetyBlock};
 use ps_model::block_laws::loads_exactly;
-use ps_model::kind::safe_count;
+use ps_model::safe_count;
 
 /// Steps an instance as a block with these pins. Its sixteen bytes stand at `place`: what they load to is stepped and stored
 /// there. From `first` on the outputs are written, a byte 0 or 1 each: safe outputs in order, Ready, Error. False where the

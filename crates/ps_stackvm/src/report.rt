@@ -10,10 +10,7 @@ ghost use Rattle.ps_machine.specs.Reporting.{output_byte, ready_byte, error_byte
 
 use crate::cells::number_at;
 use crate::layout::INSTANCE_SIZE;
-use ps_model::kind::output_count;
-use ps_model::report::{Diag, Diags, Report};
-use ps_model::sizes::Sizes;
-use ps_model::values::Bits;
+use ps_model::{Bits, Diag, Diags, Report, Sizes, output_count};
 
 // The signal behind the outputs of an instance: Ready and Error are the last two of them.
 #[tactic(auto, using(std::proofs::lemmas::Option::get_or_from_slice_get), unfolding(ps_model::specs::Blocks::output_count))]

@@ -5,12 +5,7 @@ ghost use Rattle.ps_model.specs.Network.{input_count};
 ghost use Rattle.ps_text_tests.specs.Inputs.{safe_input, three};
 
 use ps_base::{Label, Memory};
-use ps_model::app::App;
-use ps_model::kind::Ty;
-use ps_model::named::{Instances, Signal, Signals};
-use ps_model::report::Scan;
-use ps_model::step::Steps;
-use ps_model::values::Bits;
+use ps_model::{App, Bits, Instances, Scan, Signal, Signals, Steps, Ty};
 use std::alloc::Global;
 
 // A SAFEBOOL input.

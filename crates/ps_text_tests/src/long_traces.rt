@@ -5,7 +5,7 @@ ghost use Rattle.ps_trace.specs.Reading.{input_count_of};
 
 use crate::inputs::{application, no_scan};
 use crate::telling::{equal, repeated, tell, told_text};
-use ps_model::report::Scan;
+use ps_model::Scan;
 use ps_outside::MemFiles;
 use ps_trace::{Next, TraceReader, TraceStop};
 use std::alloc::Global;

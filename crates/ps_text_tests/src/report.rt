@@ -1,7 +1,7 @@
 // Lines of which the texts are known from outside.
 
 use ps_base::{Place, Refusal, Rule};
-use ps_model::channel::Channel;
+use ps_model::Channel;
 use ps_report::{image_text, load_line, refusal_line};
 use std::test::Fail;
 

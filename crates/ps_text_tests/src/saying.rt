@@ -1,7 +1,7 @@
 // What a fault file says, in words.
 
 use crate::telling::{equal, refused};
-use ps_model::channel::{Fault, ImageSizes};
+use ps_model::{Fault, ImageSizes};
 use ps_outside::MemFiles;
 use ps_trace::{Faults, TraceFail, read_faults};
 use std::alloc::Global;

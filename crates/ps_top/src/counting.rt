@@ -6,9 +6,7 @@ ghost use Rattle.ps_top.specs.Counting.{counted, counted_report, none_counted};
 ghost use Rattle.ps_top.specs.Program.{true_errors, true_outputs};
 
 use crate::taking::Taker;
-use ps_model::app::App;
-use ps_model::channel::Verdict;
-use ps_model::report::Report;
+use ps_model::{App, Report, Verdict};
 use ps_outside::{Sink, Stopped};
 use ps_report::{ShortLine, load_line};
 

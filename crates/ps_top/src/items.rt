@@ -12,8 +12,7 @@ ghost use Rattle.ps_trace.specs.Reading.{IsReadingTrace, file_of, input_count_of
 use crate::performing::Performer;
 use crate::taking::Taker;
 use ps_base::{Memory, Refusal};
-use ps_model::app::App;
-use ps_model::report::{Report, Scan};
+use ps_model::{App, Report, Scan};
 use ps_outside::{Files, Sink};
 use ps_trace::{Next, TraceReader, TraceStop};
 use std::alloc::Global;

@@ -26,7 +26,7 @@ use crate::saying::{say, say_refused};
 use crate::striking::StruckWorld;
 use ps_base::Memory;
 use ps_load::LoadFiles;
-use ps_model::app::App;
+use ps_model::App;
 use ps_outside::Sink;
 use ps_source::read_accepted;
 use ps_trace::{Faults, TraceFail, TraceReader};

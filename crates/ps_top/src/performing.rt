@@ -9,9 +9,7 @@ ghost use Rattle.ps_top.specs.Performing.{IsStruckWorldFor, Performs};
 
 use crate::striking::StruckWorld;
 use ps_base::Refusal;
-use ps_model::app::App;
-use ps_model::channel::Verdict;
-use ps_model::report::{Report, Scan};
+use ps_model::{App, Report, Scan, Verdict};
 
 /// What performs the scans and restarts of an application, one after another.
 ///

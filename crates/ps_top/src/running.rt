@@ -23,7 +23,7 @@ use crate::left::Left;
 use crate::saying::say_refused;
 use crate::striking::StruckWorld;
 use ps_base::Memory;
-use ps_model::app::App;
+use ps_model::App;
 use ps_outside::{Files, Sink};
 use ps_report::LineBuffer;
 use ps_source::read_accepted;

@@ -8,9 +8,7 @@ ghost use Rattle.ps_trace.specs.FaultOrder.{AreInOrder, AreOfOneChannel};
 ghost use Rattle.ps_world.specs.Whole.{IsWorldOf};
 ghost use Rattle.ps_top.specs.Performing.{trips_with};
 
-use ps_model::app::App;
-use ps_model::channel::{Fault, Verdict};
-use ps_model::report::{Report, Scan};
+use ps_model::{App, Fault, Report, Scan, Verdict};
 use ps_trace::Faults;
 use ps_world::World;
 

@@ -7,9 +7,7 @@ ghost use Rattle.ps_report.specs.Lines.{line_room};
 ghost use Rattle.ps_top.specs.Outcomes.{Outcome, performed, anew, outcome_line};
 ghost use Rattle.ps_top.specs.Written.{IsWritten};
 
-use ps_model::app::App;
-use ps_model::channel::Verdict;
-use ps_model::report::Report;
+use ps_model::{App, Report, Verdict};
 use ps_outside::{Sink, Stopped, write_all};
 use ps_report::LineBuffer;
 

@@ -15,7 +15,7 @@ use ps_base::limits::LARGEST_CERTIFICATE;
 use ps_base::{Fail, Memory, Place, Refusal, Rule};
 use ps_checker::{Checked, check};
 use ps_flow::{Certificate, read_certificate};
-use ps_model::app::App;
+use ps_model::App;
 use ps_outside::{Files, ReadFail, Sink, read_upto};
 use ps_source::read_resolved;
 use std::alloc::Global;

@@ -12,7 +12,7 @@ use crate::fault_file::read_faults_of;
 use crate::faults::Faults;
 use crate::target::{FaultLine, Target};
 use crate::trace::TraceFail;
-use ps_model::channel::{Channel, Fault, ImageSizes, Region};
+use ps_model::{Channel, Fault, ImageSizes, Region};
 use ps_outside::Files;
 use std::alloc::Global;
 

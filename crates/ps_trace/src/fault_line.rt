@@ -8,7 +8,7 @@ use crate::target::{FaultLine, Target};
 use crate::words::{next_word, number};
 use ps_base::limits::MOST_FAULT_BYTES;
 use ps_base::{Bytes, Memory};
-use ps_model::channel::Region;
+use ps_model::Region;
 use std::alloc::Global;
 
 // The parts of the fault that a line is, whose first word stands from `from` to `upto`. None: it does not have the form of one.

@@ -1,7 +1,7 @@
 // A list of faults.
 
 use ps_base::Memory;
-use ps_model::channel::Fault;
+use ps_model::Fault;
 use std::alloc::Global;
 use std::marker::Model;
 

@@ -10,7 +10,7 @@ ghost use Rattle.ps_trace.specs.HeaderSays.{header_by, names_by, IsSized};
 
 use crate::words::{first_field, next_word};
 use ps_base::{Memory, Rule};
-use ps_model::app::App;
+use ps_model::App;
 use std::alloc::Global;
 
 // What a line says as a header: nothing; for each input the place of its value on a scan line; or a rule refuses it.

@@ -5,7 +5,7 @@ ghost use Rattle.ps_model.specs.declared.channel.Region.{Region as RegionOf};
 ghost use Rattle.ps_trace.specs.declared.target.FaultLine.{FaultLine as LineOf};
 
 use ps_base::Bytes;
-use ps_model::channel::Region;
+use ps_model::Region;
 
 /// The parts of a line of a fault file: at one moment of a run some bytes are replaced.
 #[derive(Drop, Debug)]

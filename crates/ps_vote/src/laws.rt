@@ -6,7 +6,7 @@ ghost use Rattle.ps_vote.specs.Laws.{SpoiledSeatIsOutvoted, MendedSeats, VotesEx
 
 use ps_decision::laws::decision_code_keeps_the_meaning;
 use ps_eqgen::laws::equation_code_keeps_the_meaning;
-use ps_model::app::App;
+use ps_model::App;
 use ps_stackgen::laws::stack_code_keeps_the_meaning;
 
 /// Votes exactly: All comes exactly where three reports are equal, and Two of a seat exactly where the other two are equal and it has

@@ -9,9 +9,8 @@ ghost use Rattle.ps_machine.specs.Standing.{limit_from, limit_in};
 ghost use Rattle.ps_vote.specs.Whole.{limits_of};
 
 use ps_base::Memory;
-use ps_machine::calls::call_limit;
-use ps_model::app::App;
-use ps_model::step::Step;
+use ps_machine::call_limit;
+use ps_model::{App, Step};
 use std::alloc::Global;
 
 // What a call says of the limit of its instance stands in the place of what later steps say.

@@ -9,9 +9,8 @@ ghost use Rattle.ps_seat.specs.Seats.{meeting};
 ghost use Rattle.ps_vote.specs.Healing.{bytes_from, counted, counted_block, counted_blocks, filled};
 
 use ps_decision::DecisionChannel;
-use ps_machine::ScanMachine;
-use ps_machine::bytes::{number_in_four, number_in_two, replace};
-use ps_model::channel::Region;
+use ps_machine::{ScanMachine, number_in_four, number_in_two, replace};
+use ps_model::Region;
 use ps_seat::Seat;
 use ps_stackvm::StackChannel;
 

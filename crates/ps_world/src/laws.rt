@@ -8,7 +8,7 @@ ghost use Rattle.ps_world.specs.Ready.{QuietWorldsRelease};
 ghost use Rattle.ps_world.specs.Laws.{ChannelsAreApart, ReleasedIsRight, NeverTrips, TripsExactly, StaysDown, TurnsAreBounded};
 
 use ps_eqgen::laws::equation_code_keeps_the_meaning;
-use ps_model::app::App;
+use ps_model::App;
 use ps_stackgen::laws::stack_code_keeps_the_meaning;
 
 /// Channels are apart: after any events the code, cells and turn count of a channel follow from the Begins, the Restarts, its

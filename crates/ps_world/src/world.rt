@@ -15,10 +15,9 @@ ghost use Rattle.ps_seat.specs.Outcomes.Outcome.{gives};
 use ps_base::Memory;
 use ps_eqgen::equation_image;
 use ps_eqvm::EquationChannel;
-use ps_model::app::App;
-use ps_model::channel::{Cause, Channel, Fault, ImageSizes, OutOfRegion, Region, Verdict};
-use ps_model::report::{Report, Scan};
-use ps_model::sizes::Sizes;
+use ps_model::{
+    App, Cause, Channel, Fault, ImageSizes, OutOfRegion, Region, Report, Scan, Sizes, Verdict,
+};
 use ps_seat::{Failing, Seat};
 use ps_stackgen::stack_image;
 use ps_stackvm::StackChannel;

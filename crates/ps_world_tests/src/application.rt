@@ -5,7 +5,7 @@ ghost use Rattle.ps_model.specs.Typing.{Accepted};
 
 use ps_flow::derive;
 use ps_lexer::lex;
-use ps_model::app::App;
+use ps_model::App;
 use ps_parser::parse;
 use ps_resolve::resolve;
 use std::alloc::Global;

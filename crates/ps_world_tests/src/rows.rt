@@ -2,8 +2,7 @@
 
 use crate::stage::Stage;
 use crate::words::{fault_of, scan_of, told};
-use ps_model::channel::{Channel, Fault, Verdict};
-use ps_model::report::Scan;
+use ps_model::{Channel, Fault, Scan, Verdict};
 use ps_world::World;
 use std::alloc::Global;
 use std::process::Abort;

@@ -2,7 +2,7 @@
 
 use crate::stage::Stage;
 use crate::words::{channel_named, fault_of, scan_of, told};
-use ps_model::channel::Channel;
+use ps_model::Channel;
 use std::alloc::Global;
 use std::process::Abort;
 use std::test::Fail;

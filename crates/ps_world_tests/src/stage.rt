@@ -6,9 +6,7 @@ ghost use Rattle.ps_world_tests.specs.Beginning.{IsBeginning};
 
 use crate::application::application;
 use ps_base::Memory;
-use ps_model::app::App;
-use ps_model::channel::{Channel, Fault, Verdict};
-use ps_model::report::{Report, Scan};
+use ps_model::{App, Channel, Fault, Report, Scan, Verdict};
 use ps_world::World;
 use std::alloc::Global;
 use std::marker::Model;

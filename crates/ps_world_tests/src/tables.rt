@@ -2,7 +2,7 @@
 
 use crate::application::{MOTOR, TWO};
 use crate::rows::{Table, Way};
-use ps_model::channel::Channel;
+use ps_model::Channel;
 
 // By `make_scan` alone; also event by event, in the order of a run; with all turns of one channel first; and in every order.
 const WHOLE: &[Way] = &[Way::Whole];

@@ -1,9 +1,7 @@
 // Faults, scans and verdicts in words.
 
 use ps_base::Bytes;
-use ps_model::channel::{Channel, Fault, Region, Verdict};
-use ps_model::report::{Diag, Report, Scan};
-use ps_model::values::Bits;
+use ps_model::{Bits, Channel, Diag, Fault, Region, Report, Scan, Verdict};
 use std::alloc::Global;
 use std::test::Fail;
 

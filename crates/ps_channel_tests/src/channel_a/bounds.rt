@@ -1,7 +1,7 @@
 // Heights, pins and bytes of instances, each on both sides of its bounds. The cells are those of M.
 
 use super::traps::turn;
-use ps_model::channel::Progress;
+use ps_model::Progress;
 use std::alloc::Global;
 use std::process::Abort;
 use std::test::Fail;

@@ -4,10 +4,7 @@
 ghost use Rattle.std.specs.Prelude.{◌≡◌, ◌<◌, ◌^◌, IfOk, length};
 
 use ps_base::Memory;
-use ps_model::kind::Kind;
-use ps_model::report::{Diags, Report, Scan};
-use ps_model::sizes::Sizes;
-use ps_model::values::{Bits, FirstPins, Kinds};
+use ps_model::{Bits, Diags, FirstPins, Kind, Kinds, Report, Scan, Sizes};
 use ps_stackvm::{StackChannel, StackImage};
 use std::alloc::Global;
 

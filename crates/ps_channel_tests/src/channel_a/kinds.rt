@@ -3,10 +3,7 @@
 
 use super::fixtures::image;
 use ps_base::Memory;
-use ps_model::channel::{Progress, Region};
-use ps_model::kind::Kind;
-use ps_model::sizes::Sizes;
-use ps_model::values::{FirstPins, Kinds};
+use ps_model::{FirstPins, Kind, Kinds, Progress, Region, Sizes};
 use ps_stackvm::StackChannel;
 use std::alloc::Global;
 use std::process::Abort;

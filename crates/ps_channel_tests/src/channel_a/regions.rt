@@ -1,7 +1,7 @@
 // The regions of M's channel: 33 bytes of code and 97 of cells.
 
 use super::fixtures::{CODE, channel, image, report};
-use ps_model::channel::{Progress, Region};
+use ps_model::{Progress, Region};
 use std::alloc::Global;
 use std::process::Abort;
 use std::test::Fail;

@@ -3,7 +3,7 @@
 ghost use Rattle.std.specs.Prelude.{◌≡◌};
 
 use super::fixtures::{CODE, channel, report, scan};
-use ps_model::channel::{Progress, Region};
+use ps_model::{Progress, Region};
 use ps_stackvm::StackChannel;
 use std::alloc::Global;
 use std::process::Abort;

@@ -2,7 +2,7 @@
 // signals from byte 74 on, and one instance from byte 81 on.
 
 use super::fixtures::channel;
-use ps_model::channel::{Progress, Region};
+use ps_model::{Progress, Region};
 use std::alloc::Global;
 use std::process::Abort;
 use std::test::Fail;

@@ -1,7 +1,7 @@
 // The traps of BLOCK on both sides of every bound, and which comes where two causes meet.
 
 use super::fixtures::after_a_turn;
-use ps_model::channel::Progress;
+use ps_model::Progress;
 use std::alloc::Global;
 use std::process::Abort;
 use std::test::Fail;

@@ -6,11 +6,9 @@ ghost use Rattle.std.specs.Prelude.{◌≡◌, ◌+◌, ◌<◌, ◌^◌, IfOk, 
 
 use ps_base::Memory;
 use ps_eqvm::{EquationChannel, EquationImage};
-use ps_model::channel::{Progress, Region};
-use ps_model::kind::{Kind, output_count};
-use ps_model::report::{Diags, Report, Scan};
-use ps_model::sizes::Sizes;
-use ps_model::values::{Bits, FirstPins, Kinds};
+use ps_model::{
+    Bits, Diags, FirstPins, Kind, Kinds, Progress, Region, Report, Scan, Sizes, output_count,
+};
 use std::alloc::Global;
 use std::process::Abort;
 use std::test::Fail;

@@ -2,8 +2,7 @@
 // meet.
 
 use super::fixtures::{after_a_turn, channel, turn};
-use ps_model::channel::Progress;
-use ps_model::kind::Kind;
+use ps_model::{Kind, Progress};
 use std::alloc::Global;
 use std::process::Abort;
 use std::test::Fail;

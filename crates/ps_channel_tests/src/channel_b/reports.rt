@@ -1,7 +1,7 @@
 // What M's channel reports where a byte of a signal is neither 0 nor 1.
 
 use super::fixtures::{CODE, make_scan, motor, reported};
-use ps_model::channel::Region;
+use ps_model::Region;
 use std::alloc::Global;
 use std::process::Abort;
 use std::test::Fail;

@@ -1,8 +1,7 @@
 // M's channel through six scans, and a block with a timer.
 
 use super::fixtures::{CODE, channel, make_scan, motor, reported};
-use ps_model::channel::Progress;
-use ps_model::kind::Kind;
+use ps_model::{Kind, Progress};
 use std::alloc::Global;
 use std::process::Abort;
 use std::test::Fail;

@@ -4,7 +4,7 @@ ghost use Rattle.std.specs.Prelude.{◌≡◌, IfOk};
 
 use super::fixtures::{CODE, image, make_scan, motor, reported, turn};
 use ps_eqvm::EquationChannel;
-use ps_model::channel::{OutOfRegion, Progress, Region};
+use ps_model::{OutOfRegion, Progress, Region};
 use std::alloc::Global;
 use std::process::Abort;
 use std::test::Fail;

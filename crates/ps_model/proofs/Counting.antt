@@ -8,7 +8,7 @@ use Rattle.std.proofs.lemmas.Bool.{cond-true, cases_lt, eq-eqb, and_from, le-leb
 use Rattle.ps_model.specs.Action.{Action, assigns, calls}
 use Rattle.ps_model.specs.Network.{Network, signal_count, first_pin, kind_at, drives}
 use Rattle.ps_model.specs.Sound.{IsSound}
-use Rattle.ps_model.proofs.FirstPins.{first_pin-bound}
+use Rattle.ps_model.proofs.FirstPinBound.{first_pin-bound}
 use Rattle.ps_model.specs.declared.kind.Kind.{Kind}
 use Rattle.ps_model.specs.declared.kind.Ty.TheVariants.{Safe, Bool as Plain}
 use Rattle.ps_model.specs.declared.named.Instance.{Instance}

@@ -7,7 +7,7 @@ pub mod Rest
 pub mod NodePlaces
 pub mod NodeLists
 pub mod Once
-pub mod FirstPins
+pub mod FirstPinBound
 pub mod OneSolution
 pub mod SafeValues
 pub mod Runs

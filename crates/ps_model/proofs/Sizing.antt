@@ -11,7 +11,7 @@ use Rattle.ps_model.specs.Blocks.{output_count}
 use Rattle.ps_model.specs.Network.{Network, signal_count, instance_count, input_count, first_pin, kind_at, no_instance}
 use Rattle.ps_model.specs.Places.{ArePlaces}
 use Rattle.ps_model.proofs.Once.{element_at, map_next}
-use Rattle.ps_model.proofs.FirstPins.{first_pin-bound}
+use Rattle.ps_model.proofs.FirstPinBound.{first_pin-bound}
 
 kinds_are : (xs : List Instance) (i : ℕ) → get_or (map (λ x. x.kind) xs) i Equivalent ≡ (get_or xs i no_instance).kind
 kinds_are [] i = refl

@@ -9,7 +9,7 @@ use Rattle.ps_model.specs.Kept.{stepped_at}
 use Rattle.ps_model.specs.Network.{instance_count, kind_at, first_pin}
 use Rattle.ps_model.specs.Running.{done}
 use Rattle.ps_model.specs.Scanning.{pins_under, limit_of}
-use Rattle.ps_model.proofs.FirstPins.{first_pin-bound}
+use Rattle.ps_model.proofs.FirstPinBound.{first_pin-bound}
 use Rattle.ps_model.specs.PinBits.{pin_of}
 use Rattle.ps_block.specs.Shown.{Shows, shown}
 use Rattle.ps_scan.specs.Instances.{KeptInstance, no_kept_instance}

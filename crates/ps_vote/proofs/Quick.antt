@@ -1,5 +1,5 @@
 -- Without a Spoil the turns of a scan lead to one world, whether seats take turns or one finishes before the other.
-use Rattle.std.proofs.Common.{◌≡◌, ℕ, zero, suc, ◌+◌, ◌≤◌, Bool, true, false, List, [], ◌∷◌, Option, Some, None, cond, inl, inr, refl, sym, ap, ◌∙◌, arith}
+use Rattle.std.proofs.Common.{◌≡◌, ℕ, zero, suc, ◌+◌, ◌≤◌, Bool, true, false, List, [], ◌∷◌, Option, Some, None, cond, inl, inr, refl, sym, ap, ◌∙◌, subst, arith}
 use Rattle.std.specs.Prelude.{◌&&◌}
 use Rattle.std.proofs.lemmas.Bool.{cases_Bool, false≢true}
 use Rattle.ps_machine.specs.Machines.{turned}
@@ -60,7 +60,10 @@ module _ (heals : Bool) (m : Machines) where
   turns_finish (suc left) done last x ka kb kc ha hb hc few =
       elim (cases_Bool (all_ended m x)) [
         | inl over ↦ all_over over
-        | inr more ↦ by_seat (next_turn m last x) refl (next_goes m last x more) more
+        | inr more ↦
+            by_seat (λ j h low. turns_finish left (done + 1) (Some A) (world_step m (Turn A) x) j kb kc h hb hc low)
+            (λ j h low. turns_finish left (done + 1) (Some B) (world_step m (Turn B) x) ka j kc ha h hc low)
+            (λ j h low. turns_finish left (done + 1) (Some C) (world_step m (Turn C) x) ka kb j ha hb h low) (next_turn m last x) refl (next_goes m last x more) more
       ]
     where
       none_left : (s : Seat) (k : ℕ) → HasLeft (machine s m) (channel s x) k → ended (machine s m) (channel s x) ≡ true → k ≡ 0
@@ -82,23 +85,32 @@ module _ (heals : Bool) (m : Machines) where
             goes = h.goes;
           }
 
-      by_seat : (o : Seat) → next_turn m last x ≡ o → ended (machine (next_turn m last x) m) (channel (next_turn m last x) x) ≡ false → all_ended m x ≡ false →
+      -- a seat that is to go on has a turn left
+      one_left : (s : Seat) (k : ℕ) → HasLeft (machine s m) (channel s x) k → ended (machine s m) (channel s x) ≡ false → (j : ℕ) × (k ≡ suc j)
+      one_left s zero h goes = absurd (false≢true (sym goes ∙ h.over))
+      one_left s (suc j) h goes = (j, refl)
+
+      -- what the turns behind one of this seat lead to
+      abbrev Behind : Seat → World_state → Type 0
+      Behind o y = LeadsTo m (turns heals m [] left (done + 1) (Some o) (world_step m (Turn o) x)) (world_step m (Turn o) x) y
+
+      by_seat : ((j : ℕ) → HasLeft m.a (world_step m (Turn A) x).a j → j + kb + kc ≤ left → Behind A (finished m j kb kc (world_step m (Turn A) x))) →
+          ((j : ℕ) → HasLeft m.b (world_step m (Turn B) x).b j → ka + j + kc ≤ left → Behind B (finished m ka j kc (world_step m (Turn B) x))) →
+          ((j : ℕ) → HasLeft m.c (world_step m (Turn C) x).c j → ka + kb + j ≤ left → Behind C (finished m ka kb j (world_step m (Turn C) x))) →
+          (o : Seat) → next_turn m last x ≡ o → ended (machine (next_turn m last x) m) (channel (next_turn m last x) x) ≡ false → all_ended m x ≡ false →
           LeadsTo m (turns heals m [] (suc left) done last x) x (finished m ka kb kc x)
-      by_seat A next goes more = by_a ka ha few (sym (ap (λ s. ended (machine s m) (channel s x)) next) ∙ goes)
-        where
-          by_a : (k : ℕ) → HasLeft m.a x.a k → k + kb + kc ≤ suc left → ended m.a x.a ≡ false → LeadsTo m (turns heals m [] (suc left) done last x) x (finished m k kb kc x)
-          by_a zero h low goes = absurd (false≢true (sym goes ∙ h.over))
-          by_a (suc k) h low goes =
-              goes_on left done last A x (finished m (suc k) kb kc x) more next (turns_finish left (done + 1) (Some A) (world_step m (Turn A) x) k kb kc (one_less m.a x.a k h) hb hc (omega arith))
-      by_seat B next goes more = by_b kb hb few (sym (ap (λ s. ended (machine s m) (channel s x)) next) ∙ goes)
-        where
-          by_b : (k : ℕ) → HasLeft m.b x.b k → ka + k + kc ≤ suc left → ended m.b x.b ≡ false → LeadsTo m (turns heals m [] (suc left) done last x) x (finished m ka k kc x)
-          by_b zero h low goes = absurd (false≢true (sym goes ∙ h.over))
-          by_b (suc k) h low goes =
-              goes_on left done last B x (finished m ka (suc k) kc x) more next (turns_finish left (done + 1) (Some B) (world_step m (Turn B) x) ka k kc ha (one_less m.b x.b k h) hc (omega arith))
-      by_seat C next goes more = by_c kc hc few (sym (ap (λ s. ended (machine s m) (channel s x)) next) ∙ goes)
-        where
-          by_c : (k : ℕ) → HasLeft m.c x.c k → ka + kb + k ≤ suc left → ended m.c x.c ≡ false → LeadsTo m (turns heals m [] (suc left) done last x) x (finished m ka kb k x)
-          by_c zero h low goes = absurd (false≢true (sym goes ∙ h.over))
-          by_c (suc k) h low goes =
-              goes_on left done last C x (finished m ka kb (suc k) x) more next (turns_finish left (done + 1) (Some C) (world_step m (Turn C) x) ka kb k ha hb (one_less m.c x.c k h) (omega arith))
+      by_seat go_a go_b go_c A next goes more =
+          let k = one_left A ka ha (sym (ap (λ s. ended (machine s m) (channel s x)) next) ∙ goes) in
+          let few' : suc k.0 + kb + kc ≤ suc left = subst (λ n. n + kb + kc ≤ suc left) k.1 few in
+          subst (λ n. LeadsTo m (turns heals m [] (suc left) done last x) x (finished m n kb kc x)) (sym k.1)
+          (goes_on left done last A x (finished m (suc k.0) kb kc x) more next (go_a k.0 (one_less m.a x.a k.0 (subst (HasLeft m.a x.a) k.1 ha)) (omega arith)))
+      by_seat go_a go_b go_c B next goes more =
+          let k = one_left B kb hb (sym (ap (λ s. ended (machine s m) (channel s x)) next) ∙ goes) in
+          let few' : ka + suc k.0 + kc ≤ suc left = subst (λ n. ka + n + kc ≤ suc left) k.1 few in
+          subst (λ n. LeadsTo m (turns heals m [] (suc left) done last x) x (finished m ka n kc x)) (sym k.1)
+          (goes_on left done last B x (finished m ka (suc k.0) kc x) more next (go_b k.0 (one_less m.b x.b k.0 (subst (HasLeft m.b x.b) k.1 hb)) (omega arith)))
+      by_seat go_a go_b go_c C next goes more =
+          let k = one_left C kc hc (sym (ap (λ s. ended (machine s m) (channel s x)) next) ∙ goes) in
+          let few' : ka + kb + suc k.0 ≤ suc left = subst (λ n. ka + kb + n ≤ suc left) k.1 few in
+          subst (λ n. LeadsTo m (turns heals m [] (suc left) done last x) x (finished m ka kb n x)) (sym k.1)
+          (goes_on left done last C x (finished m ka kb (suc k.0) x) more next (go_c k.0 (one_less m.c x.c k.0 (subst (HasLeft m.c x.c) k.1 hc)) (omega arith)))

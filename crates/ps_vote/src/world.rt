@@ -1,6 +1,6 @@
 // The world of three seats, event by event.
 
-ghost use Rattle.std.specs.Prelude.{◌≡◌, ◌≤◌, ◌^◌, ◌&&◌, ◌+◌, ◌*◌, Bool, false, true, is_err, length, nat_lt, IfOk, None, Some, [], ◌∷◌};
+ghost use Rattle.std.specs.Prelude.{◌≡◌, ◌≤◌, ◌<◌, ◌^◌, ◌&&◌, ◌+◌, ◌*◌, Bool, false, true, is_err, length, nat_lt, IfOk, None, Some, [], ◌∷◌};
 ghost use Rattle.ps_model.specs.Typing.{Accepted};
 ghost use Rattle.ps_machine.specs.Channels.{ended};
 ghost use Rattle.ps_seat.specs.Seats.{machine_in, new_seat};
@@ -385,7 +385,8 @@ impl VoteWorld {
 
     // The most turns of a scan, over all seats.
     pub(crate) fn most_turns(&self) -> u64
-        ensures { result ≡ most_turns (machines_in self.now.setup) }
+        ensures sum { result ≡ most_turns (machines_in self.now.setup) }
+        ensures few { result < 2 ^ 34 }
     {
         u64::from(self.a.budget()) + u64::from(self.b.budget()) + u64::from(self.c.budget())
     }

@@ -1,14 +1,15 @@
 // The world of three seats, event by event.
 
-ghost use Rattle.std.specs.Prelude.{◌≡◌, ◌≤◌, ◌^◌, ◌&&◌, ◌+◌, ◌*◌, false, true, is_err, length, nat_lt, IfOk, None, Some, [], ◌∷◌};
+ghost use Rattle.std.specs.Prelude.{◌≡◌, ◌≤◌, ◌<◌, ◌^◌, ◌&&◌, ◌+◌, ◌*◌, Bool, false, true, is_err, length, nat_lt, IfOk, None, Some, [], ◌∷◌};
 ghost use Rattle.ps_model.specs.Typing.{Accepted};
 ghost use Rattle.ps_machine.specs.Channels.{ended};
 ghost use Rattle.ps_seat.specs.Seats.{machine_in, new_seat};
-ghost use Rattle.ps_vote.specs.Worlds.{machine, channel, mark};
+ghost use Rattle.ps_vote.specs.Worlds.{machine, channel, mark, is_another_dirty};
+ghost use Rattle.ps_vote.specs.Orders.{turns, most_turns};
 ghost use Rattle.ps_vote.specs.Worlds.Event.{Begin, Turn, Spoil, TakeVote, Restart, Heal};
 ghost use Rattle.ps_vote.specs.Steps.{all_ended, region_in};
 ghost use Rattle.ps_vote.specs.Votes.{vote, vote_of, report_in, report_given, agree, shown, HasRoom};
-ghost use Rattle.ps_vote.specs.Whole.{machines_in, happened, with_rebuilt, IsWorldOf};
+ghost use Rattle.ps_vote.specs.Whole.{machines_in, happened, after_events, with_rebuilt, IsWorldOf};
 ghost use Rattle.ps_model.specs.Budgets.{turns_a, turns_b};
 ghost use Rattle.ps_model.specs.Network.{instance_count};
 ghost use Rattle.ps_stackvm.specs.Channel.{workings_a};
@@ -23,26 +24,15 @@ use crate::limits::limits;
 use crate::rebuild::{complement, fill, read, store_counted};
 use crate::seat::{DirtySeats, Seat, Vote, VoteSizes};
 use ps_base::Memory;
-use ps_decision::{DecisionChannel, decision_image, turns_c};
+use ps_decision::{DecisionChannel, decision_image, layout as decision, turns_c};
 use ps_eqgen::equation_image;
-use ps_eqvm::EquationChannel;
-use ps_eqvm::layout::{LAST_AT, SIGNALS_AT};
+use ps_eqvm::{EquationChannel, layout as equation};
 use ps_machine::ScanMachine;
 use ps_model::{App, OutOfRegion, Region, Report, Scan, Sizes};
 use ps_stackgen::stack_image;
-use ps_stackvm::StackChannel;
+use ps_stackvm::{StackChannel, layout as stack};
 use std::alloc::Global;
 use std::marker::Model;
-
-// Where the time of the scan stands in the cells of channel A, and where its signals begin.
-const STACK_TIME_AT: u32 = 6;
-
-const STACK_SIGNALS_AT: u32 = 74;
-
-// The same of channel C.
-const DECISION_TIME_AT: u32 = 5;
-
-const DECISION_SIGNALS_AT: u32 = 22;
 
 /// Three channels of one application, which make its scans event by event, and whose reports are voted on two out of three. A seat
 /// that was outvoted takes part again, and can be rebuilt from another. Contracts see it as a `Whole`. Only `build` takes memory.
@@ -280,6 +270,20 @@ impl VoteWorld {
         }
     }
 
+    // The turns of a scan that is begun and that nothing strikes: the seats run one after the other, which leads to the world of
+    // turns one by one.
+    pub(crate) fn finish_all(&mut self)
+        requires none_a { self.old.state.a.turns ≡ 0 }
+        requires none_b { self.old.state.b.turns ≡ 0 }
+        requires none_c { self.old.state.c.turns ≡ 0 }
+        ensures events { (heals : Bool) → self.new ≡ after_events (turns heals (machines_in self.old.setup) [] (most_turns (machines_in self.old.setup)) 0 None self.old.state).events self.old }
+        ensures goes { (heals : Bool) → (turns heals (machines_in self.old.setup) [] (most_turns (machines_in self.old.setup)) 0 None self.old.state).refused ≡ None }
+    {
+        self.a.finish();
+        self.b.finish();
+        self.c.finish();
+    }
+
     /// All seats begin anew, from code as compiled and blank cells. None is dirty and none outvoted then.
     pub fn restart(&mut self)
         requires { self.old.state.begun ≡ false }
@@ -372,6 +376,21 @@ impl VoteWorld {
         self.dirty.has(seat)
     }
 
+    // Whether another seat is dirty.
+    pub(crate) fn is_another_dirty(&self, seat: Seat) -> bool
+        ensures { result ≡ is_another_dirty seat self.now.state.dirty }
+    {
+        self.dirty.has_another(seat)
+    }
+
+    // The most turns of a scan, over all seats.
+    pub(crate) fn most_turns(&self) -> u64
+        ensures sum { result ≡ most_turns (machines_in self.now.setup) }
+        ensures few { result < 2 ^ 34 }
+    {
+        u64::from(self.a.budget()) + u64::from(self.b.budget()) + u64::from(self.c.budget())
+    }
+
     /// Rebuilds the outvoted seat from another on its bytes as they are: seat A from C, and the others from A. It is not dirty then,
     /// and none is outvoted.
     pub fn heal(&mut self, seat: Seat)
@@ -391,17 +410,13 @@ impl VoteWorld {
     fn rebuild_a(&mut self)
         ensures { self.new ≡ with_rebuilt Seat.A self.old }
     {
-        read(
-            self.c.channel(),
-            DECISION_SIGNALS_AT as usize,
-            &mut self.room.bytes,
-        );
+        read(self.c.channel(), decision::SIGNALS_AT, &mut self.room.bytes);
         let time = self.last.to_be_bytes();
         fill(
             &mut self.a,
-            STACK_TIME_AT,
+            stack::TIME_AT as u32,
             &time,
-            STACK_SIGNALS_AT,
+            stack::SIGNALS_AT as u32,
             &self.room.bytes,
         );
     }
@@ -410,19 +425,15 @@ impl VoteWorld {
     fn rebuild_b(&mut self)
         ensures { self.new ≡ with_rebuilt Seat.B self.old }
     {
-        read(
-            self.a.channel(),
-            STACK_SIGNALS_AT as usize,
-            &mut self.room.bytes,
-        );
+        read(self.a.channel(), stack::SIGNALS_AT, &mut self.room.bytes);
         store_counted(&mut self.room.bytes, &self.limits, self.last);
         let mut time = self.last.to_be_bytes();
         complement(&mut time);
         fill(
             &mut self.b,
-            LAST_AT as u32,
+            equation::LAST_AT as u32,
             &time,
-            SIGNALS_AT as u32,
+            equation::SIGNALS_AT as u32,
             &self.room.bytes,
         );
     }
@@ -431,17 +442,13 @@ impl VoteWorld {
     fn rebuild_c(&mut self)
         ensures { self.new ≡ with_rebuilt Seat.C self.old }
     {
-        read(
-            self.a.channel(),
-            STACK_SIGNALS_AT as usize,
-            &mut self.room.bytes,
-        );
+        read(self.a.channel(), stack::SIGNALS_AT, &mut self.room.bytes);
         let time = self.last.to_be_bytes();
         fill(
             &mut self.c,
-            DECISION_TIME_AT,
+            decision::TIME_AT as u32,
             &time,
-            DECISION_SIGNALS_AT,
+            decision::SIGNALS_AT as u32,
             &self.room.bytes,
         );
     }

@@ -12,6 +12,7 @@ mod call;
 mod cells;
 mod channel;
 mod fetch;
+mod head;
 mod instance;
 mod instruction;
 pub mod layout;

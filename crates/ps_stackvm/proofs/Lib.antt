@@ -1,3 +1,4 @@
+pub mod Heads
 pub mod Outputs
 pub mod Instances
 pub mod Calls

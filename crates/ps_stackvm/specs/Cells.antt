@@ -42,6 +42,10 @@ with_pc pc cells = replaced cells 0 (to_be_bytes w32 pc)
 abbrev pub with_height : ℕ → List ℕ → List ℕ
 with_height height cells = slice_set cells HEIGHT_AT height
 
+-- the cells with another head: another place of the next instruction, and another height of the stack
+abbrev pub with_head : (pc height : ℕ) → List ℕ → List ℕ
+with_head pc height cells = with_pc pc (with_height height cells)
+
 -- the cells with another progress
 abbrev pub with_progress : ℕ → List ℕ → List ℕ
 with_progress progress cells = slice_set cells PROGRESS_AT progress

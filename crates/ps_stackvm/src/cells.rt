@@ -4,7 +4,6 @@ ghost use Rattle.std.specs.Prelude.{◌≡◌, ◌+◌, ◌<◌, ◌≤◌, leng
 ghost use Rattle.ps_machine.specs.Bytes.{be2, bit, replaced};
 ghost use Rattle.ps_machine.specs.Progressing.{progress_said};
 ghost use Rattle.ps_stackvm.specs.Cells.{pc_of, progress_of, scan_time, with_pc, trapped};
-ghost use Rattle.ps_stackvm.specs.Stack.{pushed};
 ghost use Rattle.ps_stackvm.specs.Turn.{begin_a};
 
 use crate::layout::{HEIGHT_AT, PROGRESS_AT, SIGNALS_AT, STACK_AT, STACK_SIZE, TIME_AT};
@@ -67,17 +66,6 @@ pub(crate) fn trap(cells: &mut [u8], reason: Trap)
     ensures { cells.new ≡ trapped reason cells.old }
 {
     cells[PROGRESS_AT] = reason.number() + 1;
-}
-
-// One more byte on the stack.
-pub(crate) fn push(cells: &mut [u8], byte: u8)
-    requires room { SIGNALS_AT ≤ length cells.old }
-    requires below { slice_index cells.old HEIGHT_AT < STACK_SIZE }
-    ensures { cells.new ≡ pushed byte cells.old }
-{
-    let height = cells[HEIGHT_AT];
-    cells[STACK_AT + height as usize] = byte;
-    cells[HEIGHT_AT] = height + 1;
 }
 
 // The byte of a truth value.

@@ -1,7 +1,8 @@
 //! Channel A: a machine that runs stack code, on any bytes. It steps each instance as a typed block.
 //!
 //! - `channel`: the channel, with its code and its cells; `cells` and `layout` are its cells.
-//! - `turn`: one turn, by `fetch`, `stack` and `call`; `pins` is what a call takes from the stack.
+//! - `turn`: one turn and a run of them, by `fetch`, `stack` and `call`; a run keeps the `head` of the cells apart; `pins` is what
+//!   a call takes from the stack.
 //! - `instance` and `report`: the step of an instance in the cells, and the report that they hold; channel C has them too.
 //! - `instruction` and `trap`: the instructions and the traps with their numbers.
 //!
@@ -12,6 +13,7 @@ mod call;
 mod cells;
 mod channel;
 mod fetch;
+mod head;
 mod instance;
 mod instruction;
 pub mod layout;

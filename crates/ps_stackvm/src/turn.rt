@@ -2,27 +2,36 @@
 
 ghost use Rattle.std.specs.Prelude.{◌≡◌, ◌≢◌, ℕ, ◌+◌, ◌*◌, ◌<◌, ◌≤◌, ◌^◌, length};
 ghost use Rattle.ps_machine.specs.Machines.{turned};
-ghost use Rattle.ps_stackvm.specs.Cells.{progress_of};
+ghost use Rattle.ps_machine.specs.Progressing.{progress_said};
+ghost use Rattle.ps_stackvm.specs.Cells.{progress_of, with_head};
 ghost use Rattle.ps_stackvm.specs.Turn.{after, turn_of};
 
 use crate::call::{Site, call};
-use crate::cells::{pc, trap};
 use crate::fetch::fetch;
+use crate::head::{Head, stop};
 use crate::instruction::Instruction;
 use crate::layout::{INSTANCE_SIZE, PROGRESS_AT, SIGNALS_AT};
 use crate::stack::{and, constant, end, load, or, store};
+use ps_model::Progress;
 
 // Carries out an instruction, with so many signals and instances.
-fn carry_out(cells: &mut [u8], signals: u16, instances: u16, i: Instruction, next: u32)
+fn carry_out(
+    cells: &mut [u8],
+    signals: u16,
+    instances: u16,
+    i: Instruction,
+    head: Head,
+    next: u32,
+) -> Head
     requires { SIGNALS_AT + signals + INSTANCE_SIZE * instances ≤ length cells.old }
-    ensures { cells.new ≡ after signals instances i next cells.old }
+    ensures { with_head result.pc result.height cells.new ≡ after signals instances i next (with_head head.pc head.height cells.old) }
 {
     match i {
-        Instruction::Load(c) => load(cells, signals, c, next),
-        Instruction::Store(c) => store(cells, signals, c, next),
-        Instruction::Const(byte) => constant(cells, byte, next),
-        Instruction::And => and(cells, next),
-        Instruction::Or => or(cells, next),
+        Instruction::Load(c) => load(cells, signals, c, head, next),
+        Instruction::Store(c) => store(cells, signals, c, head, next),
+        Instruction::Const(byte) => constant(cells, byte, head, next),
+        Instruction::And => and(cells, head, next),
+        Instruction::Or => or(cells, head, next),
         Instruction::Call {
             instance,
             kind,
@@ -36,22 +45,30 @@ fn carry_out(cells: &mut [u8], signals: u16, instances: u16, i: Instruction, nex
                 limit,
                 next,
             };
-            call(cells, instances, kind, site)
+            head.write(cells);
+            call(cells, instances, kind, site);
+            Head::of(cells)
         }
-        Instruction::End => end(cells, next),
+        Instruction::End => end(cells, head, next),
     }
 }
 
-// One turn, with so many signals and instances.
-pub(crate) fn turn(cells: &mut [u8], code: &[u8], signals: u16, instances: u16)
+// One turn, with so many signals and instances. The head is kept apart.
+fn advance(cells: &mut [u8], code: &[u8], signals: u16, instances: u16, head: Head) -> Head
     requires room { SIGNALS_AT + signals + INSTANCE_SIZE * instances ≤ length cells.old }
     requires short { length code.now < 2 ^ 32 }
-    ensures { cells.new ≡ turn_of signals instances code.now cells.old }
+    ensures { with_head result.pc result.height cells.new ≡ turn_of signals instances code.now (with_head head.pc head.height cells.old) }
 {
-    let pc = pc(cells);
-    match fetch(code, pc) {
-        Ok(i) => carry_out(cells, signals, instances, i, pc + u32::from(i.size())),
-        Err(reason) => trap(cells, reason),
+    match fetch(code, head.pc) {
+        Ok(i) => carry_out(
+            cells,
+            signals,
+            instances,
+            i,
+            head,
+            head.pc + u32::from(i.size()),
+        ),
+        Err(reason) => stop(cells, head, reason),
     }
 }
 
@@ -64,11 +81,24 @@ pub(crate) fn turns(cells: &mut [u8], code: &[u8], signals: u16, instances: u16,
     ensures most { result ≤ most }
     ensures stopped { result < most → progress_of cells.new ≢ 0 }
 {
+    let mut head = Head::of(cells);
     for made in 0..most {
         if cells[PROGRESS_AT] != 0 {
+            head.write(cells);
             return made;
         }
-        turn(cells, code, signals, instances);
+        head = advance(cells, code, signals, instances, head);
     }
+    head.write(cells);
     most
+}
+
+// One turn of a scan that is Running.
+pub(crate) fn turn(cells: &mut [u8], code: &[u8], signals: u16, instances: u16)
+    requires room { SIGNALS_AT + signals + INSTANCE_SIZE * instances ≤ length cells.old }
+    requires short { length code.now < 2 ^ 32 }
+    requires runs { progress_said (progress_of cells.old) ≡ Progress.Running }
+    ensures { cells.new ≡ turn_of signals instances code.now cells.old }
+{
+    turns(cells, code, signals, instances, 1);
 }

@@ -161,6 +161,7 @@ impl BitCells {
 
     /// So many cells from cell i on become the truth values that the lowest bits of a number are. Where
     /// the cells stand in one word, they are written at once.
+    #[inline(always)]
     pub fn put_run(&mut self, i: usize, count: u8, number: u32)
         requires low { i < 2 ^ 32 }
         requires room { i + count ≤ length self.old }

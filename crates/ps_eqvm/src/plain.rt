@@ -51,6 +51,7 @@ fn put_all(cells: &mut BitCells, at: usize, values: &[bool])
 }
 
 // The outputs of a kind in a state with this latched mode, from a cell on.
+#[inline(always)]
 fn put_outputs(cells: &mut BitCells, at: usize, kind: Kind, code: u16, mode: u8)
     requires low { at < 2 ^ 32 }
     requires room { at + output_count kind ≤ length cells.old }
@@ -162,6 +163,7 @@ impl PlainCells {
 
     /// What the bytes of an instance say, for any kind that can keep it. None comes where they load for
     /// no kind.
+    #[inline(always)]
     pub fn instance(&self, i: usize) -> Option<CountedBlock>
         requires { INSTANCE_SIZE * i + INSTANCE_SIZE ≤ length self.now.blocks }
         ensures some { IfSome result (λ block. LoadAs (instance_bytes 0 i self.now.blocks) (kept_of block)) }
@@ -256,6 +258,7 @@ impl PlainCells {
 
     /// An instance keeps its new state, its outputs are written from a signal on, and the row at `next`
     /// follows.
+    #[inline(always)]
     pub fn settle(&mut self, kind: Kind, block: CountedBlock, instance: u16, first: u16, next: u32)
         requires outs { WORK_CELLS + first + output_count kind ≤ length self.old.cells }
         requires bytes { INSTANCE_SIZE * instance + INSTANCE_SIZE ≤ length self.old.blocks }

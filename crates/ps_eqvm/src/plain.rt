@@ -72,12 +72,12 @@ fn with_byte(number: u32, i: usize, byte: u8) -> u32
 }
 
 impl PlainCells {
-    ghost use Rattle.std.specs.Prelude.{◌≡◌, ◌+◌, ◌-◌, ◌*◌, ◌<◌, ◌≤◌, ◌^◌, ◌==◌, IfOk, IfSome, IfNone, is_err, length, nat_lt, slice_index, slice_set};
+    ghost use Rattle.std.specs.Prelude.{◌≡◌, ◌+◌, ◌-◌, ◌*◌, ◌<◌, ◌≤◌, ◌^◌, ◌==◌, ℕ, IfOk, IfSome, IfNone, is_err, length, nat_lt, slice_index, slice_set, true};
     ghost use Rattle.ps_machine.specs.Bytes.{bit, be2, instance_bytes, overwritten, replaced};
     ghost use Rattle.ps_model.specs.Blocks.{output_count};
     ghost use Rattle.ps_rows.specs.Counted.{kept_of};
     ghost use Rattle.ps_eqvm.specs.Instances.{LoadAs, LoadNowhere};
-    ghost use Rattle.ps_eqvm.specs.Bits.{truth_of, AreBitsOf};
+    ghost use Rattle.ps_eqvm.specs.Bits.{truth_of, AreBitsOf, AreEven};
     ghost use Rattle.ps_eqvm.specs.Plain.{plain_bytes, laid_out, blank, IsPlain};
     ghost use Rattle.ps_eqvm.specs.Rows.{operand_of};
     ghost use Rattle.ps_eqvm.specs.Acting.{trapped, after_last, byte_of, with_cell, settled};
@@ -178,6 +178,13 @@ impl PlainCells {
         ensures { result ≡ truth_of (slice_index (plain_bytes self.now) (SIGNALS_AT + s)) }
     {
         self.cells.at(WORK_CELLS as usize + s as usize)
+    }
+
+    /// TRUE only where the byte of each signal is 0 or 1.
+    pub fn are_even(&self) -> bool
+        ensures { (signals : ℕ) → length self.now.cells ≡ WORK_CELLS + signals → result ≡ true → AreEven signals (plain_bytes self.now) }
+    {
+        self.cells.are_even()
     }
 
     /// The DiagCode of instance i, among so many signals.

@@ -22,7 +22,7 @@ refused_pins-requires c =
       sized = c.requires.sized;
       whole = c.requires.whole;
       refused = ap (λ (l : List (Option ℕ)). list_any is_missing l || list_any is_odd l) (pin_bytes_are a.signals a.plain.now.cells a.code.now a.from a.count)
-      ∙ refused_at f a.count c.loop-j.j c.loop-j-test.true (λ on e. c.in_default.not-Truth on (found ∙ e));
+          ∙ refused_at f a.count c.loop-j.j c.loop-j-test.true (λ on e. c.in_default.not-Truth on (found ∙ e));
     }
 
 pub loop-j-preserved : goal.loop-j-preserved

@@ -23,8 +23,11 @@ returns-then-last_reset-gt1-clause-none c =
       | then-last_reset-gt1-via-else-last_reset-gt1+then-last_auxiliary-gt1 w ↦
           omega (arith, w.if-last_auxiliary-gt1.true, plain 3 (at + 3) (lit< tt) refl, byte 3, bit_low k.last_auxiliary)
       | then-last_reset-gt1-via-else-last_reset-gt1+else-last_auxiliary-gt1+then-not-are_zero w ↦
-          absurd (cc (w.if-not-are_zero.true, w.are_zero.ensures.all
-          (rest_from stored at c.requires small (sym (byte 9)) (sym (byte 10)) (sym (byte 11)) (sym (byte 12)) (sym (byte 13)) (sym (byte 14)) (sym (byte 15)))))
+          absurd (cc (
+            w.if-not-are_zero.true,
+            w.are_zero.ensures.all
+                (rest_from stored at c.requires small (sym (byte 9)) (sym (byte 10)) (sym (byte 11)) (sym (byte 12)) (sym (byte 13)) (sym (byte 14)) (sym (byte 15))),
+          ))
     ])
 
 pub returns-clause-some : goal.returns-clause-some

@@ -103,7 +103,8 @@ fn has_bad(plain: &PlainCells, signals: u16, code: &[u8], from: usize, count: u8
 }
 
 /// BLOCK of an instance, of which there are so many, as the kind with a number, with so many operands
-/// from a place of the code on.
+/// from a place of the code on. It is a part of its caller, all of it but for the traps, so that a number that
+/// is a constant there leaves one kind's code.
 #[inline(always)]
 pub fn block(
     plain: &mut PlainCells,

@@ -16,7 +16,7 @@ use crate::plain::PlainCells;
 use crate::trap::Trap;
 use ps_machine::{number_in_four, number_in_two};
 
-// SET, ALL or ANY at a place of the code.
+// SET, ALL or ANY at a place of the code. It is a part of the turn, with a code of its own for each of the three.
 #[inline(always)]
 fn turn_gate(plain: &mut PlainCells, signals: u16, instances: u16, how: Gate, code: &[u8], at: u32)
     requires sized { IsSized signals instances plain.old }
@@ -98,7 +98,7 @@ fn turn_block_as<const NUMBER: u8>(
     block(plain, instances, NUMBER, site, code, place + 11, count);
 }
 
-/// One turn, with so many signals and instances.
+/// One turn, with so many signals and instances. It is a part of the loop of turns.
 #[inline(always)]
 pub fn turn(plain: &mut PlainCells, code: &[u8], signals: u16, instances: u16)
     requires sized { IsSized signals instances plain.old }

@@ -1,4 +1,4 @@
-use Rattle.std.proofs.Common.{◌≡◌, ℕ, ◌+◌, ◌-◌, ◌%◌, ◌^◌, ◌<◌, List, ap, ◌∙◌, sym, arith, lit<, refl}
+use Rattle.std.proofs.Common.{◌≡◌, ℕ, ◌+◌, ◌-◌, ◌^◌, ◌<◌, List, ap, ◌∙◌, sym, arith, lit<, refl}
 use Rattle.std.specs.Prelude.{slice_index, ◌==◌}
 use Rattle.ps_model.proofs.Sixteen.{flag, stored_is}
 use Rattle.ps_model.specs.Stored.{stored as stored_kept}

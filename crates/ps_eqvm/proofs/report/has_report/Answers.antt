@@ -1,4 +1,3 @@
-use Rattle.std.proofs.Common.{◌≡◌}
 use Rattle.ps_eqvm.proofs.report.has_report.Goals as goal
 
 pub outputs_hold-requires-clause-even : goal.outputs_hold-requires-clause-even

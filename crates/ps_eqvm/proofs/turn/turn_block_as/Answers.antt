@@ -1,4 +1,4 @@
-use Rattle.std.proofs.Common.{◌≡◌, ℕ, ◌+◌, ◌*◌, ◌≤◌, cond, length, Option, ap, ◌∙◌, sym, arith}
+use Rattle.std.proofs.Common.{◌+◌, ◌*◌, ◌≤◌, cond, length, Option, ap, ◌∙◌, sym, arith}
 use Rattle.std.specs.Prelude.{slice_index, nat_le}
 use Rattle.ps_model.specs.declared.kind.Kind.{Kind}
 use Rattle.ps_machine.specs.Bytes.{be2, be4}

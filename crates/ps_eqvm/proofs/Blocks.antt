@@ -1,11 +1,14 @@
 -- What BLOCK leaves, case by case.
-use Rattle.std.proofs.Common.{◌≡◌, ℕ, ◌+◌, ◌*◌, ◌<◌, ◌≤◌, true, false, cond, List, length, Option, Result, Ok, Err, refl, sym, ap, ◌∙◌}
+use Rattle.std.proofs.Common.{◌≡◌, ◌≢◌, ℕ, ◌+◌, ◌*◌, ◌<◌, ◌≤◌, true, false, cond, List, length, Option, Result, Ok, Err, refl, sym, ap, ◌∙◌, arith}
 use Rattle.std.specs.Prelude.{slice_index, ◌||◌, ◌==◌, nat_lt, not}
 use Rattle.std.specs.List.{list_any}
 use Rattle.std.proofs.lemmas.Bool.{cond-true, cond-false, or_left, le-ltb, lt-ltb, ne_eqb, eq-eqb}
 use Rattle.std.proofs.lemmas.List.FromFn.{length-map-range_with_len}
 use Rattle.ps_model.specs.declared.kind.Kind.{Kind}
-use Rattle.ps_model.specs.Blocks.{output_count}
+use Rattle.ps_model.specs.Blocks.{block, output_count}
+use Rattle.ps_model.proofs.KindNumbers.{number_at_least, number_at_most}
+use Rattle.ps_machine.specs.Kinds.{kind_of}
+use Rattle.ps_machine.proofs.KindsByNumber.{no_kind_of}
 use Rattle.ps_model.specs.Budgets.{boolean_count}
 use Rattle.ps_model.specs.Stored.{loaded}
 use Rattle.ps_machine.specs.Bytes.{be2, be4, instance_bytes}
@@ -107,3 +110,9 @@ gate_cut how n k at t c code p h =
     five Set = refl
     five All = refl
     five Any = refl
+
+-- a number that no kind has, as 0 has none
+pub unnumbered : (n : ℕ) → (1 ≤ n → n ≤ 13 → ⊥) → kind_of n ≡ kind_of 0
+unnumbered n out =
+    let above : (kind : Kind) → (block kind).number ≢ 0 = λ kind e. omega (arith, number_at_least kind, e) in
+    no_kind_of n (λ kind e. out (omega (arith, number_at_least kind, e)) (omega (arith, number_at_most kind, e))) ∙ sym (no_kind_of 0 above)

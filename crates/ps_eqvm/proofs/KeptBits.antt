@@ -102,3 +102,10 @@ even_cell value odd counted i is small =
           absurd (omega (arith, own, small, is.counts i one))
       | inr other ↦ omega (arith, low, other)
     ]
+
+-- where no cell is odd
+pub even_cells : (value odd counted : List ℕ) → ((i : ℕ) → bit_in odd i ≡ 0) → (i : ℕ) → i < length (plain_cells value odd counted) → slice_index (plain_cells value odd counted) i < 2
+even_cells value odd counted clear i low =
+    let own : slice_index (plain_cells value odd counted) i ≡ bit_in value i =
+    index-cells value odd counted i (omega (arith, low, length-cells value odd counted)) ∙ ap (λ b. cond (b == 1) (slice_index counted i) (bit_in value i)) (clear i) in
+    subst (λ (b : ℕ). b < 2) (sym own) (bit_at-lt (slice_index value (i / 64)) (i % 64))

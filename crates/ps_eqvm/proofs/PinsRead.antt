@@ -1,5 +1,5 @@
 -- The operands of a BLOCK row, read one after another.
-use Rattle.std.proofs.Common.{inl, inr, ◌≡◌, ◌≢◌, ℕ, zero, suc, ◌+◌, ◌<◌, ◌≤◌, Bool, true, false, List, [], ◌∷◌, length, map, Option, Some, None, refl, sym, ap, ◌∙◌, arith, zero-add, ⊎_elim}
+use Rattle.std.proofs.Common.{inl, inr, ◌≡◌, ◌≢◌, ◌⊎◌, ℕ, zero, suc, ◌+◌, ◌<◌, ◌≤◌, Bool, true, false, List, [], ◌∷◌, length, map, Option, Some, None, refl, sym, ap, ◌∙◌, arith, zero-add, ⊎_elim}
 use Rattle.std.specs.Prelude.{◌==◌, ◌||◌, max}
 use Rattle.std.specs.List.{list_any, range_with_len}
 use Rattle.std.specs.Int.{bit_at}
@@ -10,15 +10,15 @@ use Rattle.std.proofs.lemmas.List.FromFn.{length-map-range_with_len, get_or-map-
 use Rattle.std.proofs.lemmas.Simd.{map-map}
 use Rattle.ps_machine.specs.Bytes.{bit, is_no_bit}
 use Rattle.ps_model.specs.PinBits.{pin_of}
-use Rattle.ps_eqvm.specs.declared.operand.Found.TheVariants.{Missing, Odd, Truth}
-use Rattle.ps_eqvm.specs.declared.block.Pins.TheVariants.{Bits, Odd as Odd_pins}
+use Rattle.ps_eqvm.specs.declared.operand.Found.TheVariants.{Odd, Truth}
+use Rattle.ps_eqvm.specs.declared.block.Pins.TheVariants.{Bits}
 use Rattle.ps_eqvm.specs.Finding.{found_of}
 use Rattle.ps_eqvm.specs.Rows.{operands}
 use Rattle.ps_eqvm.specs.Acting.{is_missing, is_odd, is_on, pins_on, pin_bytes}
 use Rattle.ps_eqvm.specs.Pins.{Reads, ReadSoFar, pin_byte}
 
-pub read_none : (f : ℕ → Option ℕ) (bits : ℕ) → ((k : ℕ) → bit_at bits k ≡ 0) → ReadSoFar f 0 bits false
-read_none f bits zeros = record { whole = refl; odd_so_far = refl; pins = λ k h. absurd (omega (arith, h)); beyond = λ k h. zeros k }
+pub read_none : (f : ℕ → Option ℕ) (bits : ℕ) → ((k : ℕ) → bit_at bits k ≡ 0) → ReadSoFar f 0 bits
+read_none f bits zeros = record { whole = refl; even = refl; pins = λ k h. absurd (omega (arith, h)); beyond = λ k h. zeros k }
 
 -- one more
 any_more : (p : Option ℕ → Bool) (f : ℕ → Option ℕ) (n : ℕ) → list_any p (map f (range_with_len 0 (n + 1))) ≡ (list_any p (map f (range_with_len 0 n)) || (p (f n) || false))
@@ -29,45 +29,23 @@ or_false true = refl
 or_false false = refl
 
 -- by what was found
-missing_is : (o : Option ℕ) → found_of o ≡ Missing → is_missing o ≡ true
-missing_is None h = refl
-missing_is (Some byte) h = absurd (⊎_elim (λ y. cc (h, cond-true (is_no_bit byte) Odd (Truth (byte == 1)) y)) (λ n. cc (h, cond-false (is_no_bit byte) Odd (Truth (byte == 1)) n)) (cases_Bool (is_no_bit byte)))
-
-odd_is : (o : Option ℕ) → found_of o ≡ Odd → (is_missing o ≡ false) × (is_odd o ≡ true) × (is_on o ≡ false)
-odd_is None h = absurd (cc h)
-odd_is (Some byte) h =
-    ⊎_elim (λ y. (refl, y, not_on byte y))
-    (λ n. absurd (cc (h, cond-false (is_no_bit byte) Odd (Truth (byte == 1)) n))) (cases_Bool (is_no_bit byte))
-  where
-    not_on : (b : ℕ) → is_no_bit b ≡ true → (b == 1) ≡ false
-    not_on b h = grind arith
-
 truth_is : (o : Option ℕ) (on : Bool) → found_of o ≡ Truth on → (is_missing o ≡ false) × (is_odd o ≡ false) × (is_on o ≡ on)
 truth_is None on h = absurd (cc h)
 truth_is (Some byte) on h =
     ⊎_elim (λ y. absurd (cc (h, cond-true (is_no_bit byte) Odd (Truth (byte == 1)) y)))
     (λ n. let e : Truth (byte == 1) ≡ Truth on = sym (cond-false (is_no_bit byte) Odd (Truth (byte == 1)) n) ∙ h in let on_is : (byte == 1) ≡ on = cc e in (refl, n, on_is)) (cases_Bool (is_no_bit byte))
 
-pub read_odd : (f : ℕ → Option ℕ) (n bits : ℕ) (odd : Bool) → ReadSoFar f n bits odd → found_of (f n) ≡ Odd → ReadSoFar f (n + 1) bits true
-read_odd f n bits odd r h =
-    let is = odd_is (f n) h in
-    record {
-      whole = any_more is_missing f n ∙ or_from (list_any is_missing (map f (range_with_len 0 n))) (is_missing (f n) || false) r.whole (or_false (is_missing (f n)) ∙ is.0);
-      odd_so_far = sym (any_more is_odd f n ∙ or_right (list_any is_odd (map f (range_with_len 0 n))) (is_odd (f n) || false) (or_false (is_odd (f n)) ∙ is.1));
-      pins = λ k low. elim (cases_eq k n) [
-        | inl last ↦ ap (pin_of bits) last ∙ ap (λ b. b == 1) (r.beyond n (omega arith)) ∙ sym (ap (λ k. is_on (f k)) last ∙ is.2)
-        | inr other ↦ r.pins k (omega (arith, low, other))
-      ];
-      beyond = λ k high. r.beyond k (omega (arith, high));
-    }
+-- one more that does not pass
+pub none_more : (p : Option ℕ → Bool) (f : ℕ → Option ℕ) (n : ℕ) → list_any p (map f (range_with_len 0 n)) ≡ false → p (f n) ≡ false → list_any p (map f (range_with_len 0 (n + 1))) ≡ false
+none_more p f n h g = any_more p f n ∙ or_from (list_any p (map f (range_with_len 0 n))) (p (f n) || false) h (or_false (p (f n)) ∙ g)
 
-pub read_truth : (f : ℕ → Option ℕ) (n bits bits' : ℕ) (odd on : Bool) → ReadSoFar f n bits odd → found_of (f n) ≡ Truth on →
-    bit_at bits' n ≡ max (bit_at bits n) (bit on) → ((k : ℕ) → k ≢ n → bit_at bits' k ≡ bit_at bits k) → ReadSoFar f (n + 1) bits' odd
-read_truth f n bits bits' odd on r h same others =
+pub read_truth : (f : ℕ → Option ℕ) (n bits bits' : ℕ) (on : Bool) → ReadSoFar f n bits → found_of (f n) ≡ Truth on →
+    bit_at bits' n ≡ max (bit_at bits n) (bit on) → ((k : ℕ) → k ≢ n → bit_at bits' k ≡ bit_at bits k) → ReadSoFar f (n + 1) bits'
+read_truth f n bits bits' on r h same others =
     let is = truth_is (f n) on h in
     record {
-      whole = any_more is_missing f n ∙ or_from (list_any is_missing (map f (range_with_len 0 n))) (is_missing (f n) || false) r.whole (or_false (is_missing (f n)) ∙ is.0);
-      odd_so_far = r.odd_so_far ∙ sym (or_false (list_any is_odd (map f (range_with_len 0 n)))) ∙ ap (λ b. list_any is_odd (map f (range_with_len 0 n)) || b) (sym (or_false (is_odd (f n)) ∙ is.1)) ∙ sym (any_more is_odd f n);
+      whole = none_more is_missing f n r.whole is.0;
+      even = none_more is_odd f n r.even is.1;
       pins = λ k low. elim (cases_eq k n) [
         | inl last ↦ ap (pin_of bits') last ∙ ap (λ b. b == 1) (same ∙ ap (λ b. max b (bit on)) (r.beyond n (omega arith)) ∙ none_before on) ∙ bit_one on ∙ sym (ap (λ k. is_on (f k)) last ∙ is.2)
         | inr other ↦ ap (λ b. b == 1) (others k other) ∙ r.pins k (omega (arith, low, other))
@@ -83,10 +61,6 @@ read_truth f n bits bits' odd on r h same others =
     bit_one true = refl
     bit_one false = refl
 
--- one more that does not pass
-pub none_more : (p : Option ℕ → Bool) (f : ℕ → Option ℕ) (n : ℕ) → list_any p (map f (range_with_len 0 n)) ≡ false → p (f n) ≡ false → list_any p (map f (range_with_len 0 (n + 1))) ≡ false
-none_more p f n h g = any_more p f n ∙ or_from (list_any p (map f (range_with_len 0 n))) (p (f n) || false) h (or_false (p (f n)) ∙ g)
-
 -- where one is missing
 pub any_at : (p : Option ℕ → Bool) (f : ℕ → Option ℕ) (n j : ℕ) → j < n → p (f j) ≡ true → list_any p (map f (range_with_len 0 n)) ≡ true
 any_at p f zero j low h = absurd (omega (arith, low))
@@ -98,11 +72,19 @@ any_at p f (suc n) j low h =
       | inr other ↦ or_left (list_any p (map f (range_with_len 0 n))) (p (f n) || false) (any_at p f n j (omega (arith, low, other)) h)
     ]
 
-pub read_missing : (f : ℕ → Option ℕ) (count j : ℕ) → j < count → found_of (f j) ≡ Missing → list_any is_missing (map f (range_with_len 0 count)) ≡ true
-read_missing f count j low h = any_at is_missing f count j low (missing_is (f j) h)
+-- an operand that has no truth value, among so many
+pub refused_at : (f : ℕ → Option ℕ) (count j : ℕ) → j < count → ((on : Bool) → found_of (f j) ≢ Truth on) → (list_any is_missing (map f (range_with_len 0 count)) || list_any is_odd (map f (range_with_len 0 count))) ≡ true
+refused_at f count j low h = elim (bad_or_odd (f j) h) [
+  | inl bad ↦ or_left (list_any is_missing (map f (range_with_len 0 count))) (list_any is_odd (map f (range_with_len 0 count))) (any_at is_missing f count j low bad)
+  | inr odd ↦ or_right (list_any is_missing (map f (range_with_len 0 count))) (list_any is_odd (map f (range_with_len 0 count))) (any_at is_odd f count j low odd)
+]
+  where
+    bad_or_odd : (o : Option ℕ) → ((on : Bool) → found_of o ≢ Truth on) → (is_missing o ≡ true) ⊎ (is_odd o ≡ true)
+    bad_or_odd None h = inl refl
+    bad_or_odd (Some byte) h = ⊎_elim (λ y. inr y) (λ n. absurd (h (byte == 1) (cond-false (is_no_bit byte) Odd (Truth (byte == 1)) n))) (cases_Bool (is_no_bit byte))
 
 -- when all are read
-pub read_all : (f : ℕ → Option ℕ) (n bits : ℕ) → ReadSoFar f n bits false → Reads (Bits bits) (map f (range_with_len 0 n))
+pub read_all : (f : ℕ → Option ℕ) (n bits : ℕ) → ReadSoFar f n bits → Reads (Bits bits) (map f (range_with_len 0 n))
 read_all f n bits r =
     let same : (k : ℕ) → pin_of bits k ≡ pins_on (map f (range_with_len 0 n)) k = λ k.
     elim (cases_lt k n) [
@@ -111,10 +93,7 @@ read_all f n bits r =
           let past : length (map f (range_with_len 0 n)) ≤ k = omega (arith, high, length-map-range_with_len f 0 n) in
           ap (λ b. b == 1) (r.beyond k high) ∙ ap is_on (sym (get_or_past (map f (range_with_len 0 n)) k None past))
     ] in
-    (r.whole, sym r.odd_so_far, λ x k. same k x)
-
-pub read_all_odd : (f : ℕ → Option ℕ) (n bits : ℕ) → ReadSoFar f n bits true → Reads Odd_pins (map f (range_with_len 0 n))
-read_all_odd f n bits r = (r.whole, sym r.odd_so_far)
+    (r.whole, r.even, λ x k. same k x)
 
 -- the bytes of the pins, operand by operand
 pub pin_bytes_are : (signals : ℕ) (cells code : List ℕ) (from count : ℕ) → pin_bytes signals cells (operands code from count) ≡ map (pin_byte signals cells code from) (range_with_len 0 count)

@@ -1,7 +1,7 @@
 -- The sixteen stored bytes of an instance, and what they say.
-use Rattle.std.proofs.Common.{◌≡◌, ℕ, ◌+◌, ◌-◌, ◌*◌, ◌%◌, ◌^◌, ◌<◌, ◌≤◌, Bool, true, false, Option, Some, None, List, [], ◌∷◌, length, take, drop, refl, sym, ap, ◌∙◌, subst, arith, lit<, lit≤, add-zero, length-drop}
+use Rattle.std.proofs.Common.{◌≡◌, ℕ, zero, suc, ◌+◌, ◌-◌, ◌^◌, ◌<◌, ◌≤◌, Bool, true, false, Option, Some, None, List, [], ◌∷◌, length, take, drop, refl, sym, ap, ◌∙◌, subst, arith, lit<, lit≤, add-zero, length-drop}
 use Rattle.std.specs.Prelude.{slice_index}
-use Rattle.std.specs.Int.{w16, w32, w64, to_be_bytes, from_be_bytes}
+use Rattle.std.specs.Int.{w16, w32, to_be_bytes, from_be_bytes}
 use Rattle.std.proofs.lemmas.Nat.{from_be_bytes-to_be_bytes_2, from_be_bytes-to_be_bytes_4}
 use Rattle.std.proofs.lemmas.List.{get_or-take, get_or-drop, length-take-le, length-map}
 use Rattle.ps_model.specs.declared.kind.Kind.{Kind}
@@ -58,29 +58,26 @@ four_again n small =
     let e : n ≡ 2 ^ 32 - 1 - from_be_bytes w32 (a ∷ b ∷ c ∷ d ∷ []) = omega (arith, again, small) in
     e ∙ not_four a b c d low_a low_b low_c low_d
 
--- the number in the last seven of eight bytes
-seven : (b c d e f g h : ℕ) → ℕ
-seven b c d e f g h = b * 256 ^ 6 + c * 256 ^ 5 + d * 256 ^ 4 + e * 256 ^ 3 + f * 256 ^ 2 + g * 256 + h
+-- four bytes that are full
+each_full : (a b c d : ℕ) → a < 256 → b < 256 → c < 256 → d < 256 → from_be_bytes w32 (a ∷ b ∷ c ∷ d ∷ []) ≡ 2 ^ 32 - 1 → (a ≡ 255) × (b ≡ 255) × (c ≡ 255) × (d ≡ 255)
+each_full a b c d p q r s full = (omega arith, omega arith, omega arith, omega arith)
 
-eight_are : (a b c d e f g h : ℕ) → from_be_bytes w64 (a ∷ b ∷ c ∷ d ∷ e ∷ f ∷ g ∷ h ∷ []) ≡ a * 2 ^ 56 + seven b c d e f g h
-unfolding seven
-eight_are a b c d e f g h = omega arith
+pub four_full : (bytes : List ℕ) (at : ℕ) → ((i : ℕ) → slice_index bytes i < 256) → be4 bytes at ≡ 2 ^ 32 - 1 → (k : ℕ) → k < 4 → slice_index bytes (at + k) ≡ 255
+four_full bytes at small full k low =
+    let each = each_full (slice_index bytes at) (slice_index bytes (at + 1)) (slice_index bytes (at + 2)) (slice_index bytes (at + 3)) (small at) (small (at + 1)) (small (at + 2)) (small (at + 3)) full in
+    by each.0 each.1 each.2 each.3 k low
+  where
+    by : slice_index bytes at ≡ 255 → slice_index bytes (at + 1) ≡ 255 → slice_index bytes (at + 2) ≡ 255 → slice_index bytes (at + 3) ≡ 255 → (k : ℕ) → k < 4 → slice_index bytes (at + k) ≡ 255
+    by a b c d zero low = ap (slice_index bytes) (add-zero at) ∙ a
+    by a b c d (suc zero) low = b
+    by a b c d (suc (suc zero)) low = c
+    by a b c d (suc (suc (suc zero))) low = d
+    by a b c d (suc (suc (suc (suc k)))) low = absurd (omega (arith, low))
 
-seven_small : (b c d e f g h : ℕ) → b < 256 → c < 256 → d < 256 → e < 256 → f < 256 → g < 256 → h < 256 → seven b c d e f g h < 2 ^ 56
-unfolding seven
-seven_small b c d e f g h p q r s t u v = omega arith
-
-top_off : (a n : ℕ) → a < 256 → n < 2 ^ 56 → (2 ^ 64 - 1 - (a * 2 ^ 56 + n)) % 2 ^ 56 ≡ 2 ^ 56 - 1 - n
-top_off a n p q = omega arith
-
-each_full : (b c d e f g h : ℕ) → b < 256 → c < 256 → d < 256 → e < 256 → f < 256 → g < 256 → h < 256 → 2 ^ 56 - 1 ≤ seven b c d e f g h →
-    (255 ≤ b) × (255 ≤ c) × (255 ≤ d) × (255 ≤ e) × (255 ≤ f) × (255 ≤ g) × (255 ≤ h)
-unfolding seven
-each_full b c d e f g h p q r s t u v full = (omega arith, omega arith, omega arith, omega arith, omega arith, omega arith, omega arith)
-
-all_full : (b c d e f g h : ℕ) → b ≡ 255 → c ≡ 255 → d ≡ 255 → e ≡ 255 → f ≡ 255 → g ≡ 255 → h ≡ 255 → seven b c d e f g h ≡ 2 ^ 56 - 1
-unfolding seven
-all_full b c d e f g h p q r s t u v = omega arith
+pub full_four : (bytes : List ℕ) (at : ℕ) → ((k : ℕ) → k < 4 → slice_index bytes (at + k) ≡ 255) → be4 bytes at ≡ 2 ^ 32 - 1
+full_four bytes at full =
+    let a : slice_index bytes at ≡ 255 = ap (slice_index bytes) (sym (add-zero at)) ∙ full 0 (lit< tt) in
+    λ x. from_be_bytes w32 (a x ∷ full 1 (lit< tt) x ∷ full 2 (lit< tt) x ∷ full 3 (lit< tt) x ∷ [])
 
 module _ (stored : List ℕ) (at : ℕ) (within : at + 16 ≤ length stored) (small : (i : ℕ) → slice_index stored i < 256) where
   pub sixteen_long : length (sixteen_at at stored) ≡ 16
@@ -109,55 +106,36 @@ module _ (stored : List ℕ) (at : ℕ) (within : at + 16 ≤ length stored) (sm
       not_four (slice_index stored (at + 5)) (slice_index stored (at + 5 + 1)) (slice_index stored (at + 5 + 2)) (slice_index stored (at + 5 + 3))
       (small (at + 5)) (small (at + 5 + 1)) (small (at + 5 + 2)) (small (at + 5 + 3)) ∙ (λ x. from_be_bytes w32 (sym e0 x ∷ sym e1 x ∷ sym e2 x ∷ sym e3 x ∷ []))
 
-  -- the number in the last eight bytes
-  abbrev pub eight : ℕ
-  eight =
-      from_be_bytes w64 (slice_index stored (at + 8) ∷ slice_index stored (at + 8 + 1) ∷ slice_index stored (at + 8 + 2) ∷ slice_index stored (at + 8 + 3)
-      ∷ slice_index stored (at + 8 + 4) ∷ slice_index stored (at + 8 + 5) ∷ slice_index stored (at + 8 + 6) ∷ slice_index stored (at + 8 + 7) ∷ [])
-
-  rest : ℕ
-  rest = seven (slice_index stored (at + 8 + 1)) (slice_index stored (at + 8 + 2)) (slice_index stored (at + 8 + 3)) (slice_index stored (at + 8 + 4))
-      (slice_index stored (at + 8 + 5)) (slice_index stored (at + 8 + 6)) (slice_index stored (at + 8 + 7))
-
-  rest_is : (2 ^ 64 - 1 - eight) % 2 ^ 56 ≡ 2 ^ 56 - 1 - rest
-  unfolding rest
-  rest_is =
-      let b : ℕ → ℕ = λ k. slice_index stored (at + 8 + k) in
-      ap (λ n. (2 ^ 64 - 1 - n) % 2 ^ 56) (eight_are (slice_index stored (at + 8)) (b 1) (b 2) (b 3) (b 4) (b 5) (b 6) (b 7))
-      ∙ top_off (slice_index stored (at + 8)) rest (small (at + 8))
-      (seven_small (b 1) (b 2) (b 3) (b 4) (b 5) (b 6) (b 7) (small (at + 8 + 1)) (small (at + 8 + 2)) (small (at + 8 + 3)) (small (at + 8 + 4)) (small (at + 8 + 5)) (small (at + 8 + 6)) (small (at + 8 + 7)))
-
-  zero_from : (k j : ℕ) → k < 16 → at + k ≡ j → 255 ≤ slice_index stored j → 0 ≡ slice_index (sixteen_at at stored) k
+  zero_from : (k j : ℕ) → k < 16 → at + k ≡ j → slice_index stored j ≡ 255 → 0 ≡ slice_index (sixteen_at at stored) k
   zero_from k j low is full = let e = plain_at k j low is in omega (arith, e, full)
 
-  pub zeros_from : (2 ^ 64 - 1 - eight) % 2 ^ 56 ≡ 0 →
+  -- the last seven bytes are stored as 255 exactly where they are 0
+  pub zeros_from : ((k : ℕ) → k < 7 → slice_index stored (at + 9 + k) ≡ 255) →
       (0 ≡ slice_index (sixteen_at at stored) 9) × (0 ≡ slice_index (sixteen_at at stored) 10) × (0 ≡ slice_index (sixteen_at at stored) 11) × (0 ≡ slice_index (sixteen_at at stored) 12)
       × (0 ≡ slice_index (sixteen_at at stored) 13) × (0 ≡ slice_index (sixteen_at at stored) 14) × (0 ≡ slice_index (sixteen_at at stored) 15)
-  unfolding rest
-  zeros_from none =
-      let full : 2 ^ 56 - 1 ≤ rest = omega (arith, rest_is, none) in
-      let s : (k : ℕ) → slice_index stored (at + 8 + k) < 256 = λ k. small (at + 8 + k) in
-      let each = each_full _ _ _ _ _ _ _ (s 1) (s 2) (s 3) (s 4) (s 5) (s 6) (s 7) full in (
-        zero_from 9 (at + 8 + 1) (lit< tt) (omega arith) each.0,
-        zero_from 10 (at + 8 + 2) (lit< tt) (omega arith) each.1,
-        zero_from 11 (at + 8 + 3) (lit< tt) (omega arith) each.2,
-        zero_from 12 (at + 8 + 4) (lit< tt) (omega arith) each.3,
-        zero_from 13 (at + 8 + 5) (lit< tt) (omega arith) each.4,
-        zero_from 14 (at + 8 + 6) (lit< tt) (omega arith) each.5,
-        zero_from 15 (at + 8 + 7) (lit< tt) (omega arith) each.6,
-      )
+  zeros_from full = (
+    zero_from 9 (at + 9 + 0) (lit< tt) (omega arith) (full 0 (lit< tt)),
+    zero_from 10 (at + 9 + 1) (lit< tt) (omega arith) (full 1 (lit< tt)),
+    zero_from 11 (at + 9 + 2) (lit< tt) (omega arith) (full 2 (lit< tt)),
+    zero_from 12 (at + 9 + 3) (lit< tt) (omega arith) (full 3 (lit< tt)),
+    zero_from 13 (at + 9 + 4) (lit< tt) (omega arith) (full 4 (lit< tt)),
+    zero_from 14 (at + 9 + 5) (lit< tt) (omega arith) (full 5 (lit< tt)),
+    zero_from 15 (at + 9 + 6) (lit< tt) (omega arith) (full 6 (lit< tt)),
+  )
 
   full_from : (k j : ℕ) → k < 16 → at + k ≡ j → 0 ≡ slice_index (sixteen_at at stored) k → slice_index stored j ≡ 255
   full_from k j low is none = let e = plain_at k j low is in omega (arith, e, none, small j)
 
   pub rest_from : 0 ≡ slice_index (sixteen_at at stored) 9 → 0 ≡ slice_index (sixteen_at at stored) 10 → 0 ≡ slice_index (sixteen_at at stored) 11 → 0 ≡ slice_index (sixteen_at at stored) 12 →
-      0 ≡ slice_index (sixteen_at at stored) 13 → 0 ≡ slice_index (sixteen_at at stored) 14 → 0 ≡ slice_index (sixteen_at at stored) 15 → (2 ^ 64 - 1 - eight) % 2 ^ 56 ≡ 0
-  unfolding rest
-  rest_from z9 z10 z11 z12 z13 z14 z15 =
-      let full : rest ≡ 2 ^ 56 - 1 = all_full _ _ _ _ _ _ _ (full_from 9 (at + 8 + 1) (lit< tt) (omega arith) z9) (full_from 10 (at + 8 + 2) (lit< tt) (omega arith) z10)
-      (full_from 11 (at + 8 + 3) (lit< tt) (omega arith) z11) (full_from 12 (at + 8 + 4) (lit< tt) (omega arith) z12) (full_from 13 (at + 8 + 5) (lit< tt) (omega arith) z13)
-      (full_from 14 (at + 8 + 6) (lit< tt) (omega arith) z14) (full_from 15 (at + 8 + 7) (lit< tt) (omega arith) z15) in
-      omega (arith, rest_is, full)
+      0 ≡ slice_index (sixteen_at at stored) 13 → 0 ≡ slice_index (sixteen_at at stored) 14 → 0 ≡ slice_index (sixteen_at at stored) 15 → (k : ℕ) → k < 7 → slice_index stored (at + 9 + k) ≡ 255
+  rest_from a b c d e f g zero low = full_from 9 (at + 9 + 0) (lit< tt) (omega arith) a
+  rest_from a b c d e f g (suc zero) low = full_from 10 (at + 9 + 1) (lit< tt) (omega arith) b
+  rest_from a b c d e f g (suc (suc zero)) low = full_from 11 (at + 9 + 2) (lit< tt) (omega arith) c
+  rest_from a b c d e f g (suc (suc (suc zero))) low = full_from 12 (at + 9 + 3) (lit< tt) (omega arith) d
+  rest_from a b c d e f g (suc (suc (suc (suc zero)))) low = full_from 13 (at + 9 + 4) (lit< tt) (omega arith) e
+  rest_from a b c d e f g (suc (suc (suc (suc (suc zero))))) low = full_from 14 (at + 9 + 5) (lit< tt) (omega arith) f
+  rest_from a b c d e f g (suc (suc (suc (suc (suc (suc zero)))))) low = full_from 15 (at + 9 + 6) (lit< tt) (omega arith) g
+  rest_from a b c d e f g (suc (suc (suc (suc (suc (suc (suc k))))))) low = absurd (omega (arith, low))
 
   -- what they load as
   module _ (k : Kept) (short : k.code < 2 ^ 16) (timer : k.timer < 2 ^ 32) where

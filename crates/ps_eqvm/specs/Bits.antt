@@ -1,7 +1,9 @@
 -- Cells kept as bits: a value bit and an odd bit for each cell, and a byte that counts only where the odd bit is set.
-use Rattle.std.specs.Prelude.{◌≡◌, ℕ, ◌+◌, ◌/◌, ◌%◌, ◌<◌, ◌≤◌, Bool, ◌==◌, if◌then◌else◌, nat_lt, Option, Some, None, List, length, map, slice_index}
+use Rattle.std.specs.Prelude.{◌≡◌, ℕ, ◌+◌, ◌/◌, ◌%◌, ◌<◌, ◌≤◌, Bool, false, ◌==◌, if◌then◌else◌, nat_lt, Option, Some, None, List, length, map, slice_index}
 use Rattle.std.specs.List.{range_with_len}
 use Rattle.std.specs.Int.{bit_at}
+use Rattle.ps_machine.specs.Bytes.{is_no_bit}
+use Rattle.ps_eqvm.specs.declared.layout.TheConstants.{SIGNALS_AT}
 
 -- bit i of words of 64 bits
 abbrev pub bit_in : List ℕ → ℕ → ℕ
@@ -38,3 +40,7 @@ pub record AreBitsOf (test : ℕ → Bool) (cells words : List ℕ) : Type 0 whe
   pub count : length words ≡ words_for (length cells)
   pub each : (i : ℕ) → i < length cells → (bit_in words i == 1) ≡ test (slice_index cells i)
   pub beyond : (i : ℕ) → length cells ≤ i → bit_in words i ≡ 0
+
+-- the byte of each of so many signals is 0 or 1, where the bytes of all cells are these
+abbrev pub AreEven : (signals : ℕ) → List ℕ → Type 0
+AreEven signals bytes = (s : ℕ) → s < signals → is_no_bit (slice_index bytes (SIGNALS_AT + s)) ≡ false

@@ -1,5 +1,5 @@
 -- What a look at the operands of a BLOCK row finds, as the code has it.
-use Rattle.std.specs.Prelude.{◌≡◌, ℕ, ◌+◌, ◌*◌, ◌<◌, ◌≤◌, Bool, true, false, List, Option, map}
+use Rattle.std.specs.Prelude.{◌≡◌, ℕ, ◌+◌, ◌*◌, ◌<◌, ◌≤◌, true, false, List, Option, map}
 use Rattle.std.specs.List.{list_any, range_with_len}
 use Rattle.std.specs.Int.{bit_at}
 use Rattle.ps_machine.specs.Bytes.{be2}
@@ -19,9 +19,9 @@ Reads (Bits bits) bytes = (list_any is_missing bytes ≡ false) × (list_any is_
 abbrev pub pin_byte : (signals : ℕ) → (cells code : List ℕ) → (from j : ℕ) → Option ℕ
 pin_byte signals cells code from j = byte_of cells (operand_of signals (be2 code (from + 2 * j)))
 
--- What is known after n operands, where f k is the byte of operand k: none is bad, whether one is neither 0 nor 1, and the pins so far.
-pub record ReadSoFar (f : ℕ → Option ℕ) (n bits : ℕ) (odd : Bool) : Type 0 where
+-- What is known after n operands, where f k is the byte of operand k: none is bad, none is neither 0 nor 1, and the pins so far.
+pub record ReadSoFar (f : ℕ → Option ℕ) (n bits : ℕ) : Type 0 where
   pub whole : list_any is_missing (map f (range_with_len 0 n)) ≡ false
-  pub odd_so_far : odd ≡ list_any is_odd (map f (range_with_len 0 n))
+  pub even : list_any is_odd (map f (range_with_len 0 n)) ≡ false
   pub pins : (k : ℕ) → k < n → pin_of bits k ≡ is_on (f k)
   pub beyond : (k : ℕ) → n ≤ k → bit_at bits k ≡ 0

@@ -1,17 +1,16 @@
 // BLOCK: one step of an instance.
 
-ghost use Rattle.std.specs.Prelude.{◌≡◌, ◌≢◌, ℕ, ◌+◌, ◌*◌, ◌<◌, ◌≤◌, IfNone, IfSome, Option, if◌then◌else◌, length, max};
+ghost use Rattle.std.specs.Prelude.{◌≡◌, ◌≢◌, ℕ, ◌+◌, ◌*◌, ◌<◌, ◌≤◌, ◌||◌, Option, if◌then◌else◌, length, true};
 ghost use Rattle.std.specs.List.{list_any};
-ghost use Rattle.std.specs.Int.{bit_at};
 ghost use Rattle.ps_model.specs.Blocks.{output_count};
 ghost use Rattle.ps_model.specs.Budgets.{boolean_count};
 ghost use Rattle.ps_model.specs.Stored.{loaded};
-ghost use Rattle.ps_machine.specs.Bytes.{bit, instance_bytes};
+ghost use Rattle.ps_machine.specs.Bytes.{instance_bytes};
 ghost use Rattle.ps_model.specs.PinBits.{pin_of};
 ghost use Rattle.ps_eqvm.specs.Plain.{IsSized};
 ghost use Rattle.ps_eqvm.specs.Rows.{operands};
-ghost use Rattle.ps_eqvm.specs.Acting.{after_block, block_as, trapped, after_step, pin_bytes, is_missing};
-ghost use Rattle.ps_eqvm.specs.Pins.{Reads, ReadSoFar};
+ghost use Rattle.ps_eqvm.specs.Acting.{after_block, block_as, trapped, after_step, pin_bytes, is_missing, is_odd};
+ghost use Rattle.ps_eqvm.specs.Pins.{Reads};
 ghost use Rattle.ps_eqvm.specs.Finding.{found_of};
 
 use crate::layout::{INSTANCE_SIZE, WORK_CELLS};
@@ -45,32 +44,6 @@ pub struct Site {
     pub next: u32,
 }
 
-// The pins so far: bit j is pin j, and whether a byte was neither 0 nor 1.
-#[derive(Clone, Copy)]
-struct PinBits {
-    bits: u32,
-    odd: bool,
-}
-
-// The pins with what was found for pin j, and None where its operand is bad.
-fn with_found(so_far: PinBits, j: u8, found: Found) -> Option<PinBits>
-    requires { j < 32 }
-    ensures some { IfSome result (λ pins. (f : ℕ → Option ℕ) → ReadSoFar f j so_far.bits so_far.odd → found ≡ found_of (f j) → ReadSoFar f (j + 1) pins.bits pins.odd) }
-    ensures none { IfNone result (found ≡ Found.Missing) }
-{
-    match found {
-        Found::Missing => None,
-        Found::Odd => Some(PinBits {
-            bits: so_far.bits,
-            odd: true,
-        }),
-        Found::Truth(on) => Some(PinBits {
-            bits: with_bit(so_far.bits, j, on),
-            odd: so_far.odd,
-        }),
-    }
-}
-
 // The pins that so many operands from a place of the code on give, among so many signals.
 fn pins_of(plain: &PlainCells, signals: u16, code: &[u8], from: usize, count: u8) -> Pins
     requires sized { length plain.now.cells ≡ WORK_CELLS + signals }
@@ -78,21 +51,29 @@ fn pins_of(plain: &PlainCells, signals: u16, code: &[u8], from: usize, count: u8
     requires few { count ≤ 32 }
     ensures { Reads result (pin_bytes signals plain.now.cells (operands code.now from count)) }
 {
-    let mut pins = PinBits {
-        bits: 0,
-        odd: false,
-    };
+    let mut bits = 0;
     for j in 0..count {
-        let found = plain.find(signals, number_in_two(code, from + 2 * j as usize));
-        match with_found(pins, j, found) {
-            None => return Pins::Missing,
-            Some(more) => pins = more,
+        match plain.find(signals, number_in_two(code, from + 2 * j as usize)) {
+            Found::Truth(on) => bits = with_bit(bits, j, on),
+            _ => return refused_pins(plain, signals, code, from, count),
         }
     }
-    if pins.odd {
-        Pins::Odd
+    Pins::Bits(bits)
+}
+
+// The same where one of them at least is bad or odd. A bad one counts before an odd one.
+#[cold]
+#[inline(never)]
+fn refused_pins(plain: &PlainCells, signals: u16, code: &[u8], from: usize, count: u8) -> Pins
+    requires sized { length plain.now.cells ≡ WORK_CELLS + signals }
+    requires whole { from + 2 * count ≤ length code.now }
+    requires refused { (list_any is_missing (pin_bytes signals plain.now.cells (operands code.now from count)) || list_any is_odd (pin_bytes signals plain.now.cells (operands code.now from count))) ≡ true }
+    ensures { Reads result (pin_bytes signals plain.now.cells (operands code.now from count)) }
+{
+    if has_bad(plain, signals, code, from, count) {
+        Pins::Missing
     } else {
-        Pins::Bits(pins.bits)
+        Pins::Odd
     }
 }
 
@@ -122,7 +103,9 @@ fn has_bad(plain: &PlainCells, signals: u16, code: &[u8], from: usize, count: u8
 }
 
 /// BLOCK of an instance, of which there are so many, as the kind with a number, with so many operands
-/// from a place of the code on.
+/// from a place of the code on. It is a part of its caller, all of it but for the traps, so that a number that
+/// is a constant there leaves one kind's code.
+#[inline(always)]
 pub fn block(
     plain: &mut PlainCells,
     instances: u16,
@@ -146,6 +129,7 @@ pub fn block(
 }
 
 // BLOCK of an instance that is there.
+#[inline(always)]
 fn block_as(plain: &mut PlainCells, kind: Kind, site: Site, code: &[u8], from: usize, count: u8)
     requires cells { length plain.old.cells ≡ WORK_CELLS + site.signals }
     requires blocks { INSTANCE_SIZE * site.instance + INSTANCE_SIZE ≤ length plain.old.blocks }
@@ -181,6 +165,7 @@ fn trap_miscount(plain: &mut PlainCells, signals: u16, code: &[u8], from: usize,
 }
 
 // The step of an instance as a kind, with pins that are there.
+#[inline(always)]
 fn step_as(plain: &mut PlainCells, kind: Kind, bits: u32, site: Site)
     requires cells { length plain.old.cells ≡ WORK_CELLS + site.signals }
     requires blocks { INSTANCE_SIZE * site.instance + INSTANCE_SIZE ≤ length plain.old.blocks }

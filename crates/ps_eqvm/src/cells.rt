@@ -5,7 +5,7 @@ ghost use Rattle.ps_machine.specs.Bytes.{bit, replaced};
 ghost use Rattle.ps_eqvm.specs.Bits.{bit_in, plain_cell, plain_cells, truth_of, words_for, AreCells};
 ghost use Rattle.ps_eqvm.specs.LowBits.{AreLowBits};
 
-use crate::words::{bit_at, clear_all, place, place_run};
+use crate::words::{are_clear, bit_at, clear_all, place, place_run};
 use ps_base::Memory;
 use std::alloc::Global;
 use std::marker::Model;
@@ -99,7 +99,7 @@ fn are_bytes(bytes: &[u8])
 {}
 
 impl BitCells {
-    ghost use Rattle.std.specs.Prelude.{◌≡◌, ℕ, ◌+◌, ◌<◌, ◌≤◌, ◌^◌, ◌==◌, Bool, IfOk, List, length, map, replicate, slice_index, slice_set, nat_lt};
+    ghost use Rattle.std.specs.Prelude.{◌≡◌, ℕ, ◌+◌, ◌<◌, ◌≤◌, ◌^◌, ◌==◌, Bool, IfOk, List, length, map, replicate, slice_index, slice_set, nat_lt, true};
     ghost use Rattle.ps_machine.specs.Bytes.{bit, replaced};
     ghost use Rattle.ps_eqvm.specs.Bits.{truth_of, AreBitsOf};
     ghost use Rattle.ps_eqvm.specs.LowBits.{AreLowBits};
@@ -161,6 +161,7 @@ impl BitCells {
 
     /// So many cells from cell i on become the truth values that the lowest bits of a number are. Where
     /// the cells stand in one word, they are written at once.
+    #[inline(always)]
     pub fn put_run(&mut self, i: usize, count: u8, number: u32)
         requires low { i < 2 ^ 32 }
         requires room { i + count ≤ length self.old }
@@ -213,6 +214,13 @@ impl BitCells {
     {
         clear_all(&mut self.value);
         clear_all(&mut self.odd);
+    }
+
+    /// TRUE only where each cell's byte is 0 or 1.
+    pub fn are_even(&self) -> bool
+        ensures { result ≡ true → (i : ℕ) → i < length self.now → slice_index self.now i < 2 }
+    {
+        are_clear(&self.odd)
     }
 
     /// The value words: a bit is 1 exactly where its cell's byte is 1.

@@ -29,6 +29,7 @@ impl Gate {
 }
 
 /// SET, ALL or ANY of a target and an operand, among so many signals.
+#[inline(always)]
 pub fn set_or_join(
     plain: &mut PlainCells,
     signals: u16,
@@ -48,6 +49,7 @@ pub fn set_or_join(
 }
 
 // SET, ALL or ANY of a cell and an operand.
+#[inline(always)]
 fn set_or_join_cell(
     plain: &mut PlainCells,
     signals: u16,

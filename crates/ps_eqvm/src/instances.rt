@@ -57,6 +57,7 @@ impl InstanceBytes {
 
     /// What the bytes of instance i say, for any kind that can keep it. None comes where they load for no
     /// kind.
+    #[inline(always)]
     pub fn at(&self, i: usize) -> Option<CountedBlock>
         requires { INSTANCE_SIZE * i + INSTANCE_SIZE ≤ length self.now }
         ensures some { IfSome result (λ block. LoadAs (instance_bytes 0 i self.now) (kept_of block)) }

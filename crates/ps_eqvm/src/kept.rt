@@ -1,7 +1,6 @@
 // The sixteen bytes of an instance, as they are stored: each is 255 less its plain value.
 
-ghost use Rattle.std.specs.Prelude.{◌≡◌, ◌+◌, ◌≤◌, [], ◌∷◌, IfSome, IfNone, length, slice_index};
-ghost use Rattle.std.specs.Int.{from_be_bytes, w64};
+ghost use Rattle.std.specs.Prelude.{◌≡◌, ℕ, ◌+◌, ◌<◌, ◌≤◌, IfSome, IfNone, length, slice_index, true};
 ghost use Rattle.ps_model.specs.Stored.{stored};
 ghost use Rattle.ps_rows.specs.Counted.{kept_of};
 ghost use Rattle.ps_eqvm.specs.Plain.{complement};
@@ -10,26 +9,20 @@ ghost use Rattle.ps_eqvm.specs.Instances.{sixteen_at, LoadAs, LoadNowhere};
 use ps_machine::{number_in_four, number_in_two};
 use ps_rows::CountedBlock;
 
-// The number in the eight bytes at a place, the highest first.
-fn number_in_eight(bytes: &[u8], at: usize) -> u64
-    requires { at + 8 ≤ length bytes.now }
-    ensures { result ≡ from_be_bytes w64 (slice_index bytes.now at ∷ slice_index bytes.now (at + 1) ∷ slice_index bytes.now (at + 2) ∷ slice_index bytes.now (at + 3) ∷ slice_index bytes.now (at + 4) ∷ slice_index bytes.now (at + 5) ∷ slice_index bytes.now (at + 6) ∷ slice_index bytes.now (at + 7) ∷ []) }
+// Whether the seven bytes that are stored from a place on are 0: whether each is stored as 255.
+#[inline(always)]
+fn are_zero(stored: &[u8], at: usize) -> bool
+    requires { at + 7 ≤ length stored.now }
+    ensures each { result ≡ true → (k : ℕ) → k < 7 → slice_index stored.now (at + k) ≡ 255 }
+    ensures all { ((k : ℕ) → k < 7 → slice_index stored.now (at + k) ≡ 255) → result ≡ true }
 {
-    u64::from_be_bytes([
-        bytes[at],
-        bytes[at + 1],
-        bytes[at + 2],
-        bytes[at + 3],
-        bytes[at + 4],
-        bytes[at + 5],
-        bytes[at + 6],
-        bytes[at + 7],
-    ])
+    number_in_four(stored, at) == u32::MAX && number_in_four(stored, at + 3) == u32::MAX
 }
 
 /// What the sixteen bytes that are stored from a place on say, for any kind that can keep it. None
 /// comes where they load for no kind: where byte 2 or 3 is neither 0 nor 1, or one of the bytes 9 to 15
 /// is not 0.
+#[inline(always)]
 pub fn read(stored: &[u8], at: usize) -> Option<CountedBlock>
     requires { at + 16 ≤ length stored.now }
     ensures some { IfSome result (λ block. LoadAs (sixteen_at at stored.now) (kept_of block)) }
@@ -37,8 +30,7 @@ pub fn read(stored: &[u8], at: usize) -> Option<CountedBlock>
 {
     let last_reset = !stored[at + 2];
     let last_auxiliary = !stored[at + 3];
-    let rest = !number_in_eight(stored, at + 8) % (1 << 56);
-    if last_reset > 1 || last_auxiliary > 1 || rest != 0 {
+    if last_reset > 1 || last_auxiliary > 1 || !are_zero(stored, at + 9) {
         return None;
     }
     Some(CountedBlock {

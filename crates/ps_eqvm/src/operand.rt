@@ -49,12 +49,8 @@ impl Operand {
         ensures operand { result ≡ operand_of signals number }
         ensures within { IsWithin (WORK_CELLS + signals) result }
     {
-        if number < MOST_SIGNALS {
-            if number < signals {
-                Operand::Cell(WORK_CELLS + number)
-            } else {
-                Operand::Bad
-            }
+        if number < signals.min(MOST_SIGNALS) {
+            Operand::Cell(WORK_CELLS + number)
         } else if number >= FALSE {
             Operand::Constant(number == TRUE)
         } else if number >= FIRST_WORK_CELL && number < FIRST_WORK_CELL + WORK_CELLS {

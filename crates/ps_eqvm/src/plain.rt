@@ -51,6 +51,7 @@ fn put_all(cells: &mut BitCells, at: usize, values: &[bool])
 }
 
 // The outputs of a kind in a state with this latched mode, from a cell on.
+#[inline(always)]
 fn put_outputs(cells: &mut BitCells, at: usize, kind: Kind, code: u16, mode: u8)
     requires low { at < 2 ^ 32 }
     requires room { at + output_count kind ≤ length cells.old }
@@ -71,12 +72,12 @@ fn with_byte(number: u32, i: usize, byte: u8) -> u32
 }
 
 impl PlainCells {
-    ghost use Rattle.std.specs.Prelude.{◌≡◌, ◌+◌, ◌-◌, ◌*◌, ◌<◌, ◌≤◌, ◌^◌, ◌==◌, IfOk, IfSome, IfNone, is_err, length, nat_lt, slice_index, slice_set};
+    ghost use Rattle.std.specs.Prelude.{◌≡◌, ◌+◌, ◌-◌, ◌*◌, ◌<◌, ◌≤◌, ◌^◌, ◌==◌, ℕ, IfOk, IfSome, IfNone, is_err, length, nat_lt, slice_index, slice_set, true};
     ghost use Rattle.ps_machine.specs.Bytes.{bit, be2, instance_bytes, overwritten, replaced};
     ghost use Rattle.ps_model.specs.Blocks.{output_count};
     ghost use Rattle.ps_rows.specs.Counted.{kept_of};
     ghost use Rattle.ps_eqvm.specs.Instances.{LoadAs, LoadNowhere};
-    ghost use Rattle.ps_eqvm.specs.Bits.{truth_of, AreBitsOf};
+    ghost use Rattle.ps_eqvm.specs.Bits.{truth_of, AreBitsOf, AreEven};
     ghost use Rattle.ps_eqvm.specs.Plain.{plain_bytes, laid_out, blank, IsPlain};
     ghost use Rattle.ps_eqvm.specs.Rows.{operand_of};
     ghost use Rattle.ps_eqvm.specs.Acting.{trapped, after_last, byte_of, with_cell, settled};
@@ -162,6 +163,7 @@ impl PlainCells {
 
     /// What the bytes of an instance say, for any kind that can keep it. None comes where they load for
     /// no kind.
+    #[inline(always)]
     pub fn instance(&self, i: usize) -> Option<CountedBlock>
         requires { INSTANCE_SIZE * i + INSTANCE_SIZE ≤ length self.now.blocks }
         ensures some { IfSome result (λ block. LoadAs (instance_bytes 0 i self.now.blocks) (kept_of block)) }
@@ -176,6 +178,13 @@ impl PlainCells {
         ensures { result ≡ truth_of (slice_index (plain_bytes self.now) (SIGNALS_AT + s)) }
     {
         self.cells.at(WORK_CELLS as usize + s as usize)
+    }
+
+    /// TRUE only where the byte of each signal is 0 or 1.
+    pub fn are_even(&self) -> bool
+        ensures { (signals : ℕ) → length self.now.cells ≡ WORK_CELLS + signals → result ≡ true → AreEven signals (plain_bytes self.now) }
+    {
+        self.cells.are_even()
     }
 
     /// The DiagCode of instance i, among so many signals.
@@ -256,6 +265,7 @@ impl PlainCells {
 
     /// An instance keeps its new state, its outputs are written from a signal on, and the row at `next`
     /// follows.
+    #[inline(always)]
     pub fn settle(&mut self, kind: Kind, block: CountedBlock, instance: u16, first: u16, next: u32)
         requires outs { WORK_CELLS + first + output_count kind ≤ length self.old.cells }
         requires bytes { INSTANCE_SIZE * instance + INSTANCE_SIZE ≤ length self.old.blocks }

@@ -1,11 +1,12 @@
 // The report that the cells hold.
 
-ghost use Rattle.std.specs.Prelude.{◌≡◌, ◌+◌, ◌-◌, ◌*◌, ◌<◌, ◌≤◌, ◌==◌, ◌&&◌, not, length, map, slice_index, slice_index_or};
+ghost use Rattle.std.specs.Prelude.{◌≡◌, ◌+◌, ◌-◌, ◌*◌, ◌<◌, ◌≤◌, ◌==◌, ◌&&◌, not, length, map, slice_index, slice_index_or, true};
 ghost use Rattle.std.specs.List.{list_all, range_with_len};
 ghost use Rattle.ps_model.specs.declared.kind.Kind.TheVariants.{Equivalent};
 ghost use Rattle.ps_model.specs.Blocks.{output_count};
 ghost use Rattle.ps_machine.specs.Bytes.{is_no_bit};
 ghost use Rattle.ps_machine.specs.Reporting.{output_byte, ready_byte, error_byte, diag_at, holds_report};
+ghost use Rattle.ps_eqvm.specs.Bits.{AreEven};
 ghost use Rattle.ps_eqvm.specs.Plain.{plain_bytes, IsSized};
 
 use crate::layout::SIGNALS_AT;
@@ -24,14 +25,15 @@ fn past_outputs(sizes: &Sizes, i: u16) -> usize
     sizes.first_pins.at(i as usize) as usize + all_outputs(sizes.kinds.at(i as usize)) as usize
 }
 
-// Whether the byte of a signal is 0 or 1.
-fn holds(plain: &PlainCells, sizes: &Sizes, s: usize) -> bool
+// Whether the byte of a signal is 0 or 1; `even` says it of all signals.
+fn holds(plain: &PlainCells, sizes: &Sizes, even: bool, s: usize) -> bool
     requires sized { IsSized sizes.now.signals sizes.now.instances plain.now }
     requires signal { s < sizes.now.signals }
+    requires even { even ≡ true → AreEven sizes.now.signals (plain_bytes plain.now) }
     ensures { result ≡ not (is_no_bit (slice_index (plain_bytes plain.now) (SIGNALS_AT + s))) }
 {
     let _signals = sizes.signals;
-    plain.signal(s as u16).is_some()
+    even || plain.signal(s as u16).is_some()
 }
 
 // Whether the byte of a signal is 1.
@@ -48,22 +50,24 @@ fn is_on(plain: &PlainCells, sizes: &Sizes, s: usize) -> bool
 }
 
 // Whether the Ready and the Error byte of an instance are 0 or 1.
-fn diag_holds(plain: &PlainCells, sizes: &Sizes, i: u16) -> bool
+fn diag_holds(plain: &PlainCells, sizes: &Sizes, even: bool, i: u16) -> bool
     requires sized { IsSized sizes.now.signals sizes.now.instances plain.now }
     requires instance { i < sizes.now.instances }
+    requires even { even ≡ true → AreEven sizes.now.signals (plain_bytes plain.now) }
     ensures { result ≡ (not (is_no_bit (ready_byte sizes.now SIGNALS_AT (plain_bytes plain.now) i)) && not (is_no_bit (error_byte sizes.now SIGNALS_AT (plain_bytes plain.now) i))) }
 {
     let past = past_outputs(sizes, i);
-    holds(plain, sizes, past - 2) && holds(plain, sizes, past - 1)
+    holds(plain, sizes, even, past - 2) && holds(plain, sizes, even, past - 1)
 }
 
 // Whether each output byte is 0 or 1.
-fn outputs_hold(plain: &PlainCells, sizes: &Sizes) -> bool
-    requires { IsSized sizes.now.signals sizes.now.instances plain.now }
+fn outputs_hold(plain: &PlainCells, sizes: &Sizes, even: bool) -> bool
+    requires sized { IsSized sizes.now.signals sizes.now.instances plain.now }
+    requires even { even ≡ true → AreEven sizes.now.signals (plain_bytes plain.now) }
     ensures { result ≡ list_all (λ j. not (is_no_bit (output_byte sizes.now SIGNALS_AT (plain_bytes plain.now) j))) (range_with_len 0 sizes.now.outputs) }
 {
     for j in 0..sizes.outputs {
-        if !holds(plain, sizes, sizes.inputs as usize + j as usize) {
+        if !holds(plain, sizes, even, sizes.inputs as usize + j as usize) {
             return false;
         }
     }
@@ -71,12 +75,13 @@ fn outputs_hold(plain: &PlainCells, sizes: &Sizes) -> bool
 }
 
 // Whether each Ready and Error byte is 0 or 1.
-fn diags_hold(plain: &PlainCells, sizes: &Sizes) -> bool
-    requires { IsSized sizes.now.signals sizes.now.instances plain.now }
+fn diags_hold(plain: &PlainCells, sizes: &Sizes, even: bool) -> bool
+    requires sized { IsSized sizes.now.signals sizes.now.instances plain.now }
+    requires even { even ≡ true → AreEven sizes.now.signals (plain_bytes plain.now) }
     ensures { result ≡ list_all (λ i. not (is_no_bit (ready_byte sizes.now SIGNALS_AT (plain_bytes plain.now) i)) && not (is_no_bit (error_byte sizes.now SIGNALS_AT (plain_bytes plain.now) i))) (range_with_len 0 sizes.now.instances) }
 {
     for i in 0..sizes.instances {
-        if !diag_holds(plain, sizes, i) {
+        if !diag_holds(plain, sizes, even, i) {
             return false;
         }
     }
@@ -88,7 +93,8 @@ pub fn has_report(plain: &PlainCells, sizes: &Sizes) -> bool
     requires { IsSized sizes.now.signals sizes.now.instances plain.now }
     ensures { result ≡ holds_report sizes.now SIGNALS_AT (plain_bytes plain.now) }
 {
-    outputs_hold(plain, sizes) && diags_hold(plain, sizes)
+    let even = plain.are_even();
+    outputs_hold(plain, sizes, even) && diags_hold(plain, sizes, even)
 }
 
 /// Writes the outputs of the report.

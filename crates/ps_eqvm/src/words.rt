@@ -1,6 +1,6 @@
 // Single bits of words of 64 bits.
 
-ghost use Rattle.std.specs.Prelude.{◌≡◌, ◌≢◌, ◌⊎◌, ℕ, ◌+◌, ◌/◌, ◌%◌, ◌<◌, ◌≤◌, ◌==◌, length, max, replicate};
+ghost use Rattle.std.specs.Prelude.{◌≡◌, ◌≢◌, ◌⊎◌, ℕ, ◌+◌, ◌/◌, ◌%◌, ◌<◌, ◌≤◌, ◌==◌, length, max, replicate, true};
 ghost use Rattle.std.specs.Int.{bit_at};
 ghost use Rattle.ps_machine.specs.Bytes.{bit};
 ghost use Rattle.ps_eqvm.specs.Bits.{bit_in};
@@ -60,4 +60,16 @@ pub fn clear_all(words: &mut [u64])
     ensures { words.new ≡ replicate (length words.old) 0 }
 {
     words.fill(0);
+}
+
+/// Whether each bit is 0.
+pub fn are_clear(words: &[u64]) -> bool
+    ensures { result ≡ true → (i : ℕ) → bit_in words.now i ≡ 0 }
+{
+    for i in 0..words.len() {
+        if words[i] != 0 {
+            return false;
+        }
+    }
+    true
 }

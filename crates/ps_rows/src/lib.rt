@@ -8,6 +8,9 @@
 //! - `step`: one step of a block whose timer counts down. `last_pins`: the pins that a kind remembers.
 //! - `kinds`: the numbers of each kind.
 //! - `laws`: the rows of each kind decide as its transition table does.
+//!
+//! A step is made a part of its caller (`inline(always)`): where that has a code of its own for each kind,
+//! as the machine of channel B has, only the rows of the kind are left in it.
 #![tactic(auto)]
 
 mod edm;

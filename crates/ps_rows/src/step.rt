@@ -67,6 +67,7 @@ impl CountedBlock {
     /// The same step of what may be nothing that the kind keeps, and None exactly where it is not: where
     /// the code is no state of the kind, a last input is TRUE that the kind lacks, or a mode stands where
     /// none is latched or is over 7.
+    #[inline(always)]
     pub fn stepped_if_kept(
         self,
         kind: Kind,
@@ -99,6 +100,7 @@ impl CountedBlock {
 
     // What the rows of a kind decide: the next state and the action, and None exactly where the code
     // is no state.
+    #[inline(always)]
     fn decided(self, kind: Kind, bits: u32, remains: u32) -> Option<(u16, u8)>
         requires { self.mode ≤ 7 }
         ensures { result ≡ decision kind self.code (seen kind (pin_of bits) (remains == 0) (kept_of self)) }

@@ -46,6 +46,7 @@ pub fn state_rows(kind: Kind, code: u16) -> Option<RowRange>
 /// conditions under its care. It looks at the rows of that state alone. Bit 0 of the action says that
 /// the timer begins anew, bit 1 that the mode is latched; other bits are 0. Over the named conditions
 /// of a step this is the kind's decision, so None exactly where the code is no state of the kind.
+#[inline(always)]
 pub fn next_of(kind: Kind, code: u16, conditions: u32) -> Option<(u16, u8)>
     ensures first { result ≡ first_fit (rows_of kind) code conditions }
     ensures decides { (pins : ℕ → Bool) (elapsed : Bool) (k : Kept) → conditions ≡ complemented (names kind pins elapsed k) → result ≡ decision kind code (seen kind pins elapsed k) }
@@ -54,6 +55,7 @@ pub fn next_of(kind: Kind, code: u16, conditions: u32) -> Option<(u16, u8)>
 }
 
 // The first row that fits, by the kind.
+#[inline(always)]
 fn first_fit(kind: Kind, code: u16, conditions: u32) -> Option<(u16, u8)>
     ensures { result ≡ first_fit (rows_of kind) code conditions }
 {

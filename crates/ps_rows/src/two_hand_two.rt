@@ -116,6 +116,7 @@ pub(crate) fn state_rows(code: u16) -> Option<RowRange>
 
 // Next state and action of the first row that fits.
 #[tactic(auto, unfolding(ps_model::specs::Blocks::block))]
+#[inline(always)]
 pub(crate) fn next_of(code: u16, conditions: u32) -> Option<(u16, u8)>
     ensures { result ≡ first_fit TWO_HAND_TWO code conditions }
 {

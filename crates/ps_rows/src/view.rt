@@ -36,6 +36,7 @@ pub fn conditions(kind: Kind, view: BlockView) -> u32
 }
 
 // The same of a view that is lent.
+#[inline(always)]
 pub(crate) fn conditions_in(kind: Kind, view: &BlockView) -> u32
     requires { view.now.mode ≤ 7 }
     ensures { result ≡ complemented (names_in kind view.now) }

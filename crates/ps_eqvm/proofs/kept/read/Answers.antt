@@ -1,4 +1,4 @@
-use Rattle.std.proofs.Common.{◌≡◌, ℕ, ◌+◌, ◌-◌, ◌%◌, ◌^◌, ◌<◌, List, ap, ◌∙◌, sym, arith, lit<, refl}
+use Rattle.std.proofs.Common.{◌≡◌, ℕ, ◌+◌, ◌-◌, ◌^◌, ◌<◌, List, ap, ◌∙◌, sym, arith, lit<, refl}
 use Rattle.std.specs.Prelude.{slice_index, ◌==◌}
 use Rattle.ps_model.proofs.Sixteen.{flag, stored_is}
 use Rattle.ps_model.specs.Stored.{stored as stored_kept}
@@ -7,7 +7,7 @@ use Rattle.ps_rows.specs.Counted.{kept_of}
 use Rattle.ps_eqvm.specs.Instances.{sixteen_at}
 use Rattle.ps_eqvm.proofs.StoredBytes.{bit_low, sixteen_long, sixteen_small, plain_at, code_is, timer_is, zeros_from, rest_from, load_as, load_nowhere}
 use Rattle.ps_eqvm.proofs.kept.read.Goals as goal
-use Rattle.ps_eqvm.proofs.kept.read.Goals.{then-last_reset-gt1-via-then-last_reset-gt1, then-last_reset-gt1-via-else-last_reset-gt1+then-last_auxiliary-gt1, then-last_reset-gt1-via-else-last_reset-gt1+else-last_auxiliary-gt1+then-rest-ne0}
+use Rattle.ps_eqvm.proofs.kept.read.Goals.{then-last_reset-gt1-via-then-last_reset-gt1, then-last_reset-gt1-via-else-last_reset-gt1+then-last_auxiliary-gt1, then-last_reset-gt1-via-else-last_reset-gt1+else-last_auxiliary-gt1+then-not-are_zero}
 
 pub returns-then-last_reset-gt1-clause-none : goal.returns-then-last_reset-gt1-clause-none
 returns-then-last_reset-gt1-clause-none c =
@@ -22,9 +22,12 @@ returns-then-last_reset-gt1-clause-none c =
           omega (arith, w.if-last_reset-gt1.true, plain 2 (at + 2) (lit< tt) refl, byte 2, bit_low k.last_reset)
       | then-last_reset-gt1-via-else-last_reset-gt1+then-last_auxiliary-gt1 w ↦
           omega (arith, w.if-last_auxiliary-gt1.true, plain 3 (at + 3) (lit< tt) refl, byte 3, bit_low k.last_auxiliary)
-      | then-last_reset-gt1-via-else-last_reset-gt1+else-last_auxiliary-gt1+then-rest-ne0 w ↦
-          w.if-rest-ne0.true (ap (λ (n : ℕ). (2 ^ 64 - 1 - n) % 2 ^ 56) c.number_in_eight.ensures
-          ∙ rest_from stored at c.requires small (sym (byte 9)) (sym (byte 10)) (sym (byte 11)) (sym (byte 12)) (sym (byte 13)) (sym (byte 14)) (sym (byte 15)))
+      | then-last_reset-gt1-via-else-last_reset-gt1+else-last_auxiliary-gt1+then-not-are_zero w ↦
+          absurd (cc (
+            w.if-not-are_zero.true,
+            w.are_zero.ensures.all
+                (rest_from stored at c.requires small (sym (byte 9)) (sym (byte 10)) (sym (byte 11)) (sym (byte 12)) (sym (byte 13)) (sym (byte 14)) (sym (byte 15))),
+          ))
     ])
 
 pub returns-clause-some : goal.returns-clause-some
@@ -38,8 +41,7 @@ returns-clause-some c =
     let reset = flag (255 - slice_index stored (at + 2)) (omega (arith, c.if-last_reset-gt1.false)) ∙ sym (plain 2 (at + 2) (lit< tt) refl) in
     let auxiliary = flag (255 - slice_index stored (at + 3)) (omega (arith, c.if-last_auxiliary-gt1.false)) ∙ sym (plain 3 (at + 3) (lit< tt) refl) in
     let mode = sym (plain 4 (at + 4) (lit< tt) refl) in
-    let none : (2 ^ 64 - 1 - c.number_in_eight.result) % 2 ^ 56 ≡ 0 = omega (arith, c.if-rest-ne0.false) in
-    let zeros = zeros_from stored at c.requires small (ap (λ (n : ℕ). (2 ^ 64 - 1 - n) % 2 ^ 56) (sym c.number_in_eight.ensures) ∙ none) in
+    let zeros = zeros_from stored at c.requires small (c.are_zero.ensures.each c.if-not-are_zero.false) in
     let block : CountedBlock = record {
       code = 2 ^ 16 - 1 - c.number_in_two.result;
       last_reset = (255 - slice_index stored (at + 2)) == 1;

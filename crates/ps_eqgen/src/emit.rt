@@ -11,8 +11,7 @@ ghost use Rattle.ps_eqgen.specs.Written.{depth_at_pin};
 
 use ps_base::Memory;
 use ps_eqvm::layout::WORK_CELLS;
-use ps_eqvm::opcode::{Gate, Opcode};
-use ps_eqvm::operand::{constant, work_cell};
+use ps_eqvm::{Gate, Opcode, constant, work_cell};
 use ps_model::{Arg, Expr};
 
 /// The operand that has the value of an expression which is placed at a level.

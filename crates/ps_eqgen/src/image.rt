@@ -23,8 +23,7 @@ use crate::emit::{
 };
 use crate::laws::{equation_code_is_short, equation_code_keeps_the_meaning};
 use ps_base::Memory;
-use ps_eqvm::EquationImage;
-use ps_eqvm::opcode::{Gate, Opcode};
+use ps_eqvm::{EquationImage, Gate, Opcode};
 use ps_model::{App, Args, Kind, Step};
 use ps_rows::{boolean_pins, free_value, number_of};
 use std::alloc::Global;

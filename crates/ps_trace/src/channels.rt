@@ -1,9 +1,10 @@
 // The fault file of two channels.
 
 ghost use Rattle.std.specs.Prelude.{◌≡◌, ◌≤◌, ℕ, List, IsTrue, Some, None, IsSome, Err, IfOk, IsErrOf, refl};
+ghost use Rattle.std.proofs.lemmas.Bool.{false≢true};
 ghost use Rattle.ps_outside.specs.Outside.{Rose};
 ghost use Rattle.ps_base.specs.declared.failing.Refusal.{Refusal};
-ghost use Rattle.ps_trace.specs.Channels.{line_of_fault, same_channels};
+ghost use Rattle.ps_trace.specs.Channels.{line_of_fault};
 ghost use Rattle.ps_trace.specs.Faults.{channel_fault, channel_of, faults_of, is_same_channel, region_size};
 ghost use Rattle.ps_trace.specs.FaultOrder.{AreInOrder, AreOfOneChannel};
 ghost use Rattle.ps_trace.specs.Reading.{IsRead};
@@ -18,6 +19,8 @@ use std::alloc::Global;
 
 /// A fault of a channel keeps no number of a line.
 impl Target for Channel {
+    ghost use Rattle.ps_model.specs.declared.channel.Channel.TheVariants.{A, B};
+
     type Sizes = ImageSizes;
 
     type Fault = Fault;
@@ -69,7 +72,10 @@ impl Target for Channel {
         }
     }
 
-    ghost same_are_equal = { same_channels };
+    ghost same_are_equal = { elim [
+      | A ↦ elim [ A ↦ λ same. refl | B ↦ λ same. absurd (false≢true same) ]
+      | B ↦ elim [ A ↦ λ same. absurd (false≢true same) | B ↦ λ same. refl ]
+    ] };
 
     ghost keeps_parts = { λ number line. refl };
 }

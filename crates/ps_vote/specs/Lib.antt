@@ -4,4 +4,7 @@ pub mod Steps
 pub mod Healing
 pub mod Whole
 pub mod Lists
+pub mod Faults
+pub mod Orders
 pub mod Laws
+pub mod Answers

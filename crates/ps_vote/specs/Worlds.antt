@@ -1,5 +1,5 @@
 -- The world of three seats: what it holds, and what its events are. What its three machines are is left open.
-use Rattle.std.specs.Prelude.{ℕ, Bool, true, false, if◌then◌else◌, List, Option, None}
+use Rattle.std.specs.Prelude.{ℕ, Bool, true, false, ◌||◌, if◌then◌else◌, List, Option, None}
 use Rattle.ps_model.specs.declared.channel.Region.{Region}
 use Rattle.ps_machine.specs.Machines.{Machine}
 use Rattle.ps_machine.specs.Channels.{Channel_state, new_channel}
@@ -77,6 +77,12 @@ abbrev pub mark : Seat → DirtySeats → Bool
 mark A d = d.a
 mark B d = d.b
 mark C d = d.c
+
+-- whether another seat than this one is marked as dirty
+abbrev pub is_another_dirty : Seat → DirtySeats → Bool
+is_another_dirty A d = d.b || d.c
+is_another_dirty B d = d.a || d.c
+is_another_dirty C d = d.a || d.b
 
 -- the marks with that of one seat new
 abbrev pub marked : Seat → Bool → DirtySeats → DirtySeats

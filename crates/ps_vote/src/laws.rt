@@ -2,6 +2,7 @@
 
 ghost use Rattle.ps_model.specs.Typing.{Accepted};
 ghost use Rattle.ps_vote.specs.Whole.{Setup, machines_in, IsSetupOf};
+ghost use Rattle.ps_vote.specs.Answers.{VoteRunsAreRight, HealRunsAreRight};
 ghost use Rattle.ps_vote.specs.Laws.{SpoiledSeatIsOutvoted, MendedSeats, VotesExactly};
 
 use ps_decision::laws::decision_code_keeps_the_meaning;
@@ -30,6 +31,28 @@ pub fn spoiled_seat_is_outvoted(app: &App)
 /// a Heal stands before it and no Spoil between the two.
 pub fn mended_seats(app: &App)
     ensures { Accepted app.now → (setup : Setup) → IsSetupOf app.now setup → MendedSeats app.now (machines_in setup) }
+{
+    app.sound();
+    stack_code_keeps_the_meaning(app);
+    equation_code_keeps_the_meaning(app);
+    decision_code_keeps_the_meaning(app);
+}
+
+/// A run of `vote` is right: in its order of events, over timely scans and restarts and faults that strike one seat, no vote is Split and
+/// each gives the report of the meaning.
+pub fn vote_runs_are_right(app: &App)
+    ensures { Accepted app.now → (setup : Setup) → IsSetupOf app.now setup → VoteRunsAreRight app.now (machines_in setup) }
+{
+    app.sound();
+    stack_code_keeps_the_meaning(app);
+    equation_code_keeps_the_meaning(app);
+    decision_code_keeps_the_meaning(app);
+}
+
+/// A run of `heal` is right: the same over faults that strike any seats, up to a fault that is reached while another seat is dirty; and
+/// where none is, every scan is closed.
+pub fn heal_runs_are_right(app: &App)
+    ensures { Accepted app.now → (setup : Setup) → IsSetupOf app.now setup → HealRunsAreRight app.now (machines_in setup) }
 {
     app.sound();
     stack_code_keeps_the_meaning(app);

@@ -1,7 +1,8 @@
 // The seats, and what is said of them.
 
 ghost use Rattle.std.specs.Prelude.{◌≡◌};
-ghost use Rattle.ps_vote.specs.Worlds.{mark, marked};
+ghost use Rattle.ps_vote.specs.Orders.{seat_after};
+ghost use Rattle.ps_vote.specs.Worlds.{mark, marked, is_another_dirty};
 
 /// A seat of the world of three.
 #[derive(Clone, Copy, Debug, PartialEq, Eq)]
@@ -45,6 +46,19 @@ pub struct DirtySeats {
     pub c: bool,
 }
 
+impl Seat {
+    // The seat after it, in the rotation A, B, C and A again.
+    pub(crate) fn after(self) -> Seat
+        ensures { result ≡ seat_after self }
+    {
+        match self {
+            Seat::A => Seat::B,
+            Seat::B => Seat::C,
+            Seat::C => Seat::A,
+        }
+    }
+}
+
 impl DirtySeats {
     // None.
     pub(crate) const NONE: DirtySeats = DirtySeats {
@@ -61,6 +75,17 @@ impl DirtySeats {
             Seat::A => self.a,
             Seat::B => self.b,
             Seat::C => self.c,
+        }
+    }
+
+    // Whether another seat is dirty.
+    pub(crate) fn has_another(self, seat: Seat) -> bool
+        ensures { result ≡ is_another_dirty seat self }
+    {
+        match seat {
+            Seat::A => self.b || self.c,
+            Seat::B => self.a || self.c,
+            Seat::C => self.a || self.b,
         }
     }
 

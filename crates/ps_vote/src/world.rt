@@ -4,7 +4,8 @@ ghost use Rattle.std.specs.Prelude.{◌≡◌, ◌≤◌, ◌^◌, ◌&&◌, ◌
 ghost use Rattle.ps_model.specs.Typing.{Accepted};
 ghost use Rattle.ps_machine.specs.Channels.{ended};
 ghost use Rattle.ps_seat.specs.Seats.{machine_in, new_seat};
-ghost use Rattle.ps_vote.specs.Worlds.{machine, channel, mark};
+ghost use Rattle.ps_vote.specs.Worlds.{machine, channel, mark, is_another_dirty};
+ghost use Rattle.ps_vote.specs.Orders.{most_turns};
 ghost use Rattle.ps_vote.specs.Worlds.Event.{Begin, Turn, Spoil, TakeVote, Restart, Heal};
 ghost use Rattle.ps_vote.specs.Steps.{all_ended, region_in};
 ghost use Rattle.ps_vote.specs.Votes.{vote, vote_of, report_in, report_given, agree, shown, HasRoom};
@@ -23,26 +24,15 @@ use crate::limits::limits;
 use crate::rebuild::{complement, fill, read, store_counted};
 use crate::seat::{DirtySeats, Seat, Vote, VoteSizes};
 use ps_base::Memory;
-use ps_decision::{DecisionChannel, decision_image, turns_c};
+use ps_decision::{DecisionChannel, decision_image, layout as decision, turns_c};
 use ps_eqgen::equation_image;
-use ps_eqvm::EquationChannel;
-use ps_eqvm::layout::{LAST_AT, SIGNALS_AT};
+use ps_eqvm::{EquationChannel, layout as equation};
 use ps_machine::ScanMachine;
 use ps_model::{App, OutOfRegion, Region, Report, Scan, Sizes};
 use ps_stackgen::stack_image;
-use ps_stackvm::StackChannel;
+use ps_stackvm::{StackChannel, layout as stack};
 use std::alloc::Global;
 use std::marker::Model;
-
-// Where the time of the scan stands in the cells of channel A, and where its signals begin.
-const STACK_TIME_AT: u32 = 6;
-
-const STACK_SIGNALS_AT: u32 = 74;
-
-// The same of channel C.
-const DECISION_TIME_AT: u32 = 5;
-
-const DECISION_SIGNALS_AT: u32 = 22;
 
 /// Three channels of one application, which make its scans event by event, and whose reports are voted on two out of three. A seat
 /// that was outvoted takes part again, and can be rebuilt from another. Contracts see it as a `Whole`. Only `build` takes memory.
@@ -372,6 +362,20 @@ impl VoteWorld {
         self.dirty.has(seat)
     }
 
+    // Whether another seat is dirty.
+    pub(crate) fn is_another_dirty(&self, seat: Seat) -> bool
+        ensures { result ≡ is_another_dirty seat self.now.state.dirty }
+    {
+        self.dirty.has_another(seat)
+    }
+
+    // The most turns of a scan, over all seats.
+    pub(crate) fn most_turns(&self) -> u64
+        ensures { result ≡ most_turns (machines_in self.now.setup) }
+    {
+        u64::from(self.a.budget()) + u64::from(self.b.budget()) + u64::from(self.c.budget())
+    }
+
     /// Rebuilds the outvoted seat from another on its bytes as they are: seat A from C, and the others from A. It is not dirty then,
     /// and none is outvoted.
     pub fn heal(&mut self, seat: Seat)
@@ -391,17 +395,13 @@ impl VoteWorld {
     fn rebuild_a(&mut self)
         ensures { self.new ≡ with_rebuilt Seat.A self.old }
     {
-        read(
-            self.c.channel(),
-            DECISION_SIGNALS_AT as usize,
-            &mut self.room.bytes,
-        );
+        read(self.c.channel(), decision::SIGNALS_AT, &mut self.room.bytes);
         let time = self.last.to_be_bytes();
         fill(
             &mut self.a,
-            STACK_TIME_AT,
+            stack::TIME_AT as u32,
             &time,
-            STACK_SIGNALS_AT,
+            stack::SIGNALS_AT as u32,
             &self.room.bytes,
         );
     }
@@ -410,19 +410,15 @@ impl VoteWorld {
     fn rebuild_b(&mut self)
         ensures { self.new ≡ with_rebuilt Seat.B self.old }
     {
-        read(
-            self.a.channel(),
-            STACK_SIGNALS_AT as usize,
-            &mut self.room.bytes,
-        );
+        read(self.a.channel(), stack::SIGNALS_AT, &mut self.room.bytes);
         store_counted(&mut self.room.bytes, &self.limits, self.last);
         let mut time = self.last.to_be_bytes();
         complement(&mut time);
         fill(
             &mut self.b,
-            LAST_AT as u32,
+            equation::LAST_AT as u32,
             &time,
-            SIGNALS_AT as u32,
+            equation::SIGNALS_AT as u32,
             &self.room.bytes,
         );
     }
@@ -431,17 +427,13 @@ impl VoteWorld {
     fn rebuild_c(&mut self)
         ensures { self.new ≡ with_rebuilt Seat.C self.old }
     {
-        read(
-            self.a.channel(),
-            STACK_SIGNALS_AT as usize,
-            &mut self.room.bytes,
-        );
+        read(self.a.channel(), stack::SIGNALS_AT, &mut self.room.bytes);
         let time = self.last.to_be_bytes();
         fill(
             &mut self.c,
-            DECISION_TIME_AT,
+            decision::TIME_AT as u32,
             &time,
-            DECISION_SIGNALS_AT,
+            decision::SIGNALS_AT as u32,
             &self.room.bytes,
         );
     }

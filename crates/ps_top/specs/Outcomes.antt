@@ -34,3 +34,9 @@ abbrev pub vote_lines : Network → Outcome Vote → List ℕ
 vote_lines net (performed now vote report) = voted_text net now report vote
 vote_lines net (refuses refusal) = []
 vote_lines net anew = restart_line
+
+-- an outcome that a run goes on behind, which is told
+abbrev pub IsTold : Outcome Vote → Type 0
+IsTold (performed now vote report) = Unit {0}
+IsTold (refuses refusal) = ⊥
+IsTold anew = Unit {0}

@@ -5,7 +5,7 @@ ghost use Rattle.ps_model.specs.Network.{Network, instance_count};
 ghost use Rattle.ps_outside.specs.Outside.{Rose};
 ghost use Rattle.ps_report.specs.Lines.{line_room};
 ghost use Rattle.ps_top.specs.Lines.{outvoted_line, seat_letter};
-ghost use Rattle.ps_top.specs.Outcomes.{Outcome, performed, anew, outcome_line, vote_lines};
+ghost use Rattle.ps_top.specs.Outcomes.{Outcome, performed, anew, outcome_line, vote_lines, IsTold};
 ghost use Rattle.ps_top.specs.Written.{IsWritten};
 
 use ps_model::{App, Report, Verdict};
@@ -135,7 +135,7 @@ impl Taker<Vote> for LineBuffer {
 
     ghost said = { vote_lines };
 
-    ghost takes = { λ _ _ _. ⊤ };
+    ghost takes = { λ _ outcome _. IsTold outcome };
 
     fn take_scan<S: Sink>(
         &mut self,

@@ -7,3 +7,9 @@ pub mod Rebuilt
 pub mod Healed
 pub mod Heals
 pub mod Built
+pub mod Paths
+pub mod Reaching
+pub mod Quick
+pub mod Run
+pub mod Finishing
+pub mod Turning

@@ -27,7 +27,7 @@ lawful_last m n (d ∷ es) e x law = lawful_last m n es e (world_step m d x) law
 -- ---- Which seats are dirty.
 
 -- a seat that no Spoil in the list names stays clean
-others_stay : (m : Machines) (seat : Seat) (e : Event) (x : World_state) → SpoilsOnly seat (e ∷ []) → OthersAreClean seat x → OthersAreClean seat (world_step m e x)
+pub others_stay : (m : Machines) (seat : Seat) (e : Event) (x : World_state) → SpoilsOnly seat (e ∷ []) → OthersAreClean seat x → OthersAreClean seat (world_step m e x)
 others_stay m seat (Begin now ins) x only clean o other = clean o other
 others_stay m seat (Turn q) x only clean o other = clean o other
 others_stay m seat (Spoil q region at bytes) x only clean o other =
@@ -43,7 +43,7 @@ others_stay m seat (Heal q) x only clean o other =
     ]
 
 -- a list whose Spoils name one seat is mended
-only_mended : (m : Machines) (seat : Seat) (es : List Event) (x : World_state) → OthersAreClean seat x → SpoilsOnly seat es → IsMended m es x
+pub only_mended : (m : Machines) (seat : Seat) (es : List Event) (x : World_state) → OthersAreClean seat x → SpoilsOnly seat es → IsMended m es x
 only_mended m seat [] x clean only = tt
 only_mended m seat (Begin now ins ∷ es) x clean only = (tt, only_mended m seat es (world_step m (Begin now ins) x) (others_stay m seat (Begin now ins) x tt clean) only)
 only_mended m seat (Turn q ∷ es) x clean only = (tt, only_mended m seat es (world_step m (Turn q) x) (others_stay m seat (Turn q) x tt clean) only)

@@ -257,7 +257,7 @@ module _ (net : Network) (m : Machines) (Stands : Seat → State → ℕ → Lis
       by : (d : Seat) → OthersAreClean d x → mark d x.dirty ≡ false → (q : Seat) → mark q x.dirty ≡ false
       by d others clean q = elim (same_or_other d q) [ inl own ↦ ap (λ z. mark z x.dirty) own.1 ∙ clean | inr other ↦ others q other ]
 
-  vote_sound : (x : World_state) (past : Past) → Sound x past → May m (input_count net) TakeVote x → Sound (world_step m TakeVote x) past
+  pub vote_sound : (x : World_state) (past : Past) → Sound x past → May m (input_count net) TakeVote x → Sound (world_step m TakeVote x) past
   vote_sound x past h may = record {
     clean = λ s clean.
         let mid = subst (λ b. Phase net (machine s m) (Stands s) x.last b (channel s x) past) may.0 (h.clean s clean) in
@@ -269,7 +269,7 @@ module _ (net : Network) (m : Machines) (Stands : Seat → State → ℕ → Lis
     out = λ s out. (out_is_dirty s x past h may (voted_out (vote m x) s out), refl, h.timely may.0);
   }
 
-  restart_sound : (x : World_state) → x.last < 2 ^ 32 → Sound (world_step m Restart x) nothing
+  pub restart_sound : (x : World_state) → x.last < 2 ^ 32 → Sound (world_step m Restart x) nothing
   restart_sound x small = record {
     clean = λ s clean.
         subst (λ c. AtRest net (machine s m) (Stands s) x.last c nothing) (sym (restart_at m s x)) (restarts_at_rest net (machine s m) (Stands s) (keeps s) x.last (channel s x));
@@ -299,7 +299,7 @@ module _ (net : Network) (m : Machines) (Stands : Seat → State → ℕ → Lis
         | inr other ↦ ap (λ b. cond b false (mark s x.dirty)) other ∙ h.one o (h.out o may).0 s (same_either_way o s ∙ other)
       ]
 
-  heal_sound : (o : Seat) (x : World_state) (past : Past) → Sound x past → May m (input_count net) (Heal o) x → Sound (world_step m (Heal o) x) past
+  pub heal_sound : (o : Seat) (x : World_state) (past : Past) → Sound x past → May m (input_count net) (Heal o) x → Sound (world_step m (Heal o) x) past
   heal_sound o x past h may = record {
     clean = λ s clean. elim (same_or_other s o) [
       | inl own ↦

@@ -1,6 +1,6 @@
 // The scans of the world of three seats, in the order of events of `vote` and `heal`.
 
-ghost use Rattle.std.specs.Prelude.{◌≡◌, ◌≤◌, false, true, length, IfSome, IfNone, OnOk, None};
+ghost use Rattle.std.specs.Prelude.{◌≡◌, ◌≤◌, false, true, length, IfSome, IfNone, OnOk, None, Bool, []};
 ghost use Rattle.ps_machine.specs.Channels.{ended};
 ghost use Rattle.ps_vote.specs.Worlds.{machine, channel};
 ghost use Rattle.ps_vote.specs.Steps.{all_ended};
@@ -69,6 +69,34 @@ impl VoteWorld {
         ensures events { self.new ≡ after_events (path_to_vote heals (machines_in self.old.setup) faults.now scan.entry.now.now scan.entry.now.ins self.old.state).events self.old }
         ensures refused { result ≡ path_answer (path_to_vote heals (machines_in self.old.setup) faults.now scan.entry.now.now scan.entry.now.ins self.old.state).refused }
     {
+        if faults.is_empty() {
+            self.run_quietly(scan);
+            Ok(())
+        } else {
+            self.run_struck(scan, faults, heals)
+        }
+    }
+
+    // A scan without a fault: the seats run one after the other, which leads to the world of turns one by one.
+    fn run_quietly(&mut self, scan: &Scan)
+        requires rest { self.old.state.begun ≡ false }
+        requires later { self.old.state.last ≤ scan.now.now }
+        requires inputs { length scan.now.ins ≡ self.old.setup.sizes.inputs }
+        ensures events { (heals : Bool) → self.new ≡ after_events (path_to_vote heals (machines_in self.old.setup) [] scan.entry.now.now scan.entry.now.ins self.old.state).events self.old }
+        ensures goes { (heals : Bool) → (path_to_vote heals (machines_in self.old.setup) [] scan.entry.now.now scan.entry.now.ins self.old.state).refused ≡ None }
+    {
+        self.begin(scan);
+        self.finish_all();
+    }
+
+    // A scan that these faults may strike.
+    fn run_struck(&mut self, scan: &Scan, faults: &[VoteFault], heals: bool) -> Result<(), u32>
+        requires rest { self.old.state.begun ≡ false }
+        requires later { self.old.state.last ≤ scan.now.now }
+        requires inputs { length scan.now.ins ≡ self.old.setup.sizes.inputs }
+        ensures events { self.new ≡ after_events (path_to_vote heals (machines_in self.old.setup) faults.now scan.entry.now.now scan.entry.now.ins self.old.state).events self.old }
+        ensures refused { result ≡ path_answer (path_to_vote heals (machines_in self.old.setup) faults.now scan.entry.now.now scan.entry.now.ins self.old.state).refused }
+    {
         self.strike(faults, heals, 0)?;
         self.begin(scan);
         self.take_turns(faults, heals)
@@ -101,7 +129,10 @@ impl VoteWorld {
         ensures some { IfSome result (λ seat. (seat ≡ next_turn (machines_in self.now.setup) last self.now.state) × (ended (machine seat (machines_in self.now.setup)) (channel seat self.now.state) ≡ false) × (all_ended (machines_in self.now.setup) self.now.state ≡ false)) }
         ensures none { IfNone result (all_ended (machines_in self.now.setup) self.now.state ≡ true) }
     {
-        let first = last.map_or(Seat::A, Seat::after);
+        let first = match last {
+            None => Seat::A,
+            Some(seat) => seat.after(),
+        };
         let second = first.after();
         let third = second.after();
         if !self.ended(first) {

@@ -1,15 +1,15 @@
 // The world of three seats, event by event.
 
-ghost use Rattle.std.specs.Prelude.{◌≡◌, ◌≤◌, ◌^◌, ◌&&◌, ◌+◌, ◌*◌, false, true, is_err, length, nat_lt, IfOk, None, Some, [], ◌∷◌};
+ghost use Rattle.std.specs.Prelude.{◌≡◌, ◌≤◌, ◌<◌, ◌^◌, ◌&&◌, ◌+◌, ◌*◌, Bool, false, true, is_err, length, nat_lt, IfOk, None, Some, [], ◌∷◌};
 ghost use Rattle.ps_model.specs.Typing.{Accepted};
 ghost use Rattle.ps_machine.specs.Channels.{ended};
 ghost use Rattle.ps_seat.specs.Seats.{machine_in, new_seat};
 ghost use Rattle.ps_vote.specs.Worlds.{machine, channel, mark, is_another_dirty};
-ghost use Rattle.ps_vote.specs.Orders.{most_turns};
+ghost use Rattle.ps_vote.specs.Orders.{turns, most_turns};
 ghost use Rattle.ps_vote.specs.Worlds.Event.{Begin, Turn, Spoil, TakeVote, Restart, Heal};
 ghost use Rattle.ps_vote.specs.Steps.{all_ended, region_in};
 ghost use Rattle.ps_vote.specs.Votes.{vote, vote_of, report_in, report_given, agree, shown, HasRoom};
-ghost use Rattle.ps_vote.specs.Whole.{machines_in, happened, with_rebuilt, IsWorldOf};
+ghost use Rattle.ps_vote.specs.Whole.{machines_in, happened, after_events, with_rebuilt, IsWorldOf};
 ghost use Rattle.ps_model.specs.Budgets.{turns_a, turns_b};
 ghost use Rattle.ps_model.specs.Network.{instance_count};
 ghost use Rattle.ps_stackvm.specs.Channel.{workings_a};
@@ -270,6 +270,20 @@ impl VoteWorld {
         }
     }
 
+    // The turns of a scan that is begun and that nothing strikes: the seats run one after the other, which leads to the world of
+    // turns one by one.
+    pub(crate) fn finish_all(&mut self)
+        requires none_a { self.old.state.a.turns ≡ 0 }
+        requires none_b { self.old.state.b.turns ≡ 0 }
+        requires none_c { self.old.state.c.turns ≡ 0 }
+        ensures events { (heals : Bool) → self.new ≡ after_events (turns heals (machines_in self.old.setup) [] (most_turns (machines_in self.old.setup)) 0 None self.old.state).events self.old }
+        ensures goes { (heals : Bool) → (turns heals (machines_in self.old.setup) [] (most_turns (machines_in self.old.setup)) 0 None self.old.state).refused ≡ None }
+    {
+        self.a.finish();
+        self.b.finish();
+        self.c.finish();
+    }
+
     /// All seats begin anew, from code as compiled and blank cells. None is dirty and none outvoted then.
     pub fn restart(&mut self)
         requires { self.old.state.begun ≡ false }
@@ -371,7 +385,8 @@ impl VoteWorld {
 
     // The most turns of a scan, over all seats.
     pub(crate) fn most_turns(&self) -> u64
-        ensures { result ≡ most_turns (machines_in self.now.setup) }
+        ensures sum { result ≡ most_turns (machines_in self.now.setup) }
+        ensures few { result < 2 ^ 34 }
     {
         u64::from(self.a.budget()) + u64::from(self.b.budget()) + u64::from(self.c.budget())
     }

@@ -35,7 +35,7 @@ events_behind m [] later x = refl
 events_behind m (e ∷ es) later x = events_behind m es later (world_step m e x)
 
 -- the refusal of an outcome
-refusal_in : Refusal → Outcome Vote → Refusal
+abbrev refusal_in : Refusal → Outcome Vote → Refusal
 refusal_in r (performed now v report) = r
 refusal_in r (refuses q) = q
 refusal_in r anew = r

@@ -23,7 +23,7 @@ use Rattle.ps_words.specs.Command.{Command, command_of}
 use Rattle.ps_words.specs.Command.Command.{Run, Fault as FaultWords, Check, Cert, Verify, Image, Load, Demand, Vote, Heal, NotTaken}
 use Rattle.ps_top.specs.Asking.{Answer, Asking, IsAnswer, AsksFor}
 use Rattle.ps_top.specs.Asking.Asking.{Says, Asks, Finds}
-use Rattle.ps_top.specs.Program.{Judged, Judges, verdict, with_application, accepted_source, accepted, summary, sum_scans, sum_trace, load, answer, image_lines, imaged, region_sizes, trips_of, unless_refused, with_faults, run_quietly, run_struck, answer_scans, run_named, verify_named, verify, demanded, demand, seat_faults_of, seat_sizes, told_votes, vote_scans, vote_named, vote_struck, said, told, text}
+use Rattle.ps_top.specs.Program.{Judged, Judges, verdict, with_application, accepted_source, accepted, summary, sum_scans, sum_trace, load, answer, image_lines, imaged, region_sizes, trips_of, unless_refused, with_faults, run_quietly, run_struck, answer_scans, run_named, verify_named, verify, demanded, demand, seat_faults_of, seat_sizes, told_votes, vote_scans, vote_named, with_seat_faults, vote_struck, said, told, text}
 use Rattle.ps_top.specs.Program.Judged.{derives, objects}
 use Rattle.ps_top.specs.declared.Status.TheVariants.{Done}
 use Rattle.ps_source.proofs.Keeping.{resolved_sound}
@@ -83,7 +83,7 @@ module _ (held : List ℕ → Option (List ℕ)) where
   vote_struck_some heals net sound trace faults =
       let found = some_seat_setup net in
       let setup = found.0 in
-      finds_some seats.Setup (seats.IsSetupOf net) _ setup found.1
+      finds_some seats.Setup (seats.IsSetupOf net) (λ s. with_seat_faults heals s faults (λ list. vote_named heals net s list trace)) setup found.1
       (asks_some faults (λ t. let list = seat_faults_of heals t (seat_sizes setup) in unless_refused (λ struck. vote_named heals net setup struck trace) list.faults list.refusal)
       (λ t. let list = seat_faults_of heals t (seat_sizes setup) in
       unless_some (λ struck. vote_named heals net setup struck trace) list.faults list.refusal (vote_trace_some heals net sound setup list.faults trace)))

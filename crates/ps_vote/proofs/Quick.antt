@@ -30,6 +30,10 @@ pub record LeadsTo (m : Machines) (p : Path) (x y : World_state) : Type 0 where
   pub goes : p.refused ≡ None
 
 module _ (heals : Bool) (m : Machines) where
+  -- what the turns behind one of this seat lead to
+  abbrev Behind : (left done : ℕ) → Seat → (x y : World_state) → Type 0
+  Behind left done o x y = LeadsTo m (turns heals m [] left (done + 1) (Some o) (world_step m (Turn o) x)) (world_step m (Turn o) x) y
+
   -- all have ended
   ends : (left done : ℕ) (last : Option Seat) (x : World_state) → all_ended m x ≡ true → LeadsTo m (turns heals m [] (suc left) done last x) x x
   ends left done last x over =
@@ -41,8 +45,8 @@ module _ (heals : Bool) (m : Machines) where
       }
 
   -- the seat whose turn is next has it
-  goes_on : (left done : ℕ) (last : Option Seat) (o : Seat) (x y : World_state) → all_ended m x ≡ false → next_turn m last x ≡ o →
-      LeadsTo m (turns heals m [] left (done + 1) (Some o) (world_step m (Turn o) x)) (world_step m (Turn o) x) y → LeadsTo m (turns heals m [] (suc left) done last x) x y
+  goes_on : (left done : ℕ) (last : Option Seat) (o : Seat) (x y : World_state) → all_ended m x ≡ false → next_turn m last x ≡ o → Behind left done o x y →
+      LeadsTo m (turns heals m [] (suc left) done last x) x y
   goes_on left done last o x y more next h =
       let go : Seat → Path = λ s. first (Turn s) (turns heals m [] left (done + 1) (Some s) (world_step m (Turn s) x)) in
       let q = next_turn m last x in
@@ -90,13 +94,9 @@ module _ (heals : Bool) (m : Machines) where
       one_left s zero h goes = absurd (false≢true (sym goes ∙ h.over))
       one_left s (suc j) h goes = (j, refl)
 
-      -- what the turns behind one of this seat lead to
-      abbrev Behind : Seat → World_state → Type 0
-      Behind o y = LeadsTo m (turns heals m [] left (done + 1) (Some o) (world_step m (Turn o) x)) (world_step m (Turn o) x) y
-
-      by_seat : ((j : ℕ) → HasLeft m.a (world_step m (Turn A) x).a j → j + kb + kc ≤ left → Behind A (finished m j kb kc (world_step m (Turn A) x))) →
-          ((j : ℕ) → HasLeft m.b (world_step m (Turn B) x).b j → ka + j + kc ≤ left → Behind B (finished m ka j kc (world_step m (Turn B) x))) →
-          ((j : ℕ) → HasLeft m.c (world_step m (Turn C) x).c j → ka + kb + j ≤ left → Behind C (finished m ka kb j (world_step m (Turn C) x))) →
+      by_seat : ((j : ℕ) → HasLeft m.a (world_step m (Turn A) x).a j → j + kb + kc ≤ left → Behind left done A x (finished m j kb kc (world_step m (Turn A) x))) →
+          ((j : ℕ) → HasLeft m.b (world_step m (Turn B) x).b j → ka + j + kc ≤ left → Behind left done B x (finished m ka j kc (world_step m (Turn B) x))) →
+          ((j : ℕ) → HasLeft m.c (world_step m (Turn C) x).c j → ka + kb + j ≤ left → Behind left done C x (finished m ka kb j (world_step m (Turn C) x))) →
           (o : Seat) → next_turn m last x ≡ o → ended (machine (next_turn m last x) m) (channel (next_turn m last x) x) ≡ false → all_ended m x ≡ false →
           LeadsTo m (turns heals m [] (suc left) done last x) x (finished m ka kb kc x)
       by_seat go_a go_b go_c A next goes more =

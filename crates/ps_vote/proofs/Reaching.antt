@@ -11,10 +11,13 @@ use Rattle.ps_vote.specs.declared.faults.VoteFault.{VoteFault}
 use Rattle.ps_vote.specs.declared.seat.DirtySeats.{DirtySeats}
 use Rattle.ps_vote.specs.declared.seat.Seat.{Seat}
 use Rattle.ps_vote.specs.declared.seat.Seat.TheVariants.{A, B, C}
+use Rattle.ps_vote.specs.declared.seat.Vote.{Vote}
+use Rattle.ps_vote.specs.declared.seat.Vote.TheVariants.{All, Two, Split}
 use Rattle.ps_vote.specs.Worlds.{Machines, World_state, Event, Begin, Turn, Spoil, TakeVote, Restart, Heal, is_same, machine, channel, mark, is_another_dirty}
-use Rattle.ps_vote.specs.Steps.{world_step, after, all_ended, Lawful}
+use Rattle.ps_vote.specs.Votes.{vote}
+use Rattle.ps_vote.specs.Steps.{world_step, after, all_ended, May, Lawful}
 use Rattle.ps_vote.specs.Lists.{SpoilsOnly, OthersAreClean, IsMended, items_of}
-use Rattle.ps_vote.specs.Orders.{of_scan, of_turn, spoil_of, Path, no_more, first, unless_refused, spoils, unless_ended, in_turn, seat_after, next_from, next_turn, turns, most_turns, path_to_vote}
+use Rattle.ps_vote.specs.Orders.{of_scan, of_turn, spoil_of, Path, no_more, first, unless_refused, spoils, unless_ended, in_turn, seat_after, next_from, next_turn, turns, most_turns, path_to_vote, behind_vote, closing}
 use Rattle.ps_vote.proofs.Paths.{after_append}
 use Rattle.ps_vote.proofs.Seated.{same_or_other, turn_at, spoil_at}
 
@@ -334,23 +337,25 @@ module _ (heals : Bool) (m : Machines) (n : ℕ) (faults : List VoteFault) where
     pub begun : (after m es x).begun ≡ true
     pub over : all_ended m (after m es x) ≡ true
 
+  -- Its events are lawful where the scan may begin; they strike the seat that the faults strike; where the run heals they are mended, and where
+  -- it does not they end at no fault.
   pub record ScanComes (now : ℕ) (ins : List Bool) (p : Path) (x : World_state) : Type 0 where
-    pub lawful : Lawful m n p.events x
+    pub lawful : May m n (Begin now ins) x → Lawful m n p.events x
     pub only : (seat : Seat) → StrikeSeat seat faults → SpoilsOnly seat p.events
     pub mended : heals ≡ true → IsMended m p.events x
     pub goes : heals ≡ false → p.refused ≡ None
     pub early : (after m p.events x).last ≤ now
     pub closes : p.refused ≡ None → IsToClose now ins p.events x
 
-  begins : (r : Option VoteFault) (es : List Event) (q : Path) (now : ℕ) (ins : List Bool) (x : World_state) → x.begun ≡ false → x.last ≤ now → now < 2 ^ 32 → length ins ≡ n →
+  begins : (r : Option VoteFault) (es : List Event) (q : Path) (now : ℕ) (ins : List Bool) (x : World_state) → x.last ≤ now →
       Reaches heals m n faults (record { events = es; refused = r }) x → ComesToVote heals m n faults q (world_step m (Begin now ins) (after m es x)) →
       ScanComes now ins (unless_refused r es (first (Begin now ins) q)) x
-  begins None es q now ins x rest early small sized h k =
+  begins None es q now ins x early h k =
       let there = after_append m es (Begin now ins ∷ q.events) x in
       let last_is : (after m (es ++ Begin now ins ∷ q.events) x).last ≡ now = ap (λ (y : World_state). y.last) there ∙ k.reaches.last_stays in
       record {
-        lawful = lawful_append m n es (Begin now ins ∷ q.events) x h.lawful
-            ((h.begun_stays ∙ rest, subst (λ t. t ≤ now) (sym h.last_stays) early, small, sized), k.reaches.lawful);
+        lawful = λ may. lawful_append m n es (Begin now ins ∷ q.events) x h.lawful
+            ((h.begun_stays ∙ may.0, subst (λ t. t ≤ now) (sym h.last_stays) may.1, may.2, may.3), k.reaches.lawful);
         only = λ seat strike. only_append seat es (Begin now ins ∷ q.events) (h.only seat strike) (k.reaches.only seat strike);
         mended = λ heal. mended_append m es (Begin now ins ∷ q.events) x (h.mended heal) (tt, k.reaches.mended heal);
         goes = k.reaches.goes;
@@ -362,8 +367,8 @@ module _ (heals : Bool) (m : Machines) (n : ℕ) (faults : List VoteFault) where
           over = ap (all_ended m) there ∙ k.over none;
         };
       }
-  begins (Some f) es q now ins x rest early small sized h k = record {
-    lawful = h.lawful;
+  begins (Some f) es q now ins x early h k = record {
+    lawful = λ may. h.lawful;
     only = h.only;
     mended = h.mended;
     goes = h.goes;
@@ -379,10 +384,30 @@ module _ (heals : Bool) (m : Machines) (n : ℕ) (faults : List VoteFault) where
   begun_none now ins x B = refl
   begun_none now ins x C = refl
 
-  pub scan_comes : (now : ℕ) (ins : List Bool) (x : World_state) → x.begun ≡ false → x.last ≤ now → now < 2 ^ 32 → length ins ≡ n →
-      ScanComes now ins (path_to_vote heals m faults now ins x) x
-  scan_comes now ins x rest early small sized =
+  pub scan_comes : (now : ℕ) (ins : List Bool) (x : World_state) → x.last ≤ now → ScanComes now ins (path_to_vote heals m faults now ins x) x
+  scan_comes now ins x early =
       let p = spoils heals m (of_turn 0 faults) x in
       let y = world_step m (Begin now ins) (after m p.events x) in
-      begins p.refused p.events (turns heals m faults (most_turns m) 0 None y) now ins x rest early small sized (turn_spoils_reach heals m n faults 0 x)
+      begins p.refused p.events (turns heals m faults (most_turns m) 0 None y) now ins x early (turn_spoils_reach heals m n faults 0 x)
       (turns_come (most_turns m) 0 None y refl (no_turns y (begun_none now ins (after m p.events x))) (omega arith))
+
+-- ---- Behind the vote.
+
+module _ (m : Machines) where
+  pub rest_behind : (healing : Bool) (x : World_state) → (after m (closing healing m x) x).begun ≡ false
+  rest_behind healing x = by healing (vote m x)
+    where
+      by : (heal : Bool) (v : Vote) → (after m (behind_vote heal v) (world_step m TakeVote x)).begun ≡ false
+      by heal All = refl
+      by heal Split = refl
+      by false (Two seat) = refl
+      by true (Two seat) = refl
+
+  pub last_behind : (healing : Bool) (x : World_state) → (after m (closing healing m x) x).last ≡ x.last
+  last_behind healing x = by healing (vote m x)
+    where
+      by : (heal : Bool) (v : Vote) → (after m (behind_vote heal v) (world_step m TakeVote x)).last ≡ x.last
+      by heal All = refl
+      by heal Split = refl
+      by false (Two seat) = refl
+      by true (Two seat) = refl

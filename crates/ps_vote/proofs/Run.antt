@@ -24,7 +24,7 @@ use Rattle.ps_vote.proofs.Seated.{none_marked}
 use Rattle.ps_vote.proofs.Standing.{Sound, beginning_sound, vote_sound, restart_sound, heal_sound, may_be_out, voted, after_sound}
 use Rattle.ps_vote.proofs.Mended.{others_stay, only_mended}
 use Rattle.ps_vote.proofs.Paths.{after_append, goes_behind, refused_behind, stops, refused_there}
-use Rattle.ps_vote.proofs.Reaching.{StrikeSeat, of_scan_strike, ScanComes, IsToClose, scan_comes}
+use Rattle.ps_vote.proofs.Reaching.{StrikeSeat, of_scan_strike, ScanComes, IsToClose, scan_comes, rest_behind, last_behind}
 
 -- ---- Which seats are dirty.
 
@@ -102,41 +102,23 @@ module _ (net : Network) (m : Machines) (Stands : Seat → State → ℕ → Lis
     pub rest : (after m (path_of_scan heal m due now ins x).events x).begun ≡ false
     pub last_is : (after m (path_of_scan heal m due now ins x).events x).last ≡ now
 
-  rest_behind : (healing : Bool) (x : World_state) → (after m (closing healing m x) x).begun ≡ false
-  rest_behind healing x = by healing (vote m x)
-    where
-      by : (heal : Bool) (v : Vote) → (after m (behind_vote heal v) (world_step m TakeVote x)).begun ≡ false
-      by heal All = refl
-      by heal Split = refl
-      by false (Two seat) = refl
-      by true (Two seat) = refl
-
-  last_behind : (healing : Bool) (x : World_state) → (after m (closing healing m x) x).last ≡ x.last
-  last_behind healing x = by healing (vote m x)
-    where
-      by : (heal : Bool) (v : Vote) → (after m (behind_vote heal v) (world_step m TakeVote x)).last ≡ x.last
-      by heal All = refl
-      by heal Split = refl
-      by false (Two seat) = refl
-      by true (Two seat) = refl
-
-  closes : (heal : Bool) (due : List VoteFault) (now : ℕ) (ins : List Bool) (x : World_state) (past : Past) (w : State) → StandsFor x past →
+  closes : (heal : Bool) (due : List VoteFault) (now : ℕ) (ins : List Bool) (x : World_state) (past : Past) (w : State) → StandsFor x past → May m (input_count net) (Begin now ins) x →
       ScanComes heal m (input_count net) due now ins (path_to_vote heal m due now ins x) x → IsMended m (path_to_vote heal m due now ins x).events x →
       (path_to_vote heal m due now ins x).refused ≡ None → Solves net (old_state net past) ins (passed past now) w → Closes heal due now ins x w
-  closes heal due now ins x past w h comes mended none solves =
+  closes heal due now ins x past w h may comes mended none solves =
       let p = path_to_vote heal m due now ins x in
       let z = after m p.events x in
       let c = comes.closes none in
       let sound : StandsFor z (last now w) =
       subst (λ items. StandsFor z (past_after past items (w ∷ []))) c.scan_alone
-      (after_sound net m Stands keeps heals sized p.events x past (w ∷ []) h comes.lawful mended (subst (λ items. Runs net past items (w ∷ [])) (sym c.scan_alone) (solves, refl))) in
+      (after_sound net m Stands keeps heals sized p.events x past (w ∷ []) h (comes.lawful may) mended (subst (λ items. Runs net past items (w ∷ [])) (sym c.scan_alone) (solves, refl))) in
       let there : after m (path_of_scan heal m due now ins x).events x ≡ after m (closing heal m z) z =
       goes_behind m x p (λ y. record { events = closing heal m y; refused = None }) none in
       record {
         right = votes_right z (last now w) sound (c.begun, c.over);
         stands = subst (λ (y : World_state). StandsFor y (last now w)) (sym there) (closing_sound heal z (last now w) sound (c.begun, c.over));
-        rest = ap (λ (y : World_state). y.begun) there ∙ rest_behind heal z;
-        last_is = ap (λ (y : World_state). y.last) there ∙ last_behind heal z ∙ c.last_is;
+        rest = ap (λ (y : World_state). y.begun) there ∙ rest_behind m heal z;
+        last_is = ap (λ (y : World_state). y.last) there ∙ last_behind m heal z ∙ c.last_is;
       }
 
   -- ---- A run.
@@ -222,10 +204,11 @@ module _ (net : Network) (m : Machines) (Stands : Seat → State → ℕ → Lis
       let due = of_scan number faults in
       let p = path_of_scan heal m due now ins x in
       let later = course_from heal m faults (suc number) items (after m p.events x) in
-      let comes = scan_comes heal m (input_count net) due now ins x rest (omega (arith, timely.0)) timely.1 timely.2 in
+      let early' : x.last ≤ now = omega (arith, timely.0) in
+      let comes = scan_comes heal m (input_count net) due now ins x early' in
       scanned_right p.refused now ins p.events (at_vote heal m due now ins x) later items w ws (λ none.
           let open_none = refused_of heal due now ins x none in
-          let c = closes heal due now ins x past w stands comes (is_mended heal faults number now ins x strike comes) open_none runs.0 in (
+          let c = closes heal due now ins x past w stands (rest, early', timely.1, timely.2) comes (is_mended heal faults number now ins x strike comes) open_none runs.0 in (
             c.right,
             right_from heal faults (suc number) now items (after m p.events x) (last now w) ws c.rest (subst (λ t. t ≤ now) (sym c.last_is) (omega arith)) timely.3 c.stands
             (strikes_on heal faults number now ins x strike comes open_none) runs.1,
@@ -242,12 +225,12 @@ module _ (net : Network) (m : Machines) (Stands : Seat → State → ℕ → Lis
       let p = path_of_scan false m due now ins x in
       let z = after m q.events x in
       let later = course_from false m faults (suc number) items (after m p.events x) in
-      let comes = scan_comes false m (input_count net) due now ins x rest (omega (arith, timely.0)) timely.1 timely.2 in
+      let comes = scan_comes false m (input_count net) due now ins x (omega (arith, timely.0)) in
       let none = comes.goes refl in
       let c = comes.closes none in
       let there : after m p.events x ≡ after m (closing false m z) z = goes_behind m x q (λ y. record { events = closing false m y; refused = None }) none in
-      let rest_there : (after m p.events x).begun ≡ false = ap (λ (y : World_state). y.begun) there ∙ rest_behind false z in
-      let last_there : (after m p.events x).last ≡ now = ap (λ (y : World_state). y.last) there ∙ last_behind false z ∙ c.last_is in
+      let rest_there : (after m p.events x).begun ≡ false = ap (λ (y : World_state). y.begun) there ∙ rest_behind m false z in
+      let last_there : (after m p.events x).last ≡ now = ap (λ (y : World_state). y.last) there ∙ last_behind m false z ∙ c.last_is in
       ap (λ (r : Option VoteFault). (scanned r (scan now ins) p.events (at_vote false m due now ins x) later).refused) (path_goes m due now ins x none)
       ∙ goes_from faults (suc number) now items (after m p.events x) rest_there (subst (λ t. t ≤ now) (sym last_there) (omega arith)) timely.3
 

@@ -5,7 +5,8 @@
 //! - `motor`: the application and the trace that most faults strike, and what a run of it writes.
 //! - `code`, `cells`, `turns`: faults that strike the code, the cells, and amid the turns of a scan.
 //! - `refused`, `reached`, `outside`: fault files that are refused, faults that are not reached, and files that are not held.
-//! - `left`: the world that a call leaves. `demands`: what safe outputs demand. `images`: the images.
+//! - `votes`: faults that strike three seats, outvoted and healed.
+//! - `left`: the worlds that a call leaves. `demands`: what safe outputs demand. `images`: the images.
 #![tactic(auto)]
 
 #[cfg(test)]
@@ -30,3 +31,5 @@ mod reached;
 mod refused;
 #[cfg(test)]
 mod turns;
+#[cfg(test)]
+mod votes;

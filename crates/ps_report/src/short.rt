@@ -26,8 +26,8 @@ impl Model for ShortLine {
 }
 
 impl ShortLine {
-    // The line of these bytes.
-    pub(crate) fn of(start: &str) -> ShortLine
+    /// The line of these bytes.
+    pub fn of(start: &str) -> ShortLine
         requires { length start.now ≤ 128 }
         ensures { result ≡ start.now }
     {
@@ -39,8 +39,8 @@ impl ShortLine {
         line
     }
 
-    // This text at the end.
-    pub(crate) fn put(&mut self, text: &str)
+    /// Puts a text at the end.
+    pub fn put(&mut self, text: &str)
         requires { length self.old + length text.now ≤ 128 }
         ensures bytes { self.new ≡ self.old ++ text.now }
         ensures len { length self.new ≡ length self.old + length text.now }
@@ -60,8 +60,8 @@ impl ShortLine {
         self.put(digits.format(number));
     }
 
-    // A number of up to ten digits at the end.
-    pub(crate) fn put_count(&mut self, number: u32)
+    /// Puts a number of up to ten digits at the end.
+    pub fn put_count(&mut self, number: u32)
         requires { length self.old + 10 ≤ 128 }
         ensures bytes { self.new ≡ self.old ++ decimal number }
         ensures len { length self.new ≤ length self.old + 10 }

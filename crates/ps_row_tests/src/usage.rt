@@ -8,7 +8,7 @@ use std::test::Fail;
 
 /// The usage line.
 const USAGE: &str =
-    "usage: plcsafe run APP TRACE | fault APP TRACE FAULTS | check APP | cert APP | verify APP CERT | image APP | load N | demand APP\n";
+    "usage: plcsafe run APP TRACE | fault APP TRACE FAULTS | check APP | cert APP | verify APP CERT | image APP | load N | demand APP | vote APP TRACE FAULTS | heal APP TRACE FAULTS\n";
 
 /// Words that are not taken, a call to a line.
 const WORDS: &str = "\

@@ -2,6 +2,7 @@ mod Meeting
 mod Calling
 mod Completing
 mod Applied
+mod Coming
 mod ToCome
 mod Demanded
 mod Standing
@@ -19,3 +20,7 @@ mod SomeAnswer
 mod Quiet
 mod Few
 mod Counted
+mod SeatFaults
+mod SeatScans
+mod Courses
+mod CourseMeant

@@ -1,5 +1,5 @@
 -- The program has one answer alone, and none where a name that it asks for is not held.
-use Rattle.std.proofs.Common.{◌≡◌, ◌∙◌, ℕ, List, [], Option, Some, None, map, sym, ap, subst, ⊎_elim}
+use Rattle.std.proofs.Common.{◌≡◌, ◌∙◌, ℕ, Bool, true, false, List, [], Option, Some, None, map, sym, ap, subst, ⊎_elim}
 use Rattle.std.proofs.lemmas.Option.{same_Some}
 use Rattle.ps_model.specs.Network.{Network}
 use Rattle.ps_model.specs.Sound.{IsSound}
@@ -12,12 +12,15 @@ use Rattle.ps_base.specs.declared.failing.Refusal.{Refusal}
 use Rattle.ps_trace.specs.Faults.{faults_of}
 use Rattle.ps_trace.specs.Scans.{Scans, scans_of}
 use Rattle.ps_load.specs.Texts.{app_text, trace_text}
+use Rattle.ps_vote.specs.declared.faults.VoteFault.{VoteFault}
+use Rattle.ps_vote.specs.Orders.{course}
+use Rattle.ps_vote.specs.Whole as seats
 use Rattle.ps_world.specs.Whole.{Setup, IsSetupOf}
 use Rattle.ps_words.specs.Command.{Command, command_of}
 use Rattle.ps_words.specs.Command.Command.{Run, Fault as FaultWords, Check, Cert, Verify, Image, Load, Demand, Vote, Heal, NotTaken}
 use Rattle.ps_top.specs.Asking.{Answer, Asking, IsAnswer, AsksFor}
 use Rattle.ps_top.specs.Asking.Asking.{Says, Asks, Finds, Leaves}
-use Rattle.ps_top.specs.Program.{Judged, Judges, verdict, leaves_checked, with_application, accepted_source, accepted, summary, sum_scans, sum_trace, load, leaves_world, answer, image_lines, imaged, region_sizes, trips_of, unless_refused, with_faults, run_quietly, run_struck, answer_scans, run_named, verify_named, verify, demanded, demand, said, told, text}
+use Rattle.ps_top.specs.Program.{Judged, Judges, verdict, leaves_checked, with_application, accepted_source, accepted, summary, sum_scans, sum_trace, load, leaves_world, answer, image_lines, imaged, region_sizes, trips_of, unless_refused, with_faults, run_quietly, run_struck, answer_scans, run_named, verify_named, verify, demanded, demand, seat_faults_of, seat_sizes, told_votes, leaves_votes, vote_scans, vote_named, with_seat_faults, vote_struck, said, told, text}
 use Rattle.ps_top.specs.Program.Judged.{derives, objects}
 use Rattle.ps_source.specs.Demanding.{IsDemandableAs}
 use Rattle.ps_source.specs.Source.{Reading, Resolves, IsResolvedAs, IsAcceptedAs, counts}
@@ -29,7 +32,7 @@ use Rattle.ps_source.proofs.Keeping.{resolved_sound}
 use Rattle.ps_source.proofs.OneReading.{one_resolution}
 use Rattle.ps_source.proofs.OneBreach.{one_acceptance}
 use Rattle.ps_top.proofs.OneJudgement.{one_judgement}
-use Rattle.ps_top.proofs.Setups.{one_setup}
+use Rattle.ps_top.proofs.Setups.{one_setup, one_seat_setup}
 
 -- What is asked leaves no choice: it has one answer alone, and none where a name that it asks for is not held.
 record IsDetermined (asking : Asking) (held : List ℕ → Option (List ℕ)) : Type 0 where
@@ -89,7 +92,7 @@ module _ (held : List ℕ → Option (List ℕ)) where
   quiet_determined : (net : Network) → IsSound net → (trace : List ℕ) → IsDetermined (run_quietly trace net) held
   quiet_determined net sound trace = setup_determined net (λ setup. run_named net setup [] trace) (λ setup. trace_determined net sound setup [] trace)
 
-  unless_determined : (next : List Fault → Asking) (faults : List Fault) (refusal : Option Refusal) → IsDetermined (next faults) held → IsDetermined (unless_refused next faults refusal) held
+  unless_determined : {F : Type 0} (next : List F → Asking) (faults : List F) (refusal : Option Refusal) → IsDetermined (next faults) held → IsDetermined (unless_refused next faults refusal) held
   unless_determined next faults None d = d
   unless_determined next faults (Some refusal) d = says_determined held _
 
@@ -99,6 +102,23 @@ module _ (held : List ℕ → Option (List ℕ)) where
       (λ setup. asks_determined held faults (λ t. let list = faults_of t (region_sizes setup) in unless_refused (λ struck. run_named net setup struck trace) list.faults list.refusal)
       (λ t. let list = faults_of t (region_sizes setup) in
       unless_determined (λ struck. run_named net setup struck trace) list.faults list.refusal (trace_determined net sound setup list.faults trace)))
+
+  vote_scans_determined : (heals : Bool) (net : Network) → IsSound net → (setup : seats.Setup) (faults : List VoteFault) (scans : Scans) → IsDetermined (vote_scans heals net setup faults scans) held
+  vote_scans_determined heals net sound setup faults scans =
+      let run = course heals (seats.machines_in setup) scans.items faults in
+      leaves_determined held (leaves_votes setup run) (Finds (List State) (Meaning net scans.items) (λ ws. Says (told_votes net setup run scans.end ws)))
+      (meaning_determined net sound scans (told_votes net setup run scans.end))
+
+  vote_trace_determined : (heals : Bool) (net : Network) → IsSound net → (setup : seats.Setup) (faults : List VoteFault) (trace : List ℕ) → IsDetermined (vote_named heals net setup faults trace) held
+  vote_trace_determined heals net sound setup faults trace =
+      asks_determined held trace (λ t. vote_scans heals net setup faults (scans_of t net)) (λ t. vote_scans_determined heals net sound setup faults (scans_of t net))
+
+  vote_struck_determined : (heals : Bool) (net : Network) → IsSound net → (trace faults : List ℕ) → IsDetermined (vote_struck heals trace faults net) held
+  vote_struck_determined heals net sound trace faults =
+      finds_determined held seats.Setup (seats.IsSetupOf net) (λ s. with_seat_faults heals s faults (λ list. vote_named heals net s list trace)) (λ x y p q. one_seat_setup net x y p q)
+      (λ setup is. asks_determined held faults (λ t. let list = seat_faults_of heals t (seat_sizes setup) in unless_refused (λ struck. vote_named heals net setup struck trace) list.faults list.refusal)
+      (λ t. let list = seat_faults_of heals t (seat_sizes setup) in
+      unless_determined (λ struck. vote_named heals net setup struck trace) list.faults list.refusal (vote_trace_determined heals net sound setup list.faults trace)))
 
   source_determined : (s : List ℕ) (next : Network → Asking) → ((net : Network) → Resolves s net → IsDetermined (next net) held) → IsDetermined (accepted_source s next) held
   source_determined s next each = finds_determined held Reading (IsAcceptedAs s) (with_application (with_counts next)) (λ x y p q. one_acceptance s x y p q) go
@@ -148,8 +168,8 @@ module _ (held : List ℕ → Option (List ℕ)) where
   said_determined (Image app) = accepted_determined app imaged (λ s net r. setup_determined net (λ setup. Says (answer (image_lines setup) Done)) (λ setup. says_determined held _))
   said_determined (Load number) = load_determined number
   said_determined (Demand app) = demand_determined app
-  said_determined (Vote app trace faults) = says_determined held _
-  said_determined (Heal app trace faults) = says_determined held _
+  said_determined (Vote app trace faults) = accepted_determined app (vote_struck false trace faults) (λ s net r. vote_struck_determined false net (resolved_sound s net r) trace faults)
+  said_determined (Heal app trace faults) = accepted_determined app (vote_struck true trace faults) (λ s net r. vote_struck_determined true net (resolved_sound s net r) trace faults)
   said_determined NotTaken = says_determined held _
 
 pub one_answer : (words : List (List ℕ)) (held : List ℕ → Option (List ℕ)) (a b : Answer) → IsAnswer (text words) held a → IsAnswer (text words) held b → a ≡ b

@@ -1,5 +1,6 @@
--- A run without faults never trips.
-use Rattle.std.proofs.Common.{◌≡◌, ◌∙◌, ◌∷◌, ℕ, suc, List, [], Option, length, ap, sym, refl}
+-- A run without faults never trips, and three seats never do.
+use Rattle.std.proofs.Common.{◌≡◌, ◌∙◌, ◌∷◌, ℕ, suc, Bool, List, [], Option, Some, None, length, ap, sym, refl}
+use Rattle.ps_base.specs.declared.failing.Refusal.{Refusal}
 use Rattle.ps_model.specs.declared.channel.Verdict.{Verdict}
 use Rattle.ps_model.specs.Budgets.{turns_a, turns_b}
 use Rattle.ps_model.specs.Network.{Network, input_count, instance_count}
@@ -29,7 +30,10 @@ use Rattle.ps_world.specs.Whole.{Setup, machines_in, IsSetupOf}
 use Rattle.ps_world.proofs.Built.{keeps_a, keeps_b, sized_for_a, sized_for_b}
 use Rattle.ps_world.proofs.Run.{quiet_runs_release}
 use Rattle.ps_top.specs.Asking.{Answer, IsAnswer}
-use Rattle.ps_top.specs.Program.{with_application, run, run_quietly, end_status, trips_of}
+use Rattle.ps_vote.specs.declared.faults.VoteFault.{VoteFault}
+use Rattle.ps_vote.specs.Orders.{course}
+use Rattle.ps_vote.specs.Whole as seats
+use Rattle.ps_top.specs.Program.{with_application, run, run_quietly, end_status, trips_of, unless_refused, run_end, seat_faults_of, seat_sizes, vote_named, vote_struck, voted}
 use Rattle.ps_top.specs.declared.Status.TheVariants.{Tripped}
 use Rattle.ps_source.proofs.Keeping.{resolved_sound}
 use Rattle.ps_top.proofs.OneAnswer.{with_counts}
@@ -74,3 +78,19 @@ never_tripped app trace held said right = go right.2.0 right.2.1 right.2.2
         let scans = scans_of text net in
         let none = no_trips net (resolved_sound right.0 net f.0) f.1 found.0 found.1 scans (scans_timely text net) meant.0 meant.1 in
         not_tripped_at scans.end (ap (end_status scans.end) (sym none) ∙ sym (ap (λ (a : Answer). a.status) meant.2) ∙ tripped)
+
+-- no answer of `vote` or `heal` is Tripped
+pub votes_never_trip : (heals : Bool) (app trace faults : List ℕ) (held : List ℕ → Option (List ℕ)) (said : Answer) → IsAnswer (voted heals app trace faults) held said → ¬ (said.status ≡ Tripped)
+votes_never_trip heals app trace faults held said right = go right.2.0 right.2.2
+  where
+    go_on : (net : Network) (setup : seats.Setup) (struck : List VoteFault) (refusal : Option Refusal) →
+        IsAnswer (unless_refused (λ list. vote_named heals net setup list trace) struck refusal) held said → ¬ (said.status ≡ Tripped)
+    go_on net setup struck (Some r) is tripped = let both = sym (ap (λ (a : Answer). a.status) is) ∙ tripped in cc
+    go_on net setup struck None found tripped =
+        let scans = scans_of found.0 net in
+        not_tripped_at (run_end (course heals (seats.machines_in setup) scans.items struck).refused scans.end) (sym (ap (λ (a : Answer). a.status) found.2.2.2) ∙ tripped)
+
+    go : (reading : Reading) → IsAnswer (with_application (with_counts (vote_struck heals trace faults)) reading) held said → ¬ (said.status ≡ Tripped)
+    go (is_refused r) is tripped = let both = sym (ap (λ (a : Answer). a.status) is) ∙ tripped in cc
+    go (stands_for net) found tripped =
+        let list = seat_faults_of heals found.2.0 (seat_sizes found.0) in go_on net found.0 list.faults list.refusal found.2.2 tripped

@@ -1,4 +1,4 @@
--- An application has one setup, and no other.
+-- An application has one setup of two channels, and one of three seats, and no other.
 use Rattle.std.proofs.Common.{◌≡◌, ◌∙◌, ℕ, List, length, map, refl, sym}
 use mathlib.Core.HLevel.{is_prop→PathP}
 use Rattle.std.specs.List.{range_with_len}
@@ -12,6 +12,9 @@ use Rattle.ps_model.specs.Sized.{AreSizesOf}
 use Rattle.ps_model.proofs.Sizing.{sizes_are_places}
 use Rattle.ps_stackvm.specs.Code.{code_a}
 use Rattle.ps_eqvm.specs.Code.{code_b}
+use Rattle.ps_decision.specs.Budget.{turns_c}
+use Rattle.ps_decision.specs.Code.{code_c}
+use Rattle.ps_vote.specs.Whole as seats
 use Rattle.ps_world.specs.Whole.{Setup, IsSetupOf}
 
 places_prop : (signals instances inputs outputs : ℕ) (firsts : List ℕ) (kinds : List Kind) → IsProp (ArePlaces signals instances inputs outputs firsts kinds)
@@ -70,5 +73,46 @@ some_setup net = (
     image_b = refl;
     budget_a = refl;
     budget_b = refl;
+  },
+)
+
+-- ---- three seats
+
+pub one_seat_setup : (net : Network) (y z : seats.Setup) → seats.IsSetupOf net y → seats.IsSetupOf net z → y ≡ z
+one_seat_setup net y z a b = λ i. record {
+  sizes = one_sizes net y.sizes z.sizes a.sizes b.sizes i;
+  limits = (a.limits ∙ sym b.limits) i;
+  image_a = (a.image_a ∙ sym b.image_a) i;
+  image_b = (a.image_b ∙ sym b.image_b) i;
+  image_c = (a.image_c ∙ sym b.image_c) i;
+  budget_a = (a.budget_a ∙ sym b.budget_a) i;
+  budget_b = (a.budget_b ∙ sym b.budget_b) i;
+  budget_c = (a.budget_c ∙ sym b.budget_c) i;
+}
+
+abbrev seat_setup_of : Network → seats.Setup
+seat_setup_of net = record {
+  sizes = sizes_of net;
+  limits = seats.limits_of net;
+  image_a = code_a net;
+  image_b = code_b net;
+  image_c = code_c net;
+  budget_a = turns_a net;
+  budget_b = turns_b net;
+  budget_c = turns_c net;
+}
+
+pub some_seat_setup : (net : Network) → (setup : seats.Setup) × seats.IsSetupOf net setup
+some_seat_setup net = (
+  seat_setup_of net,
+  record {
+    sizes = record { signals = refl; instances = refl; inputs = refl; outputs = refl; first_pins = refl; kinds = refl };
+    limits = refl;
+    image_a = refl;
+    image_b = refl;
+    image_c = refl;
+    budget_a = refl;
+    budget_b = refl;
+    budget_c = refl;
   },
 )

@@ -1,5 +1,5 @@
 -- The program has an answer wherever all names that it asks for are held.
-use Rattle.std.proofs.Common.{ℕ, List, [], Option, Some, None, IsSome, map, refl, inl, inr}
+use Rattle.std.proofs.Common.{ℕ, Bool, true, false, List, [], Option, Some, None, IsSome, map, refl, inl, inr}
 use Rattle.ps_model.specs.Meaning.{Meaning, nothing, report}
 use Rattle.ps_model.specs.Network.{Network}
 use Rattle.ps_model.specs.Scanning.{State}
@@ -15,17 +15,20 @@ use Rattle.ps_base.specs.declared.failing.Refusal.{Refusal}
 use Rattle.ps_trace.specs.Faults.{faults_of}
 use Rattle.ps_trace.specs.Scans.{Scans, scans_of}
 use Rattle.ps_load.specs.Texts.{app_text, trace_text}
+use Rattle.ps_vote.specs.declared.faults.VoteFault.{VoteFault}
+use Rattle.ps_vote.specs.Orders.{course}
+use Rattle.ps_vote.specs.Whole as seats
 use Rattle.ps_world.specs.Whole.{Setup, IsSetupOf}
 use Rattle.ps_words.specs.Command.{Command, command_of}
 use Rattle.ps_words.specs.Command.Command.{Run, Fault as FaultWords, Check, Cert, Verify, Image, Load, Demand, Vote, Heal, NotTaken}
 use Rattle.ps_top.specs.Asking.{Answer, Asking, IsAnswer, AsksFor}
 use Rattle.ps_top.specs.Asking.Asking.{Says, Asks, Finds}
-use Rattle.ps_top.specs.Program.{Judged, Judges, verdict, with_application, accepted_source, accepted, summary, sum_scans, sum_trace, load, answer, image_lines, imaged, region_sizes, trips_of, unless_refused, with_faults, run_quietly, run_struck, answer_scans, run_named, verify_named, verify, demanded, demand, said, told, text}
+use Rattle.ps_top.specs.Program.{Judged, Judges, verdict, with_application, accepted_source, accepted, summary, sum_scans, sum_trace, load, answer, image_lines, imaged, region_sizes, trips_of, unless_refused, with_faults, run_quietly, run_struck, answer_scans, run_named, verify_named, verify, demanded, demand, seat_faults_of, seat_sizes, told_votes, vote_scans, vote_named, with_seat_faults, vote_struck, said, told, text}
 use Rattle.ps_top.specs.Program.Judged.{derives, objects}
 use Rattle.ps_top.specs.declared.Status.TheVariants.{Done}
 use Rattle.ps_source.proofs.Keeping.{resolved_sound}
 use Rattle.ps_top.proofs.OneAnswer.{with_counts}
-use Rattle.ps_top.proofs.Setups.{some_setup}
+use Rattle.ps_top.proofs.Setups.{some_setup, some_seat_setup}
 
 -- where all names that are asked for are held there is an answer
 abbrev HasAnswer : Asking → (List ℕ → Option (List ℕ)) → Type 0
@@ -60,7 +63,7 @@ module _ (held : List ℕ → Option (List ℕ)) where
   quiet_some : (net : Network) → IsSound net → (trace : List ℕ) → HasAnswer (run_quietly trace net) held
   quiet_some net sound trace = setup_some net (λ setup. run_named net setup [] trace) (λ setup. trace_some net sound setup [] trace)
 
-  unless_some : (next : List Fault → Asking) (faults : List Fault) (refusal : Option Refusal) → HasAnswer (next faults) held → HasAnswer (unless_refused next faults refusal) held
+  unless_some : {F : Type 0} (next : List F → Asking) (faults : List F) (refusal : Option Refusal) → HasAnswer (next faults) held → HasAnswer (unless_refused next faults refusal) held
   unless_some next faults None h = h
   unless_some next faults (Some refusal) h = says_some _
 
@@ -70,6 +73,20 @@ module _ (held : List ℕ → Option (List ℕ)) where
       (λ setup. asks_some faults (λ t. let list = faults_of t (region_sizes setup) in unless_refused (λ struck. run_named net setup struck trace) list.faults list.refusal)
       (λ t. let list = faults_of t (region_sizes setup) in
       unless_some (λ struck. run_named net setup struck trace) list.faults list.refusal (trace_some net sound setup list.faults trace)))
+
+  vote_trace_some : (heals : Bool) (net : Network) → IsSound net → (setup : seats.Setup) (faults : List VoteFault) (trace : List ℕ) → HasAnswer (vote_named heals net setup faults trace) held
+  vote_trace_some heals net sound setup faults trace =
+      asks_some trace (λ t. vote_scans heals net setup faults (scans_of t net))
+      (λ t. let scans = scans_of t net in meaning_some net sound scans (told_votes net setup (course heals (seats.machines_in setup) scans.items faults) scans.end))
+
+  vote_struck_some : (heals : Bool) (net : Network) → IsSound net → (trace faults : List ℕ) → HasAnswer (vote_struck heals trace faults net) held
+  vote_struck_some heals net sound trace faults =
+      let found = some_seat_setup net in
+      let setup = found.0 in
+      finds_some seats.Setup (seats.IsSetupOf net) (λ s. with_seat_faults heals s faults (λ list. vote_named heals net s list trace)) setup found.1
+      (asks_some faults (λ t. let list = seat_faults_of heals t (seat_sizes setup) in unless_refused (λ struck. vote_named heals net setup struck trace) list.faults list.refusal)
+      (λ t. let list = seat_faults_of heals t (seat_sizes setup) in
+      unless_some (λ struck. vote_named heals net setup struck trace) list.faults list.refusal (vote_trace_some heals net sound setup list.faults trace)))
 
   module _ (accepts : (source : List ℕ) → (reading : Reading) × IsAcceptedAs source reading) (resolves : (source : List ℕ) → (reading : Reading) × IsResolvedAs source reading)
       (judges : (net : Network) (certificate : List ℕ) → (judged : Judged) × Judges net certificate judged) where
@@ -122,8 +139,8 @@ module _ (held : List ℕ → Option (List ℕ)) where
     said_some (Image app) = accepted_some app imaged (λ s net r. setup_some net (λ setup. Says (answer (image_lines setup) Done)) (λ setup. says_some _))
     said_some (Load number) = load_some number
     said_some (Demand app) = demand_some app
-    said_some (Vote app trace faults) = says_some _
-    said_some (Heal app trace faults) = says_some _
+    said_some (Vote app trace faults) = accepted_some app (vote_struck false trace faults) (λ s net r. vote_struck_some false net (resolved_sound s net r) trace faults)
+    said_some (Heal app trace faults) = accepted_some app (vote_struck true trace faults) (λ s net r. vote_struck_some true net (resolved_sound s net r) trace faults)
     said_some NotTaken = says_some _
 
 pub some_answer : (words : List (List ℕ)) (held : List ℕ → Option (List ℕ)) → ((source : List ℕ) → (reading : Reading) × IsAcceptedAs source reading) →

@@ -12,6 +12,7 @@ pub mod Performing
 pub mod Written
 pub mod Running
 pub mod Resting
+pub mod Seats
 pub mod Counting
 pub mod Cutting
 -- what the parts of a command answer

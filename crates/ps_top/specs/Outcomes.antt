@@ -6,7 +6,8 @@ use Rattle.ps_model.specs.declared.channel.Verdict.TheVariants.{Released, Trippe
 use Rattle.ps_model.specs.declared.report.Report.{Report}
 use Rattle.ps_model.specs.Network.{Network}
 use Rattle.ps_report.specs.Lines.{report_text, trip_text}
-use Rattle.ps_top.specs.Lines.{restart_line}
+use Rattle.ps_vote.specs.declared.seat.Vote.{Vote}
+use Rattle.ps_top.specs.Lines.{restart_line, voted_text}
 
 -- A scan was performed, with its time, a verdict on it and its report; or it was begun and is refused, which ends the run; or all
 -- begins anew.
@@ -27,3 +28,15 @@ outcome_line net (performed now (Tripped cause) report) = trip_text net now (Som
 outcome_line net (performed now Down report) = trip_text net now None
 outcome_line net (refuses refusal) = []
 outcome_line net anew = restart_line
+
+-- the lines of an outcome of three seats
+abbrev pub vote_lines : Network → Outcome Vote → List ℕ
+vote_lines net (performed now vote report) = voted_text net now report vote
+vote_lines net (refuses refusal) = []
+vote_lines net anew = restart_line
+
+-- an outcome that a run goes on behind, which is told
+abbrev pub IsTold : Outcome Vote → Type 0
+IsTold (performed now vote report) = Unit {0}
+IsTold (refuses refusal) = ⊥
+IsTold anew = Unit {0}

@@ -1,6 +1,7 @@
 -- What the program writes, for its words and the texts that are held.
 use Rattle.std.specs.Prelude.{◌≡◌, ◌⊎◌, ℕ, suc, Bool, true, false, ◌==◌, ◌||◌, if◌then◌else◌, List, [], ◌∷◌, ◌++◌, Option, Some, None, is_some, length, map, count_by, sum_by}
 use Rattle.ps_base.specs.declared.failing.Refusal.{Refusal}
+use Rattle.ps_base.specs.declared.failing.Rule.TheVariants.{F4}
 use Rattle.ps_model.specs.declared.channel.Cause.{Cause}
 use Rattle.ps_model.specs.declared.channel.Channel.TheVariants.{A, B}
 use Rattle.ps_model.specs.declared.channel.Fault.{Fault}
@@ -18,21 +19,29 @@ use Rattle.ps_load.specs.Texts.{app_text, trace_text}
 use Rattle.ps_checker.specs.Counts.{Counts}
 use Rattle.ps_checker.specs.Derives.{Derives}
 use Rattle.ps_checker.specs.Objections.{Objects}
-use Rattle.ps_trace.specs.Faults.{faults_of}
+use Rattle.ps_trace.specs.Faults.{FaultList, faults_of}
 use Rattle.ps_trace.specs.Scans.{Scans, End, scans_of}
 use Rattle.ps_trace.specs.Scans.End.{whole, refused}
 use Rattle.ps_world.specs.Worlds.{world_0}
 use Rattle.ps_world.specs.Orders.{events, trips}
 use Rattle.ps_world.specs.Whole.{Setup, Whole, machines_in, after_events, IsSetupOf}
+use Rattle.ps_vote.specs.declared.faults.VoteFault.{VoteFault}
+use Rattle.ps_vote.specs.declared.seat.Vote.{Vote}
+use Rattle.ps_vote.specs.declared.seat.VoteSizes.{VoteSizes}
+use Rattle.ps_vote.specs.Faults.{vote_faults_of, heal_faults_of}
+use Rattle.ps_vote.specs.Votes.{vote as vote_in}
+use Rattle.ps_vote.specs.Orders.{Course, course}
+use Rattle.ps_vote.specs.Worlds.{world_0 as seats_0}
+use Rattle.ps_vote.specs.Whole.{Setup as SeatSetup, Whole as WholeSeats, machines_in as seats_in, after_events as seats_after, IsSetupOf as IsSeatSetupOf}
 use Rattle.ps_demand.specs.Lines.{demand_lines}
 use Rattle.ps_report.specs.Image.{image_part}
 use Rattle.ps_report.specs.Lines.{report_text, trip_text}
 use Rattle.ps_report.specs.Short.{refusal_text, check_text, load_text}
 use Rattle.ps_words.specs.Command.{Command, command_of, usage_line}
-use Rattle.ps_words.specs.Command.Command.{Run, Fault as FaultWords, Check, Cert, Verify, Image, Load, Demand}
+use Rattle.ps_words.specs.Command.Command.{Run, Fault as FaultWords, Check, Cert, Verify, Image, Load, Demand, Vote as VoteWords, Heal as HealWords, NotTaken}
 use Rattle.ps_top.specs.Asking.{Answer, Asking}
 use Rattle.ps_top.specs.Asking.Asking.{Says, Asks, Finds, Leaves}
-use Rattle.ps_top.specs.Lines.{restart_line, verified_line}
+use Rattle.ps_top.specs.Lines.{restart_line, verified_line, voted_text}
 use Rattle.ps_source.specs.Demanding.{IsDemandableAs}
 use Rattle.ps_source.specs.Source.{Reading, IsResolvedAs, IsAcceptedAs, counts}
 use Rattle.ps_source.specs.Source.Reading.{stands_for, is_refused}
@@ -180,13 +189,17 @@ abbrev pub run_named : Network → Setup → List Fault → List ℕ → Asking
 run_named net setup faults trace = Asks trace (λ text. answer_scans net setup faults (scans_of text net))
 
 -- a fault file that is refused has its line, and with the faults of another the program goes on
-abbrev pub unless_refused : (List Fault → Asking) → List Fault → Option Refusal → Asking
+abbrev pub unless_refused : {F : Type 0} → (List F → Asking) → List F → Option Refusal → Asking
 unless_refused next faults None = next faults
 unless_refused next faults (Some refusal) = Says (answer (refusal_text refusal) BadInput)
 
--- the faults of the file of this name
+-- the faults of the file of this name, by what a text gives
+abbrev pub with_file : {F : Type 0} → (List ℕ → FaultList F) → List ℕ → (List F → Asking) → Asking
+with_file faults_in faults next = Asks faults (λ text. unless_refused next (faults_in text).faults (faults_in text).refusal)
+
+-- the faults of two channels in the file of this name
 abbrev pub with_faults : Setup → List ℕ → (List Fault → Asking) → Asking
-with_faults setup faults next = Asks faults (λ text. let list = faults_of text (region_sizes setup) in unless_refused next list.faults list.refusal)
+with_faults setup faults next = with_file (λ text. faults_of text (region_sizes setup)) faults next
 
 -- an application's trace is run without faults
 abbrev pub run_quietly : List ℕ → Network → Asking
@@ -203,6 +216,80 @@ run app trace = accepted app (run_quietly trace)
 -- `fault APP TRACE FAULTS`: the same, where the faults of a file strike
 abbrev pub fault : (app trace faults : List ℕ) → Asking
 fault app trace faults = accepted app (run_struck trace faults)
+
+-- ---- vote and heal
+
+-- the world of three seats at the beginning
+abbrev pub first_seats : SeatSetup → WholeSeats
+first_seats setup = record { setup = setup; state = seats_0 (seats_in setup) }
+
+-- the lengths of the regions of three seats, in bytes
+abbrev pub seat_sizes : SeatSetup → VoteSizes
+seat_sizes setup =
+    let x = seats_0 (seats_in setup) in
+    record { code = length x.a.code ∷ length x.b.code ∷ length x.c.code ∷ []; cells = length x.a.cells ∷ length x.b.cells ∷ length x.c.cells ∷ [] }
+
+-- the faults that the text of a fault file gives: those of `vote` strike one seat alone, and those of `heal`, which heals, any seats
+abbrev pub seat_faults_of : (heals : Bool) → List ℕ → VoteSizes → FaultList VoteFault
+seat_faults_of false text sizes = vote_faults_of text sizes
+seat_faults_of true text sizes = heal_faults_of text sizes
+
+-- the lines of items with these votes, whose scans have these states: the report line of each scan, and behind it that of the seat that
+-- its vote outvotes
+abbrev pub voted_lines : Network → List Item → List Vote → List State → List ℕ
+voted_lines net [] votes ws = []
+voted_lines net (restart ∷ items) votes ws = restart_line ++ voted_lines net items votes ws
+voted_lines net (scan now ins ∷ items) [] ws = []
+voted_lines net (scan now ins ∷ items) (v ∷ votes) [] = []
+voted_lines net (scan now ins ∷ items) (v ∷ votes) (w ∷ ws) = voted_text net now (report net w) v ++ voted_lines net items votes ws
+
+-- the refusal of a fault that is reached while another seat is dirty: F4 at its line
+abbrev pub fault_refusal : VoteFault → Refusal
+fault_refusal f = record { rule = F4; place = record { line = f.line; column = 0 } }
+
+-- how a run ends: at a fault that is refused, and else at the end of its trace
+abbrev pub run_end : Option VoteFault → End → End
+run_end None end = end
+run_end (Some f) end = refused (fault_refusal f)
+
+-- the lines of the items that a run did, and one for a refusal
+abbrev pub told_votes : Network → SeatSetup → Course → End → List State → Answer
+told_votes net setup run end ws =
+    answer (voted_lines net run.done (map (vote_in (seats_in setup)) run.votes) ws ++ end_line (run_end run.refused end)) (end_status (run_end run.refused end) [])
+
+-- the world of three seats after all events of the run is left
+abbrev pub leaves_votes : SeatSetup → Course → Left → Type 0
+leaves_votes setup run left = left.votes ≡ Some (seats_after run.events (first_seats setup))
+
+-- the scans of a trace have the lines of what they mean, up to a fault that is refused
+abbrev pub vote_scans : (heals : Bool) → Network → SeatSetup → List VoteFault → Scans → Asking
+vote_scans heals net setup faults scans =
+    let run = course heals (seats_in setup) scans.items faults in
+    Leaves (leaves_votes setup run) (Finds (List State) (Meaning net scans.items) (λ ws. Says (told_votes net setup run scans.end ws)))
+
+-- the trace of this name is run in three seats, where these faults strike
+abbrev pub vote_named : (heals : Bool) → Network → SeatSetup → List VoteFault → List ℕ → Asking
+vote_named heals net setup faults trace = Asks trace (λ text. vote_scans heals net setup faults (scans_of text net))
+
+-- the faults of three seats in the file of this name
+abbrev pub with_seat_faults : (heals : Bool) → SeatSetup → List ℕ → (List VoteFault → Asking) → Asking
+with_seat_faults heals setup faults next = with_file (λ text. seat_faults_of heals text (seat_sizes setup)) faults next
+
+-- an application's trace is run in three seats, where the faults of a file strike
+abbrev pub vote_struck : (heals : Bool) → (trace faults : List ℕ) → Network → Asking
+vote_struck heals trace faults net = Finds SeatSetup (IsSeatSetupOf net) (λ setup. with_seat_faults heals setup faults (λ list. vote_named heals net setup list trace))
+
+-- the application is accepted, and then its trace is run in three seats, with the seats healed that are outvoted or not
+abbrev pub voted : (heals : Bool) → (app trace faults : List ℕ) → Asking
+voted heals app trace faults = accepted app (vote_struck heals trace faults)
+
+-- `vote APP TRACE FAULTS`: by the events of `vote`, in which no seat is healed
+abbrev pub vote : (app trace faults : List ℕ) → Asking
+vote app trace faults = voted false app trace faults
+
+-- `heal APP TRACE FAULTS`: by those of `heal`
+abbrev pub heal : (app trace faults : List ℕ) → Asking
+heal app trace faults = voted true app trace faults
 
 -- ---- load
 
@@ -266,7 +353,7 @@ verify app cert = Asks app (λ source. Finds Reading (IsResolvedAs source) (with
 
 -- ---- the words
 
--- what is said to words that ask this; those that ask for a command that is not there get the usage line
+-- what is said to words that ask this
 abbrev pub said : Command → Asking
 said (Run app trace) = run app trace
 said (FaultWords app trace faults) = fault app trace faults
@@ -276,7 +363,9 @@ said (Verify app cert) = verify app cert
 said (Image app) = image app
 said (Load n) = load n
 said (Demand app) = demand app
-said _ = Says (answer usage_line Usage)
+said (VoteWords app trace faults) = vote app trace faults
+said (HealWords app trace faults) = heal app trace faults
+said NotTaken = Says (answer usage_line Usage)
 
 -- what the program has to say
 abbrev pub text : List (List ℕ) → Asking

@@ -1,6 +1,6 @@
 // The loop that does the items of a trace.
 
-ghost use Rattle.std.specs.Prelude.{◌≡◌, ◌≤◌, ℕ, List, IfOk, IsTrue, Some};
+ghost use Rattle.std.specs.Prelude.{◌≡◌, ◌≤◌, ℕ, List, IfOk, OnOk, IsTrue, Some};
 ghost use Rattle.ps_model.specs.Meaning.Item.{scan as scan_item, restart as restart_item};
 ghost use Rattle.ps_model.specs.Network.{input_count};
 ghost use Rattle.ps_outside.specs.Outside.{Rose};
@@ -79,7 +79,7 @@ impl<P: Performer, T: Taker<P::Verdict>> Runner<P, T> {
         requires due { P.earliest self.old.performer ≤ self.old.scan.now }
         ensures does { DoesItem (P.performs app.now) (T.said app.now) T.takes (scan_item self.old.scan.now self.old.scan.ins)
             self.old.performer self.new.performer self.old.taker self.new.taker (S.tells out.old) (S.taken out.old) (S.taken out.new) result }
-        ensures fits { Fits (P.fits app.now) (T.fits app.now) app.now self.new }
+        ensures fits { OnOk result (Fits (P.fits app.now) (T.fits app.now) app.now self.new) }
         ensures due { P.earliest self.new.performer ≤ self.old.scan.now }
         ensures unwritten { result ≡ Err Cut.Unwritten → Rose (S.faults out.old) (S.faults out.new) }
         ensures counts { S.faults out.old ≤ S.faults out.new }

@@ -1,6 +1,7 @@
 // What a call leaves behind.
 
 use ps_checker::Checked;
+use ps_vote::VoteWorld;
 use ps_world::World;
 
 /// What a call of the program worked with, for the caller to look at.
@@ -10,6 +11,8 @@ pub struct Left {
     pub checked: Option<Checked>,
     /// The world of two channels that a run ended with.
     pub world: Option<World>,
+    /// The world of three seats that a run ended with.
+    pub votes: Option<VoteWorld>,
 }
 
 impl Left {
@@ -19,10 +22,12 @@ impl Left {
     pub fn new() -> Left
         ensures checked { result.checked ≡ None }
         ensures world { result.world ≡ None }
+        ensures votes { result.votes ≡ None }
     {
         Left {
             checked: None,
             world: None,
+            votes: None,
         }
     }
 }

@@ -1,9 +1,10 @@
 //! The program `plcsafe`, over any files and any output.
 //!
 //! `program` has the call that does all that the program does, by the definition `text`. One room for each command:
-//! `checking`, `certifying`, `verifying`, `imaging`, `loading`, `demanding`, `running`; `saying` writes short answers. The loop
-//! over a trace is in `items`, over what performs a scan (`performing`, which is a world that faults strike, `striking`) and what
-//! takes what comes of it (`taking`, which writes lines, or `counting`). `left` is what a call leaves behind.
+//! `checking`, `certifying`, `verifying`, `imaging`, `loading`, `demanding`, `running`, `voting`; `saying` writes short answers. The
+//! loop over a trace is in `items`, over what performs a scan (`performing`, which is a world of two channels that faults strike,
+//! `striking`, or one of three seats, `seats`) and what takes what comes of it (`taking`, which writes lines, or `counting`). `left` is
+//! what a call leaves behind.
 #![tactic(auto)]
 
 mod certifying;
@@ -19,9 +20,11 @@ mod performing;
 mod program;
 mod running;
 mod saying;
+mod seats;
 mod striking;
 mod taking;
 mod verifying;
+mod voting;
 
 pub use left::Left;
 pub use program::top;

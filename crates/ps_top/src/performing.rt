@@ -1,6 +1,6 @@
 // What performs the scans of a trace.
 
-ghost use Rattle.std.specs.Prelude.{◌≡◌, ◌≤◌, ℕ, length};
+ghost use Rattle.std.specs.Prelude.{◌≡◌, ◌≤◌, ℕ, OnOk, length};
 ghost use Rattle.ps_model.specs.Meaning.Item.{scan as scan_item, restart as restart_item};
 ghost use Rattle.ps_model.specs.Meaning.{Item};
 ghost use Rattle.ps_model.specs.Network.{Network, input_count, instance_count};
@@ -28,7 +28,7 @@ pub(crate) trait Performer {
     /// The item has this outcome, and leaves the second performer where the first one was.
     ghost performs: { Network → Self → Item → Outcome Self.Verdict → Self → Type 0 };
 
-    /// Performs a scan, and writes its report. A refusal ends the run: the scan was begun, and nothing is written of it.
+    /// Performs a scan, and writes its report. A refusal ends the run: the scan was begun and not closed, and nothing is written of it.
     fn perform_scan(
         &mut self,
         app: &App,
@@ -41,7 +41,7 @@ pub(crate) trait Performer {
         requires outputs { length report.old.outs ≡ length app.now.outputs }
         requires diagnoses { length report.old.diags ≡ instance_count app.now }
         ensures performs { performs app.now self.old (scan_item scan.entry.now.now scan.entry.now.ins) (outcome_of scan.entry.now.now report.new result) self.new }
-        ensures fits { fits app.now self.new }
+        ensures fits { OnOk result (fits app.now self.new) }
         ensures due { earliest self.new ≤ scan.entry.now.now }
         ensures outputs { length report.new.outs ≡ length app.now.outputs }
         ensures diagnoses { length report.new.diags ≡ instance_count app.now };

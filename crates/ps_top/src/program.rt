@@ -7,7 +7,7 @@ ghost use Rattle.ps_top.specs.Calls.{Answers, files_seen, output_seen};
 ghost use Rattle.ps_top.specs.Meets.{IsCut, AppendsAll, AppendsPart};
 ghost use Rattle.ps_top.specs.Program as program;
 ghost use Rattle.ps_words.specs.Command as asked;
-ghost use Rattle.ps_words.specs.Command.Command.{Run, NotTaken};
+ghost use Rattle.ps_words.specs.Command.Command.{Run, Vote, Heal, NotTaken};
 
 use crate::Status;
 use crate::certifying::cert;
@@ -19,6 +19,7 @@ use crate::loading::load;
 use crate::running::{fault, run};
 use crate::saying::say;
 use crate::verifying::verify;
+use crate::voting::{heal, vote};
 use ps_base::Memory;
 use ps_outside::{Files, Sink};
 use ps_words::{Command, USAGE, Words, command_of};
@@ -52,8 +53,8 @@ fn do_words<F: Files, S: Sink>(
         Command::Image { app } => image(alloc, app, files, out, left),
         Command::Load { number } => load(alloc, number, out, left),
         Command::Demand { app } => demand(alloc, app, files, out, left),
-        // `command_of` gives no command that the program does not have.
-        Command::Vote { .. } | Command::Heal { .. } => unreachable!(),
+        Command::Vote { app, trace, faults } => vote(alloc, app, trace, faults, files, out, left),
+        Command::Heal { app, trace, faults } => heal(alloc, app, trace, faults, files, out, left),
     }
 }
 
@@ -76,6 +77,10 @@ pub fn top<F: Files, S: Sink>(
 
     // A run without faults never trips.
     ensures quiet { IsTrue (F.tells files.old) → (app trace : List ℕ) → asked.command_of words.now ≡ Run app trace → result ≢ Status.Tripped }
+
+    // Three seats never trip.
+    ensures untripped { IsTrue (F.tells files.old) → (app trace faults : List ℕ) →
+        (asked.command_of words.now ≡ Vote app trace faults) ⊎ (asked.command_of words.now ≡ Heal app trace faults) → result ≢ Status.Tripped }
 
     // One that was cut short appends a beginning of it, and where memory is wanting nothing.
     ensures stopped { IsTrue (F.tells files.old) → result ≡ Status.WriteFault →

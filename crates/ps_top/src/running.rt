@@ -172,7 +172,7 @@ fn run_quietly<F: Files, S: Sink>(
 }
 
 // Says why a fault file gives no faults.
-fn refuse_faults<S: Sink>(out: &mut S, why: TraceFail) -> Status
+pub(crate) fn refuse_faults<S: Sink>(out: &mut S, why: TraceFail) -> Status
     ensures says { SaysNoFaults why (output_seen S.tells S.taken S.faults out.old) (output_seen S.tells S.taken S.faults out.new) result }
     ensures no_usage { result ≢ Status.Usage }
 {

@@ -1,8 +1,7 @@
-// A world of two channels that the faults of a list strike.
+// A world of two channels that the faults of a list strike, and what is common to the faults of such lists.
 
-ghost use Rattle.std.specs.Prelude.{◌≡◌, ◌⊎◌, ◌≤◌, ◌<◌, suc, All, [], take, drop, length, IfOk};
+ghost use Rattle.std.specs.Prelude.{◌≡◌, ◌⊎◌, ◌≤◌, ◌<◌, ℕ, suc, All, [], take, drop, length, IfOk};
 ghost use Rattle.std.specs.List.Sorted.{IsNonDecreasingBy};
-ghost use Rattle.ps_model.specs.declared.channel.Fault.{Fault};
 ghost use Rattle.ps_model.specs.Network.{Network, input_count, instance_count};
 ghost use Rattle.ps_trace.specs.FaultOrder.{AreInOrder, AreOfOneChannel};
 ghost use Rattle.ps_world.specs.Whole.{IsWorldOf};
@@ -10,6 +9,7 @@ ghost use Rattle.ps_top.specs.Performing.{trips_with};
 
 use ps_model::{App, Fault, Report, Scan, Verdict};
 use ps_trace::Faults;
+use ps_vote::VoteFault;
 use ps_world::World;
 
 /// A world of two channels, with the faults of a run and how far the run has come.
@@ -26,32 +26,59 @@ pub(crate) struct StruckWorld {
     pub(crate) tripped: bool,
 }
 
+// A fault of a list, which strikes in one scan of a run.
+pub(crate) trait Strikes {
+    // The number of that scan.
+    ghost in_scan: { Self → ℕ };
+
+    // The number of that scan, counted from 1.
+    fn scan(&self) -> u32
+        ensures { result ≡ in_scan self.now };
+}
+
+impl Strikes for Fault {
+    ghost in_scan = { λ f. f.scan };
+
+    fn scan(&self) -> u32 {
+        self.scan
+    }
+}
+
+impl Strikes for VoteFault {
+    ghost in_scan = { λ f. f.scan };
+
+    fn scan(&self) -> u32 {
+        self.scan
+    }
+}
+
 // How many of these faults, which come in order, are of this scan or an earlier one: they stand first.
-fn count_upto(faults: &[Fault], scan: u32) -> usize
-    requires { IsNonDecreasingBy (λ (f : Fault). f.scan) faults.now }
+pub(crate) fn count_upto<F: Strikes>(faults: &[F], scan: u32) -> usize
+    requires { IsNonDecreasingBy F.in_scan faults.now }
     ensures within { result ≤ length faults.now }
-    ensures upto { All (λ f. f.scan ≤ scan) (take result faults.now) }
-    ensures later { All (λ f. scan < f.scan) (drop result faults.now) }
+    ensures upto { All (λ f. F.in_scan f ≤ scan) (take result faults.now) }
+    ensures later { All (λ f. scan < F.in_scan f) (drop result faults.now) }
 {
-    faults.partition_point(|fault| fault.scan <= scan)
+    faults.partition_point(|fault| fault.scan() <= scan)
 }
 
 // The number of the scan behind so many, counted while faults are still to come.
-fn number_behind(scans: u32, faults: &[Fault]) -> u32
-    requires { All (λ f. scans < f.scan) faults.now }
+pub(crate) fn number_behind<F: Strikes>(scans: u32, faults: &[F]) -> u32
+    requires { All (λ f. scans < F.in_scan f) faults.now }
     ensures { (faults.now ≡ []) ⊎ (result ≡ suc scans) }
 {
     match faults {
         [] => scans,
         [first, ..] => {
-            prove!(scans < first.scan);
+            let next = first.scan();
+            prove!(scans < next);
             scans + 1
         }
     }
 }
 
 // The faults from a place on.
-fn faults_from(faults: &[Fault], place: usize) -> &[Fault]
+pub(crate) fn faults_from<F>(faults: &[F], place: usize) -> &[F]
     requires { place ≤ length faults.now }
     ensures { result.now ≡ drop place faults.now }
 {

@@ -1,15 +1,17 @@
 // What takes what comes of each item of a trace.
 
-ghost use Rattle.std.specs.Prelude.{◌≡◌, ◌≤◌, ℕ, List, IsTrue, OnOk, OnErr, length, ⊤};
+ghost use Rattle.std.specs.Prelude.{◌≡◌, ◌≤◌, ◌<◌, ◌^◌, ◌+◌, ◌++◌, ℕ, List, IsTrue, OnOk, OnErr, codes, length, ⊤};
 ghost use Rattle.ps_model.specs.Network.{Network, instance_count};
 ghost use Rattle.ps_outside.specs.Outside.{Rose};
 ghost use Rattle.ps_report.specs.Lines.{line_room};
-ghost use Rattle.ps_top.specs.Outcomes.{Outcome, performed, anew, outcome_line};
+ghost use Rattle.ps_top.specs.Lines.{outvoted_line, seat_letter};
+ghost use Rattle.ps_top.specs.Outcomes.{Outcome, performed, anew, outcome_line, vote_lines, IsTold};
 ghost use Rattle.ps_top.specs.Written.{IsWritten};
 
 use ps_model::{App, Report, Verdict};
 use ps_outside::{Sink, Stopped, write_all};
-use ps_report::LineBuffer;
+use ps_report::{LineBuffer, ShortLine};
+use ps_vote::{Seat, Vote};
 
 /// What takes the time, the verdict and the report of each scan, and is told of each restart. It may write of them.
 ///
@@ -78,6 +80,75 @@ impl Taker<Verdict> for LineBuffer {
             Verdict::Released => write_all(out, self.report_line(app, now, report)),
             Verdict::Tripped(cause) => write_all(out, self.trip_line(app, now, Some(cause))),
             Verdict::Down => write_all(out, self.trip_line(app, now, None)),
+        }
+    }
+
+    fn take_restart<S: Sink>(&mut self, _app: &App, out: &mut S) -> Result<(), Stopped> {
+        write_all(out, b"restart\n")
+    }
+}
+
+// A seat's letter.
+fn letter(seat: Seat) -> &'static str
+    ensures letter { result.now ≡ seat_letter seat }
+    ensures len { length result.now ≡ 1 }
+{
+    match seat {
+        Seat::A => "A",
+        Seat::B => "B",
+        Seat::C => "C",
+    }
+}
+
+// The line of a scan that outvotes a seat, as `20 OUTVOTED A`.
+fn outvoted_line(now: u32, seat: Seat) -> ShortLine
+    ensures { result ≡ outvoted_line now seat }
+{
+    let mut line = ShortLine::of("");
+    line.put_count(now);
+    line.put(" OUTVOTED ");
+    line.put(letter(seat));
+    line.put("\n");
+    line
+}
+
+// Writes two lines, one after the other, each by one `write_all`.
+fn write_both<S: Sink>(out: &mut S, first: &[u8], second: &[u8]) -> Result<(), Stopped>
+    requires { length first.now + length second.now < 2 ^ 64 }
+    ensures written { IsTrue (S.tells out.old) → IsWritten result (first.now ++ second.now) (S.taken out.old) (S.taken out.new) }
+    ensures stopped { OnErr result (Rose (S.faults out.old) (S.faults out.new)) }
+    ensures counts { S.faults out.old ≤ S.faults out.new }
+    ensures telling { S.tells out.new ≡ S.tells out.old }
+{
+    write_all(out, first)?;
+    match write_all(out, second) {
+        Ok(()) => Ok(()),
+        Err(stop) => Err(Stopped {
+            taken: first.len() + stop.taken,
+        }),
+    }
+}
+
+/// The lines of a run of three seats: one for each item, and behind that of a scan which outvotes a seat one more.
+impl Taker<Vote> for LineBuffer {
+    ghost fits = { λ net room. line_room net ≤ room };
+
+    ghost said = { vote_lines };
+
+    ghost takes = { λ _ outcome _. IsTold outcome };
+
+    fn take_scan<S: Sink>(
+        &mut self,
+        app: &App,
+        now: u32,
+        vote: Vote,
+        report: &Report,
+        out: &mut S,
+    ) -> Result<(), Stopped> {
+        let line = self.report_line(app, now, report);
+        match vote {
+            Vote::Two(seat) => write_both(out, line, outvoted_line(now, seat).as_slice()),
+            Vote::All | Vote::Split => write_all(out, line),
         }
     }
 

@@ -30,7 +30,7 @@ pub(crate) enum Judgement {
 }
 
 // A refusal by a rule at a line.
-fn at_line(rule: Rule, line: u32) -> Refusal
+pub(crate) fn at_line(rule: Rule, line: u32) -> Refusal
     ensures { result ≡ record { rule = rule; place = record { line = line; column = 0 } } }
 {
     Refusal {

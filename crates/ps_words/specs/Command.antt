@@ -68,23 +68,9 @@ form_of (name ∷ app ∷ other ∷ []) = two_words name app other
 form_of (name ∷ app ∷ trace ∷ faults ∷ []) = three_words name app trace faults
 form_of words = NotTaken
 
--- the program has this command
-abbrev pub is_built : Command → Bool
-is_built (Run app trace) = true
-is_built (Fault app trace faults) = true
-is_built (Check app) = true
-is_built (Cert app) = true
-is_built (Verify app cert) = true
-is_built (Image app) = true
-is_built (Load number) = true
-is_built (Demand app) = true
-is_built (Vote app trace faults) = false
-is_built (Heal app trace faults) = false
-is_built NotTaken = true
-
--- Words are taken where none is empty or begins with a hyphen, and they have the form of a command that the program has.
+-- Words are taken where none is empty or begins with a hyphen, and they have the form of a command.
 abbrev pub command_of : List (List ℕ) → Command
-command_of words = if list_all is_plain words && is_built (form_of words) then form_of words else NotTaken
+command_of words = if list_all is_plain words then form_of words else NotTaken
 
 -- the number of a load is from 1 to 1000
 abbrev pub IsBounded : Command → Type 0
@@ -105,6 +91,6 @@ names_of (Vote app trace faults) = app ∷ faults ∷ trace ∷ []
 names_of (Heal app trace faults) = app ∷ faults ∷ trace ∷ []
 names_of NotTaken = []
 
--- the forms of the commands that the program has
+-- the forms of the commands
 abbrev pub usage_line : List ℕ
-usage_line = codes "usage: plcsafe run APP TRACE | fault APP TRACE FAULTS | check APP | cert APP | verify APP CERT | image APP | load N | demand APP\n"
+usage_line = codes "usage: plcsafe run APP TRACE | fault APP TRACE FAULTS | check APP | cert APP | verify APP CERT | image APP | load N | demand APP | vote APP TRACE FAULTS | heal APP TRACE FAULTS\n"

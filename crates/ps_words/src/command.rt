@@ -10,9 +10,9 @@ use crate::words::Words;
 use ps_base::Memory;
 use std::alloc::Global;
 
-/// The forms of the commands that the program has, as one line.
+/// The forms of the commands, as one line.
 pub const USAGE: &[u8] =
-    b"usage: plcsafe run APP TRACE | fault APP TRACE FAULTS | check APP | cert APP | verify APP CERT | image APP | load N | demand APP\n";
+    b"usage: plcsafe run APP TRACE | fault APP TRACE FAULTS | check APP | cert APP | verify APP CERT | image APP | load N | demand APP | vote APP TRACE FAULTS | heal APP TRACE FAULTS\n";
 
 /// What the words ask of the program.
 #[derive(Clone, Copy)]
@@ -67,26 +67,6 @@ pub enum Command<'a> {
     },
     /// The words are not taken.
     NotTaken,
-}
-
-impl<'a> Command<'a> {
-    // Whether the program has this command.
-    fn is_built(&self) -> bool
-        ensures { result ≡ asked.is_built (command_seen self.now) }
-    {
-        match self {
-            Command::Run { .. }
-            | Command::Fault { .. }
-            | Command::Check { .. }
-            | Command::Cert { .. }
-            | Command::Verify { .. }
-            | Command::Image { .. }
-            | Command::Load { .. }
-            | Command::Demand { .. }
-            | Command::NotTaken => true,
-            Command::Vote { .. } | Command::Heal { .. } => false,
-        }
-    }
 }
 
 // Whether a word is neither empty nor begins with a hyphen.
@@ -210,12 +190,10 @@ fn form_of<'a>(words: &[&'a str]) -> Command<'a>
     }
 }
 
-/// What the words ask of the program. `NotTaken` comes exactly where the words are no command that the program has with
-/// its further words, each neither empty nor beginning with a hyphen. The words are read by `clap`; an error: memory is
-/// wanting.
+/// What the words ask of the program. `NotTaken` comes exactly where the words are no command with its further words, each
+/// neither empty nor beginning with a hyphen. The words are read by `clap`; an error: memory is wanting.
 pub fn command_of(alloc: Global, words: &Words) -> Result<Command<'_>, Memory>
     ensures asked { IfOk result (λ command. command_seen command ≡ asked.command_of words.now) }
-    ensures built { IfOk result (λ command. asked.is_built (command_seen command) ≡ true) }
     ensures bounded { IfOk result (λ command. asked.IsBounded (command_seen command)) }
 {
     let Some(texts) = plain_texts(alloc, words)? else {
@@ -224,10 +202,5 @@ pub fn command_of(alloc: Global, words: &Words) -> Result<Command<'_>, Memory>
     if !is_parsed(alloc, texts.as_slice())? {
         return Ok(Command::NotTaken);
     }
-    let command = form_of(texts.as_slice());
-    if command.is_built() {
-        Ok(command)
-    } else {
-        Ok(Command::NotTaken)
-    }
+    Ok(form_of(texts.as_slice()))
 }

@@ -1,6 +1,6 @@
 use Rattle.std.proofs.Common.{◌∙◌, [], sym, ap, arith}
 use Rattle.ps_words.specs.Command.{usage_line}
-use Rattle.ps_words.specs.Command.Command.{Run, Fault, Check, Cert, Verify, Image, Load, Demand, NotTaken}
+use Rattle.ps_words.specs.Command.Command.{Run, Fault, Check, Cert, Verify, Image, Load, Demand, Vote, Heal, NotTaken}
 use Rattle.ps_words.specs.Seen.{command_seen}
 use Rattle.ps_top.specs.Program.{answer}
 use Rattle.ps_top.specs.declared.Status.TheVariants.{Usage}
@@ -44,3 +44,11 @@ returns-in-Image-clause-answers g c =
 pub returns-in-Load-clause-answers : goal.returns-in-Load-clause-answers
 returns-in-Load-clause-answers g c =
     words_answer c.args.words.now (Load c.in-Load.number) _ _ _ _ _ c.load.result (sym (ap command_seen c.in-Load.is) ∙ c.in-Ok.ensures.asked) (c.load.ensures.answers _)
+
+pub returns-in-Vote-clause-answers : goal.returns-in-Vote-clause-answers
+returns-in-Vote-clause-answers g c =
+    words_answer c.args.words.now (Vote c.in-Vote.app.now c.in-Vote.trace.now c.in-Vote.faults.now) _ _ _ _ _ c.vote.result (sym (ap command_seen c.in-Vote.is) ∙ c.in-Ok.ensures.asked) c.vote.ensures.answers
+
+pub returns-in-Heal-clause-answers : goal.returns-in-Heal-clause-answers
+returns-in-Heal-clause-answers g c =
+    words_answer c.args.words.now (Heal c.in-Heal.app.now c.in-Heal.trace.now c.in-Heal.faults.now) _ _ _ _ _ c.heal.result (sym (ap command_seen c.in-Heal.is) ∙ c.in-Ok.ensures.asked) c.heal.ensures.answers

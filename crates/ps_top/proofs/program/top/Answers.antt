@@ -1,11 +1,11 @@
-use Rattle.std.proofs.Common.{◌∙◌, sym, subst, ⊎_elim, inl, inr}
+use Rattle.std.proofs.Common.{◌∙◌, true, false, sym, subst, ⊎_elim, inl, inr}
 use Rattle.ps_words.specs.Command.{Command}
 use Rattle.ps_top.specs.Asking.{IsAnswer}
 use Rattle.ps_top.specs.Meets.{IsCut}
 use Rattle.ps_top.specs.Program as program
 use Rattle.ps_top.proofs.Completing.{all_said, not_cut_tripped, nothing_said}
 use Rattle.ps_top.proofs.OneAnswer.{not_held_none}
-use Rattle.ps_top.proofs.Quiet.{never_tripped}
+use Rattle.ps_top.proofs.Quiet.{never_tripped, votes_never_trip}
 use Rattle.ps_top.proofs.program.top.Goals as goal
 
 pub returns-clause-status : goal.returns-clause-status
@@ -19,6 +19,15 @@ returns-clause-quiet g c = λ tells app trace asks tripped.
     let held = g.F.Files.held c.args.files.now in
     let all = (c.do_words.ensures.answers.meets tells).gives.whole (λ cut. not_cut_tripped (subst IsCut tripped cut)) in
     never_tripped app trace held all.answer (subst (λ (command : Command). IsAnswer (program.said command) held all.answer) asks all.right) (sym all.ended ∙ tripped)
+
+pub returns-clause-untripped : goal.returns-clause-untripped
+returns-clause-untripped g c = λ tells app trace faults asks tripped.
+    let held = g.F.Files.held c.args.files.now in
+    let all = (c.do_words.ensures.answers.meets tells).gives.whole (λ cut. not_cut_tripped (subst IsCut tripped cut)) in
+    ⊎_elim
+    (λ is. votes_never_trip false app trace faults held all.answer (subst (λ (command : Command). IsAnswer (program.said command) held all.answer) is all.right) (sym all.ended ∙ tripped))
+    (λ is. votes_never_trip true app trace faults held all.answer (subst (λ (command : Command). IsAnswer (program.said command) held all.answer) is all.right) (sym all.ended ∙ tripped))
+    asks
 
 pub returns-clause-stopped : goal.returns-clause-stopped
 returns-clause-stopped g c = λ tells. (c.do_words.ensures.answers.meets tells).gives.stopped

@@ -38,7 +38,7 @@ returns-in-Ok-clause-answers g c =
     (record { counts = c.in-Ok.ensures.counts; held = c.in-Ok.ensures.kept; telling = c.in-Ok.ensures.telling })
     (λ tells.
     let found = some_of (held name) (c.in-Ok.ensures.found tells tt) in
-    faults_on w.setup name found.0 next struck held left status found.1
+    faults_on (λ text. faults_of text (region_sizes w.setup)) name next found.0 struck held left status found.1
     (ap (faults_of found.0) (sym same) ∙ c.in-Ok.ensures.gives tells found.0 found.1))
     behind
 
@@ -50,10 +50,10 @@ returns-in-Err-clause-answers g c =
     let first = files_seen g.F.Files.tells g.F.Files.held g.F.Files.faults c.args.files.now in
     let last = files_seen g.F.Files.tells g.F.Files.held g.F.Files.faults c.read_faults.new.files in
     let same : c.sizes-sizes.result ≡ region_sizes w.setup = c.sizes-sizes.ensures ∙ sizes_at_first w c.requires.first in
-    no_faults_answers w.setup name (λ list. run_named c.args.app.now w.setup list c.args.trace.now) (c.args.trace.now ∷ []) first last
+    no_faults_answers (λ text. faults_of text (region_sizes w.setup)) name (λ list. run_named c.args.app.now w.setup list c.args.trace.now) (c.args.trace.now ∷ []) first last
     (output_seen g.S.Sink.tells g.S.Sink.taken g.S.Sink.faults c.args.out.now) (output_seen g.S.Sink.tells g.S.Sink.taken g.S.Sink.faults c.refuse_faults.new.out) c.args.left.now c.refuse_faults.result c.in-Err.why
     (record { counts = c.read_faults.ensures.counts; held = c.read_faults.ensures.kept; telling = c.read_faults.ensures.telling })
-    (λ tells. unfound w.setup name first c.in-Err.why (λ refusal e.
+    (λ tells. unfound (λ text. faults_of text (region_sizes w.setup)) name first c.in-Err.why (λ refusal e.
     let is = c.in-Err.is ∙ ap Err e in
     let found = some_of (held name) (c.read_faults.ensures.found tells (subst (λ (r : Result Faults TraceFail). IsRead r) (sym is) tt)) in
     (found.0, found.1, ap (λ (s : ImageSizes). (faults_of found.0 s).refusal) (sym same) ∙ c.read_faults.ensures.refuses tells found.0 found.1 refusal is)))

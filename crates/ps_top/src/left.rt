@@ -1,7 +1,18 @@
 // What a call leaves behind.
 
+use ps_base::Refusal;
 use ps_checker::Checked;
+use ps_model::Cause;
 use ps_world::World;
+
+/// A scan that tripped.
+#[derive(Clone, Copy, Debug, PartialEq, Eq)]
+pub struct Trip {
+    /// Its time in ms.
+    pub now: u32,
+    /// Why it tripped.
+    pub cause: Cause,
+}
 
 /// What a call of the program worked with, for the caller to look at.
 #[derive(Drop)]
@@ -10,6 +21,10 @@ pub struct Left {
     pub checked: Option<Checked>,
     /// The world of two channels that a run ended with.
     pub world: Option<World>,
+    /// The refusal that was said, where the call refuses a text.
+    pub refusal: Option<Refusal>,
+    /// The first scan that tripped, where one did.
+    pub trip: Option<Trip>,
 }
 
 impl Left {
@@ -19,10 +34,14 @@ impl Left {
     pub fn new() -> Left
         ensures checked { result.checked ≡ None }
         ensures world { result.world ≡ None }
+        ensures refusal { result.refusal ≡ None }
+        ensures trip { result.trip ≡ None }
     {
         Left {
             checked: None,
             world: None,
+            refusal: None,
+            trip: None,
         }
     }
 }

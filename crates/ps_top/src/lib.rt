@@ -23,7 +23,7 @@ mod striking;
 mod taking;
 mod verifying;
 
-pub use left::Left;
+pub use left::{Left, Trip};
 pub use program::top;
 pub use ps_words::Words;
 

@@ -8,6 +8,7 @@ ghost use Rattle.ps_trace.specs.FaultOrder.{AreInOrder, AreOfOneChannel};
 ghost use Rattle.ps_world.specs.Whole.{IsWorldOf};
 ghost use Rattle.ps_top.specs.Performing.{trips_with};
 
+use crate::left::Trip;
 use ps_model::{App, Fault, Report, Scan, Verdict};
 use ps_trace::Faults;
 use ps_world::World;
@@ -24,6 +25,8 @@ pub(crate) struct StruckWorld {
     pub(crate) scans: u32,
     // whether a scan tripped, in the whole run
     pub(crate) tripped: bool,
+    // the first scan that tripped
+    pub(crate) trip: Option<Trip>,
 }
 
 // How many of these faults, which come in order, are of this scan or an earlier one: they stand first.
@@ -65,6 +68,14 @@ fn is_trip(verdict: Verdict) -> bool
     matches!(verdict, Verdict::Tripped(_))
 }
 
+// The first scan that tripped, behind a scan at this time with this verdict.
+fn first_trip(before: Option<Trip>, now: u32, verdict: Verdict) -> Option<Trip> {
+    match (before, verdict) {
+        (None, Verdict::Tripped(cause)) => Some(Trip { now, cause }),
+        _ => before,
+    }
+}
+
 impl StruckWorld {
     ghost use Rattle.ps_top.specs.Outcomes.{performed};
     ghost use Rattle.ps_top.specs.Performing.{IsStruckWorldFor, MakesScan};
@@ -86,6 +97,7 @@ impl StruckWorld {
             next,
             scans: 0,
             tripped: false,
+            trip: None,
         }
     }
 
@@ -109,6 +121,7 @@ impl StruckWorld {
         self.scans = number;
         self.next += due;
         self.tripped |= is_trip(verdict);
+        self.trip = first_trip(self.trip, scan.now, verdict);
         verdict
     }
 }

@@ -10,7 +10,7 @@ use Rattle.ps_base.specs.declared.failing.Place.{Place}
 use Rattle.ps_message.specs.declared.advice.Advice.{Advice}
 use Rattle.ps_message.specs.Shown.{is_printable, shown_byte, shown, dots, first_shown, last_shown}
 use Rattle.ps_message.specs.Quoted.{line_of, before, behind, is_of_name, name_at, window, caret, quoted}
-use Rattle.ps_message.specs.Message.{heading, reason, remedy, message_text, is_short, IsEnded}
+use Rattle.ps_message.specs.Message.{heading, reason, further, remedy, message_text, is_short, IsEnded}
 
 -- no part of an advice is long
 pub record IsShort (advice : Advice) : Type 0 where
@@ -116,20 +116,28 @@ remedy-size help name h n = simp length-append (omega arith)
 length-remedy : (advice : Advice) → IsShort advice → length (remedy advice) ≤ 225
 length-remedy advice short = remedy-size advice.remedy.now advice.name.now short.remedy short.name
 
+-- further words
+further-size : (n : ℕ) (shown : List ℕ) → length shown ≤ 803 → length (if n == 0 then [] else shown ++ codes "\n") ≤ 804
+further-size n shown few =
+    elim (n == 0) as (λ v. length (if v then [] else shown ++ codes "\n") ≤ 804) [ true ↦ lit≤ tt | false ↦ omega (arith, length-append shown (codes "\n")) ]
+
+length-further : (words : List ℕ) → length (further words) ≤ 804
+length-further words = further-size (length words) (first_shown 200 words) (length-first_shown 200 words)
+
 -- the parts of a message
-message-size : (heading reason quoted remedy : List ℕ) → length heading ≤ 1052 → length reason ≤ 264 → length quoted ≤ 580 → length remedy ≤ 225 →
-    length (heading ++ reason ++ codes "\n" ++ quoted ++ remedy) ≤ 2200
-message-size heading reason quoted remedy h r q m = simp length-append (omega arith)
+message-size : (heading reason quoted words remedy : List ℕ) → length heading ≤ 1052 → length reason ≤ 264 → length quoted ≤ 580 → length words ≤ 804 →
+    length remedy ≤ 225 → length (heading ++ reason ++ codes "\n" ++ quoted ++ words ++ remedy) ≤ 3000
+message-size heading reason quoted words remedy h r q w m = simp length-append (omega arith)
 
 -- a message is short
-pub length-message : (advice : Advice) (file text : List ℕ) (place : Place) → IsShort advice → place.line < 2 ^ 32 → place.column < 2 ^ 32 →
-    length (message_text advice file text place) ≤ 2200
-length-message advice file text place short line column =
+pub length-message : (advice : Advice) (words file text : List ℕ) (place : Place) → IsShort advice → place.line < 2 ^ 32 → place.column < 2 ^ 32 →
+    length (message_text advice words file text place) ≤ 3000
+length-message advice words file text place short line column =
     let here : List ℕ = line_of text place.line in
-    message-size (heading file place advice) (reason advice (name_at (behind here place.column))) (quoted here place.column) (remedy advice)
+    message-size (heading file place advice) (reason advice (name_at (behind here place.column))) (quoted here place.column) (further words) (remedy advice)
     (length-heading file place advice short line column)
     (length-reason advice (name_at (behind here place.column)) short (length-name_at (behind here place.column)))
-    (length-quoted here place.column) (length-remedy advice short)
+    (length-quoted here place.column) (length-further words) (length-remedy advice short)
 
 -- a text that ends with a reference ends with a line feed
 ends : (body help start name : List ℕ) →
@@ -137,10 +145,10 @@ ends : (body help start name : List ℕ) →
 ends body help start name = simp append_assoc
 
 -- a message ends with a line feed
-pub message-ended : (advice : Advice) (file text : List ℕ) (place : Place) → IsEnded (message_text advice file text place)
-message-ended advice file text place =
+pub message-ended : (advice : Advice) (words file text : List ℕ) (place : Place) → IsEnded (message_text advice words file text place)
+message-ended advice words file text place =
     let here : List ℕ = line_of text place.line in
-    let body : List ℕ = heading file place advice ++ reason advice (name_at (behind here place.column)) ++ codes "\n" ++ quoted here place.column in (
+    let body : List ℕ = heading file place advice ++ reason advice (name_at (behind here place.column)) ++ codes "\n" ++ quoted here place.column ++ further words in (
       body ++ (advice.remedy.now ++ (codes " (docs/refusals.md, " ++ advice.name.now ++ codes ")")),
       ends body advice.remedy.now (codes " (docs/refusals.md, ") advice.name.now,
     )

@@ -1,3 +1,4 @@
 pub mod Shown
 pub mod Quoted
 pub mod Message
+pub mod Ending

@@ -5,7 +5,7 @@ use Rattle.ps_base.specs.declared.failing.Place.{Place}
 use Rattle.ps_base.specs.declared.failing.Refusal.{Refusal}
 use Rattle.ps_report.specs.Short.{rule_text}
 use Rattle.ps_message.specs.declared.advice.Advice.{Advice}
-use Rattle.ps_message.specs.Shown.{last_shown}
+use Rattle.ps_message.specs.Shown.{first_shown, last_shown}
 use Rattle.ps_message.specs.Quoted.{line_of, behind, name_at, quoted}
 
 -- where the refusal is and by which rule, as `motor.st:4:15: N2: `; of a longer name of a file the last 255 bytes
@@ -27,25 +27,34 @@ reference advice = codes " (docs/refusals.md, " ++ advice.name.now ++ codes ")\n
 abbrev pub remedy : Advice → List ℕ
 remedy advice = advice.remedy.now ++ reference advice
 
--- the whole message: where, what is wrong, the line with a caret, and what helps
-abbrev pub message_text : Advice → (file text : List ℕ) → Place → List ℕ
-message_text advice file text place =
+-- further words in a line of their own, of which the first 200 bytes are shown, or nothing where there are none
+abbrev pub further : List ℕ → List ℕ
+further words = if length words == 0 then [] else first_shown 200 words ++ codes "\n"
+
+-- the whole message: where, what is wrong, the line with a caret, further words, and what helps
+abbrev pub message_text : Advice → (further_words file text : List ℕ) → Place → List ℕ
+message_text advice further_words file text place =
     let line = line_of text place.line in
-    heading file place advice ++ reason advice (name_at (behind line place.column)) ++ codes "\n" ++ quoted line place.column ++ remedy advice
+    heading file place advice ++ reason advice (name_at (behind line place.column)) ++ codes "\n" ++ quoted line place.column ++ further further_words
+    ++ remedy advice
 
 -- an advice goes by the name of its rule
 abbrev pub IsOf : Rule → Advice → Type 0
 IsOf rule advice = advice.name.now ≡ rule_text rule
 
+-- at most so many bytes
+abbrev pub are_few : ℕ → List ℕ → Bool
+are_few most bytes = nat_le (length bytes) most
+
 -- no part of an advice is long
 abbrev pub is_short : Advice → Bool
 is_short advice =
-    nat_le (length advice.name.now) 3 && nat_le (length advice.sentence.now) 200 && nat_le (length advice.of_name.now) 200
-    && nat_le (length advice.remedy.now) 200
+    are_few 3 advice.name.now && are_few 200 advice.sentence.now && are_few 200 advice.of_name.now && are_few 200 advice.remedy.now
 
--- these bytes are the message of a refusal, with an advice on its rule
+-- these bytes are the message of a refusal, with an advice on its rule and further words
 abbrev pub Says : (file text : List ℕ) → Refusal → List ℕ → Type 0
-Says file text refusal bytes = (advice : Advice) × IsOf refusal.rule advice × (bytes ≡ message_text advice file text refusal.place)
+Says file text refusal bytes =
+    (advice : Advice) × IsOf refusal.rule advice × (words : List ℕ) × (bytes ≡ message_text advice words file text refusal.place)
 
 -- the last byte is a line feed
 abbrev pub IsEnded : List ℕ → Type 0

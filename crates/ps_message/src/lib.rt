@@ -8,16 +8,21 @@
 //! declare it in VAR_INPUT, VAR_OUTPUT or VAR, or spell it as it is declared (docs/refusals.md, N2)
 //! ```
 //!
-//! - `advice`: the table of what is said of each rule.
+//! - `advice`: the table of what is said of each rule; `hints`: what is said instead where bytes of another language, or of another
+//!   kind of text, stand at the place.
 //! - `shown`: bytes that a user wrote, as a terminal may take them.
 //! - `quoted`: the line of a place, a window on it, and the caret.
-//! - `writing`: the whole message.
+//! - `further`: a second line of the text that a refusal rests on. `writing`: the whole message. `statuses`: the messages of calls that end without a refusal.
 #![tactic(auto)]
 
 pub mod advice;
+mod further;
+mod hints;
 mod quoted;
 mod shown;
+mod statuses;
 mod writing;
 
 pub use advice::{Advice, advice_on};
+pub use statuses::{NO_MEMORY, NOT_TAKEN, UNWRITTEN, Unread, trip_message, unread_message};
 pub use writing::{LONGEST_MESSAGE, message};

@@ -1,24 +1,29 @@
 // The whole message.
 
-ghost use Rattle.std.specs.Prelude.{◌≡◌, ◌<◌, ◌≤◌, ◌^◌, ◌++◌, codes, decimal, length, IfOk, OnOk};
-ghost use Rattle.ps_message.specs.Message.{heading, reason, reference, remedy, message_text, Says, IsEnded};
+ghost use Rattle.std.specs.Prelude.{◌≡◌, ◌<◌, ◌≤◌, ◌^◌, ◌++◌, codes, decimal, length, IfOk, IsTrue, OnOk};
+ghost use Rattle.ps_message.specs.Message.{further, heading, reason, reference, remedy, message_text, IsOf, Says, IsEnded, is_short};
 ghost use Rattle.ps_message.specs.Quoted.{line_of, behind, name_at, quoted};
 
 use crate::advice::{Advice, advice_on};
+use crate::further::further_on;
+use crate::hints::advice_at;
 use crate::quoted::{add_quoted, cut_at, line_at, name_of};
-use crate::shown::add_last;
+use crate::shown::{add_first, add_last};
 use itoa::Buffer;
-use ps_base::{Bytes, Memory, Place, Refusal};
+use ps_base::{Bytes, Memory, Place, Refusal, Rule};
 use std::alloc::Global;
 
 /// The most bytes of a message.
-pub const LONGEST_MESSAGE: usize = 2_200;
+pub const LONGEST_MESSAGE: usize = 3_000;
 
 // The most bytes of a file's name that are shown.
-const MOST_OF_FILE: usize = 255;
+pub(crate) const MOST_OF_FILE: usize = 255;
+
+// The most bytes of further words that are shown.
+const MOST_FURTHER: usize = 200;
 
 // A mark and a number at the end of a message.
-fn add_number(message: &mut Bytes, mark: &[u8], number: u32) -> Result<(), Memory>
+pub(crate) fn add_number(message: &mut Bytes, mark: &[u8], number: u32) -> Result<(), Memory>
     ensures { OnOk result (message.new ≡ message.old ++ mark.now ++ decimal number) }
 {
     let mut digits = Buffer::new();
@@ -58,6 +63,17 @@ fn add_reason(message: &mut Bytes, advice: &Advice, name: &[u8]) -> Result<(), M
     message.extend_from_slice(b"\n")
 }
 
+// Further words in a line of their own, or nothing.
+fn add_further(message: &mut Bytes, words: &[u8]) -> Result<(), Memory>
+    ensures { OnOk result (message.new ≡ message.old ++ further words.now) }
+{
+    if words.is_empty() {
+        return Ok(());
+    }
+    add_first(message, words, MOST_FURTHER)?;
+    message.push(b'\n')
+}
+
 // Where more is said of the rule, and the end of the line.
 fn add_reference(message: &mut Bytes, advice: &Advice) -> Result<(), Memory>
     ensures { OnOk result (message.new ≡ message.old ++ reference advice.now) }
@@ -76,16 +92,17 @@ fn add_remedy(message: &mut Bytes, advice: &Advice) -> Result<(), Memory>
     add_reference(message, advice)
 }
 
-// The message with an advice, at a line and a column.
+// The message with an advice and further words, at a line and a column.
 fn written(
     alloc: Global,
     advice: &Advice,
+    words: &[u8],
     file: &[u8],
     text: &[u8],
     line: u32,
     column: u32,
 ) -> Result<Bytes, Memory>
-    ensures says { IfOk result (λ bytes. bytes ≡ message_text advice.now file.now text.now (record { line = line; column = column })) }
+    ensures says { IfOk result (λ bytes. bytes ≡ message_text advice.now words.now file.now text.now (record { line = line; column = column })) }
     ensures numbers { (line < 2 ^ 32) × (column < 2 ^ 32) }
 {
     let here = line_at(text, line);
@@ -94,24 +111,49 @@ fn written(
     add_heading(&mut message, file, &Place { line, column }, advice)?;
     add_reason(&mut message, advice, name_of(back))?;
     add_quoted(&mut message, here, column)?;
+    add_further(&mut message, words)?;
     add_remedy(&mut message, advice)?;
     Ok(message)
 }
 
+// What is said of a rule at a place in a text; of the rule alone where the text is empty.
+fn advice_of(rule: Rule, text: &[u8], place: &Place) -> Advice
+    ensures name { IsOf rule result }
+    ensures short { IsTrue (is_short result) }
+{
+    if text.is_empty() {
+        return advice_on(rule);
+    }
+    let (front, back) = cut_at(line_at(text, place.line), place.column);
+    advice_at(rule, place.line, front, back)
+}
+
 /// The message of a refusal of this text from a file of this name: where and by which rule, what is wrong, the line of the place
-/// with a caret under it, and what helps. Every byte of the file's name and of the line that is no printable ASCII character
+/// with a caret under it, and what helps. Where the bytes at the place tell what was meant, as a word of another language, the
+/// message speaks of that. Where the text could not be read it is empty here. Every byte of the file's name and of the line that is no printable ASCII character
 /// stands as an escape, as `\x1b`. Of a long name the last 255 bytes are shown, and of a line up to 40 bytes before the place
 /// and 60 from it on. A place with column 0 is a line alone, and has no caret; a line without bytes, or one that there is not,
-/// is not quoted. It takes memory for at most 2,200 bytes, however long the text is, and time linear in the text.
-pub fn message(alloc: Global, file: &[u8], text: &[u8], refusal: &Refusal) -> Result<Bytes, Memory>
+/// is not quoted. Below it stand further words: those that are given,
+/// or a second line that the refusal rests on, as the header of a trace. The message has at most
+/// `LONGEST_MESSAGE` bytes, however long the text is, and takes time linear in the text.
+pub fn message(
+    alloc: Global,
+    file: &[u8],
+    text: &[u8],
+    refusal: &Refusal,
+    words: &[u8],
+) -> Result<Bytes, Memory>
     ensures says { IfOk result (λ bytes. Says file.now text.now refusal.now bytes) }
     ensures bounded { IfOk result (λ bytes. length bytes ≤ LONGEST_MESSAGE) }
     ensures ended { IfOk result IsEnded }
 {
     let place = &refusal.place;
+    let advice = advice_of(refusal.rule, text, place);
+    let further = further_on(alloc, text, refusal, words)?;
     written(
         alloc,
-        &advice_on(refusal.rule),
+        &advice,
+        further.as_slice(),
         file,
         text,
         place.line,

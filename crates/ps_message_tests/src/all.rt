@@ -1,22 +1,109 @@
-// The test. A failed assertion names its rule.
+// The tests. A failed assertion names its rule and its text.
 
-use crate::rows::ROWS;
-use ps_base::{Place, Refusal};
-use ps_message::message;
+use crate::hints::HINTS;
+use crate::rows::{ROWS, Row};
+use ps_base::{Memory, Place, Refusal};
+use ps_message::{Unread, message, trip_message, unread_message};
+use ps_model::{Cause, Channel};
+use std::alloc::Global;
+use std::process::Abort;
 use std::test::Fail;
 
-#[test]
-fn each_rule_has_its_message(rt: HostRuntime) -> Result<(), Fail> {
-    for row in ROWS {
+/// Asserts the messages of rows.
+fn have_messages(rt: &impl Abort, alloc: Global, rows: &[Row]) -> Result<(), Memory> {
+    for row in rows {
         let refusal = Refusal {
             rule: row.rule,
             place: Place {
-                line: 2,
+                line: row.line,
                 column: row.column,
             },
         };
-        let said = message(rt.alloc(), b"a.st", row.text.as_bytes(), &refusal)?;
-        assert_eq!(rt; said.as_slice(), row.message.as_bytes(), "{:?}", row.rule);
+        let said = message(alloc, b"a.st", row.text.as_bytes(), &refusal, b"")?;
+        assert_eq!(rt;
+            said.as_slice(),
+            row.message.as_bytes(),
+            "{:?} {}",
+            row.rule,
+            row.text
+        );
+    }
+    Ok(())
+}
+
+#[test]
+fn each_rule_has_its_message(rt: HostRuntime) -> Result<(), Fail> {
+    have_messages(&rt, rt.alloc(), ROWS)?;
+    Ok(())
+}
+
+#[test]
+fn each_hint_has_its_message(rt: HostRuntime) -> Result<(), Fail> {
+    have_messages(&rt, rt.alloc(), HINTS)?;
+    Ok(())
+}
+
+/// A file that cannot be read, and its message.
+const UNREAD: &[(Unread, &str)] = &[
+    (
+        Unread::Missing,
+        "a.st: there is no file of this name\nlook at the spelling, the order of the words, and the folder in which plcsafe is called (docs/refusals.md)\n",
+    ),
+    (
+        Unread::Folder,
+        "a.st: this is a folder, and a file is asked\ngive the name of a file in it (docs/refusals.md)\n",
+    ),
+    (
+        Unread::Forbidden,
+        "a.st: the system does not let this user read the file\nchange its rights, or give a copy (docs/refusals.md)\n",
+    ),
+    (
+        Unread::Unplaced,
+        "a.st: this cannot be read at a place, as a file can: it is a pipe or a terminal\nwrite it into a file first; /dev/stdin serves where a file stands behind < (docs/refusals.md)\n",
+    ),
+    (
+        Unread::Failed,
+        "a.st: a read of the file failed\ncall plcsafe again; where it fails anew look at the disk (docs/refusals.md)\n",
+    ),
+];
+
+#[test]
+fn each_unread_file_has_its_message(rt: HostRuntime) -> Result<(), Fail> {
+    for (why, text) in UNREAD {
+        let said = unread_message(rt.alloc(), b"a.st", *why)?;
+        assert_eq!(rt; said.as_slice(), text.as_bytes(), "{why:?}");
+    }
+    Ok(())
+}
+
+/// A cause of a trip, and what the message says of it.
+const CAUSES: &[(Cause, &str)] = &[
+    (
+        Cause::Differ(3),
+        "the reports of the channels differ, first in field 3",
+    ),
+    (
+        Cause::Stuck(Channel::A),
+        "channel A did not end within its turns",
+    ),
+    (
+        Cause::Trap(Channel::B, 7),
+        "channel B was stopped by trap 7",
+    ),
+    (
+        Cause::NoReport(Channel::A),
+        "channel A holds no report in its memory",
+    ),
+];
+
+#[test]
+fn each_trip_has_its_message(rt: HostRuntime) -> Result<(), Fail> {
+    for (cause, words) in CAUSES {
+        let said = trip_message(rt.alloc(), b"a.trace", 800, *cause)?;
+        let text = format!(in rt.alloc();
+            "a.trace: the scan at 800 ms tripped: {words}\nevery output is FALSE from there up to the next restart (docs/traces.md, TRIP lines)\n"
+        )?;
+        assert_eq!(rt; said.as_slice(), text.as_bytes(), "{cause:?}");
     }
     Ok(())
 }

@@ -1,9 +1,15 @@
-//! Tests of the message of a refusal, by its public call: a wrong line of each rule, with the whole message.
+//! Tests of the messages, by their public calls: a wrong line of each rule, texts as people write them who mean something else,
+//! files that cannot be read, and trips, each with the whole message.
 //!
-//! - `rows`: the lines and their messages. `all`: the test, which is one, over the table.
+//! - `rows`: a line of each rule, and its message. `hints`: texts that mean something else. `all`: the tests, over the tables.
+//! - `details`: what the tokens of an application tell of a refusal.
 #![tactic(auto)]
 
 #[cfg(test)]
 mod all;
+#[cfg(test)]
+mod details;
+#[cfg(test)]
+mod hints;
 #[cfg(test)]
 mod rows;

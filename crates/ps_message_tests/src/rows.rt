@@ -1,13 +1,15 @@
-// A wrong line of each rule, and the whole message of its refusal.
+// A wrong line of each rule, and the whole message of its refusal, in the rule's own words.
 
 use ps_base::Rule;
 
-/// A refusal in the second line of a text, and its message.
+/// A refusal in a line of a text, and its message.
 pub struct Row {
     pub rule: Rule,
+    /// The line of the place.
+    pub line: u32,
     /// The column of the place, or 0 where the place is the line alone.
     pub column: u32,
-    /// The text; its second line has the place.
+    /// The text.
     pub text: &'static str,
     pub message: &'static str,
 }
@@ -16,17 +18,19 @@ pub struct Row {
 pub const ROWS: &[Row] = &[
     Row {
         rule: Rule::L1,
+        line: 2,
         column: 12,
-        text: "first\nS_O := S_1 + S_2;\nlast\n",
+        text: "first\nS_O := S_1 $ S_2;\nlast\n",
         message: "\
 a.st:2:12: L1: a byte begins no token of the language\n\
-\x20   S_O := S_1 + S_2;\n\
+\x20   S_O := S_1 $ S_2;\n\
 \x20              ^\n\
 use AND, OR, names and the signs of docs/language.md alone (docs/refusals.md, L1)\n\
 ",
     },
     Row {
         rule: Rule::L2,
+        line: 2,
         column: 1,
         text: "first\n(* a comment\nlast\n",
         message: "\
@@ -38,6 +42,7 @@ close it, or use // up to the end of the line (docs/refusals.md, L2)\n\
     },
     Row {
         rule: Rule::L3,
+        line: 2,
         column: 14,
         text: "first\nE(Limit := T#1.5s);\nlast\n",
         message: "\
@@ -49,6 +54,7 @@ write whole parts from the larger to the smaller unit, as T#1s500ms (docs/refusa
     },
     Row {
         rule: Rule::L4,
+        line: 2,
         column: 1,
         text: "first\nnnnnnnnnnnnnnnnnnnnnnnnnnnnnnnnnnnnnnnnnnnnnnnnnnnnnnnnnnnnnnnnnn : BOOL;\nlast\n",
         message: "\
@@ -60,6 +66,7 @@ shorten it (docs/refusals.md, L4)\n\
     },
     Row {
         rule: Rule::L5,
+        line: 2,
         column: 0,
         text: "first\n\nlast\n",
         message: "\
@@ -69,17 +76,19 @@ give the right file (docs/refusals.md, L5)\n\
     },
     Row {
         rule: Rule::P1,
-        column: 8,
-        text: "first\nS_O := NOT S_1;\nlast\n",
+        line: 2,
+        column: 14,
+        text: "first\nS_O := (S_1) S_2;\nlast\n",
         message: "\
-a.st:2:8: P1: NOT does not fit here\n\
-\x20   S_O := NOT S_1;\n\
-\x20          ^\n\
+a.st:2:14: P1: S_2 does not fit here\n\
+\x20   S_O := (S_1) S_2;\n\
+\x20                ^\n\
 look at the end of the statement before; see docs/language.md for the forms (docs/refusals.md, P1)\n\
 ",
     },
     Row {
         rule: Rule::P2,
+        line: 2,
         column: 24,
         text: "first\nS_O := (((((((((((((((((S_1)))))))))))))))));\nlast\n",
         message: "\
@@ -91,6 +100,7 @@ assign a part to a local, and read that (docs/refusals.md, P2)\n\
     },
     Row {
         rule: Rule::B1,
+        line: 2,
         column: 16,
         text: "first\nFUNCTION_BLOCK BOOL\nlast\n",
         message: "\
@@ -102,6 +112,7 @@ rename it (docs/refusals.md, B1)\n\
     },
     Row {
         rule: Rule::B2,
+        line: 2,
         column: 15,
         text: "first\nVAR_INPUT a : SF_EDM; END_VAR\nlast\n",
         message: "\
@@ -113,6 +124,7 @@ give inputs and outputs SAFEBOOL or BOOL; put function blocks before those that 
     },
     Row {
         rule: Rule::B3,
+        line: 2,
         column: 13,
         text: "first\nF(a := S_1, a := S_2);\nlast\n",
         message: "\
@@ -124,6 +136,7 @@ give each input once in each call (docs/refusals.md, B3)\n\
     },
     Row {
         rule: Rule::B4,
+        line: 2,
         column: 9,
         text: "first\nPROGRAM Big\nlast\n",
         message: "\
@@ -135,6 +148,7 @@ use fewer instances or smaller blocks (docs/refusals.md, B4)\n\
     },
     Row {
         rule: Rule::B5,
+        line: 2,
         column: 5,
         text: "first\nVAR f : F; END_VAR\nlast\n",
         message: "\
@@ -146,6 +160,7 @@ call it once (docs/refusals.md, B5)\n\
     },
     Row {
         rule: Rule::N1,
+        line: 2,
         column: 6,
         text: "first\nACK, Ack : BOOL;\nlast\n",
         message: "\
@@ -157,6 +172,7 @@ rename one (docs/refusals.md, N1)\n\
     },
     Row {
         rule: Rule::N2,
+        line: 2,
         column: 15,
         text: "first\nS_O := S_1 OR S_3;\nlast\n",
         message: "\
@@ -168,17 +184,19 @@ declare it in VAR_INPUT, VAR_OUTPUT or VAR, or spell it as it is declared (docs/
     },
     Row {
         rule: Rule::N3,
+        line: 2,
         column: 5,
-        text: "first\nt : TON;\nlast\n",
+        text: "first\nt : SF_MutingPar;\nlast\n",
         message: "\
-a.st:2:5: N3: TON is not a type that fits here\n\
-\x20   t : TON;\n\
+a.st:2:5: N3: SF_MutingPar is not a type that fits here\n\
+\x20   t : SF_MutingPar;\n\
 \x20       ^\n\
 use the types of docs/blocks.md, and declare instances in VAR (docs/refusals.md, N3)\n\
 ",
     },
     Row {
         rule: Rule::N4,
+        line: 2,
         column: 3,
         text: "first\nE(S_EStopOut := S_1);\nlast\n",
         message: "\
@@ -190,6 +208,7 @@ see the pins in docs/blocks.md; DiagCode is in the report and cannot be read (do
     },
     Row {
         rule: Rule::N5,
+        line: 2,
         column: 15,
         text: "first\nE(Reset := a, Reset := a);\nlast\n",
         message: "\
@@ -201,6 +220,7 @@ leave one (docs/refusals.md, N5)\n\
     },
     Row {
         rule: Rule::N6,
+        line: 2,
         column: 1,
         text: "first\nS_1 := S_2;\nlast\n",
         message: "\
@@ -212,6 +232,7 @@ assign to a local or an output (docs/refusals.md, N6)\n\
     },
     Row {
         rule: Rule::N7,
+        line: 2,
         column: 1,
         text: "first\nS_O := S_2;\nlast\n",
         message: "\
@@ -223,6 +244,7 @@ join both values by OR in one assignment (docs/refusals.md, N7)\n\
     },
     Row {
         rule: Rule::N8,
+        line: 2,
         column: 12,
         text: "first\nVAR_OUTPUT S_O : SAFEBOOL; END_VAR\nlast\n",
         message: "\
@@ -234,6 +256,7 @@ make it an input, or assign it (docs/refusals.md, N8)\n\
     },
     Row {
         rule: Rule::N9,
+        line: 2,
         column: 1,
         text: "first\nE(Activate := TRUE);\nlast\n",
         message: "\
@@ -245,6 +268,7 @@ declare an instance for each call (docs/refusals.md, N9)\n\
     },
     Row {
         rule: Rule::N10,
+        line: 2,
         column: 5,
         text: "first\nVAR E : SF_EDM; END_VAR\nlast\n",
         message: "\
@@ -256,6 +280,7 @@ call it, or leave it out (docs/refusals.md, N10)\n\
     },
     Row {
         rule: Rule::N11,
+        line: 2,
         column: 9,
         text: "first\nPROGRAM Big\nlast\n",
         message: "\
@@ -267,6 +292,7 @@ split it (docs/refusals.md, N11)\n\
     },
     Row {
         rule: Rule::N12,
+        line: 2,
         column: 8,
         text: "first\nS_O := TRUE;\nlast\n",
         message: "\
@@ -278,6 +304,7 @@ leave the pin free, or give the literal alone (docs/refusals.md, N12)\n\
     },
     Row {
         rule: Rule::S1,
+        line: 2,
         column: 2,
         text: "first\n\tS_O := a OR b;\nlast\n",
         message: "\
@@ -289,6 +316,7 @@ take the BOOL out, or let it only hold the value down by AND; a signal that has 
     },
     Row {
         rule: Rule::S2,
+        line: 2,
         column: 3,
         text: "first\nE(S_EStopIn := a);\nlast\n",
         message: "\
@@ -300,6 +328,7 @@ give a SAFEBOOL; TRUE and FALSE are taken too (docs/refusals.md, S2)\n\
     },
     Row {
         rule: Rule::S3,
+        line: 2,
         column: 3,
         text: "first\nE(Activate := T#5ms);\nlast\n",
         message: "\
@@ -311,6 +340,7 @@ exchange them (docs/refusals.md, S3)\n\
     },
     Row {
         rule: Rule::S4,
+        line: 2,
         column: 3,
         text: "first\nE(MonitoringTime := TRUE);\nlast\n",
         message: "\
@@ -322,6 +352,7 @@ write a TIME literal; times are fixed (docs/refusals.md, S4)\n\
     },
     Row {
         rule: Rule::M1,
+        line: 2,
         column: 1,
         text: "first\nS_O := S_1;\nlast\n",
         message: "\
@@ -333,6 +364,7 @@ read the value of the scan before at one place, or split the output; the applica
     },
     Row {
         rule: Rule::C1,
+        line: 2,
         column: 0,
         text: "first\nNODE  1\nlast\n",
         message: "\
@@ -343,6 +375,7 @@ write it anew with cert (docs/refusals.md, C1)\n\
     },
     Row {
         rule: Rule::C2,
+        line: 2,
         column: 0,
         text: "first\n\nlast\n",
         message: "\
@@ -352,6 +385,7 @@ give the right file (docs/refusals.md, C2)\n\
     },
     Row {
         rule: Rule::O1,
+        line: 2,
         column: 0,
         text: "first\n1 SRC 900\nlast\n",
         message: "\
@@ -362,6 +396,7 @@ write it anew with cert (docs/refusals.md, O1)\n\
     },
     Row {
         rule: Rule::O2,
+        line: 2,
         column: 0,
         text: "first\n2 AND 3 7 8\nlast\n",
         message: "\
@@ -372,6 +407,7 @@ write it anew with cert (docs/refusals.md, O2)\n\
     },
     Row {
         rule: Rule::O3,
+        line: 2,
         column: 0,
         text: "first\n3 OR 4 1 2\nlast\n",
         message: "\
@@ -382,6 +418,7 @@ write it anew with cert; where that is refused, mend the application (docs/refus
     },
     Row {
         rule: Rule::O4,
+        line: 2,
         column: 0,
         text: "first\n\nlast\n",
         message: "\
@@ -391,6 +428,7 @@ write it anew with cert; where that is refused, mend the application (docs/refus
     },
     Row {
         rule: Rule::O5,
+        line: 2,
         column: 0,
         text: "first\n\nlast\n",
         message: "\
@@ -400,16 +438,18 @@ mend the application (docs/refusals.md, O5)\n\
     },
     Row {
         rule: Rule::T1,
+        line: 2,
         column: 0,
-        text: "first\nTime S_1\nlast\n",
+        text: "first\nS_1 S_2\nlast\n",
         message: "\
 a.st:2: T1: there is no header, or its first word is not time\n\
-\x20   Time S_1\n\
+\x20   S_1 S_2\n\
 begin with time and the names of the inputs (docs/refusals.md, T1)\n\
 ",
     },
     Row {
         rule: Rule::T2,
+        line: 2,
         column: 0,
         text: "first\ntime S_O\nlast\n",
         message: "\
@@ -420,6 +460,7 @@ give inputs alone, with blanks between (docs/refusals.md, T2)\n\
     },
     Row {
         rule: Rule::T3,
+        line: 2,
         column: 0,
         text: "first\ntime S_1 S_1\nlast\n",
         message: "\
@@ -430,36 +471,43 @@ give each input once (docs/refusals.md, T3)\n\
     },
     Row {
         rule: Rule::T4,
+        line: 2,
         column: 0,
         text: "first\n10 1\nlast\n",
         message: "\
 a.st:2: T4: a line has another number of values than the header has names\n\
 \x20   10 1\n\
+the header: first\n\
 give a value for each name; # is a comment only as the first byte of a line (docs/refusals.md, T4)\n\
 ",
     },
     Row {
         rule: Rule::T5,
+        line: 2,
         column: 0,
         text: "first\n10 TRUE\nlast\n",
         message: "\
 a.st:2: T5: a value is neither 0 nor 1\n\
 \x20   10 TRUE\n\
+the header: first\n\
 write 0 or 1 (docs/refusals.md, T5)\n\
 ",
     },
     Row {
         rule: Rule::T6,
+        line: 2,
         column: 0,
         text: "first\n1.5 1\nlast\n",
         message: "\
 a.st:2: T6: the time is not digits with a value up to 4294967295\n\
 \x20   1.5 1\n\
+the header: first\n\
 write whole ms (docs/refusals.md, T6)\n\
 ",
     },
     Row {
         rule: Rule::T7,
+        line: 2,
         column: 0,
         text: "first\n5 1\nlast\n",
         message: "\
@@ -470,6 +518,7 @@ let times go on; equal times are taken (docs/refusals.md, T7)\n\
     },
     Row {
         rule: Rule::T8,
+        line: 2,
         column: 0,
         text: "first\n111111111111111111111111111111111111111111111111111111111111111111111111111111111111111111111111111111111111111111111111111111111111111111111111111111111111111111111111111111111111111111111111111111111111111111111111111111111111111111111111111111111111111111111111111111111111111111111111111111111111\nlast\n",
         message: "\
@@ -480,6 +529,7 @@ end each line with LF (docs/refusals.md, T8)\n\
     },
     Row {
         rule: Rule::T9,
+        line: 2,
         column: 0,
         text: "first\n20 1\nlast\n",
         message: "\
@@ -490,6 +540,7 @@ split it at a place where a restart may stand (docs/refusals.md, T9)\n\
     },
     Row {
         rule: Rule::F1,
+        line: 2,
         column: 0,
         text: "first\nscan 0 turn 1 \x1b[2J\nlast\n",
         message: "\
@@ -500,6 +551,7 @@ see the form in docs/traces.md (docs/refusals.md, F1)\n\
     },
     Row {
         rule: Rule::F2,
+        line: 2,
         column: 0,
         text: "first\n1 a code 0 ff\nlast\n",
         message: "\
@@ -510,6 +562,7 @@ sort them; a fault without a turn comes first in its scan (docs/refusals.md, F2)
     },
     Row {
         rule: Rule::F3,
+        line: 2,
         column: 0,
         text: "first\n1 A code 9999 ff\nlast\n",
         message: "\
@@ -520,6 +573,7 @@ image has the sizes of code and memory (docs/refusals.md, F3)\n\
     },
     Row {
         rule: Rule::F4,
+        line: 2,
         column: 0,
         text: "first\n2 B code 0 ff\nlast\n",
         message: "\
@@ -530,6 +584,7 @@ make a file for each channel (docs/refusals.md, F4)\n\
     },
     Row {
         rule: Rule::F5,
+        line: 2,
         column: 0,
         text: "first\n7 A code 0 ff\nlast\n",
         message: "\

@@ -17,6 +17,7 @@ mod Safe
 mod OneJudgement
 mod OneAnswer
 mod SomeAnswer
+pub mod Refusals
 mod Quiet
 mod Few
 mod Counted

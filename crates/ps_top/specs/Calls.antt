@@ -1,10 +1,12 @@
 -- What the calls of all commands promise alike, of the files and the output as a call finds and leaves them.
-use Rattle.std.specs.Prelude.{◌≡◌, ◌≤◌, ◌⊎◌, ℕ, Bool, IsTrue, List, Option, Any}
+use Rattle.std.specs.Prelude.{◌≡◌, ◌≤◌, ◌⊎◌, ◌++◌, ℕ, Bool, IsTrue, List, Option, Some, Any}
+use Rattle.ps_base.specs.declared.failing.Refusal.{Refusal}
 use Rattle.ps_outside.specs.Outside.{Rose}
+use Rattle.ps_report.specs.Short.{refusal_text}
 use Rattle.ps_top.specs.Asking.{Answer, Asking, IsLeft}
 use Rattle.ps_top.specs.Meets.{IsCut, AppendsNothing, Gives, Meets}
 use Rattle.ps_top.specs.declared.Status.{Status}
-use Rattle.ps_top.specs.declared.Status.TheVariants.{ReadFault, WriteFault, Memory}
+use Rattle.ps_top.specs.declared.Status.TheVariants.{Refused, BadInput, ReadFault, WriteFault, Memory}
 use Rattle.ps_top.specs.declared.left.Left.{Left}
 
 -- files: whether they tell, what they hold under each name, and the count of faults of each name
@@ -63,3 +65,12 @@ pub record SaysAnswer (said : Answer) (out out' : OutputSeen) (status : Status) 
   pub ends : (status ≡ said.status) ⊎ (status ≡ WriteFault)
   pub write_fault : status ≡ WriteFault → Rose out.faults out'.faults
   pub output_stays : KeepsOutput out out'
+
+-- the call refuses a text
+abbrev pub IsRefusing : Status → Type 0
+IsRefusing status = (status ≡ Refused) ⊎ (status ≡ BadInput)
+
+-- What is left where a call refuses a text: the refusal, whose line ends what an output that tells took.
+abbrev pub LeavesRefusal : Left → (out' : OutputSeen) → Status → Type 0
+LeavesRefusal left out' status =
+    IsRefusing status → (refusal : Refusal) × (left.refusal ≡ Some refusal) × (IsTrue out'.tells → (front : List ℕ) × (out'.taken ≡ front ++ refusal_text refusal))

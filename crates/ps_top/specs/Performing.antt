@@ -50,7 +50,7 @@ pub record MakesScan (net : Network) (p : StruckWorld) (now : ℕ) (ins : List B
 
 -- the same run with another world
 abbrev pub with_world : Whole → StruckWorld → StruckWorld
-with_world w p = record { world = w; faults = p.faults; next = p.next; scans = p.scans; tripped = p.tripped }
+with_world w p = record p { world = w }
 
 -- An item has this outcome, and leaves the second world where the first one was.
 abbrev pub Performs : Network → StruckWorld → Item → Outcome Verdict → StruckWorld → Type 0

@@ -1,7 +1,7 @@
 // `cert APP`.
 
 ghost use Rattle.std.specs.Prelude.{◌≡◌, ◌≢◌, ◌∷◌, []};
-ghost use Rattle.ps_top.specs.Calls.{Answers, files_seen, output_seen};
+ghost use Rattle.ps_top.specs.Calls.{Answers, LeavesRefusal, files_seen, output_seen};
 ghost use Rattle.ps_top.specs.Program as program;
 
 use crate::Status;
@@ -24,6 +24,7 @@ pub(crate) fn cert<F: Files, S: Sink>(
     ensures answers { Answers (program.cert app.now) (app.now ∷ [])
         (files_seen F.tells F.held F.faults files.old) (files_seen F.tells F.held F.faults files.new)
         (output_seen S.tells S.taken S.faults out.old) (output_seen S.tells S.taken S.faults out.new) left.new result }
+    ensures refuses { LeavesRefusal left.new (output_seen S.tells S.taken S.faults out.new) result }
     ensures no_usage { result ≢ Status.Usage }
 {
     match read_accepted(alloc, app, files) {
@@ -35,6 +36,6 @@ pub(crate) fn cert<F: Files, S: Sink>(
             }
             Err(Memory) => Status::Memory,
         },
-        Err(why) => refuse(out, why),
+        Err(why) => refuse(out, why, left),
     }
 }

@@ -1,7 +1,7 @@
 // `check APP`, and how a command begins.
 
 ghost use Rattle.std.specs.Prelude.{◌≡◌, ◌≢◌, ◌∷◌, []};
-ghost use Rattle.ps_top.specs.Calls.{Answers, files_seen, output_seen};
+ghost use Rattle.ps_top.specs.Calls.{Answers, LeavesRefusal, files_seen, output_seen};
 ghost use Rattle.ps_top.specs.Program as program;
 ghost use Rattle.ps_top.specs.Refusing.{SaysNoApplication};
 
@@ -13,13 +13,14 @@ use ps_report::check_line;
 use ps_source::{NoApplication, read_accepted};
 use std::alloc::Global;
 
-// Says why a name gives no application.
-pub(crate) fn refuse<S: Sink>(out: &mut S, why: NoApplication) -> Status
+// Says why a name gives no application, and leaves the refusal where there is one.
+pub(crate) fn refuse<S: Sink>(out: &mut S, why: NoApplication, left: &mut Left) -> Status
     ensures says { SaysNoApplication why (output_seen S.tells S.taken S.faults out.old) (output_seen S.tells S.taken S.faults out.new) result }
+    ensures refuses { LeavesRefusal left.new (output_seen S.tells S.taken S.faults out.new) result }
     ensures no_usage { result ≢ Status.Usage }
 {
     match why {
-        NoApplication::Refused(refusal) => say_refused(out, &refusal, Status::Refused),
+        NoApplication::Refused(refusal) => say_refused(out, &refusal, Status::Refused, left),
         NoApplication::Memory => Status::Memory,
         NoApplication::Fault => Status::ReadFault,
     }
@@ -36,6 +37,7 @@ pub(crate) fn check<F: Files, S: Sink>(
     ensures answers { Answers (program.check app.now) (app.now ∷ [])
         (files_seen F.tells F.held F.faults files.old) (files_seen F.tells F.held F.faults files.new)
         (output_seen S.tells S.taken S.faults out.old) (output_seen S.tells S.taken S.faults out.new) left.new result }
+    ensures refuses { LeavesRefusal left.new (output_seen S.tells S.taken S.faults out.new) result }
     ensures no_usage { result ≢ Status.Usage }
 {
     match read_accepted(alloc, app, files) {
@@ -44,6 +46,6 @@ pub(crate) fn check<F: Files, S: Sink>(
             left.checked = Some(checked);
             say(out, check_line(&app).as_slice(), Status::Done)
         }
-        Err(why) => refuse(out, why),
+        Err(why) => refuse(out, why, left),
     }
 }

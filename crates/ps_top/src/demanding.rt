@@ -1,7 +1,7 @@
 // `demand APP`.
 
 ghost use Rattle.std.specs.Prelude.{◌≡◌, ◌≢◌, ◌∷◌, []};
-ghost use Rattle.ps_top.specs.Calls.{Answers, files_seen, output_seen};
+ghost use Rattle.ps_top.specs.Calls.{Answers, LeavesRefusal, files_seen, output_seen};
 ghost use Rattle.ps_top.specs.Program as program;
 
 use crate::Status;
@@ -23,6 +23,7 @@ pub(crate) fn demand<F: Files, S: Sink>(
     ensures answers { Answers (program.demand app.now) (app.now ∷ [])
         (files_seen F.tells F.held F.faults files.old) (files_seen F.tells F.held F.faults files.new)
         (output_seen S.tells S.taken S.faults out.old) (output_seen S.tells S.taken S.faults out.new) left.new result }
+    ensures refuses { LeavesRefusal left.new (output_seen S.tells S.taken S.faults out.new) result }
     ensures no_usage { result ≢ Status.Usage }
 {
     match read_demanded(alloc, app, files) {
@@ -31,6 +32,6 @@ pub(crate) fn demand<F: Files, S: Sink>(
             left.checked = Some(checked);
             say_lines(out, lines.as_slice(), Status::Done)
         }
-        Err(why) => refuse(out, why),
+        Err(why) => refuse(out, why, left),
     }
 }

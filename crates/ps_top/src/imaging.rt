@@ -9,7 +9,7 @@ ghost use Rattle.ps_report.specs.Image.{image_part};
 ghost use Rattle.ps_stackvm.specs.Channel.{blank_a};
 ghost use Rattle.ps_stackvm.specs.Code.{code_a};
 ghost use Rattle.ps_world.specs.Whole.{Setup, IsSetupOf};
-ghost use Rattle.ps_top.specs.Calls.{Answers, files_seen, output_seen};
+ghost use Rattle.ps_top.specs.Calls.{Answers, LeavesRefusal, files_seen, output_seen};
 ghost use Rattle.ps_top.specs.Program as program;
 
 use crate::Status;
@@ -72,6 +72,7 @@ pub(crate) fn image<F: Files, S: Sink>(
     ensures answers { Answers (program.image app.now) (app.now ∷ [])
         (files_seen F.tells F.held F.faults files.old) (files_seen F.tells F.held F.faults files.new)
         (output_seen S.tells S.taken S.faults out.old) (output_seen S.tells S.taken S.faults out.new) left.new result }
+    ensures refuses { LeavesRefusal left.new (output_seen S.tells S.taken S.faults out.new) result }
     ensures no_usage { result ≢ Status.Usage }
 {
     match read_accepted(alloc, app, files) {
@@ -83,6 +84,6 @@ pub(crate) fn image<F: Files, S: Sink>(
                 Err(Memory) => Status::Memory,
             }
         }
-        Err(why) => refuse(out, why),
+        Err(why) => refuse(out, why, left),
     }
 }

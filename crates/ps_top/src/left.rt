@@ -1,8 +1,19 @@
 // What a call leaves behind.
 
+use ps_base::Refusal;
 use ps_checker::Checked;
+use ps_model::Cause;
 use ps_vote::VoteWorld;
 use ps_world::World;
+
+/// A scan that tripped.
+#[derive(Clone, Copy, Debug, PartialEq, Eq)]
+pub struct Trip {
+    /// Its time in ms.
+    pub now: u32,
+    /// Why it tripped.
+    pub cause: Cause,
+}
 
 /// What a call of the program worked with, for the caller to look at.
 #[derive(Drop)]
@@ -13,6 +24,10 @@ pub struct Left {
     pub world: Option<World>,
     /// The world of three seats that a run ended with.
     pub votes: Option<VoteWorld>,
+    /// The refusal that was said, where the call refuses a text.
+    pub refusal: Option<Refusal>,
+    /// The first scan that tripped, where one did.
+    pub trip: Option<Trip>,
 }
 
 impl Left {
@@ -23,11 +38,15 @@ impl Left {
         ensures checked { result.checked ≡ None }
         ensures world { result.world ≡ None }
         ensures votes { result.votes ≡ None }
+        ensures refusal { result.refusal ≡ None }
+        ensures trip { result.trip ≡ None }
     {
         Left {
             checked: None,
             world: None,
             votes: None,
+            refusal: None,
+            trip: None,
         }
     }
 }

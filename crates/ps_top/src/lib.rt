@@ -26,7 +26,7 @@ mod taking;
 mod verifying;
 mod voting;
 
-pub use left::Left;
+pub use left::{Left, Trip};
 pub use program::top;
 pub use ps_words::Words;
 

@@ -8,7 +8,7 @@ ghost use Rattle.ps_model.specs.Typing.{Accepted};
 ghost use Rattle.ps_trace.specs.Reading.{IsReadingTrace, file_of, input_count_of, items_left};
 ghost use Rattle.ps_trace.specs.Scans.{scans_of};
 ghost use Rattle.ps_world.specs.Whole.{IsWorldOf};
-ghost use Rattle.ps_top.specs.Calls.{Answers, FilesSeen, SaysAnswer, output_seen};
+ghost use Rattle.ps_top.specs.Calls.{Answers, FilesSeen, LeavesRefusal, SaysAnswer, output_seen};
 ghost use Rattle.ps_top.specs.Counting.{load_answer, none_counted};
 ghost use Rattle.ps_top.specs.Meets.{IsCut};
 ghost use Rattle.ps_top.specs.Performing.{IsStruckWorldFor};
@@ -47,6 +47,7 @@ fn sum_scans<S: Sink>(
     runner: &mut Runner<StruckWorld, Counter>,
     files: &mut LoadFiles,
     out: &mut S,
+    left: &mut Left,
 ) -> Status
     requires fits { Fits (IsStruckWorldFor app.now) (λ _. Unit {0}) app.now runner.old }
     requires first { IsBeginning app.now runner.old.performer }
@@ -57,12 +58,14 @@ fn sum_scans<S: Sink>(
     requires reading { IsReadingTrace trace.old (trace_text number) }
     ensures says { SaysAnswer (load_answer number app.now runner.old.performer.faults runner.old.performer.world (items_left trace.old (trace_text number)))
         (output_seen S.tells S.taken S.faults out.old) (output_seen S.tells S.taken S.faults out.new) result }
+    ensures refuses { LeavesRefusal left.new (output_seen S.tells S.taken S.faults out.new) result }
+    ensures checked { left.new.checked ≡ left.old.checked }
     ensures world { ¬ IsCut result →
         runner.new.performer.world ≡ ran runner.old.performer.faults 1 (items_left trace.old (trace_text number)).items runner.old.performer.world }
 {
     match do_items(app, trace, runner, files, out) {
         Ok(()) => say(out, runner.taker.summary(number).as_slice(), Status::Done),
-        Err(Cut::Refused(refusal)) => say_refused(out, &refusal, Status::BadInput),
+        Err(Cut::Refused(refusal)) => say_refused(out, &refusal, Status::BadInput, left),
         // Reading the trace of a load never fails.
         Err(Cut::Unread) => unreachable!(),
         Err(Cut::Unwritten) => Status::WriteFault,
@@ -77,6 +80,7 @@ fn read_sums<S: Sink>(
     runner: &mut Runner<StruckWorld, Counter>,
     files: &mut LoadFiles,
     out: &mut S,
+    left: &mut Left,
 ) -> Status
     requires accepted { Accepted app.now }
     requires fits { Fits (IsStruckWorldFor app.now) (λ _. Unit {0}) app.now runner.old }
@@ -85,16 +89,18 @@ fn read_sums<S: Sink>(
     requires none { runner.old.taker ≡ none_counted }
     requires held { held_of files.old (codes "trace") ≡ Some (trace_text number) }
     requires last { number ≤ 1000 }
-    ensures answers { (files : FilesSeen) (left : LeftBehind) → left.world ≡ Some runner.new.performer.world →
+    ensures answers { (files : FilesSeen) (behind : LeftBehind) → behind.world ≡ Some runner.new.performer.world →
         Answers (program.sum_scans number app.now runner.old.performer.world.setup (scans_of (trace_text number) app.now)) []
-        files files (output_seen S.tells S.taken S.faults out.old) (output_seen S.tells S.taken S.faults out.new) left result }
+        files files (output_seen S.tells S.taken S.faults out.old) (output_seen S.tells S.taken S.faults out.new) behind result }
+    ensures refuses { LeavesRefusal left.new (output_seen S.tells S.taken S.faults out.new) result }
+    ensures checked { left.new.checked ≡ left.old.checked }
     ensures no_usage { result ≢ Status.Usage }
 {
     app.sound();
     quiet_runs_release(app);
     match TraceReader::start(alloc, files, TRACE, app) {
-        Ok(mut reader) => sum_scans(app, number, &mut reader, runner, files, out),
-        Err(TraceFail::Refused(refusal)) => say_refused(out, &refusal, Status::BadInput),
+        Ok(mut reader) => sum_scans(app, number, &mut reader, runner, files, out, left),
+        Err(TraceFail::Refused(refusal)) => say_refused(out, &refusal, Status::BadInput, left),
         Err(TraceFail::Memory) => Status::Memory,
         // Reading the trace of a load never fails.
         Err(TraceFail::Fault) => unreachable!(),
@@ -117,6 +123,7 @@ fn sum_in_world<S: Sink>(
     requires last { number ≤ 1000 }
     ensures answers { (files : FilesSeen) → Answers (program.sum_scans number app.now world.setup (scans_of (trace_text number) app.now)) []
         files files (output_seen S.tells S.taken S.faults out.old) (output_seen S.tells S.taken S.faults out.new) left.new result }
+    ensures refuses { LeavesRefusal left.new (output_seen S.tells S.taken S.faults out.new) result }
     ensures checked { left.new.checked ≡ left.old.checked }
     ensures no_usage { result ≢ Status.Usage }
 {
@@ -125,7 +132,7 @@ fn sum_in_world<S: Sink>(
         Ok(runner) => runner,
         Err(Memory) => return Status::Memory,
     };
-    let status = read_sums(alloc, app, number, &mut runner, files, out);
+    let status = read_sums(alloc, app, number, &mut runner, files, out, left);
     let world = runner.performer;
     left.world = Some(world.world);
     status
@@ -145,6 +152,7 @@ fn sum_trace<S: Sink>(
     requires last { number ≤ 1000 }
     ensures answers { (files : FilesSeen) → Answers (program.sum_trace number app.now) []
         files files (output_seen S.tells S.taken S.faults out.old) (output_seen S.tells S.taken S.faults out.new) left.new result }
+    ensures refuses { LeavesRefusal left.new (output_seen S.tells S.taken S.faults out.new) result }
     ensures checked { left.new.checked ≡ left.old.checked }
     ensures no_usage { result ≢ Status.Usage }
 {
@@ -161,6 +169,7 @@ pub(crate) fn load<S: Sink>(alloc: Global, number: u32, out: &mut S, left: &mut 
     requires last { number ≤ 1000 }
     ensures answers { (files : FilesSeen) → Answers (program.load number) []
         files files (output_seen S.tells S.taken S.faults out.old) (output_seen S.tells S.taken S.faults out.new) left.new result }
+    ensures refuses { LeavesRefusal left.new (output_seen S.tells S.taken S.faults out.new) result }
     ensures no_usage { result ≢ Status.Usage }
 {
     let mut files = LoadFiles::new(number);
@@ -170,6 +179,6 @@ pub(crate) fn load<S: Sink>(alloc: Global, number: u32, out: &mut S, left: &mut 
             left.checked = Some(checked);
             sum_trace(alloc, &app, number, &mut files, out, left)
         }
-        Err(why) => refuse(out, why),
+        Err(why) => refuse(out, why, left),
     }
 }

@@ -3,7 +3,7 @@
 ghost use Rattle.std.specs.Prelude.{◌≡◌, ◌≢◌, ◌⊎◌, ◌≤◌, ◌++◌, ℕ, List, IsTrue, None, Any};
 ghost use Rattle.ps_outside.specs.Outside.{Rose};
 ghost use Rattle.ps_top.specs.Asking.{Answer, IsAnswer, AsksFor, IsLeft};
-ghost use Rattle.ps_top.specs.Calls.{Answers, files_seen, output_seen};
+ghost use Rattle.ps_top.specs.Calls.{Answers, LeavesRefusal, files_seen, output_seen};
 ghost use Rattle.ps_top.specs.Meets.{IsCut, AppendsAll, AppendsPart};
 ghost use Rattle.ps_top.specs.Program as program;
 ghost use Rattle.ps_words.specs.Command as asked;
@@ -36,6 +36,7 @@ fn do_words<F: Files, S: Sink>(
     ensures answers { Answers (program.text words.now) (asked.names_of (asked.command_of words.now))
         (files_seen F.tells F.held F.faults files.old) (files_seen F.tells F.held F.faults files.new)
         (output_seen S.tells S.taken S.faults out.old) (output_seen S.tells S.taken S.faults out.new) left.new result }
+    ensures refuses { LeavesRefusal left.new (output_seen S.tells S.taken S.faults out.new) result }
     ensures usage { result ≡ Status.Usage → asked.command_of words.now ≡ NotTaken }
     ensures not_taken { asked.command_of words.now ≡ NotTaken → (result ≡ Status.Usage) ⊎ ((result ≡ Status.WriteFault) ⊎ (result ≡ Status.Memory)) }
 {
@@ -61,7 +62,8 @@ fn do_words<F: Files, S: Sink>(
 /// Does what the words ask: all that the program does.
 ///
 /// `words` are those after the program's name. What is written, and the status, is what the definition
-/// `text` says for these words and the texts that the files hold. In `left` stands what the call worked with.
+/// `text` says for these words and the texts that the files hold. In `left` stands what the call worked with, and the refusal
+/// where a text is refused.
 pub fn top<F: Files, S: Sink>(
     alloc: Global,
     words: &Words,
@@ -91,6 +93,9 @@ pub fn top<F: Files, S: Sink>(
 
     // What is left behind, where the call was not cut short.
     ensures leaves { IsTrue (F.tells files.old) → ¬ IsCut result → IsLeft (program.text words.now) (F.held files.old) left.new }
+
+    // A refusal that was said is left: its line ends what an output that tells took.
+    ensures refuses { LeavesRefusal left.new (output_seen S.tells S.taken S.faults out.new) result }
 
     // Where a name that the text asks for is not held, nothing is written, and a read failed or memory is wanting.
     ensures not_held { IsTrue (F.tells files.old) → (name : List ℕ) → AsksFor (program.text words.now) (F.held files.old) name →

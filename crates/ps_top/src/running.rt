@@ -5,7 +5,7 @@ ghost use Rattle.ps_model.specs.Network.{input_count};
 ghost use Rattle.ps_report.specs.Lines.{line_room};
 ghost use Rattle.ps_model.specs.Typing.{Accepted};
 ghost use Rattle.ps_world.specs.Whole.{IsWorldOf};
-ghost use Rattle.ps_top.specs.Calls.{Answers, Causes, NameRose, files_seen, output_seen};
+ghost use Rattle.ps_top.specs.Calls.{Answers, Causes, LeavesRefusal, NameRose, files_seen, output_seen};
 ghost use Rattle.ps_top.specs.Meets.{IsCut, Gives, Meets};
 ghost use Rattle.ps_top.specs.Asking.{IsLeft};
 ghost use Rattle.ps_top.specs.declared.left.Left.{Left as LeftBehind};
@@ -63,6 +63,7 @@ fn answer_scans<F: Files, S: Sink>(
     runner: &mut Runner<StruckWorld, LineBuffer>,
     files: &mut F,
     out: &mut S,
+    left: &mut Left,
 ) -> Status
     requires fits { Fits (IsStruckWorldFor app.now) (λ room. line_room app.now ≤ room) app.now runner.old }
     requires first { IsBeginning app.now runner.old.performer }
@@ -75,11 +76,13 @@ fn answer_scans<F: Files, S: Sink>(
     ensures causes { Causes (file_of trace.old ∷ [])
         (files_seen F.tells F.held F.faults files.old) (files_seen F.tells F.held F.faults files.new)
         (output_seen S.tells S.taken S.faults out.old) (output_seen S.tells S.taken S.faults out.new) result }
+    ensures refuses { LeavesRefusal left.new (output_seen S.tells S.taken S.faults out.new) result }
+    ensures checked { left.new.checked ≡ left.old.checked }
     ensures no_usage { result ≢ Status.Usage }
 {
     match do_items(app, trace, runner, files, out) {
         Ok(()) => status_at_end(runner.performer.tripped),
-        Err(Cut::Refused(refusal)) => say_refused(out, &refusal, Status::BadInput),
+        Err(Cut::Refused(refusal)) => say_refused(out, &refusal, Status::BadInput, left),
         Err(Cut::Unread) => Status::ReadFault,
         Err(Cut::Unwritten) => Status::WriteFault,
     }
@@ -93,6 +96,7 @@ fn answer_trace<F: Files, S: Sink>(
     runner: &mut Runner<StruckWorld, LineBuffer>,
     files: &mut F,
     out: &mut S,
+    left: &mut Left,
 ) -> Status
     requires accepted { Accepted app.now }
     requires fits { Fits (IsStruckWorldFor app.now) (λ room. line_room app.now ≤ room) app.now runner.old }
@@ -101,18 +105,20 @@ fn answer_trace<F: Files, S: Sink>(
         Meets (program.run_named app.now runner.old.performer.world.setup runner.old.performer.faults trace.now) (F.held files.old)
         (NameRose (files_seen F.tells F.held F.faults files.old) (files_seen F.tells F.held F.faults files.new))
         (S.tells out.old) (S.taken out.old) (S.taken out.new) result }
-    ensures leaves { IsTrue (F.tells files.old) → ¬ IsCut result → (left : LeftBehind) → left.world ≡ Some runner.new.performer.world →
-        IsLeft (program.run_named app.now runner.old.performer.world.setup runner.old.performer.faults trace.now) (F.held files.old) left }
+    ensures leaves { IsTrue (F.tells files.old) → ¬ IsCut result → (behind : LeftBehind) → behind.world ≡ Some runner.new.performer.world →
+        IsLeft (program.run_named app.now runner.old.performer.world.setup runner.old.performer.faults trace.now) (F.held files.old) behind }
     ensures causes { Causes (trace.now ∷ [])
         (files_seen F.tells F.held F.faults files.old) (files_seen F.tells F.held F.faults files.new)
         (output_seen S.tells S.taken S.faults out.old) (output_seen S.tells S.taken S.faults out.new) result }
+    ensures refuses { LeavesRefusal left.new (output_seen S.tells S.taken S.faults out.new) result }
+    ensures checked { left.new.checked ≡ left.old.checked }
     ensures no_usage { result ≢ Status.Usage }
 {
     app.sound();
     runs_are_right(app);
     match TraceReader::start(alloc, files, trace, app) {
-        Ok(mut reader) => answer_scans(app, &mut reader, runner, files, out),
-        Err(TraceFail::Refused(refusal)) => say_refused(out, &refusal, Status::BadInput),
+        Ok(mut reader) => answer_scans(app, &mut reader, runner, files, out, left),
+        Err(TraceFail::Refused(refusal)) => say_refused(out, &refusal, Status::BadInput, left),
         Err(TraceFail::Memory) => Status::Memory,
         Err(TraceFail::Fault) => Status::ReadFault,
     }
@@ -133,6 +139,7 @@ fn run_named<F: Files, S: Sink>(
     ensures answers { Answers (program.run_named app.now world.world.setup world.faults trace.now) (trace.now ∷ [])
         (files_seen F.tells F.held F.faults files.old) (files_seen F.tells F.held F.faults files.new)
         (output_seen S.tells S.taken S.faults out.old) (output_seen S.tells S.taken S.faults out.new) left.new result }
+    ensures refuses { LeavesRefusal left.new (output_seen S.tells S.taken S.faults out.new) result }
     ensures checked { left.new.checked ≡ left.old.checked }
     ensures no_usage { result ≢ Status.Usage }
 {
@@ -140,8 +147,9 @@ fn run_named<F: Files, S: Sink>(
         Ok(runner) => runner,
         Err(Memory) => return Status::Memory,
     };
-    let status = answer_trace(alloc, app, trace, &mut runner, files, out);
+    let status = answer_trace(alloc, app, trace, &mut runner, files, out, left);
     let world = runner.performer;
+    left.trip = world.trip;
     left.world = Some(world.world);
     status
 }
@@ -159,6 +167,7 @@ fn run_quietly<F: Files, S: Sink>(
     ensures answers { Answers (program.run_quietly trace.now app.now) (trace.now ∷ [])
         (files_seen F.tells F.held F.faults files.old) (files_seen F.tells F.held F.faults files.new)
         (output_seen S.tells S.taken S.faults out.old) (output_seen S.tells S.taken S.faults out.new) left.new result }
+    ensures refuses { LeavesRefusal left.new (output_seen S.tells S.taken S.faults out.new) result }
     ensures checked { left.new.checked ≡ left.old.checked }
     ensures no_usage { result ≢ Status.Usage }
 {
@@ -171,13 +180,15 @@ fn run_quietly<F: Files, S: Sink>(
     }
 }
 
-// Says why a fault file gives no faults.
-pub(crate) fn refuse_faults<S: Sink>(out: &mut S, why: TraceFail) -> Status
+// Says why a fault file gives no faults, and leaves the refusal where there is one.
+pub(crate) fn refuse_faults<S: Sink>(out: &mut S, why: TraceFail, left: &mut Left) -> Status
     ensures says { SaysNoFaults why (output_seen S.tells S.taken S.faults out.old) (output_seen S.tells S.taken S.faults out.new) result }
+    ensures refuses { LeavesRefusal left.new (output_seen S.tells S.taken S.faults out.new) result }
+    ensures checked { left.new.checked ≡ left.old.checked }
     ensures no_usage { result ≢ Status.Usage }
 {
     match why {
-        TraceFail::Refused(refusal) => say_refused(out, &refusal, Status::BadInput),
+        TraceFail::Refused(refusal) => say_refused(out, &refusal, Status::BadInput, left),
         TraceFail::Memory => Status::Memory,
         TraceFail::Fault => Status::ReadFault,
     }
@@ -199,6 +210,7 @@ fn run_faults<F: Files, S: Sink>(
     ensures answers { Answers (program.with_faults world.setup faults.now (λ list. program.run_named app.now world.setup list trace.now)) (faults.now ∷ trace.now ∷ [])
         (files_seen F.tells F.held F.faults files.old) (files_seen F.tells F.held F.faults files.new)
         (output_seen S.tells S.taken S.faults out.old) (output_seen S.tells S.taken S.faults out.new) left.new result }
+    ensures refuses { LeavesRefusal left.new (output_seen S.tells S.taken S.faults out.new) result }
     ensures checked { left.new.checked ≡ left.old.checked }
     ensures no_usage { result ≢ Status.Usage }
 {
@@ -208,7 +220,7 @@ fn run_faults<F: Files, S: Sink>(
             let world = StruckWorld::new(world, faults);
             run_named(alloc, app, trace, world, files, out, left)
         }
-        Err(why) => refuse_faults(out, why),
+        Err(why) => refuse_faults(out, why, left),
     }
 }
 
@@ -226,6 +238,7 @@ fn run_struck<F: Files, S: Sink>(
     ensures answers { Answers (program.run_struck trace.now faults.now app.now) (faults.now ∷ trace.now ∷ [])
         (files_seen F.tells F.held F.faults files.old) (files_seen F.tells F.held F.faults files.new)
         (output_seen S.tells S.taken S.faults out.old) (output_seen S.tells S.taken S.faults out.new) left.new result }
+    ensures refuses { LeavesRefusal left.new (output_seen S.tells S.taken S.faults out.new) result }
     ensures checked { left.new.checked ≡ left.old.checked }
     ensures no_usage { result ≢ Status.Usage }
 {
@@ -247,6 +260,7 @@ pub(crate) fn run<F: Files, S: Sink>(
     ensures answers { Answers (program.run app.now trace.now) (app.now ∷ trace.now ∷ [])
         (files_seen F.tells F.held F.faults files.old) (files_seen F.tells F.held F.faults files.new)
         (output_seen S.tells S.taken S.faults out.old) (output_seen S.tells S.taken S.faults out.new) left.new result }
+    ensures refuses { LeavesRefusal left.new (output_seen S.tells S.taken S.faults out.new) result }
     ensures no_usage { result ≢ Status.Usage }
 {
     match read_accepted(alloc, app, files) {
@@ -255,7 +269,7 @@ pub(crate) fn run<F: Files, S: Sink>(
             left.checked = Some(checked);
             run_quietly(alloc, &app, trace, files, out, left)
         }
-        Err(why) => refuse(out, why),
+        Err(why) => refuse(out, why, left),
     }
 }
 
@@ -273,6 +287,7 @@ pub(crate) fn fault<F: Files, S: Sink>(
     ensures answers { Answers (program.fault app.now trace.now faults.now) (app.now ∷ faults.now ∷ trace.now ∷ [])
         (files_seen F.tells F.held F.faults files.old) (files_seen F.tells F.held F.faults files.new)
         (output_seen S.tells S.taken S.faults out.old) (output_seen S.tells S.taken S.faults out.new) left.new result }
+    ensures refuses { LeavesRefusal left.new (output_seen S.tells S.taken S.faults out.new) result }
     ensures no_usage { result ≢ Status.Usage }
 {
     match read_accepted(alloc, app, files) {
@@ -281,6 +296,6 @@ pub(crate) fn fault<F: Files, S: Sink>(
             left.checked = Some(checked);
             run_struck(alloc, &app, trace, faults, files, out, left)
         }
-        Err(why) => refuse(out, why),
+        Err(why) => refuse(out, why, left),
     }
 }

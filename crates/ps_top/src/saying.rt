@@ -1,14 +1,15 @@
 // Short answers, and answers of several lines.
 
-ghost use Rattle.std.specs.Prelude.{◌≡◌, ◌<◌, ◌≤◌, ◌-◌, ◌++◌, IsTrue, IfErr, OnOk, OnErr, drop, length, slice_index, take};
+ghost use Rattle.std.specs.Prelude.{◌≡◌, ◌<◌, ◌≤◌, ◌-◌, ◌++◌, IsTrue, IfErr, OnOk, OnErr, Some, drop, length, slice_index, take};
 ghost use Rattle.ps_outside.specs.Outside.{Rose};
 ghost use Rattle.ps_report.specs.Short.{refusal_text};
-ghost use Rattle.ps_top.specs.Calls.{SaysAnswer, output_seen};
+ghost use Rattle.ps_top.specs.Calls.{LeavesRefusal, SaysAnswer, output_seen};
 ghost use Rattle.ps_top.specs.Lines.{IsLineOf};
 ghost use Rattle.ps_top.specs.Meets.{IsCut};
 ghost use Rattle.ps_top.specs.Program.{answer};
 
 use crate::Status;
+use crate::left::Left;
 use ps_base::Refusal;
 use ps_outside::{Sink, Stopped, write_all};
 use ps_report::refusal_line;
@@ -24,11 +25,19 @@ pub(crate) fn say<S: Sink>(out: &mut S, line: &[u8], status: Status) -> Status
     }
 }
 
-// Gives the line of a refusal as the whole answer, with this status.
-pub(crate) fn say_refused<S: Sink>(out: &mut S, refusal: &Refusal, status: Status) -> Status
+// Gives the line of a refusal as the whole answer, with this status, and leaves the refusal.
+pub(crate) fn say_refused<S: Sink>(
+    out: &mut S,
+    refusal: &Refusal,
+    status: Status,
+    left: &mut Left,
+) -> Status
     requires { ¬ IsCut status }
-    ensures { SaysAnswer (answer (refusal_text refusal.now) status) (output_seen S.tells S.taken S.faults out.old) (output_seen S.tells S.taken S.faults out.new) result }
+    ensures says { SaysAnswer (answer (refusal_text refusal.now) status) (output_seen S.tells S.taken S.faults out.old) (output_seen S.tells S.taken S.faults out.new) result }
+    ensures leaves { left.new ≡ record (left.old) { refusal = Some refusal.now } }
+    ensures refuses { LeavesRefusal left.new (output_seen S.tells S.taken S.faults out.new) result }
 {
+    left.refusal = Some(*refusal);
     say(out, refusal_line(refusal).as_slice(), status)
 }
 

@@ -7,6 +7,7 @@ ghost use Rattle.ps_trace.specs.FaultOrder.{AreInOrder, AreOfOneChannel};
 ghost use Rattle.ps_world.specs.Whole.{IsWorldOf};
 ghost use Rattle.ps_top.specs.Performing.{trips_with};
 
+use crate::left::Trip;
 use ps_model::{App, Fault, Report, Scan, Verdict};
 use ps_trace::Faults;
 use ps_vote::VoteFault;
@@ -24,6 +25,8 @@ pub(crate) struct StruckWorld {
     pub(crate) scans: u32,
     // whether a scan tripped, in the whole run
     pub(crate) tripped: bool,
+    // the first scan that tripped
+    pub(crate) trip: Option<Trip>,
 }
 
 // A fault of a list, which strikes in one scan of a run.
@@ -92,6 +95,14 @@ fn is_trip(verdict: Verdict) -> bool
     matches!(verdict, Verdict::Tripped(_))
 }
 
+// The first scan that tripped, behind a scan at this time with this verdict.
+fn first_trip(before: Option<Trip>, now: u32, verdict: Verdict) -> Option<Trip> {
+    match (before, verdict) {
+        (None, Verdict::Tripped(cause)) => Some(Trip { now, cause }),
+        _ => before,
+    }
+}
+
 impl StruckWorld {
     ghost use Rattle.ps_top.specs.Outcomes.{performed};
     ghost use Rattle.ps_top.specs.Performing.{IsStruckWorldFor, MakesScan};
@@ -113,6 +124,7 @@ impl StruckWorld {
             next,
             scans: 0,
             tripped: false,
+            trip: None,
         }
     }
 
@@ -136,6 +148,7 @@ impl StruckWorld {
         self.scans = number;
         self.next += due;
         self.tripped |= is_trip(verdict);
+        self.trip = first_trip(self.trip, scan.now, verdict);
         verdict
     }
 }

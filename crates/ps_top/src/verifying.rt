@@ -1,7 +1,7 @@
 // `verify APP CERT`.
 
 ghost use Rattle.std.specs.Prelude.{◌≡◌, ◌≢◌, ◌+◌, List, ℕ, IfOk, ◌∷◌, [], take};
-ghost use Rattle.ps_top.specs.Calls.{Answers, files_seen, output_seen};
+ghost use Rattle.ps_top.specs.Calls.{Answers, LeavesRefusal, files_seen, output_seen};
 ghost use Rattle.ps_top.specs.Judging.{IsJudged, LeavesCounts, SaysJudgement};
 ghost use Rattle.ps_top.specs.Meets.{IsCut};
 ghost use Rattle.ps_top.specs.Program as program;
@@ -74,11 +74,12 @@ fn judge_read(alloc: Global, app: &App, text: &[u8]) -> Result<Judgement, Memory
 fn tell<S: Sink>(alloc: Global, judgement: Judgement, out: &mut S, left: &mut Left) -> Status
     ensures says { SaysJudgement judgement (output_seen S.tells S.taken S.faults out.old) (output_seen S.tells S.taken S.faults out.new) result }
     ensures leaves { ¬ IsCut result → LeavesCounts judgement left.new }
+    ensures refuses { LeavesRefusal left.new (output_seen S.tells S.taken S.faults out.new) result }
     ensures no_read { result ≢ Status.ReadFault }
     ensures no_usage { result ≢ Status.Usage }
 {
     match judgement {
-        Judgement::Objects(refusal) => say_refused(out, &refusal, Status::BadInput),
+        Judgement::Objects(refusal) => say_refused(out, &refusal, Status::BadInput, left),
         Judgement::Derives(checked) => {
             let lines = checked.lines();
             match format!(in alloc; "verified {lines} lines\n") {
@@ -104,6 +105,7 @@ fn verify_named<F: Files, S: Sink>(
     ensures answers { Answers (program.verify_named app.now cert.now) (cert.now ∷ [])
         (files_seen F.tells F.held F.faults files.old) (files_seen F.tells F.held F.faults files.new)
         (output_seen S.tells S.taken S.faults out.old) (output_seen S.tells S.taken S.faults out.new) left.new result }
+    ensures refuses { LeavesRefusal left.new (output_seen S.tells S.taken S.faults out.new) result }
     ensures no_usage { result ≢ Status.Usage }
 {
     match read_upto(alloc, files, cert, LARGEST_CERTIFICATE + 1) {
@@ -128,10 +130,11 @@ pub(crate) fn verify<F: Files, S: Sink>(
     ensures answers { Answers (program.verify app.now cert.now) (app.now ∷ cert.now ∷ [])
         (files_seen F.tells F.held F.faults files.old) (files_seen F.tells F.held F.faults files.new)
         (output_seen S.tells S.taken S.faults out.old) (output_seen S.tells S.taken S.faults out.new) left.new result }
+    ensures refuses { LeavesRefusal left.new (output_seen S.tells S.taken S.faults out.new) result }
     ensures no_usage { result ≢ Status.Usage }
 {
     match read_resolved(alloc, app, files) {
         Ok(app) => verify_named(alloc, &app, cert, files, out, left),
-        Err(why) => refuse(out, why),
+        Err(why) => refuse(out, why, left),
     }
 }

@@ -11,7 +11,7 @@ ghost use Rattle.ps_trace.specs.Reading.{IsRead, IsReadingTrace, file_of, input_
 ghost use Rattle.ps_vote.specs.Faults.{line_of_fault};
 ghost use Rattle.ps_vote.specs.Whole.{IsWorldOf};
 ghost use Rattle.ps_top.specs.Asking.{IsLeft};
-ghost use Rattle.ps_top.specs.Calls.{Answers, Causes, NameRose, files_seen, output_seen};
+ghost use Rattle.ps_top.specs.Calls.{Answers, Causes, LeavesRefusal, NameRose, files_seen, output_seen};
 ghost use Rattle.ps_top.specs.Meets.{IsCut, Gives, Meets};
 ghost use Rattle.ps_top.specs.Program as program;
 ghost use Rattle.ps_top.specs.Running.{Fits};
@@ -55,6 +55,7 @@ fn answer_votes<F: Files, S: Sink>(
     runner: &mut Runner<StruckSeats, LineBuffer>,
     files: &mut F,
     out: &mut S,
+    left: &mut Left,
 ) -> Status
     requires fits { Fits (AreStruckSeatsFor app.now) (λ room. line_room app.now ≤ room) app.now runner.old }
     requires first { AreAtBeginning app.now runner.old.performer }
@@ -67,11 +68,13 @@ fn answer_votes<F: Files, S: Sink>(
     ensures causes { Causes (file_of trace.old ∷ [])
         (files_seen F.tells F.held F.faults files.old) (files_seen F.tells F.held F.faults files.new)
         (output_seen S.tells S.taken S.faults out.old) (output_seen S.tells S.taken S.faults out.new) result }
+    ensures refuses { LeavesRefusal left.new (output_seen S.tells S.taken S.faults out.new) result }
+    ensures checked { left.new.checked ≡ left.old.checked }
     ensures no_usage { result ≢ Status.Usage }
 {
     match do_items(app, trace, runner, files, out) {
         Ok(()) => Status::Done,
-        Err(Cut::Refused(refusal)) => say_refused(out, &refusal, Status::BadInput),
+        Err(Cut::Refused(refusal)) => say_refused(out, &refusal, Status::BadInput, left),
         Err(Cut::Unread) => Status::ReadFault,
         Err(Cut::Unwritten) => Status::WriteFault,
     }
@@ -85,6 +88,7 @@ fn vote_on_trace<F: Files, S: Sink>(
     runner: &mut Runner<StruckSeats, LineBuffer>,
     files: &mut F,
     out: &mut S,
+    left: &mut Left,
 ) -> Status
     requires accepted { Accepted app.now }
     requires fits { Fits (AreStruckSeatsFor app.now) (λ room. line_room app.now ≤ room) app.now runner.old }
@@ -93,19 +97,21 @@ fn vote_on_trace<F: Files, S: Sink>(
         Meets (program.vote_named runner.old.performer.heals app.now runner.old.performer.world.setup runner.old.performer.faults trace.now) (F.held files.old)
         (NameRose (files_seen F.tells F.held F.faults files.old) (files_seen F.tells F.held F.faults files.new))
         (S.tells out.old) (S.taken out.old) (S.taken out.new) result }
-    ensures leaves { IsTrue (F.tells files.old) → ¬ IsCut result → (left : LeftBehind) → left.votes ≡ Some runner.new.performer.world →
-        IsLeft (program.vote_named runner.old.performer.heals app.now runner.old.performer.world.setup runner.old.performer.faults trace.now) (F.held files.old) left }
+    ensures leaves { IsTrue (F.tells files.old) → ¬ IsCut result → (behind : LeftBehind) → behind.votes ≡ Some runner.new.performer.world →
+        IsLeft (program.vote_named runner.old.performer.heals app.now runner.old.performer.world.setup runner.old.performer.faults trace.now) (F.held files.old) behind }
     ensures causes { Causes (trace.now ∷ [])
         (files_seen F.tells F.held F.faults files.old) (files_seen F.tells F.held F.faults files.new)
         (output_seen S.tells S.taken S.faults out.old) (output_seen S.tells S.taken S.faults out.new) result }
+    ensures refuses { LeavesRefusal left.new (output_seen S.tells S.taken S.faults out.new) result }
+    ensures checked { left.new.checked ≡ left.old.checked }
     ensures no_usage { result ≢ Status.Usage }
 {
     app.sound();
     vote_runs_are_right(app);
     heal_runs_are_right(app);
     match TraceReader::start(alloc, files, trace, app) {
-        Ok(mut reader) => answer_votes(app, &mut reader, runner, files, out),
-        Err(TraceFail::Refused(refusal)) => say_refused(out, &refusal, Status::BadInput),
+        Ok(mut reader) => answer_votes(app, &mut reader, runner, files, out, left),
+        Err(TraceFail::Refused(refusal)) => say_refused(out, &refusal, Status::BadInput, left),
         Err(TraceFail::Memory) => Status::Memory,
         Err(TraceFail::Fault) => Status::ReadFault,
     }
@@ -126,6 +132,7 @@ fn vote_named<F: Files, S: Sink>(
     ensures answers { Answers (program.vote_named seats.heals app.now seats.world.setup seats.faults trace.now) (trace.now ∷ [])
         (files_seen F.tells F.held F.faults files.old) (files_seen F.tells F.held F.faults files.new)
         (output_seen S.tells S.taken S.faults out.old) (output_seen S.tells S.taken S.faults out.new) left.new result }
+    ensures refuses { LeavesRefusal left.new (output_seen S.tells S.taken S.faults out.new) result }
     ensures checked { left.new.checked ≡ left.old.checked }
     ensures no_usage { result ≢ Status.Usage }
 {
@@ -133,7 +140,7 @@ fn vote_named<F: Files, S: Sink>(
         Ok(runner) => runner,
         Err(Memory) => return Status::Memory,
     };
-    let status = vote_on_trace(alloc, app, trace, &mut runner, files, out);
+    let status = vote_on_trace(alloc, app, trace, &mut runner, files, out, left);
     let seats = runner.performer;
     left.votes = Some(seats.world);
     status
@@ -183,6 +190,7 @@ fn vote_faults<F: Files, S: Sink>(
     ensures answers { Answers (program.with_seat_faults heals world.setup faults.now (λ list. program.vote_named heals app.now world.setup list trace.now)) (faults.now ∷ trace.now ∷ [])
         (files_seen F.tells F.held F.faults files.old) (files_seen F.tells F.held F.faults files.new)
         (output_seen S.tells S.taken S.faults out.old) (output_seen S.tells S.taken S.faults out.new) left.new result }
+    ensures refuses { LeavesRefusal left.new (output_seen S.tells S.taken S.faults out.new) result }
     ensures checked { left.new.checked ≡ left.old.checked }
     ensures no_usage { result ≢ Status.Usage }
 {
@@ -192,7 +200,7 @@ fn vote_faults<F: Files, S: Sink>(
             let seats = StruckSeats::new(world, faults, heals);
             vote_named(alloc, app, trace, seats, files, out, left)
         }
-        Err(why) => refuse_faults(out, why),
+        Err(why) => refuse_faults(out, why, left),
     }
 }
 
@@ -211,6 +219,7 @@ fn vote_struck<F: Files, S: Sink>(
     ensures answers { Answers (program.vote_struck heals trace.now faults.now app.now) (faults.now ∷ trace.now ∷ [])
         (files_seen F.tells F.held F.faults files.old) (files_seen F.tells F.held F.faults files.new)
         (output_seen S.tells S.taken S.faults out.old) (output_seen S.tells S.taken S.faults out.new) left.new result }
+    ensures refuses { LeavesRefusal left.new (output_seen S.tells S.taken S.faults out.new) result }
     ensures checked { left.new.checked ≡ left.old.checked }
     ensures no_usage { result ≢ Status.Usage }
 {
@@ -234,6 +243,7 @@ fn voted<F: Files, S: Sink>(
     ensures answers { Answers (program.voted heals app.now trace.now faults.now) (app.now ∷ faults.now ∷ trace.now ∷ [])
         (files_seen F.tells F.held F.faults files.old) (files_seen F.tells F.held F.faults files.new)
         (output_seen S.tells S.taken S.faults out.old) (output_seen S.tells S.taken S.faults out.new) left.new result }
+    ensures refuses { LeavesRefusal left.new (output_seen S.tells S.taken S.faults out.new) result }
     ensures no_usage { result ≢ Status.Usage }
 {
     match read_accepted(alloc, app, files) {
@@ -242,7 +252,7 @@ fn voted<F: Files, S: Sink>(
             left.checked = Some(checked);
             vote_struck(alloc, heals, &app, trace, faults, files, out, left)
         }
-        Err(why) => refuse(out, why),
+        Err(why) => refuse(out, why, left),
     }
 }
 
@@ -260,6 +270,7 @@ pub(crate) fn vote<F: Files, S: Sink>(
     ensures answers { Answers (program.vote app.now trace.now faults.now) (app.now ∷ faults.now ∷ trace.now ∷ [])
         (files_seen F.tells F.held F.faults files.old) (files_seen F.tells F.held F.faults files.new)
         (output_seen S.tells S.taken S.faults out.old) (output_seen S.tells S.taken S.faults out.new) left.new result }
+    ensures refuses { LeavesRefusal left.new (output_seen S.tells S.taken S.faults out.new) result }
     ensures no_usage { result ≢ Status.Usage }
 {
     voted(alloc, false, app, trace, faults, files, out, left)
@@ -279,6 +290,7 @@ pub(crate) fn heal<F: Files, S: Sink>(
     ensures answers { Answers (program.heal app.now trace.now faults.now) (app.now ∷ faults.now ∷ trace.now ∷ [])
         (files_seen F.tells F.held F.faults files.old) (files_seen F.tells F.held F.faults files.new)
         (output_seen S.tells S.taken S.faults out.old) (output_seen S.tells S.taken S.faults out.new) left.new result }
+    ensures refuses { LeavesRefusal left.new (output_seen S.tells S.taken S.faults out.new) result }
     ensures no_usage { result ≢ Status.Usage }
 {
     voted(alloc, true, app, trace, faults, files, out, left)

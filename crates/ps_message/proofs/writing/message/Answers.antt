@@ -12,12 +12,12 @@ of_given P text holds (Err e) same = same
 pub returns-clause-bounded : goal.returns-clause-bounded
 returns-clause-bounded c =
     let place : Place = c.args.refusal.now.place in
-    of_given (λ bytes. length bytes ≤ 2200) (message_text c.advice_on.result c.args.file.now c.args.text.now place)
-    (length-message c.advice_on.result c.args.file.now c.args.text.now place (short-advice c.advice_on.result c.advice_on.ensures.short) c.written.ensures.numbers.0 c.written.ensures.numbers.1)
+    of_given (λ bytes. length bytes ≤ 3000) (message_text c.advice_of-advice.result c.as_slice.result.now c.args.file.now c.args.text.now place)
+    (length-message c.advice_of-advice.result c.as_slice.result.now c.args.file.now c.args.text.now place (short-advice c.advice_of-advice.result c.advice_of-advice.ensures.short) c.written.ensures.numbers.0 c.written.ensures.numbers.1)
     c.written.result c.written.ensures.says
 
 pub returns-clause-ended : goal.returns-clause-ended
 returns-clause-ended c =
     let place : Place = c.args.refusal.now.place in
-    of_given IsEnded (message_text c.advice_on.result c.args.file.now c.args.text.now place)
-    (message-ended c.advice_on.result c.args.file.now c.args.text.now place) c.written.result c.written.ensures.says
+    of_given IsEnded (message_text c.advice_of-advice.result c.as_slice.result.now c.args.file.now c.args.text.now place)
+    (message-ended c.advice_of-advice.result c.as_slice.result.now c.args.file.now c.args.text.now place) c.written.result c.written.ensures.says

@@ -47,6 +47,6 @@ pub returns-in-Err-clause-answers : goal.returns-in-Err-clause-answers
 returns-in-Err-clause-answers g c = λ files.
     let out = output_seen g.S.Sink.tells g.S.Sink.taken g.S.Sink.faults c.args.out.now in
     let out' = output_seen g.S.Sink.tells g.S.Sink.taken g.S.Sink.faults c.refuse.new.out in
-    no_load_answers c.args.number Accepted (λ text a. IsAcceptedAs text (stands_for (app_of a)) × IsChecked a) files out out' c.args.left.now c.refuse.result c.in-Err.why (c.in-Err.ensures.read refl)
+    no_load_answers c.args.number Accepted (λ text a. IsAcceptedAs text (stands_for (app_of a)) × IsChecked a) files out out' c.refuse.new.left c.refuse.result c.in-Err.why (c.in-Err.ensures.read refl)
     (λ fault. never_fails c.new-files.result c.read_accepted.new.files (codes "app") refl (ap (λ held. is_some (held (codes "app"))) c.in-Err.ensures.kept) (c.in-Err.ensures.fault fault))
     c.refuse.ensures.says

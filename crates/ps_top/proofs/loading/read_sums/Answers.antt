@@ -50,7 +50,7 @@ returns-in-Err-Refused-clause-answers g c = λ files left is_left.
     let is : scans ≡ only_refused c.in-Err-Refused.refusal =
     ap scans_behind (c.start.ensures.refuses refl text c.requires.held c.in-Err-Refused.refusal (c.in-Err-Refused.is ∙ ap Err c.in-Err-Refused.field-0-is)) in
     let says : SaysAnswer (load_answer n net [] w scans) before after c.say_refused.result =
-    subst (λ (s : Scans). SaysAnswer (load_answer n net [] w s) before after c.say_refused.result) (sym is) c.say_refused.ensures in
+    subst (λ (s : Scans). SaysAnswer (load_answer n net [] w s) before after c.say_refused.result) (sym is) c.say_refused.ensures.says in
     load_answers net c.sound.ensures n w c.requires.first.world (c.quiet_runs_release.ensures c.requires.accepted w.setup c.requires.first.world.setup) scans (scans_timely text net) few
     files before after left c.say_refused.result says (λ not_cut. is_left ∙ ap (λ (s : Scans). Some (ran [] 1 s.items w)) (sym is))
 

@@ -31,6 +31,6 @@ returns-clause-answers g c = λ files.
     let n = c.args.number in
     let out = output_seen g.S.Sink.tells g.S.Sink.taken g.S.Sink.faults c.args.out.now in
     let out' = output_seen g.S.Sink.tells g.S.Sink.taken g.S.Sink.faults c.read_sums-status.new.out in
-    let left : Left = record { checked = c.args.left.now.checked; world = Some c.read_sums-status.new.runner.performer.world; votes = c.args.left.now.votes } in
+    let left : Left = record (c.read_sums-status.new.left) { world = Some c.read_sums-status.new.runner.performer.world } in
     subst (λ (w : Whole). Answers (sum_scans n net w.setup (scans_of (trace_text n) net)) [] files files out out' left c.read_sums-status.result)
     (ap (λ (p : StruckWorld). p.world) c.in-Ok.ensures.performer ∙ c.new-world.ensures.world) (c.read_sums-status.ensures.answers files left refl)

@@ -49,7 +49,7 @@ returns-in-Err-Refused-clause-says g c =
     let same : IsTrue before.tells → mid.taken ≡ before.taken = λ on. does.written on ∙ ap (λ (l : List ℕ). before.taken ++ l) ended.0 ∙ append-nil before.taken in
     let said : answer (refusal_text c.in-Err-Refused.refusal) BadInput ≡ load_answer c.args.number net p.faults p.world scans =
     (λ i. counted_answer c.args.number (sym ended.1.0 i) (fold counted none_counted (outcomes scans.items (answered net p.faults 1 scans.items p.world)))) in
-    subst (λ (a : Answer). SaysAnswer a before last c.say_refused.result) said (says_behind (λ cut. grind arith) stays same c.say_refused.ensures)
+    subst (λ (a : Answer). SaysAnswer a before last c.say_refused.result) said (says_behind (λ cut. grind arith) stays same c.say_refused.ensures.says)
 
 pub returns-in-Err-Unwritten-clause-says : goal.returns-in-Err-Unwritten-clause-says
 returns-in-Err-Unwritten-clause-says g c =

@@ -78,7 +78,7 @@ returns-in-Err-Refused-clause-causes g c =
     let out = output_seen g.S.Sink.tells g.S.Sink.taken g.S.Sink.faults c.args.out.now in
     let out' = output_seen g.S.Sink.tells g.S.Sink.taken g.S.Sink.faults c.say_refused.new.out in
     said_causes (c.args.trace.now ∷ []) {files = first} {files' = last} {out = out} {out1 = out} {out' = out'} (λ cut. grind arith)
-    (record { counts = c.start.ensures.counts; held = c.start.ensures.kept; telling = c.start.ensures.telling }) (output_same out) c.say_refused.ensures
+    (record { counts = c.start.ensures.counts; held = c.start.ensures.kept; telling = c.start.ensures.telling }) (output_same out) c.say_refused.ensures.says
 
 pub returns-in-Err-Refused-clause-meets : goal.returns-in-Err-Refused-clause-meets
 returns-in-Err-Refused-clause-meets g c = λ ft.
@@ -98,10 +98,10 @@ returns-in-Err-Refused-clause-meets g c = λ ft.
     let right = c.runs_are_right.ensures c.requires.accepted setup c.requires.first.world.setup in
     streamed_meets trace text (λ t. answer_scans net setup p.faults (scans_of t net)) (λ said. said ≡ answer (refusal_text refusal) BadInput) held (NameRose first last)
     out.tells out.taken out'.taken c.say_refused.result found.1
-    (λ fault. absurd (no_read_said BadInput c.say_refused.result (λ cut. grind arith) c.say_refused.ensures.ends fault))
+    (λ fault. absurd (no_read_said BadInput c.say_refused.result (λ cut. grind arith) c.say_refused.ensures.says.ends fault))
     (λ said e. refusal_answers net c.sound.ensures p.faults c.requires.first.one_channel p.world c.requires.first.world right held (scans_of text net) refusal said
     (ap scans_behind (c.start.ensures.refuses ft text found.1 refusal is)) e)
-    c.say_refused.ensures.gives
+    c.say_refused.ensures.says.gives
 
 pub returns-in-Err-Refused-clause-leaves : goal.returns-in-Err-Refused-clause-leaves
 returns-in-Err-Refused-clause-leaves g c = λ ft not_cut left is_left.

@@ -51,7 +51,7 @@ returns-in-Err-clause-answers g c =
     let last = files_seen g.F.Files.tells g.F.Files.held g.F.Files.faults c.read_faults.new.files in
     let same : c.sizes-sizes.result ≡ region_sizes w.setup = c.sizes-sizes.ensures ∙ sizes_at_first w c.requires.first in
     no_faults_answers (λ text. faults_of text (region_sizes w.setup)) name (λ list. run_named c.args.app.now w.setup list c.args.trace.now) (c.args.trace.now ∷ []) first last
-    (output_seen g.S.Sink.tells g.S.Sink.taken g.S.Sink.faults c.args.out.now) (output_seen g.S.Sink.tells g.S.Sink.taken g.S.Sink.faults c.refuse_faults.new.out) c.args.left.now c.refuse_faults.result c.in-Err.why
+    (output_seen g.S.Sink.tells g.S.Sink.taken g.S.Sink.faults c.args.out.now) (output_seen g.S.Sink.tells g.S.Sink.taken g.S.Sink.faults c.refuse_faults.new.out) c.refuse_faults.new.left c.refuse_faults.result c.in-Err.why
     (record { counts = c.read_faults.ensures.counts; held = c.read_faults.ensures.kept; telling = c.read_faults.ensures.telling })
     (λ tells. unfound (λ text. faults_of text (region_sizes w.setup)) name first c.in-Err.why (λ refusal e.
     let is = c.in-Err.is ∙ ap Err e in

@@ -23,7 +23,7 @@ returns-clause-answers g c =
     let last = files_seen g.F.Files.tells g.F.Files.held g.F.Files.faults c.answer_trace-status.new.files in
     let out = output_seen g.S.Sink.tells g.S.Sink.taken g.S.Sink.faults c.args.out.now in
     let out' = output_seen g.S.Sink.tells g.S.Sink.taken g.S.Sink.faults c.answer_trace-status.new.out in
-    let left : Left = record { checked = c.args.left.now.checked; world = Some c.answer_trace-status.new.runner.performer.world; votes = c.args.left.now.votes } in
+    let left : Left = record (c.answer_trace-status.new.left) { trip = c.answer_trace-status.new.runner.performer.trip; world = Some c.answer_trace-status.new.runner.performer.world } in
     record {
       meets = λ tells.
           subst (λ (p : StruckWorld). Meets (run_named net p.world.setup p.faults trace) held (NameRose first last) out.tells out.taken out'.taken c.answer_trace-status.result) c.in-Ok.ensures.world

@@ -27,9 +27,9 @@ returns-in-Err-Refused-clause-gives g c = λ ft text is reading.
     let ended = subst (λ (e : Result (Unit {0}) Cut). GivesAsEnded c.args.app.now p.heals p.faults (items_left c.args.trace.now text) p c.do_items.new.runner.performer
     (g.S.Sink.tells c.args.out.now) (g.S.Sink.taken c.args.out.now) (g.S.Sink.taken c.do_items.new.out) e) (c.in-Err-Refused.is ∙ ap Err c.in-Err-Refused.field-0-is)
     (items_give c.args.app.now p.heals p.faults (items_left c.args.trace.now text) p c.do_items.new.runner.performer _ _ _ does.bytes _ _ _ _ (first_stands c.args.app.now p c.requires.first, refl) does.did does.written) in
-    ended.0 (g.S.Sink.taken c.say_refused.new.out) c.say_refused.result c.say_refused.ensures.ends
+    ended.0 (g.S.Sink.taken c.say_refused.new.out) c.say_refused.result c.say_refused.ensures.says.ends
     (subst (λ (b : Bool). Gives (λ said. said ≡ answer (refusal_text c.in-Err-Refused.refusal) BadInput) b (g.S.Sink.taken c.do_items.new.out) (g.S.Sink.taken c.say_refused.new.out) c.say_refused.result)
-    c.do_items.ensures.telling c.say_refused.ensures.gives)
+    c.do_items.ensures.telling c.say_refused.ensures.says.gives)
 
 pub returns-in-Err-Unread-clause-gives : goal.returns-in-Err-Unread-clause-gives
 returns-in-Err-Unread-clause-gives g c = λ ft text is reading.
@@ -85,7 +85,7 @@ returns-in-Err-Refused-clause-causes g c =
     let mid = output_seen g.S.Sink.tells g.S.Sink.taken g.S.Sink.faults c.do_items.new.out in
     let keeps : KeepsFiles first last = record { counts = c.do_items.ensures.counts; held = c.do_items.ensures.kept; telling = c.do_items.ensures.files_telling } in
     let stays : KeepsOutput before mid = record { counts = c.do_items.ensures.count; telling = c.do_items.ensures.telling } in
-    said_causes (file_of c.args.trace.now ∷ []) (λ cut. grind arith) keeps stays c.say_refused.ensures
+    said_causes (file_of c.args.trace.now ∷ []) (λ cut. grind arith) keeps stays c.say_refused.ensures.says
 
 pub returns-in-Err-Unread-clause-causes : goal.returns-in-Err-Unread-clause-causes
 returns-in-Err-Unread-clause-causes g c =

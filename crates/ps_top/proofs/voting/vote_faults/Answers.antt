@@ -57,7 +57,7 @@ returns-in-Err-clause-answers g c =
     let faults_in : List ℕ → FaultList VoteFault = λ text. seat_faults_of heals text (seat_sizes w.setup) in
     let same : c.sizes-sizes.result ≡ seat_sizes w.setup = c.sizes-sizes.ensures ∙ seat_sizes_at_first w c.requires.first in
     no_faults_answers faults_in name (λ list. vote_named heals c.args.app.now w.setup list c.args.trace.now) (c.args.trace.now ∷ []) first last
-    (output_seen g.S.Sink.tells g.S.Sink.taken g.S.Sink.faults c.args.out.now) (output_seen g.S.Sink.tells g.S.Sink.taken g.S.Sink.faults c.refuse_faults.new.out) c.args.left.now c.refuse_faults.result c.in-Err.why
+    (output_seen g.S.Sink.tells g.S.Sink.taken g.S.Sink.faults c.args.out.now) (output_seen g.S.Sink.tells g.S.Sink.taken g.S.Sink.faults c.refuse_faults.new.out) c.refuse_faults.new.left c.refuse_faults.result c.in-Err.why
     (record { counts = c.read_seat_faults.ensures.counts; held = c.read_seat_faults.ensures.kept; telling = c.read_seat_faults.ensures.telling })
     (λ tells. unfound faults_in name first c.in-Err.why (λ refusal e.
     let is = c.in-Err.is ∙ ap Err e in

@@ -23,7 +23,7 @@ returns-clause-answers g c =
     let last = files_seen g.F.Files.tells g.F.Files.held g.F.Files.faults c.vote_on_trace-status.new.files in
     let out = output_seen g.S.Sink.tells g.S.Sink.taken g.S.Sink.faults c.args.out.now in
     let out' = output_seen g.S.Sink.tells g.S.Sink.taken g.S.Sink.faults c.vote_on_trace-status.new.out in
-    let left : Left = record { checked = c.args.left.now.checked; world = c.args.left.now.world; votes = Some c.vote_on_trace-status.new.runner.performer.world } in
+    let left : Left = record (c.vote_on_trace-status.new.left) { votes = Some c.vote_on_trace-status.new.runner.performer.world } in
     record {
       meets = λ tells.
           subst (λ (p : StruckSeats). Meets (vote_named p.heals net p.world.setup p.faults trace) held (NameRose first last) out.tells out.taken out'.taken c.vote_on_trace-status.result) c.in-Ok.ensures.seats

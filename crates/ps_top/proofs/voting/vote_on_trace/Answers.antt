@@ -65,8 +65,7 @@ returns-in-Ok-clause-leaves g c = λ ft not_cut left is_left.
     let found = some_of (held trace) (c.in-Ok.ensures.found ft tt) in
     let text = found.0 in
     let ft' : IsTrue (g.F.Files.tells c.start.new.files) = subst (λ (b : Bool). IsTrue b) (sym c.in-Ok.ensures.telling) ft in
-    let held' : g.F.Files.held c.start.new.files (file_of reader) ≡ Some text = ap (λ h. h (file_of reader)) c.in-Ok.ensures.kept ∙ ap held c.in-Ok.ensures.name ∙ found.1 in
-    (
+    let held' : g.F.Files.held c.start.new.files (file_of reader) ≡ Some text = ap (λ h. h (file_of reader)) c.in-Ok.ensures.kept ∙ ap held c.in-Ok.ensures.name ∙ found.1 in (
       text,
       found.1,
       run_leaves net c.sound.ensures p.heals p.faults p.world c.requires.first.world (items_left reader text) (scans_of text net)
@@ -80,7 +79,7 @@ returns-in-Err-Refused-clause-causes g c =
     let out = output_seen g.S.Sink.tells g.S.Sink.taken g.S.Sink.faults c.args.out.now in
     let out' = output_seen g.S.Sink.tells g.S.Sink.taken g.S.Sink.faults c.say_refused.new.out in
     said_causes (c.args.trace.now ∷ []) {files = first} {files' = last} {out = out} {out1 = out} {out' = out'} (λ cut. grind arith)
-    (record { counts = c.start.ensures.counts; held = c.start.ensures.kept; telling = c.start.ensures.telling }) (output_same out) c.say_refused.ensures
+    (record { counts = c.start.ensures.counts; held = c.start.ensures.kept; telling = c.start.ensures.telling }) (output_same out) c.say_refused.ensures.says
 
 pub returns-in-Err-Refused-clause-meets : goal.returns-in-Err-Refused-clause-meets
 returns-in-Err-Refused-clause-meets g c = λ ft.
@@ -99,10 +98,10 @@ returns-in-Err-Refused-clause-meets g c = λ ft.
     let text = found.0 in
     streamed_meets trace text (λ t. vote_scans p.heals net setup p.faults (scans_of t net)) (λ said. said ≡ answer (refusal_text refusal) BadInput) held (NameRose first last)
     out.tells out.taken out'.taken c.say_refused.result found.1
-    (λ fault. absurd (no_read_said BadInput c.say_refused.result (λ cut. grind arith) c.say_refused.ensures.ends fault))
+    (λ fault. absurd (no_read_said BadInput c.say_refused.result (λ cut. grind arith) c.say_refused.ensures.says.ends fault))
     (λ said e. refusal_answers net c.sound.ensures p.heals p.faults p.world c.requires.first.world held (scans_of text net) refusal said
     (ap scans_behind (c.start.ensures.refuses ft text found.1 refusal is)) e)
-    c.say_refused.ensures.gives
+    c.say_refused.ensures.says.gives
 
 pub returns-in-Err-Refused-clause-leaves : goal.returns-in-Err-Refused-clause-leaves
 returns-in-Err-Refused-clause-leaves g c = λ ft not_cut left is_left.
@@ -111,8 +110,7 @@ returns-in-Err-Refused-clause-leaves g c = λ ft not_cut left is_left.
     let held = g.F.Files.held c.args.files.now in
     let refusal = c.in-Err-Refused.refusal in
     let is = c.in-Err-Refused.is ∙ ap Err c.in-Err-Refused.field-0-is in
-    let found = some_of (held c.args.trace.now) (c.start.ensures.found ft (subst (λ (r : Result TraceReader TraceFail). IsRead r) (sym is) tt)) in
-    (
+    let found = some_of (held c.args.trace.now) (c.start.ensures.found ft (subst (λ (r : Result TraceReader TraceFail). IsRead r) (sym is) tt)) in (
       found.0,
       found.1,
       refusal_leaves net c.sound.ensures p.heals p.faults p.world c.requires.first.world (scans_of found.0 net) refusal

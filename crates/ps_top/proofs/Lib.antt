@@ -12,7 +12,7 @@ mod Meant
 mod Faulted
 mod Setups
 mod Doing
-mod Judged
+mod Ruling
 mod Safe
 mod OneJudgement
 mod OneAnswer

@@ -20,8 +20,8 @@ use Rattle.ps_words.specs.Command.{Command, command_of}
 use Rattle.ps_words.specs.Command.Command.{Run, Fault as FaultWords, Check, Cert, Verify, Image, Load, Demand, Vote, Heal, NotTaken}
 use Rattle.ps_top.specs.Asking.{Answer, Asking, IsAnswer, AsksFor}
 use Rattle.ps_top.specs.Asking.Asking.{Says, Asks, Finds, Leaves}
-use Rattle.ps_top.specs.Program.{Judged, Judges, verdict, leaves_checked, with_application, accepted_source, accepted, summary, sum_scans, sum_trace, load, leaves_world, answer, image_lines, imaged, region_sizes, trips_of, unless_refused, with_faults, run_quietly, run_struck, answer_scans, run_named, verify_named, verify, demanded, demand, seat_faults_of, seat_sizes, told_votes, leaves_votes, vote_scans, vote_named, with_seat_faults, vote_struck, said, told, text}
-use Rattle.ps_top.specs.Program.Judged.{derives, objects}
+use Rattle.ps_top.specs.Program.{Ruling, Judges, verdict, leaves_checked, with_application, accepted_source, accepted, summary, sum_scans, sum_trace, load, leaves_world, answer, image_lines, imaged, region_sizes, trips_of, unless_refused, with_faults, run_quietly, run_struck, answer_scans, run_named, verify_named, verify, demanded, demand, seat_faults_of, seat_sizes, told_votes, leaves_votes, vote_scans, vote_named, with_seat_faults, vote_struck, said, told, text}
+use Rattle.ps_top.specs.Program.Ruling.{derives, objects}
 use Rattle.ps_source.specs.Demanding.{IsDemandableAs}
 use Rattle.ps_source.specs.Source.{Reading, Resolves, IsResolvedAs, IsAcceptedAs, counts}
 use Rattle.ps_top.specs.declared.Status.TheVariants.{Done}
@@ -135,7 +135,7 @@ module _ (held : List ℕ → Option (List ℕ)) where
       source_determined app_text (sum_trace n)
       (λ net r. setup_determined net (λ setup. sum_scans n net setup (scans_of (trace_text n) net)) (λ setup. sums_determined n net (resolved_sound app_text net r) setup (scans_of (trace_text n) net)))
 
-  verdict_determined : (net : Network) (j : Judged) → IsDetermined (verdict net j) held
+  verdict_determined : (net : Network) (j : Ruling) → IsDetermined (verdict net j) held
   verdict_determined net (derives lines) = leaves_determined held _ _ (says_determined held _)
   verdict_determined net (objects r) = says_determined held _
 
@@ -146,8 +146,8 @@ module _ (held : List ℕ → Option (List ℕ)) where
     where
       go : (s : List ℕ) (r : Reading) → IsResolvedAs s r → IsDetermined (with_application (λ net. verify_named net c) r) held
       go s (stands_for net) f =
-          asks_determined held c (λ t. Finds Judged (Judges net t) (verdict net))
-          (λ t. finds_determined held Judged (Judges net t) (verdict net) (λ x y p q. one_judgement net t x y p q) (λ j _. verdict_determined net j))
+          asks_determined held c (λ t. Finds Ruling (Judges net t) (verdict net))
+          (λ t. finds_determined held Ruling (Judges net t) (verdict net) (λ x y p q. one_judgement net t x y p q) (λ j _. verdict_determined net j))
       go s (is_refused r) f = says_determined held _
 
   demand_determined : (app : List ℕ) → IsDetermined (demand app) held

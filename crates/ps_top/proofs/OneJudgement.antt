@@ -16,8 +16,8 @@ use Rattle.ps_flow.proofs.OneAnswer.{one_certificate_of, one_text_refusal, refus
 use Rattle.ps_checker.specs.Derives.{Derives, IsInstance, LiteralsFit, is_earlier, fits}
 use Rattle.ps_checker.specs.Objections.{LineBreaks, EachUpTo, LiteralMisfits, Objects}
 use Rattle.ps_checker.proofs.Lawful.{not_derived}
-use Rattle.ps_top.specs.Program.{Judged, HasObjection, Judges}
-use Rattle.ps_top.specs.Program.Judged.{derives, objects}
+use Rattle.ps_top.specs.Program.{Ruling, HasObjection, Judges}
+use Rattle.ps_top.specs.Program.Ruling.{derives, objects}
 
 place_one : (p q : Place) → p.line ≡ q.line → p.column ≡ q.column → p ≡ q
 place_one p q lines columns = λ i. record { line = lines i; column = columns i }
@@ -121,7 +121,7 @@ derived_objected net text lines r d (inl x) = refused_or_certificate text r line
 derived_objected net text lines r d (inr o) =
     not_derived net o.lines r.place.line r.rule o.objection (subst (λ (ls : List CertLine). Derives net ls) (one_certificate_of text lines o.lines d.0 o.certificate_is) d.1)
 
-pub one_judgement : (net : Network) (text : List ℕ) (a b : Judged) → Judges net text a → Judges net text b → a ≡ b
+pub one_judgement : (net : Network) (text : List ℕ) (a b : Ruling) → Judges net text a → Judges net text b → a ≡ b
 one_judgement net text (derives k) (derives m) x y = ap derives (one_certificate_of text k m x.0 y.0)
 one_judgement net text (derives k) (objects q) x y = absurd (derived_objected net text k q x y)
 one_judgement net text (objects r) (derives m) x y = absurd (derived_objected net text m r y x)

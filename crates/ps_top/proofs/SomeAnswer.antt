@@ -23,8 +23,8 @@ use Rattle.ps_words.specs.Command.{Command, command_of}
 use Rattle.ps_words.specs.Command.Command.{Run, Fault as FaultWords, Check, Cert, Verify, Image, Load, Demand, Vote, Heal, NotTaken}
 use Rattle.ps_top.specs.Asking.{Answer, Asking, IsAnswer, AsksFor}
 use Rattle.ps_top.specs.Asking.Asking.{Says, Asks, Finds}
-use Rattle.ps_top.specs.Program.{Judged, Judges, verdict, with_application, accepted_source, accepted, summary, sum_scans, sum_trace, load, answer, image_lines, imaged, region_sizes, trips_of, unless_refused, with_faults, run_quietly, run_struck, answer_scans, run_named, verify_named, verify, demanded, demand, seat_faults_of, seat_sizes, told_votes, vote_scans, vote_named, with_seat_faults, vote_struck, said, told, text}
-use Rattle.ps_top.specs.Program.Judged.{derives, objects}
+use Rattle.ps_top.specs.Program.{Ruling, Judges, verdict, with_application, accepted_source, accepted, summary, sum_scans, sum_trace, load, answer, image_lines, imaged, region_sizes, trips_of, unless_refused, with_faults, run_quietly, run_struck, answer_scans, run_named, verify_named, verify, demanded, demand, seat_faults_of, seat_sizes, told_votes, vote_scans, vote_named, with_seat_faults, vote_struck, said, told, text}
+use Rattle.ps_top.specs.Program.Ruling.{derives, objects}
 use Rattle.ps_top.specs.declared.Status.TheVariants.{Done}
 use Rattle.ps_source.proofs.Keeping.{resolved_sound}
 use Rattle.ps_top.proofs.OneAnswer.{with_counts}
@@ -89,7 +89,7 @@ module _ (held : List ℕ → Option (List ℕ)) where
       unless_some (λ struck. vote_named heals net setup struck trace) list.faults list.refusal (vote_trace_some heals net sound setup list.faults trace)))
 
   module _ (accepts : (source : List ℕ) → (reading : Reading) × IsAcceptedAs source reading) (resolves : (source : List ℕ) → (reading : Reading) × IsResolvedAs source reading)
-      (judges : (net : Network) (certificate : List ℕ) → (judged : Judged) × Judges net certificate judged) where
+      (judges : (net : Network) (certificate : List ℕ) → (judged : Ruling) × Judges net certificate judged) where
     source_some : (s : List ℕ) (next : Network → Asking) → ((net : Network) → Resolves s net → HasAnswer (next net) held) → HasAnswer (accepted_source s next) held
     source_some s next each = finds_some Reading (IsAcceptedAs s) (with_application (with_counts next)) (accepts s).0 (accepts s).1 (go (accepts s).0 (accepts s).1)
       where
@@ -106,7 +106,7 @@ module _ (held : List ℕ → Option (List ℕ)) where
         (λ net r. setup_some net (λ setup. sum_scans n net setup (scans_of (trace_text n) net))
         (λ setup. let scans = scans_of (trace_text n) net in meaning_some net (resolved_sound app_text net r) scans (λ ws. summary n scans.end (map (report net) ws))))
 
-    verdict_some : (net : Network) (j : Judged) → HasAnswer (verdict net j) held
+    verdict_some : (net : Network) (j : Ruling) → HasAnswer (verdict net j) held
     verdict_some net (derives lines) = says_some _
     verdict_some net (objects r) = says_some _
 
@@ -117,8 +117,8 @@ module _ (held : List ℕ → Option (List ℕ)) where
       where
         go : (s : List ℕ) (r : Reading) → HasAnswer (with_application (λ net. verify_named net c) r) held
         go s (stands_for net) =
-            asks_some c (λ t. Finds Judged (Judges net t) (verdict net))
-            (λ t. finds_some Judged (Judges net t) (verdict net) (judges net t).0 (judges net t).1 (verdict_some net (judges net t).0))
+            asks_some c (λ t. Finds Ruling (Judges net t) (verdict net))
+            (λ t. finds_some Ruling (Judges net t) (verdict net) (judges net t).0 (judges net t).1 (verdict_some net (judges net t).0))
         go s (is_refused r) = says_some _
 
     demand_some : (app : List ℕ) → HasAnswer (demand app) held
@@ -144,6 +144,6 @@ module _ (held : List ℕ → Option (List ℕ)) where
     said_some NotTaken = says_some _
 
 pub some_answer : (words : List (List ℕ)) (held : List ℕ → Option (List ℕ)) → ((source : List ℕ) → (reading : Reading) × IsAcceptedAs source reading) →
-    ((source : List ℕ) → (reading : Reading) × IsResolvedAs source reading) → ((net : Network) (certificate : List ℕ) → (judged : Judged) × Judges net certificate judged) →
+    ((source : List ℕ) → (reading : Reading) × IsResolvedAs source reading) → ((net : Network) (certificate : List ℕ) → (judged : Ruling) × Judges net certificate judged) →
     ((name : List ℕ) → AsksFor (text words) held name → IsSome (held name)) → (a : Answer) × IsAnswer (text words) held a
 some_answer words held accepts resolves judges all = said_some held accepts resolves judges (command_of words) all

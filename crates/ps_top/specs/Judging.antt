@@ -8,7 +8,7 @@ use Rattle.ps_top.specs.Asking.{Answer}
 use Rattle.ps_source.specs.Source.{counts}
 use Rattle.ps_top.specs.Calls.{OutputSeen, SaysAnswer}
 use Rattle.ps_top.specs.Program.{answer, leaves_checked, Judges}
-use Rattle.ps_top.specs.Program.Judged.{derives, objects}
+use Rattle.ps_top.specs.Program.Ruling.{derives, objects}
 use Rattle.ps_top.specs.declared.Status.{Status}
 use Rattle.ps_top.specs.declared.Status.TheVariants.{Done, BadInput, Memory}
 use Rattle.ps_top.specs.declared.left.Left.{Left}

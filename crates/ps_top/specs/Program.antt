@@ -321,10 +321,10 @@ load n = accepted_source app_text (sum_trace n)
 
 -- ---- verify
 
--- a certificate's lines derive the application, or an objection stands first
-pub data Judged : Type 0 where
-  derives : List CertLine → Judged
-  objects : Refusal → Judged
+-- The ruling on a certificate: its lines derive the application, or an objection stands first.
+pub data Ruling : Type 0 where
+  derives : List CertLine → Ruling
+  objects : Refusal → Ruling
 
 -- the certificate of the text has an objection, which names a line alone
 pub record HasObjection (net : Network) (text : List ℕ) (refusal : Refusal) : Type 0 where
@@ -334,18 +334,18 @@ pub record HasObjection (net : Network) (text : List ℕ) (refusal : Refusal) : 
   pub line_alone : refusal.place.column ≡ 0
 
 -- the rules C are tried before the rules O
-abbrev pub Judges : Network → List ℕ → Judged → Type 0
+abbrev pub Judges : Network → List ℕ → Ruling → Type 0
 Judges net text (derives lines) = IsCertificate text lines × Derives net lines
 Judges net text (objects r) = RefusesText text r.rule r.place ⊎ HasObjection net text r
 
 -- what is said of a certificate that was judged
-abbrev pub verdict : Network → Judged → Asking
+abbrev pub verdict : Network → Ruling → Asking
 verdict net (derives lines) = Leaves (leaves_checked (counts net lines)) (Says (answer (verified_line (length lines)) Done))
 verdict net (objects refusal) = Says (answer (refusal_text refusal) BadInput)
 
 -- the certificate of this name is judged
 abbrev pub verify_named : Network → List ℕ → Asking
-verify_named net cert = Asks cert (λ text. Finds Judged (Judges net text) (verdict net))
+verify_named net cert = Asks cert (λ text. Finds Ruling (Judges net text) (verdict net))
 
 -- `verify APP CERT`: no rule S is tried, and nothing is derived
 abbrev pub verify : List ℕ → List ℕ → Asking

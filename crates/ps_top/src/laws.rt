@@ -8,7 +8,7 @@ ghost use Rattle.ps_model.specs.Scanning.{State};
 ghost use Rattle.ps_top.specs.Asking.{Answer, AsksFor, IsAnswer};
 ghost use Rattle.ps_top.specs.Program as program;
 ghost use Rattle.ps_top.specs.Skeletons.{AreSafeScans};
-ghost use Rattle.ps_top.specs.Program.{Judged, Judges};
+ghost use Rattle.ps_top.specs.Program.{Ruling, Judges};
 ghost use Rattle.ps_source.specs.Source.{Reading, IsAcceptedAs, IsResolvedAs};
 ghost use Rattle.ps_source.specs.Source.Reading.{stands_for};
 
@@ -42,7 +42,7 @@ pub fn an_answer_exists()
     ensures { (words : List (List ℕ)) (held : List ℕ → Option (List ℕ)) →
         ((source : List ℕ) → (reading : Reading) × IsAcceptedAs source reading) →
         ((source : List ℕ) → (reading : Reading) × IsResolvedAs source reading) →
-        ((net : Network) (certificate : List ℕ) → (judged : Judged) × Judges net certificate judged) →
+        ((net : Network) (certificate : List ℕ) → (judged : Ruling) × Judges net certificate judged) →
         ((name : List ℕ) → AsksFor (program.text words) held name → IsSome (held name)) →
         (answer : Answer) × IsAnswer (program.text words) held answer }
 {}

@@ -1,7 +1,7 @@
 use Rattle.std.proofs.Common.{refl, sym, subst, inr}
 use Rattle.ps_base.specs.declared.failing.Refusal.{Refusal}
 use Rattle.ps_top.specs.Program.{Judges}
-use Rattle.ps_top.specs.Program.Judged.{objects}
+use Rattle.ps_top.specs.Program.Ruling.{objects}
 use Rattle.ps_top.proofs.verifying.compare.Goals as goal
 
 pub returns-in-Ok : goal.returns-in-Ok

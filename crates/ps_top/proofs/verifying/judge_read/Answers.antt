@@ -5,7 +5,7 @@ use Rattle.ps_base.specs.declared.failing.Refusal.{Refusal}
 use Rattle.ps_base.specs.declared.limits.TheConstants.{LARGEST_CERTIFICATE}
 use Rattle.ps_top.specs.Judging.{IsJudged}
 use Rattle.ps_top.specs.Program.{Judges}
-use Rattle.ps_top.specs.Program.Judged.{objects}
+use Rattle.ps_top.specs.Program.Ruling.{objects}
 use Rattle.ps_top.proofs.verifying.judge_read.Goals as goal
 
 pub returns-then-text : goal.returns-then-text

@@ -2,9 +2,9 @@ use Rattle.std.proofs.Common.{◌∙◌, [], ◌∷◌, Err, ap}
 use Rattle.ps_source.proofs.Sourced.{some_of}
 use Rattle.ps_top.specs.Asking.Asking.{Finds}
 use Rattle.ps_top.specs.Calls.{KeepsFiles, files_seen, output_seen}
-use Rattle.ps_top.specs.Program.{Judged, Judges, verdict, verify_named}
+use Rattle.ps_top.specs.Program.{Ruling, Judges, verdict, verify_named}
 use Rattle.ps_top.proofs.Calling.{memory_answers, unread_answers}
-use Rattle.ps_top.proofs.Judged.{judgement_answers}
+use Rattle.ps_top.proofs.Ruling.{judgement_answers}
 use Rattle.ps_top.proofs.verifying.verify_named.Goals as goal
 
 pub returns-in-Ok-judge_read-clause-answers : goal.returns-in-Ok-judge_read-clause-answers
@@ -36,7 +36,7 @@ returns-in-Err-Memory-clause-answers g c =
 
 pub returns-clause-answers : goal.returns-clause-answers
 returns-clause-answers g c =
-    unread_answers c.args.cert.now (λ text. Finds Judged (Judges c.args.app.now text) (verdict c.args.app.now)) []
+    unread_answers c.args.cert.now (λ text. Finds Ruling (Judges c.args.app.now text) (verdict c.args.app.now)) []
     (files_seen g.F.Files.tells g.F.Files.held g.F.Files.faults c.args.files.now)
     (files_seen g.F.Files.tells g.F.Files.held g.F.Files.faults c.read_upto.new.files) _ _
     (record { counts = c.read_upto.ensures.counts; held = c.read_upto.ensures.kept; telling = c.read_upto.ensures.telling })

@@ -1,5 +1,5 @@
 -- Three seats that finish, one after the other, lead to the world of turns one by one.
-use Rattle.std.proofs.Common.{◌≡◌, ◌∙◌, ◌+◌, ◌≤◌, ℕ, Bool, List, [], Option, None, sym, ap, subst, arith}
+use Rattle.std.proofs.Common.{◌≡◌, ◌∙◌, ℕ, Bool, List, [], Option, None, sym, ap, subst, arith}
 use Rattle.ps_machine.specs.Machines.{machine_of, turned}
 use Rattle.ps_machine.specs.Channels.{after_turn}
 use Rattle.ps_seat.specs.Seats.{Seat_state, Finishes}

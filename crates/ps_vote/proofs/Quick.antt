@@ -1,6 +1,5 @@
 -- Without a Spoil the turns of a scan lead to one world, whether seats take turns or one finishes before the other.
-use Rattle.std.proofs.Common.{◌≡◌, ℕ, zero, suc, ◌+◌, ◌≤◌, Bool, true, false, List, [], ◌∷◌, Option, Some, None, cond, inl, inr, refl, sym, ap, ◌∙◌, subst, arith}
-use Rattle.std.specs.Prelude.{◌&&◌}
+use Rattle.std.proofs.Common.{◌≡◌, ℕ, zero, suc, ◌+◌, ◌≤◌, Bool, true, false, [], Option, Some, None, cond, inl, inr, refl, sym, ap, ◌∙◌, subst, arith}
 use Rattle.std.proofs.lemmas.Bool.{cases_Bool, false≢true}
 use Rattle.ps_machine.specs.Machines.{turned}
 use Rattle.ps_machine.specs.Channels.{after_turn, ended}
@@ -11,6 +10,7 @@ use Rattle.ps_vote.specs.Worlds.{Machines, World_state, Turn, machine, channel}
 use Rattle.ps_vote.specs.Steps.{world_step, after, all_ended}
 use Rattle.ps_vote.specs.Orders.{Path, no_more, first, next_turn, turns}
 use Rattle.ps_vote.proofs.Reaching.{next_goes}
+use Rattle.ps_vote.proofs.Standing.{each_ended}
 
 -- the world with all seats after so many turns of each
 abbrev pub finished : Machines → (ka kb kc : ℕ) → World_state → World_state
@@ -74,18 +74,11 @@ module _ (heals : Bool) (m : Machines) where
       none_left s zero h over = refl
       none_left s (suc k) h over = absurd (false≢true (sym (h.each 0 (omega arith)) ∙ over))
 
-      and_three : (a b c : Bool) → (a && b && c) ≡ true → (a ≡ true) × (b ≡ true) × (c ≡ true)
-      and_three true true true h = (refl, refl, refl)
-      and_three true true false h = absurd (cc)
-      and_three true false c h = absurd (cc)
-      and_three false b c h = absurd (cc)
-
       all_over : all_ended m x ≡ true → LeadsTo m (turns heals m [] (suc left) done last x) x (finished m ka kb kc x)
       all_over over =
-          let e = and_three (ended m.a x.a) (ended m.b x.b) (ended m.c x.c) over in
           let h = ends left done last x over in
           record {
-            leads = h.leads ∙ (λ i. finished m (sym (none_left A ka ha e.0) i) (sym (none_left B kb hb e.1) i) (sym (none_left C kc hc e.2) i) x);
+            leads = h.leads ∙ (λ i. finished m (sym (none_left A ka ha (each_ended m A x over)) i) (sym (none_left B kb hb (each_ended m B x over)) i) (sym (none_left C kc hc (each_ended m C x over)) i) x);
             goes = h.goes;
           }
 

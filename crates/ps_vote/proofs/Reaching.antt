@@ -1,5 +1,5 @@
 -- What the paths of a scan come to: their events are lawful, strike what the faults strike, and lead to the vote unless they end at a fault.
-use Rattle.std.proofs.Common.{inl, inr, ◌≡◌, ℕ, zero, suc, ◌+◌, ◌<◌, ◌≤◌, ◌^◌, Bool, true, false, cond, List, [], ◌∷◌, ◌++◌, length, Option, Some, None, refl, sym, ap, ◌∙◌, subst, arith}
+use Rattle.std.proofs.Common.{inl, inr, ◌≡◌, ℕ, zero, suc, ◌+◌, ◌≤◌, Bool, true, false, cond, List, [], ◌∷◌, ◌++◌, Option, Some, None, refl, sym, ap, ◌∙◌, subst, arith}
 use Rattle.std.specs.Prelude.{◌&&◌, ◌||◌, ◌==◌}
 use Rattle.std.specs.List.{filter}
 use Rattle.std.proofs.lemmas.Bool.{cases_Bool, false≢true}
@@ -8,16 +8,15 @@ use Rattle.ps_model.specs.Meaning.{Item, scan}
 use Rattle.ps_machine.specs.Channels.{after_turn, after_strike, ended}
 use Rattle.ps_seat.proofs.Left.{spent, same_turns, turns_are_left}
 use Rattle.ps_vote.specs.declared.faults.VoteFault.{VoteFault}
-use Rattle.ps_vote.specs.declared.seat.DirtySeats.{DirtySeats}
 use Rattle.ps_vote.specs.declared.seat.Seat.{Seat}
 use Rattle.ps_vote.specs.declared.seat.Seat.TheVariants.{A, B, C}
 use Rattle.ps_vote.specs.declared.seat.Vote.{Vote}
 use Rattle.ps_vote.specs.declared.seat.Vote.TheVariants.{All, Two, Split}
-use Rattle.ps_vote.specs.Worlds.{Machines, World_state, Event, Begin, Turn, Spoil, TakeVote, Restart, Heal, is_same, machine, channel, mark, is_another_dirty}
+use Rattle.ps_vote.specs.Worlds.{Machines, World_state, Event, Begin, Turn, Spoil, TakeVote, Restart, Heal, machine, channel, is_another_dirty}
 use Rattle.ps_vote.specs.Votes.{vote}
 use Rattle.ps_vote.specs.Steps.{world_step, after, all_ended, May, Lawful}
 use Rattle.ps_vote.specs.Lists.{SpoilsOnly, OthersAreClean, IsMended, items_of}
-use Rattle.ps_vote.specs.Orders.{of_scan, of_turn, spoil_of, Path, no_more, first, unless_refused, spoils, unless_ended, in_turn, seat_after, next_from, next_turn, turns, most_turns, path_to_vote, behind_vote, closing}
+use Rattle.ps_vote.specs.Orders.{of_scan, of_turn, spoil_of, Path, no_more, first, unless_refused, spoils, unless_ended, in_turn, next_from, next_turn, turns, most_turns, path_to_vote, behind_vote, closing}
 use Rattle.ps_vote.proofs.Paths.{after_append}
 use Rattle.ps_vote.proofs.Seated.{same_or_other, turn_at, spoil_at}
 

@@ -1,6 +1,5 @@
 -- Runs of `vote` and `heal` answer what the scans mean.
-use Rattle.std.proofs.Common.{inl, inr, ◌⊎◌, ◌≡◌, ◌≢◌, ℕ, zero, suc, ◌<◌, ◌≤◌, ◌^◌, Bool, true, false, List, [], ◌∷◌, ◌++◌, length, get_or, Option, Some, None, refl, sym, ap, ◌∙◌, subst, arith}
-use Rattle.std.proofs.lemmas.Bool.{false≢true}
+use Rattle.std.proofs.Common.{inl, inr, ◌⊎◌, ◌≡◌, ◌≢◌, ℕ, suc, ◌<◌, ◌≤◌, ◌^◌, Bool, true, false, List, [], ◌∷◌, length, get_or, Option, Some, None, refl, sym, ap, ◌∙◌, subst, arith}
 use Rattle.ps_model.specs.Network.{Network, input_count, instance_count}
 use Rattle.ps_model.specs.Scanning.{State, Solves}
 use Rattle.ps_model.specs.Meaning.{Item, scan, restart, Past, nothing, last, old_state, passed, Runs, report}
@@ -16,15 +15,15 @@ use Rattle.ps_vote.specs.declared.seat.Vote.TheVariants.{All, Two, Split}
 use Rattle.ps_vote.specs.Faults.{line_of_fault}
 use Rattle.ps_vote.specs.Worlds.{Machines, World_state, Event, Begin, Turn, Spoil, TakeVote, Restart, Heal, machine, source, rebuilt, world_0}
 use Rattle.ps_vote.specs.Votes.{vote, report_given, outvoted_by}
-use Rattle.ps_vote.specs.Steps.{world_step, after, all_ended, May, Lawful}
-use Rattle.ps_vote.specs.Lists.{SpoilsOnly, OthersAreClean, IsMended, items_of}
-use Rattle.ps_vote.specs.Orders.{of_scan, Path, path_to_vote, at_vote, behind_vote, closing, path_of_scan, Course, restarted, scanned, course_from, course}
-use Rattle.ps_vote.specs.Answers.{answers, AreTimely, AnswerRight, IsRight, VoteRunsAreRight, HealRunsAreRight}
+use Rattle.ps_vote.specs.Steps.{world_step, after, May}
+use Rattle.ps_vote.specs.Lists.{SpoilsOnly, OthersAreClean, IsMended}
+use Rattle.ps_vote.specs.Orders.{of_scan, path_to_vote, at_vote, behind_vote, closing, path_of_scan, Course, restarted, scanned, course_from}
+use Rattle.ps_vote.specs.Answers.{AreTimely, IsRight, VoteRunsAreRight, HealRunsAreRight}
 use Rattle.ps_vote.proofs.Seated.{none_marked}
 use Rattle.ps_vote.proofs.Standing.{Sound, beginning_sound, vote_sound, restart_sound, heal_sound, may_be_out, voted, after_sound}
 use Rattle.ps_vote.proofs.Mended.{others_stay, only_mended}
-use Rattle.ps_vote.proofs.Paths.{after_append, goes_behind, refused_behind, stops, refused_there}
-use Rattle.ps_vote.proofs.Reaching.{StrikeSeat, of_scan_strike, ScanComes, IsToClose, scan_comes, rest_behind, last_behind}
+use Rattle.ps_vote.proofs.Paths.{goes_behind, refused_behind, refused_there}
+use Rattle.ps_vote.proofs.Reaching.{StrikeSeat, of_scan_strike, ScanComes, scan_comes, rest_behind, last_behind}
 
 -- ---- Which seats are dirty.
 
@@ -207,12 +206,12 @@ module _ (net : Network) (m : Machines) (Stands : Seat → State → ℕ → Lis
       let early' : x.last ≤ now = omega (arith, timely.0) in
       let comes = scan_comes heal m (input_count net) due now ins x early' in
       scanned_right p.refused now ins p.events (at_vote heal m due now ins x) later items w ws (λ none.
-          let open_none = refused_of heal due now ins x none in
-          let c = closes heal due now ins x past w stands (rest, early', timely.1, timely.2) comes (is_mended heal faults number now ins x strike comes) open_none runs.0 in (
-            c.right,
-            right_from heal faults (suc number) now items (after m p.events x) (last now w) ws c.rest (subst (λ t. t ≤ now) (sym c.last_is) (omega arith)) timely.3 c.stands
+      let open_none = refused_of heal due now ins x none in
+      let c = closes heal due now ins x past w stands (rest, early', timely.1, timely.2) comes (is_mended heal faults number now ins x strike comes) open_none runs.0 in (
+        c.right,
+        right_from heal faults (suc number) now items (after m p.events x) (last now w) ws c.rest (subst (λ t. t ≤ now) (sym c.last_is) (omega arith)) timely.3 c.stands
             (strikes_on heal faults number now ins x strike comes open_none) runs.1,
-          ))
+      ))
 
   -- a run that does not heal ends at no fault
   goes_from : (faults : List VoteFault) (number latest : ℕ) (items : List Item) (x : World_state) → x.begun ≡ false → x.last ≤ latest → AreTimely (input_count net) latest items →
@@ -242,6 +241,6 @@ module _ (net : Network) (m : Machines) (Stands : Seat → State → ℕ → Lis
   vote_runs_are_right items faults ws timely one means =
       let struck = one_struck faults one in (
         right_from false faults 1 0 items (world_0 m) nothing ws refl (omega arith) timely (beginning_sound net m Stands keeps heals sized)
-        (inr (refl, (struck.0, struck.1, λ o other. none_marked o))) means,
+            (inr (refl, (struck.0, struck.1, λ o other. none_marked o))) means,
         goes_from faults 1 0 items (world_0 m) refl (omega arith) timely,
       )

@@ -31,7 +31,7 @@ and_three true true false h = absurd (cc)
 and_three true false c h = absurd (cc)
 and_three false b c h = absurd (cc)
 
-each_ended : (m : Machines) (s : Seat) (x : World_state) → all_ended m x ≡ true → ended (machine s m) (channel s x) ≡ true
+pub each_ended : (m : Machines) (s : Seat) (x : World_state) → all_ended m x ≡ true → ended (machine s m) (channel s x) ≡ true
 each_ended m A x h = (and_three (ended m.a x.a) (ended m.b x.b) (ended m.c x.c) h).0
 each_ended m B x h = (and_three (ended m.a x.a) (ended m.b x.b) (ended m.c x.c) h).1
 each_ended m C x h = (and_three (ended m.a x.a) (ended m.b x.b) (ended m.c x.c) h).2

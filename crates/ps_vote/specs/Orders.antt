@@ -1,6 +1,6 @@
 -- The order of events in which `vote` and `heal` make their scans. Where a run `heals`, as that of `heal` does, a seat that a vote
 -- outvotes is healed right after the vote, and a fault that is reached while another seat is dirty is not done and ends the run.
-use Rattle.std.specs.Prelude.{ℕ, zero, suc, ◌+◌, Bool, true, false, ◌==◌, ◌&&◌, if◌then◌else◌, List, [], ◌∷◌, ◌++◌, map, Option, Some, None, Result, Ok, Err}
+use Rattle.std.specs.Prelude.{ℕ, zero, suc, ◌+◌, Bool, ◌==◌, ◌&&◌, if◌then◌else◌, List, [], ◌∷◌, ◌++◌, map, Option, Some, None, Result, Ok, Err}
 use Rattle.std.specs.List.{filter}
 use Rattle.ps_model.specs.Meaning.{Item, scan, restart}
 use Rattle.ps_machine.specs.Channels.{ended}

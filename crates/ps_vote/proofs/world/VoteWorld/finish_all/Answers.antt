@@ -33,8 +33,8 @@ returns c =
     let turns_c : c.self.inside.c.channel.turns ≡ 0 = ap (λ (v : Whole). v.state.c.turns) c.self.view_is ∙ c.requires.none_c in
     let see = seen c.self.inside.limits.items c.self.inside.dirty c.self.inside.last c.self.inside.begun c.self.inside.outvoted in
     let there : (heals : Bool) → FinishesAll heals c.args.self.now (see c.finish.new.self c.finish-2.new.self c.finish-3.new.self) = λ heals.
-        subst (λ v. FinishesAll heals v (see c.finish.new.self c.finish-2.new.self c.finish-3.new.self)) c.self.view_is
-        (finishes_all c.self.inside.limits.items c.self.inside.dirty c.self.inside.last c.self.inside.begun c.self.inside.outvoted heals
-        c.self.inside.a c.self.inside.b c.self.inside.c c.finish.new.self c.finish-2.new.self c.finish-3.new.self c.self.invariant.0 c.self.invariant.1 turns_a turns_b turns_c
-        c.finish.ensures c.finish-2.ensures c.finish-3.ensures) in
+    subst (λ v. FinishesAll heals v (see c.finish.new.self c.finish-2.new.self c.finish-3.new.self)) c.self.view_is
+    (finishes_all c.self.inside.limits.items c.self.inside.dirty c.self.inside.last c.self.inside.begun c.self.inside.outvoted heals
+    c.self.inside.a c.self.inside.b c.self.inside.c c.finish.new.self c.finish-2.new.self c.finish-3.new.self c.self.invariant.0 c.self.invariant.1 turns_a turns_b turns_c
+    c.finish.ensures c.finish-2.ensures c.finish-3.ensures) in
     record { events = λ heals. (there heals).events; goes = λ heals. (there heals).goes }

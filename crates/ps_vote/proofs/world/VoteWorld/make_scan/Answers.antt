@@ -1,6 +1,6 @@
-use Rattle.std.proofs.Common.{◌≡◌, ◌∙◌, ◌≤◌, true, None, sym, ap, subst}
+use Rattle.std.proofs.Common.{◌≡◌, ◌∙◌, ◌≤◌, None, sym, ap, subst}
 use Rattle.ps_vote.specs.Worlds.{Machines, World_state}
-use Rattle.ps_vote.specs.Steps.{after, all_ended}
+use Rattle.ps_vote.specs.Steps.{all_ended}
 use Rattle.ps_vote.specs.Whole.{Setup, Whole, machines_in, after_events}
 use Rattle.ps_vote.specs.Orders.{Path, path_to_vote, closing}
 use Rattle.ps_vote.proofs.Paths.{answers_none, goes_behind}

@@ -1,7 +1,5 @@
-use Rattle.std.proofs.Common.{rules, ◌≡◌, ◌∙◌, ℕ, suc, ◌+◌, ◌-◌, Bool, true, false, List, Ok, Err, Some, None, sym, ap, subst, arith}
-use Rattle.ps_machine.specs.Channels.{ended}
-use Rattle.ps_vote.specs.declared.faults.VoteFault.{VoteFault}
-use Rattle.ps_vote.specs.Worlds.{Machines, World_state, Turn, machine, channel}
+use Rattle.std.proofs.Common.{rules, ◌≡◌, ◌∙◌, suc, ◌+◌, ◌-◌, true, false, Err, Some, None, sym, ap, subst, arith}
+use Rattle.ps_vote.specs.Worlds.{Machines, World_state, Turn}
 use Rattle.ps_vote.specs.Steps.{world_step, after, all_ended}
 use Rattle.ps_vote.specs.Whole.{Setup, Whole, machines_in, happened}
 use Rattle.ps_vote.specs.Orders.{of_turn, spoils, next_turn, turns, path_answer}

@@ -28,6 +28,24 @@ pub fn files_of(alloc: Global, held: (&str, &str, &str)) -> Result<MemFiles, Mem
     Ok(files)
 }
 
+/// What a call with these words writes, and the status with which it ends, where `A`, `T` and `F` are held.
+fn answer_to(
+    alloc: Global,
+    words: &str,
+    held: (&str, &str, &str),
+) -> Result<(MemSink, Status), Memory> {
+    let mut files = files_of(alloc, held)?;
+    let mut out = MemSink::new(alloc, ROOM)?;
+    let list = words_of(alloc, words)?;
+    let status = top(alloc, &list, &mut files, &mut out, &mut Left::new());
+    Ok((out, status))
+}
+
+/// Fails: memory is wanting for what a test asks.
+pub fn no_memory(rt: &impl Abort) {
+    assert!(rt; false, "memory is wanting");
+}
+
 /// Asserts that a call with these words writes this text and ends with this status, where `A`, `T` and `F` are held.
 pub fn gives(
     rt: &impl Abort,
@@ -35,16 +53,23 @@ pub fn gives(
     words: &str,
     held: (&str, &str, &str),
     wanted: (&str, Status),
-) -> Result<(), Memory> {
+) {
     let (text, status) = wanted;
     let (_, _, faults) = held;
-    let mut files = files_of(alloc, held)?;
-    let mut out = MemSink::new(alloc, ROOM)?;
-    let list = words_of(alloc, words)?;
-    let found = top(alloc, &list, &mut files, &mut out, &mut Left::new());
-    assert_eq!(rt; out.taken(), text.as_bytes(), "{words}, {faults}");
-    assert_eq!(rt; found, status, "{words}, {faults}");
-    Ok(())
+    match answer_to(alloc, words, held) {
+        Ok((out, found)) => {
+            assert_eq!(rt; out.taken(), text.as_bytes(), "{words}, {faults}");
+            assert_eq!(rt; found, status, "{words}, {faults}");
+        }
+        Err(Memory) => no_memory(rt),
+    }
+}
+
+/// The lines of a row, which has a bar for each line feed but the last.
+fn lines_of(alloc: Global, row: &str) -> Result<String, Memory> {
+    let mut lines = row.replace(alloc, '|', "\n")?;
+    lines.push_str("\n")?;
+    Ok(lines)
 }
 
 /// Asserts of each fault file of a table that `fault` of an application and a trace writes this text with it, and ends with
@@ -55,42 +80,31 @@ pub fn each_gives(
     held: (&str, &str),
     rows: &str,
     wanted: (&str, Status),
-) -> Result<(), Memory> {
+) {
     let (app, trace) = held;
     for row in rows.lines() {
-        let lines = row.replace(alloc, '|', "\n")?;
-        let lines = lines.as_str();
-        let faults = format!(in alloc; "{lines}\n")?;
-        gives(
-            rt,
-            alloc,
-            "fault A T F",
-            (app, trace, faults.as_str()),
-            wanted,
-        )?;
+        match lines_of(alloc, row) {
+            Ok(faults) => {
+                let held = (app, trace, faults.as_str());
+                gives(rt, alloc, "fault A T F", held, wanted);
+            }
+            Err(Memory) => no_memory(rt),
+        }
     }
-    Ok(())
 }
 
 /// Asserts of each fault file of a table what `fault` of an application and a trace writes first for it, and that it ends with
 /// this status. A row is a fault file as above and, behind ` => `, the line.
-pub fn each_is_refused(
-    rt: &impl Abort,
-    alloc: Global,
-    held: (&str, &str),
-    rows: &str,
-) -> Result<(), Memory> {
+pub fn each_is_refused(rt: &impl Abort, alloc: Global, held: (&str, &str), rows: &str) {
     for row in rows.lines() {
         match row.split_once(" => ") {
-            Some((faults, line)) => {
-                let text = format!(in alloc; "{line}\n")?;
-                let wanted = (text.as_str(), Status::BadInput);
-                each_gives(rt, alloc, held, faults, wanted)?;
-            }
+            Some((faults, line)) => match lines_of(alloc, line) {
+                Ok(text) => each_gives(rt, alloc, held, faults, (text.as_str(), Status::BadInput)),
+                Err(Memory) => no_memory(rt),
+            },
             None => assert!(rt; false, "no row: {row}"),
         }
     }
-    Ok(())
 }
 
 /// The trace and the text of a table. A row is a line of the trace and, behind ` => `, the line that is written for
@@ -121,8 +135,12 @@ pub fn each_walks(
     walk: &str,
     rows: &str,
     status: Status,
-) -> Result<(), Memory> {
-    let (trace, text) = trace_and_text(alloc, walk)?;
-    let wanted = (text.as_str(), status);
-    each_gives(rt, alloc, (app, trace.as_str()), rows, wanted)
+) {
+    match trace_and_text(alloc, walk) {
+        Ok((trace, text)) => {
+            let held = (app, trace.as_str());
+            each_gives(rt, alloc, held, rows, (text.as_str(), status));
+        }
+        Err(Memory) => no_memory(rt),
+    }
 }

@@ -1,7 +1,6 @@
 // Faults that strike the cells of a channel before a scan.
 
 use crate::motor::{each_trips, none_shows};
-use std::test::Fail;
 
 /// Cells of channel A that Begin sets anew, that a scan writes before it reads them, and that hold a value already.
 const UNSEEN_IN_A: &str = "\
@@ -19,9 +18,8 @@ before 1 A memory 96 00
 ";
 
 #[test]
-fn cells_of_channel_a_that_do_not_show(rt: HostRuntime) -> Result<(), Fail> {
-    none_shows(&rt, rt.alloc(), UNSEEN_IN_A)?;
-    Ok(())
+fn cells_of_channel_a_that_do_not_show(rt: HostRuntime) {
+    none_shows(&rt, rt.alloc(), UNSEEN_IN_A);
 }
 
 /// The same of channel B.
@@ -37,18 +35,16 @@ before 3 B memory 64 00
 ";
 
 #[test]
-fn cells_of_channel_b_that_do_not_show(rt: HostRuntime) -> Result<(), Fail> {
-    none_shows(&rt, rt.alloc(), UNSEEN_IN_B)?;
-    Ok(())
+fn cells_of_channel_b_that_do_not_show(rt: HostRuntime) {
+    none_shows(&rt, rt.alloc(), UNSEEN_IN_B);
 }
 
 /// The state that both channels reach in this scan anyway.
 const AGREED: &str = "before 4 A memory 81 8000";
 
 #[test]
-fn a_fault_on_which_both_channels_then_agree(rt: HostRuntime) -> Result<(), Fail> {
-    none_shows(&rt, rt.alloc(), AGREED)?;
-    Ok(())
+fn a_fault_on_which_both_channels_then_agree(rt: HostRuntime) {
+    none_shows(&rt, rt.alloc(), AGREED);
 }
 
 /// Instances whose bytes stand for no state.
@@ -72,9 +68,8 @@ const NO_STATE_TEXT: &str = "\
 ";
 
 #[test]
-fn instances_without_a_state(rt: HostRuntime) -> Result<(), Fail> {
-    each_trips(&rt, rt.alloc(), NO_STATE, NO_STATE_TEXT)?;
-    Ok(())
+fn instances_without_a_state(rt: HostRuntime) {
+    each_trips(&rt, rt.alloc(), NO_STATE, NO_STATE_TEXT);
 }
 
 /// The state of free running, in either channel.
@@ -94,9 +89,8 @@ const FREE_TEXT: &str = "\
 ";
 
 #[test]
-fn outputs_that_differ(rt: HostRuntime) -> Result<(), Fail> {
-    each_trips(&rt, rt.alloc(), FREE, FREE_TEXT)?;
-    Ok(())
+fn outputs_that_differ(rt: HostRuntime) {
+    each_trips(&rt, rt.alloc(), FREE, FREE_TEXT);
 }
 
 /// The state of the first scan, in a later one.
@@ -113,9 +107,8 @@ const EARLIER_TEXT: &str = "\
 ";
 
 #[test]
-fn codes_that_differ(rt: HostRuntime) -> Result<(), Fail> {
-    each_trips(&rt, rt.alloc(), EARLIER, EARLIER_TEXT)?;
-    Ok(())
+fn codes_that_differ(rt: HostRuntime) {
+    each_trips(&rt, rt.alloc(), EARLIER, EARLIER_TEXT);
 }
 
 /// A reset that was seen before the scan in which it comes.
@@ -132,7 +125,6 @@ const SEEN_TEXT: &str = "\
 ";
 
 #[test]
-fn a_reset_that_was_seen(rt: HostRuntime) -> Result<(), Fail> {
-    each_trips(&rt, rt.alloc(), SEEN, SEEN_TEXT)?;
-    Ok(())
+fn a_reset_that_was_seen(rt: HostRuntime) {
+    each_trips(&rt, rt.alloc(), SEEN, SEEN_TEXT);
 }

@@ -1,7 +1,6 @@
 // Faults that strike the code of a channel.
 
 use crate::motor::{each_trips, each_trips_second};
-use std::test::Fail;
 
 /// The first trip of channel A for an instruction that there is none of.
 const A_IN_THE_THIRD: &str = "\
@@ -29,9 +28,8 @@ before 3 A code 32 ff
 ";
 
 #[test]
-fn code_of_channel_a(rt: HostRuntime) -> Result<(), Fail> {
-    each_trips(&rt, rt.alloc(), CODE_OF_A, A_IN_THE_THIRD)?;
-    Ok(())
+fn code_of_channel_a(rt: HostRuntime) {
+    each_trips(&rt, rt.alloc(), CODE_OF_A, A_IN_THE_THIRD);
 }
 
 /// The same of channel B.
@@ -54,9 +52,8 @@ before 3 B code 36 00
 ";
 
 #[test]
-fn code_of_channel_b(rt: HostRuntime) -> Result<(), Fail> {
-    each_trips(&rt, rt.alloc(), CODE_OF_B, B_IN_THE_THIRD)?;
-    Ok(())
+fn code_of_channel_b(rt: HostRuntime) {
+    each_trips(&rt, rt.alloc(), CODE_OF_B, B_IN_THE_THIRD);
 }
 
 /// A fault that strikes before the second scan, with the cause of the trip. The other lines are the same for all.
@@ -71,7 +68,6 @@ before 2 B code 10 04 => trap B 3
 ";
 
 #[test]
-fn causes_in_the_second_scan(rt: HostRuntime) -> Result<(), Fail> {
-    each_trips_second(&rt, rt.alloc(), IN_THE_SECOND)?;
-    Ok(())
+fn causes_in_the_second_scan(rt: HostRuntime) {
+    each_trips_second(&rt, rt.alloc(), IN_THE_SECOND);
 }

@@ -2,20 +2,13 @@
 
 use crate::calls::gives;
 use crate::motor::MOTOR;
-use ps_base::Memory;
 use ps_top::Status;
 use std::alloc::Global;
 use std::process::Abort;
-use std::test::Fail;
 
 /// Asserts that `demand` of an application writes this text, and ends with this status.
-fn demands(
-    rt: &impl Abort,
-    alloc: Global,
-    app: &str,
-    wanted: (&str, Status),
-) -> Result<(), Memory> {
-    gives(rt, alloc, "demand A", (app, "", ""), wanted)
+fn demands(rt: &impl Abort, alloc: Global, app: &str, wanted: (&str, Status)) {
+    gives(rt, alloc, "demand A", (app, "", ""), wanted);
 }
 
 /// A press.
@@ -56,15 +49,14 @@ END_PROGRAM
 ";
 
 #[test]
-fn applications(rt: HostRuntime) -> Result<(), Fail> {
+fn applications(rt: HostRuntime) {
     let alloc = rt.alloc();
     let motor = ("S_Motor needs S_In\n", Status::Done);
-    demands(&rt, alloc, MOTOR, motor)?;
+    demands(&rt, alloc, MOTOR, motor);
     let press = "S_Ram needs S_EStop AND S_G1 AND S_G2 AND S_L AND S_R\n";
-    demands(&rt, alloc, PRESS, (press, Status::Done))?;
+    demands(&rt, alloc, PRESS, (press, Status::Done));
     let feedback = ("S_O needs Y@before AND S_In\n", Status::Done);
-    demands(&rt, alloc, FEEDBACK, feedback)?;
-    Ok(())
+    demands(&rt, alloc, FEEDBACK, feedback);
 }
 
 /// Demands that double from line to line: 512 leaves.
@@ -108,10 +100,9 @@ END_PROGRAM
 ";
 
 #[test]
-fn large_demands(rt: HostRuntime) -> Result<(), Fail> {
+fn large_demands(rt: HostRuntime) {
     let alloc = rt.alloc();
-    demands(&rt, alloc, DOUBLED, ("S_O needs S_A\n", Status::Done))?;
+    demands(&rt, alloc, DOUBLED, ("S_O needs S_A\n", Status::Done));
     let refused = ("refused M1 line 15 column 1\n", Status::Refused);
-    demands(&rt, alloc, TOO_LARGE, refused)?;
-    Ok(())
+    demands(&rt, alloc, TOO_LARGE, refused);
 }

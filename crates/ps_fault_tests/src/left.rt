@@ -7,6 +7,7 @@ use ps_base::Memory;
 use ps_outside::MemSink;
 use ps_top::{Left, top};
 use std::alloc::Global;
+use std::process::Abort;
 use std::test::Fail;
 
 /// Whether the world that a call leaves is tripped, if it leaves one.
@@ -22,30 +23,40 @@ fn left_by(alloc: Global, words: &str, held: (&str, &str, &str)) -> Result<Optio
     }
 }
 
-#[test]
-fn after_scans(rt: HostRuntime) -> Result<(), Fail> {
-    let alloc = rt.alloc();
-    let quiet = (MOTOR, USE, "before 4 A memory 81 8000");
-    assert_eq!(rt; left_by(alloc, "run A T", quiet)?, Some(false));
-    assert_eq!(rt; left_by(alloc, "fault A T F", quiet)?, Some(false));
-    let struck = (MOTOR, USE, STRUCK);
-    assert_eq!(rt; left_by(alloc, "run A T", struck)?, Some(false));
-    assert_eq!(rt; left_by(alloc, "fault A T F", struck)?, Some(true));
-    Ok(())
+/// Asserts whether the world that a call leaves is tripped, if it leaves one.
+fn leaves(
+    rt: &impl Abort,
+    alloc: Global,
+    words: &str,
+    held: (&str, &str, &str),
+    wanted: Option<bool>,
+) {
+    let is_left = left_by(alloc, words, held) == Ok(wanted);
+    assert!(rt; is_left, "{words}");
 }
 
 #[test]
-fn after_a_restart(rt: HostRuntime) -> Result<(), Fail> {
+fn after_scans(rt: HostRuntime) {
+    let alloc = rt.alloc();
+    let quiet = (MOTOR, USE, "before 4 A memory 81 8000");
+    leaves(&rt, alloc, "run A T", quiet, Some(false));
+    leaves(&rt, alloc, "fault A T F", quiet, Some(false));
+    let struck = (MOTOR, USE, STRUCK);
+    leaves(&rt, alloc, "run A T", struck, Some(false));
+    leaves(&rt, alloc, "fault A T F", struck, Some(true));
+}
+
+#[test]
+fn after_a_restart(rt: HostRuntime) {
     let alloc = rt.alloc();
     let ends = "time S_In Ack Run\n0 1 0 1\n10 1 0 1\n20 1 0 1\nrestart\n";
     let held = (MOTOR, ends, STRUCK);
-    assert_eq!(rt; left_by(alloc, "fault A T F", held)?, Some(false));
+    leaves(&rt, alloc, "fault A T F", held, Some(false));
     let held = (MOTOR, ends, "before 2 B code 0 00");
-    assert_eq!(rt; left_by(alloc, "fault A T F", held)?, Some(false));
+    leaves(&rt, alloc, "fault A T F", held, Some(false));
     let goes_on = "time S_In Ack Run\n0 1 0 1\nrestart\n10 1 0 1\n20 1 0 1\n";
     let held = (MOTOR, goes_on, "before 3 A code 0 ff");
-    assert_eq!(rt; left_by(alloc, "fault A T F", held)?, Some(true));
-    Ok(())
+    leaves(&rt, alloc, "fault A T F", held, Some(true));
 }
 
 #[test]
@@ -53,19 +64,18 @@ fn after_a_refusal_of_the_trace(rt: HostRuntime) -> Result<(), Fail> {
     let alloc = rt.alloc();
     let (trace, _) = trace_and_text(alloc, BAD_LINE)?;
     let held = (MOTOR, trace.as_str(), STRUCK);
-    assert_eq!(rt; left_by(alloc, "fault A T F", held)?, Some(true));
-    assert_eq!(rt; left_by(alloc, "run A T", held)?, Some(false));
+    leaves(&rt, alloc, "fault A T F", held, Some(true));
+    leaves(&rt, alloc, "run A T", held, Some(false));
     Ok(())
 }
 
 #[test]
-fn none_without_a_run(rt: HostRuntime) -> Result<(), Fail> {
+fn none_without_a_run(rt: HostRuntime) {
     let alloc = rt.alloc();
     let held = (MOTOR, USE, "before 1 A memory 97 00");
     for words in ["fault A T F", "check A", "demand A", "fault A T"] {
-        assert_eq!(rt; left_by(alloc, words, held)?, None, "{words}");
+        leaves(&rt, alloc, words, held, None);
     }
     let held = ("PROGRAM P", USE, STRUCK);
-    assert_eq!(rt; left_by(alloc, "fault A T F", held)?, None);
-    Ok(())
+    leaves(&rt, alloc, "fault A T F", held, None);
 }

@@ -1,11 +1,10 @@
 // A motor behind an emergency stop, an ordinary use of it, and what is written for that use.
 
-use crate::calls::{each_gives, gives};
+use crate::calls::{each_gives, gives, no_memory};
 use ps_base::Memory;
 use ps_top::Status;
 use std::alloc::Global;
 use std::process::Abort;
-use std::test::Fail;
 
 /// The application.
 pub const MOTOR: &str = "\
@@ -53,46 +52,44 @@ const TRIPPED: &str = " S_Motor=0
 ";
 
 /// Asserts of each fault file of a table that the motor trips with it in its ordinary use, with this text.
-pub fn each_trips(rt: &impl Abort, alloc: Global, rows: &str, text: &str) -> Result<(), Memory> {
-    each_gives(rt, alloc, (MOTOR, USE), rows, (text, Status::Tripped))
+pub fn each_trips(rt: &impl Abort, alloc: Global, rows: &str, text: &str) {
+    each_gives(rt, alloc, (MOTOR, USE), rows, (text, Status::Tripped));
+}
+
+// What is written where the motor trips in the second scan with a cause.
+fn tripped_by(alloc: Global, cause: &str) -> Result<String, Memory> {
+    Ok(format!(in alloc; "{SCAN}10 TRIP {cause}{TRIPPED}")?)
 }
 
 /// Asserts of each fault file of a table that the motor trips with it in the second scan of its ordinary use. A row is a
 /// fault file and, behind ` => `, the cause.
-pub fn each_trips_second(rt: &impl Abort, alloc: Global, rows: &str) -> Result<(), Memory> {
+pub fn each_trips_second(rt: &impl Abort, alloc: Global, rows: &str) {
     for row in rows.lines() {
         match row.split_once(" => ") {
-            Some((faults, cause)) => {
-                let text = format!(in alloc; "{SCAN}10 TRIP {cause}{TRIPPED}")?;
-                each_trips(rt, alloc, faults, text.as_str())?;
-            }
+            Some((faults, cause)) => match tripped_by(alloc, cause) {
+                Ok(text) => each_trips(rt, alloc, faults, text.as_str()),
+                Err(Memory) => no_memory(rt),
+            },
             None => assert!(rt; false, "no row: {row}"),
         }
     }
-    Ok(())
 }
 
 /// Asserts of each fault file of a table that it does not show in the motor's ordinary use.
-pub fn none_shows(rt: &impl Abort, alloc: Global, rows: &str) -> Result<(), Memory> {
-    each_gives(rt, alloc, (MOTOR, USE), rows, (ORDINARY, Status::Done))
+pub fn none_shows(rt: &impl Abort, alloc: Global, rows: &str) {
+    each_gives(rt, alloc, (MOTOR, USE), rows, (ORDINARY, Status::Done));
 }
 
 /// Asserts that `fault` of the motor in its ordinary use writes this text with this fault file, and ends with this status.
-pub fn strikes(
-    rt: &impl Abort,
-    alloc: Global,
-    faults: &str,
-    wanted: (&str, Status),
-) -> Result<(), Memory> {
-    gives(rt, alloc, "fault A T F", (MOTOR, USE, faults), wanted)
+pub fn strikes(rt: &impl Abort, alloc: Global, faults: &str, wanted: (&str, Status)) {
+    gives(rt, alloc, "fault A T F", (MOTOR, USE, faults), wanted);
 }
 
 #[test]
-fn no_fault(rt: HostRuntime) -> Result<(), Fail> {
+fn no_fault(rt: HostRuntime) {
     let alloc = rt.alloc();
     let wanted = (ORDINARY, Status::Done);
-    strikes(&rt, alloc, "", wanted)?;
-    strikes(&rt, alloc, "# none\n\n \t\r\n", wanted)?;
-    gives(&rt, alloc, "run A T", (MOTOR, USE, ""), wanted)?;
-    Ok(())
+    strikes(&rt, alloc, "", wanted);
+    strikes(&rt, alloc, "# none\n\n \t\r\n", wanted);
+    gives(&rt, alloc, "run A T", (MOTOR, USE, ""), wanted);
 }

@@ -10,7 +10,7 @@ use std::process::Abort;
 use std::test::Fail;
 
 #[test]
-fn names_that_are_not_held(rt: HostRuntime) -> Result<(), Fail> {
+fn names_that_are_not_held(rt: HostRuntime) {
     let held = (MOTOR, USE, "");
     for words in [
         "fault A T none",
@@ -18,20 +18,18 @@ fn names_that_are_not_held(rt: HostRuntime) -> Result<(), Fail> {
         "fault none T F",
         "demand none",
     ] {
-        gives(&rt, rt.alloc(), words, held, ("", Status::ReadFault))?;
+        gives(&rt, rt.alloc(), words, held, ("", Status::ReadFault));
     }
-    Ok(())
 }
 
 // The source is judged before the fault file, and that before the trace.
 #[test]
-fn refusals_before_a_name_that_is_not_held(rt: HostRuntime) -> Result<(), Fail> {
+fn refusals_before_a_name_that_is_not_held(rt: HostRuntime) {
     let alloc = rt.alloc();
     let faults = ("refused F1 line 1\n", Status::BadInput);
-    gives(&rt, alloc, "fault A none F", (MOTOR, "", "x\n"), faults)?;
+    gives(&rt, alloc, "fault A none F", (MOTOR, "", "x\n"), faults);
     let source = ("refused P1 line 1 column 1\n", Status::Refused);
-    gives(&rt, alloc, "fault A none none", ("", "", ""), source)?;
-    Ok(())
+    gives(&rt, alloc, "fault A none none", ("", "", ""), source);
 }
 
 /// A fault that trips the motor in its third scan.

@@ -3,7 +3,6 @@
 use crate::calls::each_walks;
 use crate::motor::{MOTOR, none_shows};
 use ps_top::Status;
-use std::test::Fail;
 
 /// Faults for a turn or a scan that does not come. A scan has 16 turns, and the faults of turn 17 strike before its end.
 const UNREACHED: &str = "\
@@ -16,9 +15,8 @@ before 4294967295 A code 0 ff
 ";
 
 #[test]
-fn faults_that_are_not_reached(rt: HostRuntime) -> Result<(), Fail> {
-    none_shows(&rt, rt.alloc(), UNREACHED)?;
-    Ok(())
+fn faults_that_are_not_reached(rt: HostRuntime) {
+    none_shows(&rt, rt.alloc(), UNREACHED);
 }
 
 /// A trip, and a restart after it.
@@ -36,9 +34,8 @@ restart => restart
 pub const STRUCK: &str = "before 3 A memory 81 8000";
 
 #[test]
-fn a_restart_after_a_trip(rt: HostRuntime) -> Result<(), Fail> {
-    each_walks(&rt, rt.alloc(), MOTOR, RESTART, STRUCK, Status::Tripped)?;
-    Ok(())
+fn a_restart_after_a_trip(rt: HostRuntime) {
+    each_walks(&rt, rt.alloc(), MOTOR, RESTART, STRUCK, Status::Tripped);
 }
 
 /// A trip in the second scan, one scan more, and a restart.
@@ -60,7 +57,7 @@ before 2 A code 0 ff|before 3 turn 1 A code 0 ff
 ";
 
 #[test]
-fn faults_after_a_trip_are_not_reached(rt: HostRuntime) -> Result<(), Fail> {
+fn faults_after_a_trip_are_not_reached(rt: HostRuntime) {
     each_walks(
         &rt,
         rt.alloc(),
@@ -68,8 +65,7 @@ fn faults_after_a_trip_are_not_reached(rt: HostRuntime) -> Result<(), Fail> {
         DOWN,
         BEFORE_THE_RESTART,
         Status::Tripped,
-    )?;
-    Ok(())
+    );
 }
 
 /// Two trips: the scans of a world that is tripped are counted, and the fourth comes after the restart.
@@ -87,9 +83,8 @@ restart => restart
 const TWO_FAULTS: &str = "before 2 A code 0 ff|before 4 A code 0 ff";
 
 #[test]
-fn a_second_trip(rt: HostRuntime) -> Result<(), Fail> {
-    each_walks(&rt, rt.alloc(), MOTOR, TWICE, TWO_FAULTS, Status::Tripped)?;
-    Ok(())
+fn a_second_trip(rt: HostRuntime) {
+    each_walks(&rt, rt.alloc(), MOTOR, TWICE, TWO_FAULTS, Status::Tripped);
 }
 
 /// A trip, and a time that goes back.
@@ -105,7 +100,6 @@ time S_In Ack Run
 ";
 
 #[test]
-fn a_refusal_of_the_trace_after_a_trip(rt: HostRuntime) -> Result<(), Fail> {
-    each_walks(&rt, rt.alloc(), MOTOR, BAD_LINE, STRUCK, Status::BadInput)?;
-    Ok(())
+fn a_refusal_of_the_trace_after_a_trip(rt: HostRuntime) {
+    each_walks(&rt, rt.alloc(), MOTOR, BAD_LINE, STRUCK, Status::BadInput);
 }

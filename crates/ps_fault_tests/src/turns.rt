@@ -1,7 +1,6 @@
 // Faults that strike amid the turns of a scan.
 
 use crate::motor::{each_trips, each_trips_second, none_shows};
-use std::test::Fail;
 
 /// Faults that change an output behind its assignment.
 const OUTPUT: &str = "\
@@ -20,9 +19,8 @@ const OUTPUT_TEXT: &str = "\
 ";
 
 #[test]
-fn an_output_behind_its_assignment(rt: HostRuntime) -> Result<(), Fail> {
-    each_trips(&rt, rt.alloc(), OUTPUT, OUTPUT_TEXT)?;
-    Ok(())
+fn an_output_behind_its_assignment(rt: HostRuntime) {
+    each_trips(&rt, rt.alloc(), OUTPUT, OUTPUT_TEXT);
 }
 
 /// Faults of a code that is written once it was read, and of a channel that ends before its first instruction.
@@ -42,9 +40,8 @@ const CODE_TEXT: &str = "\
 ";
 
 #[test]
-fn codes_that_differ(rt: HostRuntime) -> Result<(), Fail> {
-    each_trips(&rt, rt.alloc(), CODE, CODE_TEXT)?;
-    Ok(())
+fn codes_that_differ(rt: HostRuntime) {
+    each_trips(&rt, rt.alloc(), CODE, CODE_TEXT);
 }
 
 /// A channel that ends before the first instruction of the scan in which the motor runs.
@@ -61,9 +58,8 @@ const ENDED_TEXT: &str = "\
 ";
 
 #[test]
-fn a_channel_that_ends_at_once(rt: HostRuntime) -> Result<(), Fail> {
-    each_trips(&rt, rt.alloc(), ENDED, ENDED_TEXT)?;
-    Ok(())
+fn a_channel_that_ends_at_once(rt: HostRuntime) {
+    each_trips(&rt, rt.alloc(), ENDED, ENDED_TEXT);
 }
 
 /// Channels that go back to their beginning, that run again behind their end, and whose progress is none.
@@ -76,16 +72,14 @@ before 2 turn 2 A memory 5 09 => trap A 0
 ";
 
 #[test]
-fn progress_of_a_channel(rt: HostRuntime) -> Result<(), Fail> {
-    each_trips_second(&rt, rt.alloc(), PROGRESS)?;
-    Ok(())
+fn progress_of_a_channel(rt: HostRuntime) {
+    each_trips_second(&rt, rt.alloc(), PROGRESS);
 }
 
 /// Faults before an assignment that overwrites them.
 const OVERWRITTEN: &str = "before 3 turn 15 A memory 77 01";
 
 #[test]
-fn an_output_before_its_assignment(rt: HostRuntime) -> Result<(), Fail> {
-    none_shows(&rt, rt.alloc(), OVERWRITTEN)?;
-    Ok(())
+fn an_output_before_its_assignment(rt: HostRuntime) {
+    none_shows(&rt, rt.alloc(), OVERWRITTEN);
 }

@@ -8,7 +8,6 @@ use ps_top::{Left, Status, top};
 use ps_vote::Seat;
 use std::alloc::Global;
 use std::process::Abort;
-use std::test::Fail;
 
 /// What is written for the ordinary use of the motor where seat A is outvoted in the third scan.
 const THIRD: &str = "\
@@ -85,68 +84,59 @@ END_PROGRAM
 ";
 
 /// Asserts that a command writes this text for the motor's ordinary use with these faults, and ends with this status.
-fn votes(
-    rt: &impl Abort,
-    alloc: Global,
-    words: &str,
-    faults: &str,
-    wanted: (&str, Status),
-) -> Result<(), Memory> {
-    gives(rt, alloc, words, (MOTOR, USE, faults), wanted)
+fn votes(rt: &impl Abort, alloc: Global, words: &str, faults: &str, wanted: (&str, Status)) {
+    gives(rt, alloc, words, (MOTOR, USE, faults), wanted);
 }
 
 #[test]
-fn one_seat_is_outvoted(rt: HostRuntime) -> Result<(), Fail> {
+fn one_seat_is_outvoted(rt: HostRuntime) {
     let alloc = rt.alloc();
     let shows = "before 3 A memory 81 8000\n";
-    votes(&rt, alloc, "vote A T F", shows, (THIRD, Status::Done))?;
+    votes(&rt, alloc, "vote A T F", shows, (THIRD, Status::Done));
     let stays = "before 2 C code 0 ff\n";
-    votes(&rt, alloc, "vote A T F", stays, (STAYS, Status::Done))?;
+    votes(&rt, alloc, "vote A T F", stays, (STAYS, Status::Done));
     let late = "before 2 turn 28 C memory 4 09\n";
-    votes(&rt, alloc, "vote A T F", late, (SECOND, Status::Done))?;
-    Ok(())
+    votes(&rt, alloc, "vote A T F", late, (SECOND, Status::Done));
 }
 
 #[test]
-fn none_is_outvoted(rt: HostRuntime) -> Result<(), Fail> {
+fn none_is_outvoted(rt: HostRuntime) {
     let alloc = rt.alloc();
     let wanted = (ORDINARY, Status::Done);
-    votes(&rt, alloc, "vote A T F", "", wanted)?;
-    votes(&rt, alloc, "heal A T F", "", wanted)?;
+    votes(&rt, alloc, "vote A T F", "", wanted);
+    votes(&rt, alloc, "heal A T F", "", wanted);
     let again = "before 2 turn 28 C memory 4 00\n";
-    votes(&rt, alloc, "vote A T F", again, wanted)?;
+    votes(&rt, alloc, "vote A T F", again, wanted);
     let last = "before 9 C code 126 00\n";
-    votes(&rt, alloc, "vote A T F", last, wanted)?;
+    votes(&rt, alloc, "vote A T F", last, wanted);
     let cell = "before 9 C memory 44 00\n";
-    votes(&rt, alloc, "vote A T F", cell, wanted)?;
+    votes(&rt, alloc, "vote A T F", cell, wanted);
     let unreached = "before 1 A memory 86 ff\nbefore 9 B memory 0 00\n";
-    votes(&rt, alloc, "heal A T F", unreached, wanted)?;
-    Ok(())
+    votes(&rt, alloc, "heal A T F", unreached, wanted);
 }
 
 #[test]
-fn fault_files_that_are_refused(rt: HostRuntime) -> Result<(), Fail> {
+fn fault_files_that_are_refused(rt: HostRuntime) {
     let alloc = rt.alloc();
     let two = "before 1 A memory 0 00\nbefore 1 C memory 0 00\n";
     let wanted = ("refused F4 line 2\n", Status::BadInput);
-    votes(&rt, alloc, "vote A T F", two, wanted)?;
+    votes(&rt, alloc, "vote A T F", two, wanted);
     let wanted = ("refused F3 line 1\n", Status::BadInput);
     let code = "before 9 C code 127 00\n";
-    votes(&rt, alloc, "vote A T F", code, wanted)?;
+    votes(&rt, alloc, "vote A T F", code, wanted);
     let cell = "before 9 C memory 45 00\n";
-    votes(&rt, alloc, "vote A T F", cell, wanted)?;
-    votes(&rt, alloc, "heal A T F", cell, wanted)?;
+    votes(&rt, alloc, "vote A T F", cell, wanted);
+    votes(&rt, alloc, "heal A T F", cell, wanted);
     let wanted = ("refused F1 line 1\n", Status::BadInput);
     let none = "before 1 D memory 0 00\n";
-    votes(&rt, alloc, "heal A T F", none, wanted)?;
-    Ok(())
+    votes(&rt, alloc, "heal A T F", none, wanted);
 }
 
 #[test]
-fn seats_are_healed(rt: HostRuntime) -> Result<(), Fail> {
+fn seats_are_healed(rt: HostRuntime) {
     let alloc = rt.alloc();
     let wanted = (BOTH, Status::Done);
-    votes(&rt, alloc, "heal A T F", STRUCK_IN_TURN, wanted)?;
+    votes(&rt, alloc, "heal A T F", STRUCK_IN_TURN, wanted);
     let trace = "time S_A S_B\n0 0 0\n10 1 0\n40 1 0\n60 1 1\n";
     let text = "\
 0 S_O=0 Q=1,0,8001
@@ -156,25 +146,23 @@ fn seats_are_healed(rt: HostRuntime) -> Result<(), Fail> {
 60 S_O=0 Q=1,1,C001
 ";
     let held = (PAIR, trace, "before 3 B code 0 00\n");
-    gives(&rt, alloc, "heal A T F", held, (text, Status::Done))?;
-    Ok(())
+    gives(&rt, alloc, "heal A T F", held, (text, Status::Done));
 }
 
 #[test]
-fn faults_that_heal_refuses(rt: HostRuntime) -> Result<(), Fail> {
+fn faults_that_heal_refuses(rt: HostRuntime) {
     let alloc = rt.alloc();
     let wanted = (REFUSED_FOURTH, Status::BadInput);
-    votes(&rt, alloc, "heal A T F", STILL_DIRTY, wanted)?;
+    votes(&rt, alloc, "heal A T F", STILL_DIRTY, wanted);
     let text = "0 S_Motor=0 E=1,0,8001\nrefused F4 line 2\n";
     let next = "before 1 A memory 0 00\nbefore 2 B memory 0 00\n";
     let bad = "time S_In Ack Run\n0 1 0 1\n10 1 0 1\n20 1 0\n";
     let held = (MOTOR, bad, next);
-    gives(&rt, alloc, "heal A T F", held, (text, Status::BadInput))?;
-    Ok(())
+    gives(&rt, alloc, "heal A T F", held, (text, Status::BadInput));
 }
 
 #[test]
-fn restarts_and_refusals_of_the_trace(rt: HostRuntime) -> Result<(), Fail> {
+fn restarts_and_refusals_of_the_trace(rt: HostRuntime) {
     let alloc = rt.alloc();
     let trace = "time S_In Ack Run\n0 1 0 1\n10 1 0 1\nrestart\n20 1 0 1\n30 1 0 1\n25 1 0 1\n";
     let text = "\
@@ -187,8 +175,7 @@ restart
 refused T7 line 7
 ";
     let held = (MOTOR, trace, "before 2 C code 0 ff\n");
-    gives(&rt, alloc, "vote A T F", held, (text, Status::BadInput))?;
-    Ok(())
+    gives(&rt, alloc, "vote A T F", held, (text, Status::BadInput));
 }
 
 /// Which seats are dirty in the world of three seats that a call leaves, if it leaves one.
@@ -212,17 +199,28 @@ fn dirty_behind(
     }
 }
 
+/// Asserts which seats are dirty in the world of three seats that a call leaves, if it leaves one.
+fn leaves(
+    rt: &impl Abort,
+    alloc: Global,
+    words: &str,
+    faults: &str,
+    wanted: Option<(bool, bool, bool)>,
+) {
+    let is_left = dirty_behind(alloc, words, faults) == Ok(wanted);
+    assert!(rt; is_left, "{words}, {faults}");
+}
+
 #[test]
-fn seats_that_are_left(rt: HostRuntime) -> Result<(), Fail> {
+fn seats_that_are_left(rt: HostRuntime) {
     let alloc = rt.alloc();
     let struck = "before 3 A memory 81 8000\n";
     let only_a = Some((true, false, false));
-    assert_eq!(rt; dirty_behind(alloc, "vote A T F", struck)?, only_a);
+    leaves(&rt, alloc, "vote A T F", struck, only_a);
     let clean = Some((false, false, false));
-    assert_eq!(rt; dirty_behind(alloc, "heal A T F", struck)?, clean);
-    assert_eq!(rt; dirty_behind(alloc, "heal A T F", STRUCK_IN_TURN)?, clean);
-    assert_eq!(rt; dirty_behind(alloc, "heal A T F", STILL_DIRTY)?, only_a);
-    assert_eq!(rt; dirty_behind(alloc, "vote A T F", STILL_DIRTY)?, None);
-    assert_eq!(rt; dirty_behind(alloc, "fault A T F", struck)?, None);
-    Ok(())
+    leaves(&rt, alloc, "heal A T F", struck, clean);
+    leaves(&rt, alloc, "heal A T F", STRUCK_IN_TURN, clean);
+    leaves(&rt, alloc, "heal A T F", STILL_DIRTY, only_a);
+    leaves(&rt, alloc, "vote A T F", STILL_DIRTY, None);
+    leaves(&rt, alloc, "fault A T F", struck, None);
 }

@@ -5,7 +5,7 @@ python3 measure.py [FOLDER [PROGRAM]]     FOLDER keeps the files that generate.p
 Run ./plcsafe once before, so that the program is built. Times are processor times on this machine, of sources the mean of ten
 runs. The peak is the most memory that the process held, as GNU time says it. `valgrind`, where it is installed, counts
 instructions: the difference of two runs over traces of two and four thousand scans gives the instructions of a scan with its
-line, without the start of the program.
+line, without the start of the program, and `load 10` and a run over 20,000 scans are counted whole.
 """
 import os
 import re
@@ -73,14 +73,41 @@ def sources(folder):
     half = show("verify, half the limits", ["verify", "limits-half.st", "limits-half.cert"], folder, times=10)
     whole = show("verify, the limits", ["verify", "limits.st", "limits.cert"], folder, times=10)
     ratio(half, whole)
+    half = show("image, half the limits", ["image", "limits-half.st"], folder, times=10)
+    whole = show("image, the limits", ["image", "limits.st"], folder, times=10)
+    ratio(half, whole)
 
 
-def traces(folder):
+def over_traces(folder, command, *more):
+    """Prints a line for a command over the largest trace and over half of it, and how the time grows."""
     times = []
     for file in ("motor-32.trace", "motor-64.trace"):
         mib, scans = size(folder, file) / MIB, lines(folder, file) - 1
-        times.append(show(f"run, {mib:.0f} MiB, {scans} scans", ["run", "motor.st", file], folder, ("ms for a MiB", mib, 1e3)))
+        words = [command, "motor.st", file, *more]
+        times.append(show(f"{command}, {mib:.0f} MiB, {scans} scans", words, folder, ("ms for a MiB", mib, 1e3)))
     ratio(*times)
+
+
+def tool(folder, words, file):
+    """Prints a line for a tool of the system over a file, the processor time alone."""
+    with open(os.path.join(folder, file), "rb") as text:
+        process = subprocess.Popen(words, stdin=text, stdout=subprocess.DEVNULL)
+        _, status, usage = os.wait4(process.pid, 0)
+    title = f"{' '.join(words)} < {file}"
+    print(f"{title:42} status {os.waitstatus_to_exitcode(status)}, {usage.ru_utime + usage.ru_stime:7.3f} s", flush=True)
+
+
+def traces(folder):
+    with open(os.path.join(folder, "late.faults"), "w", encoding="ascii") as out:
+        out.write("before 1000000 A code 0 00\n")
+    over_traces(folder, "run")
+    for command in ("fault", "vote", "heal"):
+        over_traces(folder, command, "late.faults")
+    for number in (500, 1000):
+        show(f"load {number}", ["load", str(number)], folder, ("ms for 1,000 scans", number, 1e3))
+    for file in ("motor-32.trace", "motor-64.trace"):
+        tool(folder, ["cat"], file)
+        tool(folder, ["wc", "-l"], file)
 
 
 def scans(folder):
@@ -90,6 +117,13 @@ def scans(folder):
     less = instructions(["run", "motor.st", "motor-2k.trace"], folder)
     more = instructions(["run", "motor.st", "motor-4k.trace"], folder)
     print(f"{'a scan of the motor with its line':42} {(more - less) / 2000:.0f} instructions")
+    print(f"{'load 10':42} {instructions(['load', '10'], folder) / 1e6:.1f} million instructions")
+    with open(os.path.join(folder, "motor-64.trace"), "rb") as text:
+        first = [next(text) for _ in range(20001)]
+    with open(os.path.join(folder, "motor-20k.trace"), "wb") as out:
+        out.writelines(first)
+    whole = instructions(["run", "motor.st", "motor-20k.trace"], folder)
+    print(f"{'run, 20,000 scans of the motor':42} {whole / 1e6:.1f} million instructions")
 
 
 def main(folder):

@@ -5,18 +5,21 @@ ghost use Rattle.std.specs.IoError.{error_kind};
 ghost use Rattle.ps_edge.specs.Exit.{exit_number, number_without_words};
 ghost use Rattle.ps_outside.specs.Outside.{Rose};
 ghost use Rattle.ps_top.specs.Asking.{Answer, IsAnswer};
+ghost use Rattle.ps_top.specs.Calls.{LeavesRefusal, output_seen};
 ghost use Rattle.ps_top.specs.Meets.{IsCut, AppendsAll, AppendsPart};
 ghost use Rattle.ps_top.specs.Program as program;
 ghost use Rattle.ps_words.specs.Command as asked;
 ghost use Rattle.ps_words.specs.Command.Command.{NotTaken};
 
 use crate::exit::{ended, exit_code, exit_code_without_words};
+use crate::noting::Noting;
 use crate::output::Output;
+use crate::telling::tell;
 use ps_base::{Label, Memory};
 use ps_outside::{DiskFiles, Files, StdSink};
 use ps_top::{Left, Status, Words, top};
 use std::alloc::Global;
-use std::io::{BufWriter, Print};
+use std::io::{BufWriter, Eprint, Print, Write};
 use std::rt::Env;
 use std::{env, io, rt};
 
@@ -32,10 +35,17 @@ pub fn words_of<R: Env + AllocGlobal>(system: &R) -> io::Result<Words> {
     Ok(words)
 }
 
-/// Does what the words ask, and flushes the output at the end: all that the program does, over any files and any output.
+/// Does what the words ask, and flushes the output at the end: all that the program does, over any files and any output. In `left`
+/// stands what the call worked with, and the refusal where a text is refused.
 ///
 /// A flush that fails is a write that failed.
-pub fn run<F: Files, O: Output>(alloc: Global, words: &Words, files: &mut F, out: &mut O) -> Status
+pub fn run<F: Files, O: Output>(
+    alloc: Global,
+    words: &Words,
+    files: &mut F,
+    out: &mut O,
+    left: &mut Left,
+) -> Status
     // Over files that tell: a call that was not cut short has the status of the text, and an output that tells took all of it.
     ensures status { IsTrue (F.tells files.old) → ¬ IsCut result →
         (answer : Answer) × IsAnswer (program.text words.now) (F.held files.old) answer × (result ≡ answer.status) }
@@ -44,6 +54,9 @@ pub fn run<F: Files, O: Output>(alloc: Global, words: &Words, files: &mut F, out
 
     // Whatever was taken is handed on, unless a write failed.
     ensures handed_on { result ≢ Status.WriteFault → IsTrue (O.is_handed_on out.new) }
+
+    // A refusal that was said is left: its line ends what an output that tells took.
+    ensures refuses { LeavesRefusal left.new (output_seen O.tells O.taken O.faults out.new) result }
 
     // Where memory is wanting nothing is written.
     ensures memory { IsTrue (O.tells out.old) → result ≡ Status.Memory → O.taken out.new ≡ O.taken out.old }
@@ -56,13 +69,53 @@ pub fn run<F: Files, O: Output>(alloc: Global, words: &Words, files: &mut F, out
     ensures usage { result ≡ Status.Usage → asked.command_of words.now ≡ NotTaken }
     ensures not_taken { asked.command_of words.now ≡ NotTaken → (result ≡ Status.Usage) ⊎ ((result ≡ Status.WriteFault) ⊎ (result ≡ Status.Memory)) }
 {
-    let status = top(alloc, words, files, out, &mut Left::new());
+    let status = top(alloc, words, files, out, left);
     ended(status, out.finish())
 }
 
+// Does what the words ask, over the files of the system and a writer.
+fn run_on<R: rt::Files, W: Write + Drop>(
+    system: &R,
+    alloc: Global,
+    words: &Words,
+    writer: W,
+    left: &mut Left,
+) -> Status
+    ensures usage { result ≡ Status.Usage → asked.command_of words.now ≡ NotTaken }
+    ensures not_taken { asked.command_of words.now ≡ NotTaken → (result ≡ Status.Usage) ⊎ ((result ≡ Status.WriteFault) ⊎ (result ≡ Status.Memory)) }
+{
+    match BufWriter::new(alloc, writer) {
+        Ok(out) => {
+            let mut files = DiskFiles::new(system);
+            let mut sink = StdSink::new(out);
+            run(alloc, words, &mut files, &mut sink, left)
+        }
+        Err(_) => Status::Memory,
+    }
+}
+
+// Does what these words ask, over the files and the standard output of the system, tells on standard error why where it does not do
+// all, and says the number with which the program exits.
+fn exit_of_list<R: Env + rt::Files + Print + Eprint + AllocGlobal>(system: &R, words: &Words) -> u8
+    ensures in_range { result ≤ 7 }
+    ensures usage { result ≡ exit_number Status.Usage → asked.command_of words.now ≡ NotTaken }
+    ensures not_taken { asked.command_of words.now ≡ NotTaken →
+        (result ≡ exit_number Status.Usage) ⊎ ((result ≡ exit_number Status.WriteFault) ⊎ (result ≡ exit_number Status.Memory)) }
+{
+    let mut left = Left::new();
+    let mut writer = Noting::new(system);
+    let status = run_on(system, system.alloc(), words, &mut writer, &mut left);
+    tell(system, words, status, &left, writer.is_closed());
+    exit_code(status)
+}
+
 /// Does what the words ask, over the files and the standard output of the system, and says the number with which the program
-/// exits. Without words it does nothing.
-pub fn exit_of_words<R: rt::Files + Print + AllocGlobal>(system: &R, words: io::Result<Words>) -> u8
+/// exits. Where it does not do all it tells why on standard error, after what the standard output has. Without words it does
+/// nothing.
+pub fn exit_of_words<R: Env + rt::Files + Print + Eprint + AllocGlobal>(
+    system: &R,
+    words: io::Result<Words>,
+) -> u8
     ensures no_words { IfErr words (λ error. result ≡ number_without_words (error_kind error)) }
     ensures in_range { IfOk words (λ list. result ≤ 7) }
     ensures usage { IfOk words (λ list. result ≡ exit_number Status.Usage → asked.command_of list ≡ NotTaken) }
@@ -73,18 +126,10 @@ pub fn exit_of_words<R: rt::Files + Print + AllocGlobal>(system: &R, words: io::
         Ok(words) => words,
         Err(error) => return exit_code_without_words(error.kind()),
     };
-    let alloc = system.alloc();
-    match BufWriter::new(alloc, io::writer(system)) {
-        Ok(out) => {
-            let mut files = DiskFiles::new(system);
-            let mut sink = StdSink::new(out);
-            exit_code(run(alloc, &words, &mut files, &mut sink))
-        }
-        Err(_) => exit_code(Status::Memory),
-    }
+    exit_of_list(system, &words)
 }
 
 /// Does all that the program does, and says the number with which it exits.
-pub fn exit_of_program<R: Env + rt::Files + Print + AllocGlobal>(system: &R) -> u8 {
+pub fn exit_of_program<R: Env + rt::Files + Print + Eprint + AllocGlobal>(system: &R) -> u8 {
     exit_of_words(system, words_of(system))
 }

@@ -5,6 +5,7 @@ use crate::motor::MOTOR;
 use ps_base::Memory;
 use ps_edge::{exit_code, run};
 use ps_outside::MemSink;
+use ps_top::Left;
 use std::alloc::Global;
 use std::process::Abort;
 use std::test::Fail;
@@ -27,7 +28,8 @@ fn exit_of(alloc: Global, words: &str, trace: &str, fails: bool) -> Result<u8, M
         out.fail_at(1)?;
     }
     let words = words_of(alloc, words)?;
-    Ok(exit_code(run(alloc, &words, &mut files, &mut out)))
+    let mut left = Left::new();
+    Ok(exit_code(run(alloc, &words, &mut files, &mut out, &mut left)))
 }
 
 /// Asserts the number of a row.

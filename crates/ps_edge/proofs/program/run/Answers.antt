@@ -1,4 +1,6 @@
-use Rattle.std.proofs.Common.{◌∙◌, subst}
+use Rattle.std.proofs.Common.{◌∙◌, Bool, IsTrue, subst}
+use Rattle.ps_top.proofs.Refusals.{cut_refuses_not}
+use Rattle.ps_top.specs.Calls.{IsRefusing}
 use Rattle.ps_top.specs.Meets.{IsCut}
 use Rattle.ps_top.specs.declared.Status.{Status}
 use Rattle.ps_edge.proofs.Ending.{not_cut, read_failed, flushed}
@@ -28,3 +30,12 @@ returns-clause-handed_on g c = λ not.
 pub returns-clause-read_fault : goal.returns-clause-read_fault
 returns-clause-read_fault g c = λ is.
     c.top-status.ensures.read_fault (read_failed c.finish.result c.top-status.result c.ended.result c.ended.ensures.same c.ended.ensures.write_fault is)
+
+pub returns-clause-refuses : goal.returns-clause-refuses
+returns-clause-refuses g c = λ refusing.
+    let is = not_cut c.finish.result c.top-status.result c.ended.result c.ended.ensures.same c.ended.ensures.write_fault (cut_refuses_not c.ended.result refusing) in
+    let found = c.top-status.ensures.refuses (subst (λ (s : Status). IsRefusing s) is refusing) in (
+      found.0,
+      found.1,
+      λ tells. let ends = found.2 (subst (λ (b : Bool). IsTrue b) c.finish.ensures.telling tells) in (ends.0, c.finish.ensures.kept ∙ ends.1),
+    )

@@ -21,33 +21,33 @@ const MOTOR_EQUATION_CODE: [u8; 37] = [
     0, 0, 4, 0xF2, 0xF0, 0, 0, 2, 0xF1, 0, 3, 0xF0, 0, 0xF0,
 ];
 
-// Whether the codes of an application have these bytes: in channel A, and in channel B.
-fn are_codes(
-    alloc: Global,
-    app: &App,
-    stack: &[u8],
-    equation: &[u8],
-) -> Result<(bool, bool), Fail> {
-    let is_stack = stack_code_of(alloc, app)?.as_slice() == stack;
-    let is_equation = equation_code_of(alloc, app)?.as_slice() == equation;
-    Ok((is_stack, is_equation))
+// Whether the code of an application in channel A has these bytes.
+fn is_stack_code(alloc: Global, app: &App, code: &[u8]) -> bool {
+    match stack_code_of(alloc, app) {
+        Ok(found) => found.as_slice() == code,
+        Err(_) => false,
+    }
 }
 
-// The same of the application of a text.
-fn has_codes(
-    alloc: Global,
-    text: &str,
-    stack: &[u8],
-    equation: &[u8],
-) -> Result<(bool, bool), Fail> {
-    let app = application(alloc, text)?;
-    are_codes(alloc, &app, stack, equation)
+// Whether the code of an application in channel B has these bytes.
+fn is_equation_code(alloc: Global, app: &App, code: &[u8]) -> bool {
+    match equation_code_of(alloc, app) {
+        Ok(found) => found.as_slice() == code,
+        Err(_) => false,
+    }
+}
+
+// Whether the codes of the application of a text have these bytes: in channel A, and in channel B.
+fn has_codes(alloc: Global, text: &str, stack: &[u8], equation: &[u8]) -> bool {
+    match application(alloc, text) {
+        Ok(app) => is_stack_code(alloc, &app, stack) && is_equation_code(alloc, &app, equation),
+        Err(_) => false,
+    }
 }
 
 #[test]
 fn the_codes_of_m(rt: HostRuntime) {
-    let found = has_codes(rt.alloc(), MOTOR, &MOTOR_STACK_CODE, &MOTOR_EQUATION_CODE);
-    assert_eq!(rt; found, Ok((true, true)));
+    assert!(rt; has_codes(rt.alloc(), MOTOR, &MOTOR_STACK_CODE, &MOTOR_EQUATION_CODE));
 }
 
 const TIMES_STACK_CODE: [u8; 36] = [
@@ -64,8 +64,7 @@ const TIMES_EQUATION_CODE: [u8; 35] = [
 
 #[test]
 fn limits_and_free_pins(rt: HostRuntime) {
-    let found = has_codes(rt.alloc(), TIMES, &TIMES_STACK_CODE, &TIMES_EQUATION_CODE);
-    assert_eq!(rt; found, Ok((true, true)));
+    assert!(rt; has_codes(rt.alloc(), TIMES, &TIMES_STACK_CODE, &TIMES_EQUATION_CODE));
 }
 
 // The figures of both channels, A and then B.
@@ -73,10 +72,12 @@ fn both_figures(alloc: Global, app: &App) -> Result<(Figures, Figures), Fail> {
     Ok((stack_figures(alloc, app)?, equation_figures(alloc, app)?))
 }
 
-/// The figures of both channels, A and then B, for the application of a text.
-pub fn figures(alloc: Global, text: &str) -> Result<(Figures, Figures), Fail> {
-    let app = application(alloc, text)?;
-    both_figures(alloc, &app)
+/// Whether the application of a text has these figures, in channel A and in channel B.
+pub fn has_figures(alloc: Global, text: &str, stack: Figures, equation: Figures) -> bool {
+    match application(alloc, text) {
+        Ok(app) => both_figures(alloc, &app) == Ok((stack, equation)),
+        Err(_) => false,
+    }
 }
 
 #[test]
@@ -91,7 +92,7 @@ fn figures_of_m(rt: HostRuntime) {
         cells: 84,
         turns: 5,
     };
-    assert_eq!(rt; figures(rt.alloc(), MOTOR), Ok((stack, equation)));
+    assert!(rt; has_figures(rt.alloc(), MOTOR, stack, equation));
 }
 
 // In channel A 35 signals are loaded and 34 ANDs and ORs join them; then STORE and END. In channel B each of the 34 has two
@@ -108,5 +109,5 @@ fn figures_of_the_deepest_expression(rt: HostRuntime) {
         cells: 61 + 4,
         turns: 70,
     };
-    assert_eq!(rt; figures(rt.alloc(), DEEP), Ok((stack, equation)));
+    assert!(rt; has_figures(rt.alloc(), DEEP, stack, equation));
 }

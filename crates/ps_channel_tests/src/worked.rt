@@ -5,17 +5,27 @@ use crate::press::{PRESS, PRESS_AT_WORK};
 use crate::tables::met;
 use crate::texts::{DEEP, MOTOR};
 use crate::wires::{FEEDBACK, FEEDBACK_ROWS};
+use std::alloc::Global;
+use std::process::Abort;
+
+// Whether the application of a text meets so many rows of a table, and no further one.
+fn is_met(alloc: Global, text: &str, rows: &str, count: u32) -> bool {
+    met(alloc, text, rows) == Ok(count)
+}
+
+// The application of a text meets so many rows of a table, and no further one.
+fn meets(rt: &impl Abort, alloc: Global, text: &str, rows: &str, count: u32) {
+    assert!(rt; is_met(alloc, text, rows, count), "{rows}");
+}
 
 #[test]
 fn ordinary_use(rt: HostRuntime) {
-    let found = met(rt.alloc(), MOTOR, blocks::ORDINARY_USE);
-    assert_eq!(rt; found, Ok(6));
+    meets(&rt, rt.alloc(), MOTOR, blocks::ORDINARY_USE, 6);
 }
 
 #[test]
 fn held_reset(rt: HostRuntime) {
-    let found = met(rt.alloc(), MOTOR, blocks::HELD_RESET);
-    assert_eq!(rt; found, Ok(3));
+    meets(&rt, rt.alloc(), MOTOR, blocks::HELD_RESET, 3);
 }
 
 // The scans behind a restart, which begin anew at a later time.
@@ -25,7 +35,7 @@ fn behind_a_restart(rt: HostRuntime) {
 30 101 0 8001
 40 101 0 8002
 ";
-    assert_eq!(rt; met(rt.alloc(), MOTOR, rows), Ok(2));
+    meets(&rt, rt.alloc(), MOTOR, rows, 2);
 }
 
 // The earliest and the latest time.
@@ -35,87 +45,114 @@ fn largest_time(rt: HostRuntime) {
 0 000 0 8001
 4294967295 000 0 8002
 ";
-    assert_eq!(rt; met(rt.alloc(), MOTOR, rows), Ok(2));
+    meets(&rt, rt.alloc(), MOTOR, rows, 2);
 }
 
 #[test]
 fn late_contact(rt: HostRuntime) {
-    let found = met(rt.alloc(), blocks::CONTACTS, blocks::LATE_CONTACT);
-    assert_eq!(rt; found, Ok(3));
+    meets(&rt, rt.alloc(), blocks::CONTACTS, blocks::LATE_CONTACT, 3);
 }
 
 #[test]
 fn contact_in_time(rt: HostRuntime) {
-    let found = met(rt.alloc(), blocks::CONTACTS, blocks::CONTACT_IN_TIME);
-    assert_eq!(rt; found, Ok(3));
+    meets(
+        &rt,
+        rt.alloc(),
+        blocks::CONTACTS,
+        blocks::CONTACT_IN_TIME,
+        3,
+    );
 }
 
 #[test]
 fn limit_zero(rt: HostRuntime) {
-    let found = met(rt.alloc(), blocks::CONTACTS_AT_ONCE, blocks::LIMIT_ZERO);
-    assert_eq!(rt; found, Ok(3));
+    meets(
+        &rt,
+        rt.alloc(),
+        blocks::CONTACTS_AT_ONCE,
+        blocks::LIMIT_ZERO,
+        3,
+    );
 }
 
 #[test]
 fn antivalent_contacts(rt: HostRuntime) {
-    let found = met(
+    meets(
+        &rt,
         rt.alloc(),
         blocks::OPPOSED_CONTACTS,
         blocks::ANTIVALENT_CONTACTS,
+        6,
     );
-    assert_eq!(rt; found, Ok(6));
 }
 
 #[test]
 fn second_button_in_time(rt: HostRuntime) {
-    let found = met(rt.alloc(), blocks::TWO_HANDS, blocks::SECOND_BUTTON_IN_TIME);
-    assert_eq!(rt; found, Ok(4));
+    meets(
+        &rt,
+        rt.alloc(),
+        blocks::TWO_HANDS,
+        blocks::SECOND_BUTTON_IN_TIME,
+        4,
+    );
 }
 
 #[test]
 fn second_button_late(rt: HostRuntime) {
-    let found = met(rt.alloc(), blocks::TWO_HANDS, blocks::SECOND_BUTTON_LATE);
-    assert_eq!(rt; found, Ok(4));
+    meets(
+        &rt,
+        rt.alloc(),
+        blocks::TWO_HANDS,
+        blocks::SECOND_BUTTON_LATE,
+        4,
+    );
 }
 
 #[test]
 fn no_second_button(rt: HostRuntime) {
-    let found = met(rt.alloc(), blocks::TWO_HANDS, blocks::NO_SECOND_BUTTON);
-    assert_eq!(rt; found, Ok(4));
+    meets(
+        &rt,
+        rt.alloc(),
+        blocks::TWO_HANDS,
+        blocks::NO_SECOND_BUTTON,
+        4,
+    );
 }
 
 #[test]
 fn mode_selector(rt: HostRuntime) {
-    let found = met(rt.alloc(), blocks::MODES, blocks::MODE_SELECTOR);
-    assert_eq!(rt; found, Ok(10));
+    meets(&rt, rt.alloc(), blocks::MODES, blocks::MODE_SELECTOR, 10);
 }
 
 #[test]
 fn enable_switch(rt: HostRuntime) {
-    let found = met(rt.alloc(), blocks::ENABLING, blocks::ENABLE_SWITCH);
-    assert_eq!(rt; found, Ok(9));
+    meets(&rt, rt.alloc(), blocks::ENABLING, blocks::ENABLE_SWITCH, 9);
 }
 
 #[test]
 fn guard_locking(rt: HostRuntime) {
-    let found = met(rt.alloc(), blocks::LOCKING, blocks::GUARD_LOCKING);
-    assert_eq!(rt; found, Ok(10));
+    meets(&rt, rt.alloc(), blocks::LOCKING, blocks::GUARD_LOCKING, 10);
 }
 
 #[test]
 fn safety_request(rt: HostRuntime) {
-    let found = met(rt.alloc(), blocks::REQUESTING, blocks::SAFETY_REQUEST);
-    assert_eq!(rt; found, Ok(12));
+    meets(
+        &rt,
+        rt.alloc(),
+        blocks::REQUESTING,
+        blocks::SAFETY_REQUEST,
+        12,
+    );
 }
 
 #[test]
 fn press(rt: HostRuntime) {
-    assert_eq!(rt; met(rt.alloc(), PRESS, PRESS_AT_WORK), Ok(18));
+    meets(&rt, rt.alloc(), PRESS, PRESS_AT_WORK, 18);
 }
 
 #[test]
 fn feedback_of_locals(rt: HostRuntime) {
-    assert_eq!(rt; met(rt.alloc(), FEEDBACK, FEEDBACK_ROWS), Ok(3));
+    meets(&rt, rt.alloc(), FEEDBACK, FEEDBACK_ROWS, 3);
 }
 
 // S_O is S_A OR S_B AND S_C.
@@ -129,13 +166,18 @@ fn deepest_expression(rt: HostRuntime) {
 40 100 1
 50 110 1
 ";
-    assert_eq!(rt; met(rt.alloc(), DEEP, rows), Ok(6));
+    meets(&rt, rt.alloc(), DEEP, rows, 6);
 }
 
 #[test]
 fn deepest_expression_at_the_last_pin(rt: HostRuntime) {
-    let found = met(rt.alloc(), blocks::DEEP_RESET, blocks::MODE_SELECTOR);
-    assert_eq!(rt; found, Ok(10));
+    meets(
+        &rt,
+        rt.alloc(),
+        blocks::DEEP_RESET,
+        blocks::MODE_SELECTOR,
+        10,
+    );
 }
 
 // A table that tells another code or output, or has too few inputs, is not met.
@@ -145,7 +187,7 @@ fn wrong_code(rt: HostRuntime) {
 0 00 0 8001
 10 10 0 8000
 ";
-    assert_eq!(rt; met(rt.alloc(), blocks::CONTACTS, rows), Ok(1));
+    meets(&rt, rt.alloc(), blocks::CONTACTS, rows, 1);
 }
 
 #[test]
@@ -153,7 +195,7 @@ fn wrong_output(rt: HostRuntime) {
     let rows = "\
 0 00 1 8001
 ";
-    assert_eq!(rt; met(rt.alloc(), blocks::CONTACTS, rows), Ok(0));
+    meets(&rt, rt.alloc(), blocks::CONTACTS, rows, 0);
 }
 
 #[test]
@@ -161,5 +203,5 @@ fn too_few_inputs(rt: HostRuntime) {
     let rows = "\
 0 0 0 8001
 ";
-    assert_eq!(rt; met(rt.alloc(), blocks::CONTACTS, rows), Ok(0));
+    meets(&rt, rt.alloc(), blocks::CONTACTS, rows, 0);
 }

@@ -40,22 +40,25 @@ fn turn(rt: &impl Abort, channel: &mut StackChannel) {
     assert!(rt; channel.progress() == Progress::Running);
 }
 
-// What the byte at a place of the cells says.
-fn says(rt: &impl Abort, channel: &StackChannel, at: u32, byte: u8) {
-    assert!(rt; at < channel.region_len(Region::Cells));
-    assert_eq!(rt; channel.cell(at), byte, "byte {at}");
+// Whether the byte at a place of the cells is this one.
+fn is_cell(channel: &StackChannel, at: u32, byte: u8) -> bool {
+    at < channel.region_len(Region::Cells) && channel.cell(at) == byte
 }
 
-// The instance, which has so many safe outputs, has this DiagCode and this Ready, and no Error; and the next instruction is
-// behind its call, over an empty stack.
-fn shows(rt: &impl Abort, channel: &StackChannel, safe: u8, code: u16, ready: u8) {
+// Whether the instance, which has so many safe outputs, has this DiagCode and this Ready, and no Error; and the next
+// instruction is behind its call, over an empty stack.
+fn shows(channel: &StackChannel, safe: u8, code: u16, ready: u8) -> bool {
     let [high, low] = code.to_be_bytes();
-    says(rt, channel, 85, high);
-    says(rt, channel, 86, low);
-    says(rt, channel, 74 + u32::from(safe), ready);
-    says(rt, channel, 75 + u32::from(safe), 0);
-    says(rt, channel, 3, 10);
-    says(rt, channel, 4, 0);
+    [
+        (85, high),
+        (86, low),
+        (74 + u32::from(safe), ready),
+        (75 + u32::from(safe), 0),
+        (3, 10),
+        (4, 0),
+    ]
+    .iter()
+    .all(|(at, byte)| is_cell(channel, *at, *byte))
 }
 
 // Three calls of a kind: Activate TRUE from Idle on, again, and Activate FALSE.
@@ -75,7 +78,7 @@ fn calls(
     for (activate, diag_code, ready) in [(1, first, 1), (1, second, 1), (0, 0, 0)] {
         put_pins(rt, &mut channel, pins, activate);
         turn(rt, &mut channel);
-        shows(rt, &channel, safe, diag_code, ready);
+        assert!(rt; shows(&channel, safe, diag_code, ready), "kind {kind}");
     }
     Ok(())
 }

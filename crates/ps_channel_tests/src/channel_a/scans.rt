@@ -46,7 +46,7 @@ fn make_scan(
     let scan = scan(alloc, now, ins)?;
     channel.begin(&scan);
     make_turns(rt, channel);
-    assert_eq!(rt; channel.progress(), Progress::Done);
+    assert!(rt; channel.progress() == Progress::Done);
     Ok(())
 }
 
@@ -64,7 +64,8 @@ fn six_scans(rt: HostRuntime) -> Result<(), Fail> {
     let mut channel = channel(rt.alloc(), &CODE)?;
     for (now, ins, wanted) in scans {
         make_scan(&rt, rt.alloc(), &mut channel, now, ins)?;
-        assert_eq!(rt; reported(&rt, rt.alloc(), &channel)?, wanted, "at {now}");
+        let found = reported(&rt, rt.alloc(), &channel)?;
+        assert!(rt; found == wanted, "at {now}");
     }
     Ok(())
 }
@@ -88,11 +89,13 @@ fn the_turns_of_a_scan(rt: HostRuntime) -> Result<(), Fail> {
         assert!(rt; channel.progress() == Progress::Running);
         channel.turn();
         assert!(rt; 96 < channel.region_len(Region::Cells));
-        assert_eq!(rt; channel.cell(3), pc);
-        assert_eq!(rt; channel.cell(4), height, "at {pc}");
+        assert!(rt;
+            channel.cell(3) == pc && channel.cell(4) == height,
+            "at {pc}"
+        );
     }
     assert!(rt; channel.progress() == Progress::Running);
     channel.turn();
-    assert_eq!(rt; channel.progress(), Progress::Done);
+    assert!(rt; channel.progress() == Progress::Done);
     Ok(())
 }

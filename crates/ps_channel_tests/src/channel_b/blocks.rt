@@ -1,6 +1,6 @@
 // The traps of BLOCK on both sides of every bound, and which comes where two causes meet.
 
-use super::fixtures::after_a_turn;
+use super::fixtures::stands;
 use ps_model::Progress;
 use std::alloc::Global;
 use std::process::Abort;
@@ -34,8 +34,7 @@ fn the_end_of_a_row(rt: HostRuntime) -> Result<(), Fail> {
     for (count, len, wanted) in cases {
         assert!(rt; len <= 23);
         let code = row(0, 3, 4, count);
-        let progress = after_a_turn(&rt, rt.alloc(), &code[..len], &[])?;
-        assert_eq!(rt; progress, wanted, "{count} operands in {len} bytes");
+        stands(&rt, rt.alloc(), &code[..len], &[], wanted)?;
     }
     Ok(())
 }
@@ -63,8 +62,7 @@ fn instances_kinds_and_outputs(rt: HostRuntime) -> Result<(), Fail> {
     ];
     for (instance, kind, first, count, wanted) in cases {
         let code = row(instance, kind, first, count);
-        let progress = after_a_turn(&rt, rt.alloc(), &code, &[])?;
-        assert_eq!(rt; progress, wanted, "{instance} {kind} {first} {count}");
+        stands(&rt, rt.alloc(), &code, &[], wanted)?;
     }
     Ok(())
 }
@@ -81,8 +79,7 @@ fn take_turns(
         let [high, low] = operand.to_be_bytes();
         code[17] = high;
         code[18] = low;
-        let progress = after_a_turn(rt, alloc, &code, &[(*at, *plain)])?;
-        assert_eq!(rt; progress, *wanted, "{count} {operand:x} {at} {plain}");
+        stands(rt, alloc, &code, &[(*at, *plain)], *wanted)?;
     }
     Ok(())
 }
@@ -147,8 +144,8 @@ fn states(rt: HostRuntime) -> Result<(), Fail> {
         (0x14, Progress::Trapped(7)),
     ];
     for (low, wanted) in cases {
-        let progress = after_a_turn(&rt, rt.alloc(), &row(0, 3, 4, 5), &[(68, 0x80), (69, low)])?;
-        assert_eq!(rt; progress, wanted, "80{low:x}");
+        let places = [(68, 0x80), (69, low)];
+        stands(&rt, rt.alloc(), &row(0, 3, 4, 5), &places, wanted)?;
     }
     Ok(())
 }
@@ -159,7 +156,7 @@ fn odd_before_unloadable(rt: HostRuntime) -> Result<(), Fail> {
     let mut code = row(0, 3, 4, 5);
     code[11] = 0;
     code[12] = 1;
-    let progress = after_a_turn(&rt, rt.alloc(), &code, &[(62, 2), (68, 0x81)])?;
-    assert_eq!(rt; progress, Progress::Trapped(4));
+    let places = [(62, 2), (68, 0x81)];
+    stands(&rt, rt.alloc(), &code, &places, Progress::Trapped(4))?;
     Ok(())
 }

@@ -111,6 +111,22 @@ pub fn after_a_turn(
     Ok(channel.progress())
 }
 
+/// M's channel stands so after one turn of this code, over cells of plain value 0 in which these
+/// places have these plain bytes.
+pub fn stands(
+    rt: &impl Abort,
+    alloc: Global,
+    code: &[u8],
+    places: &[(u32, u8)],
+    wanted: Progress,
+) -> Result<(), Memory>
+    requires { length code.now < 2 ^ 32 }
+{
+    let is_so = after_a_turn(rt, alloc, code, places)? == wanted;
+    assert!(rt; is_so, "{code:?} {places:?}");
+    Ok(())
+}
+
 /// A scan with these inputs.
 pub fn scan(alloc: Global, now: u32, inputs: &[bool]) -> Result<Scan, Memory>
     ensures { IfOk result (λ s. length s.ins ≡ length inputs.now) }
@@ -143,7 +159,7 @@ pub fn make_scan(
         );
         channel.turn();
     }
-    assert_eq!(rt; channel.progress(), Progress::Done, "at {now}");
+    assert!(rt; channel.progress() == Progress::Done, "at {now}");
     Ok(())
 }
 
@@ -161,4 +177,9 @@ pub fn reported(alloc: Global, channel: &EquationChannel) -> Result<Option<(bool
     } else {
         Ok(None)
     }
+}
+
+/// Whether the value word and the odd word of a channel are these. Each has one word.
+pub fn holds(channel: &EquationChannel, values: u64, odd: u64) -> bool {
+    channel.value_words() == [values].as_slice() && channel.odd_words() == [odd].as_slice()
 }

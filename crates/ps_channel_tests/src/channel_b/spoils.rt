@@ -2,9 +2,9 @@
 
 ghost use Rattle.std.specs.Prelude.{◌≡◌, IfOk};
 
-use super::fixtures::{CODE, image, make_scan, motor, reported, turn};
+use super::fixtures::{CODE, holds, image, make_scan, motor, reported, turn};
 use ps_eqvm::EquationChannel;
-use ps_model::{OutOfRegion, Progress, Region};
+use ps_model::{Progress, Region};
 use std::alloc::Global;
 use std::process::Abort;
 use std::test::Fail;
@@ -36,8 +36,7 @@ fn words(rt: HostRuntime) -> Result<(), Fail> {
             (255, off, bit),
         ] {
             let motor = spoiled(&rt, rt.alloc(), at, plain)?;
-            assert_eq!(rt; motor.value_words(), [values].as_slice(), "{plain} at {at}");
-            assert_eq!(rt; motor.odd_words(), [odd].as_slice(), "{plain} at {at}");
+            assert!(rt; holds(&motor, values, odd), "{plain} at {at}");
         }
     }
     Ok(())
@@ -57,7 +56,7 @@ fn progress(rt: HostRuntime) -> Result<(), Fail> {
     ];
     for (plain, wanted) in cases {
         let motor = spoiled(&rt, rt.alloc(), 4, plain)?;
-        assert_eq!(rt; motor.progress(), wanted, "{plain}");
+        assert!(rt; motor.progress() == wanted, "{plain}");
     }
     Ok(())
 }
@@ -82,7 +81,8 @@ fn reported_bytes(rt: HostRuntime) -> Result<(), Fail> {
     ];
     for (at, plain, wanted) in cases {
         let motor = spoiled(&rt, rt.alloc(), at, plain)?;
-        assert_eq!(rt; reported(rt.alloc(), &motor)?, wanted, "{plain} at {at}");
+        let found = reported(rt.alloc(), &motor)?;
+        assert!(rt; found == wanted, "{plain} at {at}");
     }
     Ok(())
 }
@@ -100,10 +100,9 @@ fn all_cells(rt: HostRuntime) -> Result<(), Fail> {
     for (stored, values, odd, progress, wanted) in cases {
         let mut motor = motor(rt.alloc(), &CODE)?;
         assert!(rt; motor.spoil(Region::Cells, 0, &[stored; 84]).is_ok());
-        assert_eq!(rt; motor.value_words(), [values].as_slice(), "{stored:x}");
-        assert_eq!(rt; motor.odd_words(), [odd].as_slice(), "{stored:x}");
-        assert_eq!(rt; motor.progress(), progress, "{stored:x}");
-        assert_eq!(rt; reported(rt.alloc(), &motor)?, wanted, "{stored:x}");
+        let is_reported = reported(rt.alloc(), &motor)? == wanted;
+        let is_so = is_reported && holds(&motor, values, odd) && motor.progress() == progress;
+        assert!(rt; is_so, "{stored:x}");
     }
     Ok(())
 }
@@ -126,17 +125,13 @@ fn ends_of_regions(rt: HostRuntime) -> Result<(), Fail> {
         (Region::Code, u32::MAX, 1, false),
     ];
     let mut motor = motor(rt.alloc(), &CODE)?;
-    assert_eq!(rt; motor.region_len(Region::Code), 37);
-    assert_eq!(rt; motor.region_len(Region::Cells), 84);
+    assert!(rt; motor.region_len(Region::Code) == 37);
+    assert!(rt; motor.region_len(Region::Cells) == 84);
     for (region, at, count, inside) in cases {
         assert!(rt; count <= 2);
-        let wanted = if inside { Ok(()) } else { Err(OutOfRegion) };
         let bytes = [0xF5, 0xF5];
-        assert_eq!(rt;
-            motor.spoil(region, at, &bytes[..count]),
-            wanted,
-            "{count} at {at}"
-        );
+        let is_inside = motor.spoil(region, at, &bytes[..count]).is_ok();
+        assert!(rt; is_inside == inside, "{count} at {at}");
     }
     Ok(())
 }
@@ -147,15 +142,13 @@ fn spoiled_code(rt: HostRuntime) -> Result<(), Fail> {
     let mut motor = motor(rt.alloc(), &CODE)?;
     assert!(rt; motor.spoil(Region::Code, 0, &[0xF5]).is_ok());
     turn(&mut motor);
-    assert_eq!(rt; motor.progress(), Progress::Trapped(1));
+    assert!(rt; motor.progress() == Progress::Trapped(1));
     assert!(rt; motor.spoil(Region::Cells, 0, &[0; 84]).is_ok());
     let image = image(rt.alloc(), &CODE)?;
     assert!(rt; motor.region_len(Region::Code) == image.len());
     motor.renew(&image);
-    assert_eq!(rt; motor.progress(), Progress::Running);
-    assert_eq!(rt; motor.value_words(), [0].as_slice());
-    assert_eq!(rt; motor.odd_words(), [0].as_slice());
+    assert!(rt; motor.progress() == Progress::Running && holds(&motor, 0, 0));
     turn(&mut motor);
-    assert_eq!(rt; motor.value_words(), [0x0020000000000000].as_slice());
+    assert!(rt; holds(&motor, 0x0020000000000000, 0));
     Ok(())
 }

@@ -380,13 +380,19 @@ fn hint_on_sign(front: &[u8], back: &[u8]) -> Hint {
     }
 }
 
+// Whether a trace or a fault file begins with a word.
+fn begins_other(word: &[u8]) -> bool {
+    word == b"time".as_slice() || word == b"before".as_slice()
+}
+
 // What is said of the first token of a text or a line that does not fit.
 fn hint_on_first(line: u32, here: &[u8]) -> Hint {
-    match here {
-        b"time" | b"before" if line == 1 => Hint::OtherGiven,
-        _ if line == 1 => Hint::Beginning,
-        _ if begins_application(here) => Hint::Behind,
-        _ => Hint::Unfinished,
+    if line == 1 {
+        Hint::Beginning
+    } else if begins_application(here) {
+        Hint::Behind
+    } else {
+        Hint::Unfinished
     }
 }
 
@@ -397,6 +403,9 @@ fn hint_on_grammar(line: u32, front: &[u8], back: &[u8]) -> Option<Hint> {
     }
     let before = without_blanks(front);
     let here = first_word(back);
+    if line == 1 && before.is_empty() && begins_other(here) {
+        return Some(Hint::OtherGiven);
+    }
     if let Some(hint) = hint_on_word(here) {
         return Some(hint);
     }

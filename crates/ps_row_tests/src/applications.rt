@@ -2,7 +2,6 @@
 
 use crate::calls::{gives, walk};
 use ps_top::Status;
-use std::test::Fail;
 
 /// The AND of two inputs.
 const AND: &str = "\
@@ -20,9 +19,8 @@ time S_1 S_2
 ";
 
 #[test]
-fn the_and_of_two_inputs(rt: HostRuntime) -> Result<(), Fail> {
-    walk(&rt, rt.alloc(), AND, AND_LINES, Status::Done)?;
-    Ok(())
+fn the_and_of_two_inputs(rt: HostRuntime) {
+    walk(&rt, rt.alloc(), AND, AND_LINES, Status::Done);
 }
 
 /// A value too few.
@@ -33,9 +31,8 @@ time S_1 S_2
 ";
 
 #[test]
-fn a_value_too_few(rt: HostRuntime) -> Result<(), Fail> {
-    walk(&rt, rt.alloc(), AND, MISSING, Status::BadInput)?;
-    Ok(())
+fn a_value_too_few(rt: HostRuntime) {
+    walk(&rt, rt.alloc(), AND, MISSING, Status::BadInput);
 }
 
 /// A word that is no value.
@@ -46,9 +43,8 @@ time S_1 S_2
 ";
 
 #[test]
-fn a_word_that_is_no_value(rt: HostRuntime) -> Result<(), Fail> {
-    walk(&rt, rt.alloc(), AND, NO_VALUE, Status::BadInput)?;
-    Ok(())
+fn a_word_that_is_no_value(rt: HostRuntime) {
+    walk(&rt, rt.alloc(), AND, NO_VALUE, Status::BadInput);
 }
 
 /// A local that is read before it is assigned has the value of the scan before.
@@ -69,9 +65,8 @@ time S_In
 ";
 
 #[test]
-fn feedback(rt: HostRuntime) -> Result<(), Fail> {
-    walk(&rt, rt.alloc(), FEEDBACK, FEEDBACK_LINES, Status::Done)?;
-    Ok(())
+fn feedback(rt: HostRuntime) {
+    walk(&rt, rt.alloc(), FEEDBACK, FEEDBACK_LINES, Status::Done);
 }
 
 /// A restart forgets the scan before.
@@ -85,9 +80,8 @@ restart => restart
 ";
 
 #[test]
-fn feedback_after_a_restart(rt: HostRuntime) -> Result<(), Fail> {
-    walk(&rt, rt.alloc(), FEEDBACK, FEEDBACK_RESTART, Status::Done)?;
-    Ok(())
+fn feedback_after_a_restart(rt: HostRuntime) {
+    walk(&rt, rt.alloc(), FEEDBACK, FEEDBACK_RESTART, Status::Done);
 }
 
 const EMPTY: &str = "\
@@ -100,25 +94,23 @@ time
 ";
 
 #[test]
-fn no_inputs_and_no_outputs(rt: HostRuntime) -> Result<(), Fail> {
-    walk(&rt, rt.alloc(), EMPTY, EMPTY_LINES, Status::Done)?;
-    Ok(())
+fn no_inputs_and_no_outputs(rt: HostRuntime) {
+    walk(&rt, rt.alloc(), EMPTY, EMPTY_LINES, Status::Done);
 }
 
 #[test]
-fn commands_on_an_empty_program(rt: HostRuntime) -> Result<(), Fail> {
+fn commands_on_an_empty_program(rt: HostRuntime) {
     let alloc = rt.alloc();
     let counts = "accepted inputs 0 outputs 0 locals 0 instances 0 steps 0 nodes 0\n";
-    gives(&rt, alloc, "check A", (EMPTY, ""), (counts, Status::Done))?;
-    gives(&rt, alloc, "cert A", (EMPTY, ""), ("", Status::Done))?;
+    gives(&rt, alloc, "check A", (EMPTY, ""), (counts, Status::Done));
+    gives(&rt, alloc, "cert A", (EMPTY, ""), ("", Status::Done));
     gives(
         &rt,
         alloc,
         "verify A T",
         (EMPTY, ""),
         ("verified 0 lines\n", Status::Done),
-    )?;
-    Ok(())
+    );
 }
 
 /// An input whose name is the header's first word.
@@ -132,9 +124,8 @@ time TIME
 ";
 
 #[test]
-fn an_input_with_the_name_time(rt: HostRuntime) -> Result<(), Fail> {
-    walk(&rt, rt.alloc(), TIME, TIME_LINES, Status::Done)?;
-    Ok(())
+fn an_input_with_the_name_time(rt: HostRuntime) {
+    walk(&rt, rt.alloc(), TIME, TIME_LINES, Status::Done);
 }
 
 /// Outputs and instances stand in order of declaration, spelt as they are declared.
@@ -155,7 +146,6 @@ time b
 ";
 
 #[test]
-fn order_of_the_fields(rt: HostRuntime) -> Result<(), Fail> {
-    walk(&rt, rt.alloc(), ORDER, ORDER_LINES, Status::Done)?;
-    Ok(())
+fn order_of_the_fields(rt: HostRuntime) {
+    walk(&rt, rt.alloc(), ORDER, ORDER_LINES, Status::Done);
 }

@@ -2,7 +2,6 @@
 
 use crate::calls::walk;
 use ps_top::Status;
-use std::test::Fail;
 
 /// Two contacts that close within 50 ms.
 const EQUIVALENT: &str = "\
@@ -23,9 +22,8 @@ time S_A S_B
 ";
 
 #[test]
-fn limit_of_a_timer(rt: HostRuntime) -> Result<(), Fail> {
-    walk(&rt, rt.alloc(), EQUIVALENT, EQUIVALENT_LATE, Status::Done)?;
-    Ok(())
+fn limit_of_a_timer(rt: HostRuntime) {
+    walk(&rt, rt.alloc(), EQUIVALENT, EQUIVALENT_LATE, Status::Done);
 }
 
 const EQUIVALENT_IN_TIME: &str = "\
@@ -36,15 +34,14 @@ time S_A S_B
 ";
 
 #[test]
-fn just_before_the_limit(rt: HostRuntime) -> Result<(), Fail> {
+fn just_before_the_limit(rt: HostRuntime) {
     walk(
         &rt,
         rt.alloc(),
         EQUIVALENT,
         EQUIVALENT_IN_TIME,
         Status::Done,
-    )?;
-    Ok(())
+    );
 }
 
 /// The same without a time.
@@ -66,9 +63,8 @@ time S_A S_B
 ";
 
 #[test]
-fn limit_0(rt: HostRuntime) -> Result<(), Fail> {
-    walk(&rt, rt.alloc(), NO_TIME, NO_TIME_LINES, Status::Done)?;
-    Ok(())
+fn limit_0(rt: HostRuntime) {
+    walk(&rt, rt.alloc(), NO_TIME, NO_TIME_LINES, Status::Done);
 }
 
 /// A normally closed and a normally open contact.
@@ -93,9 +89,8 @@ time S_NC S_NO
 ";
 
 #[test]
-fn antivalent_contacts(rt: HostRuntime) -> Result<(), Fail> {
-    walk(&rt, rt.alloc(), ANTIVALENT, ANTIVALENT_LINES, Status::Done)?;
-    Ok(())
+fn antivalent_contacts(rt: HostRuntime) {
+    walk(&rt, rt.alloc(), ANTIVALENT, ANTIVALENT_LINES, Status::Done);
 }
 
 /// Two buttons, pressed within 500 ms.
@@ -118,9 +113,8 @@ time S_B1 S_B2
 ";
 
 #[test]
-fn both_hands_in_time(rt: HostRuntime) -> Result<(), Fail> {
-    walk(&rt, rt.alloc(), TWO_HANDS, BOTH_IN_TIME, Status::Done)?;
-    Ok(())
+fn both_hands_in_time(rt: HostRuntime) {
+    walk(&rt, rt.alloc(), TWO_HANDS, BOTH_IN_TIME, Status::Done);
 }
 
 const BOTH_LATE: &str = "\
@@ -132,9 +126,8 @@ time S_B1 S_B2
 ";
 
 #[test]
-fn both_hands_too_late(rt: HostRuntime) -> Result<(), Fail> {
-    walk(&rt, rt.alloc(), TWO_HANDS, BOTH_LATE, Status::Done)?;
-    Ok(())
+fn both_hands_too_late(rt: HostRuntime) {
+    walk(&rt, rt.alloc(), TWO_HANDS, BOTH_LATE, Status::Done);
 }
 
 const ONE_LATE: &str = "\
@@ -146,9 +139,8 @@ time S_B1 S_B2
 ";
 
 #[test]
-fn one_hand_for_too_long(rt: HostRuntime) -> Result<(), Fail> {
-    walk(&rt, rt.alloc(), TWO_HANDS, ONE_LATE, Status::Done)?;
-    Ok(())
+fn one_hand_for_too_long(rt: HostRuntime) {
+    walk(&rt, rt.alloc(), TWO_HANDS, ONE_LATE, Status::Done);
 }
 
 /// A selector of two modes.
@@ -178,9 +170,8 @@ time S_A S_B S_U Ack
 ";
 
 #[test]
-fn mode_selector(rt: HostRuntime) -> Result<(), Fail> {
-    walk(&rt, rt.alloc(), MODES, MODES_LINES, Status::Done)?;
-    Ok(())
+fn mode_selector(rt: HostRuntime) {
+    walk(&rt, rt.alloc(), MODES, MODES_LINES, Status::Done);
 }
 
 /// An enable switch of three positions.
@@ -209,9 +200,8 @@ time S_1 S_2 Ack
 ";
 
 #[test]
-fn enable_switch(rt: HostRuntime) -> Result<(), Fail> {
-    walk(&rt, rt.alloc(), SWITCH, SWITCH_LINES, Status::Done)?;
-    Ok(())
+fn enable_switch(rt: HostRuntime) {
+    walk(&rt, rt.alloc(), SWITCH, SWITCH_LINES, Status::Done);
 }
 
 /// A guard that is locked.
@@ -241,9 +231,8 @@ time S_M S_S S_L U Ack
 ";
 
 #[test]
-fn guard_locking(rt: HostRuntime) -> Result<(), Fail> {
-    walk(&rt, rt.alloc(), GUARD, GUARD_LINES, Status::Done)?;
-    Ok(())
+fn guard_locking(rt: HostRuntime) {
+    walk(&rt, rt.alloc(), GUARD, GUARD_LINES, Status::Done);
 }
 
 /// A request to a drive, which acknowledges it.
@@ -275,7 +264,6 @@ time S_Op S_Acknowledged Ack
 ";
 
 #[test]
-fn safety_request(rt: HostRuntime) -> Result<(), Fail> {
-    walk(&rt, rt.alloc(), REQUEST, REQUEST_LINES, Status::Done)?;
-    Ok(())
+fn safety_request(rt: HostRuntime) {
+    walk(&rt, rt.alloc(), REQUEST, REQUEST_LINES, Status::Done);
 }

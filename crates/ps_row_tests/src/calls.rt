@@ -26,6 +26,21 @@ pub fn files_of(alloc: Global, app: &str, other: &str) -> Result<MemFiles, Memor
     Ok(files)
 }
 
+/// What a call with these words writes, and the status with which it ends, where `A` and `T` are held.
+fn answer_to(alloc: Global, words: &str, held: (&str, &str)) -> Result<(MemSink, Status), Memory> {
+    let (app, other) = held;
+    let mut files = files_of(alloc, app, other)?;
+    let mut out = MemSink::new(alloc, ROOM)?;
+    let list = words_of(alloc, words)?;
+    let status = top(alloc, &list, &mut files, &mut out, &mut Left::new());
+    Ok((out, status))
+}
+
+/// Fails: memory is wanting for what a test asks.
+pub fn no_memory(rt: &impl Abort) {
+    assert!(rt; false, "memory is wanting");
+}
+
 /// Asserts that a call with these words writes this text and ends with this status, where `A` and `T` are held.
 pub fn gives(
     rt: &impl Abort,
@@ -33,16 +48,15 @@ pub fn gives(
     words: &str,
     held: (&str, &str),
     wanted: (&str, Status),
-) -> Result<(), Memory> {
-    let (app, other) = held;
+) {
     let (text, status) = wanted;
-    let mut files = files_of(alloc, app, other)?;
-    let mut out = MemSink::new(alloc, ROOM)?;
-    let list = words_of(alloc, words)?;
-    let found = top(alloc, &list, &mut files, &mut out, &mut Left::new());
-    assert_eq!(rt; out.taken(), text.as_bytes(), "{words}");
-    assert_eq!(rt; found, status, "{words}");
-    Ok(())
+    match answer_to(alloc, words, held) {
+        Ok((out, found)) => {
+            assert_eq!(rt; out.taken(), text.as_bytes(), "{words}");
+            assert_eq!(rt; found, status, "{words}");
+        }
+        Err(Memory) => no_memory(rt),
+    }
 }
 
 /// The trace and the text of a table. A row is a line of the trace and, behind ` => `, the line that is written for
@@ -65,21 +79,30 @@ pub fn trace_and_text(alloc: Global, rows: &str) -> Result<(String, String), Mem
 }
 
 /// Asserts that `run` of an application writes a table's text for its trace, and ends with this status.
-pub fn walk(
-    rt: &impl Abort,
-    alloc: Global,
-    app: &str,
-    rows: &str,
-    status: Status,
-) -> Result<(), Memory> {
-    let (trace, text) = trace_and_text(alloc, rows)?;
-    gives(
-        rt,
-        alloc,
-        "run A T",
-        (app, trace.as_str()),
-        (text.as_str(), status),
-    )
+pub fn walk(rt: &impl Abort, alloc: Global, app: &str, rows: &str, status: Status) {
+    match trace_and_text(alloc, rows) {
+        Ok((trace, text)) => {
+            let held = (app, trace.as_str());
+            gives(rt, alloc, "run A T", held, (text.as_str(), status));
+        }
+        Err(Memory) => no_memory(rt),
+    }
+}
+
+/// A line with a line feed behind it.
+pub fn line_of(alloc: Global, line: &str) -> Result<String, Memory> {
+    let mut text = String::from_str(alloc, line)?;
+    text.push_str("\n")?;
+    Ok(text)
+}
+
+/// A text between a head and an end, with a line feed for each bar.
+pub fn between(alloc: Global, around: (&str, &str), text: &str) -> Result<String, Memory> {
+    let (head, end) = around;
+    let mut whole = String::from_str(alloc, head)?;
+    whole.push_str(text.replace(alloc, '|', "\n")?.as_str())?;
+    whole.push_str(end)?;
+    Ok(whole)
 }
 
 /// Asserts of each application of a table what a command says of it. A row is a line of the application and,
@@ -91,25 +114,19 @@ pub fn hold(
     around: (&str, &str),
     rows: &str,
     status: Status,
-) -> Result<(), Memory> {
-    let (head, end) = around;
+) {
     for row in rows.lines() {
         match row.split_once(" => ") {
             Some((line, written)) => {
-                let lines = line.replace(alloc, '|', "\n")?;
-                let line = lines.as_str();
-                let app = format!(in alloc; "{head}{line}{end}")?;
-                let text = format!(in alloc; "{written}\n")?;
-                gives(
-                    rt,
-                    alloc,
-                    command,
-                    (app.as_str(), "time\n"),
-                    (text.as_str(), status),
-                )?;
+                match (between(alloc, around, line), line_of(alloc, written)) {
+                    (Ok(app), Ok(text)) => {
+                        let held = (app.as_str(), "time\n");
+                        gives(rt, alloc, command, held, (text.as_str(), status));
+                    }
+                    _ => no_memory(rt),
+                }
             }
             None => assert!(rt; false, "no row: {row}"),
         }
     }
-    Ok(())
 }

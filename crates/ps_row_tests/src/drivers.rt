@@ -1,7 +1,6 @@
 // Drivers: what is assigned and called, and where literals stand.
 
 use crate::tables::{E, END, P, check_each};
-use std::test::Fail;
 
 const ASSIGNED_INPUTS: &str = "\
 b := S_i; S_o := S_i; => refused N6 line 2 column 1
@@ -11,9 +10,8 @@ b := b; b := b; S_o := S_i; => refused N6 line 2 column 1
 ";
 
 #[test]
-fn inputs_that_are_assigned(rt: HostRuntime) -> Result<(), Fail> {
-    check_each(&rt, rt.alloc(), (P, END), ASSIGNED_INPUTS)?;
-    Ok(())
+fn inputs_that_are_assigned(rt: HostRuntime) {
+    check_each(&rt, rt.alloc(), (P, END), ASSIGNED_INPUTS);
 }
 
 const ASSIGNED_PINS: &str = "\
@@ -23,9 +21,8 @@ E(); e.ERROR := b; S_o := S_i; => refused N6 line 2 column 6
 ";
 
 #[test]
-fn pin_outputs_that_are_assigned(rt: HostRuntime) -> Result<(), Fail> {
-    check_each(&rt, rt.alloc(), (E, END), ASSIGNED_PINS)?;
-    Ok(())
+fn pin_outputs_that_are_assigned(rt: HostRuntime) {
+    check_each(&rt, rt.alloc(), (E, END), ASSIGNED_PINS);
 }
 
 const SECOND_ASSIGNMENTS: &str = "\
@@ -37,9 +34,8 @@ VAR x, y : BOOL; END_VAR x := y; x := b; S_o := S_i; => refused N7 line 2 column
 ";
 
 #[test]
-fn second_assignments(rt: HostRuntime) -> Result<(), Fail> {
-    check_each(&rt, rt.alloc(), (P, END), SECOND_ASSIGNMENTS)?;
-    Ok(())
+fn second_assignments(rt: HostRuntime) {
+    check_each(&rt, rt.alloc(), (P, END), SECOND_ASSIGNMENTS);
 }
 
 const NO_ASSIGNMENT: &str = "\
@@ -55,9 +51,8 @@ VAR_OUTPUT Q : BOOL; END_VAR S_o := S_i AND Q; => refused N8 line 2 column 12
 ";
 
 #[test]
-fn signals_without_an_assignment(rt: HostRuntime) -> Result<(), Fail> {
-    check_each(&rt, rt.alloc(), (P, END), NO_ASSIGNMENT)?;
-    Ok(())
+fn signals_without_an_assignment(rt: HostRuntime) {
+    check_each(&rt, rt.alloc(), (P, END), NO_ASSIGNMENT);
 }
 
 const CALLS: &str = "\
@@ -74,9 +69,8 @@ VAR e2, F : SF_EDM; END_VAR E(); F(); S_o := S_i AND e2.Error; => refused N10 li
 ";
 
 #[test]
-fn second_calls_and_none(rt: HostRuntime) -> Result<(), Fail> {
-    check_each(&rt, rt.alloc(), (E, END), CALLS)?;
-    Ok(())
+fn second_calls_and_none(rt: HostRuntime) {
+    check_each(&rt, rt.alloc(), (E, END), CALLS);
 }
 
 const LITERALS: &str = "\
@@ -92,9 +86,8 @@ VAR Q : SF_EDM; END_VAR Q(MonitoringTime := (T#1s)); S_o := S_i; => refused N12 
 ";
 
 #[test]
-fn literals_in_values(rt: HostRuntime) -> Result<(), Fail> {
-    check_each(&rt, rt.alloc(), (P, END), LITERALS)?;
-    Ok(())
+fn literals_in_values(rt: HostRuntime) {
+    check_each(&rt, rt.alloc(), (P, END), LITERALS);
 }
 
 const LITERALS_IN_CALLS: &str = "\
@@ -106,9 +99,8 @@ E(S_EStopIn := S_i AND TRUE); S_o := S_i; => refused N12 line 2 column 24
 ";
 
 #[test]
-fn literals_in_arguments(rt: HostRuntime) -> Result<(), Fail> {
-    check_each(&rt, rt.alloc(), (E, END), LITERALS_IN_CALLS)?;
-    Ok(())
+fn literals_in_arguments(rt: HostRuntime) {
+    check_each(&rt, rt.alloc(), (E, END), LITERALS_IN_CALLS);
 }
 
 const TAKEN: &str = "\
@@ -118,7 +110,6 @@ VAR Q : SF_EDM; END_VAR Q(Activate := TRUE, MonitoringTime := T#1s); S_o := S_i;
 ";
 
 #[test]
-fn drivers_that_are_taken(rt: HostRuntime) -> Result<(), Fail> {
-    check_each(&rt, rt.alloc(), (P, END), TAKEN)?;
-    Ok(())
+fn drivers_that_are_taken(rt: HostRuntime) {
+    check_each(&rt, rt.alloc(), (P, END), TAKEN);
 }

@@ -1,7 +1,6 @@
 // SAFEBOOL flow: what may be assigned to a SAFEBOOL signal and given to a pin.
 
 use crate::tables::{E, END, P, check_each};
-use std::test::Fail;
 
 const REFUSED: &str = "\
 S_o := b; => refused S1 line 2 column 1
@@ -15,9 +14,8 @@ VAR Q : SF_EDM; END_VAR Q(MonitoringTime := S_i); S_o := b; => refused S4 line 2
 ";
 
 #[test]
-fn values_that_flow_refuses(rt: HostRuntime) -> Result<(), Fail> {
-    check_each(&rt, rt.alloc(), (P, END), REFUSED)?;
-    Ok(())
+fn values_that_flow_refuses(rt: HostRuntime) {
+    check_each(&rt, rt.alloc(), (P, END), REFUSED);
 }
 
 const EARLIEST: &str = "\
@@ -29,9 +27,8 @@ E(); S_o := E.Ready; => refused S1 line 2 column 6
 ";
 
 #[test]
-fn the_first_pin_of_the_earliest_step(rt: HostRuntime) -> Result<(), Fail> {
-    check_each(&rt, rt.alloc(), (E, END), EARLIEST)?;
-    Ok(())
+fn the_first_pin_of_the_earliest_step(rt: HostRuntime) {
+    check_each(&rt, rt.alloc(), (E, END), EARLIEST);
 }
 
 const ACCEPTED: &str = "\
@@ -41,7 +38,6 @@ S_o := (S_i); => accepted inputs 2 outputs 1 locals 0 instances 0 steps 1 nodes 
 ";
 
 #[test]
-fn values_that_flow_accepts(rt: HostRuntime) -> Result<(), Fail> {
-    check_each(&rt, rt.alloc(), (P, END), ACCEPTED)?;
-    Ok(())
+fn values_that_flow_accepts(rt: HostRuntime) {
+    check_each(&rt, rt.alloc(), (P, END), ACCEPTED);
 }

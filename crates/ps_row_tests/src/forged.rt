@@ -2,7 +2,6 @@
 
 use crate::motor::MOTOR;
 use crate::tables::verify_each;
-use std::test::Fail;
 
 /// Certificates for the motor.
 const CERTIFICATES: &str = "\
@@ -32,9 +31,8 @@ const CERTIFICATES: &str = "\
 ";
 
 #[test]
-fn certificates_for_the_motor(rt: HostRuntime) -> Result<(), Fail> {
-    verify_each(&rt, rt.alloc(), MOTOR, CERTIFICATES)?;
-    Ok(())
+fn certificates_for_the_motor(rt: HostRuntime) {
+    verify_each(&rt, rt.alloc(), MOTOR, CERTIFICATES);
 }
 
 /// Texts of which some are no certificates.
@@ -56,9 +54,8 @@ const FORMS: &str = "\
 ";
 
 #[test]
-fn texts_of_certificates(rt: HostRuntime) -> Result<(), Fail> {
-    verify_each(&rt, rt.alloc(), MOTOR, FORMS)?;
-    Ok(())
+fn texts_of_certificates(rt: HostRuntime) {
+    verify_each(&rt, rt.alloc(), MOTOR, FORMS);
 }
 
 /// A program whose output may be TRUE where its BOOL input is.
@@ -79,9 +76,8 @@ const FOR_UNSAFE: &str = "\
 ";
 
 #[test]
-fn certificates_for_an_unsafe_program(rt: HostRuntime) -> Result<(), Fail> {
-    verify_each(&rt, rt.alloc(), UNSAFE, FOR_UNSAFE)?;
-    Ok(())
+fn certificates_for_an_unsafe_program(rt: HostRuntime) {
+    verify_each(&rt, rt.alloc(), UNSAFE, FOR_UNSAFE);
 }
 
 /// The same with a SAFEBOOL input in place of the BOOL one.
@@ -101,9 +97,8 @@ const FOR_SAFE: &str = "\
 ";
 
 #[test]
-fn certificates_for_a_safe_program(rt: HostRuntime) -> Result<(), Fail> {
-    verify_each(&rt, rt.alloc(), SAFE, FOR_SAFE)?;
-    Ok(())
+fn certificates_for_a_safe_program(rt: HostRuntime) {
+    verify_each(&rt, rt.alloc(), SAFE, FOR_SAFE);
 }
 
 /// A program with a TIME literal at a Boolean pin.
@@ -121,7 +116,6 @@ const FOR_MISFIT: &str = "\
 ";
 
 #[test]
-fn certificates_for_a_program_with_a_misfit(rt: HostRuntime) -> Result<(), Fail> {
-    verify_each(&rt, rt.alloc(), MISFIT, FOR_MISFIT)?;
-    Ok(())
+fn certificates_for_a_program_with_a_misfit(rt: HostRuntime) {
+    verify_each(&rt, rt.alloc(), MISFIT, FOR_MISFIT);
 }

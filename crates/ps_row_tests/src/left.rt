@@ -6,7 +6,7 @@ use ps_base::Memory;
 use ps_outside::MemSink;
 use ps_top::{Left, top};
 use std::alloc::Global;
-use std::test::Fail;
+use std::process::Abort;
 
 /// The nodes of the application and the lines of the certificate that a call leaves, if any.
 fn left_by(
@@ -26,24 +26,34 @@ fn left_by(
     }
 }
 
-#[test]
-fn counts_of_the_certificate(rt: HostRuntime) -> Result<(), Fail> {
-    let alloc = rt.alloc();
-    let trace = "time S_In Ack Run\n0 1 0 1\n";
-    assert_eq!(rt; left_by(alloc, "check A", MOTOR, "")?, Some((5, 3)));
-    assert_eq!(rt; left_by(alloc, "cert A", MOTOR, "")?, Some((5, 3)));
-    assert_eq!(rt; left_by(alloc, "run A T", MOTOR, trace)?, Some((5, 3)));
-    assert_eq!(rt; left_by(alloc, "load 1", "", "")?, Some((25, 10)));
-    let cert = "0 SRC\n3 SRC\n3 SRC\n2 AND 3\n";
-    assert_eq!(rt; left_by(alloc, "verify A T", MOTOR, cert)?, Some((5, 4)));
-    Ok(())
+/// Asserts of each call what it leaves: its words, the application and the further text that are held, and the nodes and lines.
+fn leave(rt: &impl Abort, alloc: Global, calls: &[(&str, &str, &str, Option<(u32, u32)>)]) {
+    for (words, app, other, wanted) in calls {
+        let is_left = left_by(alloc, words, app, other) == Ok(*wanted);
+        assert!(rt; is_left, "{words}");
+    }
 }
 
 #[test]
-fn nothing_where_all_is_refused(rt: HostRuntime) -> Result<(), Fail> {
-    let alloc = rt.alloc();
-    assert_eq!(rt; left_by(alloc, "check A", "PROGRAM P", "")?, None);
-    assert_eq!(rt; left_by(alloc, "verify A T", MOTOR, "0 SRC\n")?, None);
-    assert_eq!(rt; left_by(alloc, "check", MOTOR, "")?, None);
-    Ok(())
+fn counts_of_the_certificate(rt: HostRuntime) {
+    let trace = "time S_In Ack Run\n0 1 0 1\n";
+    let cert = "0 SRC\n3 SRC\n3 SRC\n2 AND 3\n";
+    let calls = [
+        ("check A", MOTOR, "", Some((5, 3))),
+        ("cert A", MOTOR, "", Some((5, 3))),
+        ("run A T", MOTOR, trace, Some((5, 3))),
+        ("load 1", "", "", Some((25, 10))),
+        ("verify A T", MOTOR, cert, Some((5, 4))),
+    ];
+    leave(&rt, rt.alloc(), &calls);
+}
+
+#[test]
+fn nothing_where_all_is_refused(rt: HostRuntime) {
+    let calls = [
+        ("check A", "PROGRAM P", "", None),
+        ("verify A T", MOTOR, "0 SRC\n", None),
+        ("check", MOTOR, "", None),
+    ];
+    leave(&rt, rt.alloc(), &calls);
 }

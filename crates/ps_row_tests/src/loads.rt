@@ -6,10 +6,9 @@ use ps_top::{Left, Status, top};
 use std::test::Fail;
 
 #[test]
-fn scans_are_counted(rt: HostRuntime) -> Result<(), Fail> {
+fn scans_are_counted(rt: HostRuntime) {
     let line = "load 1 scans 1000 true 500 errors 0\n";
-    gives(&rt, rt.alloc(), "load 1", ("", ""), (line, Status::Done))?;
-    Ok(())
+    gives(&rt, rt.alloc(), "load 1", ("", ""), (line, Status::Done));
 }
 
 #[test]
@@ -20,7 +19,7 @@ fn a_summary_that_is_not_written(rt: HostRuntime) -> Result<(), Fail> {
     let mut left = Left::new();
     let words = words_of(alloc, "load 2")?;
     let status = top(alloc, &words, &mut files, &mut out, &mut left);
-    assert_eq!(rt; status, Status::WriteFault);
+    assert!(rt; status == Status::WriteFault);
     assert!(rt; out.taken().is_empty());
     Ok(())
 }

@@ -2,7 +2,6 @@
 
 use crate::calls::walk;
 use ps_top::Status;
-use std::test::Fail;
 
 /// The application: a guard is a function block, and a side is one of two guards.
 const MACHINE: &str = "\
@@ -74,7 +73,6 @@ time S_EStop S_LF1 S_LF2 S_LR1 S_LR2 S_RF1 S_RF2 S_RR1 S_RR2 Ack
 ";
 
 #[test]
-fn a_shift_of_a_machine_with_two_sides(rt: HostRuntime) -> Result<(), Fail> {
-    walk(&rt, rt.alloc(), MACHINE, SHIFT, Status::Done)?;
-    Ok(())
+fn a_shift_of_a_machine_with_two_sides(rt: HostRuntime) {
+    walk(&rt, rt.alloc(), MACHINE, SHIFT, Status::Done);
 }

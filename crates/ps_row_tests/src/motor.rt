@@ -2,7 +2,6 @@
 
 use crate::calls::{gives, walk};
 use ps_top::Status;
-use std::test::Fail;
 
 /// The application.
 pub const MOTOR: &str = "\
@@ -30,9 +29,8 @@ time S_In Ack Run
 ";
 
 #[test]
-fn ordinary_use(rt: HostRuntime) -> Result<(), Fail> {
-    walk(&rt, rt.alloc(), MOTOR, ORDINARY, Status::Done)?;
-    Ok(())
+fn ordinary_use(rt: HostRuntime) {
+    walk(&rt, rt.alloc(), MOTOR, ORDINARY, Status::Done);
 }
 
 /// A reset that is held.
@@ -44,9 +42,8 @@ time S_In Ack Run
 ";
 
 #[test]
-fn held_reset(rt: HostRuntime) -> Result<(), Fail> {
-    walk(&rt, rt.alloc(), MOTOR, HELD, Status::Done)?;
-    Ok(())
+fn held_reset(rt: HostRuntime) {
+    walk(&rt, rt.alloc(), MOTOR, HELD, Status::Done);
 }
 
 /// The latest time, and one past it.
@@ -59,9 +56,8 @@ time S_In Ack Run
 ";
 
 #[test]
-fn largest_time(rt: HostRuntime) -> Result<(), Fail> {
-    walk(&rt, rt.alloc(), MOTOR, LARGEST, Status::BadInput)?;
-    Ok(())
+fn largest_time(rt: HostRuntime) {
+    walk(&rt, rt.alloc(), MOTOR, LARGEST, Status::BadInput);
 }
 
 /// A line with a value too many.
@@ -74,9 +70,8 @@ time S_In Ack Run
 ";
 
 #[test]
-fn refusal_in_the_middle(rt: HostRuntime) -> Result<(), Fail> {
-    walk(&rt, rt.alloc(), MOTOR, MIDDLE, Status::BadInput)?;
-    Ok(())
+fn refusal_in_the_middle(rt: HostRuntime) {
+    walk(&rt, rt.alloc(), MOTOR, MIDDLE, Status::BadInput);
 }
 
 /// A header in another order and letter case.
@@ -86,9 +81,8 @@ time run S_IN ack
 ";
 
 #[test]
-fn header_in_another_order(rt: HostRuntime) -> Result<(), Fail> {
-    walk(&rt, rt.alloc(), MOTOR, OTHER_ORDER, Status::Done)?;
-    Ok(())
+fn header_in_another_order(rt: HostRuntime) {
+    walk(&rt, rt.alloc(), MOTOR, OTHER_ORDER, Status::Done);
 }
 
 /// A restart after three scans.
@@ -103,9 +97,8 @@ restart => restart
 ";
 
 #[test]
-fn restart(rt: HostRuntime) -> Result<(), Fail> {
-    walk(&rt, rt.alloc(), MOTOR, RESTART, Status::Done)?;
-    Ok(())
+fn restart(rt: HostRuntime) {
+    walk(&rt, rt.alloc(), MOTOR, RESTART, Status::Done);
 }
 
 /// Restarts one after the other, and a time that does not begin again.
@@ -120,9 +113,8 @@ restart => restart
 ";
 
 #[test]
-fn restarts(rt: HostRuntime) -> Result<(), Fail> {
-    walk(&rt, rt.alloc(), MOTOR, RESTARTS, Status::BadInput)?;
-    Ok(())
+fn restarts(rt: HostRuntime) {
+    walk(&rt, rt.alloc(), MOTOR, RESTARTS, Status::BadInput);
 }
 
 /// A restart in place of the header.
@@ -132,9 +124,8 @@ time S_In Ack Run
 ";
 
 #[test]
-fn restart_before_the_header(rt: HostRuntime) -> Result<(), Fail> {
-    walk(&rt, rt.alloc(), MOTOR, RESTART_FIRST, Status::BadInput)?;
-    Ok(())
+fn restart_before_the_header(rt: HostRuntime) {
+    walk(&rt, rt.alloc(), MOTOR, RESTART_FIRST, Status::BadInput);
 }
 
 /// A restart line with a second word.
@@ -145,19 +136,18 @@ restart 1 => refused T4 line 3
 ";
 
 #[test]
-fn restart_with_a_word(rt: HostRuntime) -> Result<(), Fail> {
+fn restart_with_a_word(rt: HostRuntime) {
     walk(
         &rt,
         rt.alloc(),
         MOTOR,
         RESTART_WITH_A_WORD,
         Status::BadInput,
-    )?;
-    Ok(())
+    );
 }
 
 #[test]
-fn traces_without_scans(rt: HostRuntime) -> Result<(), Fail> {
+fn traces_without_scans(rt: HostRuntime) {
     let alloc = rt.alloc();
     gives(
         &rt,
@@ -165,19 +155,18 @@ fn traces_without_scans(rt: HostRuntime) -> Result<(), Fail> {
         "run A T",
         (MOTOR, "time S_In Ack Run\n"),
         ("", Status::Done),
-    )?;
+    );
     gives(
         &rt,
         alloc,
         "run A T",
         (MOTOR, ""),
         ("refused T1 line 1\n", Status::BadInput),
-    )?;
-    Ok(())
+    );
 }
 
 #[test]
-fn what_check_says(rt: HostRuntime) -> Result<(), Fail> {
+fn what_check_says(rt: HostRuntime) {
     let text = "accepted inputs 3 outputs 1 locals 0 instances 1 steps 2 nodes 5\n";
     gives(
         &rt,
@@ -185,6 +174,5 @@ fn what_check_says(rt: HostRuntime) -> Result<(), Fail> {
         "check A",
         (MOTOR, ""),
         (text, Status::Done),
-    )?;
-    Ok(())
+    );
 }

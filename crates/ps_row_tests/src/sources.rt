@@ -4,13 +4,11 @@ use crate::calls::hold;
 use crate::motor::MOTOR;
 use crate::tables::{END, check};
 use ps_top::Status;
-use std::test::Fail;
 
 #[test]
-fn what_check_writes(rt: HostRuntime) -> Result<(), Fail> {
+fn what_check_writes(rt: HostRuntime) {
     let counts = "accepted inputs 3 outputs 1 locals 0 instances 1 steps 2 nodes 5";
-    check(&rt, rt.alloc(), MOTOR, counts)?;
-    Ok(())
+    check(&rt, rt.alloc(), MOTOR, counts);
 }
 
 /// The lines of a motor before its call.
@@ -35,9 +33,9 @@ E(Activate := TRUE, S_EStopIn := S_In, Reset := T#1s);|S_Motor := E.S_EStopOut A
 ";
 
 #[test]
-fn each_command_refuses_the_source(rt: HostRuntime) -> Result<(), Fail> {
+fn each_command_refuses_the_source(rt: HostRuntime) {
     let alloc = rt.alloc();
-    hold(&rt, alloc, "run A T", (BEFORE, END), LINES, Status::Refused)?;
+    hold(&rt, alloc, "run A T", (BEFORE, END), LINES, Status::Refused);
     hold(
         &rt,
         alloc,
@@ -45,10 +43,9 @@ fn each_command_refuses_the_source(rt: HostRuntime) -> Result<(), Fail> {
         (BEFORE, END),
         LINES,
         Status::Refused,
-    )?;
-    hold(&rt, alloc, "check A", (BEFORE, END), LINES, Status::Refused)?;
-    hold(&rt, alloc, "cert A", (BEFORE, END), LINES, Status::Refused)?;
-    Ok(())
+    );
+    hold(&rt, alloc, "check A", (BEFORE, END), LINES, Status::Refused);
+    hold(&rt, alloc, "cert A", (BEFORE, END), LINES, Status::Refused);
 }
 
 /// Whole texts.
@@ -62,9 +59,9 @@ T#1.5s => refused L3 line 1 column 1
 ";
 
 #[test]
-fn whole_texts_that_are_refused(rt: HostRuntime) -> Result<(), Fail> {
+fn whole_texts_that_are_refused(rt: HostRuntime) {
     let alloc = rt.alloc();
-    hold(&rt, alloc, "check A", ("", ""), WHOLE, Status::Refused)?;
+    hold(&rt, alloc, "check A", ("", ""), WHOLE, Status::Refused);
     hold(
         &rt,
         alloc,
@@ -72,6 +69,5 @@ fn whole_texts_that_are_refused(rt: HostRuntime) -> Result<(), Fail> {
         ("", ""),
         WHOLE,
         Status::Refused,
-    )?;
-    Ok(())
+    );
 }

@@ -3,7 +3,6 @@
 use crate::calls::walk;
 use crate::motor::MOTOR;
 use ps_top::Status;
-use std::test::Fail;
 
 const NO_HEADER: &str = "\
 #a
@@ -11,9 +10,8 @@ const NO_HEADER: &str = "\
 ";
 
 #[test]
-fn no_header(rt: HostRuntime) -> Result<(), Fail> {
-    walk(&rt, rt.alloc(), MOTOR, NO_HEADER, Status::BadInput)?;
-    Ok(())
+fn no_header(rt: HostRuntime) {
+    walk(&rt, rt.alloc(), MOTOR, NO_HEADER, Status::BadInput);
 }
 
 const UPPER: &str = "\
@@ -21,9 +19,8 @@ TIME S_In Ack Run => refused T1 line 1
 ";
 
 #[test]
-fn a_header_in_capital_letters(rt: HostRuntime) -> Result<(), Fail> {
-    walk(&rt, rt.alloc(), MOTOR, UPPER, Status::BadInput)?;
-    Ok(())
+fn a_header_in_capital_letters(rt: HostRuntime) {
+    walk(&rt, rt.alloc(), MOTOR, UPPER, Status::BadInput);
 }
 
 const UNKNOWN: &str = "\
@@ -31,9 +28,8 @@ time S_In S_In Zz => refused T2 line 1
 ";
 
 #[test]
-fn a_name_that_is_no_input(rt: HostRuntime) -> Result<(), Fail> {
-    walk(&rt, rt.alloc(), MOTOR, UNKNOWN, Status::BadInput)?;
-    Ok(())
+fn a_name_that_is_no_input(rt: HostRuntime) {
+    walk(&rt, rt.alloc(), MOTOR, UNKNOWN, Status::BadInput);
 }
 
 const TWICE: &str = "\
@@ -42,9 +38,8 @@ time S_In Ack Run ack => refused T3 line 1
 ";
 
 #[test]
-fn an_input_that_stands_twice(rt: HostRuntime) -> Result<(), Fail> {
-    walk(&rt, rt.alloc(), MOTOR, TWICE, Status::BadInput)?;
-    Ok(())
+fn an_input_that_stands_twice(rt: HostRuntime) {
+    walk(&rt, rt.alloc(), MOTOR, TWICE, Status::BadInput);
 }
 
 const MISSING: &str = "\
@@ -52,9 +47,8 @@ time S_In Ack => refused T3 line 1
 ";
 
 #[test]
-fn an_input_that_is_missing(rt: HostRuntime) -> Result<(), Fail> {
-    walk(&rt, rt.alloc(), MOTOR, MISSING, Status::BadInput)?;
-    Ok(())
+fn an_input_that_is_missing(rt: HostRuntime) {
+    walk(&rt, rt.alloc(), MOTOR, MISSING, Status::BadInput);
 }
 
 const SKIPPED: &str = "\
@@ -70,9 +64,8 @@ time S_In Ack Run
 ";
 
 #[test]
-fn lines_that_are_skipped(rt: HostRuntime) -> Result<(), Fail> {
-    walk(&rt, rt.alloc(), MOTOR, SKIPPED, Status::Done)?;
-    Ok(())
+fn lines_that_are_skipped(rt: HostRuntime) {
+    walk(&rt, rt.alloc(), MOTOR, SKIPPED, Status::Done);
 }
 
 const COMMENT: &str = "\
@@ -81,9 +74,8 @@ time S_In Ack Run
 ";
 
 #[test]
-fn a_comment_behind_a_blank(rt: HostRuntime) -> Result<(), Fail> {
-    walk(&rt, rt.alloc(), MOTOR, COMMENT, Status::BadInput)?;
-    Ok(())
+fn a_comment_behind_a_blank(rt: HostRuntime) {
+    walk(&rt, rt.alloc(), MOTOR, COMMENT, Status::BadInput);
 }
 
 const ORDER: &str = "\
@@ -92,9 +84,8 @@ x 1 0 2 => refused T5 line 2
 ";
 
 #[test]
-fn rules_in_a_line(rt: HostRuntime) -> Result<(), Fail> {
-    walk(&rt, rt.alloc(), MOTOR, ORDER, Status::BadInput)?;
-    Ok(())
+fn rules_in_a_line(rt: HostRuntime) {
+    walk(&rt, rt.alloc(), MOTOR, ORDER, Status::BadInput);
 }
 
 const NO_TIME: &str = "\
@@ -103,9 +94,8 @@ time S_In Ack Run
 ";
 
 #[test]
-fn a_time_that_is_no_number(rt: HostRuntime) -> Result<(), Fail> {
-    walk(&rt, rt.alloc(), MOTOR, NO_TIME, Status::BadInput)?;
-    Ok(())
+fn a_time_that_is_no_number(rt: HostRuntime) {
+    walk(&rt, rt.alloc(), MOTOR, NO_TIME, Status::BadInput);
 }
 
 const BEFORE: &str = "\
@@ -116,9 +106,8 @@ time S_In Ack Run
 ";
 
 #[test]
-fn a_time_that_falls(rt: HostRuntime) -> Result<(), Fail> {
-    walk(&rt, rt.alloc(), MOTOR, BEFORE, Status::BadInput)?;
-    Ok(())
+fn a_time_that_falls(rt: HostRuntime) {
+    walk(&rt, rt.alloc(), MOTOR, BEFORE, Status::BadInput);
 }
 
 const ZEROS: &str = "\
@@ -128,9 +117,8 @@ time S_In Ack Run
 ";
 
 #[test]
-fn times_with_zeros_in_front(rt: HostRuntime) -> Result<(), Fail> {
-    walk(&rt, rt.alloc(), MOTOR, ZEROS, Status::Done)?;
-    Ok(())
+fn times_with_zeros_in_front(rt: HostRuntime) {
+    walk(&rt, rt.alloc(), MOTOR, ZEROS, Status::Done);
 }
 
 const CAPITAL_RESTART: &str = "\
@@ -139,7 +127,6 @@ RESTART => refused T4 line 2
 ";
 
 #[test]
-fn a_restart_in_capital_letters(rt: HostRuntime) -> Result<(), Fail> {
-    walk(&rt, rt.alloc(), MOTOR, CAPITAL_RESTART, Status::BadInput)?;
-    Ok(())
+fn a_restart_in_capital_letters(rt: HostRuntime) {
+    walk(&rt, rt.alloc(), MOTOR, CAPITAL_RESTART, Status::BadInput);
 }

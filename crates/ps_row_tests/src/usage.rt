@@ -66,31 +66,29 @@ plcsafe check A
 ";
 
 #[test]
-fn words_that_are_not_taken(rt: HostRuntime) -> Result<(), Fail> {
+fn words_that_are_not_taken(rt: HostRuntime) {
     for words in WORDS.lines() {
-        gives(&rt, rt.alloc(), words, (MOTOR, ""), (USAGE, Status::Usage))?;
+        gives(&rt, rt.alloc(), words, (MOTOR, ""), (USAGE, Status::Usage));
     }
-    Ok(())
 }
 
 #[test]
-fn empty_words(rt: HostRuntime) -> Result<(), Fail> {
-    gives(&rt, rt.alloc(), "", (MOTOR, ""), (USAGE, Status::Usage))?;
+fn empty_words(rt: HostRuntime) {
+    gives(&rt, rt.alloc(), "", (MOTOR, ""), (USAGE, Status::Usage));
     gives(
         &rt,
         rt.alloc(),
         "run A T ",
         (MOTOR, ""),
         (USAGE, Status::Usage),
-    )?;
+    );
     gives(
         &rt,
         rt.alloc(),
         " run A T",
         (MOTOR, ""),
         (USAGE, Status::Usage),
-    )?;
-    Ok(())
+    );
 }
 
 #[test]
@@ -105,7 +103,7 @@ fn no_words(rt: HostRuntime) -> Result<(), Fail> {
         &mut out,
         &mut Left::new(),
     );
-    assert_eq!(rt; out.taken(), USAGE.as_bytes());
-    assert_eq!(rt; status, Status::Usage);
+    assert!(rt; out.taken() == USAGE.as_bytes());
+    assert!(rt; status == Status::Usage);
     Ok(())
 }

@@ -7,5 +7,6 @@ use Rattle.ps_model.specs.declared.named.Signal.{Signal}
 abbrev pub safe_input : List ℕ → Signal
 safe_input name = record { name = name; ty = Safe }
 
+-- the inputs S_In, Ack and Run
 abbrev pub three : List Signal
 three = safe_input (codes "S_In") ∷ safe_input (codes "Ack") ∷ safe_input (codes "Run") ∷ []

@@ -1,23 +1,42 @@
-// Texts of certificates, and what reading them answers.
+// Texts of certificates: how many lines they have, or the rule and the line of their refusal.
 
 use ps_base::limits::{LARGEST_CERTIFICATE, MOST_CERTIFICATE_LINES};
 use ps_base::{Bytes, Fail, Memory, Rule};
 use ps_flow::{read_certificate, write_certificate};
 use std::alloc::Global;
+use std::process::Abort;
 use std::test::Fail as TestFail;
 
-// How many lines were read, or the rule and the line of the refusal.
-#[derive(Clone, Copy, Debug, PartialEq, Eq)]
-enum Answer {
-    Lines(u32),
-    Refused(Rule, u32),
+// Whether a text is a certificate of so many lines.
+fn has_lines(alloc: Global, text: &[u8], count: u32) -> bool {
+    match read_certificate(alloc, text) {
+        Ok(cert) => cert.len() == count,
+        Err(_) => false,
+    }
 }
 
-fn answer_to(alloc: Global, text: &[u8]) -> Result<Answer, Memory> {
+// Whether a text is refused by this rule at this line.
+fn is_refused(alloc: Global, text: &[u8], rule: Rule, line: u32) -> bool {
     match read_certificate(alloc, text) {
-        Ok(cert) => Ok(Answer::Lines(cert.len())),
-        Err(Fail::Refused(refusal)) => Ok(Answer::Refused(refusal.rule, refusal.place.line)),
-        Err(Fail::Memory) => Err(Memory),
+        Err(Fail::Refused(refusal)) => refusal.rule == rule && refusal.place.line == line,
+        Ok(_) | Err(Fail::Memory) => false,
+    }
+}
+
+// Each text is a certificate of so many lines.
+fn have_lines(rt: &impl Abort, alloc: Global, rows: &[(&str, u32)]) {
+    for (text, count) in rows {
+        assert!(rt; has_lines(alloc, text.as_bytes(), *count), "{text}");
+    }
+}
+
+// Each text is refused by C1 at this line.
+fn are_refused(rt: &impl Abort, alloc: Global, rows: &[(&str, u32)]) {
+    for (text, line) in rows {
+        assert!(rt;
+            is_refused(alloc, text.as_bytes(), Rule::C1, *line),
+            "{text}"
+        );
     }
 }
 
@@ -33,95 +52,60 @@ fn repeated(alloc: Global, piece: &[u8], count: u32) -> Result<Bytes, Memory> {
 fn what_is_read_is_written_again(rt: HostRuntime) -> Result<(), TestFail> {
     let text = b"0 SRC\n3 SRC\n2 AND 2\n";
     let cert = read_certificate(rt.alloc(), text)?;
-    assert_eq!(rt; cert.len(), 3);
+    assert!(rt; cert.len() == 3);
     let written = write_certificate(rt.alloc(), &cert)?;
-    assert_eq!(rt; written.as_slice(), text.as_slice());
+    assert!(rt; written.as_slice() == text.as_slice());
     Ok(())
 }
 
 #[test]
-fn ends_of_texts(rt: HostRuntime) -> Result<(), TestFail> {
-    assert_eq!(rt; answer_to(rt.alloc(), b"")?, Answer::Lines(0));
-    assert_eq!(rt;
-        answer_to(rt.alloc(), b"0 SRC\n3 SRC\n2 AND 2")?,
-        Answer::Lines(3)
-    );
-    assert_eq!(rt; answer_to(rt.alloc(), b"\n")?, Answer::Refused(Rule::C1, 1));
-    assert_eq!(rt;
-        answer_to(rt.alloc(), b"0 SRC\n\n")?,
-        Answer::Refused(Rule::C1, 2)
-    );
-    Ok(())
+fn ends_of_texts(rt: HostRuntime) {
+    have_lines(&rt, rt.alloc(), &[("", 0), ("0 SRC\n3 SRC\n2 AND 2", 3)]);
+    are_refused(&rt, rt.alloc(), &[("\n", 1), ("0 SRC\n\n", 2)]);
 }
 
 #[test]
-fn words_of_other_forms(rt: HostRuntime) -> Result<(), TestFail> {
-    assert_eq!(rt;
-        answer_to(rt.alloc(), b"0 SRC\n3 SRC\n2 and 2\n")?,
-        Answer::Refused(Rule::C1, 3)
+fn words_of_other_forms(rt: HostRuntime) {
+    are_refused(
+        &rt,
+        rt.alloc(),
+        &[
+            ("0 SRC\n3 SRC\n2 and 2\n", 3),
+            ("0  SRC\n", 1),
+            ("0 SRC \n", 1),
+            ("0 SRC\r\n", 1),
+        ],
     );
-    assert_eq!(rt;
-        answer_to(rt.alloc(), b"0  SRC\n")?,
-        Answer::Refused(Rule::C1, 1)
-    );
-    assert_eq!(rt;
-        answer_to(rt.alloc(), b"0 SRC \n")?,
-        Answer::Refused(Rule::C1, 1)
-    );
-    assert_eq!(rt;
-        answer_to(rt.alloc(), b"0 SRC\r\n")?,
-        Answer::Refused(Rule::C1, 1)
-    );
-    Ok(())
 }
 
 #[test]
-fn numbers(rt: HostRuntime) -> Result<(), TestFail> {
-    assert_eq!(rt;
-        answer_to(rt.alloc(), b"00 SRC\n")?,
-        Answer::Refused(Rule::C1, 1)
+fn numbers(rt: HostRuntime) {
+    have_lines(&rt, rt.alloc(), &[("0 SRC\n2 AND 4294967295\n", 2)]);
+    are_refused(
+        &rt,
+        rt.alloc(),
+        &[
+            ("00 SRC\n", 1),
+            ("+0 SRC\n", 1),
+            ("0 SRC\n2 AND 4294967296\n", 2),
+        ],
     );
-    assert_eq!(rt;
-        answer_to(rt.alloc(), b"+0 SRC\n")?,
-        Answer::Refused(Rule::C1, 1)
-    );
-    assert_eq!(rt;
-        answer_to(rt.alloc(), b"0 SRC\n2 AND 4294967295\n")?,
-        Answer::Lines(2)
-    );
-    assert_eq!(rt;
-        answer_to(rt.alloc(), b"0 SRC\n2 AND 4294967296\n")?,
-        Answer::Refused(Rule::C1, 2)
-    );
-    Ok(())
 }
 
 #[test]
 fn the_most_lines(rt: HostRuntime) -> Result<(), TestFail> {
     let mut text = repeated(rt.alloc(), b"0 SRC\n", MOST_CERTIFICATE_LINES)?;
-    assert_eq!(rt;
-        answer_to(rt.alloc(), text.as_slice())?,
-        Answer::Lines(MOST_CERTIFICATE_LINES)
-    );
+    assert!(rt; has_lines(rt.alloc(), text.as_slice(), MOST_CERTIFICATE_LINES));
     text.push(b'x')?;
-    assert_eq!(rt;
-        answer_to(rt.alloc(), text.as_slice())?,
-        Answer::Refused(Rule::C2, 1)
-    );
+    assert!(rt; is_refused(rt.alloc(), text.as_slice(), Rule::C2, 1));
     Ok(())
 }
 
 #[test]
 fn the_most_bytes(rt: HostRuntime) -> Result<(), TestFail> {
     let mut text = repeated(rt.alloc(), b"1", LARGEST_CERTIFICATE)?;
-    assert_eq!(rt;
-        answer_to(rt.alloc(), text.as_slice())?,
-        Answer::Refused(Rule::C1, 1)
-    );
+    assert!(rt; is_refused(rt.alloc(), text.as_slice(), Rule::C1, 1));
     text.push(b'1')?;
-    assert_eq!(rt;
-        answer_to(rt.alloc(), text.as_slice())?,
-        Answer::Refused(Rule::C2, 1)
-    );
+    assert!(rt; is_refused(rt.alloc(), text.as_slice(), Rule::C2, 1));
     Ok(())
 }

@@ -31,21 +31,26 @@ fn library(alloc: Global, text: &str) -> Result<(usize, bool), Fail> {
     Ok((library.blocks.len(), is_within))
 }
 
+// Whether a text has so many function blocks, and keeps their limits, or does not.
+fn is_library(alloc: Global, text: &str, count: usize, is_within: bool) -> bool {
+    library(alloc, text) == Ok((count, is_within))
+}
+
 #[test]
 fn a_function_block(rt: HostRuntime) {
-    assert_eq!(rt; library(rt.alloc(), GATE), Ok((1, true)));
+    assert!(rt; is_library(rt.alloc(), GATE, 1, true));
+}
+
+// Whether a text is refused by P1 at this place.
+fn is_refused(alloc: Global, text: &str, place: Place) -> bool {
+    let rule = Rule::P1;
+    library(alloc, text) == Err(Fail::Refused(Refusal { rule, place }))
 }
 
 #[test]
 fn no_program_behind_a_function_block(rt: HostRuntime) {
-    let refusal = Refusal {
-        rule: Rule::P1,
-        place: Place { line: 2, column: 1 },
-    };
-    assert_eq!(rt;
-        library(rt.alloc(), "FUNCTION_BLOCK F END_FUNCTION_BLOCK\n"),
-        Err(Fail::Refused(refusal))
-    );
+    let place = Place { line: 2, column: 1 };
+    assert!(rt; is_refused(rt.alloc(), "FUNCTION_BLOCK F END_FUNCTION_BLOCK\n", place));
 }
 
 // A text with so many empty function blocks, and an empty program.
@@ -62,7 +67,7 @@ fn with_blocks(alloc: Global, count: usize) -> Result<String, TestFail> {
 fn most_function_blocks(rt: HostRuntime) -> Result<(), TestFail> {
     for (count, is_within) in [(64, true), (65, false)] {
         let text = with_blocks(rt.alloc(), count)?;
-        assert_eq!(rt; library(rt.alloc(), text.as_str()), Ok((count, is_within)));
+        assert!(rt; is_library(rt.alloc(), text.as_str(), count, is_within));
     }
     Ok(())
 }

@@ -1,5 +1,6 @@
 // Lines of texts that are read in pieces.
 
+use crate::telling::equal;
 use ps_lines::{Got, Limits, LineReader, ReadFailed};
 use ps_outside::MemFiles;
 use std::alloc::Global;
@@ -55,12 +56,9 @@ static TEXTS: [(&str, &str); 5] = [
 
 #[test]
 fn texts(rt: HostRuntime) -> Result<(), Fail> {
-    for (text, expected) in TEXTS {
-        assert_eq!(rt;
-            lines(rt.alloc(), text, 0, 0)?.as_str(),
-            expected,
-            "at {text:?}"
-        );
+    for (text, expected) in &TEXTS {
+        let told = lines(rt.alloc(), text, 0, 0)?;
+        equal(&rt, told.as_str(), expected, text);
     }
     Ok(())
 }
@@ -68,9 +66,7 @@ fn texts(rt: HostRuntime) -> Result<(), Fail> {
 #[test]
 fn a_read_fails(rt: HostRuntime) -> Result<(), Fail> {
     let told = lines(rt.alloc(), "ab\ncd", 4, 2)?;
-    assert_eq!(rt;
-        told.as_str(),
-        "line [97, 98];fault [97, 98];last line [99, 100];end [99, 100];"
-    );
+    let expected = "line [97, 98];fault [97, 98];last line [99, 100];end [99, 100];";
+    equal(&rt, told.as_str(), expected, "ab\ncd");
     Ok(())
 }

@@ -36,9 +36,9 @@ fn disk_files(rt: HostRuntime) -> Result<(), Fail> {
 fn std_sink(rt: HostRuntime) {
     let mut room = [0u8; 4];
     let mut sink = StdSink::new(room.as_mut_slice());
-    assert_eq!(rt; write_all(&mut sink, b"ab"), Ok(()));
+    assert!(rt; write_all(&mut sink, b"ab") == Ok(()));
     // two bytes of room are left, and then a write takes nothing
-    assert_eq!(rt; write_all(&mut sink, b"cdef"), Err(Stopped { taken: 2 }));
+    assert!(rt; write_all(&mut sink, b"cdef") == Err(Stopped { taken: 2 }));
 }
 
 #[test]
@@ -68,11 +68,11 @@ fn mem_files_fail(rt: HostRuntime) -> Result<(), Fail> {
 fn mem_sink(rt: HostRuntime) -> Result<(), Fail> {
     let mut sink = MemSink::new(rt.alloc(), 6)?;
     sink.fail_at(2)?;
-    assert_eq!(rt; write_all(&mut sink, b"one "), Ok(()));
-    assert_eq!(rt; write_all(&mut sink, b"f"), Err(Stopped { taken: 0 }));
+    assert!(rt; write_all(&mut sink, b"one ") == Ok(()));
+    assert!(rt; write_all(&mut sink, b"f") == Err(Stopped { taken: 0 }));
     // the room that is left is two bytes
-    assert_eq!(rt; write_all(&mut sink, b"fish"), Err(Stopped { taken: 0 }));
-    assert_eq!(rt; write_all(&mut sink, b"is"), Ok(()));
-    assert_eq!(rt; sink.taken(), b"one is".as_slice());
+    assert!(rt; write_all(&mut sink, b"fish") == Err(Stopped { taken: 0 }));
+    assert!(rt; write_all(&mut sink, b"is") == Ok(()));
+    assert!(rt; sink.taken() == b"one is".as_slice());
     Ok(())
 }

@@ -9,7 +9,7 @@ use std::process::Abort;
 fn stands(rt: &impl Abort, line: &[u8], at: usize, expected: Option<(usize, usize)>)
     requires { at ≤ length line.now }
 {
-    assert_eq!(rt; next_word(line, at), expected);
+    assert!(rt; next_word(line, at) == expected, "at {at}");
 }
 
 #[test]
@@ -21,7 +21,7 @@ fn words(rt: HostRuntime) {
 
 // A word is this number.
 fn is(rt: &impl Abort, word: &[u8], expected: Option<u32>) {
-    assert_eq!(rt; number(word), expected);
+    assert!(rt; number(word) == expected, "{word:?}");
 }
 
 #[test]

@@ -55,16 +55,29 @@ fn other(channel: Channel) -> Channel {
     }
 }
 
+// The channel that has the next turn, where it has not ended.
+fn first_of(way: Way, last: Option<Channel>) -> Channel {
+    match way {
+        Way::Whole => Channel::A,
+        Way::Before(channel) => channel,
+        Way::ByTurns(channel) => match last {
+            None => channel,
+            Some(last) => other(last),
+        },
+    }
+}
+
 // The channel that has the next turn, where one of both has not ended.
 fn next_turn(world: &World, way: Way, last: Option<Channel>) -> Option<Channel> {
-    let first = match (way, last) {
-        (Way::Before(channel), _) | (Way::ByTurns(channel), None) => channel,
-        (Way::ByTurns(_), Some(last)) => other(last),
-        (Way::Whole, _) => Channel::A,
-    };
-    [first, other(first)]
-        .into_iter()
-        .find(|channel| !world.ended(*channel))
+    let first = first_of(way, last);
+    let second = other(first);
+    if !world.ended(first) {
+        Some(first)
+    } else if !world.ended(second) {
+        Some(second)
+    } else {
+        None
+    }
 }
 
 // The Spoils of these faults that come before a turn, 0 before Begin.

@@ -1,6 +1,6 @@
 // A world, and the report that its Compares write. A call that may not come where it is asked for fails the test.
 
-ghost use Rattle.std.specs.Prelude.{IfOk};
+ghost use Rattle.std.specs.Prelude.{◌≡◌, IfOk, length};
 ghost use Rattle.ps_model.specs.Typing.{Accepted};
 ghost use Rattle.ps_world_tests.specs.Beginning.{IsBeginning};
 
@@ -45,18 +45,34 @@ fn world_of(alloc: Global, app: &App) -> Result<World, Memory>
 }
 
 impl Stage {
-    /// The world of the application of a text, at the beginning.
-    pub fn of(alloc: Global, text: &str) -> Result<Stage, Fail> {
-        let app = application(alloc, text)?;
-        let world = world_of(alloc, &app)?;
-        let report = Report::for_app(alloc, &app)?;
-        let inputs = app.input_count() as usize;
-        Ok(Stage {
+    // A world at the beginning, with a report of its sizes and the number of its inputs.
+    fn of_parts(world: World, report: Report, inputs: usize) -> Stage
+        requires inputs { world.setup.sizes.inputs ≡ inputs }
+        requires last { world.state.last ≡ 0 }
+        requires outs { length report.outs ≡ world.setup.sizes.outputs }
+        requires diags { length report.diags ≡ world.setup.sizes.instances }
+    {
+        Stage {
             world,
             report,
             inputs,
             last: 0,
-        })
+        }
+    }
+
+    // The world of an accepted application, at the beginning.
+    fn of_app(alloc: Global, app: &App) -> Result<Stage, Memory>
+        requires { Accepted app.now }
+    {
+        let report = Report::for_app(alloc, app)?;
+        let world = world_of(alloc, app)?;
+        Ok(Stage::of_parts(world, report, app.input_count() as usize))
+    }
+
+    /// The world of the application of a text, at the beginning.
+    pub fn of(alloc: Global, text: &str) -> Result<Stage, Fail> {
+        let app = application(alloc, text)?;
+        Ok(Stage::of_app(alloc, &app)?)
     }
 
     /// The world.

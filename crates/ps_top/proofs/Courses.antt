@@ -118,7 +118,7 @@ module _ (net : Network) (heals : Bool) (faults : List VoteFault) where
     }
 
     stops_scan : (refusal : Refusal) (at : Option VoteFault) → (next_path p now ins).refused ≡ at → outcome ≡ refuses refusal → Stops done (scan now ins) refusal p after'
-    stops_scan refusal None is refuses_it = let both = sym refuses_it ∙ outcome_is None is in cc
+    stops_scan refusal None is refuses_it = absurd (subst IsTold (sym (outcome_is None is) ∙ refuses_it) tt)
     stops_scan refusal (Some f) is refuses_it =
         let same : refusal ≡ fault_refusal f = ap (refusal_in refusal) (sym refuses_it ∙ outcome_is (Some f) is) in
         record {

@@ -88,7 +88,7 @@ votes_never_trip heals app trace faults held said right = go right.2.0 right.2.2
     go_on net setup struck (Some r) is tripped = let both = sym (ap (λ (a : Answer). a.status) is) ∙ tripped in cc
     go_on net setup struck None found tripped =
         let scans = scans_of found.0 net in
-        not_tripped_at (run_end (course heals (seats.machines_in setup) scans.items struck).refused scans.end) (sym (ap (λ (a : Answer). a.status) found.2.2.2) ∙ tripped)
+        not_tripped_at (run_end (course heals (seats.machines_in setup) scans.items struck).refused scans.end) (sym (ap (λ (a : Answer). a.status) found.2.2) ∙ tripped)
 
     go : (reading : Reading) → IsAnswer (with_application (with_counts (vote_struck heals trace faults)) reading) held said → ¬ (said.status ≡ Tripped)
     go (is_refused r) is tripped = let both = sym (ap (λ (a : Answer). a.status) is) ∙ tripped in cc

@@ -14,6 +14,9 @@ use Rattle.ps_top.proofs.Faulted.{faults_on, seat_sizes_at_first, unfound, no_fa
 use Rattle.ps_top.proofs.Calling.{answers_behind}
 use Rattle.ps_top.proofs.voting.vote_faults.Goals as goal
 
+pub vote_named-requires-clause-first : goal.vote_named-requires-clause-first
+vote_named-requires-clause-first g c = c.new-seats.ensures.begins c.args.app.now c.requires.first
+
 pub returns-in-Ok-clause-answers : goal.returns-in-Ok-clause-answers
 returns-in-Ok-clause-answers g c =
     let net = c.args.app.now in

@@ -94,19 +94,17 @@ fn run_on<R: rt::Files, W: Write + Drop>(
     }
 }
 
-// Does what these words ask, over the files and the standard output of the system, tells on standard error why where it does not do
-// all, and says the number with which the program exits.
-fn exit_of_list<R: Env + rt::Files + Print + Eprint + AllocGlobal>(system: &R, words: &Words) -> u8
-    ensures in_range { result ≤ 7 }
-    ensures usage { result ≡ exit_number Status.Usage → asked.command_of words.now ≡ NotTaken }
-    ensures not_taken { asked.command_of words.now ≡ NotTaken →
-        (result ≡ exit_number Status.Usage) ⊎ ((result ≡ exit_number Status.WriteFault) ⊎ (result ≡ exit_number Status.Memory)) }
+// Does what these words ask, over the files and the standard output of the system, and tells on standard error why where it does not
+// do all.
+fn do_list<R: Env + rt::Files + Print + Eprint + AllocGlobal>(system: &R, words: &Words) -> Status
+    ensures usage { result ≡ Status.Usage → asked.command_of words.now ≡ NotTaken }
+    ensures not_taken { asked.command_of words.now ≡ NotTaken → (result ≡ Status.Usage) ⊎ ((result ≡ Status.WriteFault) ⊎ (result ≡ Status.Memory)) }
 {
     let mut left = Left::new();
     let mut writer = Noting::new(system);
     let status = run_on(system, system.alloc(), words, &mut writer, &mut left);
     tell(system, words, status, &left, writer.is_closed());
-    exit_code(status)
+    status
 }
 
 /// Does what the words ask, over the files and the standard output of the system, and says the number with which the program
@@ -126,7 +124,7 @@ pub fn exit_of_words<R: Env + rt::Files + Print + Eprint + AllocGlobal>(
         Ok(words) => words,
         Err(error) => return exit_code_without_words(error.kind()),
     };
-    exit_of_list(system, &words)
+    exit_code(do_list(system, &words))
 }
 
 /// Does all that the program does, and says the number with which it exits.

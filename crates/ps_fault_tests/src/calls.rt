@@ -3,6 +3,7 @@
 use ps_base::{Label, Memory};
 use ps_outside::{MemFiles, MemSink};
 use ps_top::{Left, Status, Words, top};
+use ps_vote::Seat;
 use std::alloc::Global;
 use std::process::Abort;
 
@@ -28,6 +29,46 @@ pub fn files_of(alloc: Global, held: (&str, &str, &str)) -> Result<MemFiles, Mem
     Ok(files)
 }
 
+/// How a call ended, and what it left: whether a world of two channels is tripped, and which seats of a world of three are dirty,
+/// where it left one.
+#[derive(Clone, Copy, Debug, PartialEq, Eq)]
+pub struct Ended {
+    pub status: Status,
+    pub tripped: Option<bool>,
+    pub dirty: Option<(bool, bool, bool)>,
+}
+
+/// Whether the world of two channels that was left is tripped.
+fn tripped_in(left: &Left) -> Option<bool> {
+    match &left.world {
+        Some(world) => Some(world.is_tripped()),
+        None => None,
+    }
+}
+
+/// Which seats of the world of three that was left are dirty.
+fn dirty_in(left: &Left) -> Option<(bool, bool, bool)> {
+    match &left.votes {
+        Some(world) => Some((
+            world.is_dirty(Seat::A),
+            world.is_dirty(Seat::B),
+            world.is_dirty(Seat::C),
+        )),
+        None => None,
+    }
+}
+
+/// Makes a call of the program. What it leaves is dropped here alone.
+pub fn call(alloc: Global, words: &Words, files: &mut MemFiles, out: &mut MemSink) -> Ended {
+    let mut left = Left::new();
+    let status = top(alloc, words, files, out, &mut left);
+    Ended {
+        status,
+        tripped: tripped_in(&left),
+        dirty: dirty_in(&left),
+    }
+}
+
 /// What a call with these words writes, and the status with which it ends, where `A`, `T` and `F` are held.
 fn answer_to(
     alloc: Global,
@@ -37,8 +78,8 @@ fn answer_to(
     let mut files = files_of(alloc, held)?;
     let mut out = MemSink::new(alloc, ROOM)?;
     let list = words_of(alloc, words)?;
-    let status = top(alloc, &list, &mut files, &mut out, &mut Left::new());
-    Ok((out, status))
+    let ended = call(alloc, &list, &mut files, &mut out);
+    Ok((out, ended.status))
 }
 
 /// Fails: memory is wanting for what a test asks.

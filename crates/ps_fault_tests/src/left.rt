@@ -1,11 +1,10 @@
 // The world that a call leaves.
 
-use crate::calls::{ROOM, files_of, trace_and_text, words_of};
+use crate::calls::{ROOM, call, files_of, trace_and_text, words_of};
 use crate::motor::{MOTOR, USE};
 use crate::reached::{BAD_LINE, STRUCK};
 use ps_base::Memory;
 use ps_outside::MemSink;
-use ps_top::{Left, top};
 use std::alloc::Global;
 use std::process::Abort;
 use std::test::Fail;
@@ -14,13 +13,8 @@ use std::test::Fail;
 fn left_by(alloc: Global, words: &str, held: (&str, &str, &str)) -> Result<Option<bool>, Memory> {
     let mut files = files_of(alloc, held)?;
     let mut out = MemSink::new(alloc, ROOM)?;
-    let mut left = Left::new();
     let words = words_of(alloc, words)?;
-    let _status = top(alloc, &words, &mut files, &mut out, &mut left);
-    match &left.world {
-        Some(world) => Ok(Some(world.is_tripped())),
-        None => Ok(None),
-    }
+    Ok(call(alloc, &words, &mut files, &mut out).tripped)
 }
 
 /// Asserts whether the world that a call leaves is tripped, if it leaves one.

@@ -1,10 +1,10 @@
 // Files that are not held, and reads and writes that fail.
 
-use crate::calls::{ROOM, files_of, gives, words_of};
+use crate::calls::{ROOM, call, files_of, gives, words_of};
 use crate::motor::{MOTOR, ORDINARY, USE};
 use ps_base::Memory;
 use ps_outside::MemSink;
-use ps_top::{Left, Status, top};
+use ps_top::Status;
 use std::alloc::Global;
 use std::process::Abort;
 use std::test::Fail;
@@ -61,7 +61,7 @@ fn fails(
     files.fail_at(read)?;
     out.fail_at(write)?;
     let words = words_of(alloc, "fault A T F")?;
-    let found = top(alloc, &words, &mut files, &mut out, &mut Left::new());
+    let found = call(alloc, &words, &mut files, &mut out).status;
     assert_eq!(rt; out.taken(), text.as_bytes(), "read {read}, write {write}");
     assert_eq!(rt; found, status, "read {read}, write {write}");
     Ok(())

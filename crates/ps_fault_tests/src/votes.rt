@@ -1,11 +1,10 @@
 // Faults that strike three seats, of which one is outvoted, and healed or not.
 
-use crate::calls::{ROOM, files_of, gives, words_of};
+use crate::calls::{ROOM, call, files_of, gives, words_of};
 use crate::motor::{MOTOR, ORDINARY, USE};
 use ps_base::Memory;
 use ps_outside::MemSink;
-use ps_top::{Left, Status, top};
-use ps_vote::Seat;
+use ps_top::Status;
 use std::alloc::Global;
 use std::process::Abort;
 
@@ -186,17 +185,8 @@ fn dirty_behind(
 ) -> Result<Option<(bool, bool, bool)>, Memory> {
     let mut files = files_of(alloc, (MOTOR, USE, faults))?;
     let mut out = MemSink::new(alloc, ROOM)?;
-    let mut left = Left::new();
     let words = words_of(alloc, words)?;
-    let _status = top(alloc, &words, &mut files, &mut out, &mut left);
-    match &left.votes {
-        Some(world) => Ok(Some((
-            world.is_dirty(Seat::A),
-            world.is_dirty(Seat::B),
-            world.is_dirty(Seat::C),
-        ))),
-        None => Ok(None),
-    }
+    Ok(call(alloc, &words, &mut files, &mut out).dirty)
 }
 
 /// Asserts which seats are dirty in the world of three seats that a call leaves, if it leaves one.

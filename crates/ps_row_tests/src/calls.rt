@@ -26,14 +26,39 @@ pub fn files_of(alloc: Global, app: &str, other: &str) -> Result<MemFiles, Memor
     Ok(files)
 }
 
+/// How a call ended, and the nodes of the application and the lines of the certificate that it left, if any.
+#[derive(Clone, Copy, Debug, PartialEq, Eq)]
+pub struct Ended {
+    pub status: Status,
+    pub counts: Option<(u32, u32)>,
+}
+
+/// The nodes of the application and the lines of the certificate that was left.
+fn counts_in(left: &Left) -> Option<(u32, u32)> {
+    match &left.checked {
+        Some(checked) => Some((checked.nodes(), checked.lines())),
+        None => None,
+    }
+}
+
+/// Makes a call of the program. What it leaves is dropped here alone.
+pub fn call(alloc: Global, words: &Words, files: &mut MemFiles, out: &mut MemSink) -> Ended {
+    let mut left = Left::new();
+    let status = top(alloc, words, files, out, &mut left);
+    Ended {
+        status,
+        counts: counts_in(&left),
+    }
+}
+
 /// What a call with these words writes, and the status with which it ends, where `A` and `T` are held.
 fn answer_to(alloc: Global, words: &str, held: (&str, &str)) -> Result<(MemSink, Status), Memory> {
     let (app, other) = held;
     let mut files = files_of(alloc, app, other)?;
     let mut out = MemSink::new(alloc, ROOM)?;
     let list = words_of(alloc, words)?;
-    let status = top(alloc, &list, &mut files, &mut out, &mut Left::new());
-    Ok((out, status))
+    let ended = call(alloc, &list, &mut files, &mut out);
+    Ok((out, ended.status))
 }
 
 /// Fails: memory is wanting for what a test asks.

@@ -4,8 +4,8 @@ use crate::calls::{ROOM, files_of, words_of};
 use crate::motor::MOTOR;
 use ps_base::Memory;
 use ps_edge::{exit_code, run};
-use ps_outside::MemSink;
-use ps_top::Left;
+use ps_outside::{MemFiles, MemSink};
+use ps_top::{Left, Words};
 use std::alloc::Global;
 
 /// Words of a call and the trace, each with the number with which the program exits.
@@ -18,6 +18,12 @@ run A T => time S_In Ack => 3
 run A none => time S_In Ack Run => 5
 ";
 
+/// The number with which a call ends. What it leaves is dropped here alone.
+fn exit_number(alloc: Global, words: &Words, files: &mut MemFiles, out: &mut MemSink) -> u8 {
+    let mut left = Left::new();
+    exit_code(run(alloc, words, files, out, &mut left))
+}
+
 /// The number with which a call ends whose first write fails, where that is chosen.
 fn exit_of(alloc: Global, words: &str, trace: &str, fails: bool) -> Result<u8, Memory> {
     let mut files = files_of(alloc, MOTOR, trace)?;
@@ -26,8 +32,7 @@ fn exit_of(alloc: Global, words: &str, trace: &str, fails: bool) -> Result<u8, M
         out.fail_at(1)?;
     }
     let words = words_of(alloc, words)?;
-    let mut left = Left::new();
-    Ok(exit_code(run(alloc, &words, &mut files, &mut out, &mut left)))
+    Ok(exit_number(alloc, &words, &mut files, &mut out))
 }
 
 /// The words, the trace and the number of a row.

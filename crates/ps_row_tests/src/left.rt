@@ -1,10 +1,9 @@
 // What calls leave behind: the certificate that was checked.
 
-use crate::calls::{ROOM, files_of, words_of};
+use crate::calls::{ROOM, call, files_of, words_of};
 use crate::motor::MOTOR;
 use ps_base::Memory;
 use ps_outside::MemSink;
-use ps_top::{Left, top};
 use std::alloc::Global;
 use std::process::Abort;
 
@@ -17,13 +16,8 @@ fn left_by(
 ) -> Result<Option<(u32, u32)>, Memory> {
     let mut files = files_of(alloc, app, other)?;
     let mut out = MemSink::new(alloc, ROOM)?;
-    let mut left = Left::new();
     let words = words_of(alloc, words)?;
-    let _status = top(alloc, &words, &mut files, &mut out, &mut left);
-    match &left.checked {
-        Some(checked) => Ok(Some((checked.nodes(), checked.lines()))),
-        None => Ok(None),
-    }
+    Ok(call(alloc, &words, &mut files, &mut out).counts)
 }
 
 /// Asserts of each call what it leaves: its words, the application and the further text that are held, and the nodes and lines.

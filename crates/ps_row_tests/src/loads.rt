@@ -1,8 +1,8 @@
 // Loads: generated scans, which are counted.
 
-use crate::calls::{gives, words_of};
+use crate::calls::{call, gives, words_of};
 use ps_outside::{MemFiles, MemSink};
-use ps_top::{Left, Status, top};
+use ps_top::Status;
 use std::test::Fail;
 
 #[test]
@@ -16,9 +16,8 @@ fn a_summary_that_is_not_written(rt: HostRuntime) -> Result<(), Fail> {
     let alloc = rt.alloc();
     let mut files = MemFiles::new(alloc);
     let mut out = MemSink::new(alloc, 10)?;
-    let mut left = Left::new();
     let words = words_of(alloc, "load 2")?;
-    let status = top(alloc, &words, &mut files, &mut out, &mut left);
+    let status = call(alloc, &words, &mut files, &mut out).status;
     assert!(rt; status == Status::WriteFault);
     assert!(rt; out.taken().is_empty());
     Ok(())

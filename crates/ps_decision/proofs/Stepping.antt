@@ -28,6 +28,7 @@ use Rattle.ps_machine.proofs.Fine.{IsFine}
 use Rattle.ps_machine.proofs.Fitting.{CallFits, StepFits, AllFit}
 use Rattle.ps_machine.proofs.Instances.{bytes_at, bytes_at_same, bytes_at_other}
 use Rattle.ps_machine.proofs.Places.{length-replaced}
+use Rattle.ps_decision.specs.declared.layout.TheConstants.{PIN_CELLS}
 use Rattle.ps_decision.specs.declared.row.Row.{Row}
 use Rattle.ps_decision.specs.declared.row.Row.TheVariants.{Call}
 use Rattle.ps_decision.specs.Code.{size_all, in_order, pins_rows, step_rows}
@@ -95,7 +96,7 @@ module _ (net : Network) (few : signal_count net ≤ 4000) (t now dt : ℕ) (lat
       let m' = done net dt (calls i args) m in
       let list = map pins (range_with_len 0 count) in
       let many : length list ≡ count = length-map-range_with_len pins 0 count in
-      let some : count ≤ 13 = fits.few in
+      let some : count ≤ PIN_CELLS = fits.few in
       let x = pins_lead n k few now blocks code m.signals kind args count 0 cells at [] refl (omega arith) fits.pins (has_front code at cp (call ∷ []) has) h in
       let cells1 = turned (turn_of n k code) x.turns cells in
       let at1 = at + size_all cp in

@@ -23,6 +23,7 @@ use Rattle.ps_machine.proofs.Fine.{IsFine}
 use Rattle.ps_machine.proofs.Fitting.{CallFits, StepFits, AllFit}
 use Rattle.ps_machine.proofs.Instances.{bytes_at, bytes_at_same, bytes_at_other}
 use Rattle.ps_machine.proofs.Places.{length-replaced}
+use Rattle.ps_eqvm.specs.declared.layout.TheConstants.{WORK_CELLS}
 use Rattle.ps_eqvm.specs.Plain.{Plain}
 use Rattle.ps_eqvm.specs.Rows.{EquationRow, set_row, size_of}
 use Rattle.ps_eqvm.specs.Acting.{with_cell, settled}
@@ -60,9 +61,9 @@ module _ (net : Network) (few : signal_count net ≤ 4000) (dt last passed : ℕ
       let p1 = turned turn (length re) p in
       let at1 = at + size_all re in
       let back = has_back code at re (row ∷ []) has in
-      let final = with_cell (48 + t) (bit b) (at1 + 5) p1 in
+      let final = with_cell (WORK_CELLS + t) (bit b) (at1 + 5) p1 in
       let goes : turn p1 ≡ final = turn_is n k code p1 at1 row x.comes.there.place back.0
-      ∙ set_goes n k t (operand_at 0 e) (48 + t) (at1 + 5) b p1 (signal_operand n t few low) x.reads in
+      ∙ set_goes n k t (operand_at 0 e) (WORK_CELLS + t) (at1 + 5) b p1 (signal_operand n t few low) x.reads in
       let held : Holds n last passed blocks final (at1 + 5) v' = signal_put n last passed blocks p1 at1 (at1 + 5) t b m.signals v' x.comes.there low
       (cond-true (t == t) b (m.signals t) (eq-eqb t t refl)) (λ s other. cond-false (t == s) b (m.signals s) (ne_eqb t s (λ q. other (sym q)))) in
       let held' : Holds n last passed blocks (turn p1) (at1 + 5) v' = subst (λ q. Holds n last passed blocks q (at1 + 5) v') (sym goes) held in

@@ -20,7 +20,7 @@ use Rattle.ps_machine.specs.Bytes.{bit, be4}
 use Rattle.ps_machine.specs.Keeping.{Passes, KeepsExactly}
 use Rattle.ps_machine.specs.Machines.{turned}
 use Rattle.ps_machine.specs.Progressing.{progress_said}
-use Rattle.ps_machine.specs.Standing.{StandsBlock, StandsIn, limit_in}
+use Rattle.ps_machine.specs.Standing.{LoadsTo, AreCellsOf, limit_in}
 use Rattle.ps_machine.proofs.Blank.{zeros, blank_stands}
 use Rattle.ps_machine.proofs.CalledOnce.{Timely, called_once}
 use Rattle.ps_machine.proofs.Fitting.{step_fits, all_fit}
@@ -82,7 +82,7 @@ module _ (net : Network) where
         blocks = record {
           size = many;
           each = λ i l.
-              subst (λ b. StandsBlock (Remains (limit_in net i)) (kind_at net i) b (block_in w i)) (block_is (SIGNALS_AT + n) i bytes (drop (SIGNALS_AT + n) bytes) refl) (all.blocks i l);
+              subst (λ b. LoadsTo (Remains (limit_in net i)) (kind_at net i) b (block_in w i)) (block_is (SIGNALS_AT + n) i bytes (drop (SIGNALS_AT + n) bytes) refl) (all.blocks i l);
         };
       }
 
@@ -98,7 +98,7 @@ module _ (net : Network) where
           undriven = stands.undriven;
           signals = λ s l. sym (signal_at n s bytes l) ∙ stands.signals s l;
           blocks = λ i l.
-              subst (λ b. StandsBlock (Remains (limit_in net i)) (kind_at net i) b (block_in w i)) (sym (block_is (SIGNALS_AT + n) i bytes (drop (SIGNALS_AT + n) bytes) refl)) (stands.blocks.each i l);
+              subst (λ b. LoadsTo (Remains (limit_in net i)) (kind_at net i) b (block_in w i)) (sym (block_is (SIGNALS_AT + n) i bytes (drop (SIGNALS_AT + n) bytes) refl)) (stands.blocks.each i l);
         };
       }
 
@@ -130,7 +130,7 @@ blank_stored net =
     record {
       kept_time = ap (λ b. be4 b 5) e ∙ time_is;
       standing =
-          subst (StandsIn net (λ i. Remains (limit_in net i)) (first_state net) SIGNALS_AT) (sym e) (blank_stands net (λ i. Remains (limit_in net i)) SIGNALS_AT);
+          subst (AreCellsOf net (λ i. Remains (limit_in net i)) (first_state net) SIGNALS_AT) (sym e) (blank_stands net (λ i. Remains (limit_in net i)) SIGNALS_AT);
     }
 
 module _ (net : Network) (sound : IsSound net) where
@@ -199,9 +199,9 @@ module _ (net : Network) (sound : IsSound net) where
             size = ap length there.instances ∙ bytes;
             each = λ i l.
                 let says = Remains (limit_in net i) in
-                let here : StandsBlock says (kind_at net i) (bytes_at i led.blocks) (block_in new i) =
-                subst (StandsBlock says (kind_at net i) (bytes_at i led.blocks)) (sym (other-block net sound old ins dt new solves i l)) (led.stand.each i l) in
-                subst (λ b. StandsBlock says (kind_at net i) (bytes_at i b) (block_in new i)) (sym there.instances) here;
+                let here : LoadsTo says (kind_at net i) (bytes_at i led.blocks) (block_in new i) =
+                subst (LoadsTo says (kind_at net i) (bytes_at i led.blocks)) (sym (other-block net sound old ins dt new solves i l)) (led.stand.each i l) in
+                subst (λ b. LoadsTo says (kind_at net i) (bytes_at i b) (block_in new i)) (sym there.instances) here;
           };
         } in
         record {

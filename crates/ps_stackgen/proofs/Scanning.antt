@@ -22,7 +22,7 @@ use Rattle.ps_machine.specs.Bytes.{bit, replaced}
 use Rattle.ps_machine.specs.Keeping.{Passes, KeepsExactly}
 use Rattle.ps_machine.specs.Machines.{turned}
 use Rattle.ps_machine.specs.Progressing.{progress_said}
-use Rattle.ps_machine.specs.Standing.{StandsBlock}
+use Rattle.ps_machine.specs.Standing.{LoadsTo}
 use Rattle.ps_machine.proofs.Blank.{zeros, blank_stands}
 use Rattle.ps_machine.proofs.CalledOnce.{Timely, called_once}
 use Rattle.ps_machine.proofs.Fitting.{step_fits, all_fit}
@@ -137,8 +137,8 @@ module _ (net : Network) (sound : IsSound net) where
         let bytes = bytes_at i (drop (SIGNALS_AT + signal_count net) cells) in
         let some : list_any (is_call_of net i) net.steps ≡ true = any_of_one (is_call_of net i) net.steps (sound.called_once i l) in
         let early : clock net t now net.steps i ≡ t = ap (λ b. cond b t now) some in
-        subst (λ c. StandsBlock (Since c) (kind_at net i) bytes (block_in old i)) (sym early)
-        (subst (λ b. StandsBlock (Since t) (kind_at net i) b (block_in old i)) (block_is (SIGNALS_AT + signal_count net) i cells (drop (SIGNALS_AT + signal_count net) cells) refl) (stands.blocks i l));
+        subst (λ c. LoadsTo (Since c) (kind_at net i) bytes (block_in old i)) (sym early)
+        (subst (λ b. LoadsTo (Since t) (kind_at net i) b (block_in old i)) (block_is (SIGNALS_AT + signal_count net) i cells (drop (SIGNALS_AT + signal_count net) cells) refl) (stands.blocks i l));
   }
 
   module _ (accepted : Accepted net) where
@@ -194,9 +194,9 @@ module _ (net : Network) (sound : IsSound net) where
             undriven = solves.undriven;
             signals = λ s l. past (SIGNALS_AT + s) (omega arith) ∙ x.there.signals s l ∙ ap bit (ends net sound old new ins dt stands.undriven solves s l);
             blocks = λ i l.
-                let here : StandsBlock (Since now) (kind_at net i) (bytes_at i led.blocks) (block_in new i) =
-                subst (StandsBlock (Since now) (kind_at net i) (bytes_at i led.blocks)) (sym (other-block net sound old ins dt new solves i l)) (led.stand.each i l) in
-                subst (λ b. StandsBlock (Since now) (kind_at net i) b (block_in new i)) (sym (block_is (SIGNALS_AT + n) i final led.blocks rest)) here;
+                let here : LoadsTo (Since now) (kind_at net i) (bytes_at i led.blocks) (block_in new i) =
+                subst (LoadsTo (Since now) (kind_at net i) (bytes_at i led.blocks)) (sym (other-block net sound old ins dt new solves i l)) (led.stand.each i l) in
+                subst (λ b. LoadsTo (Since now) (kind_at net i) b (block_in new i)) (sym (block_is (SIGNALS_AT + n) i final led.blocks rest)) here;
           });
         }
 

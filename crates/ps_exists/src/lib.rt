@@ -1,0 +1,4 @@
+//! An answer always exists.
+#![tactic(auto)]
+
+pub mod laws;

@@ -4,3 +4,6 @@ pub mod Deriving
 pub mod CertificateText
 pub mod Deciding
 pub mod Parsing
+pub mod Spelling
+pub mod TimeParts
+pub mod Ends

@@ -45,3 +45,21 @@ same_text (x ∷ xs) (y ∷ ys) = by (eqb_tells x y) (same_text xs ys)
     by (inl s) (inl e) = inl (λ i. s.1 i ∷ e i)
     by (inl s) (inr n) = inr (λ e. n (let t : xs ≡ ys = cc in t))
     by (inr d) _ = inr (λ e. d.1 (let t : x ≡ y = cc in t))
+
+-- a text is the spelling of one of some items that are numbered, or of none
+module _ {X : Type 0} (item : ℕ → X) (number : X → ℕ) (bound : ℕ) (numbered : (x : X) → item (number x) ≡ x) (below : (x : X) → number x < bound) (spelling : X → List ℕ) (text : List ℕ) where
+  abbrev IsOther : ℕ → Type 0
+  IsOther n = text ≡ spelling (item n) → ⊥
+
+  abbrev IsThat : ℕ → Type 0
+  IsThat n = text ≡ spelling (item n)
+
+  told_apart : (n : ℕ) → IsOther n ⊎ IsThat n
+  told_apart n = ⊎_elim (λ same. inr same) (λ other. inl other) (same_text text (spelling (item n)))
+
+  pub one_of : ((x : X) × (text ≡ spelling x)) ⊎ ((x : X) → text ≡ spelling x → ⊥)
+  one_of = by (first_below IsOther IsThat told_apart bound)
+    where
+      by : FirstBelow IsOther IsThat bound ⊎ ((n : ℕ) → n < bound → IsOther n) → ((x : X) × (text ≡ spelling x)) ⊎ ((x : X) → text ≡ spelling x → ⊥)
+      by (inl f) = inl (item f.at, f.holds)
+      by (inr none) = inr (λ x e. none (number x) (below x) (e ∙ ap spelling (sym (numbered x))))

@@ -7,3 +7,5 @@ pub mod Parsing
 pub mod Spelling
 pub mod TimeParts
 pub mod Ends
+pub mod Lexing
+pub mod WellFormed

@@ -9,3 +9,4 @@ pub mod TimeParts
 pub mod Ends
 pub mod Lexing
 pub mod WellFormed
+pub mod Sources

@@ -1,6 +1,5 @@
 -- Where a run of bytes ends, and where comments do.
-use Rattle.std.proofs.Common.{◌≡◌, ℕ, suc, ◌+◌, ◌-◌, ◌<◌, ◌≤◌, ◌⊎◌, inl, inr, Bool, true, false, List, length, slice_index, codes, refl, sym, ap, ◌∙◌, subst, ⊎_elim, arith}
-use Rattle.std.proofs.lemmas.Bool.{cases_lt}
+use Rattle.std.proofs.Common.{◌≡◌, ℕ, ◌+◌, ◌-◌, ◌<◌, ◌≤◌, ◌⊎◌, inl, inr, Bool, true, false, List, length, slice_index, codes, refl, ap, ◌∙◌, subst, ⊎_elim, arith}
 use Rattle.std.proofs.lemmas.Bool.Decides.{nat_tests, eqb_tells}
 use Rattle.std.proofs.lemmas.List.{get_or_past}
 use Rattle.ps_lexer.specs.Gaps.{HasBytesAt, line_feed, IsBlockComment, IsLineComment, IsOpenComment}
@@ -105,17 +104,23 @@ module _ (text : List ℕ) (i : ℕ) where
       one_line n all k from lt = from_on (λ m. slice_index text m ≡ line_feed → ⊥) (i + 2) k from (all (k - (i + 2)) (omega arith))
 
       by : (i + 2 ≤ length text) × HasBytesAt text i (codes "//") → FirstBelow IsNoFeed IsFeed (length text - (i + 2)) ⊎ ((d : ℕ) → d < length text - (i + 2) → IsNoFeed d) → (j : ℕ) × IsLineComment text i j
-      by begun (inl f) = let below = f.below in (i + 2 + f.at, record {
-        opens = begun.1;
-        ahead = omega arith;
-        within = omega arith;
-        one_line = one_line f.at f.before;
-        ends = λ lt. f.holds;
-      })
-      by begun (inr all) = let room = begun.0 in (length text, record {
-        opens = begun.1;
-        ahead = room;
-        within = omega arith;
-        one_line = λ k from lt. one_line (length text - (i + 2)) all k from (omega arith);
-        ends = λ lt. absurd (omega arith);
-      })
+      by begun (inl f) = let below = f.below in (
+        i + 2 + f.at,
+        record {
+          opens = begun.1;
+          ahead = omega arith;
+          within = omega arith;
+          one_line = one_line f.at f.before;
+          ends = λ lt. f.holds;
+        },
+      )
+      by begun (inr all) = let room = begun.0 in (
+        length text,
+        record {
+          opens = begun.1;
+          ahead = room;
+          within = omega arith;
+          one_line = λ k from lt. one_line (length text - (i + 2)) all k from (omega arith);
+          ends = λ lt. absurd (omega arith);
+        },
+      )

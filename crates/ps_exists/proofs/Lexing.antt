@@ -1,11 +1,10 @@
 -- A text is read as tokens, or it is refused.
-use Rattle.std.proofs.Common.{◌≡◌, ℕ, zero, suc, ◌+◌, ◌-◌, ◌<◌, ◌≤◌, ◌⊎◌, inl, inr, Bool, true, false, List, [], ◌∷◌, ◌++◌, length, take, drop, Option, Some, None, Ok, slice_index, codes, get_or, refl, sym, ap, ◌∙◌, subst, ⊎_elim, length-take, length-drop, arith}
+use Rattle.std.proofs.Common.{◌≡◌, ℕ, zero, suc, ◌+◌, ◌-◌, ◌<◌, ◌≤◌, ◌⊎◌, inl, inr, Bool, true, false, List, [], ◌∷◌, ◌++◌, length, take, drop, Option, Some, None, Ok, slice_index, codes, get_or, refl, ap, subst, length-take, length-drop, arith}
 use Rattle.std.proofs.lemmas.Bool.{cases_lt}
 use Rattle.std.proofs.lemmas.List.{length-map}
 use Rattle.std.specs.Char.{to_ascii_lowercase}
 use Rattle.std.specs.List.{slice_range}
 use Rattle.ps_base.specs.declared.limits.TheConstants.{LARGEST_SOURCE, LONGEST_NAME}
-use Rattle.ps_base.specs.declared.failing.Place.{Place}
 use Rattle.ps_base.specs.declared.failing.Refusal.{Refusal}
 use Rattle.ps_base.specs.declared.failing.Rule.{Rule}
 use Rattle.ps_base.specs.declared.failing.Rule.TheVariants.{L1, L2, L3, L4, L5}
@@ -20,7 +19,7 @@ use Rattle.ps_lexer.specs.TimeLiterals.{IsTimeHead, IsTimeValue, continues_time}
 use Rattle.ps_lexer.specs.Gaps.{is_blank, IsBlockComment, IsLineComment, IsOpenComment, place_after}
 use Rattle.ps_lexer.specs.Shapes.{IsLongest, Spells}
 use Rattle.ps_lexer.specs.Scanning.{sign_at, opens_block, opens_line}
-use Rattle.ps_lexer.specs.Reading.{IsToken, Reads, nothing, blank, block, line, token, Breaks, BreaksFirst, IsRefused, tokens}
+use Rattle.ps_lexer.specs.Reading.{Reads, nothing, blank, block, line, token, Breaks, BreaksFirst, IsRefused, tokens}
 use Rattle.ps_lexer.proofs.Found.{too_long, a_keyword, a_name, a_time, no_time_value, a_sign, no_token}
 use Rattle.ps_lexer.proofs.Longest.{no_head}
 use Rattle.ps_lexer.proofs.Pieces.{block_within, read_append}

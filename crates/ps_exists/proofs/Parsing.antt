@@ -1,19 +1,16 @@
 -- Symbols are read as each phrase of the grammar, or refused.
-use Rattle.std.proofs.Common.{◌≡◌, ℕ, zero, suc, ◌⊎◌, inl, inr, Bool, true, false, List, [], ◌∷◌, Some, refl, sym, ap, ◌∙◌, subst}
-use Rattle.ps_parser.specs.declared.stop.Flaw.{Flaw}
+use Rattle.std.proofs.Common.{◌≡◌, ℕ, zero, suc, inl, inr, Bool, true, false, List, [], ◌∷◌, refl, sym, subst}
 use Rattle.ps_parser.specs.declared.stop.Flaw.TheVariants.{Unexpected, TooDeep}
-use Rattle.ps_parser.specs.declared.sign.Sign.{Sign}
 use Rattle.ps_parser.specs.declared.sign.Sign.TheVariants as sign
 use Rattle.ps_parser.specs.declared.name.Name.{Name}
 use Rattle.ps_parser.specs.declared.section.Part.TheVariants as part
-use Rattle.ps_parser.specs.declared.statement.Target.{Target}
 use Rattle.ps_parser.specs.declared.statement.Target.TheVariants as target
 use Rattle.ps_parser.specs.declared.heads.Heads.{Heads}
 use Rattle.ps_parser.specs.Symbol.{Symbol, Mark, Named, Truth, Duration, is_mark, is_named}
 use Rattle.ps_parser.specs.Tree.{Literal, Time, Group, factors, products, product_of, sum_of}
 use Rattle.ps_parser.specs.Spelt.{head_sign, foot_sign}
-use Rattle.ps_parser.specs.Phrase.{next, Stops, Reads, Refuses, just}
-use Rattle.ps_parser.specs.Grammar.{is_other, a_factor, a_product, a_sum, a_name, a_target, value_end, a_value, pin_end, argument_end, an_argument, arguments, any_arguments, call_close, call_end, a_tail, a_statement, names, type_end, names_end, a_declaration, a_part, is_part, declarations, section_end, a_section, sections, statements, source_foot, source_body, source_name, a_source}
+use Rattle.ps_parser.specs.Phrase.{Stops, Reads, just}
+use Rattle.ps_parser.specs.Grammar.{is_other, a_factor, a_product, a_sum, a_name, a_target, a_value, pin_end, an_argument, arguments, any_arguments, call_end, a_tail, a_statement, names, a_declaration, a_part, is_part, declarations, a_section, sections, statements, a_source}
 use Rattle.ps_parser.specs.Parses.{stands_next}
 use Rattle.ps_parser.proofs.Choices.{refuses_present, reads_absent, reads_present}
 use Rattle.ps_parser.proofs.Expressions.{factor_parts, product_parts, factors-product_of, products-sum_of, product_of-factors, sum_of-products, name_law, factor_law, product_law, refuses_name, reads_name, reads_target, reads_pin, refuses_target, refuses_pin, stops_other, reads_literal, reads_time, operand, reads_operand, refuses_operand, deep_refuses, group_refuses_sum, group_refuses_end, group_reads}
@@ -21,7 +18,7 @@ use Rattle.ps_parser.proofs.Rows.{first_next, stops_next}
 use Rattle.ps_parser.proofs.Sentences.{value_end_joint, value_joint, value_twin, pin_end_joint, argument_end_joint, argument_joint, argument_twin, argument_law, argument_ends, open_arguments, some_argument, call_close_joint, call_end_joint, statement_joint, statement_twin, statement_law, statement_starts, name_ends, type_end_joint, names_end_joint, declaration_joint, declaration_twin, declaration_law, declaration_starts, reads_part, refuses_part, section_end_joint, section_joint, section_twin, section_law, section_starts, source_foot_joint, source_body_joint, source_name_joint, source_joint, source_twin}
 use Rattle.ps_parser.proofs.Signs.{not_next}
 use Rattle.ps_parser.proofs.Tails.{pin_refuses, pin_reads, call_refuses, call_reads, value_refuses, value_reads}
-use Rattle.ps_exists.proofs.Deciding.{Decided, reads, refuses, carried, both_decided, seen_decided, IsNext, stands, absent, is_next, itself, sign_decided, row_decided, many_decided}
+use Rattle.ps_exists.proofs.Deciding.{Decided, reads, refuses, carried, both_decided, seen_decided, IsNext, stands, absent, is_next, sign_decided, row_decided, many_decided}
 
 -- ---- names and targets
 

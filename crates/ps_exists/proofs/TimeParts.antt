@@ -1,5 +1,5 @@
 -- Bytes are the parts of a TIME literal, or not.
-use Rattle.std.proofs.Common.{◌≡◌, ℕ, zero, suc, ◌+◌, ◌*◌, ◌<◌, ◌≤◌, ◌⊎◌, inl, inr, Bool, true, false, List, [], ◌∷◌, ◌++◌, length, refl, sym, ap, ◌∙◌, subst, ⊎_elim, get_or, arith}
+use Rattle.std.proofs.Common.{◌≡◌, ℕ, zero, suc, ◌+◌, ◌*◌, ◌<◌, ◌≤◌, ◌⊎◌, inl, inr, Bool, true, false, List, [], ◌∷◌, ◌++◌, length, refl, ap, ◌∙◌, subst, ⊎_elim, get_or, arith}
 use Rattle.std.proofs.lemmas.Bool.{cases_lt}
 use Rattle.std.specs.List.{AllByRecursion}
 use Rattle.std.specs.Char.{is_ascii_digit, is_ascii_alphabetic}
@@ -35,14 +35,18 @@ Split bytes = (ds : List ℕ) × (ls : List ℕ) × (tail : List ℕ) × IsSplit
 split_of : (bytes : List ℕ) → Split bytes
 split_of bytes =
     let digits = run_of is_ascii_digit bytes in
-    let letters = run_of is_ascii_alphabetic digits.rest in
-    (digits.front, letters.front, letters.rest, record {
-      is = digits.is ∙ ap (λ l. digits.front ++ l) letters.is;
-      only_digits = digits.passes;
-      no_digit = subst (Stops is_ascii_digit) letters.is digits.stops;
-      only_letters = letters.passes;
-      no_letter = letters.stops;
-    })
+    let letters = run_of is_ascii_alphabetic digits.rest in (
+      digits.front,
+      letters.front,
+      letters.rest,
+      record {
+        is = digits.is ∙ ap (λ l. digits.front ++ l) letters.is;
+        only_digits = digits.passes;
+        no_digit = subst (Stops is_ascii_digit) letters.is digits.stops;
+        only_letters = letters.passes;
+        no_letter = letters.stops;
+      },
+    )
 
 -- ---- units
 

@@ -1,7 +1,6 @@
 -- Tokens that a text is read as are well formed, and there are no more of them than bytes.
-use Rattle.std.proofs.Common.{◌≡◌, ℕ, ◌+◌, ◌<◌, ◌≤◌, ◌⊎◌, inl, inr, List, [], ◌∷◌, length, Ok, refl, sym, subst, arith}
+use Rattle.std.proofs.Common.{ℕ, ◌+◌, ◌≤◌, inl, inr, List, [], ◌∷◌, length, Ok, sym, subst, arith}
 use Rattle.std.specs.List.{AllByRecursion}
-use Rattle.ps_base.specs.declared.limits.TheConstants.{LARGEST_SOURCE, MOST_TOKENS}
 use Rattle.ps_lexer.specs.declared.token.Form.{Form}
 use Rattle.ps_lexer.specs.declared.token.Form.TheVariants as form
 use Rattle.ps_lexer.specs.declared.token.Token.{Token}

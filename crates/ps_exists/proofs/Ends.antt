@@ -1,5 +1,6 @@
 -- Where a run of bytes ends, and where comments do.
-use Rattle.std.proofs.Common.{◌≡◌, ℕ, ◌+◌, ◌-◌, ◌<◌, ◌≤◌, ◌⊎◌, inl, inr, Bool, true, false, List, length, slice_index, codes, refl, ap, ◌∙◌, subst, ⊎_elim, arith}
+use Rattle.std.proofs.Common.{◌≡◌, ℕ, ◌+◌, ◌-◌, ◌<◌, ◌≤◌, ◌⊎◌, inl, inr, Bool, true, false, List, length, slice_index, codes, ap, ◌∙◌, subst, ⊎_elim, arith}
+use Rattle.std.proofs.lemmas.Bool.{cases_Bool}
 use Rattle.std.proofs.lemmas.Bool.Decides.{nat_tests, eqb_tells}
 use Rattle.std.proofs.lemmas.List.{get_or_past}
 use Rattle.ps_lexer.specs.Gaps.{HasBytesAt, line_feed, IsBlockComment, IsLineComment, IsOpenComment}
@@ -20,13 +21,9 @@ pub record IsRunTo (test : ℕ → Bool) (text : List ℕ) (i : ℕ) : Type 0 wh
 from_on : (P : ℕ → Type 0) (i k : ℕ) → i ≤ k → P (i + (k - i)) → P k
 from_on P i k le p = let same : i + (k - i) ≡ k = omega arith in subst P same p
 
-bool_or : (b : Bool) → (b ≡ true) ⊎ (b ≡ false)
-bool_or true = inl refl
-bool_or false = inr refl
-
 -- no byte past the end passes the test
 pub run_to : (test : ℕ → Bool) (text : List ℕ) (i : ℕ) → test 0 ≡ false → i ≤ length text → IsRunTo test text i
-run_to test text i past le = by (first_below P Q (λ d. bool_or (test (slice_index text (i + d)))) (length text - i))
+run_to test text i past le = by (first_below P Q (λ d. cases_Bool (test (slice_index text (i + d)))) (length text - i))
   where
     P : ℕ → Type 0
     P d = test (slice_index text (i + d)) ≡ true

@@ -1,7 +1,6 @@
 -- An application is accepted, or it has a first breach of SAFEBOOL flow.
-use Rattle.std.proofs.Common.{◌≡◌, ℕ, ◌<◌, ◌⊎◌, inl, inr, Bool, true, false, Option, None, Some, length, refl, sym, ◌∙◌, subst, ⊎_elim}
+use Rattle.std.proofs.Common.{◌≡◌, ℕ, ◌<◌, ◌⊎◌, inl, inr, Bool, true, false, Option, None, Some, length, refl}
 use Rattle.std.specs.Prelude.{slice_get, slice_index_or}
-use Rattle.std.proofs.lemmas.Option.{same_Some, slice_get_within}
 use Rattle.ps_base.specs.declared.failing.Rule.{Rule}
 use Rattle.ps_base.specs.declared.failing.Rule.TheVariants.{S1, S2, S3, S4}
 use Rattle.ps_model.specs.declared.kind.Ty.{Ty}
@@ -11,7 +10,7 @@ use Rattle.ps_model.specs.Network.{Network, kind_at}
 use Rattle.ps_model.specs.Scanning.{pin_at}
 use Rattle.ps_model.specs.Typing.{Accepted, MayStand, safe, is_safe_signal}
 use Rattle.ps_flow.specs.Refusals.{BreaksAt, FitsStep, BreaksStep, IsFirstBreach}
-use Rattle.ps_exists.proofs.Searching.{FirstBelow, first_below}
+use Rattle.ps_exists.proofs.Searching.{FirstBelow, first_below, FirstItem, first_item}
 
 module _ (net : Network) where
   -- a thing may stand at a pin, or breaks a rule there
@@ -60,32 +59,10 @@ module _ (net : Network) where
       by (inl f) = inr (f.holds.0, Some f.at, (f.below, f.holds.1, f.before))
       by (inr all) = inl all
 
-  -- the step of this number breaks no rule
-  abbrev FitsAt : ℕ → Type 0
-  FitsAt k = (a : Action) → slice_get net.steps k ≡ Some a → FitsStep net a
-
-  -- it breaks one
-  abbrev BreaksIn : ℕ → Type 0
-  BreaksIn k = (a : Action) × (slice_get net.steps k ≡ Some a) × BreaksSome a
-
-  here_decided : (k : ℕ) → FitsAt k ⊎ BreaksIn k
-  here_decided k = by (slice_get net.steps k) refl
-    where
-      fits : (a : Action) → slice_get net.steps k ≡ Some a → FitsStep net a → FitsAt k
-      fits a is f b at = subst (FitsStep net) (same_Some a b (sym is ∙ at)) f
-
-      by : (o : Option Action) → slice_get net.steps k ≡ o → FitsAt k ⊎ BreaksIn k
-      by None is = inl (λ a at. let both : None ≡ Some a = sym is ∙ at in cc)
-      by (Some a) is = ⊎_elim (λ f. inl (fits a is f)) (λ b. inr (a, is, b)) (step_decided a)
-
   pub flow_decided : Accepted net ⊎ ((rule : Rule) × (step : ℕ) × (pin : Option ℕ) × IsFirstBreach net rule step pin)
-  flow_decided = by (first_below FitsAt BreaksIn here_decided (length net.steps))
+  flow_decided = by (first_item (λ k. FitsStep net) (λ k. BreaksSome) (λ k. step_decided) net.steps)
     where
-      by : FirstBelow FitsAt BreaksIn (length net.steps) ⊎ ((k : ℕ) → k < length net.steps → FitsAt k) → Accepted net ⊎ ((rule : Rule) × (step : ℕ) × (pin : Option ℕ) × IsFirstBreach net rule step pin)
-      by (inl f) =
-          let h = f.holds in
-          inr (h.2.0, f.at, h.2.1, record { action = h.0; here = h.1; breaks = h.2.2; earlier = λ k a lt at. f.before k lt a at })
-      by (inr all) = inl (record {
-        assigned = λ k t e at. all k (slice_get_within net.steps k (assigns t e) at) (assigns t e) at;
-        at_pins = λ k i j args at inside. all k (slice_get_within net.steps k (calls i args) at) (calls i args) at j inside;
-      })
+      by : FirstItem (λ k. FitsStep net) (λ k. BreaksSome) net.steps ⊎ ((k : ℕ) (a : Action) → slice_get net.steps k ≡ Some a → FitsStep net a)
+          → Accepted net ⊎ ((rule : Rule) × (step : ℕ) × (pin : Option ℕ) × IsFirstBreach net rule step pin)
+      by (inl f) = let breach = f.holds in inr (breach.0, f.at, breach.1, record { action = f.item; here = f.here; breaks = breach.2; earlier = f.before })
+      by (inr all) = inl (record { assigned = λ k t e at. all k (assigns t e) at; at_pins = λ k i j args at inside. all k (calls i args) at j inside })

@@ -1,6 +1,8 @@
 // The lines of a run, made in room that is taken before the first scan.
 
-ghost use Rattle.std.specs.Prelude.{◌≡◌, ◌+◌, ◌≤◌, ◌<◌, ◌++◌, ◌∷◌, [], length, decimal, take};
+ghost use Rattle.std.specs.Prelude.{◌≡◌, ◌+◌, ◌≤◌, ◌<◌, ◌++◌, ◌∷◌, [], length, slice_index, decimal, take};
+ghost use Rattle.std.specs.Char.{to_ascii_uppercase};
+ghost use Rattle.hex.specs.Hex.{lower_digits};
 ghost use Rattle.ps_report.specs.Digits.{truth_digit};
 ghost use Rattle.ps_report.specs.Lines.{code_text, named_value, named_diag};
 
@@ -48,17 +50,26 @@ pub(crate) fn truth_digit(value: bool) -> u8
     if value { b'1' } else { b'0' }
 }
 
+// The capital hexadecimal digit of a number up to 15.
+fn capital_digit(n: u8) -> u8
+    requires { n < 16 }
+    ensures { result ≡ to_ascii_uppercase (slice_index lower_digits n) }
+{
+    b"0123456789ABCDEF"[usize::from(n)]
+}
+
 // A DiagCode in four capital hexadecimal digits.
+#[tactic(auto, unfolding(hex::specs::Hex::encode_with))]
 fn code_digits(code: u16) -> [u8; 4]
     ensures { result ≡ code_text code }
 {
-    let mut digits = [0u8; 4];
-    match hex::encode_to_slice(code.to_be_bytes(), &mut digits) {
-        Ok(()) => {}
-        Err(_) => unreachable!(),
-    }
-    digits.make_ascii_uppercase();
-    digits
+    let [high, low] = code.to_be_bytes();
+    [
+        capital_digit(high / 16),
+        capital_digit(high % 16),
+        capital_digit(low / 16),
+        capital_digit(low % 16),
+    ]
 }
 
 // Puts a name with a truth value, as ` S_Motor=1`, at a place of a line. What is answered is the place behind it.

@@ -308,10 +308,11 @@ def seat_files(heals):
          outvoted({3: "A", 4: "B", 5: "C", 6: "A"})),
         ("two seats in one scan", line + "before 3 B code 0 ff\n", two + refused("F4", 2)),
         ("two seats in one scan, the second at a turn", line + "before 3 turn 9 B code 0 ff\n", two + refused("F4", 2)),
-        ("a seat that is not seen, and another", silent + "#\n\nbefore 6 C code 0 ff\n", "".join(ORDINARY.splitlines(True)[:5]) + refused("F4", 4)),
+        ("a seat that is not seen, and another", silent + "#\n\nbefore 6 C code 0 ff\n",
+         "".join(ORDINARY.splitlines(True)[:5]) + refused("F4", 4)),
         ("a seat that is not seen, and another one never", silent + "before 7 C code 0 ff\n", ORDINARY),
     ):
-        number = content.count("\n", 0, content.index("C" if "seen" in title else "B")) + 1
+        number = next(n for n, row in enumerate(content.splitlines(), 1) if row.startswith("before") and " A " not in row)
         status = BAD if "refused" in text else DONE
         rows.append((title, content, status, text) if heals else (title, content, BAD, refused("F4", number)))
     return rows
@@ -430,7 +431,8 @@ def bad_files(run, table):
     """Every bad file, by the command that reads it."""
     readers = (
         ("source", ["check", "bad"], sources), ("trace", ["run", "M", "bad"], traces),
-        ("faults", ["fault", "M", "U", "bad"], lambda: fault_files(tripped_text(), TRIPPED)), ("certificate", ["verify", "M", "bad"], certificates),
+        ("faults", ["fault", "M", "U", "bad"], lambda: fault_files(tripped_text(), TRIPPED)),
+        ("certificate", ["verify", "M", "bad"], certificates),
         ("faults of vote", ["vote", "M", "U", "bad"], lambda: seat_files(False)),
         ("faults of heal", ["heal", "M", "U", "bad"], lambda: seat_files(True)),
     )

@@ -298,6 +298,8 @@ def seat_files(heals):
         ("turns that fall", "before 3 turn 2 A code 0 ff\nbefore 3 turn 1 A code 0 ff\n", BAD, refused("F2", 2)),
         ("a turn, and then none in the same scan", "before 3 turn 2 A code 0 ff\n" + line, BAD, refused("F2", 2)),
         ("another seat, and past its region", line + "before 4 C code 127 ff\n", BAD, refused("F3", 2)),
+        ("C running again behind its last turn", "before 2 turn 28 C memory 4 00\n", DONE, ORDINARY),
+        ("a progress of C that is none, at the last turn", "before 2 turn 28 C memory 4 09\n", DONE, outvoted({2: "C"})),
         ("a seat that is not seen, and it again", silent + "before 4 A code 0 ff\n", DONE,
          outvoted({4: "A"} if heals else dict.fromkeys(range(4, 7), "A"))),
     ]
@@ -310,6 +312,7 @@ def seat_files(heals):
         ("two seats in one scan, the second at a turn", line + "before 3 turn 9 B code 0 ff\n", two + refused("F4", 2)),
         ("a seat that is not seen, and another", silent + "#\n\nbefore 6 C code 0 ff\n",
          "".join(ORDINARY.splitlines(True)[:5]) + refused("F4", 4)),
+        ("a seat whose bytes stood there before, and another", "before 1 A memory 0 00\nbefore 2 B memory 0 00\n", FIRST + refused("F4", 2)),
         ("a seat that is not seen, and another one never", silent + "before 7 C code 0 ff\n", ORDINARY),
     ):
         number = next(n for n, row in enumerate(content.splitlines(), 1) if row.startswith("before") and " A " not in row)

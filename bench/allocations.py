@@ -2,7 +2,7 @@
 
 python3 allocations.py [PROGRAM]     PROGRAM is by default the one that ./plcsafe builds; the C compiler `cc` has to be there
 
-For `run`, `check`, `cert` and `verify` on a motor the k-th allocation is refused, for k from 1 up to the first run that asks for
+For each command but `load`, on a motor, the k-th allocation is refused, for k from 1 up to the first run that asks for
 fewer. Each such run has to write nothing and end with status 7, or 8 where the system could not give the words, or to write all
 of its text with status 0. The script prints how many runs ended how, and ends with 1 where one ended otherwise.
 """
@@ -17,7 +17,12 @@ HERE = os.path.dirname(os.path.abspath(__file__))
 BUILT = os.path.join(HERE, "..", "crates", "ps_main", "out", "ps_main")
 TRACE = "time S_In Ack Run\n0 1 0 1\n10 1 0 1\n20 1 0 1\n30 1 1 1\n40 1 0 0\n50 0 0 1\n"
 CERTIFICATE = "0 SRC\n3 SRC\n2 AND 2\n"
-COMMANDS = (["run", "M", "U"], ["check", "M"], ["cert", "M"], ["verify", "M", "C"])
+SILENT = "before 3 A memory 10 01\n"  # a byte of the stack, which is written before it is read
+STRUCK = "before 2 B code 0 ff\nbefore 4 A code 0 ff\n"
+COMMANDS = (
+    ["run", "M", "U"], ["fault", "M", "U", "F"], ["check", "M"], ["cert", "M"], ["verify", "M", "C"], ["image", "M"], ["demand", "M"],
+    ["vote", "M", "U", "F"], ["heal", "M", "U", "G"],
+)
 
 # Takes the place of the C library's allocator: the call whose number FAIL_AT gives is refused, and says so in the file REFUSED.
 SHIM = """
@@ -69,7 +74,7 @@ def tried(program, folder, words):
 
 def main(program):
     with tempfile.TemporaryDirectory() as folder:
-        for name, text in (("M", MOTOR), ("U", TRACE), ("C", CERTIFICATE), ("shim.c", SHIM)):
+        for name, text in (("M", MOTOR), ("U", TRACE), ("C", CERTIFICATE), ("F", SILENT), ("G", STRUCK), ("shim.c", SHIM)):
             with open(os.path.join(folder, name), "w", encoding="ascii") as out:
                 out.write(text)
         subprocess.run(["cc", "-shared", "-fPIC", "-o", "shim.so", "shim.c"], cwd=folder, check=True)

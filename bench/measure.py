@@ -2,11 +2,11 @@
 
 python3 measure.py [FOLDER [PROGRAM]]     FOLDER keeps the files that generate.py writes; the default is /tmp/plcsafe-bench
 
-Run ./plcsafe once before, so that the program is built. Times are processor times on this machine, the least of five
+Run ./plcsafe once before, so that the program is built. Times are processor times on this machine, the least of nine
 runs. The peak is the most memory that the process held, as GNU time says it. At the end the same stands as one table for a page.
-`valgrind`, where it is installed, counts instructions: the difference of two runs over traces of two and four thousand scans
-gives the instructions of a scan with its line, without the start of the program, whole and function by function; `load 10` and a
-run over 20,000 scans are counted whole.
+`valgrind`, where it is installed, counts instructions: those of the commands over sources; by the difference of two runs over traces
+of two and four thousand scans those of a scan with its line, without the start of the program, whole and function by function; and
+those of `load 10` and of a run over 20,000 scans, whole.
 """
 import os
 import re
@@ -18,12 +18,14 @@ HERE = os.path.dirname(os.path.abspath(__file__))
 BUILT = os.path.join(HERE, "..", "crates", "ps_main", "out", "ps_main")
 PROGRAM = os.path.abspath(sys.argv[2] if len(sys.argv) > 2 else BUILT)
 MIB = 1 << 20
+RUNS = 9
+TRACES = ("motor-32.trace", "motor-64.trace")
 
 
 def processor_time(command, folder, file):
-    """The exit status and the processor time in seconds of a run that reads this file and whose output is thrown away."""
+    """The exit status and the processor time in seconds of a run that reads this file and whose outputs are thrown away."""
     with open(os.path.join(folder, file), "rb") as text:
-        process = subprocess.Popen(command, cwd=folder, stdin=text, stdout=subprocess.DEVNULL)
+        process = subprocess.Popen(command, cwd=folder, stdin=text, stdout=subprocess.DEVNULL, stderr=subprocess.DEVNULL)
         _, status, usage = os.wait4(process.pid, 0)
     return os.waitstatus_to_exitcode(status), usage.ru_utime + usage.ru_stime
 
@@ -36,19 +38,18 @@ def peak_of(command, folder, file):
     return float(run.stderr.split()[-1]) / 1024
 
 
-def show(title, command, folder, file=os.devnull):
-    """Prints a line for a command, and gives its time in seconds, the least of five runs, and its peak in MiB."""
-    runs = [processor_time(command, folder, file) for _ in range(5)]
-    status, seconds, peak = runs[0][0], min(run[1] for run in runs), peak_of(command, folder, file)
-    print(f"{title:42} status {status}, {seconds:8.4f} s, peak {peak:6.1f} MiB", flush=True)
-    return seconds, peak
-
-
-def grows(name, half, whole):
-    """Says how a command grows from one input to one twice as large, and gives its row of the table: both times and both peaks."""
-    ratio = whole[0] / half[0]
-    print(f"{'  twice the input takes':42} {ratio:.2f} times the time")
-    return f"| `{name}` | {said(half[0])} | {said(whole[0])} | {ratio:.2f} | {half[1]:.1f} | {whole[1]:.1f} |"
+def grows(name, folder, half, whole):
+    """Runs a command on an input and on one twice as large, in turn, prints a line for each, and gives its row of the table. Each of
+    the two is a title, the words and the file that is read as standard input."""
+    found = []
+    runs = [[processor_time(command, folder, file) for _, command, file in (half, whole)] for _ in range(RUNS)]
+    for place, (title, command, file) in enumerate((half, whole)):
+        status, seconds = runs[0][place][0], min(run[place][1] for run in runs)
+        found.append((seconds, peak_of(command, folder, file)))
+        print(f"{title:42} status {status}, {seconds:8.4f} s, peak {found[-1][1]:6.1f} MiB", flush=True)
+    (less, small), (more, large) = found
+    print(f"{'  twice the input takes':42} {more / less:.2f} times the time")
+    return f"| `{name}` | {said(less)} | {said(more)} | {more / less:.2f} | {small:.1f} | {large:.1f} |"
 
 
 def said(seconds):
@@ -85,11 +86,11 @@ def sources(folder):
             subprocess.run([PROGRAM, "cert", f"{file}.st"], cwd=folder, stdout=out, check=True)
     rows = []
     for command in ("check", "cert", "verify", "image", "demand"):
-        runs = []
+        both = []
         for file in ("limits-half", "limits"):
             words = [PROGRAM, command, f"{file}.st", *([f"{file}.cert"] if command == "verify" else [])]
-            runs.append(show(f"{command}, {size(folder, f'{file}.st') / MIB:.1f} MiB", words, folder))
-        rows.append(grows(command, *runs))
+            both.append((f"{command}, {size(folder, f'{file}.st') / MIB:.1f} MiB", words, os.devnull))
+        rows.append(grows(command, folder, *both))
     return rows
 
 
@@ -99,13 +100,13 @@ def traces(folder):
         out.write("before 4000000000 A code 0 00\n")
     rows = []
     for command in ("run", "fault", "vote", "heal"):
-        runs = []
-        for file in ("motor-32.trace", "motor-64.trace"):
+        both = []
+        for file in TRACES:
             words = [PROGRAM, command, "motor.st", file, *([] if command == "run" else ["late.faults"])]
-            runs.append(show(f"{command}, {size(folder, file) / MIB:.0f} MiB", words, folder))
-        rows.append(grows(command, *runs))
-    loads = [show(f"load {number}", [PROGRAM, "load", str(number)], folder) for number in (500, 1000)]
-    return [*rows, grows("load", *loads)]
+            both.append((f"{command}, {size(folder, file) / MIB:.0f} MiB", words, os.devnull))
+        rows.append(grows(command, folder, *both))
+    loads = [(f"load {number}", [PROGRAM, "load", str(number)], os.devnull) for number in (500, 1000)]
+    return [*rows, grows("load", folder, *loads)]
 
 
 def tools(folder):
@@ -113,15 +114,19 @@ def tools(folder):
     rows = []
     for words in (["cat"], ["wc", "-l"]):
         name = " ".join(words)
-        rows.append(grows(name, *(show(f"{name} < {file}", words, folder, file) for file in ("motor-32.trace", "motor-64.trace"))))
+        rows.append(grows(name, folder, *((f"{name} < {file}", words, file) for file in TRACES)))
     return rows
+
+
+def sources_counted(folder):
+    """Prints the instructions of the commands over sources, and how many times more twice the source takes: no other work is in them."""
+    for command in ("check", "cert", "verify", "image", "demand"):
+        both = [counted([command, f"{file}.st", *([f"{file}.cert"] if command == "verify" else [])], folder) for file in ("limits-half", "limits")]
+        print(f"{command:42} {both[0] / 1e6:.0f} and {both[1] / 1e6:.0f} million instructions, {both[1] / both[0]:.2f} times", flush=True)
 
 
 def scans(folder):
     """Prints the instructions of a scan, whole and of each function that has 5 of them or more, of a load and of a run."""
-    if shutil.which("valgrind") is None:
-        print("valgrind is not installed: no instructions are counted")
-        return
     files = [os.path.join(folder, f"callgrind-{number}k") for number in (2, 4)]
     less = counted(["run", "motor.st", "motor-2k.trace"], folder, files[0])
     more = counted(["run", "motor.st", "motor-4k.trace"], folder, files[1])
@@ -146,7 +151,11 @@ def main(folder):
     if not os.path.isfile(os.path.join(folder, "limits-half.st")):
         subprocess.run([sys.executable, os.path.join(HERE, "generate.py"), folder], check=True)
     rows = [*sources(folder), *traces(folder), *tools(folder)]
-    scans(folder)
+    if shutil.which("valgrind") is None:
+        print("valgrind is not installed: no instructions are counted")
+    else:
+        sources_counted(folder)
+        scans(folder)
     print("| | time at half | time at the limits | twice the input takes | MiB at half | MiB at the limits |")
     print("|---|---|---|---|---|---|", *rows, sep="\n")
 

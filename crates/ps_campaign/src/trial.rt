@@ -1,0 +1,162 @@
+// The trials of an application: scans from the beginning, of which faults strike one.
+
+ghost use Rattle.std.specs.Prelude.{IfOk};
+ghost use Rattle.ps_model.specs.Typing.{Accepted};
+
+use crate::application::{Codes, application, codes_of_text};
+use crate::counts::{Counts, Found};
+use crate::course::{Course, Outcome};
+use crate::draws::Draws;
+use crate::shape::draw_shape;
+use crate::strike::{Plan, Site};
+use crate::text::{Choice, text_of};
+use ps_base::{Fail, Memory};
+use ps_model::{App, Cause, Channel, Fault, Verdict};
+use std::alloc::Global;
+
+/// Why a campaign stops at a case.
+pub(crate) enum Stop {
+    /// Memory is wanting.
+    Memory,
+    /// A scan is not what it has to be: its number in its trial, from 0, and why.
+    Differs(u32, &'static str),
+}
+
+impl From<Memory> for Stop {
+    fn from(_memory: Memory) -> Stop {
+        Stop::Memory
+    }
+}
+
+/// How many trials an application has.
+pub(crate) const TRIALS: u32 = 10;
+
+// The channel of a cause, where it has one.
+fn channel_of(cause: Cause) -> Option<Channel> {
+    match cause {
+        Cause::Differ(_) => None,
+        Cause::Stuck(channel) | Cause::Trap(channel, _) | Cause::NoReport(channel) => Some(channel),
+    }
+}
+
+// Why a scan that trips is not what it has to be. It is struck where faults came, in this or an earlier scan of the trial.
+fn wrong_trip(cause: Cause, site: Site, is_struck: bool) -> Option<&'static str> {
+    if !is_struck {
+        return Some("tripped without a fault");
+    }
+    match channel_of(cause) {
+        Some(channel) if channel != site.channel => Some("tripped by the channel without a fault"),
+        _ => None,
+    }
+}
+
+// Why a scan is not what it has to be.
+fn wrong(outcome: Outcome, site: Site, is_struck: bool) -> Option<&'static str> {
+    let is_down = outcome.verdict == Verdict::Down;
+    let is_released = outcome.verdict == Verdict::Released;
+    if outcome.was_tripped != is_down {
+        return Some("down exactly where the world was tripped before");
+    }
+    if outcome.is_tripped == is_released {
+        return Some("tripped exactly where the scan is not released");
+    }
+    match outcome.verdict {
+        Verdict::Released if !outcome.is_wanted => Some(
+            "released a report other than the evaluator's",
+        ),
+        Verdict::Released => None,
+        _ if !outcome.is_blank => Some("a report that is not released and not blank"),
+        Verdict::Tripped(cause) => wrong_trip(cause, site, is_struck),
+        Verdict::Down => None,
+    }
+}
+
+// Makes the scans of a trial, from the beginning. The faults of the plan strike one of them.
+fn make_scans(
+    alloc: Global,
+    draws: &mut Draws,
+    course: &mut Course<'_>,
+    plan: Plan,
+    codes: &Codes,
+    counts: &mut Counts,
+) -> Result<(), Stop> {
+    let scans = draws.below(10).saturating_add(3);
+    let struck = draws.below(scans);
+    let one_in = draws.below(8).saturating_add(2);
+    let faults = plan.draw_faults(alloc, draws, codes)?;
+    let mut found = Found::Never;
+    for scan in 0..scans {
+        course.draw_scan(draws, one_in);
+        let strikes: &[Fault] = if scan == struck {
+            faults.as_slice()
+        } else {
+            &[]
+        };
+        let Some(outcome) = course.make_scan(strikes) else {
+            return Err(Stop::Differs(scan, "a scan was not closed"));
+        };
+        counts.add_scan(outcome.verdict);
+        if let Some(why) = wrong(outcome, plan.site, scan >= struck) {
+            return Err(Stop::Differs(scan, why));
+        }
+        if let Verdict::Tripped(_) = outcome.verdict {
+            found = if scan == struck {
+                Found::Same
+            } else {
+                Found::Later
+            };
+        }
+    }
+    counts.add_trial(plan.site, plan.sort, faults.len(), found);
+    Ok(())
+}
+
+// Makes the trials of an application, each after a restart.
+fn make_trials(
+    alloc: Global,
+    draws: &mut Draws,
+    app: &App,
+    codes: &Codes,
+    counts: &mut Counts,
+) -> Result<(), Stop>
+    requires { Accepted app.now }
+{
+    let mut course = Course::build(alloc, app)?;
+    let turns = app.turns_a().saturating_add(app.turns_b());
+    for _ in 0..TRIALS {
+        let plan = Plan::draw(draws, course.sizes(), turns);
+        make_scans(alloc, draws, &mut course, plan, codes, counts)?;
+        if !course.restart() {
+            return Err(Stop::Differs(0, "a scan was not closed"));
+        }
+    }
+    Ok(())
+}
+
+// An application and the codes of another one with the same declarations, where no rule refuses one of both.
+fn draw_application(alloc: Global, draws: &mut Draws) -> Result<(App, Codes), Fail>
+    ensures { IfOk result (λ drawn. Accepted drawn.0) }
+{
+    let shape = draw_shape(alloc, draws)?;
+    let choice = Choice::draw(draws);
+    let text = text_of(alloc, &shape, choice)?;
+    let other = text_of(alloc, &shape, choice.changed(draws, &shape))?;
+    let app = application(alloc, text.as_str())?;
+    let codes = codes_of_text(alloc, other.as_str())?;
+    Ok((app, codes))
+}
+
+/// Makes the trials of a case, and counts them. A case whose application is refused has none.
+pub(crate) fn make_case(alloc: Global, draws: &mut Draws, counts: &mut Counts) -> Result<(), Stop> {
+    match draw_application(alloc, draws) {
+        Ok((app, codes)) => {
+            counts.add_case(true);
+            make_trials(alloc, draws, &app, &codes, counts)
+        }
+        Err(Fail::Refused(_)) => {
+            counts.add_case(false);
+            Ok(())
+        }
+        Err(Fail::Memory) => Err(Stop::Memory),
+    }
+}

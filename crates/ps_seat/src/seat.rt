@@ -25,12 +25,23 @@ pub enum Failing {
 
 /// A channel with its code as compiled, the number of turns that it has made in its scan, and the most
 /// that it may make. Contracts see it as a `Seat_state`. Only `build` takes memory.
-#[derive(Drop)]
 pub struct Seat<C: ScanMachine> {
     channel: C,
     image: CodeImage,
     turns: u32,
     budget: u32,
+}
+
+impl<C: ScanMachine> Drop for Seat<C> {
+    // One call for whoever owns one, in place of a walk through all that it holds.
+    fn drop(self) {
+        let Seat {
+            channel: _,
+            image: _,
+            turns: _,
+            budget: _,
+        } = self;
+    }
 }
 
 impl<C: ScanMachine> Model for Seat<C> {

@@ -16,7 +16,6 @@ pub struct Trip {
 }
 
 /// What a call of the program worked with, for the caller to look at.
-#[derive(Drop)]
 pub struct Left {
     /// The certificate that was checked: the number of the application's nodes, and that of the certificate's lines.
     pub checked: Option<Checked>,
@@ -28,6 +27,19 @@ pub struct Left {
     pub refusal: Option<Refusal>,
     /// The first scan that tripped, where one did.
     pub trip: Option<Trip>,
+}
+
+impl Drop for Left {
+    // One call for whoever owns one, in place of a walk through all that it holds.
+    fn drop(self) {
+        let Left {
+            checked: _,
+            world: _,
+            votes: _,
+            refusal: _,
+            trip: _,
+        } = self;
+    }
 }
 
 impl Left {

@@ -36,7 +36,6 @@ use std::marker::Model;
 
 /// Three channels of one application, which make its scans event by event, and whose reports are voted on two out of three. A seat
 /// that was outvoted takes part again, and can be rebuilt from another. Contracts see it as a `Whole`. Only `build` takes memory.
-#[derive(Drop)]
 pub struct VoteWorld {
     a: ps_seat::Seat<StackChannel>,
     b: ps_seat::Seat<EquationChannel>,
@@ -47,6 +46,23 @@ pub struct VoteWorld {
     begun: bool,
     outvoted: Option<Seat>,
     room: Room,
+}
+
+impl Drop for VoteWorld {
+    // One call for whoever owns one, in place of a walk through all that it holds.
+    fn drop(self) {
+        let VoteWorld {
+            a: _,
+            b: _,
+            c: _,
+            limits: _,
+            dirty: _,
+            last: _,
+            begun: _,
+            outvoted: _,
+            room: _,
+        } = self;
+    }
 }
 
 // Room for work, which is no part of what a world is.

@@ -26,7 +26,6 @@ use std::marker::Model;
 
 /// Two channels of one application, which make its scans event by event and whose reports are compared.
 /// Contracts see it as a `Whole`. Only `build` takes memory.
-#[derive(Drop)]
 pub struct World {
     a: Seat<StackChannel>,
     b: Seat<EquationChannel>,
@@ -35,6 +34,20 @@ pub struct World {
     tripped: bool,
     // room for the report of channel B, which is no part of what the world is
     other: Report,
+}
+
+impl Drop for World {
+    // One call for whoever owns one, in place of a walk through all that it holds.
+    fn drop(self) {
+        let World {
+            a: _,
+            b: _,
+            last: _,
+            begun: _,
+            tripped: _,
+            other: _,
+        } = self;
+    }
 }
 
 impl Model for World {

@@ -8,7 +8,7 @@ ghost use Rattle.ps_campaign.specs.Beginning.{IsBeginning};
 
 use crate::draws::Draws;
 use ps_base::Memory;
-use ps_model::{App, Cause, Channel, Fault, ImageSizes, Report, Scan, Verdict};
+use ps_model::{App, Bits, Fault, ImageSizes, Report, Scan, Verdict};
 use ps_scan::Scanner;
 use ps_world::World;
 use std::alloc::Global;
@@ -93,6 +93,18 @@ fn draw_step(draws: &mut Draws) -> u32 {
     }
 }
 
+// Changes inputs: one that is TRUE in one of so many scans, and one that is FALSE in one of two.
+fn draw_inputs(draws: &mut Draws, ins: &mut Bits, one_in: u32)
+    ensures { length ins.new ≡ length ins.old }
+{
+    for i in 0..ins.len() {
+        let value = ins.at(i);
+        if draws.one_in(if value { one_in } else { 2 }) {
+            ins.set(i, !value);
+        }
+    }
+}
+
 impl<'a> Course<'a> {
     /// The course of an accepted application, before its first scan.
     pub(crate) fn build(alloc: Global, app: &'a App) -> Result<Course<'a>, Memory>
@@ -132,12 +144,7 @@ impl<'a> Course<'a> {
     /// one of two.
     pub(crate) fn draw_scan(&mut self, draws: &mut Draws, one_in: u32) {
         self.scan.now = self.scan.now.saturating_add(draw_step(draws));
-        for i in 0..self.scan.ins.len() {
-            let value = self.scan.ins.at(i);
-            if draws.one_in(if value { one_in } else { 2 }) {
-                self.scan.ins.set(i, !value);
-            }
-        }
+        draw_inputs(draws, &mut self.scan.ins, one_in);
     }
 
     /// Makes the scan in the world, with these faults, and by the evaluator. None: a scan is begun in the world.

@@ -36,6 +36,16 @@ impl Draws {
         (self.next() % u64::from(count)) as u32
     }
 
+    /// A place below this one, and 0 where it is 0.
+    pub(crate) fn place(&mut self, count: usize) -> usize
+        ensures { 0 < count → result < count }
+    {
+        if count == 0 {
+            return 0;
+        }
+        (self.next() % count as u64) as usize
+    }
+
     /// True in one of so many cases.
     pub(crate) fn one_in(&mut self, count: u32) -> bool {
         self.below(count) == 0

@@ -89,7 +89,7 @@ fn draw_kind(draws: &mut Draws) -> Kind {
 // At most so many instances.
 fn draw_kinds(alloc: Global, draws: &mut Draws, most: u32) -> Result<Kinds, Memory> {
     let mut kinds = Kinds::new(alloc);
-    for _ in 0..draws.below(most + 1) {
+    for _ in 0..draws.below(most.saturating_add(1)) {
         kinds.push(draw_kind(draws))?;
     }
     Ok(kinds)

@@ -12,7 +12,7 @@ use std::fmt::Write;
 #[derive(Clone, Copy)]
 struct Leaf {
     letter: &'static str,
-    number: u32,
+    number: usize,
     pin: Option<&'static str>,
     is_safe: bool,
 }
@@ -27,13 +27,13 @@ const FIRST: Leaf = Leaf {
 
 // One of these signals, whose names begin with this letter.
 fn draw_signal(draws: &mut Draws, letter: &'static str, signals: &Bits) -> Leaf {
-    let number = draws.below(signals.len() as u32);
-    if (number as usize) < signals.len() {
+    let number = draws.place(signals.len());
+    if number < signals.len() {
         Leaf {
             letter,
             number,
             pin: None,
-            is_safe: signals.at(number as usize),
+            is_safe: signals.at(number),
         }
     } else {
         FIRST
@@ -41,7 +41,7 @@ fn draw_signal(draws: &mut Draws, letter: &'static str, signals: &Bits) -> Leaf 
 }
 
 // An output of an instance.
-fn draw_pin(draws: &mut Draws, instance: u32, kind: Kind) -> Leaf {
+fn draw_pin(draws: &mut Draws, instance: usize, kind: Kind) -> Leaf {
     let back = draws.below(u32::from(output_count(kind)));
     let pin = u32::from(pin_count(kind)).saturating_sub(back.saturating_add(1)) as u8;
     if pin < pin_count(kind) {
@@ -63,9 +63,9 @@ fn draw_leaf(draws: &mut Draws, shape: &Shape) -> Leaf {
         3 => draw_signal(draws, "L", &shape.locals),
         4 => draw_signal(draws, "Q", &shape.outputs),
         _ => {
-            let instance = draws.below(shape.kinds.len() as u32);
-            if (instance as usize) < shape.kinds.len() {
-                draw_pin(draws, instance, shape.kinds.at(instance as usize))
+            let instance = draws.place(shape.kinds.len());
+            if instance < shape.kinds.len() {
+                draw_pin(draws, instance, shape.kinds.at(instance))
             } else {
                 draw_signal(draws, "I", &shape.inputs)
             }
@@ -268,7 +268,7 @@ impl Choice {
         Choice {
             seed: self.seed,
             other: draws.next(),
-            other_at: draws.below(shape.statement_count() as u32) as usize,
+            other_at: draws.place(shape.statement_count()),
         }
     }
 
@@ -286,7 +286,7 @@ impl Choice {
 // Writes all statements, beginning with any of them.
 fn write_statements(text: &mut String, shape: &Shape, choice: Choice) -> Result<(), Memory> {
     let count = shape.statement_count();
-    let first = Draws::new(choice.seed, u64::MAX).below(count as u32) as usize;
+    let first = Draws::new(choice.seed, u64::MAX).place(count);
     for number in first..count {
         write_statement(text, &mut choice.draws(number), shape, number)?;
     }

@@ -11,7 +11,7 @@ use crate::shape::draw_shape;
 use crate::strike::{Plan, Site};
 use crate::text::{Choice, text_of};
 use ps_base::{Fail, Memory};
-use ps_model::{App, Cause, Channel, Fault, Verdict};
+use ps_model::{App, Cause, Channel, Verdict};
 use std::alloc::Global;
 
 /// Why a campaign stops at a case.
@@ -87,12 +87,12 @@ fn make_scans(
     let mut found = Found::Never;
     for scan in 0..scans {
         course.draw_scan(draws, one_in);
-        let strikes: &[Fault] = if scan == struck {
-            faults.as_slice()
+        let made = if scan == struck {
+            course.make_scan(&faults)
         } else {
-            &[]
+            course.make_scan(&[])
         };
-        let Some(outcome) = course.make_scan(strikes) else {
+        let Some(outcome) = made else {
             return Err(Stop::Differs(scan, "a scan was not closed"));
         };
         counts.add_scan(outcome.verdict);

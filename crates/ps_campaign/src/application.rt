@@ -3,12 +3,12 @@
 ghost use Rattle.std.specs.Prelude.{IfOk};
 ghost use Rattle.ps_model.specs.Typing.{Accepted};
 
-use ps_base::{Fail, Memory, Place, Refusal};
+use ps_base::{Bytes, Fail, Memory, Place, Refusal};
 use ps_eqgen::equation_image;
 use ps_flow::{FlowFail, derive};
 use ps_lexer::lex;
 use ps_machine::CodeImage;
-use ps_model::App;
+use ps_model::{App, Channel};
 use ps_parser::parse;
 use ps_resolve::resolve;
 use ps_stackgen::stack_image;
@@ -34,8 +34,19 @@ pub(crate) fn application(alloc: Global, text: &str) -> Result<App, Fail>
 /// The codes of an application for both channels.
 #[derive(Drop)]
 pub(crate) struct Codes {
-    pub(crate) a: CodeImage,
-    pub(crate) b: CodeImage,
+    a: CodeImage,
+    b: CodeImage,
+}
+
+impl Codes {
+    /// A copy of the code for a channel.
+    pub(crate) fn copy_of(&self, alloc: Global, channel: Channel) -> Result<Bytes, Memory> {
+        let code = match channel {
+            Channel::A => &self.a,
+            Channel::B => &self.b,
+        };
+        Bytes::from_slice(alloc, code.as_slice())
+    }
 }
 
 // The codes of an accepted application.

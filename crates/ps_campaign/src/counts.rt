@@ -60,7 +60,7 @@ pub(crate) struct Counts {
     no_report: u64,
     faults: u64,
     sites: [Row; 4],
-    sorts: [Row; 6],
+    sorts: [Row; 7],
 }
 
 // The number of a site, from 0.
@@ -77,7 +77,7 @@ fn site_number(site: Site) -> usize
 
 // The number of a sort, from 0.
 fn sort_number(sort: Sort) -> usize
-    ensures { result < 6 }
+    ensures { result < 7 }
 {
     match sort {
         Sort::Byte => 0,
@@ -86,6 +86,7 @@ fn sort_number(sort: Sort) -> usize
         Sort::Whole => 3,
         Sort::Even => 4,
         Sort::Code => 5,
+        Sort::State => 6,
     }
 }
 
@@ -105,7 +106,7 @@ impl Counts {
             no_report: 0,
             faults: 0,
             sites: [Row::NONE; 4],
-            sorts: [Row::NONE; 6],
+            sorts: [Row::NONE; 7],
         }
     }
 
@@ -177,13 +178,14 @@ impl Counts {
 const SITES: [&str; 4] = ["A-code", "A-cells", "B-code", "B-cells"];
 
 // What the sorts are called.
-const SORTS: [&str; 6] = [
+const SORTS: [&str; 7] = [
     "byte",
     "small-byte",
     "several-bytes",
     "whole-region",
     "one-value",
     "other-code",
+    "other-state",
 ];
 
 // Prints a row.

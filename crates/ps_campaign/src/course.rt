@@ -7,9 +7,13 @@ ghost use Rattle.ps_scan.specs.Cells.{IsFor};
 ghost use Rattle.ps_campaign.specs.Beginning.{IsBeginning};
 
 use crate::draws::Draws;
-use ps_base::Memory;
-use ps_model::{App, Bits, Fault, ImageSizes, Report, Scan, Verdict};
+use crate::scans::draw_scan;
+use crate::state::draw_state;
+use ps_base::{Bytes, Memory};
+use ps_machine::CodeImage;
+use ps_model::{App, Channel, Fault, ImageSizes, Report, Scan, Verdict};
 use ps_scan::Scanner;
+use ps_stackgen::stack_image;
 use ps_world::World;
 use std::alloc::Global;
 use std::marker::Model;
@@ -18,6 +22,8 @@ use std::marker::Model;
 #[derive(Drop)]
 pub(crate) struct Course<'a> {
     app: &'a App,
+    // the code of channel A
+    code: CodeImage,
     world: World,
     scanner: Scanner,
     scan: Scan,
@@ -82,34 +88,12 @@ fn is_blank(report: &Report) -> bool {
     true
 }
 
-// The time in ms between two scans: none, that of a machine's scan, over a block's limits, and seldom any.
-fn draw_step(draws: &mut Draws) -> u32 {
-    match draws.below(1024) {
-        0 => draws.below(u32::MAX),
-        1..=100 => 0,
-        101..=200 => draws.below(100_000),
-        201..=400 => draws.below(600),
-        _ => draws.below(20),
-    }
-}
-
-// Changes inputs: one that is TRUE in one of so many scans, and one that is FALSE in one of two.
-fn draw_inputs(draws: &mut Draws, ins: &mut Bits, one_in: u32)
-    ensures { length ins.new ≡ length ins.old }
-{
-    for i in 0..ins.len() {
-        let value = ins.at(i);
-        if draws.one_in(if value { one_in } else { 2 }) {
-            ins.set(i, !value);
-        }
-    }
-}
-
 impl<'a> Course<'a> {
     /// The course of an accepted application, before its first scan.
     pub(crate) fn build(alloc: Global, app: &'a App) -> Result<Course<'a>, Memory>
         requires { Accepted app.now }
     {
+        let code = stack_image(alloc, app)?;
         let scanner = Scanner::new(alloc, app)?;
         let scan = Scan::for_app(alloc, app)?;
         let report = Report::for_app(alloc, app)?;
@@ -117,6 +101,7 @@ impl<'a> Course<'a> {
         let world = world_of(alloc, app)?;
         Ok(Course {
             app,
+            code,
             world,
             scanner,
             scan,
@@ -140,11 +125,19 @@ impl<'a> Course<'a> {
         true
     }
 
-    /// The inputs of the next scan, and its time. An input that is TRUE changes in one of so many scans, and one that is FALSE in
-    /// one of two.
+    /// Draws the time and the inputs of the next scan.
     pub(crate) fn draw_scan(&mut self, draws: &mut Draws, one_in: u32) {
-        self.scan.now = self.scan.now.saturating_add(draw_step(draws));
-        draw_inputs(draws, &mut self.scan.ins, one_in);
+        draw_scan(draws, &mut self.scan, one_in);
+    }
+
+    /// The cells of a channel in another state, after a few scans from the time of the last scan on.
+    pub(crate) fn draw_state(
+        &self,
+        alloc: Global,
+        draws: &mut Draws,
+        channel: Channel,
+    ) -> Result<Bytes, Memory> {
+        draw_state(alloc, draws, self.app, &self.code, channel, self.scan.now)
     }
 
     /// Makes the scan in the world, with these faults, and by the evaluator. None: a scan is begun in the world.

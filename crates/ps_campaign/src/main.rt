@@ -12,6 +12,7 @@
 //! - `shape`, `text`: an application's declarations, and its text.
 //! - `application`: from the text to the application and its codes.
 //! - `course`: a world with the evaluator beside it.
+//! - `scans`, `state`: scans as they come, and the cells of other states.
 //! - `strike`: the faults of a trial.
 //! - `trial`: trials, and what each scan has to be.
 //! - `counts`: what all comes to.
@@ -21,7 +22,9 @@ mod application;
 mod counts;
 mod course;
 mod draws;
+mod scans;
 mod shape;
+mod state;
 mod strike;
 mod text;
 mod trial;

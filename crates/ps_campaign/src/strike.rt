@@ -1,6 +1,5 @@
 // Faults of one channel.
 
-use crate::application::Codes;
 use crate::draws::Draws;
 use ps_base::{Bytes, Memory};
 use ps_model::{Channel, Fault, ImageSizes, Region};
@@ -28,6 +27,8 @@ pub(crate) enum Sort {
     Even,
     /// The code of another application with the same declarations, as far as the region goes.
     Code,
+    /// The cells of another state.
+    State,
 }
 
 /// The faults of a trial: what they write, where, and before which turn of their scan.
@@ -75,7 +76,7 @@ fn draw_sort(draws: &mut Draws, region: Region) -> Sort {
         13 => Sort::Even,
         _ => match region {
             Region::Code => Sort::Code,
-            Region::Cells => Sort::Small,
+            Region::Cells => Sort::State,
         },
     }
 }
@@ -106,73 +107,37 @@ impl Plan {
         draws.below(self.len.saturating_sub(count).saturating_add(1))
     }
 
-    // So many bytes, each of which is this one, where there is one.
-    fn fill(
-        alloc: Global,
-        draws: &mut Draws,
-        count: u32,
-        byte: Option<u8>,
-    ) -> Result<Bytes, Memory> {
-        let mut bytes = Bytes::new(alloc);
-        for _ in 0..count {
-            let next = match byte {
-                Some(byte) => byte,
-                None => draws.byte(),
-            };
-            bytes.push(next)?;
-        }
-        Ok(bytes)
-    }
-
-    // The code of this channel, as far as the region goes.
-    fn copy_code(&self, alloc: Global, codes: &Codes) -> Result<Bytes, Memory> {
-        let code = match self.site.channel {
-            Channel::A => codes.a.as_slice(),
-            Channel::B => codes.b.as_slice(),
-        };
-        let count = code.len().min(self.len as usize);
-        Bytes::from_slice(alloc, &code[..count])
-    }
-
-    // Where a fault writes, and what.
+    // Where a fault writes, and what. At hand are the code or the cells that it copies.
     fn draw_bytes(
         &self,
         alloc: Global,
         draws: &mut Draws,
-        codes: &Codes,
+        at_hand: &[u8],
     ) -> Result<(u32, Bytes), Memory> {
-        match self.sort {
-            Sort::Byte => Ok((
-                self.draw_place(draws, 1),
-                Plan::fill(alloc, draws, 1, None)?,
-            )),
-            Sort::Small => {
-                let byte = draw_small(draws);
-                Ok((
-                    self.draw_place(draws, 1),
-                    Plan::fill(alloc, draws, 1, Some(byte))?,
-                ))
+        let (count, byte) = match self.sort {
+            Sort::Byte => (1, None),
+            Sort::Small => (1, Some(draw_small(draws))),
+            Sort::Several => (draws.below(15).saturating_add(2), None),
+            Sort::Whole => (self.len, None),
+            Sort::Even => (self.len, Some(draw_small(draws))),
+            Sort::Code | Sort::State => {
+                let count = at_hand.len().min(self.len as usize);
+                return Ok((0, Bytes::from_slice(alloc, &at_hand[..count])?));
             }
-            Sort::Several => {
-                let count = draws.below(15).saturating_add(2);
-                Ok((
-                    self.draw_place(draws, count),
-                    Plan::fill(alloc, draws, count, None)?,
-                ))
-            }
-            Sort::Whole => Ok((0, Plan::fill(alloc, draws, self.len, None)?)),
-            Sort::Even => {
-                let byte = draw_small(draws);
-                Ok((0, Plan::fill(alloc, draws, self.len, Some(byte))?))
-            }
-            Sort::Code => Ok((0, self.copy_code(alloc, codes)?)),
-        }
+        };
+        let at = self.draw_place(draws, count);
+        Ok((at, fill(alloc, draws, count, byte)?))
     }
 
     // A fault of the plan.
-    fn draw_fault(&self, alloc: Global, draws: &mut Draws, codes: &Codes) -> Result<Fault, Memory> {
+    fn draw_fault(
+        &self,
+        alloc: Global,
+        draws: &mut Draws,
+        at_hand: &[u8],
+    ) -> Result<Fault, Memory> {
         let turn = self.draw_turn(draws);
-        let (at, bytes) = self.draw_bytes(alloc, draws, codes)?;
+        let (at, bytes) = self.draw_bytes(alloc, draws, at_hand)?;
         Ok(Fault {
             scan: 0,
             turn,
@@ -183,21 +148,35 @@ impl Plan {
         })
     }
 
-    /// One fault of the plan, and in one of four trials up to three more in the same scan.
+    /// One fault of the plan, and in one of four trials up to three more in the same scan. At hand are the code or the cells that
+    /// they copy, for the sorts that do.
     pub(crate) fn draw_faults(
         &self,
         alloc: Global,
         draws: &mut Draws,
-        codes: &Codes,
+        at_hand: &[u8],
     ) -> Result<Vec<Fault>, Memory> {
         let mut faults = Vec::new(alloc);
         let more = if draws.one_in(4) { draws.below(4) } else { 0 };
-        faults.push(self.draw_fault(alloc, draws, codes)?)?;
+        faults.push(self.draw_fault(alloc, draws, at_hand)?)?;
         for _ in 0..more {
-            faults.push(self.draw_fault(alloc, draws, codes)?)?;
+            faults.push(self.draw_fault(alloc, draws, at_hand)?)?;
         }
         Ok(faults)
     }
+}
+
+// So many bytes, each of which is this one, where there is one.
+fn fill(alloc: Global, draws: &mut Draws, count: u32, byte: Option<u8>) -> Result<Bytes, Memory> {
+    let mut bytes = Bytes::new(alloc);
+    for _ in 0..count {
+        let next = match byte {
+            Some(byte) => byte,
+            None => draws.byte(),
+        };
+        bytes.push(next)?;
+    }
+    Ok(bytes)
 }
 
 // A byte that a channel may hold.

@@ -1,16 +1,17 @@
 // The trials of an application: scans from the beginning, of which faults strike one.
 
-ghost use Rattle.std.specs.Prelude.{IfOk};
+ghost use Rattle.std.specs.Prelude.{◌≡◌, true, IfOk, IsNone};
 ghost use Rattle.ps_model.specs.Typing.{Accepted};
+ghost use Rattle.ps_campaign.specs.Rightness.{MayTrip, IsRight};
 
 use crate::application::{Codes, application, codes_of_text};
 use crate::counts::{Counts, Found};
 use crate::course::{Course, Outcome};
 use crate::draws::Draws;
 use crate::shape::draw_shape;
-use crate::strike::{Plan, Site};
+use crate::strike::{Plan, Sort};
 use crate::text::{Choice, text_of};
-use ps_base::{Fail, Memory};
+use ps_base::{Bytes, Fail, Memory};
 use ps_model::{App, Cause, Channel, Verdict};
 use std::alloc::Global;
 
@@ -31,43 +32,56 @@ impl From<Memory> for Stop {
 /// How many trials an application has.
 pub(crate) const TRIALS: u32 = 10;
 
-// The channel of a cause, where it has one.
-fn channel_of(cause: Cause) -> Option<Channel> {
+// Why a trip is not what it has to be, where this channel alone was struck, if it was.
+fn wrong_trip(cause: Cause, channel: Channel, is_struck: bool) -> Option<&'static str>
+    ensures { IsNone result → (is_struck ≡ true) × MayTrip channel cause }
+{
+    if !is_struck {
+        return Some("a trip without a fault");
+    }
     match cause {
         Cause::Differ(_) => None,
-        Cause::Stuck(channel) | Cause::Trap(channel, _) | Cause::NoReport(channel) => Some(channel),
+        Cause::Stuck(of) | Cause::Trap(of, _) | Cause::NoReport(of) => {
+            if of == channel {
+                None
+            } else {
+                Some("a trip by the channel that was not struck")
+            }
+        }
     }
 }
 
-// Why a scan that trips is not what it has to be. It is struck where faults came, in this or an earlier scan of the trial.
-fn wrong_trip(cause: Cause, site: Site, is_struck: bool) -> Option<&'static str> {
-    if !is_struck {
-        return Some("tripped without a fault");
-    }
-    match channel_of(cause) {
-        Some(channel) if channel != site.channel => Some("tripped by the channel without a fault"),
-        _ => None,
-    }
-}
-
-// Why a scan is not what it has to be.
-fn wrong(outcome: Outcome, site: Site, is_struck: bool) -> Option<&'static str> {
-    let is_down = outcome.verdict == Verdict::Down;
-    let is_released = outcome.verdict == Verdict::Released;
-    if outcome.was_tripped != is_down {
-        return Some("down exactly where the world was tripped before");
-    }
-    if outcome.is_tripped == is_released {
-        return Some("tripped exactly where the scan is not released");
-    }
+// Why a scan is not what it has to be, where this channel alone was struck, if it was.
+fn wrong(outcome: Outcome, channel: Channel, is_struck: bool) -> Option<&'static str>
+    ensures { IsNone result → IsRight channel is_struck outcome outcome.verdict }
+{
     match outcome.verdict {
-        Verdict::Released if !outcome.is_wanted => Some(
-            "released a report other than the evaluator's",
-        ),
+        Verdict::Released if outcome.was_tripped => Some("released behind a trip"),
+        Verdict::Released if outcome.is_tripped => Some("released, and tripped now"),
+        Verdict::Released if !outcome.is_wanted => Some("a released report is not the evaluator's"),
         Verdict::Released => None,
+        Verdict::Tripped(_) if outcome.was_tripped => Some("a second trip"),
+        Verdict::Down if !outcome.was_tripped => Some("down without a trip"),
+        _ if !outcome.is_tripped => Some("not released, and not tripped now"),
         _ if !outcome.is_blank => Some("a report that is not released and not blank"),
-        Verdict::Tripped(cause) => wrong_trip(cause, site, is_struck),
+        Verdict::Tripped(cause) => wrong_trip(cause, channel, is_struck),
         Verdict::Down => None,
+    }
+}
+
+// What the faults of a plan copy, where they do: the code of another application, or the cells of another state.
+fn draw_at_hand(
+    alloc: Global,
+    draws: &mut Draws,
+    course: &Course<'_>,
+    plan: Plan,
+    codes: &Codes,
+) -> Result<Bytes, Memory> {
+    let channel = plan.site.channel;
+    match plan.sort {
+        Sort::Code => codes.copy_of(alloc, channel),
+        Sort::State => course.draw_state(alloc, draws, channel),
+        _ => Ok(Bytes::new(alloc)),
     }
 }
 
@@ -83,7 +97,8 @@ fn make_scans(
     let scans = draws.below(10).saturating_add(3);
     let struck = draws.below(scans);
     let one_in = draws.below(8).saturating_add(2);
-    let faults = plan.draw_faults(alloc, draws, codes)?;
+    let at_hand = draw_at_hand(alloc, draws, course, plan, codes)?;
+    let faults = plan.draw_faults(alloc, draws, at_hand.as_slice())?;
     let mut found = Found::Never;
     for scan in 0..scans {
         course.draw_scan(draws, one_in);
@@ -93,10 +108,10 @@ fn make_scans(
             course.make_scan(&[])
         };
         let Some(outcome) = made else {
-            return Err(Stop::Differs(scan, "a scan was not closed"));
+            return Err(Stop::Differs(scan, "a scan that is not closed"));
         };
         counts.add_scan(outcome.verdict);
-        if let Some(why) = wrong(outcome, plan.site, scan >= struck) {
+        if let Some(why) = wrong(outcome, plan.site.channel, scan >= struck) {
             return Err(Stop::Differs(scan, why));
         }
         if let Verdict::Tripped(_) = outcome.verdict {
@@ -127,7 +142,7 @@ fn make_trials(
         let plan = Plan::draw(draws, course.sizes(), turns);
         make_scans(alloc, draws, &mut course, plan, codes, counts)?;
         if !course.restart() {
-            return Err(Stop::Differs(0, "a scan was not closed"));
+            return Err(Stop::Differs(0, "a scan that is not closed"));
         }
     }
     Ok(())

@@ -1,5 +1,5 @@
 use Rattle.std.proofs.Common.{◌≡◌, length}
-use Rattle.ps_campaign.proofs.course.draw_inputs.Given as goal
+use Rattle.ps_campaign.proofs.scans.draw_inputs.Given as goal
 
 -- there are as many inputs as before
 abbrev pub invariant-loop-i : goal.invariant-loop-i

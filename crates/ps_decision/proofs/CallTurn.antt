@@ -17,6 +17,7 @@ use Rattle.ps_machine.proofs.Instances.{bytes_at, block_is}
 use Rattle.ps_machine.proofs.KindsByNumber.{kind_of-number}
 use Rattle.ps_machine.proofs.Places.{length-replaced, index_before, index_within, index_after}
 use Rattle.ps_stackvm.specs.Calling.{pins_in}
+use Rattle.ps_decision.specs.declared.layout.TheConstants.{PINS_AT, SIGNALS_AT}
 use Rattle.ps_decision.specs.declared.row.Row.TheVariants.{Call}
 use Rattle.ps_decision.specs.Cells.{scan_time, pin_bytes, block_bytes, with_offset}
 use Rattle.ps_decision.specs.Calling.{stepped_to, called_with, called_by, after_call}
@@ -30,12 +31,12 @@ pins_are_held n now blocks cells at pins v h =
     let c = length pins in
     let size = h.sized in
     let few = h.few_pins in
-    let ld = length-drop 9 cells in
-    let lt = length-take-le c (drop 9 cells) (omega arith) in
-    same_lists (take c (drop 9 cells)) (map bit pins) (lt ∙ sym (length-map pins bit)) (λ k d in'.
+    let ld = length-drop PINS_AT cells in
+    let lt = length-take-le c (drop PINS_AT cells) (omega arith) in
+    same_lists (take c (drop PINS_AT cells)) (map bit pins) (lt ∙ sym (length-map pins bit)) (λ k d in'.
     let low : k < c = omega arith in
     let low' : k < length (map bit pins) = omega (arith, length-map pins bit) in
-    get_or_default (take c (drop 9 cells)) k d 0 in' ∙ get_or-take c (drop 9 cells) k 0 low ∙ get_or-drop 9 cells k 0
+    get_or_default (take c (drop PINS_AT cells)) k d 0 in' ∙ get_or-take c (drop PINS_AT cells) k 0 low ∙ get_or-drop PINS_AT cells k 0
     ∙ h.pinned k low ∙ sym (get_or-map bit pins k false 0 low) ∙ sym (get_or_default (map bit pins) k d 0 low'))
 
 none_odd : (pins : List Bool) → list_any is_no_bit (map bit pins) ≡ false
@@ -58,7 +59,7 @@ call_goes n m i o limit next now kind blocks cells at pins v kept h within room 
     let e1 = lt-leb m i within in
     let e2 : nat_lt n (o + output_count kind) ≡ false = lt-leb (suc n) (o + output_count kind) (omega arith) in
     let top : pin_bytes (boolean_count kind) cells ≡ map bit pins = ap (λ c. pin_bytes c cells) (sym many) ∙ pins_are_held n now blocks cells at pins v h in
-    let found : loaded kind (block_bytes n i cells) ≡ Some kept = ap (loaded kind) (block_is (22 + n) i cells blocks h.rest) ∙ there in
+    let found : loaded kind (block_bytes n i cells) ≡ Some kept = ap (loaded kind) (block_is (SIGNALS_AT + n) i cells blocks h.rest) ∙ there in
     let odd : list_any is_no_bit (pin_bytes (boolean_count kind) cells) ≡ false = ap (list_any is_no_bit) top ∙ none_odd pins in
     let pins_are : pins_in (pin_bytes (boolean_count kind) cells) ≡ (λ j. slice_index_or pins j false) = ap pins_in top ∙ (λ x j. pin_is pins j x) in
     cond-false (nat_le m i) _ _ e1
@@ -70,90 +71,90 @@ call_goes n m i o limit next now kind blocks cells at pins v kept h within room 
     ∙ ap (λ t. stepped_to n i o next kind (stepped_at kind limit (λ j. slice_index_or pins j false) t kept) cells) h.time
 
 -- the numbers that a CALL's writes leave where they are: the sixteen bytes, and the outputs
-module _ (n i o next : ℕ) (st os cells : List ℕ) (size : length st ≡ 16) (room : 22 + n + 16 * i + 16 ≤ length cells) (fit : o + length os ≤ n) where
+module _ (n i o next : ℕ) (st os cells : List ℕ) (size : length st ≡ 16) (room : SIGNALS_AT + n + 16 * i + 16 ≤ length cells) (fit : o + length os ≤ n) where
   c1 : List ℕ
-  c1 = replaced cells (22 + n + 16 * i) st
+  c1 = replaced cells (SIGNALS_AT + n + 16 * i) st
 
   c2 : List ℕ
-  c2 = replaced c1 (22 + o) os
+  c2 = replaced c1 (SIGNALS_AT + o) os
 
   l1 : length c1 ≡ length cells
   unfolding c1
-  l1 = length-replaced cells (22 + n + 16 * i) st (omega arith)
+  l1 = length-replaced cells (SIGNALS_AT + n + 16 * i) st (omega arith)
 
   l2 : length c2 ≡ length cells
   unfolding c2
-  l2 = length-replaced c1 (22 + o) os (omega (arith, l1)) ∙ l1
+  l2 = length-replaced c1 (SIGNALS_AT + o) os (omega (arith, l1)) ∙ l1
 
   l3 : length (with_offset next c2) ≡ length cells
   l3 = length-with_offset next c2 (omega (arith, l2)) ∙ l2
 
-  called_is : with_offset next (replaced (replaced cells (22 + n + 16 * i) st) (22 + o) os) ≡ with_offset next c2
+  called_is : with_offset next (replaced (replaced cells (SIGNALS_AT + n + 16 * i) st) (SIGNALS_AT + o) os) ≡ with_offset next c2
   unfolding c1 c2
   called_is = refl
 
   -- below the signals nothing but the offset changes
-  low_same : (k : ℕ) → 4 ≤ k → k < 22 → slice_index (with_offset next c2) k ≡ slice_index cells k
+  low_same : (k : ℕ) → 4 ≤ k → k < SIGNALS_AT → slice_index (with_offset next c2) k ≡ slice_index cells k
   unfolding c1 c2
   low_same k from to =
       index-with_offset next c2 k from
-      ∙ index_before c1 (22 + o) os k (omega arith) (omega (arith, l1))
-      ∙ index_before cells (22 + n + 16 * i) st k (omega arith) (omega arith)
+      ∙ index_before c1 (SIGNALS_AT + o) os k (omega arith) (omega (arith, l1))
+      ∙ index_before cells (SIGNALS_AT + n + 16 * i) st k (omega arith) (omega arith)
 
   -- the outputs
-  out_is : (j : ℕ) → j < length os → slice_index (with_offset next c2) (22 + (o + j)) ≡ slice_index os j
+  out_is : (j : ℕ) → j < length os → slice_index (with_offset next c2) (SIGNALS_AT + (o + j)) ≡ slice_index os j
   unfolding c2
   out_is j low =
-      let e : 22 + (o + j) ≡ 22 + o + j = omega arith in
-      index-with_offset next c2 (22 + (o + j)) (omega arith)
+      let e : SIGNALS_AT + (o + j) ≡ SIGNALS_AT + o + j = omega arith in
+      index-with_offset next c2 (SIGNALS_AT + (o + j)) (omega arith)
       ∙ ap (slice_index c2) e
-      ∙ index_within c1 (22 + o) os j low (omega (arith, l1))
+      ∙ index_within c1 (SIGNALS_AT + o) os j low (omega (arith, l1))
 
   -- every other signal
-  signal_same : (k : ℕ) → k < n → ((k < o) ⊎ (o + length os ≤ k)) → slice_index (with_offset next c2) (22 + k) ≡ slice_index cells (22 + k)
+  signal_same : (k : ℕ) → k < n → ((k < o) ⊎ (o + length os ≤ k)) → slice_index (with_offset next c2) (SIGNALS_AT + k) ≡ slice_index cells (SIGNALS_AT + k)
   unfolding c1 c2
   signal_same k low side =
-      index-with_offset next c2 (22 + k) (omega arith)
+      index-with_offset next c2 (SIGNALS_AT + k) (omega arith)
       ∙ elim side [
-        | inl before ↦ index_before c1 (22 + o) os (22 + k) (omega arith) (omega (arith, l1))
-        | inr past ↦ index_after c1 (22 + o) os (22 + k) (omega arith) (omega (arith, l1))
+        | inl before ↦ index_before c1 (SIGNALS_AT + o) os (SIGNALS_AT + k) (omega arith) (omega (arith, l1))
+        | inr past ↦ index_after c1 (SIGNALS_AT + o) os (SIGNALS_AT + k) (omega arith) (omega (arith, l1))
       ]
-      ∙ index_before cells (22 + n + 16 * i) st (22 + k) (omega arith) (omega arith)
+      ∙ index_before cells (SIGNALS_AT + n + 16 * i) st (SIGNALS_AT + k) (omega arith) (omega arith)
 
   -- the instances' bytes
-  rest_is : drop (22 + n) (with_offset next c2) ≡ replaced (drop (22 + n) cells) (16 * i) st
+  rest_is : drop (SIGNALS_AT + n) (with_offset next c2) ≡ replaced (drop (SIGNALS_AT + n) cells) (16 * i) st
   unfolding c1 c2
   rest_is =
-      let blocks = drop (22 + n) cells in
-      let place = 22 + n + 16 * i in
-      let lb = length-drop (22 + n) cells in
-      let ln = length-drop (22 + n) (with_offset next c2) in
+      let blocks = drop (SIGNALS_AT + n) cells in
+      let place = SIGNALS_AT + n + 16 * i in
+      let lb = length-drop (SIGNALS_AT + n) cells in
+      let ln = length-drop (SIGNALS_AT + n) (with_offset next c2) in
       let lr = length-replaced blocks (16 * i) st (omega arith) in
-      let len : length (drop (22 + n) (with_offset next c2)) ≡ length (replaced blocks (16 * i) st) = omega (arith, l3) in
-      same_lists (drop (22 + n) (with_offset next c2)) (replaced blocks (16 * i) st) len (λ k d low.
+      let len : length (drop (SIGNALS_AT + n) (with_offset next c2)) ≡ length (replaced blocks (16 * i) st) = omega (arith, l3) in
+      same_lists (drop (SIGNALS_AT + n) (with_offset next c2)) (replaced blocks (16 * i) st) len (λ k d low.
       let low' : k < length (replaced blocks (16 * i) st) = omega arith in
-      let there = get_or-drop (22 + n) (with_offset next c2) k 0 in
-      let on = index-with_offset next c2 (22 + n + k) (omega arith) ∙ index_after c1 (22 + o) os (22 + n + k) (omega arith) (omega (arith, l1)) in
-      let from = get_or_default (drop (22 + n) (with_offset next c2)) k d 0 low in
+      let there = get_or-drop (SIGNALS_AT + n) (with_offset next c2) k 0 in
+      let on = index-with_offset next c2 (SIGNALS_AT + n + k) (omega arith) ∙ index_after c1 (SIGNALS_AT + o) os (SIGNALS_AT + n + k) (omega arith) (omega (arith, l1)) in
+      let from = get_or_default (drop (SIGNALS_AT + n) (with_offset next c2)) k d 0 low in
       let to = get_or_default (replaced blocks (16 * i) st) k 0 d low' in
-      let mid : slice_index c1 (22 + n + k) ≡ slice_index (replaced blocks (16 * i) st) k =
+      let mid : slice_index c1 (SIGNALS_AT + n + k) ≡ slice_index (replaced blocks (16 * i) st) k =
       elim (cases_lt k (16 * i)) [
         | inl before ↦
-            index_before cells place st (22 + n + k) (omega arith) (omega arith)
-            ∙ sym (get_or-drop (22 + n) cells k 0)
+            index_before cells place st (SIGNALS_AT + n + k) (omega arith) (omega arith)
+            ∙ sym (get_or-drop (SIGNALS_AT + n) cells k 0)
             ∙ sym (index_before blocks (16 * i) st k before (omega arith))
         | inr past ↦ elim (cases_lt k (16 * i + 16)) [
           | inl within ↦
               let j = k - 16 * i in
-              let e1 : 22 + n + k ≡ place + j = omega arith in
+              let e1 : SIGNALS_AT + n + k ≡ place + j = omega arith in
               let e2 : 16 * i + j ≡ k = omega arith in
               ap (slice_index c1) e1
               ∙ index_within cells place st j (omega arith) (omega arith)
               ∙ sym (index_within blocks (16 * i) st j (omega arith) (omega arith))
               ∙ ap (slice_index (replaced blocks (16 * i) st)) e2
           | inr after ↦
-              index_after cells place st (22 + n + k) (omega arith) (omega arith)
-              ∙ sym (get_or-drop (22 + n) cells k 0)
+              index_after cells place st (SIGNALS_AT + n + k) (omega arith) (omega arith)
+              ∙ sym (get_or-drop (SIGNALS_AT + n) cells k 0)
               ∙ sym (index_after blocks (16 * i) st k (omega arith) (omega arith))
         ]
       ] in
@@ -161,12 +162,12 @@ module _ (n i o next : ℕ) (st os cells : List ℕ) (size : length st ≡ 16) (
 
 call_holds : (n now i o next wide : ℕ) (blocks cells : List ℕ) (at : ℕ) (pins os : List Bool) (v : ℕ → Bool) (st : List ℕ) →
     Holds n now blocks cells at pins v → next < 2 ^ 32 → length os ≡ wide → o + wide ≤ n → 16 * i + 16 ≤ length blocks → length st ≡ 16 →
-    Holds n now (replaced blocks (16 * i) st) (with_offset next (replaced (replaced cells (22 + n + 16 * i) st) (22 + o) (map bit os))) next []
+    Holds n now (replaced blocks (16 * i) st) (with_offset next (replaced (replaced cells (SIGNALS_AT + n + 16 * i) st) (SIGNALS_AT + o) (map bit os))) next []
     (called_signals o wide os v)
 call_holds n now i o next wide blocks cells at pins os v st h small shown room inside size =
     let lr = ap length h.rest in
-    let ld = length-drop (22 + n) cells in
-    let fits : 22 + n + 16 * i + 16 ≤ length cells = omega (arith, h.sized) in
+    let ld = length-drop (SIGNALS_AT + n) cells in
+    let fits : SIGNALS_AT + n + 16 * i + 16 ≤ length cells = omega (arith, h.sized) in
     let ob = map bit os in
     let lo : length ob ≡ length os = length-map os bit in
     let room' : o + length ob ≤ n = omega arith in
@@ -186,7 +187,7 @@ call_holds n now i o next wide blocks cells at pins os v st h small shown room i
               let j = k - o in
               let e : o + j ≡ k = omega arith in
               let here : j < length os = omega arith in
-              ap (λ p. slice_index final (22 + p)) (sym e)
+              ap (λ p. slice_index final (SIGNALS_AT + p)) (sym e)
               ∙ out_is n i o next st ob cells size fits room' j (omega arith)
               ∙ get_or-map bit os j false 0 here
               ∙ ap bit (sym (signal_inside o wide os v k from within))

@@ -21,6 +21,7 @@ use Rattle.ps_machine.specs.Bytes.{bit}
 use Rattle.ps_machine.proofs.Fine.{IsFinePin}
 use Rattle.ps_machine.proofs.Fitting.{StepFits, AllFit}
 use Rattle.ps_machine.proofs.PastPins.{few_pins}
+use Rattle.ps_decision.specs.declared.layout.TheConstants.{PIN_CELLS, FIRST_PIN}
 use Rattle.ps_decision.specs.declared.row.Row.TheVariants.{Set, Call, End}
 use Rattle.ps_decision.specs.Budget.{decisions, decisions_below, count_at_pin, count_of_step, turns_c}
 use Rattle.ps_decision.specs.Code.{size_all, behind_value, if_last, value_rows, all_rows, any_rows, assigned_rows, pin_rows, rows_at_pin, in_order, pins_rows, step_rows, network_rows, code_c}
@@ -111,7 +112,7 @@ pins_are kind args (suc n) j at low =
     omega (
       arith,
       length-append here (in_order (rows_at_pin kind args) (range_with_len (j + 1) n) next),
-      pin_are (61440 + j) (pin_at kind j).free a at,
+      pin_are (FIRST_PIN + j) (pin_at kind j).free a at,
       pins_are kind args n (j + 1) next (omega arith),
       ap (sum_by count_at_pin) rest ∙ sum_by-cons count_at_pin a (take n (drop (j + 1) args)),
     )
@@ -236,7 +237,7 @@ module _ (n : ℕ) (few : n ≤ 4000) where
   pin_short target default (time t) at low is room = ((low, lit< tt, omega arith), tt)
   pin_short target default (wired e) at low is room = assigned_short target e at low is.below room
 
-  pins_short : (kind : Kind) (args : List Actual) (count j at : ℕ) → j + count ≤ 13 → ((k : ℕ) → IsFinePin n (slice_index_or args k free)) →
+  pins_short : (kind : Kind) (args : List Actual) (count j at : ℕ) → j + count ≤ PIN_CELLS → ((k : ℕ) → IsFinePin n (slice_index_or args k free)) →
       at + 11 * length (in_order (rows_at_pin kind args) (range_with_len j count) at) < 2 ^ 32 → AreShort (in_order (rows_at_pin kind args) (range_with_len j count) at)
   pins_short kind args zero j at low is room = tt
   pins_short kind args (suc count) j at low is room =
@@ -246,8 +247,8 @@ module _ (n : ℕ) (few : n ≤ 4000) where
       let a = slice_index_or args j free in
       let long = length-append here rest in
       let most = sizes_at_most here in
-      let same = pin_are (61440 + j) (pin_at kind j).free a at in
-      short-append here rest (pin_short (61440 + j) (pin_at kind j).free a at (omega arith) (is j) (omega arith))
+      let same = pin_are (FIRST_PIN + j) (pin_at kind j).free a at in
+      short-append here rest (pin_short (FIRST_PIN + j) (pin_at kind j).free a at (omega arith) (is j) (omega arith))
       (pins_short kind args count (j + 1) next (omega arith) is (omega arith))
 
 module _ (net : Network) (few : signal_count net ≤ 4000) (instances : instance_count net ≤ 400) where

@@ -12,6 +12,7 @@ use Rattle.ps_machine.specs.Bytes.{bit}
 use Rattle.ps_machine.specs.Machines.{turned}
 use Rattle.ps_machine.proofs.Fine.{IsFinePin}
 use Rattle.ps_machine.proofs.Phases.{turned_add}
+use Rattle.ps_decision.specs.declared.layout.TheConstants.{PIN_CELLS, FIRST_PIN}
 use Rattle.ps_decision.specs.declared.row.Row.{Row}
 use Rattle.ps_decision.specs.declared.row.Row.TheVariants.{Set}
 use Rattle.ps_decision.specs.Budget.{decisions, decisions_below}
@@ -162,26 +163,26 @@ module _ (n m : ℕ) (few : n ≤ 4000) (now : ℕ) (blocks code : List ℕ) whe
         let end : set + 16 ≡ at + size_all (rows ++ two) = omega arith in
         leads_as n m now code blocks cells (decisions e + 1) (length (rows ++ two)) (set + 16) (at + size_all (rows ++ two)) (pins' (value v e)) (pins' (value v e)) (v' (value v e)) (omega arith) end refl y
 
-    pin_sets : (j : ℕ) → length pins ≡ j → j < 13 → Sets (61440 + j) (λ b. pins ++ b ∷ []) (λ b. v)
+    pin_sets : (j : ℕ) → length pins ≡ j → j < PIN_CELLS → Sets (FIRST_PIN + j) (λ b. pins ++ b ∷ []) (λ b. v)
     pin_sets j many low b cells at next has h = pin_turn n m few now blocks code cells at j next pins v b has h many low
 
-    literal_leads : (j : ℕ) → length pins ≡ j → j < 13 → (b : Bool) (cells : List ℕ) (at : ℕ) → HasAt code at (Set (61440 + j) (bit b) (at + 8) ∷ []) → Holds n now blocks cells at pins v →
+    literal_leads : (j : ℕ) → length pins ≡ j → j < PIN_CELLS → (b : Bool) (cells : List ℕ) (at : ℕ) → HasAt code at (Set (FIRST_PIN + j) (bit b) (at + 8) ∷ []) → Holds n now blocks cells at pins v →
         Leads n m now code blocks cells 1 (at + 8) (pins ++ b ∷ []) v
     literal_leads j many low b cells at has h =
         one_turn n m now code blocks blocks cells at (at + 8) pins (pins ++ b ∷ []) v v h (pin_sets j many low b cells at (at + 8) has.0 h)
 
     -- the rows of a pin: its value in its pin cell, and nothing else changed
-    pin_leads : (j : ℕ) → length pins ≡ j → j < 13 → (default : Bool) (a : Actual) (cells : List ℕ) (at : ℕ) → IsFinePin n a → HasAt code at (pin_rows (61440 + j) default a at) →
+    pin_leads : (j : ℕ) → length pins ≡ j → j < PIN_CELLS → (default : Bool) (a : Actual) (cells : List ℕ) (at : ℕ) → IsFinePin n a → HasAt code at (pin_rows (FIRST_PIN + j) default a at) →
         Holds n now blocks cells at pins v →
-        Leads n m now code blocks cells (length (pin_rows (61440 + j) default a at)) (at + size_all (pin_rows (61440 + j) default a at)) (pins ++ pin_value v default a ∷ []) v
+        Leads n m now code blocks cells (length (pin_rows (FIRST_PIN + j) default a at)) (at + size_all (pin_rows (FIRST_PIN + j) default a at)) (pins ++ pin_value v default a ∷ []) v
     pin_leads j many low default free cells at is has h = literal_leads j many low default cells at has h
     pin_leads j many low default (literal b) cells at is has h = literal_leads j many low b cells at has h
     pin_leads j many low default (time t) cells at is has h = literal_leads j many low false cells at has h
     pin_leads j many low default (wired e) cells at is has h =
-        assigned_leads (61440 + j) (λ b. pins ++ b ∷ []) (λ b. v) (pin_sets j many low) e cells at is.below is.full has h
+        assigned_leads (FIRST_PIN + j) (λ b. pins ++ b ∷ []) (λ b. v) (pin_sets j many low) e cells at is.below is.full has h
 
   -- the rows of all pins: their values in the pin cells, in order
-  pub pins_lead : (v : ℕ → Bool) (kind : Kind) (args : List Actual) (count j : ℕ) (cells : List ℕ) (at : ℕ) (pins : List Bool) → length pins ≡ j → j + count ≤ 13 →
+  pub pins_lead : (v : ℕ → Bool) (kind : Kind) (args : List Actual) (count j : ℕ) (cells : List ℕ) (at : ℕ) (pins : List Bool) → length pins ≡ j → j + count ≤ PIN_CELLS →
       ((k : ℕ) → IsFinePin n (slice_index_or args k free)) → HasAt code at (in_order (rows_at_pin kind args) (range_with_len j count) at) → Holds n now blocks cells at pins v →
       Leads n m now code blocks cells (length (in_order (rows_at_pin kind args) (range_with_len j count) at)) (at + size_all (in_order (rows_at_pin kind args) (range_with_len j count) at))
       (pins ++ map (pins_under v kind args) (range_with_len j count)) v

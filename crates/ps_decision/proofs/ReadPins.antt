@@ -11,6 +11,7 @@ use Rattle.ps_machine.specs.Bytes.{is_no_bit}
 use Rattle.ps_model.specs.PinBits.{pin_of}
 use Rattle.ps_stackvm.specs.Calling.{pins_in}
 use Rattle.ps_stackvm.proofs.Gathering.{bits_of, bit_of}
+use Rattle.ps_decision.specs.declared.layout.TheConstants.{PINS_AT, PIN_CELLS, SIGNALS_AT}
 use Rattle.ps_decision.specs.Cells.{pin_bytes}
 
 -- the last k of these bytes were read: each is 0 or 1, and these are their bits
@@ -20,11 +21,11 @@ pub record WasRead (xs : List ℕ) (k bits : ℕ) : Type 0 where
   pub few : bits < 2 ^ k
 
 -- the pin cells that a kind with so many pins reads
-pub pin_count : (n : ℕ) (cells : List ℕ) → n ≤ 13 → 22 ≤ length cells → length (pin_bytes n cells) ≡ n
-pin_count n cells few room = length-take-le n (drop 9 cells) (omega (arith, length-drop 9 cells))
+pub pin_count : (n : ℕ) (cells : List ℕ) → n ≤ PIN_CELLS → SIGNALS_AT ≤ length cells → length (pin_bytes n cells) ≡ n
+pin_count n cells few room = length-take-le n (drop PINS_AT cells) (omega (arith, length-drop PINS_AT cells))
 
-pub pin_byte : (n j : ℕ) (cells : List ℕ) → j < n → get_or (pin_bytes n cells) j 0 ≡ slice_index cells (9 + j)
-pin_byte n j cells low = get_or-take n (drop 9 cells) j 0 low ∙ get_or-drop 9 cells j 0
+pub pin_byte : (n j : ℕ) (cells : List ℕ) → j < n → get_or (pin_bytes n cells) j 0 ≡ slice_index cells (PINS_AT + j)
+pin_byte n j cells low = get_or-take n (drop PINS_AT cells) j 0 low ∙ get_or-drop PINS_AT cells j 0
 
 drop_end : (xs : List ℕ) → drop (length xs) xs ≡ []
 drop_end [] = refl
@@ -53,8 +54,8 @@ read_more xs k bits byte inside is low r =
 pub odd_read : (xs : List ℕ) (k byte : ℕ) → k < length xs → byte ≡ get_or xs (length xs - 1 - k) 0 → 1 < byte → list_any is_no_bit xs ≡ true
 odd_read xs k byte inside is high = list_any_at is_no_bit xs (length xs - 1 - k) 0 (omega arith) (lt-ltb 1 (get_or xs (length xs - 1 - k) 0) (omega arith))
 
-pub few_bits : (k bits : ℕ) → k < 13 → bits < 2 ^ k → bits < 8192
-few_bits k bits low few = omega (arith, pow_below k 13 low)
+pub few_bits : (k bits : ℕ) → k < PIN_CELLS → bits < 2 ^ k → bits < 8192
+few_bits k bits low few = omega (arith, pow_below k PIN_CELLS low)
 
 -- all were read
 pub all_read : (xs : List ℕ) (k bits : ℕ) → k ≡ length xs → WasRead xs k bits → (list_any is_no_bit xs ≡ false) × ((j : ℕ) → pin_of bits j ≡ pins_in xs j)
@@ -67,7 +68,7 @@ all_read xs k bits end r =
     )
 
 -- the byte that is read next
-pub next_byte : (n k : ℕ) (cells : List ℕ) → n ≤ 13 → 22 ≤ length cells → k < n → slice_index cells (9 + (n - 1 - k)) ≡ get_or (pin_bytes n cells) (length (pin_bytes n cells) - 1 - k) 0
+pub next_byte : (n k : ℕ) (cells : List ℕ) → n ≤ PIN_CELLS → SIGNALS_AT ≤ length cells → k < n → slice_index cells (PINS_AT + (n - 1 - k)) ≡ get_or (pin_bytes n cells) (length (pin_bytes n cells) - 1 - k) 0
 next_byte n k cells few room low =
     let many = pin_count n cells few room in
     sym (ap (λ l. get_or (pin_bytes n cells) (l - 1 - k) 0) many ∙ pin_byte n (n - 1 - k) cells (omega arith))

@@ -21,7 +21,7 @@ use Rattle.ps_machine.specs.Bytes.{bit, replaced}
 use Rattle.ps_machine.specs.Keeping.{Passes, Keeps}
 use Rattle.ps_machine.specs.Machines.{turned}
 use Rattle.ps_machine.specs.Progressing.{progress_said}
-use Rattle.ps_machine.specs.Standing.{StandsBlock}
+use Rattle.ps_machine.specs.Standing.{LoadsTo}
 use Rattle.ps_machine.proofs.Blank.{zeros, blank_stands}
 use Rattle.ps_machine.proofs.CalledOnce.{Timely, called_once}
 use Rattle.ps_machine.proofs.Fitting.{all_fit}
@@ -30,6 +30,7 @@ use Rattle.ps_machine.proofs.Phases.{turned_add}
 use Rattle.ps_machine.proofs.Places.{length-replaced, index_before, index_within, index_after}
 use Rattle.ps_machine.proofs.Reports.{holds_its_report}
 use Rattle.ps_machine.proofs.Scans.{begun_input, begun_other, ends}
+use Rattle.ps_decision.specs.declared.layout.TheConstants.{SIGNALS_AT}
 use Rattle.ps_decision.specs.declared.row.Row.TheVariants.{End}
 use Rattle.ps_decision.specs.Budget.{turns_c}
 use Rattle.ps_decision.specs.Cells.{offset_of, progress_of, scan_time, with_progress}
@@ -44,7 +45,7 @@ use Rattle.ps_decision.proofs.Holding.{Holds, turn_is, drop_ext}
 use Rattle.ps_decision.proofs.Stepping.{clock, BlocksStand, steps_led}
 
 -- Begin's three writes
-module _ (n now : ℕ) (ins : List Bool) (cells : List ℕ) (few : length ins ≤ n) (room : 22 + n ≤ length cells) where
+module _ (n now : ℕ) (ins : List Bool) (cells : List ℕ) (few : length ins ≤ n) (room : SIGNALS_AT + n ≤ length cells) where
   b1 : List ℕ
   b1 = replaced cells 0 (zeros 5)
 
@@ -64,13 +65,13 @@ module _ (n now : ℕ) (ins : List Bool) (cells : List ℕ) (few : length ins �
 
   l3 : length (begin_c now ins cells) ≡ length cells
   unfolding b1 b2
-  l3 = length-replaced b2 22 (map bit ins) (omega (arith, l2, len)) ∙ l2
+  l3 = length-replaced b2 SIGNALS_AT (map bit ins) (omega (arith, l2, len)) ∙ l2
 
   head : (k : ℕ) → k < 5 → slice_index (begin_c now ins cells) k ≡ 0
   unfolding b1 b2
   head k h =
       let e : 0 + k ≡ k = zero-add k in
-      index_before b2 22 (map bit ins) k (omega arith) (omega (arith, l2))
+      index_before b2 SIGNALS_AT (map bit ins) k (omega arith) (omega (arith, l2))
       ∙ index_before b1 5 (to_be_bytes w32 now) k h (omega (arith, l1))
       ∙ ap (slice_index b1) (sym e) ∙ index_within cells 0 (zeros 5) k h (omega arith)
       ∙ get_or-replicate 5 k 0 0 h
@@ -78,17 +79,17 @@ module _ (n now : ℕ) (ins : List Bool) (cells : List ℕ) (few : length ins �
   clock_byte : (j : ℕ) → j < 4 → slice_index (begin_c now ins cells) (5 + j) ≡ slice_index (to_be_bytes w32 now) j
   unfolding b1 b2
   clock_byte j h =
-      index_before b2 22 (map bit ins) (5 + j) (omega arith) (omega (arith, l2))
+      index_before b2 SIGNALS_AT (map bit ins) (5 + j) (omega arith) (omega (arith, l2))
       ∙ index_within b1 5 (to_be_bytes w32 now) j h (omega (arith, l1))
 
-  input : (s : ℕ) → s < length ins → slice_index (begin_c now ins cells) (22 + s) ≡ bit (slice_index_or ins s false)
+  input : (s : ℕ) → s < length ins → slice_index (begin_c now ins cells) (SIGNALS_AT + s) ≡ bit (slice_index_or ins s false)
   unfolding b1 b2
-  input s h = index_within b2 22 (map bit ins) s (omega (arith, len)) (omega (arith, l2)) ∙ get_or-map bit ins s false 0 h
+  input s h = index_within b2 SIGNALS_AT (map bit ins) s (omega (arith, len)) (omega (arith, l2)) ∙ get_or-map bit ins s false 0 h
 
-  beyond : (k : ℕ) → 22 + length ins ≤ k → slice_index (begin_c now ins cells) k ≡ slice_index cells k
+  beyond : (k : ℕ) → SIGNALS_AT + length ins ≤ k → slice_index (begin_c now ins cells) k ≡ slice_index cells k
   unfolding b1 b2
   beyond k h =
-      index_after b2 22 (map bit ins) k (omega (arith, len)) (omega (arith, l2))
+      index_after b2 SIGNALS_AT (map bit ins) k (omega (arith, len)) (omega (arith, l2))
       ∙ index_after b1 5 (to_be_bytes w32 now) k (omega arith) (omega (arith, l1))
       ∙ index_after cells 0 (zeros 5) k (omega arith) (omega arith)
 
@@ -104,12 +105,12 @@ module _ (n now : ℕ) (ins : List Bool) (cells : List ℕ) (few : length ins �
 
 module _ (net : Network) (sound : IsSound net) where
   begins : (old : State) (ins : List Bool) (t now : ℕ) (cells : List ℕ) → length ins ≡ input_count net → now < 2 ^ 32 → StandsC net old t cells →
-      Holds (signal_count net) now (drop (22 + signal_count net) cells) (begin_c now ins cells) 0 [] (begun net old ins).signals
+      Holds (signal_count net) now (drop (SIGNALS_AT + signal_count net) cells) (begin_c now ins cells) 0 [] (begun net old ins).signals
   begins old ins t now cells count small stands =
       let n = signal_count net in
       let size = stands.sized in
       let few : length ins ≤ n = omega arith in
-      let room : 22 + n ≤ length cells = omega arith in
+      let room : SIGNALS_AT + n ≤ length cells = omega arith in
       record {
         sized = omega (arith, l3 n now ins cells few room);
         there = offset_zero n now ins cells few room;
@@ -122,22 +123,22 @@ module _ (net : Network) (sound : IsSound net) where
               input n now ins cells few room s (omega arith)
               ∙ ap bit (sym (begun_input net old ins s low))
           | inr high ↦
-              beyond n now ins cells few room (22 + s) (omega arith) ∙ stands.signals s l
+              beyond n now ins cells few room (SIGNALS_AT + s) (omega arith) ∙ stands.signals s l
               ∙ ap bit (sym (begun_other net old ins s high))
         ];
-        rest = drop_ext (22 + n) (begin_c now ins cells) cells (l3 n now ins cells few room) (λ j from. beyond n now ins cells few room j (omega arith));
+        rest = drop_ext (SIGNALS_AT + n) (begin_c now ins cells) cells (l3 n now ins cells few room) (λ j from. beyond n now ins cells few room j (omega arith));
       }
 
   -- each instance is still to be called
-  begins_blocks : (old : State) (t now : ℕ) (cells : List ℕ) → StandsC net old t cells → BlocksStand net t now net.steps (drop (22 + signal_count net) cells) (block_in old)
+  begins_blocks : (old : State) (t now : ℕ) (cells : List ℕ) → StandsC net old t cells → BlocksStand net t now net.steps (drop (SIGNALS_AT + signal_count net) cells) (block_in old)
   begins_blocks old t now cells stands = record {
-    size = omega (arith, length-drop (22 + signal_count net) cells, stands.sized);
+    size = omega (arith, length-drop (SIGNALS_AT + signal_count net) cells, stands.sized);
     each = λ i l.
-        let bytes = bytes_at i (drop (22 + signal_count net) cells) in
+        let bytes = bytes_at i (drop (SIGNALS_AT + signal_count net) cells) in
         let some : list_any (is_call_of net i) net.steps ≡ true = any_of_one (is_call_of net i) net.steps (sound.called_once i l) in
         let early : clock net t now net.steps i ≡ t = ap (λ b. cond b t now) some in
-        subst (λ c. StandsBlock (Since c) (kind_at net i) bytes (block_in old i)) (sym early)
-        (subst (λ b. StandsBlock (Since t) (kind_at net i) b (block_in old i)) (block_is (22 + signal_count net) i cells (drop (22 + signal_count net) cells) refl) (stands.blocks i l));
+        subst (λ c. LoadsTo (Since c) (kind_at net i) bytes (block_in old i)) (sym early)
+        (subst (λ b. LoadsTo (Since t) (kind_at net i) b (block_in old i)) (block_is (SIGNALS_AT + signal_count net) i cells (drop (SIGNALS_AT + signal_count net) cells) refl) (stands.blocks i l));
   }
 
   module _ (accepted : Accepted net) where
@@ -160,7 +161,7 @@ module _ (net : Network) (sound : IsSound net) where
         let m0 = begun net old ins in
         let has = has_written (network_rows net) [] (network_short net sound.few_signals sound.few_instances sound (all_fit net sound accepted)) (code_small net sound) in
         let timely : Timely net dt (now - t) net.steps m0 = λ i called on. passes i on in
-        let led = steps_led net sound.few_signals t now dt later small code net.steps m0 q 0 (drop (22 + n) cells) (all_fit net sound accepted) (called_once net sound) timely
+        let led = steps_led net sound.few_signals t now dt later small code net.steps m0 q 0 (drop (SIGNALS_AT + n) cells) (all_fit net sound accepted) (called_once net sound) timely
         (has_front code 0 rows (End ∷ []) has) (begins old ins t now cells count small stands) (begins_blocks old t now cells stands) in
         let x = led.comes in
         let cells1 = turned (turn_of n k code) x.turns q in
@@ -172,12 +173,12 @@ module _ (net : Network) (sound : IsSound net) where
         let bytes = led.stand.size in
         let f1 : length final ≡ length cells1 = length-set cells1 4 1 in
         let lr = ap length x.there.rest in
-        let ld = length-drop (22 + n) cells1 in
+        let ld = length-drop (SIGNALS_AT + n) cells1 in
         let last : turned (turn_of n k code) (x.turns + 1) q ≡ final =
         turned_add (turn_of n k code) x.turns 1 q ∙ turn_is n k code cells1 at1 End x.there.there back.0 in
         let p1 : progress_of final ≡ 1 = get_or-set_same cells1 4 1 0 (omega arith) in
-        let past : (j : ℕ) → 22 ≤ j → slice_index final j ≡ slice_index cells1 j = λ j from. get_or-set_other cells1 4 j 1 0 (λ p. omega arith) in
-        let rest : drop (22 + n) final ≡ led.blocks = drop_ext (22 + n) final cells1 f1 (λ j from. past j (omega arith)) ∙ x.there.rest in
+        let past : (j : ℕ) → SIGNALS_AT ≤ j → slice_index final j ≡ slice_index cells1 j = λ j from. get_or-set_other cells1 4 j 1 0 (λ p. omega arith) in
+        let rest : drop (SIGNALS_AT + n) final ≡ led.blocks = drop_ext (SIGNALS_AT + n) final cells1 f1 (λ j from. past j (omega arith)) ∙ x.there.rest in
         record {
           turns = x.turns + 1;
           within = omega (arith, length-append rows (End ∷ []));
@@ -191,11 +192,11 @@ module _ (net : Network) (sound : IsSound net) where
           stands = subst (StandsC net new now) (sym last) (record {
             sized = omega arith;
             undriven = solves.undriven;
-            signals = λ s l. past (22 + s) (omega arith) ∙ x.there.signals s l ∙ ap bit (ends net sound old new ins dt stands.undriven solves s l);
+            signals = λ s l. past (SIGNALS_AT + s) (omega arith) ∙ x.there.signals s l ∙ ap bit (ends net sound old new ins dt stands.undriven solves s l);
             blocks = λ i l.
-                let here : StandsBlock (Since now) (kind_at net i) (bytes_at i led.blocks) (block_in new i) =
-                subst (StandsBlock (Since now) (kind_at net i) (bytes_at i led.blocks)) (sym (other-block net sound old ins dt new solves i l)) (led.stand.each i l) in
-                subst (λ b. StandsBlock (Since now) (kind_at net i) b (block_in new i)) (sym (block_is (22 + n) i final led.blocks rest)) here;
+                let here : LoadsTo (Since now) (kind_at net i) (bytes_at i led.blocks) (block_in new i) =
+                subst (LoadsTo (Since now) (kind_at net i) (bytes_at i led.blocks)) (sym (other-block net sound old ins dt new solves i l)) (led.stand.each i l) in
+                subst (λ b. LoadsTo (Since now) (kind_at net i) b (block_in new i)) (sym (block_is (SIGNALS_AT + n) i final led.blocks rest)) here;
           });
         }
 
@@ -205,9 +206,9 @@ module _ (net : Network) (sound : IsSound net) where
         let k = instance_count net in
         let code = code_c net in
         let same : turn_of n k code ≡ turn_c z code = λ x cells. carried_out ((sym sizes.signals) x) ((sym sizes.instances) x) (fetched code (offset_of cells)) cells in
-        let blank_is : zeros (22 + n + 16 * k) ≡ blank_c z = λ x. replicate (22 + (sym sizes.signals) x + 16 * (sym sizes.instances) x) 0 in
+        let blank_is : zeros (SIGNALS_AT + n + 16 * k) ≡ blank_c z = λ x. replicate (SIGNALS_AT + (sym sizes.signals) x + 16 * (sym sizes.instances) x) 0 in
         record {
-          blank = subst (StandsC net (first_state net) 0) blank_is (blank_stands net (λ i. Since 0) 22);
+          blank = subst (StandsC net (first_state net) 0) blank_is (blank_stands net (λ i. Since 0) SIGNALS_AT);
           scan = λ old new ins t now dt cells later small count passes stands solves.
               let s = scanned old new ins t now dt cells later small count passes stands solves in
               let q = begin_c now ins cells in
@@ -220,7 +221,7 @@ module _ (net : Network) (sound : IsSound net) where
                   running = λ j l. ap progress_said (subst (λ f. progress_of (turned f j q) ≡ 0) same (s.running j l));
                   done = ap progress_said done;
                   stands = held;
-                  reports = holds_its_report net sound z sizes (λ i. Since now) old new ins dt 22 (turned (turn_c z code) s.turns q) solves held;
+                  reports = holds_its_report net sound z sizes (λ i. Since now) old new ins dt SIGNALS_AT (turned (turn_c z code) s.turns q) solves held;
                 };
               };
         }

@@ -21,13 +21,14 @@ use Rattle.ps_model.proofs.Sixteen.{loads_loaded, step_kept}
 use Rattle.ps_model.proofs.OutputLengths.{length-outs}
 use Rattle.ps_machine.specs.Bytes.{replaced}
 use Rattle.ps_machine.specs.Machines.{turned}
-use Rattle.ps_machine.specs.Standing.{StandsBlock}
+use Rattle.ps_machine.specs.Standing.{LoadsTo}
 use Rattle.ps_machine.proofs.CalledOnce.{Once, Timely, once_after, timely_after}
 use Rattle.ps_machine.proofs.CalledSignals.{called_signals}
 use Rattle.ps_machine.proofs.Fine.{IsFine}
 use Rattle.ps_machine.proofs.Fitting.{CallFits, StepFits, AllFit}
 use Rattle.ps_machine.proofs.Instances.{bytes_at, bytes_at_same, bytes_at_other}
 use Rattle.ps_machine.proofs.Places.{length-replaced}
+use Rattle.ps_decision.specs.declared.layout.TheConstants.{PIN_CELLS}
 use Rattle.ps_decision.specs.declared.row.Row.{Row}
 use Rattle.ps_decision.specs.declared.row.Row.TheVariants.{Call}
 use Rattle.ps_decision.specs.Code.{size_all, in_order, pins_rows, step_rows}
@@ -44,7 +45,7 @@ clock net t now rest i = cond (list_any (is_call_of net i) rest) t now
 -- the bytes of the instances, while these steps are left
 pub record BlocksStand (net : Network) (t now : ℕ) (rest : List Action) (blocks : List ℕ) (b : ℕ → Block_state) : Type 0 where
   pub size : length blocks ≡ 16 * instance_count net
-  pub each : (i : ℕ) → i < instance_count net → StandsBlock (Since (clock net t now rest i)) (kind_at net i) (bytes_at i blocks) (b i)
+  pub each : (i : ℕ) → i < instance_count net → LoadsTo (Since (clock net t now rest i)) (kind_at net i) (bytes_at i blocks) (b i)
 
 module _ (net : Network) (few : signal_count net ≤ 4000) (t now dt : ℕ) (later : t ≤ now) (small : now < 2 ^ 32) (code : List ℕ) where
   -- the code ran, and the cells hold this memory
@@ -95,7 +96,7 @@ module _ (net : Network) (few : signal_count net ≤ 4000) (t now dt : ℕ) (lat
       let m' = done net dt (calls i args) m in
       let list = map pins (range_with_len 0 count) in
       let many : length list ≡ count = length-map-range_with_len pins 0 count in
-      let some : count ≤ 13 = fits.few in
+      let some : count ≤ PIN_CELLS = fits.few in
       let x = pins_lead n k few now blocks code m.signals kind args count 0 cells at [] refl (omega arith) fits.pins (has_front code at cp (call ∷ []) has) h in
       let cells1 = turned (turn_of n k code) x.turns cells in
       let at1 = at + size_all cp in
@@ -105,7 +106,7 @@ module _ (net : Network) (few : signal_count net ≤ 4000) (t now dt : ℕ) (lat
       let space : 16 * i + 16 ≤ length blocks = omega arith in
       let here : is_call_of net i (calls i args) ≡ true = eq-eqb i i refl in
       let early : clock net t now (calls i args ∷ rest) i ≡ t = ap (λ b. cond (b || list_any (is_call_of net i) rest) t now) here in
-      let sb : StandsBlock (Since t) kind (bytes_at i blocks) (m.blocks i) = subst (λ c. StandsBlock (Since c) kind (bytes_at i blocks) (m.blocks i)) early (stand.each i within) in
+      let sb : LoadsTo (Since t) kind (bytes_at i blocks) (m.blocks i) = subst (λ c. LoadsTo (Since c) kind (bytes_at i blocks) (m.blocks i)) early (stand.each i within) in
       let kept : Kept = sb.kept in
       let k' : Kept = stepped_at kind limit pins now kept in
       let b' = moved kind limit pins dt (m.blocks i) in
@@ -135,22 +136,22 @@ module _ (net : Network) (few : signal_count net ≤ 4000) (t now dt : ℕ) (lat
             | inl same ↦
                 let over : list_any (is_call_of net i) rest ≡ false = none_after (is_call_of net i) (calls i args ∷ []) rest (once i) (ap (λ b. b || false) here) in
                 let at_now : clock net t now rest i ≡ now = ap (λ b. cond b t now) over in
-                let mine : StandsBlock (Since now) kind (bytes_at i blocks') b' = record {
+                let mine : LoadsTo (Since now) kind (bytes_at i blocks') b' = record {
                   kept = k';
                   loads = record { kept = held_kept; bytes_are = bytes_at_same blocks (stored k') i space refl };
                   stands = goes;
                 } in
-                let timed : StandsBlock (Since (clock net t now rest i)) kind (bytes_at i blocks') b' = subst (λ c. StandsBlock (Since c) kind (bytes_at i blocks') b') (sym at_now) mine in
-                let placed : StandsBlock (Since (clock net t now rest i)) kind (bytes_at i blocks') (m'.blocks i) =
-                subst (StandsBlock (Since (clock net t now rest i)) kind (bytes_at i blocks')) (sym (cond-true (i == i) b' (m.blocks i) here)) timed in
-                subst (λ q. StandsBlock (Since (clock net t now rest q)) (kind_at net q) (bytes_at q blocks') (m'.blocks q)) same placed
+                let timed : LoadsTo (Since (clock net t now rest i)) kind (bytes_at i blocks') b' = subst (λ c. LoadsTo (Since c) kind (bytes_at i blocks') b') (sym at_now) mine in
+                let placed : LoadsTo (Since (clock net t now rest i)) kind (bytes_at i blocks') (m'.blocks i) =
+                subst (LoadsTo (Since (clock net t now rest i)) kind (bytes_at i blocks')) (sym (cond-true (i == i) b' (m.blocks i) here)) timed in
+                subst (λ q. LoadsTo (Since (clock net t now rest q)) (kind_at net q) (bytes_at q blocks') (m'.blocks q)) same placed
             | inr other ↦
                 let off : (i == j) ≡ false = ne_eqb i j other in
                 let kept_clock : clock net t now (calls i args ∷ rest) j ≡ clock net t now rest j = ap (λ b. cond (b || list_any (is_call_of net j) rest) t now) off in
-                let was : StandsBlock (Since (clock net t now rest j)) (kind_at net j) (bytes_at j blocks) (m.blocks j) =
-                subst (λ c. StandsBlock (Since c) (kind_at net j) (bytes_at j blocks) (m.blocks j)) kept_clock (stand.each j low) in
-                subst (StandsBlock (Since (clock net t now rest j)) (kind_at net j) (bytes_at j blocks')) (sym (cond-false (i == j) b' (m.blocks j) off))
-                (subst (λ b. StandsBlock (Since (clock net t now rest j)) (kind_at net j) b (m.blocks j)) (sym (bytes_at_other blocks (stored k') i j space refl (λ e. other (sym e)))) was)
+                let was : LoadsTo (Since (clock net t now rest j)) (kind_at net j) (bytes_at j blocks) (m.blocks j) =
+                subst (λ c. LoadsTo (Since c) (kind_at net j) (bytes_at j blocks) (m.blocks j)) kept_clock (stand.each j low) in
+                subst (LoadsTo (Since (clock net t now rest j)) (kind_at net j) (bytes_at j blocks')) (sym (cond-false (i == j) b' (m.blocks j) off))
+                (subst (λ b. LoadsTo (Since (clock net t now rest j)) (kind_at net j) b (m.blocks j)) (sym (bytes_at_other blocks (stored k') i j space refl (λ e. other (sym e)))) was)
           ];
         };
       }

@@ -18,6 +18,7 @@ use Rattle.ps_machine.proofs.Instances.{bytes_at, instance_is}
 use Rattle.ps_machine.proofs.KindsByNumber.{kind_of-number}
 use Rattle.ps_machine.proofs.Places.{length-replaced, index_before, index_within, index_after}
 use Rattle.ps_machine.specs.Kinds.{kind_of}
+use Rattle.ps_eqvm.specs.declared.layout.TheConstants.{WORK_CELLS}
 use Rattle.ps_eqvm.specs.Plain.{Plain}
 use Rattle.ps_eqvm.specs.Rows.{block_row, operand_of}
 use Rattle.ps_eqvm.specs.Acting.{trapped, byte_of, is_missing, is_odd, is_on, pins_on, pin_bytes, settled, after_step, block_as, block_by}
@@ -83,23 +84,23 @@ settled_holds n last passed blocks p at i o next kind kept count v h len room =
     let size : length bytes ≡ count = length-map vals bit ∙ len in
     let sized = h.sized in
     record {
-      sized = length-replaced p.cells (48 + o) bytes (omega arith) ∙ h.sized;
+      sized = length-replaced p.cells (WORK_CELLS + o) bytes (omega arith) ∙ h.sized;
       place = refl;
       running = h.running;
       kept_time = h.kept_time;
       time = h.time;
       signals = λ s l. elim (cases_lt s o) [
         | inl before ↦
-            index_before p.cells (48 + o) bytes (48 + s) (omega arith) (omega arith) ∙ h.signals s l
+            index_before p.cells (WORK_CELLS + o) bytes (WORK_CELLS + s) (omega arith) (omega arith) ∙ h.signals s l
             ∙ ap bit (sym (signal_before o count vals v s before))
         | inr from ↦ elim (cases_lt s (o + count)) [
           | inl to ↦
-              let e : 48 + s ≡ 48 + o + (s - o) = omega arith in
-              ap (slice_index (replaced p.cells (48 + o) bytes)) e ∙ index_within p.cells (48 + o) bytes (s - o) (omega arith) (omega arith)
+              let e : WORK_CELLS + s ≡ WORK_CELLS + o + (s - o) = omega arith in
+              ap (slice_index (replaced p.cells (WORK_CELLS + o) bytes)) e ∙ index_within p.cells (WORK_CELLS + o) bytes (s - o) (omega arith) (omega arith)
               ∙ get_or-map bit vals (s - o) false 0 (omega arith)
               ∙ ap bit (sym (signal_inside o count vals v s from to))
           | inr after ↦
-              index_after p.cells (48 + o) bytes (48 + s) (omega arith) (omega arith) ∙ h.signals s l
+              index_after p.cells (WORK_CELLS + o) bytes (WORK_CELLS + s) (omega arith) (omega arith) ∙ h.signals s l
               ∙ ap bit (sym (signal_past o count vals v s from after))
         ]
       ];

@@ -16,6 +16,7 @@ use Rattle.ps_model.proofs.Budgeting.{boolean_within}
 use Rattle.ps_machine.proofs.Fine.{IsFine, AreFine, IsFinePin, first_fine, later_fine}
 use Rattle.ps_machine.proofs.Fitting.{StepFits, AllFit}
 use Rattle.ps_machine.proofs.Totals.{length_of_steps, length_of_pins, steps_small}
+use Rattle.ps_eqvm.specs.declared.layout.TheConstants.{WORK_CELLS}
 use Rattle.ps_eqvm.specs.Rows.{EquationRow, last_row, set_row, all_row, any_row, size_of}
 use Rattle.ps_eqvm.specs.Code.{encoded, bytes_of, work, constant_of, operand_at, expression_rows, group_rows, later_rows, pin_rows, pin_operand, rows_at, operand_of_pin, pins_rows, call_row, step_rows, network_rows, code_b}
 use Rattle.ps_eqgen.proofs.Decoding.{size_all, size_all-append, length-encoded, IsShort, AreShort, Words, short-append}
@@ -141,7 +142,7 @@ code_small net sound fits =
 
 -- ---- each number fits its bytes
 module _ (n : ℕ) (few : n ≤ 4000) where
-  operand_short : (e : Formula) (r d : ℕ) → IsFine n r e → d + r ≤ 48 → operand_at d e < 2 ^ 16
+  operand_short : (e : Formula) (r d : ℕ) → IsFine n r e → d + r ≤ WORK_CELLS → operand_at d e < 2 ^ 16
   operand_short (signal s) r d is low = let below : s < n = is.below in omega arith
   operand_short (all_of es) r d is low = omega arith
   operand_short (any_of es) r d is low = omega arith
@@ -150,7 +151,7 @@ module _ (n : ℕ) (few : n ≤ 4000) where
   JoinsShort join = (t c : ℕ) → t < 2 ^ 16 → c < 2 ^ 16 → IsShort (join t c)
 
   mutual
-    expression_short : (e : Formula) (r d : ℕ) → IsFine n r e → d + r ≤ 48 → AreShort (expression_rows d e)
+    expression_short : (e : Formula) (r d : ℕ) → IsFine n r e → d + r ≤ WORK_CELLS → AreShort (expression_rows d e)
     expression_short (signal s) r d is low = tt
     expression_short (all_of es) r d is low =
         let deep = is.shallow in
@@ -161,14 +162,14 @@ module _ (n : ℕ) (few : n ≤ 4000) where
         let fine : AreFine n (r - 1) es = record { below = is.below; full = is.full.1; shallow = omega arith } in
         group_short any_row (λ t c a b. (a, b)) es (r - 1) d fine (omega arith)
 
-    group_short : (join : ℕ → ℕ → EquationRow) → JoinsShort join → (es : Formulas) (r d : ℕ) → AreFine n r es → d + 1 + r ≤ 48 → AreShort (group_rows d join es)
+    group_short : (join : ℕ → ℕ → EquationRow) → JoinsShort join → (es : Formulas) (r d : ℕ) → AreFine n r es → d + 1 + r ≤ WORK_CELLS → AreShort (group_rows d join es)
     group_short join j no_operand r d is low = tt
     group_short join j (operand e es) r d is low =
         let first = first_fine n r e es is in
         short-append (expression_rows (d + 1) e) (set_row (work d) (operand_at (d + 1) e) ∷ later_rows d join es) (expression_short e r (d + 1) first low)
         ((omega arith, operand_short e r (d + 1) first low), later_short join j es r d (later_fine n r e es is) low)
 
-    later_short : (join : ℕ → ℕ → EquationRow) → JoinsShort join → (es : Formulas) (r d : ℕ) → AreFine n r es → d + 1 + r ≤ 48 → AreShort (later_rows d join es)
+    later_short : (join : ℕ → ℕ → EquationRow) → JoinsShort join → (es : Formulas) (r d : ℕ) → AreFine n r es → d + 1 + r ≤ WORK_CELLS → AreShort (later_rows d join es)
     later_short join j no_operand r d is low = tt
     later_short join j (operand e es) r d is low =
         let first = first_fine n r e es is in
@@ -179,13 +180,13 @@ module _ (n : ℕ) (few : n ≤ 4000) where
   constant_short true = lit< tt
   constant_short false = lit< tt
 
-  pin_short : (a : Actual) (d : ℕ) → IsFinePin n a → d + 34 ≤ 48 → AreShort (pin_rows d a)
+  pin_short : (a : Actual) (d : ℕ) → IsFinePin n a → d + 34 ≤ WORK_CELLS → AreShort (pin_rows d a)
   pin_short free d is low = tt
   pin_short (literal b) d is low = tt
   pin_short (time t) d is low = tt
   pin_short (wired e) d is low = expression_short e 34 d is low
 
-  pin_operand_short : (default : Bool) (a : Actual) (d : ℕ) → IsFinePin n a → d + 34 ≤ 48 → pin_operand default d a < 2 ^ 16
+  pin_operand_short : (default : Bool) (a : Actual) (d : ℕ) → IsFinePin n a → d + 34 ≤ WORK_CELLS → pin_operand default d a < 2 ^ 16
   pin_operand_short default free d is low = constant_short default
   pin_operand_short default (literal b) d is low = constant_short b
   pin_operand_short default (time t) d is low = constant_short false

@@ -6,6 +6,7 @@ use Rattle.std.proofs.lemmas.List.{get_or-set_same, get_or-set_other, length-set
 use Rattle.ps_model.specs.Formula.{Formula, Formulas, no_operand, operand, value, all_true, any_true}
 use Rattle.ps_machine.specs.Bytes.{bit, is_no_bit}
 use Rattle.ps_machine.proofs.Bits.{bit_is_bit, bit_and-bit, bit_or-bit}
+use Rattle.ps_eqvm.specs.declared.layout.TheConstants.{WORK_CELLS}
 use Rattle.ps_eqvm.specs.declared.operand.Operand.TheVariants.{Cell, Constant}
 use Rattle.ps_eqvm.specs.Plain.{Plain}
 use Rattle.ps_eqvm.specs.Rows.{EquationRow, set_row, all_row, any_row, operand_of, size_of, fetched}
@@ -16,21 +17,21 @@ use Rattle.ps_eqvm.specs.declared.trap.Trap.TheVariants.{NotBoolean}
 
 -- Of n signals: the machine runs and is at a row, the signals have these values, and the times and the instances' bytes are these.
 pub record Holds (n last passed : ℕ) (blocks : List ℕ) (p : Plain) (at : ℕ) (v : ℕ → Bool) : Type 0 where
-  pub sized : length p.cells ≡ 48 + n
+  pub sized : length p.cells ≡ WORK_CELLS + n
   pub place : p.offset ≡ at
   pub running : p.progress ≡ 0
   pub kept_time : p.last ≡ last
   pub time : p.passed ≡ passed
-  pub signals : (s : ℕ) → s < n → slice_index p.cells (48 + s) ≡ bit (v s)
+  pub signals : (s : ℕ) → s < n → slice_index p.cells (WORK_CELLS + s) ≡ bit (v s)
   pub instances : p.blocks ≡ blocks
 
 -- ---- operands
-pub signal_operand : (n s : ℕ) → n ≤ 4000 → s < n → operand_of n s ≡ Cell (48 + s)
+pub signal_operand : (n s : ℕ) → n ≤ 4000 → s < n → operand_of n s ≡ Cell (WORK_CELLS + s)
 signal_operand n s few h =
     let e1 : nat_lt s 4000 ≡ true = lt-ltb s 4000 (omega arith) in
     rw (e1, lt-ltb s n h) refl
 
-pub work_operand : (n d : ℕ) → d < 48 → operand_of n (work d) ≡ Cell d
+pub work_operand : (n d : ℕ) → d < WORK_CELLS → operand_of n (work d) ≡ Cell d
 work_operand n d low =
     let e1 : nat_lt (61440 + d) 4000 ≡ false = lt-leb (suc (61440 + d)) 4000 (omega arith) in
     let e2 : nat_lt (61440 + d) 61440 ≡ false = lt-leb (suc (61440 + d)) 61440 (omega arith) in
@@ -43,7 +44,7 @@ constant_operand n true = refl
 constant_operand n false = refl
 
 -- ---- writes
-pub work_put : (n last passed : ℕ) (blocks : List ℕ) (p : Plain) (at next d byte : ℕ) (v : ℕ → Bool) → Holds n last passed blocks p at v → d < 48 →
+pub work_put : (n last passed : ℕ) (blocks : List ℕ) (p : Plain) (at next d byte : ℕ) (v : ℕ → Bool) → Holds n last passed blocks p at v → d < WORK_CELLS →
     Holds n last passed blocks (with_cell d byte next p) next v
 work_put n last passed blocks p at next d byte v h low = record {
   sized = length-set p.cells d byte ∙ h.sized;
@@ -51,23 +52,23 @@ work_put n last passed blocks p at next d byte v h low = record {
   running = h.running;
   kept_time = h.kept_time;
   time = h.time;
-  signals = λ s l. get_or-set_other p.cells d (48 + s) byte 0 (λ e. omega arith) ∙ h.signals s l;
+  signals = λ s l. get_or-set_other p.cells d (WORK_CELLS + s) byte 0 (λ e. omega arith) ∙ h.signals s l;
   instances = h.instances;
 }
 
 pub signal_put : (n last passed : ℕ) (blocks : List ℕ) (p : Plain) (at next t : ℕ) (b : Bool) (v v' : ℕ → Bool) → Holds n last passed blocks p at v → t < n → v' t ≡ b →
-    ((s : ℕ) → s ≢ t → v' s ≡ v s) → Holds n last passed blocks (with_cell (48 + t) (bit b) next p) next v'
+    ((s : ℕ) → s ≢ t → v' s ≡ v s) → Holds n last passed blocks (with_cell (WORK_CELLS + t) (bit b) next p) next v'
 signal_put n last passed blocks p at next t b v v' h low new same = record {
-  sized = length-set p.cells (48 + t) (bit b) ∙ h.sized;
+  sized = length-set p.cells (WORK_CELLS + t) (bit b) ∙ h.sized;
   place = refl;
   running = h.running;
   kept_time = h.kept_time;
   time = h.time;
   signals = λ s l. let size = h.sized in elim (cases_eq s t) [
     | inl is ↦
-        ap (λ k. slice_index (slice_set p.cells (48 + t) (bit b)) (48 + k)) is ∙ get_or-set_same p.cells (48 + t) (bit b) 0 (omega arith)
+        ap (λ k. slice_index (slice_set p.cells (WORK_CELLS + t) (bit b)) (WORK_CELLS + k)) is ∙ get_or-set_same p.cells (WORK_CELLS + t) (bit b) 0 (omega arith)
         ∙ ap bit (sym new ∙ ap v' (sym is))
-    | inr other ↦ get_or-set_other p.cells (48 + t) (48 + s) (bit b) 0 (λ e. other (omega arith)) ∙ h.signals s l ∙ ap bit (sym (same s other))
+    | inr other ↦ get_or-set_other p.cells (WORK_CELLS + t) (WORK_CELLS + s) (bit b) 0 (λ e. other (omega arith)) ∙ h.signals s l ∙ ap bit (sym (same s other))
   ];
   instances = h.instances;
 }

@@ -13,6 +13,7 @@ use Rattle.ps_machine.specs.Bytes.{bit}
 use Rattle.ps_machine.specs.Machines.{turned}
 use Rattle.ps_machine.proofs.Fine.{IsFine, AreFine, IsFinePin, first_fine, later_fine}
 use Rattle.ps_machine.proofs.Phases.{turned_add}
+use Rattle.ps_eqvm.specs.declared.layout.TheConstants.{WORK_CELLS}
 use Rattle.ps_eqvm.specs.Plain.{Plain}
 use Rattle.ps_eqvm.specs.Rows.{EquationRow, set_row, all_row, any_row, operand_of, size_of, fetched}
 use Rattle.ps_eqvm.specs.Acting.{byte_of, with_cell}
@@ -74,11 +75,11 @@ record Joined (n k last passed : ℕ) (code blocks : List ℕ) (p : Plain) (rows
   has : slice_index (turned (turn_plain n k code) (length rows) p).cells d ≡ bit b
 
 module _ (n k : ℕ) (few : n ≤ 4000) (last passed : ℕ) (code blocks : List ℕ) (v : ℕ → Bool) where
-  reads_work : (p : Plain) (d : ℕ) (b : Bool) → d < 48 → slice_index p.cells d ≡ bit b → Reads n p (work d) b
+  reads_work : (p : Plain) (d : ℕ) (b : Bool) → d < WORK_CELLS → slice_index p.cells d ≡ bit b → Reads n p (work d) b
   reads_work p d b low has = ap (byte_of p.cells) (work_operand n d low) ∙ ap Some has
 
   -- one row that writes b to work cell d
-  write_turn : (p : Plain) (at d : ℕ) (r : EquationRow) (b : Bool) → Holds n last passed blocks p at v → fetched code at ≡ Ok r → size_of r ≡ 5 → d < 48 →
+  write_turn : (p : Plain) (at d : ℕ) (r : EquationRow) (b : Bool) → Holds n last passed blocks p at v → fetched code at ≡ Ok r → size_of r ≡ 5 → d < WORK_CELLS →
       after_row n k r (at + 5) p ≡ with_cell d (bit b) (at + 5) p → Joined n k last passed code blocks p (r ∷ []) at d v b
   write_turn p at d r b h found size low goes =
       let final = with_cell d (bit b) (at + 5) p in
@@ -132,7 +133,7 @@ module _ (n k : ℕ) (few : n ≤ 4000) (last passed : ℕ) (code blocks : List 
 
   mutual
     -- an expression at level d: its operand reads its value, and the work cells below d and the signals stay
-    pub expression_placed : (e : Formula) (r d : ℕ) (p : Plain) (at : ℕ) → IsFine n r e → d + r ≤ 48 → HasAt code at (expression_rows d e) → Holds n last passed blocks p at v →
+    pub expression_placed : (e : Formula) (r d : ℕ) (p : Plain) (at : ℕ) → IsFine n r e → d + r ≤ WORK_CELLS → HasAt code at (expression_rows d e) → Holds n last passed blocks p at v →
         Placed n k last passed code blocks p at d v e
     expression_placed (signal s) r d p at is low has h =
         let ea : at ≡ at + 0 = omega arith in
@@ -142,8 +143,8 @@ module _ (n k : ℕ) (few : n ≤ 4000) (last passed : ℕ) (code blocks : List 
         }
     expression_placed (all_of es) r d p at is low has h =
         let deep = is.shallow in
-        let low' : d + 1 + (r - 1) ≤ 48 = omega arith in
-        let low'' : d < 48 = omega arith in
+        let low' : d + 1 + (r - 1) ≤ WORK_CELLS = omega arith in
+        let low'' : d < WORK_CELLS = omega arith in
         let some : 0 < operand_count es = omega (arith, is.full.0) in
         let fine : AreFine n (r - 1) es = record { below = is.below; full = is.full.1; shallow = omega arith } in
         let x = group_joined all_row (λ x y. x && y) (all_true v) (all_joins n k v) es (r - 1) d p at some fine low' low'' has h in
@@ -153,8 +154,8 @@ module _ (n k : ℕ) (few : n ≤ 4000) (last passed : ℕ) (code blocks : List 
         }
     expression_placed (any_of es) r d p at is low has h =
         let deep = is.shallow in
-        let low' : d + 1 + (r - 1) ≤ 48 = omega arith in
-        let low'' : d < 48 = omega arith in
+        let low' : d + 1 + (r - 1) ≤ WORK_CELLS = omega arith in
+        let low'' : d < WORK_CELLS = omega arith in
         let some : 0 < operand_count es = omega (arith, is.full.0) in
         let fine : AreFine n (r - 1) es = record { below = is.below; full = is.full.1; shallow = omega arith } in
         let x = group_joined any_row (λ x y. x || y) (any_true v) (any_joins n k v) es (r - 1) d p at some fine low' low'' has h in
@@ -164,7 +165,7 @@ module _ (n k : ℕ) (few : n ≤ 4000) (last passed : ℕ) (code blocks : List 
         }
 
     group_joined : (join : ℕ → ℕ → EquationRow) (f : Bool → Bool → Bool) (whole : Formulas → Bool) → Joins n k v join f whole → (es : Formulas) (r d : ℕ) (p : Plain) (at : ℕ) →
-        0 < operand_count es → AreFine n r es → d + 1 + r ≤ 48 → d < 48 → HasAt code at (group_rows d join es) → Holds n last passed blocks p at v →
+        0 < operand_count es → AreFine n r es → d + 1 + r ≤ WORK_CELLS → d < WORK_CELLS → HasAt code at (group_rows d join es) → Holds n last passed blocks p at v →
         Joined n k last passed code blocks p (group_rows d join es) at d v (whole es)
     group_joined join f whole j no_operand r d p at some is low low' has h = absurd (omega arith)
     group_joined join f whole j (operand e es) r d p at some is low low' has h =
@@ -182,7 +183,7 @@ module _ (n k : ℕ) (few : n ≤ 4000) (last passed : ℕ) (code blocks : List 
         subst (λ b. Joined n k last passed code blocks p (group_rows d join (operand e es)) at d v b) (j.first e es) all
 
     later_joined : (join : ℕ → ℕ → EquationRow) (f : Bool → Bool → Bool) (whole : Formulas → Bool) → Joins n k v join f whole → (es : Formulas) (a : Bool) (r d : ℕ) (p : Plain) (at : ℕ) →
-        AreFine n r es → d + 1 + r ≤ 48 → d < 48 → HasAt code at (later_rows d join es) → Holds n last passed blocks p at v → slice_index p.cells d ≡ bit a →
+        AreFine n r es → d + 1 + r ≤ WORK_CELLS → d < WORK_CELLS → HasAt code at (later_rows d join es) → Holds n last passed blocks p at v → slice_index p.cells d ≡ bit a →
         Joined n k last passed code blocks p (later_rows d join es) at d v (f a (whole es))
     later_joined join f whole j no_operand a r d p at is low low' has h was =
         let ea : at ≡ at + 0 = omega arith in
@@ -219,7 +220,7 @@ module _ (n k : ℕ) (few : n ≤ 4000) (last passed : ℕ) (code blocks : List 
   reads_constant : (p : Plain) (b : Bool) → Reads n p (constant_of b) b
   reads_constant p b = ap (byte_of p.cells) (constant_operand n b)
 
-  pin_placed : (a : Actual) (default : Bool) (d : ℕ) (p : Plain) (at : ℕ) → IsFinePin n a → d + 34 ≤ 48 → HasAt code at (pin_rows d a) → Holds n last passed blocks p at v → PinPlaced p at d default a
+  pin_placed : (a : Actual) (default : Bool) (d : ℕ) (p : Plain) (at : ℕ) → IsFinePin n a → d + 34 ≤ WORK_CELLS → HasAt code at (pin_rows d a) → Holds n last passed blocks p at v → PinPlaced p at d default a
   pin_placed free default d p at is low has h = record { comes = no_rows p at d h; reads = reads_constant p default }
   pin_placed (literal b) default d p at is low has h = record { comes = no_rows p at d h; reads = reads_constant p b }
   pin_placed (time t) default d p at is low has h = record { comes = no_rows p at d h; reads = reads_constant p false }
@@ -228,7 +229,7 @@ module _ (n k : ℕ) (few : n ≤ 4000) (last passed : ℕ) (code blocks : List 
       record { comes = x.comes; reads = x.reads }
 
   -- a pin's operand reads the same once later pins are placed
-  still : (a : Actual) (default : Bool) (d : ℕ) (p q : Plain) (at at' : ℕ) → IsFinePin n a → d < 48 → Holds n last passed blocks p at v → Holds n last passed blocks q at' v →
+  still : (a : Actual) (default : Bool) (d : ℕ) (p q : Plain) (at at' : ℕ) → IsFinePin n a → d < WORK_CELLS → Holds n last passed blocks p at v → Holds n last passed blocks q at' v →
       ((c : ℕ) → c < d + 1 → slice_index q.cells c ≡ slice_index p.cells c) →
       byte_of q.cells (operand_of n (pin_operand default d a)) ≡ byte_of p.cells (operand_of n (pin_operand default d a))
   still free default d p q at at' is low h g same = reads_constant q default ∙ sym (reads_constant p default)

@@ -20,7 +20,7 @@ use Rattle.ps_machine.specs.Bytes.{bit, be4}
 use Rattle.ps_machine.specs.Keeping.{Passes, KeepsExactly}
 use Rattle.ps_machine.specs.Machines.{turned}
 use Rattle.ps_machine.specs.Progressing.{progress_said}
-use Rattle.ps_machine.specs.Standing.{StandsBlock, StandsIn, limit_in}
+use Rattle.ps_machine.specs.Standing.{LoadsTo, AreCellsOf, limit_in}
 use Rattle.ps_machine.proofs.Blank.{zeros, blank_stands}
 use Rattle.ps_machine.proofs.CalledOnce.{Timely, called_once}
 use Rattle.ps_machine.proofs.Fitting.{step_fits, all_fit}
@@ -29,6 +29,7 @@ use Rattle.ps_machine.proofs.Phases.{turned_add}
 use Rattle.ps_machine.proofs.Places.{length-replaced, index_within, index_after}
 use Rattle.ps_machine.proofs.Reports.{holds_its_report}
 use Rattle.ps_machine.proofs.Scans.{begun_input, begun_other, ends}
+use Rattle.ps_eqvm.specs.declared.layout.TheConstants.{WORK_AT, WORK_CELLS, SIGNALS_AT}
 use Rattle.ps_eqvm.specs.Acting.{after_last}
 use Rattle.ps_eqvm.specs.Channel.{blank_b, progress_of}
 use Rattle.ps_eqvm.specs.Code.{step_rows, network_rows, code_b}
@@ -53,15 +54,15 @@ use Rattle.ps_eqvm.proofs.StoredRuns.{stored_turn, stored_run, run_is}
 record StandsPlain (net : Network) (w : State) (t : ℕ) (p : Plain) : Type 0 where
   sized : IsSized (signal_count net) (instance_count net) p
   undriven : (s : ℕ) → input_count net ≤ s → is_driven net s ≡ false → signal_in w s ≡ false
-  signals : (s : ℕ) → s < signal_count net → slice_index p.cells (48 + s) ≡ bit (signal_in w s)
+  signals : (s : ℕ) → s < signal_count net → slice_index p.cells (WORK_CELLS + s) ≡ bit (signal_in w s)
   kept_time : p.last ≡ t
   blocks : BlocksStand net p.blocks (block_in w)
 
 -- a signal among the cells, and among all bytes
-signal_at : (n s : ℕ) (bytes : List ℕ) → s < n → slice_index (take (48 + n) (drop 13 bytes)) (48 + s) ≡ slice_index bytes (61 + s)
+signal_at : (n s : ℕ) (bytes : List ℕ) → s < n → slice_index (take (WORK_CELLS + n) (drop WORK_AT bytes)) (WORK_CELLS + s) ≡ slice_index bytes (SIGNALS_AT + s)
 signal_at n s bytes low =
-    let e : 13 + (48 + s) ≡ 61 + s = omega arith in
-    get_or-take (48 + n) (drop 13 bytes) (48 + s) 0 (omega arith) ∙ get_or-drop 13 bytes (48 + s) 0 ∙ ap (slice_index bytes) e
+    let e : WORK_AT + (WORK_CELLS + s) ≡ SIGNALS_AT + s = omega arith in
+    get_or-take (WORK_CELLS + n) (drop WORK_AT bytes) (WORK_CELLS + s) 0 (omega arith) ∙ get_or-drop WORK_AT bytes (WORK_CELLS + s) 0 ∙ ap (slice_index bytes) e
 
 module _ (net : Network) where
   parsed_stands : (w : State) (t : ℕ) (cells : List ℕ) → StandsB net w t cells → StandsPlain net w t (parsed (signal_count net) cells)
@@ -70,22 +71,22 @@ module _ (net : Network) where
       let bytes = complement cells in
       let all = stands.standing in
       let size = all.sized in
-      let d1 = length-drop 13 bytes in
-      let d2 = length-drop (61 + n) bytes in
-      let many : length (drop (61 + n) bytes) ≡ 16 * instance_count net = omega arith in
+      let d1 = length-drop WORK_AT bytes in
+      let d2 = length-drop (SIGNALS_AT + n) bytes in
+      let many : length (drop (SIGNALS_AT + n) bytes) ≡ 16 * instance_count net = omega arith in
       record {
-        sized = record { cells = length-take-le (48 + n) (drop 13 bytes) (omega arith); blocks = many };
+        sized = record { cells = length-take-le (WORK_CELLS + n) (drop WORK_AT bytes) (omega arith); blocks = many };
         undriven = all.undriven;
         signals = λ s l. signal_at n s bytes l ∙ all.signals s l;
         kept_time = stands.kept_time;
         blocks = record {
           size = many;
           each = λ i l.
-              subst (λ b. StandsBlock (Remains (limit_in net i)) (kind_at net i) b (block_in w i)) (block_is (61 + n) i bytes (drop (61 + n) bytes) refl) (all.blocks i l);
+              subst (λ b. LoadsTo (Remains (limit_in net i)) (kind_at net i) b (block_in w i)) (block_is (SIGNALS_AT + n) i bytes (drop (SIGNALS_AT + n) bytes) refl) (all.blocks i l);
         };
       }
 
-  stored_stands : (w : State) (t : ℕ) (cells : List ℕ) → length (complement cells) ≡ 61 + signal_count net + 16 * instance_count net →
+  stored_stands : (w : State) (t : ℕ) (cells : List ℕ) → length (complement cells) ≡ SIGNALS_AT + signal_count net + 16 * instance_count net →
       StandsPlain net w t (parsed (signal_count net) cells) → StandsB net w t cells
   stored_stands w t cells size stands =
       let n = signal_count net in
@@ -97,16 +98,16 @@ module _ (net : Network) where
           undriven = stands.undriven;
           signals = λ s l. sym (signal_at n s bytes l) ∙ stands.signals s l;
           blocks = λ i l.
-              subst (λ b. StandsBlock (Remains (limit_in net i)) (kind_at net i) b (block_in w i)) (sym (block_is (61 + n) i bytes (drop (61 + n) bytes) refl)) (stands.blocks.each i l);
+              subst (λ b. LoadsTo (Remains (limit_in net i)) (kind_at net i) b (block_in w i)) (sym (block_is (SIGNALS_AT + n) i bytes (drop (SIGNALS_AT + n) bytes) refl)) (stands.blocks.each i l);
         };
       }
 
-  length-plain : (p : Plain) → IsSized (signal_count net) (instance_count net) p → length (plain_bytes p) ≡ 61 + signal_count net + 16 * instance_count net
+  length-plain : (p : Plain) → IsSized (signal_count net) (instance_count net) p → length (plain_bytes p) ≡ SIGNALS_AT + signal_count net + 16 * instance_count net
   length-plain p sized =
       let both = length-append p.cells p.blocks in
       let c = sized.cells in
       let b = sized.blocks in
-      let all : suc (suc (suc (suc (suc (suc (suc (suc (suc (suc (suc (suc (suc (length (p.cells ++ p.blocks)))))))))))))) ≡ 61 + signal_count net + 16 * instance_count net = omega arith in
+      let all : suc (suc (suc (suc (suc (suc (suc (suc (suc (suc (suc (suc (suc (length (p.cells ++ p.blocks)))))))))))))) ≡ SIGNALS_AT + signal_count net + 16 * instance_count net = omega arith in
       all
 
   laid_stands : (w : State) (t : ℕ) (p : Plain) → IsPlain p → StandsPlain net w t p → StandsB net w t (laid_out p)
@@ -117,9 +118,9 @@ module _ (net : Network) where
       (subst (StandsPlain net w t) (sym (again n k p is stands.sized)) stands)
 
 -- ---- the cells at the start
-blank_stored : (net : Network) → StandsB net (first_state net) 0 (replicate (61 + signal_count net + 16 * instance_count net) 255)
+blank_stored : (net : Network) → StandsB net (first_state net) 0 (replicate (SIGNALS_AT + signal_count net + 16 * instance_count net) 255)
 blank_stored net =
-    let size = 61 + signal_count net + 16 * instance_count net in
+    let size = SIGNALS_AT + signal_count net + 16 * instance_count net in
     let e : complement (replicate size 255) ≡ zeros size = complement_replicate size 255 in
     let h0 : slice_index (zeros size) 5 ≡ 0 = get_or-replicate size 5 0 0 (omega arith) in
     let h1 : slice_index (zeros size) 6 ≡ 0 = get_or-replicate size 6 0 0 (omega arith) in
@@ -129,7 +130,7 @@ blank_stored net =
     record {
       kept_time = ap (λ b. be4 b 5) e ∙ time_is;
       standing =
-          subst (StandsIn net (λ i. Remains (limit_in net i)) (first_state net) 61) (sym e) (blank_stands net (λ i. Remains (limit_in net i)) 61);
+          subst (AreCellsOf net (λ i. Remains (limit_in net i)) (first_state net) SIGNALS_AT) (sym e) (blank_stands net (λ i. Remains (limit_in net i)) SIGNALS_AT);
     }
 
 module _ (net : Network) (sound : IsSound net) where
@@ -141,17 +142,17 @@ module _ (net : Network) (sound : IsSound net) where
       let each = stands.sized.cells in
       let few : input_count net ≤ signal_count net = omega arith in
       record {
-        sized = length-replaced p.cells 48 bytes (omega arith) ∙ each;
+        sized = length-replaced p.cells WORK_CELLS bytes (omega arith) ∙ each;
         place = refl;
         running = refl;
         kept_time = refl;
         time = refl;
         signals = λ s l. elim (cases_lt s (input_count net)) [
           | inl low ↦
-              index_within p.cells 48 bytes s (omega arith) (omega arith) ∙ get_or-map bit ins s false 0 (omega arith)
+              index_within p.cells WORK_CELLS bytes s (omega arith) (omega arith) ∙ get_or-map bit ins s false 0 (omega arith)
               ∙ ap bit (sym (begun_input net old ins s low))
           | inr high ↦
-              index_after p.cells 48 bytes (48 + s) (omega arith) (omega arith) ∙ stands.signals s l
+              index_after p.cells WORK_CELLS bytes (WORK_CELLS + s) (omega arith) (omega arith) ∙ stands.signals s l
               ∙ ap bit (sym (begun_other net old ins s high))
         ];
         instances = refl;
@@ -198,9 +199,9 @@ module _ (net : Network) (sound : IsSound net) where
             size = ap length there.instances ∙ bytes;
             each = λ i l.
                 let says = Remains (limit_in net i) in
-                let here : StandsBlock says (kind_at net i) (bytes_at i led.blocks) (block_in new i) =
-                subst (StandsBlock says (kind_at net i) (bytes_at i led.blocks)) (sym (other-block net sound old ins dt new solves i l)) (led.stand.each i l) in
-                subst (λ b. StandsBlock says (kind_at net i) (bytes_at i b) (block_in new i)) (sym there.instances) here;
+                let here : LoadsTo says (kind_at net i) (bytes_at i led.blocks) (block_in new i) =
+                subst (LoadsTo says (kind_at net i) (bytes_at i led.blocks)) (sym (other-block net sound old ins dt new solves i l)) (led.stand.each i l) in
+                subst (λ b. LoadsTo says (kind_at net i) (bytes_at i b) (block_in new i)) (sym there.instances) here;
           };
         } in
         record {
@@ -224,7 +225,7 @@ module _ (net : Network) (sound : IsSound net) where
         let turns : length (network_rows net) ≡ turns_b net = turns_are net sound in
         let same : stored_turn n k code ≡ turn_b z code =
         λ x cells. laid_out (turn_plain ((sym sizes.signals) x) ((sym sizes.instances) x) code (parsed ((sym sizes.signals) x) cells)) in
-        let blank_is : replicate (61 + n + 16 * k) 255 ≡ blank_b z = λ x. replicate (61 + (sym sizes.signals) x + 16 * (sym sizes.instances) x) 255 in
+        let blank_is : replicate (SIGNALS_AT + n + 16 * k) 255 ≡ blank_b z = λ x. replicate (SIGNALS_AT + (sym sizes.signals) x + 16 * (sym sizes.instances) x) 255 in
         record {
           blank = subst (StandsB net (first_state net) 0) blank_is (blank_stored net);
           scan = λ old new ins t now dt cells later early count passes stands solves.
@@ -253,6 +254,6 @@ module _ (net : Network) (sound : IsSound net) where
                 done = ap progress_said (ap (λ j. progress_of (turned (turn_b z code) j (begin_b z now ins cells))) (sym turns) ∙ said (length (network_rows net)) ∙ s.done);
                 stands = stood;
                 reports =
-                    holds_its_report net sound z sizes (λ i. Remains (limit_in net i)) old new ins dt 61 (complement (turned (turn_b z code) (turns_b net) (begin_b z now ins cells))) solves stood.standing;
+                    holds_its_report net sound z sizes (λ i. Remains (limit_in net i)) old new ins dt SIGNALS_AT (complement (turned (turn_b z code) (turns_b net) (begin_b z now ins cells))) solves stood.standing;
               };
         }

@@ -16,13 +16,14 @@ use Rattle.ps_model.proofs.Keeping.{count_down}
 use Rattle.ps_model.proofs.Sixteen.{loads_loaded, step_kept}
 use Rattle.ps_machine.specs.Bytes.{bit, replaced}
 use Rattle.ps_machine.specs.Machines.{turned}
-use Rattle.ps_machine.specs.Standing.{StandsBlock, limit_in}
+use Rattle.ps_machine.specs.Standing.{LoadsTo, limit_in}
 use Rattle.ps_machine.proofs.CalledOnce.{Once, Timely, once_after, timely_after}
 use Rattle.ps_machine.proofs.CalledSignals.{called_signals}
 use Rattle.ps_machine.proofs.Fine.{IsFine}
 use Rattle.ps_machine.proofs.Fitting.{CallFits, StepFits, AllFit}
 use Rattle.ps_machine.proofs.Instances.{bytes_at, bytes_at_same, bytes_at_other}
 use Rattle.ps_machine.proofs.Places.{length-replaced}
+use Rattle.ps_eqvm.specs.declared.layout.TheConstants.{WORK_CELLS}
 use Rattle.ps_eqvm.specs.Plain.{Plain}
 use Rattle.ps_eqvm.specs.Rows.{EquationRow, set_row, size_of}
 use Rattle.ps_eqvm.specs.Acting.{with_cell, settled}
@@ -37,7 +38,7 @@ use Rattle.ps_eqgen.proofs.Placing.{Comes, stays, one_turn, comes_on, comes_as, 
 -- the bytes of the instances hold these block states, with the time that remains of the limit of each
 pub record BlocksStand (net : Network) (blocks : List ℕ) (b : ℕ → Block_state) : Type 0 where
   pub size : length blocks ≡ 16 * instance_count net
-  pub each : (i : ℕ) → i < instance_count net → StandsBlock (Remains (limit_in net i)) (kind_at net i) (bytes_at i blocks) (b i)
+  pub each : (i : ℕ) → i < instance_count net → LoadsTo (Remains (limit_in net i)) (kind_at net i) (bytes_at i blocks) (b i)
 
 module _ (net : Network) (few : signal_count net ≤ 4000) (dt last passed : ℕ) (code : List ℕ) where
   -- the rows ran, and the cells hold this memory
@@ -60,9 +61,9 @@ module _ (net : Network) (few : signal_count net ≤ 4000) (dt last passed : ℕ
       let p1 = turned turn (length re) p in
       let at1 = at + size_all re in
       let back = has_back code at re (row ∷ []) has in
-      let final = with_cell (48 + t) (bit b) (at1 + 5) p1 in
+      let final = with_cell (WORK_CELLS + t) (bit b) (at1 + 5) p1 in
       let goes : turn p1 ≡ final = turn_is n k code p1 at1 row x.comes.there.place back.0
-      ∙ set_goes n k t (operand_at 0 e) (48 + t) (at1 + 5) b p1 (signal_operand n t few low) x.reads in
+      ∙ set_goes n k t (operand_at 0 e) (WORK_CELLS + t) (at1 + 5) b p1 (signal_operand n t few low) x.reads in
       let held : Holds n last passed blocks final (at1 + 5) v' = signal_put n last passed blocks p1 at1 (at1 + 5) t b m.signals v' x.comes.there low
       (cond-true (t == t) b (m.signals t) (eq-eqb t t refl)) (λ s other. cond-false (t == s) b (m.signals s) (ne_eqb t s (λ q. other (sym q)))) in
       let held' : Holds n last passed blocks (turn p1) (at1 + 5) v' = subst (λ q. Holds n last passed blocks q (at1 + 5) v') (sym goes) held in
@@ -129,17 +130,17 @@ module _ (net : Network) (few : signal_count net ≤ 4000) (dt last passed : ℕ
           size = length-replaced blocks (16 * i) (stored k') space ∙ size;
           each = λ j low. elim (cases_eq i j) [
             | inl same ↦
-                let mine : StandsBlock (Remains (limit_in net i)) kind (bytes_at i blocks') b' = record {
+                let mine : LoadsTo (Remains (limit_in net i)) kind (bytes_at i blocks') b' = record {
                   kept = k';
                   loads = record { kept = held_kept; bytes_are = bytes_at_same blocks (stored k') i space refl };
                   stands = subst (λ l. StandsBy (Remains l) k' b') (sym fits.limit_is) stands';
                 } in
-                let here : StandsBlock (Remains (limit_in net i)) kind (bytes_at i blocks') (m'.blocks i) =
-                subst (StandsBlock (Remains (limit_in net i)) kind (bytes_at i blocks')) (sym (cond-true (i == i) b' (m.blocks i) (eq-eqb i i refl))) mine in
-                subst (λ q. StandsBlock (Remains (limit_in net q)) (kind_at net q) (bytes_at q blocks') (m'.blocks q)) same here
+                let here : LoadsTo (Remains (limit_in net i)) kind (bytes_at i blocks') (m'.blocks i) =
+                subst (LoadsTo (Remains (limit_in net i)) kind (bytes_at i blocks')) (sym (cond-true (i == i) b' (m.blocks i) (eq-eqb i i refl))) mine in
+                subst (λ q. LoadsTo (Remains (limit_in net q)) (kind_at net q) (bytes_at q blocks') (m'.blocks q)) same here
             | inr other ↦
-                subst (StandsBlock (Remains (limit_in net j)) (kind_at net j) (bytes_at j blocks')) (sym (cond-false (i == j) b' (m.blocks j) (ne_eqb i j other)))
-                (subst (λ b. StandsBlock (Remains (limit_in net j)) (kind_at net j) b (m.blocks j)) (sym (bytes_at_other blocks (stored k') i j space refl (λ e. other (sym e)))) (stand.each j low))
+                subst (LoadsTo (Remains (limit_in net j)) (kind_at net j) (bytes_at j blocks')) (sym (cond-false (i == j) b' (m.blocks j) (ne_eqb i j other)))
+                (subst (λ b. LoadsTo (Remains (limit_in net j)) (kind_at net j) b (m.blocks j)) (sym (bytes_at_other blocks (stored k') i j space refl (λ e. other (sym e)))) (stand.each j low))
           ];
         };
       }

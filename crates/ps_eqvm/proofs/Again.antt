@@ -6,6 +6,7 @@ use Rattle.std.proofs.lemmas.Nat.{from_be_bytes-to_be_bytes_4}
 use Rattle.std.proofs.lemmas.List.{take_at, drop_at, drop-drop}
 use Rattle.ps_model.specs.declared.sizes.Sizes.{Sizes}
 use Rattle.ps_machine.specs.Bytes.{be4}
+use Rattle.ps_eqvm.specs.declared.layout.TheConstants.{OFFSET_AT, PROGRESS_AT, LAST_AT, PASSED_AT, WORK_AT, WORK_CELLS, SIGNALS_AT}
 use Rattle.ps_eqvm.specs.Plain.{Plain, IsPlain, IsSized, complement, plain_bytes, laid_out, parsed}
 use Rattle.ps_eqvm.specs.Turn.{turn_plain, turn_b, begin_plain, begin_b}
 
@@ -54,29 +55,29 @@ plain_again p is = twice (plain_bytes p) (all_bytes p is)
 -- the parts of plain bytes
 parts : ℕ → List ℕ → Plain
 parts n bytes = record {
-  offset = be4 bytes 0;
-  progress = slice_index bytes 4;
-  last = be4 bytes 5;
-  passed = be4 bytes 9;
-  cells = take (48 + n) (drop 13 bytes);
-  blocks = drop (61 + n) bytes;
+  offset = be4 bytes OFFSET_AT;
+  progress = slice_index bytes PROGRESS_AT;
+  last = be4 bytes LAST_AT;
+  passed = be4 bytes PASSED_AT;
+  cells = take (WORK_CELLS + n) (drop WORK_AT bytes);
+  blocks = drop (SIGNALS_AT + n) bytes;
 }
 
 pub again : (n k : ℕ) (p : Plain) → IsPlain p → IsSized n k p → parsed n (laid_out p) ≡ p
 unfolding parts
 again n k p is sized =
     let bytes = plain_bytes p in
-    let e1 : be4 bytes 0 ≡ p.offset = from_be_bytes-to_be_bytes_4 p.offset is.offset in
-    let e2 : be4 bytes 5 ≡ p.last = from_be_bytes-to_be_bytes_4 p.last is.last in
-    let e3 : be4 bytes 9 ≡ p.passed = from_be_bytes-to_be_bytes_4 p.passed is.passed in
-    let e4 : take (48 + n) (drop 13 bytes) ≡ p.cells = take_at p.cells p.blocks (48 + n) sized.cells in
-    let sum : 13 + (48 + n) ≡ 61 + n = omega arith in
-    let e5 : drop (61 + n) bytes ≡ p.blocks = ap (λ k. drop k bytes) (sym sum) ∙ sym (drop-drop (48 + n) 13 bytes) ∙ drop_at p.cells p.blocks (48 + n) sized.cells in
+    let e1 : be4 bytes OFFSET_AT ≡ p.offset = from_be_bytes-to_be_bytes_4 p.offset is.offset in
+    let e2 : be4 bytes LAST_AT ≡ p.last = from_be_bytes-to_be_bytes_4 p.last is.last in
+    let e3 : be4 bytes PASSED_AT ≡ p.passed = from_be_bytes-to_be_bytes_4 p.passed is.passed in
+    let e4 : take (WORK_CELLS + n) (drop WORK_AT bytes) ≡ p.cells = take_at p.cells p.blocks (WORK_CELLS + n) sized.cells in
+    let sum : WORK_AT + (WORK_CELLS + n) ≡ SIGNALS_AT + n = omega arith in
+    let e5 : drop (SIGNALS_AT + n) bytes ≡ p.blocks = ap (λ k. drop k bytes) (sym sum) ∙ sym (drop-drop (WORK_CELLS + n) WORK_AT bytes) ∙ drop_at p.cells p.blocks (WORK_CELLS + n) sized.cells in
     ap (parts n) (plain_again p is)
-    ∙ ap (λ x. record { offset = x; progress = p.progress; last = be4 bytes 5; passed = be4 bytes 9; cells = take (48 + n) (drop 13 bytes); blocks = drop (61 + n) bytes }) e1
-    ∙ ap (λ x. record { offset = p.offset; progress = p.progress; last = x; passed = be4 bytes 9; cells = take (48 + n) (drop 13 bytes); blocks = drop (61 + n) bytes }) e2
-    ∙ ap (λ x. record { offset = p.offset; progress = p.progress; last = p.last; passed = x; cells = take (48 + n) (drop 13 bytes); blocks = drop (61 + n) bytes }) e3
-    ∙ ap (λ x. record { offset = p.offset; progress = p.progress; last = p.last; passed = p.passed; cells = x; blocks = drop (61 + n) bytes }) e4
+    ∙ ap (λ x. record { offset = x; progress = p.progress; last = be4 bytes LAST_AT; passed = be4 bytes PASSED_AT; cells = take (WORK_CELLS + n) (drop WORK_AT bytes); blocks = drop (SIGNALS_AT + n) bytes }) e1
+    ∙ ap (λ x. record { offset = p.offset; progress = p.progress; last = x; passed = be4 bytes PASSED_AT; cells = take (WORK_CELLS + n) (drop WORK_AT bytes); blocks = drop (SIGNALS_AT + n) bytes }) e2
+    ∙ ap (λ x. record { offset = p.offset; progress = p.progress; last = p.last; passed = x; cells = take (WORK_CELLS + n) (drop WORK_AT bytes); blocks = drop (SIGNALS_AT + n) bytes }) e3
+    ∙ ap (λ x. record { offset = p.offset; progress = p.progress; last = p.last; passed = p.passed; cells = x; blocks = drop (SIGNALS_AT + n) bytes }) e4
     ∙ ap (λ x. record { offset = p.offset; progress = p.progress; last = p.last; passed = p.passed; cells = p.cells; blocks = x }) e5
 
 pub turn_again : (sizes : Sizes) (code : List ℕ) (p : Plain) → IsPlain p → IsSized sizes.signals sizes.instances p →

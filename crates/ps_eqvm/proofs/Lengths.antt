@@ -13,6 +13,7 @@ use Rattle.ps_model.specs.Stored.{stored, loaded}
 use Rattle.ps_machine.specs.Bytes.{bit, is_no_bit, instance_bytes}
 use Rattle.ps_machine.proofs.Places.{length-replaced}
 use Rattle.ps_machine.specs.Kinds.{kind_of}
+use Rattle.ps_eqvm.specs.declared.layout.TheConstants.{WORK_CELLS}
 use Rattle.ps_eqvm.specs.Plain.{Plain, IsSized}
 use Rattle.ps_eqvm.specs.Rows.{EquationRow, last_row, set_row, all_row, any_row, block_row, operand_of, fetched}
 use Rattle.ps_eqvm.specs.Acting.{trapped, with_cell, byte_of, target_of, after_set, after_join, is_missing, is_odd, pins_on, pin_bytes, settled, after_step, block_as, block_by}
@@ -47,11 +48,11 @@ module _ (n k : ℕ) where
   settled_sized i o kind kept next p low fits is =
       let bits : List ℕ = map bit (outs kind kept.code kept.mode) in
       let count : length bits ≡ output_count kind = length-map (outs kind kept.code kept.mode) bit ∙ length-outs kind kept.code kept.mode in
-      let room : 48 + o + length bits ≤ length p.cells = omega (arith, count, is.cells, fits) in
+      let room : WORK_CELLS + o + length bits ≤ length p.cells = omega (arith, count, is.cells, fits) in
       let sixteen = length-stored kept in
       let place : 16 * i + length (stored kept) ≤ length p.blocks = omega (arith, sixteen, is.blocks, low) in
       record {
-        cells = length-replaced p.cells (48 + o) bits room ∙ is.cells;
+        cells = length-replaced p.cells (WORK_CELLS + o) bits room ∙ is.cells;
         blocks = length-replaced p.blocks (16 * i) (stored kept) place ∙ is.blocks;
       }
 
@@ -94,5 +95,5 @@ module _ (n k : ℕ) where
   pub begin_sized : (now : ℕ) (ins : List Bool) (p : Plain) → length ins ≤ n → IsSized n k p → IsSized n k (begin_plain now ins p)
   begin_sized now ins p few is =
       let count = length-map ins bit in
-      let room : 48 + length (map bit ins) ≤ length p.cells = omega (arith, count, is.cells, few) in
-      record { cells = length-replaced p.cells 48 (map bit ins) room ∙ is.cells; blocks = is.blocks }
+      let room : WORK_CELLS + length (map bit ins) ≤ length p.cells = omega (arith, count, is.cells, few) in
+      record { cells = length-replaced p.cells WORK_CELLS (map bit ins) room ∙ is.cells; blocks = is.blocks }

@@ -13,6 +13,7 @@ use Rattle.ps_model.specs.Kept.{Kept, counted_down}
 use Rattle.ps_model.specs.Stored.{stored, loaded, does_load, kept_in}
 use Rattle.ps_machine.specs.Bytes.{bit, be2, be4, is_no_bit, replaced, instance_bytes}
 use Rattle.ps_machine.specs.Kinds.{kind_of}
+use Rattle.ps_eqvm.specs.declared.layout.TheConstants.{OFFSET_AT, PROGRESS_AT, LAST_AT, PASSED_AT, WORK_AT, WORK_CELLS, SIGNALS_AT}
 use Rattle.ps_eqvm.specs.Plain.{Plain, IsPlain, complement, parsed}
 use Rattle.ps_eqvm.specs.Rows.{EquationRow, last_row, set_row, all_row, any_row, block_row, operand_of, size_of, whole, block_at, fetched}
 use Rattle.ps_eqvm.specs.Acting.{trapped, with_cell, byte_of, target_of, after_set, after_join, is_missing, is_odd, pins_on, pin_bytes, settled, after_step, block_as, block_by}
@@ -172,7 +173,7 @@ settled_plain i o kind kept next p low small is = record {
   progress = is.progress;
   last = is.last;
   passed = is.passed;
-  cells = replaced_bytes p.cells (48 + o) (map bit (outs kind kept.code kept.mode)) is.cells (bits_bytes (outs kind kept.code kept.mode));
+  cells = replaced_bytes p.cells (WORK_CELLS + o) (map bit (outs kind kept.code kept.mode)) is.cells (bits_bytes (outs kind kept.code kept.mode));
   blocks = replaced_bytes p.blocks (16 * i) (stored kept) is.blocks (stored_bytes kept low);
 }
 
@@ -250,12 +251,12 @@ parsed_is n cells =
     let bytes = complement cells in
     let h = complement_small cells in
     record {
-      offset = be4_small bytes 0 h;
-      progress = h 4;
-      last = be4_small bytes 5 h;
-      passed = be4_small bytes 9 h;
-      cells = take_bytes (48 + n) (drop 13 bytes) (drop_bytes 13 bytes h);
-      blocks = drop_bytes (61 + n) bytes h;
+      offset = be4_small bytes OFFSET_AT h;
+      progress = h PROGRESS_AT;
+      last = be4_small bytes LAST_AT h;
+      passed = be4_small bytes PASSED_AT h;
+      cells = take_bytes (WORK_CELLS + n) (drop WORK_AT bytes) (drop_bytes WORK_AT bytes h);
+      blocks = drop_bytes (SIGNALS_AT + n) bytes h;
     }
 
 pub begun_is : (now : ℕ) (ins : List Bool) (p : Plain) → now < 2 ^ 32 → IsPlain p → IsPlain (begin_plain now ins p)
@@ -264,6 +265,6 @@ begun_is now ins p small is = record {
   progress = lit< tt;
   last = small;
   passed = omega arith;
-  cells = replaced_bytes p.cells 48 (map bit ins) is.cells (bits_bytes ins);
+  cells = replaced_bytes p.cells WORK_CELLS (map bit ins) is.cells (bits_bytes ins);
   blocks = is.blocks;
 }

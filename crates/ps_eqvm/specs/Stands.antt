@@ -4,7 +4,7 @@ use Rattle.ps_model.specs.Network.{Network}
 use Rattle.ps_model.specs.Scanning.{State}
 use Rattle.ps_model.specs.Kept.{Remains}
 use Rattle.ps_machine.specs.Bytes.{be4}
-use Rattle.ps_machine.specs.Standing.{StandsIn, limit_in}
+use Rattle.ps_machine.specs.Standing.{AreCellsOf, limit_in}
 use Rattle.ps_eqvm.specs.declared.layout.TheConstants.{LAST_AT, SIGNALS_AT}
 use Rattle.ps_eqvm.specs.Plain.{complement}
 
@@ -13,4 +13,4 @@ use Rattle.ps_eqvm.specs.Plain.{complement}
 -- limit less its age, and not below 0. The kept time is t.
 pub record StandsB (net : Network) (w : State) (t : ℕ) (cells : List ℕ) : Type 0 where
   pub kept_time : be4 (complement cells) LAST_AT ≡ t
-  pub standing : StandsIn net (λ i. Remains (limit_in net i)) w SIGNALS_AT (complement cells)
+  pub standing : AreCellsOf net (λ i. Remains (limit_in net i)) w SIGNALS_AT (complement cells)

@@ -1,5 +1,5 @@
 -- Function blocks by their names, as they are kept and as they are.
-use Rattle.std.proofs.Common.{◌≡◌, Bool, true, false, List, [], ◌∷◌, Option, Some, map, refl, ◌++◌, sym, ap, subst, ◌∙◌, cond}
+use Rattle.std.proofs.Common.{◌≡◌, Bool, true, false, List, [], ◌∷◌, Option, Some, map, refl, sym, ap, subst, ◌∙◌, cond}
 use Rattle.std.specs.List.{find, AllByRecursion}
 use Rattle.std.specs.Option.{option_map}
 use Rattle.std.specs.Prelude.{IfSome}
@@ -33,8 +33,3 @@ found_keeps P p (x ∷ xs) h = by (p x) h.0 (found_keeps P p xs h.1)
 
 pub named_knows : (ls : List Laid) (n : Name) (o : Option Laid) → o ≡ laid_named ls n → KnowInputs ls → IfSome o KnowsInputs
 named_knows ls n o is h = subst (λ x. IfSome x KnowsInputs) (sym is) (found_keeps KnowsInputs (λ l. same n l.interface.name) ls h)
-
--- one more item
-pub all_push : {X : Type 0} (P : X → Type 0) (xs : List X) (x : X) → AllByRecursion P xs → P x → AllByRecursion P (xs ++ x ∷ [])
-all_push P [] x h one = (one, tt)
-all_push P (y ∷ xs) x h one = (h.0, all_push P xs x h.1 one)

@@ -1,6 +1,7 @@
 -- The flat source of a text that breaks no rule B is whole.
 use Rattle.std.proofs.Common.{◌≡◌, List, [], ◌∷◌, ◌++◌, map, sym, ap, ◌∙◌, append_assoc}
 use Rattle.std.specs.List.{AllByRecursion}
+use Rattle.std.proofs.SliceLists.{all_by_recursion_push}
 use Rattle.std.proofs.lemmas.List.{map-append, append-nil}
 use Rattle.ps_parser.specs.declared.name.Name.{Name}
 use Rattle.ps_parser.specs.declared.heads.Heads.TheVariants.{Program, Block}
@@ -10,7 +11,6 @@ use Rattle.ps_derived.specs.declared.library.Library.{Library}
 use Rattle.ps_derived.specs.Flat.{FlatBlock, block_flat, blocks_flat, flat}
 use Rattle.ps_derived_rules.specs.Interfaces.{interface_of}
 use Rattle.ps_derived_rules.specs.BlockRules.{body_breaks, blocks_break, named_wrongly, too_large, block_names, offences}
-use Rattle.ps_flatten.proofs.Lookups.{all_push}
 use Rattle.ps_flatten.proofs.Given.{face, none_left, none_right, body_gives}
 use Rattle.ps_flatten.proofs.Wholes.{BlockFine, body_fine, fine_source}
 
@@ -22,7 +22,7 @@ blocks_fine names before (b ∷ bs) fine whole none_ =
     let here = body_breaks names (map face before) Block b in
     let rest = blocks_break names (map face before ++ interface_of b ∷ []) bs in
     let gives = body_gives names before Block b (none_left here rest none_) in
-    blocks_fine names (before ++ block_flat before b ∷ []) bs (all_push BlockFine before (block_flat before b) fine (body_fine before fine b whole.0 gives)) whole.1
+    blocks_fine names (before ++ block_flat before b ∷ []) bs (all_by_recursion_push BlockFine before (block_flat before b) fine (body_fine before fine b whole.0 gives)) whole.1
     (ap (λ i. blocks_break names i bs) (map-append face before (block_flat before b ∷ [])) ∙ none_right here rest none_)
 
 faces_are : (before : List FlatBlock) (bs : List SourceTree) → map face (blocks_flat before bs) ≡ map face before ++ map interface_of bs

@@ -111,6 +111,7 @@ impl LineReader {
     /// It reads in pieces, only while the bytes that are held contain no whole line, and goes on after a read that
     /// gave less than was asked for. A line that is too long is read on without being kept, up to its line feed, the
     /// text's end or a byte past the largest text.
+    #[inline(always)]
     pub fn next_line<F: Files>(&mut self, files: &mut F) -> Result<Got, ReadFailed>
         ensures reads { IsTrue (F.tells files.old) → (text : List ℕ) → F.held files.old (name_of self.old) ≡ Some text →
             IsReading self.old text → IsReading self.new text }
@@ -203,6 +204,7 @@ impl LineReader {
     }
 
     // Looks at the bytes that are held. None: the line goes on behind them.
+    #[inline(always)]
     fn look(&mut self) -> Option<Got>
         ensures reads { (text : List ℕ) → IsReading self.old text → IsReading self.new text }
         ensures gives { IfSome result (λ got. (text : List ℕ) → IsReading self.old text →

@@ -12,7 +12,7 @@ use Rattle.ps_model.specs.Network.{Network, signal_count, instance_count, kind_a
 use Rattle.ps_model.specs.Scanning.{signal_in, block_in}
 use Rattle.ps_model.specs.Stored.{is_last, is_mode}
 use Rattle.ps_machine.specs.Bytes.{bit, instance_bytes}
-use Rattle.ps_machine.specs.Standing.{StandsBlock, StandsIn}
+use Rattle.ps_machine.specs.Standing.{LoadsTo, AreCellsOf}
 
 abbrev pub zeros : ℕ → List ℕ
 zeros n = replicate n 0
@@ -53,7 +53,7 @@ no_mode SafetyRequest = refl
 no_mode OutControl = refl
 no_mode Edm = refl
 
-no_state : (Says : ℕ → ℕ → Type 0) (kind : Kind) → StandsBlock Says kind (zeros 16) idle
+no_state : (Says : ℕ → ℕ → Type 0) (kind : Kind) → LoadsTo Says kind (zeros 16) idle
 no_state Says kind = record {
   kept = fresh;
   loads = record {
@@ -65,7 +65,7 @@ no_state Says kind = record {
 
 -- ---- all cells
 pub blank_stands : (net : Network) (Says : ℕ → ℕ → ℕ → Type 0) (first : ℕ) →
-    StandsIn net Says (first_state net) first (zeros (first + signal_count net + 16 * instance_count net))
+    AreCellsOf net Says (first_state net) first (zeros (first + signal_count net + 16 * instance_count net))
 blank_stands net Says first =
     let n = signal_count net in
     let m = instance_count net in
@@ -82,6 +82,6 @@ blank_stands net Says first =
       blocks = λ i l.
           let at : block_in w i ≡ idle = get_or-replicate m i idle idle l in
           let bytes : instance_bytes (first + n) i (zeros size) ≡ zeros 16 = zeros_of size (first + n + 16 * i) (omega arith) in
-          subst (StandsBlock (Says i) (kind_at net i) (instance_bytes (first + n) i (zeros size))) (sym at)
-          (subst (λ x. StandsBlock (Says i) (kind_at net i) x idle) (sym bytes) (no_state (Says i) (kind_at net i)));
+          subst (LoadsTo (Says i) (kind_at net i) (instance_bytes (first + n) i (zeros size))) (sym at)
+          (subst (λ x. LoadsTo (Says i) (kind_at net i) x idle) (sym bytes) (no_state (Says i) (kind_at net i)));
     }

@@ -25,7 +25,7 @@ use Rattle.ps_model.proofs.Sixteen.{short_code, bit_is_one}
 use Rattle.ps_model.proofs.OneSolution.{first_pin_range}
 use Rattle.ps_model.proofs.OutputLengths.{output_count_is}
 use Rattle.ps_machine.specs.Bytes.{bit, be2, is_no_bit, instance_bytes}
-use Rattle.ps_machine.specs.Standing.{StandsIn}
+use Rattle.ps_machine.specs.Standing.{AreCellsOf}
 use Rattle.ps_machine.specs.Reporting.{output_byte, past_outputs, ready_byte, error_byte, code_in, holds_report, diag_at, report_in}
 use Rattle.ps_machine.proofs.Bits.{bit_is_bit}
 
@@ -69,7 +69,7 @@ code_of_bytes kind cells blocks i k h =
     (λ x. from_be_bytes w16 (first x ∷ second x ∷ [])) ∙ from_be_bytes-to_be_bytes_2 k.code (short_code kind k.code h.kept.state)
 
 module _ (net : Network) (sound : IsSound net) (z : Sizes) (sizes : AreSizesOf net z) (Says : ℕ → ℕ → ℕ → Type 0) (old new : State) (ins : List Bool) (dt first : ℕ) (cells : List ℕ)
-    (solves : Solves net old ins dt new) (stands : StandsIn net Says new first cells) where
+    (solves : Solves net old ins dt new) (stands : AreCellsOf net Says new first cells) where
   output_is : (j : ℕ) → j < length net.outputs → output_byte z first cells j ≡ bit (signal_in new (input_count net + j))
   output_is j h =
       let inside : input_count net + j < signal_count net = omega arith in

@@ -11,19 +11,19 @@ use Rattle.ps_model.specs.Stored.{Loads}
 use Rattle.ps_machine.specs.Bytes.{bit, instance_bytes}
 
 -- sixteen bytes load for the kind, and what they keep stands for the block state
-pub record StandsBlock (Says : ℕ → ℕ → Type 0) (kind : Kind) (bytes : List ℕ) (b : Block_state) : Type 0 where
+pub record LoadsTo (Says : ℕ → ℕ → Type 0) (kind : Kind) (bytes : List ℕ) (b : Block_state) : Type 0 where
   pub kept : Kept
   pub loads : Loads kind bytes kept
   pub stands : StandsBy Says kept b
 
--- Plain cells stand for a state, where the signal bytes begin at a place and the instances' bytes follow them.
-pub record StandsIn (net : Network) (Says : ℕ → ℕ → ℕ → Type 0) (w : State) (first : ℕ) (cells : List ℕ) : Type 0 where
+-- Plain cells are those of a state, where the signal bytes begin at a place and the instances' bytes follow them.
+pub record AreCellsOf (net : Network) (Says : ℕ → ℕ → ℕ → Type 0) (w : State) (first : ℕ) (cells : List ℕ) : Type 0 where
   pub sized : length cells ≡ first + signal_count net + 16 * instance_count net
   -- a local without a driver is FALSE
   pub undriven : (s : ℕ) → input_count net ≤ s → is_driven net s ≡ false → signal_in w s ≡ false
   pub signals : (s : ℕ) → s < signal_count net → slice_index cells (first + s) ≡ bit (signal_in w s)
   pub blocks : (i : ℕ) → i < instance_count net →
-      StandsBlock (Says i) (kind_at net i) (instance_bytes (first + signal_count net) i cells) (block_in w i)
+      LoadsTo (Says i) (kind_at net i) (instance_bytes (first + signal_count net) i cells) (block_in w i)
 
 -- the limit of the first of these steps that calls the instance
 abbrev pub limit_from : Network → ℕ → List Action → ℕ

@@ -2,6 +2,7 @@
 use Rattle.std.proofs.Common.{◌≡◌, ◌↔◌, ℕ, Bool, true, false, cond, List, [], ◌∷◌, ◌++◌, Option, None, Some, map, refl, sym, ap, subst, ◌∙◌, ◌&&◌, ◌||◌, if◌then◌else◌}
 use Rattle.std.specs.List.{flat_map, find, AllByRecursion}
 use Rattle.std.specs.Str.{bytes_eq}
+use Rattle.std.proofs.SliceLists.{all_by_recursion_push}
 use Rattle.std.proofs.lemmas.List.{append-nil}
 use Rattle.std.proofs.lemmas.List.Folds.{list_any-append}
 use Rattle.std.proofs.lemmas.Slice.Eq.{bytes_eq-Decides}
@@ -37,10 +38,6 @@ both f g = (λ h. (f.0 h.0, g.0 h.1), λ h. (f.1 h.0, g.1 h.1))
 
 pub through : {A B C : Type 0} → (A ↔ B) → (B ↔ C) → A ↔ C
 through f g = (λ a. g.0 (f.0 a), λ c. f.1 (g.1 c))
-
-all_push : {X : Type 0} (P : X → Type 0) (xs : List X) (x : X) → AllByRecursion P xs → P x → AllByRecursion P (xs ++ x ∷ [])
-all_push P [] x h one = (one, tt)
-all_push P (y ∷ xs) x h one = (h.0, all_push P xs x h.1 one)
 
 pub same_type : (A B : Type 0) → ◌≡◌ {A = Type 0} A B → A ↔ B
 same_type A B e = subst (λ X. A ↔ X) e (λ a. a, λ a. a)
@@ -240,7 +237,7 @@ module _ (ps : List Pair) (ds : List Declared) (path : List ℕ) where
         let moved : and_then before (inputs_driven (copy_at path g) (given_ ++ x ∷ [])) ≡ and_then after_ (statement_leaves plain path (assigned g args x)) =
         ap (and_then before) (more_driven (copy_at path g) given_ x) ∙ sym (then_then before (inputs_driven (copy_at path g) given_) (drives (at (copy_at path g) x)))
         ∙ ap (and_then after_) (sym (input_driven g args x)) in
-        let rest = inputs_hold (given_ ++ x ∷ []) xs (all_push (IsInputOf block.declared) given_ x were are.0) are.1
+        let rest = inputs_hold (given_ ++ x ∷ []) xs (all_by_recursion_push (IsInputOf block.declared) given_ x were are.0) are.1
         ∙ ap (λ l. StatementsHold plain path scan l (map (assigned g args) xs)) moved in
         (λ i. one i × rest i)
 

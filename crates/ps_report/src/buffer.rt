@@ -1,57 +1,63 @@
 // The buffer in which the lines of a run are made.
 
-ghost use Rattle.std.specs.Prelude.{◌≡◌, ◌+◌, ◌≤◌, ◌++◌, length, vec_len, vec_capacity, false, IfSome};
+ghost use Rattle.std.specs.Prelude.{◌≡◌, ◌+◌, ◌≤◌, ◌++◌, length, take, false, IfSome};
 ghost use Rattle.std.specs.List.{flat_map};
 ghost use Rattle.ps_model.specs.Network.{instance_count};
 ghost use Rattle.ps_report.specs.Image.{channel_letter};
 ghost use Rattle.ps_report.specs.Lines.{cause_text, given_cause, named_value, output_texts, instance_texts, outputs_room, instances_room};
 
-use crate::line::{put, put_named_diag, put_named_value, put_number};
+use crate::line::{put, put_byte, put_named_diag, put_named_value, put_number};
 use ps_base::Memory;
 use ps_model::{App, Bits, Cause, Channel, Diags, Report};
 use std::alloc::Global;
 use std::marker::Model;
 
 // The outputs with their values.
-fn put_outputs(line: &mut Vec<u8>, app: &App, outs: &Bits)
+fn put_outputs(line: &mut [u8], at: usize, app: &App, outs: &Bits) -> usize
     requires values { length outs.now ≡ length app.now.outputs }
-    requires room { vec_len line.old + outputs_room app.now.outputs ≤ vec_capacity line.old }
-    ensures bytes { line.new.items ≡ line.old.items ++ output_texts app.now.outputs outs.now }
-    ensures len { vec_len line.new ≤ vec_len line.old + outputs_room app.now.outputs }
-    ensures capacity { vec_capacity line.old ≤ vec_capacity line.new }
+    requires room { at + outputs_room app.now.outputs ≤ length line.old }
+    ensures bytes { take result line.new ≡ take at line.old ++ output_texts app.now.outputs outs.now }
+    ensures end { result ≤ at + outputs_room app.now.outputs }
+    ensures len { length line.new ≡ length line.old }
 {
     app.sound();
     let first = app.input_count();
+    let mut end = at;
     for j in 0..app.output_count() {
-        put_named_value(line, app.signal_name(first + j), outs.at(j as usize));
+        end = put_named_value(line, end, app.signal_name(first + j), outs.at(j as usize));
     }
+    end
 }
 
 // Every output with the value FALSE.
-fn put_false_outputs(line: &mut Vec<u8>, app: &App)
-    requires room { vec_len line.old + outputs_room app.now.outputs ≤ vec_capacity line.old }
-    ensures bytes { line.new.items ≡ line.old.items ++ flat_map (λ output. named_value output.name false) app.now.outputs }
-    ensures len { vec_len line.new ≤ vec_len line.old + outputs_room app.now.outputs }
-    ensures capacity { vec_capacity line.old ≤ vec_capacity line.new }
+fn put_false_outputs(line: &mut [u8], at: usize, app: &App) -> usize
+    requires room { at + outputs_room app.now.outputs ≤ length line.old }
+    ensures bytes { take result line.new ≡ take at line.old ++ flat_map (λ output. named_value output.name false) app.now.outputs }
+    ensures end { result ≤ at + outputs_room app.now.outputs }
+    ensures len { length line.new ≡ length line.old }
 {
     app.sound();
     let first = app.input_count();
+    let mut end = at;
     for j in 0..app.output_count() {
-        put_named_value(line, app.signal_name(first + j), false);
+        end = put_named_value(line, end, app.signal_name(first + j), false);
     }
+    end
 }
 
 // The instances with what they say of themselves.
-fn put_instances(line: &mut Vec<u8>, app: &App, diags: &Diags)
+fn put_instances(line: &mut [u8], at: usize, app: &App, diags: &Diags) -> usize
     requires values { length diags.now ≡ instance_count app.now }
-    requires room { vec_len line.old + instances_room app.now.instances ≤ vec_capacity line.old }
-    ensures bytes { line.new.items ≡ line.old.items ++ instance_texts app.now.instances diags.now }
-    ensures len { vec_len line.new ≤ vec_len line.old + instances_room app.now.instances }
-    ensures capacity { vec_capacity line.old ≤ vec_capacity line.new }
+    requires room { at + instances_room app.now.instances ≤ length line.old }
+    ensures bytes { take result line.new ≡ take at line.old ++ instance_texts app.now.instances diags.now }
+    ensures end { result ≤ at + instances_room app.now.instances }
+    ensures len { length line.new ≡ length line.old }
 {
+    let mut end = at;
     for i in 0..app.instance_count() {
-        put_named_diag(line, app.instance_name(i), diags.at(i as usize));
+        end = put_named_diag(line, end, app.instance_name(i), diags.at(i as usize));
     }
+    end
 }
 
 // A channel's letter.
@@ -66,43 +72,44 @@ pub(crate) fn letter(channel: Channel) -> &'static str
 }
 
 // Why a scan is tripped, in room for 20 bytes.
-fn put_cause(line: &mut Vec<u8>, cause: Cause)
-    requires { vec_len line.old + 20 ≤ vec_capacity line.old }
-    ensures bytes { line.new.items ≡ line.old.items ++ cause_text cause }
-    ensures len { vec_len line.new ≤ vec_len line.old + 20 }
-    ensures capacity { vec_capacity line.old ≤ vec_capacity line.new }
+fn put_cause(line: &mut [u8], at: usize, cause: Cause) -> usize
+    requires { at + 20 ≤ length line.old }
+    ensures bytes { take result line.new ≡ take at line.old ++ cause_text cause }
+    ensures end { result ≤ at + 20 }
+    ensures len { length line.new ≡ length line.old }
 {
     match cause {
         Cause::Differ(field) => {
-            put(line, b" differ ");
-            put_number(line, u32::from(field));
+            let at = put(line, at, b" differ ");
+            put_number(line, at, u32::from(field))
         }
         Cause::Stuck(channel) => {
-            put(line, b" stuck ");
-            put(line, letter(channel).as_bytes());
+            let at = put(line, at, b" stuck ");
+            put(line, at, letter(channel).as_bytes())
         }
         Cause::Trap(channel, number) => {
-            put(line, b" trap ");
-            put(line, letter(channel).as_bytes());
-            put(line, b" ");
-            put_number(line, u32::from(number));
+            let at = put(line, at, b" trap ");
+            let at = put(line, at, letter(channel).as_bytes());
+            let at = put_byte(line, at, b' ');
+            put_number(line, at, u32::from(number))
         }
         Cause::NoReport(channel) => {
-            put(line, b" no report ");
-            put(line, letter(channel).as_bytes());
+            let at = put(line, at, b" no report ");
+            put(line, at, letter(channel).as_bytes())
         }
     }
 }
 
 // The cause of the scan that trips, or nothing for a later one.
-fn put_given_cause(line: &mut Vec<u8>, cause: Option<Cause>)
-    requires { vec_len line.old + 20 ≤ vec_capacity line.old }
-    ensures bytes { line.new.items ≡ line.old.items ++ given_cause cause }
-    ensures len { vec_len line.new ≤ vec_len line.old + 20 }
-    ensures capacity { vec_capacity line.old ≤ vec_capacity line.new }
+fn put_given_cause(line: &mut [u8], at: usize, cause: Option<Cause>) -> usize
+    requires { at + 20 ≤ length line.old }
+    ensures bytes { take result line.new ≡ take at line.old ++ given_cause cause }
+    ensures end { result ≤ at + 20 }
+    ensures len { length line.new ≡ length line.old }
 {
-    if let Some(cause) = cause {
-        put_cause(line, cause);
+    match cause {
+        Some(cause) => put_cause(line, at, cause),
+        None => at,
     }
 }
 
@@ -133,11 +140,11 @@ pub struct LineBuffer {
 }
 
 impl Model for LineBuffer {
-    ghost use Rattle.std.specs.Prelude.{ℕ, vec_capacity};
+    ghost use Rattle.std.specs.Prelude.{ℕ, vec_len};
 
     ghost Value = { ℕ };
 
-    ghost view = { λ b. vec_capacity b.text };
+    ghost view = { λ b. vec_len b.text };
 }
 
 impl LineBuffer {
@@ -155,7 +162,7 @@ impl LineBuffer {
         let fields = fields_room(app).ok_or(Memory)?;
         let room = fields.checked_add(48).ok_or(Memory)?;
         Ok(LineBuffer {
-            text: Vec::with_capacity(alloc, room)?,
+            text: vec![in alloc; 0; room]?,
         })
     }
 
@@ -169,12 +176,11 @@ impl LineBuffer {
         ensures* after { sem 𝓛 (follows_so the_row the_row self.entry.ghost_name none (λ _ _. ⊤) (λ room. self.old ≤ room)) }
     {
         let text = &mut self.text;
-        text.clear();
-        put_number(text, now);
-        put_outputs(text, app, &report.outs);
-        put_instances(text, app, &report.diags);
-        put(text, b"\n");
-        text.as_slice()
+        let at = put_number(text, 0, now);
+        let at = put_outputs(text, at, app, &report.outs);
+        let at = put_instances(text, at, app, &report.diags);
+        let end = put_byte(text, at, b'\n');
+        &text[..end]
     }
 
     /// The line of a scan that trips, as `20 TRIP differ 0 S_Motor=0`, or, without a cause, of a later scan, as
@@ -185,12 +191,11 @@ impl LineBuffer {
         ensures* after { sem 𝓛 (follows_so the_row the_row self.entry.ghost_name none (λ _ _. ⊤) (λ room. self.old ≤ room)) }
     {
         let text = &mut self.text;
-        text.clear();
-        put_number(text, now);
-        put(text, b" TRIP");
-        put_given_cause(text, cause);
-        put_false_outputs(text, app);
-        put(text, b"\n");
-        text.as_slice()
+        let at = put_number(text, 0, now);
+        let at = put(text, at, b" TRIP");
+        let at = put_given_cause(text, at, cause);
+        let at = put_false_outputs(text, at, app);
+        let end = put_byte(text, at, b'\n');
+        &text[..end]
     }
 }

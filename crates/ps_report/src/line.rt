@@ -1,82 +1,101 @@
 // The lines of a run, made in room that is taken before the first scan.
 
-ghost use Rattle.std.specs.Prelude.{◌≡◌, ◌+◌, ◌≤◌, ◌++◌, ◌∷◌, [], length, decimal, codes, vec_len, vec_capacity};
+ghost use Rattle.std.specs.Prelude.{◌≡◌, ◌+◌, ◌≤◌, ◌<◌, ◌++◌, ◌∷◌, [], length, slice_index, decimal, take};
+ghost use Rattle.std.specs.Char.{to_ascii_uppercase};
+ghost use Rattle.hex.specs.Hex.{lower_digits};
 ghost use Rattle.ps_report.specs.Digits.{truth_digit};
 ghost use Rattle.ps_report.specs.Lines.{code_text, named_value, named_diag};
 
 use itoa::Buffer;
 use ps_model::Diag;
 
-// These bytes at the end of a line that has room for them.
-pub(crate) fn put(line: &mut Vec<u8>, bytes: &[u8])
-    requires { vec_len line.old + length bytes.now ≤ vec_capacity line.old }
-    ensures bytes { line.new.items ≡ line.old.items ++ bytes.now }
-    ensures len { vec_len line.new ≡ vec_len line.old + length bytes.now }
-    ensures capacity { vec_capacity line.old ≤ vec_capacity line.new }
+// Puts these bytes at a place of a line that has room for them. What is answered is the place behind them.
+pub(crate) fn put(line: &mut [u8], at: usize, bytes: &[u8]) -> usize
+    requires { at + length bytes.now ≤ length line.old }
+    ensures bytes { take result line.new ≡ take at line.old ++ bytes.now }
+    ensures end { result ≡ at + length bytes.now }
+    ensures len { length line.new ≡ length line.old }
 {
-    match line.extend_from_slice(bytes) {
-        Ok(()) => {}
-        Err(_) => unreachable!(),
-    }
+    let end = at + bytes.len();
+    line[at..end].copy_from_slice(bytes);
+    end
 }
 
-// A number at the end of a line that has room for ten digits.
-pub(crate) fn put_number(line: &mut Vec<u8>, number: u32)
-    requires { vec_len line.old + 10 ≤ vec_capacity line.old }
-    ensures bytes { line.new.items ≡ line.old.items ++ decimal number }
-    ensures len { vec_len line.new ≤ vec_len line.old + 10 }
-    ensures capacity { vec_capacity line.old ≤ vec_capacity line.new }
+// Puts a byte at a place of a line. What is answered is the place behind it.
+pub(crate) fn put_byte(line: &mut [u8], at: usize, byte: u8) -> usize
+    requires { at < length line.old }
+    ensures bytes { take result line.new ≡ take at line.old ++ byte ∷ [] }
+    ensures end { result ≡ at + 1 }
+    ensures len { length line.new ≡ length line.old }
+{
+    line[at] = byte;
+    at + 1
+}
+
+// Puts a number at a place of a line that has room for ten digits. What is answered is the place behind it.
+pub(crate) fn put_number(line: &mut [u8], at: usize, number: u32) -> usize
+    requires { at + 10 ≤ length line.old }
+    ensures bytes { take result line.new ≡ take at line.old ++ decimal number }
+    ensures end { result ≤ at + 10 }
+    ensures len { length line.new ≡ length line.old }
 {
     let mut digits = Buffer::new();
-    put(line, digits.format(number).as_bytes());
+    put(line, at, digits.format(number).as_bytes())
 }
 
 // The digit of a truth value.
-pub(crate) fn put_truth(line: &mut Vec<u8>, value: bool)
-    requires { vec_len line.old + 1 ≤ vec_capacity line.old }
-    ensures bytes { line.new.items ≡ line.old.items ++ truth_digit value ∷ [] }
-    ensures len { vec_len line.new ≡ vec_len line.old + 1 }
-    ensures capacity { vec_capacity line.old ≤ vec_capacity line.new }
+pub(crate) fn truth_digit(value: bool) -> u8
+    ensures { result ≡ truth_digit value }
 {
-    put(line, if value { b"1" } else { b"0" });
+    if value { b'1' } else { b'0' }
+}
+
+// The capital hexadecimal digit of a number up to 15.
+fn capital_digit(n: u8) -> u8
+    requires { n < 16 }
+    ensures { result ≡ to_ascii_uppercase (slice_index lower_digits n) }
+{
+    b"0123456789ABCDEF"[usize::from(n)]
 }
 
 // A DiagCode in four capital hexadecimal digits.
+#[tactic(auto, unfolding(hex::specs::Hex::encode_with))]
 fn code_digits(code: u16) -> [u8; 4]
     ensures { result ≡ code_text code }
 {
-    let mut digits = [0u8; 4];
-    match hex::encode_to_slice(code.to_be_bytes(), &mut digits) {
-        Ok(()) => {}
-        Err(_) => unreachable!(),
-    }
-    digits.make_ascii_uppercase();
-    digits
+    let [high, low] = code.to_be_bytes();
+    [
+        capital_digit(high / 16),
+        capital_digit(high % 16),
+        capital_digit(low / 16),
+        capital_digit(low % 16),
+    ]
 }
 
-// A name with a truth value, as ` S_Motor=1`.
-pub(crate) fn put_named_value(line: &mut Vec<u8>, name: &str, value: bool)
-    requires { vec_len line.old + (length name.now + 3) ≤ vec_capacity line.old }
-    ensures bytes { line.new.items ≡ line.old.items ++ named_value name.now value }
-    ensures len { vec_len line.new ≡ vec_len line.old + (length name.now + 3) }
-    ensures capacity { vec_capacity line.old ≤ vec_capacity line.new }
+// Puts a name with a truth value, as ` S_Motor=1`, at a place of a line. What is answered is the place behind it.
+pub(crate) fn put_named_value(line: &mut [u8], at: usize, name: &str, value: bool) -> usize
+    requires { at + (length name.now + 3) ≤ length line.old }
+    ensures bytes { take result line.new ≡ take at line.old ++ named_value name.now value }
+    ensures end { result ≡ at + (length name.now + 3) }
+    ensures len { length line.new ≡ length line.old }
 {
-    put(line, b" ");
-    put(line, name.as_bytes());
-    put(line, b"=");
-    put_truth(line, value);
+    let at = put_byte(line, at, b' ');
+    let at = put(line, at, name.as_bytes());
+    let at = put_byte(line, at, b'=');
+    put_byte(line, at, truth_digit(value))
 }
 
-// A name with Ready, Error and DiagCode, as ` E=1,0,8000`.
-pub(crate) fn put_named_diag(line: &mut Vec<u8>, name: &str, diag: Diag)
-    requires { vec_len line.old + (length name.now + 10) ≤ vec_capacity line.old }
-    ensures bytes { line.new.items ≡ line.old.items ++ named_diag name.now diag }
-    ensures len { vec_len line.new ≡ vec_len line.old + (length name.now + 10) }
-    ensures capacity { vec_capacity line.old ≤ vec_capacity line.new }
+// Puts a name with Ready, Error and DiagCode, as ` E=1,0,8000`, at a place of a line. What is answered is the place
+// behind it.
+pub(crate) fn put_named_diag(line: &mut [u8], at: usize, name: &str, diag: Diag) -> usize
+    requires { at + (length name.now + 10) ≤ length line.old }
+    ensures bytes { take result line.new ≡ take at line.old ++ named_diag name.now diag }
+    ensures end { result ≡ at + (length name.now + 10) }
+    ensures len { length line.new ≡ length line.old }
 {
-    put_named_value(line, name, diag.ready);
-    put(line, b",");
-    put_truth(line, diag.error);
-    put(line, b",");
-    put(line, &code_digits(diag.code));
+    let at = put_named_value(line, at, name, diag.ready);
+    let at = put_byte(line, at, b',');
+    let at = put_byte(line, at, truth_digit(diag.error));
+    let at = put_byte(line, at, b',');
+    put(line, at, &code_digits(diag.code))
 }

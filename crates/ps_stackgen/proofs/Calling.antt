@@ -17,6 +17,7 @@ use Rattle.ps_machine.proofs.CalledSignals.{called_signals, signal_inside, signa
 use Rattle.ps_machine.proofs.Instances.{bytes_at, block_is}
 use Rattle.ps_machine.proofs.KindsByNumber.{kind_of-number}
 use Rattle.ps_machine.proofs.Places.{length-replaced, index_before, index_within, index_after}
+use Rattle.ps_stackvm.specs.declared.layout.TheConstants.{SIGNALS_AT}
 use Rattle.ps_stackvm.specs.declared.instruction.Instruction.TheVariants.{Call}
 use Rattle.ps_stackvm.specs.Cells.{height_of, scan_time, block_bytes, with_pc, with_height}
 use Rattle.ps_stackvm.specs.Calling.{topmost, pins_in, stepped_to, called_with, called_by, after_call}
@@ -62,7 +63,7 @@ call_goes n m i o limit next now kind blocks cells pc pins v kept h within room 
     let e3 : nat_lt 64 (height_of cells) ≡ false = lt-leb 65 (height_of cells) (omega (arith, h.height)) in
     let e4 : nat_lt (height_of cells) (boolean_count kind) ≡ false = lt-leb (suc (height_of cells)) (boolean_count kind) (omega (arith, h.height)) in
     let top : topmost (boolean_count kind) cells ≡ map bit pins = ap (λ c. topmost c cells) (sym many) ∙ pins_on_top n now blocks cells pc pins v h low in
-    let found : loaded kind (block_bytes n i cells) ≡ Some kept = ap (loaded kind) (block_is (74 + n) i cells blocks h.rest) ∙ there in
+    let found : loaded kind (block_bytes n i cells) ≡ Some kept = ap (loaded kind) (block_is (SIGNALS_AT + n) i cells blocks h.rest) ∙ there in
     let odd : list_any is_no_bit (topmost (boolean_count kind) cells) ≡ false = ap (list_any is_no_bit) top ∙ none_odd pins in
     let pins_are : pins_in (topmost (boolean_count kind) cells) ≡ (λ j. slice_index_or pins j false) = ap pins_in top ∙ (λ x j. pin_is pins j x) in
     cond-false (nat_le m i) _ _ e1
@@ -75,15 +76,15 @@ call_goes n m i o limit next now kind blocks cells pc pins v kept h within room 
     ∙ ap (λ t. stepped_to n i o next kind (stepped_at kind limit (λ j. slice_index_or pins j false) t kept) cells) h.time
 
 -- the numbers that a CALL's writes leave where they are: the height, the sixteen bytes, and the outputs
-module _ (n i o next height : ℕ) (st os cells : List ℕ) (size : length st ≡ 16) (room : 74 + n + 16 * i + 16 ≤ length cells) (fit : o + length os ≤ n) where
+module _ (n i o next height : ℕ) (st os cells : List ℕ) (size : length st ≡ 16) (room : SIGNALS_AT + n + 16 * i + 16 ≤ length cells) (fit : o + length os ≤ n) where
   c1 : List ℕ
   c1 = with_height height cells
 
   c2 : List ℕ
-  c2 = replaced c1 (74 + n + 16 * i) st
+  c2 = replaced c1 (SIGNALS_AT + n + 16 * i) st
 
   c3 : List ℕ
-  c3 = replaced c2 (74 + o) os
+  c3 = replaced c2 (SIGNALS_AT + o) os
 
   l1 : length c1 ≡ length cells
   unfolding c1
@@ -91,26 +92,26 @@ module _ (n i o next height : ℕ) (st os cells : List ℕ) (size : length st �
 
   l2 : length c2 ≡ length cells
   unfolding c2
-  l2 = length-replaced c1 (74 + n + 16 * i) st (omega (arith, l1)) ∙ l1
+  l2 = length-replaced c1 (SIGNALS_AT + n + 16 * i) st (omega (arith, l1)) ∙ l1
 
   l3 : length c3 ≡ length cells
   unfolding c3
-  l3 = length-replaced c2 (74 + o) os (omega (arith, l2)) ∙ l2
+  l3 = length-replaced c2 (SIGNALS_AT + o) os (omega (arith, l2)) ∙ l2
 
   l4 : length (with_pc next c3) ≡ length cells
   l4 = length-with_pc next c3 (omega (arith, l3)) ∙ l3
 
-  called_is : with_pc next (replaced (replaced (with_height height cells) (74 + n + 16 * i) st) (74 + o) os) ≡ with_pc next c3
+  called_is : with_pc next (replaced (replaced (with_height height cells) (SIGNALS_AT + n + 16 * i) st) (SIGNALS_AT + o) os) ≡ with_pc next c3
   unfolding c1 c2 c3
   called_is = refl
 
   -- below the signals nothing but the height changes
-  low_same : (k : ℕ) → 4 ≤ k → k < 74 → slice_index (with_pc next c3) k ≡ slice_index c1 k
+  low_same : (k : ℕ) → 4 ≤ k → k < SIGNALS_AT → slice_index (with_pc next c3) k ≡ slice_index c1 k
   unfolding c2 c3
   low_same k from to =
       index-with_pc next c3 k from
-      ∙ index_before c2 (74 + o) os k (omega arith) (omega (arith, l2))
-      ∙ index_before c1 (74 + n + 16 * i) st k (omega arith) (omega (arith, l1))
+      ∙ index_before c2 (SIGNALS_AT + o) os k (omega arith) (omega (arith, l2))
+      ∙ index_before c1 (SIGNALS_AT + n + 16 * i) st k (omega arith) (omega (arith, l1))
 
   height_is : slice_index c1 4 ≡ height
   unfolding c1
@@ -121,62 +122,62 @@ module _ (n i o next height : ℕ) (st os cells : List ℕ) (size : length st �
   c1_same k other = grind (arith, common_steps)
 
   -- the outputs
-  out_is : (j : ℕ) → j < length os → slice_index (with_pc next c3) (74 + (o + j)) ≡ slice_index os j
+  out_is : (j : ℕ) → j < length os → slice_index (with_pc next c3) (SIGNALS_AT + (o + j)) ≡ slice_index os j
   unfolding c3
   out_is j low =
-      let e : 74 + (o + j) ≡ 74 + o + j = omega arith in
-      index-with_pc next c3 (74 + (o + j)) (omega arith)
+      let e : SIGNALS_AT + (o + j) ≡ SIGNALS_AT + o + j = omega arith in
+      index-with_pc next c3 (SIGNALS_AT + (o + j)) (omega arith)
       ∙ ap (slice_index c3) e
-      ∙ index_within c2 (74 + o) os j low (omega (arith, l2))
+      ∙ index_within c2 (SIGNALS_AT + o) os j low (omega (arith, l2))
 
   -- every other signal
-  signal_same : (k : ℕ) → k < n → ((k < o) ⊎ (o + length os ≤ k)) → slice_index (with_pc next c3) (74 + k) ≡ slice_index cells (74 + k)
+  signal_same : (k : ℕ) → k < n → ((k < o) ⊎ (o + length os ≤ k)) → slice_index (with_pc next c3) (SIGNALS_AT + k) ≡ slice_index cells (SIGNALS_AT + k)
   unfolding c1 c2 c3
   signal_same k low side =
-      index-with_pc next c3 (74 + k) (omega arith)
+      index-with_pc next c3 (SIGNALS_AT + k) (omega arith)
       ∙ elim side [
-        | inl before ↦ index_before c2 (74 + o) os (74 + k) (omega arith) (omega (arith, l2))
-        | inr past ↦ index_after c2 (74 + o) os (74 + k) (omega arith) (omega (arith, l2))
+        | inl before ↦ index_before c2 (SIGNALS_AT + o) os (SIGNALS_AT + k) (omega arith) (omega (arith, l2))
+        | inr past ↦ index_after c2 (SIGNALS_AT + o) os (SIGNALS_AT + k) (omega arith) (omega (arith, l2))
       ]
-      ∙ index_before c1 (74 + n + 16 * i) st (74 + k) (omega arith) (omega (arith, l1))
+      ∙ index_before c1 (SIGNALS_AT + n + 16 * i) st (SIGNALS_AT + k) (omega arith) (omega (arith, l1))
       ∙ grind (arith, common_steps)
 
   -- the instances' bytes
-  rest_is : drop (74 + n) (with_pc next c3) ≡ replaced (drop (74 + n) cells) (16 * i) st
+  rest_is : drop (SIGNALS_AT + n) (with_pc next c3) ≡ replaced (drop (SIGNALS_AT + n) cells) (16 * i) st
   unfolding c1 c2 c3
   rest_is =
-      let blocks = drop (74 + n) cells in
-      let place = 74 + n + 16 * i in
-      let lb = length-drop (74 + n) cells in
-      let ln = length-drop (74 + n) (with_pc next c3) in
+      let blocks = drop (SIGNALS_AT + n) cells in
+      let place = SIGNALS_AT + n + 16 * i in
+      let lb = length-drop (SIGNALS_AT + n) cells in
+      let ln = length-drop (SIGNALS_AT + n) (with_pc next c3) in
       let lr = length-replaced blocks (16 * i) st (omega arith) in
-      let len : length (drop (74 + n) (with_pc next c3)) ≡ length (replaced blocks (16 * i) st) = omega (arith, l4) in
-      same_lists (drop (74 + n) (with_pc next c3)) (replaced blocks (16 * i) st) len (λ k d low.
+      let len : length (drop (SIGNALS_AT + n) (with_pc next c3)) ≡ length (replaced blocks (16 * i) st) = omega (arith, l4) in
+      same_lists (drop (SIGNALS_AT + n) (with_pc next c3)) (replaced blocks (16 * i) st) len (λ k d low.
       let low' : k < length (replaced blocks (16 * i) st) = omega arith in
-      let there = get_or-drop (74 + n) (with_pc next c3) k 0 in
-      let on = index-with_pc next c3 (74 + n + k) (omega arith) ∙ index_after c2 (74 + o) os (74 + n + k) (omega arith) (omega (arith, l2)) in
-      let from = get_or_default (drop (74 + n) (with_pc next c3)) k d 0 low in
+      let there = get_or-drop (SIGNALS_AT + n) (with_pc next c3) k 0 in
+      let on = index-with_pc next c3 (SIGNALS_AT + n + k) (omega arith) ∙ index_after c2 (SIGNALS_AT + o) os (SIGNALS_AT + n + k) (omega arith) (omega (arith, l2)) in
+      let from = get_or_default (drop (SIGNALS_AT + n) (with_pc next c3)) k d 0 low in
       let to = get_or_default (replaced blocks (16 * i) st) k 0 d low' in
-      let mid : slice_index c2 (74 + n + k) ≡ slice_index (replaced blocks (16 * i) st) k =
+      let mid : slice_index c2 (SIGNALS_AT + n + k) ≡ slice_index (replaced blocks (16 * i) st) k =
       elim (cases_lt k (16 * i)) [
         | inl before ↦
-            index_before c1 place st (74 + n + k) (omega arith) (omega (arith, l1))
+            index_before c1 place st (SIGNALS_AT + n + k) (omega arith) (omega (arith, l1))
             ∙ grind (arith, common_steps)
-            ∙ sym (get_or-drop (74 + n) cells k 0)
+            ∙ sym (get_or-drop (SIGNALS_AT + n) cells k 0)
             ∙ sym (index_before blocks (16 * i) st k before (omega arith))
         | inr past ↦ elim (cases_lt k (16 * i + 16)) [
           | inl within ↦
               let j = k - 16 * i in
-              let e1 : 74 + n + k ≡ place + j = omega arith in
+              let e1 : SIGNALS_AT + n + k ≡ place + j = omega arith in
               let e2 : 16 * i + j ≡ k = omega arith in
               ap (slice_index c2) e1
               ∙ index_within c1 place st j (omega arith) (omega (arith, l1))
               ∙ sym (index_within blocks (16 * i) st j (omega arith) (omega arith))
               ∙ ap (slice_index (replaced blocks (16 * i) st)) e2
           | inr after ↦
-              index_after c1 place st (74 + n + k) (omega arith) (omega (arith, l1))
+              index_after c1 place st (SIGNALS_AT + n + k) (omega arith) (omega (arith, l1))
               ∙ grind (arith, common_steps)
-              ∙ sym (get_or-drop (74 + n) cells k 0)
+              ∙ sym (get_or-drop (SIGNALS_AT + n) cells k 0)
               ∙ sym (index_after blocks (16 * i) st k (omega arith) (omega arith))
         ]
       ] in
@@ -184,12 +185,12 @@ module _ (n i o next height : ℕ) (st os cells : List ℕ) (size : length st �
 
 pub call_holds : (n now i o next count wide : ℕ) (blocks cells : List ℕ) (pc : ℕ) (pins os : List Bool) (v : ℕ → Bool) (st : List ℕ) →
     Holds n now blocks cells pc pins v → next < 2 ^ 32 → length pins ≡ count → length os ≡ wide → o + wide ≤ n → 16 * i + 16 ≤ length blocks → length st ≡ 16 →
-    Holds n now (replaced blocks (16 * i) st) (with_pc next (replaced (replaced (with_height (height_of cells - count) cells) (74 + n + 16 * i) st) (74 + o) (map bit os))) next []
+    Holds n now (replaced blocks (16 * i) st) (with_pc next (replaced (replaced (with_height (height_of cells - count) cells) (SIGNALS_AT + n + 16 * i) st) (SIGNALS_AT + o) (map bit os))) next []
     (called_signals o wide os v)
 call_holds n now i o next count wide blocks cells pc pins os v st h small many shown room inside size =
     let lr = ap length h.rest in
-    let ld = length-drop (74 + n) cells in
-    let fits : 74 + n + 16 * i + 16 ≤ length cells = omega (arith, h.sized) in
+    let ld = length-drop (SIGNALS_AT + n) cells in
+    let fits : SIGNALS_AT + n + 16 * i + 16 ≤ length cells = omega (arith, h.sized) in
     let ob = map bit os in
     let lo : length ob ≡ length os = length-map os bit in
     let room' : o + length ob ≤ n = omega arith in
@@ -212,7 +213,7 @@ call_holds n now i o next count wide blocks cells pc pins os v st h small many s
               let j = k - o in
               let e : o + j ≡ k = omega arith in
               let here : j < length os = omega arith in
-              ap (λ p. slice_index final (74 + p)) (sym e)
+              ap (λ p. slice_index final (SIGNALS_AT + p)) (sym e)
               ∙ out_is n i o next hh st ob cells size fits room' j (omega arith)
               ∙ get_or-map bit os j false 0 here
               ∙ ap bit (sym (signal_inside o wide os v k from within))

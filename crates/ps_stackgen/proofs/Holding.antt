@@ -9,6 +9,7 @@ use Rattle.std.proofs.lemmas.Bool.{lt-leb, cases_lt, cases_eq}
 use Rattle.ps_machine.specs.Bytes.{bit}
 use Rattle.ps_machine.proofs.Bits.{bit_is_bit, bit_and-bit, bit_or-bit}
 use Rattle.ps_machine.proofs.Places.{length-replaced, index_after, be4_within}
+use Rattle.ps_stackvm.specs.declared.layout.TheConstants.{SIGNALS_AT}
 use Rattle.ps_stackvm.specs.declared.instruction.Instruction.{Instruction}
 use Rattle.ps_stackvm.specs.declared.instruction.Instruction.TheVariants.{Load, Store, Const, And, Or}
 use Rattle.ps_stackvm.specs.Cells.{pc_of, height_of, progress_of, scan_time, stack_byte, signal_byte, with_pc, with_height}
@@ -29,14 +30,14 @@ length-with_pc pc cells h = length-replaced cells 0 (to_be_bytes w32 pc) h
 
 -- n signals; the cells are those of a running machine at pc with these truth values on the stack, the lowest first, and in the signals, the scan's time and the instances' bytes
 pub record Holds (n : ℕ) (now : ℕ) (blocks : List ℕ) (cells : List ℕ) (pc : ℕ) (stack : List Bool) (v : ℕ → Bool) : Type 0 where
-  pub sized : 74 + n ≤ length cells
+  pub sized : SIGNALS_AT + n ≤ length cells
   pub at : pc_of cells ≡ pc
   pub height : height_of cells ≡ length stack
   pub running : progress_of cells ≡ 0
   pub time : scan_time cells ≡ now
   pub holds : (k : ℕ) → k < length stack → stack_byte cells k ≡ bit (slice_index_or stack k false)
   pub signals : (s : ℕ) → s < n → signal_byte cells s ≡ bit (v s)
-  pub rest : drop (74 + n) cells ≡ blocks
+  pub rest : drop (SIGNALS_AT + n) cells ≡ blocks
 
 pub drop_ext : (k : ℕ) (xs ys : List ℕ) → length xs ≡ length ys → ((j : ℕ) → k ≤ j → slice_index xs j ≡ slice_index ys j) → drop k xs ≡ drop k ys
 drop_ext k xs ys size same =
@@ -65,7 +66,7 @@ last_or_before stack b k l =
 push_holds : (n now : ℕ) (blocks cells : List ℕ) (pc next : ℕ) (stack : List Bool) (v : ℕ → Bool) (b : Bool) → Holds n now blocks cells pc stack v → next < 2 ^ 32 → length stack < 64 → Holds n now blocks (with_pc next (pushed (bit b) cells)) next (stack ++ b ∷ []) v
 push_holds n now blocks cells pc next stack v b h small low =
     let p = pushed (bit b) cells in
-    let size : 74 + n ≤ length cells = h.sized in
+    let size : SIGNALS_AT + n ≤ length cells = h.sized in
     let tall : height_of cells ≡ length stack = h.height in
     let e4 = index-with_pc next p 4 (omega arith) in
     let e5 = index-with_pc next p 5 (omega arith) in
@@ -73,11 +74,11 @@ push_holds n now blocks cells pc next stack v b h small low =
     let final = with_pc next p in
     let whole : length final ≡ length cells = e0 ∙ grind (arith, common_steps) in
     let header : (k : ℕ) → 6 ≤ k → k < 10 → slice_index final k ≡ slice_index cells k = λ k from to. index-with_pc next p k (omega arith) ∙ grind (arith, common_steps) in
-    let tail : (k : ℕ) → 74 + n ≤ k → slice_index final k ≡ slice_index cells k = λ k from. index-with_pc next p k (omega arith) ∙ grind (arith, common_steps) in
+    let tail : (k : ℕ) → SIGNALS_AT + n ≤ k → slice_index final k ≡ slice_index cells k = λ k from. index-with_pc next p k (omega arith) ∙ grind (arith, common_steps) in
     record {
       sized = omega arith;
       time = time_same cells final header ∙ h.time;
-      rest = drop_ext (74 + n) final cells whole tail ∙ h.rest;
+      rest = drop_ext (SIGNALS_AT + n) final cells whole tail ∙ h.rest;
       at = pc_of-with_pc next p small;
       height = grind (arith, common_steps);
       running = e5 ∙ grind (arith, common_steps, h.running);
@@ -86,14 +87,14 @@ push_holds n now blocks cells pc next stack v b h small low =
             | inl low ↦ grind (arith, common_steps, h.holds k low.0, low.1)
             | inr last ↦ grind (arith, common_steps, last.1)
           ];
-      signals = λ s l. let e = index-with_pc next p (74 + s) (omega arith) in e ∙ grind (arith, common_steps, h.signals s l);
+      signals = λ s l. let e = index-with_pc next p (SIGNALS_AT + s) (omega arith) in e ∙ grind (arith, common_steps, h.signals s l);
     }
 
 -- the topmost byte leaves the stack, and is signal c from then on
-store_holds : (n now : ℕ) (blocks cells : List ℕ) (pc next c : ℕ) (stack : List Bool) (v v' : ℕ → Bool) (b : Bool) → Holds n now blocks cells pc (stack ++ b ∷ []) v → next < 2 ^ 32 → length stack < 64 → c < n → v' c ≡ b → ((s : ℕ) → s ≢ c → v' s ≡ v s) → Holds n now blocks (with_pc next (slice_set (with_height (height_of cells - 1) cells) (74 + c) (bit b))) next stack v'
+store_holds : (n now : ℕ) (blocks cells : List ℕ) (pc next c : ℕ) (stack : List Bool) (v v' : ℕ → Bool) (b : Bool) → Holds n now blocks cells pc (stack ++ b ∷ []) v → next < 2 ^ 32 → length stack < 64 → c < n → v' c ≡ b → ((s : ℕ) → s ≢ c → v' s ≡ v s) → Holds n now blocks (with_pc next (slice_set (with_height (height_of cells - 1) cells) (SIGNALS_AT + c) (bit b))) next stack v'
 store_holds n now blocks cells pc next c stack v v' b h small low within new same =
-    let p = slice_set (with_height (height_of cells - 1) cells) (74 + c) (bit b) in
-    let size : 74 + n ≤ length cells = h.sized in
+    let p = slice_set (with_height (height_of cells - 1) cells) (SIGNALS_AT + c) (bit b) in
+    let size : SIGNALS_AT + n ≤ length cells = h.sized in
     let tall : height_of cells ≡ length stack + 1 = h.height ∙ length-append stack (b ∷ []) in
     let e4 = index-with_pc next p 4 (omega arith) in
     let e5 = index-with_pc next p 5 (omega arith) in
@@ -101,11 +102,11 @@ store_holds n now blocks cells pc next c stack v v' b h small low within new sam
     let final = with_pc next p in
     let whole : length final ≡ length cells = e0 ∙ grind (arith, common_steps) in
     let header : (k : ℕ) → 6 ≤ k → k < 10 → slice_index final k ≡ slice_index cells k = λ k from to. index-with_pc next p k (omega arith) ∙ grind (arith, common_steps) in
-    let tail : (k : ℕ) → 74 + n ≤ k → slice_index final k ≡ slice_index cells k = λ k from. index-with_pc next p k (omega arith) ∙ grind (arith, common_steps) in
+    let tail : (k : ℕ) → SIGNALS_AT + n ≤ k → slice_index final k ≡ slice_index cells k = λ k from. index-with_pc next p k (omega arith) ∙ grind (arith, common_steps) in
     record {
       sized = omega arith;
       time = time_same cells final header ∙ h.time;
-      rest = drop_ext (74 + n) final cells whole tail ∙ h.rest;
+      rest = drop_ext (SIGNALS_AT + n) final cells whole tail ∙ h.rest;
       at = pc_of-with_pc next p small;
       height = e4 ∙ grind (arith, common_steps);
       running = e5 ∙ grind (arith, common_steps, h.running);
@@ -113,7 +114,7 @@ store_holds n now blocks cells pc next c stack v v' b h small low within new sam
           let was = h.holds k (omega (arith, length-append stack (b ∷ []))) in
           let kept : slice_index_or (stack ++ b ∷ []) k false ≡ slice_index_or stack k false = grind (arith, common_steps) in
           e ∙ grind (arith, common_steps, was, kept);
-      signals = λ s l. let e = index-with_pc next p (74 + s) (omega arith) in
+      signals = λ s l. let e = index-with_pc next p (SIGNALS_AT + s) (omega arith) in
           e ∙ elim (cases_eq s c) [
             | inl is ↦ grind (arith, common_steps, new)
             | inr other ↦ grind (arith, common_steps, h.signals s l, same s other)
@@ -124,7 +125,7 @@ store_holds n now blocks cells pc next c stack v v' b h small low within new sam
 join_holds : (n now : ℕ) (blocks cells : List ℕ) (pc next : ℕ) (stack : List Bool) (v : ℕ → Bool) (a b r : Bool) → Holds n now blocks cells pc ((stack ++ a ∷ []) ++ b ∷ []) v → next < 2 ^ 32 → length stack < 63 → Holds n now blocks (with_pc next (with_height (height_of cells - 1) (slice_set cells (10 + (height_of cells - 2)) (bit r)))) next (stack ++ r ∷ []) v
 join_holds n now blocks cells pc next stack v a b r h small low =
     let p = with_height (height_of cells - 1) (slice_set cells (10 + (height_of cells - 2)) (bit r)) in
-    let size : 74 + n ≤ length cells = h.sized in
+    let size : SIGNALS_AT + n ≤ length cells = h.sized in
     let len : length ((stack ++ a ∷ []) ++ b ∷ []) ≡ length stack + 2 = omega (arith, length-append (stack ++ a ∷ []) (b ∷ []), length-append stack (a ∷ [])) in
     let len' : length (stack ++ r ∷ []) ≡ length stack + 1 = length-append stack (r ∷ []) in
     let tall : height_of cells ≡ length stack + 2 = h.height ∙ len in
@@ -134,11 +135,11 @@ join_holds n now blocks cells pc next stack v a b r h small low =
     let final = with_pc next p in
     let whole : length final ≡ length cells = e0 ∙ grind (arith, common_steps) in
     let header : (k : ℕ) → 6 ≤ k → k < 10 → slice_index final k ≡ slice_index cells k = λ k from to. index-with_pc next p k (omega arith) ∙ grind (arith, common_steps) in
-    let tail : (k : ℕ) → 74 + n ≤ k → slice_index final k ≡ slice_index cells k = λ k from. index-with_pc next p k (omega arith) ∙ grind (arith, common_steps) in
+    let tail : (k : ℕ) → SIGNALS_AT + n ≤ k → slice_index final k ≡ slice_index cells k = λ k from. index-with_pc next p k (omega arith) ∙ grind (arith, common_steps) in
     record {
       sized = omega arith;
       time = time_same cells final header ∙ h.time;
-      rest = drop_ext (74 + n) final cells whole tail ∙ h.rest;
+      rest = drop_ext (SIGNALS_AT + n) final cells whole tail ∙ h.rest;
       at = pc_of-with_pc next p small;
       height = e4 ∙ grind (arith, common_steps);
       running = e5 ∙ grind (arith, common_steps, h.running);
@@ -150,7 +151,7 @@ join_holds n now blocks cells pc next stack v a b r h small low =
                 grind (arith, common_steps, was, k1, below.1, below.0)
             | inr last ↦ grind (arith, common_steps, last.1, last.0)
           ];
-      signals = λ s l. let e = index-with_pc next p (74 + s) (omega arith) in e ∙ grind (arith, common_steps, h.signals s l);
+      signals = λ s l. let e = index-with_pc next p (SIGNALS_AT + s) (omega arith) in e ∙ grind (arith, common_steps, h.signals s l);
     }
 
 -- no trap comes where nothing is wrong
@@ -160,7 +161,7 @@ load_goes n c next cells b within low is =
     let e2 = lt-leb 64 (height_of cells) low in
     rw (e1, e2, is, bit_is_bit b) refl
 
-store_goes : (n c next h : ℕ) (cells : List ℕ) (b : Bool) → c < n → height_of cells ≡ suc h → h < 64 → top cells ≡ bit b → after_store n c next cells ≡ with_pc next (slice_set (with_height (height_of cells - 1) cells) (74 + c) (bit b))
+store_goes : (n c next h : ℕ) (cells : List ℕ) (b : Bool) → c < n → height_of cells ≡ suc h → h < 64 → top cells ≡ bit b → after_store n c next cells ≡ with_pc next (slice_set (with_height (height_of cells - 1) cells) (SIGNALS_AT + c) (bit b))
 store_goes n c next h cells b within tall low is =
     let e1 = lt-leb n c within in
     let e2 : nat_lt 64 (height_of cells) ≡ false = lt-leb 65 (height_of cells) (omega arith) in

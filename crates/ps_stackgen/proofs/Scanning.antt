@@ -22,7 +22,7 @@ use Rattle.ps_machine.specs.Bytes.{bit, replaced}
 use Rattle.ps_machine.specs.Keeping.{Passes, KeepsExactly}
 use Rattle.ps_machine.specs.Machines.{turned}
 use Rattle.ps_machine.specs.Progressing.{progress_said}
-use Rattle.ps_machine.specs.Standing.{StandsBlock}
+use Rattle.ps_machine.specs.Standing.{LoadsTo}
 use Rattle.ps_machine.proofs.Blank.{zeros, blank_stands}
 use Rattle.ps_machine.proofs.CalledOnce.{Timely, called_once}
 use Rattle.ps_machine.proofs.Fitting.{step_fits, all_fit}
@@ -31,6 +31,7 @@ use Rattle.ps_machine.proofs.Phases.{turned_add}
 use Rattle.ps_machine.proofs.Places.{length-replaced, index_before, index_within, index_after}
 use Rattle.ps_machine.proofs.Reports.{holds_its_report}
 use Rattle.ps_machine.proofs.Scans.{begun_input, begun_other, ends}
+use Rattle.ps_stackvm.specs.declared.layout.TheConstants.{SIGNALS_AT}
 use Rattle.ps_stackvm.specs.declared.instruction.Instruction.TheVariants.{End}
 use Rattle.ps_stackvm.specs.Cells.{pc_of, progress_of, scan_time, with_pc, with_progress}
 use Rattle.ps_stackvm.specs.Channel.{blank_a, machine_a}
@@ -44,7 +45,7 @@ use Rattle.ps_stackgen.proofs.Stepping.{clock, BlocksStand, steps_led}
 use Rattle.ps_stackgen.proofs.Counted.{turns_are, code_small, network_short}
 
 -- Begin's three writes
-module _ (n now : ℕ) (ins : List Bool) (cells : List ℕ) (few : length ins ≤ n) (room : 74 + n ≤ length cells) where
+module _ (n now : ℕ) (ins : List Bool) (cells : List ℕ) (few : length ins ≤ n) (room : SIGNALS_AT + n ≤ length cells) where
   b1 : List ℕ
   b1 = replaced cells 0 (zeros 6)
 
@@ -64,13 +65,13 @@ module _ (n now : ℕ) (ins : List Bool) (cells : List ℕ) (few : length ins �
 
   l3 : length (begin_a now ins cells) ≡ length cells
   unfolding b1 b2
-  l3 = length-replaced b2 74 (map bit ins) (omega (arith, l2, len)) ∙ l2
+  l3 = length-replaced b2 SIGNALS_AT (map bit ins) (omega (arith, l2, len)) ∙ l2
 
   head : (k : ℕ) → k < 6 → slice_index (begin_a now ins cells) k ≡ 0
   unfolding b1 b2
   head k h =
       let e : 0 + k ≡ k = zero-add k in
-      index_before b2 74 (map bit ins) k (omega arith) (omega (arith, l2))
+      index_before b2 SIGNALS_AT (map bit ins) k (omega arith) (omega (arith, l2))
       ∙ index_before b1 6 (to_be_bytes w32 now) k h (omega (arith, l1))
       ∙ ap (slice_index b1) (sym e) ∙ index_within cells 0 (zeros 6) k h (omega arith)
       ∙ get_or-replicate 6 k 0 0 h
@@ -78,17 +79,17 @@ module _ (n now : ℕ) (ins : List Bool) (cells : List ℕ) (few : length ins �
   clock_byte : (j : ℕ) → j < 4 → slice_index (begin_a now ins cells) (6 + j) ≡ slice_index (to_be_bytes w32 now) j
   unfolding b1 b2
   clock_byte j h =
-      index_before b2 74 (map bit ins) (6 + j) (omega arith) (omega (arith, l2))
+      index_before b2 SIGNALS_AT (map bit ins) (6 + j) (omega arith) (omega (arith, l2))
       ∙ index_within b1 6 (to_be_bytes w32 now) j h (omega (arith, l1))
 
-  input : (s : ℕ) → s < length ins → slice_index (begin_a now ins cells) (74 + s) ≡ bit (slice_index_or ins s false)
+  input : (s : ℕ) → s < length ins → slice_index (begin_a now ins cells) (SIGNALS_AT + s) ≡ bit (slice_index_or ins s false)
   unfolding b1 b2
-  input s h = index_within b2 74 (map bit ins) s (omega (arith, len)) (omega (arith, l2)) ∙ get_or-map bit ins s false 0 h
+  input s h = index_within b2 SIGNALS_AT (map bit ins) s (omega (arith, len)) (omega (arith, l2)) ∙ get_or-map bit ins s false 0 h
 
-  beyond : (k : ℕ) → 74 + length ins ≤ k → slice_index (begin_a now ins cells) k ≡ slice_index cells k
+  beyond : (k : ℕ) → SIGNALS_AT + length ins ≤ k → slice_index (begin_a now ins cells) k ≡ slice_index cells k
   unfolding b1 b2
   beyond k h =
-      index_after b2 74 (map bit ins) k (omega (arith, len)) (omega (arith, l2))
+      index_after b2 SIGNALS_AT (map bit ins) k (omega (arith, len)) (omega (arith, l2))
       ∙ index_after b1 6 (to_be_bytes w32 now) k (omega arith) (omega (arith, l1))
       ∙ index_after cells 0 (zeros 6) k (omega arith) (omega arith)
 
@@ -104,12 +105,12 @@ module _ (n now : ℕ) (ins : List Bool) (cells : List ℕ) (few : length ins �
 
 module _ (net : Network) (sound : IsSound net) where
   begins : (old : State) (ins : List Bool) (t now : ℕ) (cells : List ℕ) → length ins ≡ input_count net → now < 2 ^ 32 → StandsA net old t cells →
-      Holds (signal_count net) now (drop (74 + signal_count net) cells) (begin_a now ins cells) 0 [] (begun net old ins).signals
+      Holds (signal_count net) now (drop (SIGNALS_AT + signal_count net) cells) (begin_a now ins cells) 0 [] (begun net old ins).signals
   begins old ins t now cells count small stands =
       let n = signal_count net in
       let size = stands.sized in
       let few : length ins ≤ n = omega arith in
-      let room : 74 + n ≤ length cells = omega arith in
+      let room : SIGNALS_AT + n ≤ length cells = omega arith in
       record {
         sized = omega (arith, l3 n now ins cells few room);
         at = pc_zero n now ins cells few room;
@@ -122,22 +123,22 @@ module _ (net : Network) (sound : IsSound net) where
               input n now ins cells few room s (omega arith)
               ∙ ap bit (sym (begun_input net old ins s low))
           | inr high ↦
-              beyond n now ins cells few room (74 + s) (omega arith) ∙ stands.signals s l
+              beyond n now ins cells few room (SIGNALS_AT + s) (omega arith) ∙ stands.signals s l
               ∙ ap bit (sym (begun_other net old ins s high))
         ];
-        rest = drop_ext (74 + n) (begin_a now ins cells) cells (l3 n now ins cells few room) (λ j from. beyond n now ins cells few room j (omega arith));
+        rest = drop_ext (SIGNALS_AT + n) (begin_a now ins cells) cells (l3 n now ins cells few room) (λ j from. beyond n now ins cells few room j (omega arith));
       }
 
   -- each instance is still to be called
-  begins_blocks : (old : State) (t now : ℕ) (cells : List ℕ) → StandsA net old t cells → BlocksStand net t now net.steps (drop (74 + signal_count net) cells) (block_in old)
+  begins_blocks : (old : State) (t now : ℕ) (cells : List ℕ) → StandsA net old t cells → BlocksStand net t now net.steps (drop (SIGNALS_AT + signal_count net) cells) (block_in old)
   begins_blocks old t now cells stands = record {
-    size = omega (arith, length-drop (74 + signal_count net) cells, stands.sized);
+    size = omega (arith, length-drop (SIGNALS_AT + signal_count net) cells, stands.sized);
     each = λ i l.
-        let bytes = bytes_at i (drop (74 + signal_count net) cells) in
+        let bytes = bytes_at i (drop (SIGNALS_AT + signal_count net) cells) in
         let some : list_any (is_call_of net i) net.steps ≡ true = any_of_one (is_call_of net i) net.steps (sound.called_once i l) in
         let early : clock net t now net.steps i ≡ t = ap (λ b. cond b t now) some in
-        subst (λ c. StandsBlock (Since c) (kind_at net i) bytes (block_in old i)) (sym early)
-        (subst (λ b. StandsBlock (Since t) (kind_at net i) b (block_in old i)) (block_is (74 + signal_count net) i cells (drop (74 + signal_count net) cells) refl) (stands.blocks i l));
+        subst (λ c. LoadsTo (Since c) (kind_at net i) bytes (block_in old i)) (sym early)
+        (subst (λ b. LoadsTo (Since t) (kind_at net i) b (block_in old i)) (block_is (SIGNALS_AT + signal_count net) i cells (drop (SIGNALS_AT + signal_count net) cells) refl) (stands.blocks i l));
   }
 
   module _ (accepted : Accepted net) where
@@ -159,7 +160,7 @@ module _ (net : Network) (sound : IsSound net) where
         let m0 = begun net old ins in
         let has = has_written (network_code net) [] (network_short net sound.few_signals sound.few_instances (all_fit net sound accepted)) (code_small net sound fit) in
         let timely : Timely net dt (now - t) net.steps m0 = λ i called on. passes i on in
-        let led = steps_led net t now dt later small code net.steps m0 q 0 (drop (74 + n) cells) (all_fit net sound accepted) (called_once net sound) timely
+        let led = steps_led net t now dt later small code net.steps m0 q 0 (drop (SIGNALS_AT + n) cells) (all_fit net sound accepted) (called_once net sound) timely
         (has_front code 0 sc (End ∷ []) has) (begins old ins t now cells count small stands) (begins_blocks old t now cells stands) in
         let x = led.comes in
         let cells1 = turned (turn_of n k code) (length sc) q in
@@ -172,14 +173,14 @@ module _ (net : Network) (sound : IsSound net) where
         let f1 : length marked ≡ length cells1 = length-set cells1 5 1 in
         let f2 : length final ≡ length marked = length-with_pc (pc1 + 1) marked (omega arith) in
         let lr = ap length x.there.rest in
-        let ld = length-drop (74 + n) cells1 in
+        let ld = length-drop (SIGNALS_AT + n) cells1 in
         let count_is : length (sc ++ End ∷ []) ≡ length sc + 1 = length-append sc (End ∷ []) in
         let last : turned (turn_of n k code) (length (network_code net)) q ≡ final =
         ap (λ j. turned (turn_of n k code) j q) count_is ∙ turned_add (turn_of n k code) (length sc) 1 q ∙ turn_is n k code cells1 pc1 End x.there.at back.0 in
         let p1 : progress_of final ≡ 1 = index-with_pc (pc1 + 1) marked 5 (lit≤ tt) ∙ get_or-set_same cells1 5 1 0 (omega arith) in
-        let past : (j : ℕ) → 74 ≤ j → slice_index final j ≡ slice_index cells1 j = λ j from.
+        let past : (j : ℕ) → SIGNALS_AT ≤ j → slice_index final j ≡ slice_index cells1 j = λ j from.
         index-with_pc (pc1 + 1) marked j (omega arith) ∙ get_or-set_other cells1 5 j 1 0 (λ p. omega arith) in
-        let rest : drop (74 + n) final ≡ led.blocks = drop_ext (74 + n) final cells1 (f2 ∙ f1) (λ j from. past j (omega arith)) ∙ x.there.rest in
+        let rest : drop (SIGNALS_AT + n) final ≡ led.blocks = drop_ext (SIGNALS_AT + n) final cells1 (f2 ∙ f1) (λ j from. past j (omega arith)) ∙ x.there.rest in
         record {
           running = λ j l. elim (cases_lt j (length sc)) [
             | inl early ↦ x.running j early
@@ -191,11 +192,11 @@ module _ (net : Network) (sound : IsSound net) where
           stands = subst (StandsA net new now) (sym last) (record {
             sized = omega arith;
             undriven = solves.undriven;
-            signals = λ s l. past (74 + s) (omega arith) ∙ x.there.signals s l ∙ ap bit (ends net sound old new ins dt stands.undriven solves s l);
+            signals = λ s l. past (SIGNALS_AT + s) (omega arith) ∙ x.there.signals s l ∙ ap bit (ends net sound old new ins dt stands.undriven solves s l);
             blocks = λ i l.
-                let here : StandsBlock (Since now) (kind_at net i) (bytes_at i led.blocks) (block_in new i) =
-                subst (StandsBlock (Since now) (kind_at net i) (bytes_at i led.blocks)) (sym (other-block net sound old ins dt new solves i l)) (led.stand.each i l) in
-                subst (λ b. StandsBlock (Since now) (kind_at net i) b (block_in new i)) (sym (block_is (74 + n) i final led.blocks rest)) here;
+                let here : LoadsTo (Since now) (kind_at net i) (bytes_at i led.blocks) (block_in new i) =
+                subst (LoadsTo (Since now) (kind_at net i) (bytes_at i led.blocks)) (sym (other-block net sound old ins dt new solves i l)) (led.stand.each i l) in
+                subst (λ b. LoadsTo (Since now) (kind_at net i) b (block_in new i)) (sym (block_is (SIGNALS_AT + n) i final led.blocks rest)) here;
           });
         }
 
@@ -206,9 +207,9 @@ module _ (net : Network) (sound : IsSound net) where
         let code = code_a net in
         let turns : length (network_code net) ≡ turns_a net = turns_are net sound (step_fits net sound accepted) in
         let same : turn_of n k code ≡ turn_a z code = λ x cells. carried_out ((sym sizes.signals) x) ((sym sizes.instances) x) (fetched code (pc_of cells)) cells in
-        let blank_is : zeros (74 + n + 16 * k) ≡ blank_a z = λ x. replicate (74 + (sym sizes.signals) x + 16 * (sym sizes.instances) x) 0 in
+        let blank_is : zeros (SIGNALS_AT + n + 16 * k) ≡ blank_a z = λ x. replicate (SIGNALS_AT + (sym sizes.signals) x + 16 * (sym sizes.instances) x) 0 in
         record {
-          blank = subst (StandsA net (first_state net) 0) blank_is (blank_stands net (λ i. Since 0) 74);
+          blank = subst (StandsA net (first_state net) 0) blank_is (blank_stands net (λ i. Since 0) SIGNALS_AT);
           scan = λ old new ins t now dt cells later small count passes stands solves.
               let s = scanned old new ins t now dt cells later small count passes stands solves in
               let q = begin_a now ins cells in
@@ -221,6 +222,6 @@ module _ (net : Network) (sound : IsSound net) where
                     ap progress_said (subst (λ f. progress_of (turned f j q) ≡ 0) same (s.running j (omega (arith, turns))));
                 done = ap progress_said done;
                 stands = held;
-                reports = holds_its_report net sound z sizes (λ i. Since now) old new ins dt 74 (turned (turn_a z code) (turns_a net) q) solves held;
+                reports = holds_its_report net sound z sizes (λ i. Since now) old new ins dt SIGNALS_AT (turned (turn_a z code) (turns_a net) q) solves held;
               };
         }

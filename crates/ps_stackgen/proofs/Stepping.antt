@@ -21,7 +21,7 @@ use Rattle.ps_model.proofs.Sixteen.{loads_loaded, step_kept}
 use Rattle.ps_model.proofs.OutputLengths.{length-outs}
 use Rattle.ps_machine.specs.Bytes.{replaced}
 use Rattle.ps_machine.specs.Machines.{turned}
-use Rattle.ps_machine.specs.Standing.{StandsBlock}
+use Rattle.ps_machine.specs.Standing.{LoadsTo}
 use Rattle.ps_machine.proofs.CalledOnce.{Once, Timely, once_after, timely_after}
 use Rattle.ps_machine.proofs.CalledSignals.{called_signals}
 use Rattle.ps_machine.proofs.Fine.{IsFine}
@@ -44,7 +44,7 @@ clock net t now rest i = cond (list_any (is_call_of net i) rest) t now
 -- the bytes of the instances, while these steps are left
 pub record BlocksStand (net : Network) (t now : ℕ) (rest : List Action) (blocks : List ℕ) (b : ℕ → Block_state) : Type 0 where
   pub size : length blocks ≡ 16 * instance_count net
-  pub each : (i : ℕ) → i < instance_count net → StandsBlock (Since (clock net t now rest i)) (kind_at net i) (bytes_at i blocks) (b i)
+  pub each : (i : ℕ) → i < instance_count net → LoadsTo (Since (clock net t now rest i)) (kind_at net i) (bytes_at i blocks) (b i)
 
 module _ (net : Network) (t now dt : ℕ) (later : t ≤ now) (small : now < 2 ^ 32) (code : List ℕ) where
   -- the code ran, and the cells hold this memory
@@ -114,7 +114,7 @@ module _ (net : Network) (t now dt : ℕ) (later : t ≤ now) (small : now < 2 ^
       let space : 16 * i + 16 ≤ length blocks = omega arith in
       let here : is_call_of net i (calls i args) ≡ true = eq-eqb i i refl in
       let early : clock net t now (calls i args ∷ rest) i ≡ t = ap (λ b. cond (b || list_any (is_call_of net i) rest) t now) here in
-      let sb : StandsBlock (Since t) kind (bytes_at i blocks) (m.blocks i) = subst (λ c. StandsBlock (Since c) kind (bytes_at i blocks) (m.blocks i)) early (stand.each i within) in
+      let sb : LoadsTo (Since t) kind (bytes_at i blocks) (m.blocks i) = subst (λ c. LoadsTo (Since c) kind (bytes_at i blocks) (m.blocks i)) early (stand.each i within) in
       let kept : Kept = sb.kept in
       let k' : Kept = stepped_at kind limit pins now kept in
       let b' = moved kind limit pins dt (m.blocks i) in
@@ -144,22 +144,22 @@ module _ (net : Network) (t now dt : ℕ) (later : t ≤ now) (small : now < 2 ^
             | inl same ↦
                 let over : list_any (is_call_of net i) rest ≡ false = none_after (is_call_of net i) (calls i args ∷ []) rest (once i) (ap (λ b. b || false) here) in
                 let at_now : clock net t now rest i ≡ now = ap (λ b. cond b t now) over in
-                let mine : StandsBlock (Since now) kind (bytes_at i blocks') b' = record {
+                let mine : LoadsTo (Since now) kind (bytes_at i blocks') b' = record {
                   kept = k';
                   loads = record { kept = held_kept; bytes_are = bytes_at_same blocks (stored k') i space refl };
                   stands = goes;
                 } in
-                let timed : StandsBlock (Since (clock net t now rest i)) kind (bytes_at i blocks') b' = subst (λ c. StandsBlock (Since c) kind (bytes_at i blocks') b') (sym at_now) mine in
-                let placed : StandsBlock (Since (clock net t now rest i)) kind (bytes_at i blocks') (m'.blocks i) =
-                subst (StandsBlock (Since (clock net t now rest i)) kind (bytes_at i blocks')) (sym (cond-true (i == i) b' (m.blocks i) here)) timed in
-                subst (λ q. StandsBlock (Since (clock net t now rest q)) (kind_at net q) (bytes_at q blocks') (m'.blocks q)) same placed
+                let timed : LoadsTo (Since (clock net t now rest i)) kind (bytes_at i blocks') b' = subst (λ c. LoadsTo (Since c) kind (bytes_at i blocks') b') (sym at_now) mine in
+                let placed : LoadsTo (Since (clock net t now rest i)) kind (bytes_at i blocks') (m'.blocks i) =
+                subst (LoadsTo (Since (clock net t now rest i)) kind (bytes_at i blocks')) (sym (cond-true (i == i) b' (m.blocks i) here)) timed in
+                subst (λ q. LoadsTo (Since (clock net t now rest q)) (kind_at net q) (bytes_at q blocks') (m'.blocks q)) same placed
             | inr other ↦
                 let off : (i == j) ≡ false = ne_eqb i j other in
                 let kept_clock : clock net t now (calls i args ∷ rest) j ≡ clock net t now rest j = ap (λ b. cond (b || list_any (is_call_of net j) rest) t now) off in
-                let was : StandsBlock (Since (clock net t now rest j)) (kind_at net j) (bytes_at j blocks) (m.blocks j) =
-                subst (λ c. StandsBlock (Since c) (kind_at net j) (bytes_at j blocks) (m.blocks j)) kept_clock (stand.each j low) in
-                subst (StandsBlock (Since (clock net t now rest j)) (kind_at net j) (bytes_at j blocks')) (sym (cond-false (i == j) b' (m.blocks j) off))
-                (subst (λ b. StandsBlock (Since (clock net t now rest j)) (kind_at net j) b (m.blocks j)) (sym (bytes_at_other blocks (stored k') i j space refl (λ e. other (sym e)))) was)
+                let was : LoadsTo (Since (clock net t now rest j)) (kind_at net j) (bytes_at j blocks) (m.blocks j) =
+                subst (λ c. LoadsTo (Since c) (kind_at net j) (bytes_at j blocks) (m.blocks j)) kept_clock (stand.each j low) in
+                subst (LoadsTo (Since (clock net t now rest j)) (kind_at net j) (bytes_at j blocks')) (sym (cond-false (i == j) b' (m.blocks j) off))
+                (subst (λ b. LoadsTo (Since (clock net t now rest j)) (kind_at net j) b (m.blocks j)) (sym (bytes_at_other blocks (stored k') i j space refl (λ e. other (sym e)))) was)
           ];
         };
       }

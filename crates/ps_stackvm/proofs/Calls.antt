@@ -13,6 +13,7 @@ use Rattle.ps_machine.specs.Bytes.{bit, replaced}
 use Rattle.ps_machine.proofs.Places.{length-replaced}
 use Rattle.ps_block.specs.declared.block.Pins.{Pins}
 use Rattle.ps_model.specs.PinBits.{pin_of}
+use Rattle.ps_stackvm.specs.declared.layout.TheConstants.{SIGNALS_AT}
 use Rattle.ps_stackvm.specs.declared.trap.Trap.TheVariants.{NoState}
 use Rattle.ps_stackvm.specs.Cells.{scan_time, block_bytes, with_pc, trapped}
 use Rattle.ps_stackvm.specs.Calling.{topmost, pins_in, stepped_to, called_with}
@@ -34,7 +35,7 @@ set_before c p q v m m' before before' room =
     set_replaced (replaced c p m) 4 q v m' before' (omega arith)
     ∙ ap (λ l. replaced l q m') (set_replaced c 4 p v m before (omega arith))
 
-module _ (signals i first limit next : ℕ) (kind : Kind) (cells after : List ℕ) (p : ℕ) (is-place : p ≡ 74 + signals + 16 * i) where
+module _ (signals i first limit next : ℕ) (kind : Kind) (cells after : List ℕ) (p : ℕ) (is-place : p ≡ SIGNALS_AT + signals + 16 * i) where
   pub called_none : after ≡ cells → loaded kind (take 16 (drop p cells)) ≡ None →
       trapped NoState after ≡ called_with signals i first limit next kind (loaded kind (block_bytes signals i cells)) cells
   called_none kept none =
@@ -42,7 +43,7 @@ module _ (signals i first limit next : ℕ) (kind : Kind) (cells after : List �
       ∙ ap (λ s. called_with signals i first limit next kind s cells)
       (sym (ap (λ q. loaded kind (take 16 (drop q cells))) (sym is-place) ∙ none))
 
-  pub called_some : (pins : Pins) (height : ℕ) → 74 + signals + 16 * i + 16 ≤ length cells → HasStepped kind pins p (74 + first) cells after →
+  pub called_some : (pins : Pins) (height : ℕ) → SIGNALS_AT + signals + 16 * i + 16 ≤ length cells → HasStepped kind pins p (SIGNALS_AT + first) cells after →
       height ≡ slice_index cells 4 - boolean_count kind → pins.limit ≡ limit → pins.now ≡ scan_time cells →
       ((j : ℕ) → pin_of pins.bits j ≡ pins_in (topmost (boolean_count kind) cells) j) →
       with_pc next (slice_set after 4 height) ≡ called_with signals i first limit next kind (loaded kind (block_bytes signals i cells)) cells
@@ -55,9 +56,9 @@ module _ (signals i first limit next : ℕ) (kind : Kind) (cells after : List �
       ∙ ap (λ q. stepped_at kind limit q pins.now steps.kept) pins-are
       ∙ ap (λ t. stepped_at kind limit top t steps.kept) same-now in
       ap (λ c. with_pc next (slice_set c 4 height)) steps.writes
-      ∙ ap (with_pc next) (set_before cells p (74 + first) height (stored kept') (map bit (outs kind kept'.code kept'.mode)) (omega arith) (omega arith) (omega arith))
-      ∙ ap (λ q. with_pc next (replaced (replaced (slice_set cells 4 height) q (stored kept')) (74 + first) (map bit (outs kind kept'.code kept'.mode)))) is-place
-      ∙ ap (λ h. with_pc next (replaced (replaced (slice_set cells 4 h) (74 + signals + 16 * i) (stored kept')) (74 + first) (map bit (outs kind kept'.code kept'.mode)))) is-height
+      ∙ ap (with_pc next) (set_before cells p (SIGNALS_AT + first) height (stored kept') (map bit (outs kind kept'.code kept'.mode)) (omega arith) (omega arith) (omega arith))
+      ∙ ap (λ q. with_pc next (replaced (replaced (slice_set cells 4 height) q (stored kept')) (SIGNALS_AT + first) (map bit (outs kind kept'.code kept'.mode)))) is-place
+      ∙ ap (λ h. with_pc next (replaced (replaced (slice_set cells 4 h) (SIGNALS_AT + signals + 16 * i) (stored kept')) (SIGNALS_AT + first) (map bit (outs kind kept'.code kept'.mode)))) is-height
       ∙ ap (λ s. stepped_to signals i first next kind s cells) state
       ∙ ap (λ s. called_with signals i first limit next kind s cells)
       (sym (ap (λ q. loaded kind (take 16 (drop q cells))) (sym is-place) ∙ steps.loads))

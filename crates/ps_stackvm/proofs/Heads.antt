@@ -7,6 +7,7 @@ use Rattle.ps_machine.specs.Machines.{turned}
 use Rattle.ps_machine.specs.Progressing.{progress_said, is_running}
 use Rattle.ps_machine.proofs.Places.{be4_within}
 use Rattle.ps_machine.proofs.Progressing.{other_ends}
+use Rattle.ps_stackvm.specs.declared.layout.TheConstants.{SIGNALS_AT}
 use Rattle.ps_stackvm.specs.declared.trap.Trap.{Trap}
 use Rattle.ps_stackvm.specs.declared.trap.Trap.TheVariants.{StackHeight, NotBoolean}
 use Rattle.ps_stackvm.specs.declared.instruction.Instruction.{Instruction}
@@ -30,7 +31,7 @@ other_height pc h k (a ∷ b ∷ d ∷ []) = refl
 other_height pc h k (a ∷ b ∷ d ∷ e ∷ []) = refl
 other_height pc h k (a ∷ b ∷ d ∷ e ∷ f ∷ t) = refl
 
-pub height_is : (pc h : ℕ) (c : List ℕ) → 74 ≤ length c → height_of (with_head pc h c) ≡ h
+pub height_is : (pc h : ℕ) (c : List ℕ) → SIGNALS_AT ≤ length c → height_of (with_head pc h c) ≡ h
 height_is pc h [] room = absurd (omega arith)
 height_is pc h (a ∷ []) room = absurd (omega arith)
 height_is pc h (a ∷ b ∷ []) room = absurd (omega arith)
@@ -41,7 +42,7 @@ height_is pc h (a ∷ b ∷ d ∷ e ∷ f ∷ t) room = refl
 pub pc_is : (pc h : ℕ) (c : List ℕ) → pc < 2 ^ 32 → pc_of (with_head pc h c) ≡ pc
 pc_is pc h c fits = be4_within (with_height h c) 0 pc (omega arith) fits
 
-pub read_behind : (pc h : ℕ) (c : List ℕ) (i : ℕ) → 5 ≤ i → 74 ≤ length c → slice_index (with_head pc h c) i ≡ slice_index c i
+pub read_behind : (pc h : ℕ) (c : List ℕ) (i : ℕ) → 5 ≤ i → SIGNALS_AT ≤ length c → slice_index (with_head pc h c) i ≡ slice_index c i
 read_behind pc h [] i low room = absurd (omega arith)
 read_behind pc h (a ∷ []) i low room = absurd (omega arith)
 read_behind pc h (a ∷ b ∷ []) i low room = absurd (omega arith)
@@ -52,7 +53,7 @@ read_behind pc h (a ∷ b ∷ d ∷ e ∷ f ∷ t) i low room =
     let n : i ≡ suc (suc (suc (suc (suc (i - 5))))) = omega arith in
     ap (slice_index (with_head pc h c)) n ∙ sym (ap (slice_index c) n)
 
-pub write_behind : (pc h : ℕ) (c : List ℕ) (i v : ℕ) → 5 ≤ i → 74 ≤ length c → slice_set (with_head pc h c) i v ≡ with_head pc h (slice_set c i v)
+pub write_behind : (pc h : ℕ) (c : List ℕ) (i v : ℕ) → 5 ≤ i → SIGNALS_AT ≤ length c → slice_set (with_head pc h c) i v ≡ with_head pc h (slice_set c i v)
 write_behind pc h [] i v low room = absurd (omega arith)
 write_behind pc h (a ∷ []) i v low room = absurd (omega arith)
 write_behind pc h (a ∷ b ∷ []) i v low room = absurd (omega arith)
@@ -65,7 +66,7 @@ write_behind pc h (a ∷ b ∷ d ∷ e ∷ f ∷ t) i v low room =
 
 -- ---- What each instruction leaves, by the cells with the old head.
 
-module _ (pc h : ℕ) (c : List ℕ) (room : 74 ≤ length c) where
+module _ (pc h : ℕ) (c : List ℕ) (room : SIGNALS_AT ≤ length c) where
   pub trapped_is : (trap : Trap) → trapped trap (with_head pc h c) ≡ with_head pc h (trapped trap c)
   trapped_is trap = write_behind pc h c 5 _ (omega arith) room
 
@@ -107,7 +108,7 @@ module _ (pc h : ℕ) (c : List ℕ) (room : 74 ≤ length c) where
 
   module _ (signals s next : ℕ) (there : s < signals) where
     byte_is : signal_byte (with_head pc h c) s ≡ signal_byte c s
-    byte_is = read_behind pc h c (74 + s) (omega arith) room
+    byte_is = read_behind pc h c (SIGNALS_AT + s) (omega arith) room
 
     pub load_full : 64 ≤ h → trapped StackHeight (with_head pc h c) ≡ after_load signals s next (with_head pc h c)
     load_full high = sym (cond-false _ _ _ (lt-leb signals s there) ∙ cond-true _ _ _ (full high))
@@ -167,14 +168,14 @@ module _ (pc h : ℕ) (c : List ℕ) (room : 74 ≤ length c) where
         ∙ cond-true _ _ _ (ap (nat_lt 1) top_is ∙ lt-ltb 1 (stack_byte c (h - 1)) odd))
 
     pub store_done : (h ≡ 0 → ⊥) → h ≤ 64 → stack_byte c (h - 1) ≤ 1 →
-        with_head next (h - 1) (slice_set c (74 + s) (stack_byte c (h - 1))) ≡ after_store signals s next (with_head pc h c)
+        with_head next (h - 1) (slice_set c (SIGNALS_AT + s) (stack_byte c (h - 1))) ≡ after_store signals s next (with_head pc h c)
     store_done some low bit =
         let height = height_is pc h c room in
         sym (cond-false _ _ _ (lt-leb signals s there)
         ∙ cond-false _ _ _ (fits some low)
         ∙ cond-false _ _ _ (ap (nat_lt 1) top_is ∙ le-ltb 1 (stack_byte c (h - 1)) bit)
-        ∙ (λ x. with_pc next (slice_set (with_height (height x - 1) (with_head pc h c)) (74 + s) (top_is x)))
-        ∙ popped_is next (74 + s) (stack_byte c (h - 1)) (omega arith))
+        ∙ (λ x. with_pc next (slice_set (with_height (height x - 1) (with_head pc h c)) (SIGNALS_AT + s) (top_is x)))
+        ∙ popped_is next (SIGNALS_AT + s) (stack_byte c (h - 1)) (omega arith))
 
   module _ (join : ℕ → ℕ → ℕ) (next : ℕ) where
     pub join_low : h < 2 → trapped StackHeight (with_head pc h c) ≡ after_join join next (with_head pc h c)

@@ -9,6 +9,7 @@ use Rattle.std.proofs.lemmas.List.Folds.{list_any-append}
 use Rattle.std.proofs.lemmas.Nat.Bits.{bit_at_cat_low, bit_at_cat_high}
 use Rattle.ps_machine.specs.Bytes.{is_no_bit}
 use Rattle.ps_model.specs.PinBits.{pin_of}
+use Rattle.ps_stackvm.specs.declared.layout.TheConstants.{SIGNALS_AT}
 use Rattle.ps_stackvm.specs.Cells.{height_of}
 use Rattle.ps_stackvm.specs.Calling.{pins_in, topmost}
 use Rattle.ps_stackvm.proofs.Gathering.{word, word_is, word_shifted, none_odd, odd_none, gathers_bits, bit_of}
@@ -145,7 +146,7 @@ given_none (Some x) p = tt
 given_none None p = p
 
 -- the topmost bytes of the stack are the last of those up to its top
-pub top_is : (cells : List ℕ) (n : ℕ) → 74 ≤ length cells → height_of cells ≤ 64 → n ≤ height_of cells →
+pub top_is : (cells : List ℕ) (n : ℕ) → SIGNALS_AT ≤ length cells → height_of cells ≤ 64 → n ≤ height_of cells →
     drop (length (take (10 + height_of cells) cells) - n) (take (10 + height_of cells) cells) ≡ topmost n cells
 top_is cells n room low tall =
     let l = length-take (10 + height_of cells) cells in

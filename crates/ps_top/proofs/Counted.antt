@@ -15,6 +15,7 @@ use Rattle.ps_model.proofs.Runs.{one_run}
 use Rattle.ps_model.specs.Meaning.{Item, Past, Runs, Meaning, report, last, nothing}
 use Rattle.ps_model.specs.Meaning.Item.{scan, restart}
 use Rattle.ps_report.specs.Short.{refusal_text}
+use Rattle.ps_seat.specs.Items.{AreTimely}
 use Rattle.ps_source.specs.Answering.{Reads, IsFault}
 use Rattle.ps_source.specs.Source.{Reading, IsAcceptedAs}
 use Rattle.ps_source.specs.Source.Reading.{is_refused as is_refused_source}
@@ -26,7 +27,7 @@ use Rattle.ps_world.specs.Worlds.{Machines, World_state, Restart, world_0}
 use Rattle.ps_world.specs.Whole.{Whole, machines_in, IsWorldOf}
 use Rattle.ps_world.specs.Steps.{world_step, after}
 use Rattle.ps_world.specs.Orders.{of_scan, scan_events}
-use Rattle.ps_world.specs.Answers.{answers, AreTimely, ReleaseAll, QuietRunsRelease}
+use Rattle.ps_world.specs.Answers.{answers, ReleaseAll, QuietRunsRelease}
 use Rattle.ps_load.specs.Holding.{Load, held_of, faults_of}
 use Rattle.ps_load.specs.Texts.{app_text}
 use Rattle.ps_outside.specs.Outside.{Rose, last_count}

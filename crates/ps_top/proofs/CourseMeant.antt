@@ -8,6 +8,7 @@ use Rattle.ps_model.specs.Meaning.{Item, Meaning, nothing}
 use Rattle.ps_model.specs.Meaning.Item.{scan, restart}
 use Rattle.ps_model.proofs.Runs.{one_run}
 use Rattle.ps_report.specs.Short.{refusal_text}
+use Rattle.ps_seat.specs.Items.{AreTimely}
 use Rattle.ps_trace.specs.FaultOrder.{StrikeOne}
 use Rattle.ps_trace.specs.Reading.{only_refused}
 use Rattle.ps_trace.specs.Scans.{Scans}
@@ -16,9 +17,8 @@ use Rattle.ps_vote.specs.Faults.{line_of_fault}
 use Rattle.ps_vote.specs.Worlds.{Machines, World_state}
 use Rattle.ps_vote.specs.Votes.{vote}
 use Rattle.ps_vote.specs.Orders.{course}
-use Rattle.ps_vote.specs.Answers.{AreTimely, answers, AnswerRight, IsRight, VoteRunsAreRight, HealRunsAreRight}
+use Rattle.ps_vote.specs.Answers.{answers, AnswerRight, IsRight, VoteRunsAreRight, HealRunsAreRight}
 use Rattle.ps_vote.specs.Whole.{Whole, machines_in, after_events, IsWorldOf}
-use Rattle.ps_world.specs.Answers as two
 use Rattle.ps_top.specs.Asking.{Answer, IsAnswer, IsLeft}
 use Rattle.ps_top.specs.declared.left.Left.{Left}
 use Rattle.ps_top.specs.Lines.{restart_line, voted_text}
@@ -35,12 +35,6 @@ lines_are_meant net m (scan now ins ∷ items) [] ws right = refl
 lines_are_meant net m (scan now ins ∷ items) (z ∷ votes) [] right = absurd right
 lines_are_meant net m (scan now ins ∷ items) (z ∷ votes) (w ∷ ws) right =
     let more = lines_are_meant net m items votes ws right.2 in (λ i. voted_text net now (right.1 i) (vote m z) ++ more i)
-
--- items that are timely for two channels are so for three seats
-pub timely_seats : (inputs latest : ℕ) (items : List Item) → two.AreTimely inputs latest items → AreTimely inputs latest items
-timely_seats inputs latest [] timely = tt
-timely_seats inputs latest (restart ∷ items) timely = timely_seats inputs latest items timely
-timely_seats inputs latest (scan now ins ∷ items) timely = (timely.0, timely.1, timely.2, timely_seats inputs now items timely.3)
 
 -- the faults of a run that heals none strike one seat
 abbrev pub StrikeOneUnless : Bool → List VoteFault → Type 0

@@ -10,6 +10,7 @@ use Rattle.ps_model.specs.Sound.{IsSound}
 use Rattle.ps_model.specs.Meaning.{Item, nothing}
 use Rattle.ps_model.proofs.Runs.{one_run}
 use Rattle.ps_report.specs.Short.{refusal_text}
+use Rattle.ps_seat.specs.Items.{AreTimely}
 use Rattle.ps_trace.specs.FaultOrder.{AreOfOneChannel}
 use Rattle.ps_trace.specs.Reading.{only_refused}
 use Rattle.ps_trace.specs.Scans.{Scans}
@@ -17,7 +18,7 @@ use Rattle.ps_world.specs.Worlds.{World_state}
 use Rattle.ps_world.specs.Steps.{after}
 use Rattle.ps_world.specs.Lists.{is_same}
 use Rattle.ps_world.specs.Orders.{other, events, run_events}
-use Rattle.ps_world.specs.Answers.{AreTimely, SpareChannel, ReleaseRight, RunsAreRight, answers_of_run}
+use Rattle.ps_world.specs.Answers.{SpareChannel, ReleaseRight, RunsAreRight, answers_of_run}
 use Rattle.ps_world.specs.Whole.{Whole, machines_in, after_events, IsWorldOf}
 use Rattle.ps_top.specs.Asking.{Answer, IsAnswer, IsLeft}
 use Rattle.ps_top.specs.declared.left.Left.{Left}

@@ -14,6 +14,7 @@ use Rattle.ps_eqgen.proofs.Scanning as equation
 use Rattle.ps_eqvm.specs.Channel.{machine_b}
 use Rattle.ps_eqvm.specs.Code.{code_b}
 use Rattle.ps_eqvm.specs.Stands.{StandsB}
+use Rattle.ps_seat.specs.Items.{AreTimely}
 use Rattle.ps_source.specs.Source.{Reading, IsAcceptedAs}
 use Rattle.ps_source.specs.Source.Reading.{stands_for, is_refused}
 use Rattle.ps_stackgen.proofs.Scanning as stack
@@ -25,7 +26,7 @@ use Rattle.ps_trace.specs.Scans.End.{whole, refused}
 use Rattle.ps_world.specs.Worlds.{Machines, World_state, Restart, world_0}
 use Rattle.ps_world.specs.Steps.{world_step, after}
 use Rattle.ps_world.specs.Orders.{of_scan, scan_events, verdicts, tripped_from}
-use Rattle.ps_world.specs.Answers.{answers, AreTimely, ReleaseAll, QuietRunsRelease}
+use Rattle.ps_world.specs.Answers.{answers, ReleaseAll, QuietRunsRelease}
 use Rattle.ps_world.specs.Whole.{Setup, machines_in, IsSetupOf}
 use Rattle.ps_world.proofs.Built.{keeps_a, keeps_b, sized_for_a, sized_for_b}
 use Rattle.ps_world.proofs.Run.{quiet_runs_release}

@@ -10,6 +10,7 @@ use Rattle.ps_base.specs.declared.failing.Rule.TheVariants.{T2, T3, T4, T5, T7}
 use Rattle.ps_lines.specs.Lines.{Line}
 use Rattle.ps_lines.specs.Lines.Line.{Kept, KeptLast, Long, Large}
 use Rattle.ps_model.specs.Network.{Network, input_count}
+use Rattle.ps_seat.specs.Items.{AreTimely}
 use Rattle.ps_trace.specs.Words.{fields, number_of, digits_value}
 use Rattle.ps_trace.specs.Trace.{Said, value_of, scan_at_time, scan_line, is_restart, line_said}
 use Rattle.ps_trace.specs.Trace.Said.{skips, restarts, scans, breaks}
@@ -17,7 +18,6 @@ use Rattle.ps_trace.specs.Header.{Header, header_said, names_said, names_another
 use Rattle.ps_trace.specs.Header.Header.{no_header, places, wrong}
 use Rattle.ps_trace.specs.Scans.{Scans, Headed, said_of, last_after, onto_scans, number_after, scans_from, header_of, onto_headed, header_from, header_in, scans_behind, scans_of, trace_lines}
 use Rattle.ps_trace.specs.Scans.Headed.{begins, fails}
-use Rattle.ps_world.specs.Answers.{AreTimely}
 
 -- what holds of both cases of a test
 by_test : {X : Type 0} (P : X → Type 0) (b : Bool) (x y : X) → (b ≡ true → P x) → (b ≡ false → P y) → P (cond b x y)

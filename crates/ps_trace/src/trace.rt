@@ -175,6 +175,7 @@ impl TraceReader {
     ///
     /// With `Next::Scan` the scan stands in `into`; with every other answer `into` is as before. After `Fault` a
     /// later call goes on with the same line; after `Refused` every later call answers the same and reads nothing.
+    #[inline(always)]
     pub fn next_scan<F: Files>(&mut self, files: &mut F, into: &mut Scan) -> Result<Next, TraceStop>
         requires sizes { length into.old.ins ≡ input_count_of self.old }
 
@@ -215,6 +216,7 @@ impl TraceReader {
     }
 
     // What the next line gives. None: it is skipped.
+    #[inline(always)]
     fn next_line<F: Files>(
         &mut self,
         files: &mut F,
@@ -281,6 +283,7 @@ impl TraceReader {
     }
 
     // What comes of the line that was read last, which a line feed ends (1) or not (0).
+    #[inline(always)]
     fn take_line(&mut self, feeds: u32, into: &mut Scan) -> LineSays
         requires sizes { length into.old.ins ≡ input_count_of self.old }
         requires room { self.old.number + feeds ≤ begin_of self.old.lines + 1 }

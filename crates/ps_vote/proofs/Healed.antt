@@ -18,7 +18,7 @@ use Rattle.ps_model.proofs.CallLimits.{limit_small}
 use Rattle.ps_model.proofs.Keeping.{heals}
 use Rattle.ps_model.proofs.Sixteen.{load_of_store}
 use Rattle.ps_machine.specs.Bytes.{replaced}
-use Rattle.ps_machine.specs.Standing.{StandsBlock, limit_from, limit_in}
+use Rattle.ps_machine.specs.Standing.{LoadsTo, limit_from, limit_in}
 use Rattle.ps_eqvm.proofs.Again.{bytes-append, one, four}
 use Rattle.ps_eqvm.proofs.Complements.{complement_small}
 use Rattle.ps_eqvm.proofs.StoredBytes.{bit_low}
@@ -68,8 +68,8 @@ healed_kept kind limit t k small h = record {
 }
 
 -- bytes that stand for a block in channels A and C stand for it in seat B once they are counted
-pub counted_stands : (kind : Kind) (limit t : ℕ) (bytes : List ℕ) (b : Block_state) → limit < 2 ^ 32 → StandsBlock (Since t) kind bytes b →
-    StandsBlock (Remains limit) kind (counted_block limit t bytes) b
+pub counted_stands : (kind : Kind) (limit t : ℕ) (bytes : List ℕ) (b : Block_state) → limit < 2 ^ 32 → LoadsTo (Since t) kind bytes b →
+    LoadsTo (Remains limit) kind (counted_block limit t bytes) b
 counted_stands kind limit t bytes b small h = record {
   kept = healed limit t h.kept;
   loads = record {
@@ -110,7 +110,7 @@ stored_bytes k low =
     let h1 = bytes-append (bit k.last_reset ∷ []) (bit k.last_auxiliary ∷ k.mode ∷ l4) (one (bit k.last_reset) (bit_byte k.last_reset)) h2 in
     bytes-append (to_be_bytes w16 k.code) (bit k.last_reset ∷ bit k.last_auxiliary ∷ k.mode ∷ l4) (two k.code) h1
 
-pub counted_bytes : (kind : Kind) (limit t : ℕ) (bytes : List ℕ) (b : Block_state) → StandsBlock (Since t) kind bytes b → (i : ℕ) → slice_index (counted_block limit t bytes) i < 256
+pub counted_bytes : (kind : Kind) (limit t : ℕ) (bytes : List ℕ) (b : Block_state) → LoadsTo (Since t) kind bytes b → (i : ℕ) → slice_index (counted_block limit t bytes) i < 256
 counted_bytes kind limit t bytes b h i =
     subst (λ l. slice_index l i < 256) (sym (ap (counted_block limit t) h.loads.bytes_are ∙ counted_stored kind limit t h.kept h.loads.kept))
     (stored_bytes (healed limit t h.kept) (mode_small kind h.kept.code h.kept.mode h.loads.kept.mode) i)

@@ -12,7 +12,7 @@ use Rattle.ps_model.specs.Scanning.{State, signal_in, block_in}
 use Rattle.ps_model.specs.Sized.{AreSizesOf}
 use Rattle.ps_model.specs.Sound.{IsSound}
 use Rattle.ps_machine.specs.Bytes.{bit, be4, replaced, instance_bytes}
-use Rattle.ps_machine.specs.Standing.{StandsBlock, StandsIn, limit_in}
+use Rattle.ps_machine.specs.Standing.{LoadsTo, AreCellsOf, limit_in}
 use Rattle.ps_machine.proofs.Instances.{bytes_at, block_is}
 use Rattle.ps_machine.proofs.Places.{length-replaced, index_before, be4_within}
 use Rattle.ps_stackvm.specs.Channel.{blank_a}
@@ -44,7 +44,7 @@ module _ (net : Network) (z : Sizes) (sizes : AreSizesOf net z) where
 
   -- cells that are filled with what was carried over from others
   filled_stands : (Says : ℕ → ℕ → ℕ → Type 0) (w : State) (blank : List ℕ) (time_at : ℕ) (time : List ℕ) (first at : ℕ) (cells : List ℕ) → time_at + length time ≤ at →
-      length blank ≡ at + z.signals + 16 * z.instances → StandsIn net Says w first cells → StandsIn net Says w at (filled blank time_at time at (carried z first cells))
+      length blank ≡ at + z.signals + 16 * z.instances → AreCellsOf net Says w first cells → AreCellsOf net Says w at (filled blank time_at time at (carried z first cells))
   filled_stands Says w blank time_at time first at cells before whole h =
       let rest = carried z first cells in
       let size = length-carried first cells in
@@ -113,15 +113,15 @@ module _ (net : Network) (z : Sizes) (sizes : AreSizesOf net z) where
         ∙ ap (bytes_at i) (drop-drop z.signals 74 cells ∙ ap (λ n. drop (74 + n) cells) sizes.signals)
         ∙ sym (block_is (74 + signal_count net) i cells (drop (74 + signal_count net) cells) refl)
 
-    stands_at : (i : ℕ) → i < instance_count net → StandsBlock (Since t) (kind_at net i) (bytes_at i blocks) (block_in w i)
-    stands_at i low = subst (λ b. StandsBlock (Since t) (kind_at net i) b (block_in w i)) (sym (block_at i)) (h.blocks i low)
+    stands_at : (i : ℕ) → i < instance_count net → LoadsTo (Since t) (kind_at net i) (bytes_at i blocks) (block_in w i)
+    stands_at i low = subst (λ b. LoadsTo (Since t) (kind_at net i) b (block_in w i)) (sym (block_at i)) (h.blocks i low)
 
     limit_at : (i : ℕ) → i < instance_count net → get_or limits i 0 ≡ limit_in net i
     limit_at i low = ap (λ l. get_or l i 0) are ∙ get_or-map-range_with_len (limit_in net) 0 (instance_count net) i i 0 low (omega arith)
 
-    counted_stands_at : (i : ℕ) → i < instance_count net → StandsBlock (Remains (limit_in net i)) (kind_at net i) (bytes_at i (counted_blocks limits t blocks)) (block_in w i)
+    counted_stands_at : (i : ℕ) → i < instance_count net → LoadsTo (Remains (limit_in net i)) (kind_at net i) (bytes_at i (counted_blocks limits t blocks)) (block_in w i)
     counted_stands_at i low =
-        subst (λ b. StandsBlock (Remains (limit_in net i)) (kind_at net i) b (block_in w i))
+        subst (λ b. LoadsTo (Remains (limit_in net i)) (kind_at net i) b (block_in w i))
         (sym (counted_at limits t blocks i length-blocks (omega (arith, length-limits, sizes.instances, low)) ∙ ap (λ l. counted_block l t (bytes_at i blocks)) (limit_at i low)))
         (counted_stands (kind_at net i) (limit_in net i) t (bytes_at i blocks) (block_in w i) (limit_in_small net sound i) (stands_at i low))
 
@@ -212,10 +212,10 @@ module _ (net : Network) (z : Sizes) (sizes : AreSizesOf net z) where
     pub heals_b : StandsB net w t (rebuilt_b z limits t cells)
     heals_b = record {
       kept_time = ap (λ l. be4 l 5) plain_is ∙ plain_time;
-      standing = subst (StandsIn net (λ i. Remains (limit_in net i)) w 61) (sym plain_is) (record {
+      standing = subst (AreCellsOf net (λ i. Remains (limit_in net i)) w 61) (sym plain_is) (record {
         sized = length-plain;
         undriven = h.undriven;
         signals = plain_signal;
-        blocks = λ i low. subst (λ b. StandsBlock (Remains (limit_in net i)) (kind_at net i) b (block_in w i)) (sym (plain_block i)) (counted_stands_at i low);
+        blocks = λ i low. subst (λ b. LoadsTo (Remains (limit_in net i)) (kind_at net i) b (block_in w i)) (sym (plain_block i)) (counted_stands_at i low);
       });
     }

@@ -7,7 +7,7 @@ use Rattle.std.proofs.lemmas.List.FromFn.{fill_by_all}
 use Rattle.ps_model.specs.Network.{Network, signal_count, instance_count, kind_at}
 use Rattle.ps_model.specs.Scanning.{State, block_in}
 use Rattle.ps_machine.specs.Bytes.{replaced, overwritten}
-use Rattle.ps_machine.specs.Standing.{StandsBlock, StandsIn}
+use Rattle.ps_machine.specs.Standing.{LoadsTo, AreCellsOf}
 use Rattle.ps_machine.proofs.Instances.{block_is}
 use Rattle.ps_machine.proofs.Places.{length-replaced}
 use Rattle.ps_vote.specs.Healing.{bytes_from, filled}
@@ -57,7 +57,7 @@ module _ (blank : List ℕ) (time_at : ℕ) (time : List ℕ) (first : ℕ) (res
 -- ---- Cells with the same signals and instances stand for the same state.
 module _ (net : Network) (Says : ℕ → ℕ → ℕ → Type 0) (w : State) where
   pub same_standing : (first at : ℕ) (cells new : List ℕ) → length new ≡ at + signal_count net + 16 * instance_count net → drop at new ≡ drop first cells →
-      StandsIn net Says w first cells → StandsIn net Says w at new
+      AreCellsOf net Says w first cells → AreCellsOf net Says w at new
   same_standing first at cells new sized same h = record {
     sized = sized;
     undriven = h.undriven;
@@ -66,5 +66,5 @@ module _ (net : Network) (Says : ℕ → ℕ → ℕ → Type 0) (w : State) whe
         let from = first + signal_count net in
         let to = at + signal_count net in
         let rest : drop to new ≡ drop from cells = sym (drop-drop (signal_count net) at new) ∙ ap (drop (signal_count net)) same ∙ drop-drop (signal_count net) first cells in
-        subst (λ b. StandsBlock (Says i) (kind_at net i) b (block_in w i)) (block_is from i cells (drop from cells) refl ∙ sym (block_is to i new (drop from cells) rest)) (h.blocks i low);
+        subst (λ b. LoadsTo (Says i) (kind_at net i) b (block_in w i)) (block_is from i cells (drop from cells) refl ∙ sym (block_is to i new (drop from cells) rest)) (h.blocks i low);
   }

@@ -5,6 +5,7 @@ use Rattle.ps_model.specs.Scanning.{State, Solves}
 use Rattle.ps_model.specs.Meaning.{Item, scan, restart, Past, nothing, last, old_state, passed, Runs, report}
 use Rattle.ps_model.specs.PastAfter.{past_after}
 use Rattle.ps_machine.specs.Keeping.{Keeps}
+use Rattle.ps_seat.specs.Items.{AreTimely}
 use Rattle.ps_seat.specs.Outcomes.{GivesSized}
 use Rattle.ps_trace.specs.FaultOrder.{StrikeOne}
 use Rattle.ps_vote.specs.declared.faults.VoteFault.{VoteFault}
@@ -18,7 +19,7 @@ use Rattle.ps_vote.specs.Votes.{vote, report_given, outvoted_by}
 use Rattle.ps_vote.specs.Steps.{world_step, after, May}
 use Rattle.ps_vote.specs.Lists.{SpoilsOnly, OthersAreClean, IsMended}
 use Rattle.ps_vote.specs.Orders.{of_scan, path_to_vote, at_vote, behind_vote, closing, path_of_scan, Course, restarted, scanned, course_from}
-use Rattle.ps_vote.specs.Answers.{AreTimely, IsRight, VoteRunsAreRight, HealRunsAreRight}
+use Rattle.ps_vote.specs.Answers.{IsRight, VoteRunsAreRight, HealRunsAreRight}
 use Rattle.ps_vote.proofs.Seated.{none_marked}
 use Rattle.ps_vote.proofs.Standing.{Sound, beginning_sound, vote_sound, restart_sound, heal_sound, may_be_out, voted, after_sound}
 use Rattle.ps_vote.proofs.Mended.{others_stay, only_mended}

@@ -1,10 +1,11 @@
 -- What the runs of `vote` and `heal` answer, scan by scan, and that it is right.
-use Rattle.std.specs.Prelude.{◌≡◌, ◌≢◌, ◌≤◌, ◌<◌, ◌^◌, ℕ, true, false, List, [], ◌∷◌, map, length, None}
+use Rattle.std.specs.Prelude.{◌≡◌, ◌≢◌, ℕ, true, false, List, [], ◌∷◌, map, length, None}
 use Rattle.ps_model.specs.declared.report.Report.{Report}
 use Rattle.ps_model.specs.Network.{Network, input_count, instance_count}
 use Rattle.ps_model.specs.Scanning.{State}
-use Rattle.ps_model.specs.Meaning.{Item, scan, restart, Meaning, report}
+use Rattle.ps_model.specs.Meaning.{Item, Meaning, report}
 use Rattle.ps_trace.specs.FaultOrder.{StrikeOne}
+use Rattle.ps_seat.specs.Items.{AreTimely}
 use Rattle.ps_vote.specs.declared.faults.VoteFault.{VoteFault}
 use Rattle.ps_vote.specs.declared.seat.Vote.{Vote}
 use Rattle.ps_vote.specs.declared.seat.Vote.TheVariants.{Split}
@@ -21,12 +22,6 @@ pub record Answer : Type 0 where
 -- the answers of scans whose votes come in these worlds, for an application with so many outputs and instances
 abbrev pub answers : Machines → (outputs instances : ℕ) → List World_state → List Answer
 answers m outputs instances votes = map (λ x. record { vote = vote m x; report = report_given m outputs instances x }) votes
-
--- each scan has a value for each input, and a time of 32 bits that is not earlier than that of the scan before, also across restarts
-abbrev pub AreTimely : (inputs latest : ℕ) → List Item → Type 0
-AreTimely inputs latest [] = Unit {0}
-AreTimely inputs latest (restart ∷ items) = AreTimely inputs latest items
-AreTimely inputs latest (scan now ins ∷ items) = (latest ≤ now) × (now < 2 ^ 32) × (length ins ≡ inputs) × AreTimely inputs now items
 
 -- no answer is Split, and each gives the report of its scan's state
 abbrev pub AnswerRight : Network → List Answer → List State → Type 0

@@ -11,13 +11,14 @@ use Rattle.ps_model.specs.Scanning.{State, Solves}
 use Rattle.ps_model.specs.Meaning.{Item, scan, restart, Past, nothing, last, old_state, passed, Runs, report}
 use Rattle.ps_model.specs.PastAfter.{past_after}
 use Rattle.ps_machine.specs.Keeping.{Keeps}
+use Rattle.ps_seat.specs.Items.{AreTimely}
 use Rattle.ps_seat.specs.Outcomes.{outcome, GivesSized}
 use Rattle.ps_world.specs.Worlds.{Machines, World_state, Event, Begin, Compare, Restart, machine, world_0}
 use Rattle.ps_world.specs.Verdicts.{judged, verdict, is_trip}
 use Rattle.ps_world.specs.Steps.{world_step, after, both_ended, May, Lawful}
 use Rattle.ps_world.specs.Lists.{IsSpared, items_of}
 use Rattle.ps_world.specs.Orders.{of_scan, spoils_before, turn_events, events_before_compare, at_compare, scan_events}
-use Rattle.ps_world.specs.Answers.{answers, AreTimely, SpareChannel, ReleaseRight, ReleaseAll, RunsAreRight, QuietRunsRelease}
+use Rattle.ps_world.specs.Answers.{answers, SpareChannel, ReleaseRight, ReleaseAll, RunsAreRight, QuietRunsRelease}
 use Rattle.ps_world.proofs.Turning.{after_append, struck_alike}
 use Rattle.ps_world.proofs.Ordered.{of_scan_spare, struck_lawful, struck_spared, struck_items, turns_come}
 use Rattle.ps_world.proofs.Standing.{Holds, beginning_holds, step_holds, restart_holds, after_holds}

@@ -1,5 +1,5 @@
 -- What a run answers, scan by scan, and that it is right.
-use Rattle.std.specs.Prelude.{◌≡◌, ◌≤◌, ◌<◌, ◌^◌, ℕ, suc, false, List, [], ◌∷◌, length}
+use Rattle.std.specs.Prelude.{◌≡◌, ℕ, suc, false, List, [], ◌∷◌, length}
 use Rattle.ps_model.specs.declared.channel.Channel.{Channel}
 use Rattle.ps_model.specs.declared.channel.Fault.{Fault}
 use Rattle.ps_model.specs.declared.channel.Verdict.{Verdict}
@@ -8,6 +8,7 @@ use Rattle.ps_model.specs.declared.report.Report.{Report}
 use Rattle.ps_model.specs.Network.{Network, input_count, instance_count}
 use Rattle.ps_model.specs.Scanning.{State}
 use Rattle.ps_model.specs.Meaning.{Item, scan, restart, Meaning, report}
+use Rattle.ps_seat.specs.Items.{AreTimely}
 use Rattle.ps_world.specs.Worlds.{Machines, World_state, Restart, world_0}
 use Rattle.ps_world.specs.Verdicts.{verdict, report_given}
 use Rattle.ps_world.specs.Steps.{world_step, after}
@@ -27,12 +28,6 @@ answers m outputs instances faults number (scan now ins ∷ items) x =
     let z = at_compare m (of_scan number faults) now ins x in
     record { verdict = verdict m z; report = report_given m outputs instances z }
     ∷ answers m outputs instances faults (suc number) items (after m (scan_events m (of_scan number faults) now ins x) x)
-
--- each scan has a value for each input, and a time of 32 bits that is not earlier than that of the scan before, also across restarts
-abbrev pub AreTimely : (inputs latest : ℕ) → List Item → Type 0
-AreTimely inputs latest [] = Unit {0}
-AreTimely inputs latest (restart ∷ items) = AreTimely inputs latest items
-AreTimely inputs latest (scan now ins ∷ items) = (latest ≤ now) × (now < 2 ^ 32) × (length ins ≡ inputs) × AreTimely inputs now items
 
 -- no fault names the channel
 abbrev pub SpareChannel : Channel → List Fault → Type 0

@@ -4,6 +4,7 @@ use Rattle.ps_model.specs.Action.{free}
 use Rattle.ps_model.specs.Args.{actual}
 use Rattle.ps_model.specs.Budgets.{boolean_count}
 use Rattle.ps_model.proofs.Budgeting.{boolean_within, sum_next}
+use Rattle.ps_decision.specs.declared.layout.TheConstants.{FIRST_PIN}
 use Rattle.ps_decision.specs.Budget.{count_at_pin}
 use Rattle.ps_decision.specs.Code.{pin_rows, rows_at_pin}
 use Rattle.ps_decision.specs.Rows.{bytes_of}
@@ -37,6 +38,6 @@ loop-j-preserved c =
     let next = sum_next count_at_pin args j _ c.at.ensures in
     record {
       written = number_next (rows_at_pin c.args.kind args) c.args.code.now.items j code c.loop-j.invariant.written _
-          (written ∙ (λ x. code ++ bytes_of (pin_rows (61440 + c.from-target.ensures x) (c.free_value.ensures x) (sym found x) (length code))));
+          (written ∙ (λ x. code ++ bytes_of (pin_rows (FIRST_PIN + c.from-target.ensures x) (c.free_value.ensures x) (sym found x) (length code))));
       few = omega (arith, pin_long _ c.free_value.result given code _ written, next, c.loop-j.invariant.few);
     }

@@ -1,6 +1,7 @@
 use Rattle.std.proofs.Common.{◌≡◌, ◌+◌, ◌≤◌, ◌++◌, drop, map}
 use Rattle.ps_model.specs.Exprs.{formula, operands}
 use Rattle.ps_model.specs.Values.{deepest}
+use Rattle.ps_eqvm.specs.declared.layout.TheConstants.{WORK_CELLS}
 use Rattle.ps_eqvm.specs.Code.{bytes_of}
 use Rattle.ps_eqvm.specs.declared.opcode.Gate.TheVariants.{Set}
 use Rattle.ps_eqgen.specs.Written.{rows_left}
@@ -11,5 +12,5 @@ abbrev pub invariant-emit_group-loop-x : goal.invariant-emit_group-loop-x
 invariant-emit_group-loop-x l = record {
   written : l.code.items ++ bytes_of (rows_left l.level l.gate l.join (operands (map formula (drop l.x-index l.all))))
       ≡ l.initial.code.items ++ bytes_of (rows_left l.level Set l.join (operands (map formula l.all)));
-  low : l.level + 1 + deepest (operands (map formula (drop l.x-index l.all))) ≤ 48;
+  low : l.level + 1 + deepest (operands (map formula (drop l.x-index l.all))) ≤ WORK_CELLS;
 }

@@ -3,8 +3,9 @@ use Rattle.std.specs.Prelude.{not}
 use Rattle.std.specs.List.{list_all, range_with_len}
 use Rattle.ps_machine.specs.Bytes.{is_no_bit}
 use Rattle.ps_machine.specs.Reporting.{output_byte}
+use Rattle.ps_eqvm.specs.declared.layout.TheConstants.{SIGNALS_AT}
 use Rattle.ps_eqvm.specs.Plain.{plain_bytes}
 use Rattle.ps_eqvm.proofs.report.outputs_hold.Given as goal
 
 abbrev pub invariant-loop-j : goal.invariant-loop-j
-invariant-loop-j l = list_all (λ j. not (is_no_bit (output_byte l.sizes 61 (plain_bytes l.plain) j))) (range_with_len 0 l.j) ≡ true
+invariant-loop-j l = list_all (λ j. not (is_no_bit (output_byte l.sizes SIGNALS_AT (plain_bytes l.plain) j))) (range_with_len 0 l.j) ≡ true

@@ -2,8 +2,9 @@ use Rattle.std.proofs.Common.{◌≡◌, ◌++◌, drop}
 use Rattle.std.specs.Prelude.{map}
 use Rattle.std.specs.List.{range_with_len}
 use Rattle.ps_machine.specs.Reporting.{diag_at}
+use Rattle.ps_eqvm.specs.declared.layout.TheConstants.{SIGNALS_AT}
 use Rattle.ps_eqvm.specs.Plain.{plain_bytes}
 use Rattle.ps_eqvm.proofs.report.write_diags.Given as goal
 
 abbrev pub invariant-loop-i : goal.invariant-loop-i
-invariant-loop-i l = l.diags ≡ map (diag_at l.sizes 61 (plain_bytes l.plain)) (range_with_len 0 l.i) ++ drop l.i l.initial.diags
+invariant-loop-i l = l.diags ≡ map (diag_at l.sizes SIGNALS_AT (plain_bytes l.plain)) (range_with_len 0 l.i) ++ drop l.i l.initial.diags

@@ -1,4 +1,4 @@
-use Rattle.std.proofs.Common.{◌≡◌, ◌<◌, ◌+◌, ◌++◌, ℕ, false, List, length, drop, get_or, ap, sym, ◌∙◌, arith}
+use Rattle.std.proofs.Common.{◌≡◌, ◌<◌, ◌+◌, ◌++◌, ℕ, false, List, length, take, drop, get_or, ap, sym, ◌∙◌, arith}
 use Rattle.std.specs.List.{flat_map}
 use Rattle.std.proofs.lemmas.List.Sums.{sum_by-drop_more}
 use Rattle.ps_model.specs.declared.named.Signal.{Signal}
@@ -19,8 +19,8 @@ loop-j-preserved c =
     let left : flat_map (λ o. named_value o.name false) (drop j net.outputs) ≡ named_value c.signal_name.result.now false ++ rest =
     false_texts-drop net.outputs j inside ∙ ap (λ (n : List ℕ). named_value n false ++ rest) (sym name) in
     record {
-      bytes = field_written c.loop-j.line.items c.put_named_value.new.line.items (named_value c.signal_name.result.now false) rest
-          (flat_map (λ o. named_value o.name false) (drop j net.outputs)) c.put_named_value.ensures.bytes left ∙ c.loop-j.invariant.bytes;
-      len = omega (arith, sum_by-drop_more (λ (s : Signal). length s.name + 3) net.outputs j no_signal inside, ap length name, c.put_named_value.ensures.len, c.loop-j.invariant.len);
-      capacity = omega arith;
+      bytes = field_written (take c.loop-j.end c.loop-j.line) (take c.put_named_value-end.result c.put_named_value-end.new.line) (named_value c.signal_name.result.now false) rest
+          (flat_map (λ o. named_value o.name false) (drop j net.outputs)) c.put_named_value-end.ensures.bytes left ∙ c.loop-j.invariant.bytes;
+      end = omega (arith, sum_by-drop_more (λ (s : Signal). length s.name + 3) net.outputs j no_signal inside, ap length name, c.put_named_value-end.ensures.end, c.loop-j.invariant.end);
+      len = c.put_named_value-end.ensures.len ∙ c.loop-j.invariant.len;
     }

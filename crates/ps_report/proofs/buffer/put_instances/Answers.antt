@@ -1,4 +1,4 @@
-use Rattle.std.proofs.Common.{◌≡◌, ◌<◌, ◌+◌, ◌++◌, ℕ, List, length, drop, get_or, ap, sym, ◌∙◌, arith}
+use Rattle.std.proofs.Common.{◌≡◌, ◌<◌, ◌+◌, ◌++◌, ℕ, List, length, take, drop, get_or, ap, sym, ◌∙◌, arith}
 use Rattle.std.proofs.lemmas.List.Sums.{sum_by-drop_more}
 use Rattle.std.proofs.lemmas.Option.{get_or_from_slice_get}
 use Rattle.ps_model.specs.declared.named.Instance.{Instance}
@@ -24,8 +24,8 @@ loop-i-preserved c =
     ∙ ap (λ (n : List ℕ). named_diag n (get_or diags i no_diag) ++ rest) (sym name)
     ∙ ap (λ (d : Diag). named_diag c.instance_name.result.now d ++ rest) value in
     record {
-      bytes = field_written c.loop-i.line.items c.put_named_diag.new.line.items (named_diag c.instance_name.result.now c.at.result) rest
-          (instance_texts (drop i instances) (drop i diags)) c.put_named_diag.ensures.bytes left ∙ c.loop-i.invariant.bytes;
-      len = omega (arith, sum_by-drop_more (λ (x : Instance). length x.name + 10) instances i no_instance inside, ap length name, c.put_named_diag.ensures.len, c.loop-i.invariant.len);
-      capacity = omega arith;
+      bytes = field_written (take c.loop-i.end c.loop-i.line) (take c.put_named_diag-end.result c.put_named_diag-end.new.line) (named_diag c.instance_name.result.now c.at.result) rest
+          (instance_texts (drop i instances) (drop i diags)) c.put_named_diag-end.ensures.bytes left ∙ c.loop-i.invariant.bytes;
+      end = omega (arith, sum_by-drop_more (λ (x : Instance). length x.name + 10) instances i no_instance inside, ap length name, c.put_named_diag-end.ensures.end, c.loop-i.invariant.end);
+      len = c.put_named_diag-end.ensures.len ∙ c.loop-i.invariant.len;
     }

@@ -2,6 +2,7 @@ use Rattle.std.proofs.Common.{◌≡◌, suc, ◌+◌, ◌≤◌, length, sym, a
 use Rattle.ps_machine.specs.Machines.{turned}
 use Rattle.ps_machine.proofs.Phases.{turned_next}
 use Rattle.ps_machine.proofs.Progressing.{running_next}
+use Rattle.ps_stackvm.specs.declared.layout.TheConstants.{SIGNALS_AT}
 use Rattle.ps_stackvm.specs.Cells.{progress_of}
 use Rattle.ps_stackvm.specs.Turn.{turn_of}
 use Rattle.ps_stackvm.proofs.Heads.{same_progress}
@@ -15,7 +16,7 @@ loop-made-preserved c =
     let head = c.loop-made.head in
     let before = c.loop-made.invariant in
     let next : suc k ≡ k + 1 = omega arith in
-    let room : 74 ≤ length c.loop-made.cells = omega (arith, c.requires.room, c.loop-made.auto.cells) in
+    let room : SIGNALS_AT ≤ length c.loop-made.cells = omega (arith, c.requires.room, c.loop-made.auto.cells) in
     let here : progress_of (turned f k a.cells.now) ≡ 0 =
     ap progress_of (sym before.cells) ∙ same_progress head.pc head.height c.loop-made.cells room ∙ c.if-cells-ne0.false in
     record {

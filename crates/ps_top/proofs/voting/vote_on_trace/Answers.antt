@@ -1,5 +1,4 @@
 use Rattle.std.proofs.Common.{◌≡◌, ◌∷◌, [], ◌∙◌, ℕ, Bool, List, Some, IsTrue, Err, Result, ap, subst, sym, arith}
-use Rattle.ps_model.specs.Network.{input_count}
 use Rattle.ps_report.specs.Short.{refusal_text}
 use Rattle.ps_source.proofs.Sourced.{some_of}
 use Rattle.ps_trace.specs.Reading.{IsRead, file_of, items_left}
@@ -11,7 +10,7 @@ use Rattle.ps_top.specs.Program.{answer, vote_scans}
 use Rattle.ps_top.specs.Seats.{vote_answer}
 use Rattle.ps_top.specs.declared.Status.TheVariants.{BadInput}
 use Rattle.ps_top.proofs.Calling.{output_same, memory_causes, said_causes, causes_later, no_read_said, any_only}
-use Rattle.ps_top.proofs.CourseMeant.{timely_seats, run_answers, refusal_answers, run_leaves, refusal_leaves}
+use Rattle.ps_top.proofs.CourseMeant.{run_answers, refusal_answers, run_leaves, refusal_leaves}
 use Rattle.ps_top.proofs.Meeting.{memory_meets, streamed_meets}
 use Rattle.ps_top.proofs.Timely.{scans_timely}
 use Rattle.ps_top.proofs.voting.vote_on_trace.Goals as goal
@@ -51,7 +50,7 @@ returns-in-Ok-clause-meets g c = λ ft.
     (λ fault. any_only (NameRose first last) trace (causes.read_fault fault))
     (λ said is. run_answers net c.sound.ensures p.heals p.faults p.world c.requires.first.world c.requires.first.one_seat
     (c.vote_runs_are_right.ensures c.requires.accepted setup c.requires.first.world.setup) (c.heal_runs_are_right.ensures c.requires.accepted setup c.requires.first.world.setup)
-    (scans_of text net) (timely_seats (input_count net) 0 (scans_of text net).items (scans_timely text net)) held said
+    (scans_of text net) (scans_timely text net) held said
     (is ∙ ap (λ (s : Scans). vote_answer p.heals net p.faults p.world s) (c.in-Ok.ensures.begins ft text found.1)))
     (c.answer_votes.ensures.gives ft' text held' (c.in-Ok.ensures.reads ft text found.1))
 

@@ -2,9 +2,10 @@
 
 python3 allocations.py [PROGRAM]     PROGRAM is by default the one that ./plcsafe builds; the C compiler `cc` has to be there
 
-For `run`, `check`, `cert` and `verify` on a motor the k-th allocation is refused, for k from 1 up to the first run that asks for
-fewer. Each such run has to write nothing and end with status 7, or 8 where the system could not give the words, or to write all
-of its text with status 0. The script prints how many runs ended how, and ends with 1 where one ended otherwise.
+For each command on a motor, for a long trace and for calls that are refused, the k-th allocation is refused, for k from 1 up to the
+first run that asks for fewer. Each such run has to write nothing and end with status 7, or 8 where the system could not give the
+words, or to write all of its text with the status of a run of which nothing is refused. That status stands in the table below, and
+is compared too. The script prints how many runs ended how, and ends with 1 where one ended otherwise.
 """
 import os
 import subprocess
@@ -17,7 +18,30 @@ HERE = os.path.dirname(os.path.abspath(__file__))
 BUILT = os.path.join(HERE, "..", "crates", "ps_main", "out", "ps_main")
 TRACE = "time S_In Ack Run\n0 1 0 1\n10 1 0 1\n20 1 0 1\n30 1 1 1\n40 1 0 0\n50 0 0 1\n"
 CERTIFICATE = "0 SRC\n3 SRC\n2 AND 2\n"
-COMMANDS = (["run", "M", "U"], ["check", "M"], ["cert", "M"], ["verify", "M", "C"])
+# A fault that trips the motor in its third scan, and outvotes one seat of three there; and two that strike one seat after the other.
+FAULT = "before 3 A memory 81 8000\n"
+TWO_FAULTS = "before 2 C code 0 ff\nbefore 4 A memory 81 8001\n"
+# A trace that is read by three reads.
+LONG_TRACE = "time S_In Ack Run\n" + "0 0 0 0\n" * 1000
+# The words of each run, and its status where no allocation is refused.
+COMMANDS = (
+    (["run", "M", "U"], 0),
+    (["fault", "M", "U", "F"], 4),
+    (["check", "M"], 0),
+    (["cert", "M"], 0),
+    (["verify", "M", "C"], 0),
+    (["image", "M"], 0),
+    (["load", "1"], 0),
+    (["demand", "M"], 0),
+    (["vote", "M", "U", "F"], 0),
+    (["heal", "M", "U", "G"], 0),
+    (["run", "M", "V"], 0),
+    (["run", "M"], 2),
+    (["check", "C"], 1),
+    (["verify", "M", "U"], 3),
+    (["run", "M", "C"], 3),
+    (["fault", "M", "U", "C"], 3),
+)
 
 # Takes the place of the C library's allocator: the call whose number FAIL_AT gives is refused, and says so in the file REFUSED.
 SHIM = """
@@ -50,30 +74,32 @@ def ended(program, folder, words, k):
     return run.returncode, run.stdout, os.path.exists(sign)
 
 
-def tried(program, folder, words):
-    """Prints how the runs of a command ended, and says whether one ended otherwise than it may."""
-    whole = subprocess.run([program, *words], cwd=folder, stdout=subprocess.PIPE, check=True).stdout
-    ends, wrong, k, comes = {}, 0, 1, True
+def tried(program, folder, words, done):
+    """Prints how the runs of a command ended, and says how many ended otherwise than they may."""
+    run = subprocess.run([program, *words], cwd=folder, stdout=subprocess.PIPE, stderr=subprocess.DEVNULL, check=False)
+    whole, ends, k, comes = run.stdout, {}, 1, True
+    wrong = 0 if run.returncode == done and whole else 1
     while comes:
         status, text, comes = ended(program, folder, words, k)
-        right = (status in (7, 8) and not text) or (status == 0 and text == whole)
+        right = (status in (7, 8) and not text) or (status == done and text == whole)
         if not right:
             wrong += 1
             print(f"{' '.join(words)}: the allocation {k} refused gives status {status} and {len(text)} bytes")
         ends[status] = ends.get(status, 0) + 1
         k += 1
     counts = ", ".join(f"{count} with status {status}" for status, count in sorted(ends.items()))
-    print(f"{' '.join(words):12} {k - 2} allocations; runs: {counts}")
+    print(f"{' '.join(words):12} {k - 2} allocations; runs: {counts}", flush=True)
     return wrong
 
 
 def main(program):
     with tempfile.TemporaryDirectory() as folder:
-        for name, text in (("M", MOTOR), ("U", TRACE), ("C", CERTIFICATE), ("shim.c", SHIM)):
+        texts = {"M": MOTOR, "U": TRACE, "C": CERTIFICATE, "F": FAULT, "G": TWO_FAULTS, "V": LONG_TRACE, "shim.c": SHIM}
+        for name, text in texts.items():
             with open(os.path.join(folder, name), "w", encoding="ascii") as out:
                 out.write(text)
         subprocess.run(["cc", "-shared", "-fPIC", "-o", "shim.so", "shim.c"], cwd=folder, check=True)
-        sys.exit(1 if sum(tried(program, folder, words) for words in COMMANDS) else 0)
+        sys.exit(1 if sum(tried(program, folder, words, done) for words, done in COMMANDS) else 0)
 
 
 if __name__ == "__main__":

@@ -14,6 +14,7 @@ import sys
 import tempfile
 import threading
 
+from changing import changing_files
 from generate import MOTOR
 
 HERE = os.path.dirname(os.path.abspath(__file__))
@@ -197,27 +198,47 @@ def lines_upto(first, length, size):
     return first.count("\n") + (size - len(first)) // length + 1
 
 
-# Fault files for the motor: a title, the bytes, the status and the text of `fault`.
-def fault_files():
-    tripped = "".join(line + "\n" for line in (
-        *ORDINARY.splitlines()[:2], "20 TRIP trap A 1 S_Motor=0", "30 TRIP S_Motor=0", "40 TRIP S_Motor=0", "50 TRIP S_Motor=0"))
+def tripped_text():
+    """What `fault` writes where channel A has no code from the third scan on."""
+    trips = "20 TRIP trap A 1 S_Motor=0\n30 TRIP S_Motor=0\n40 TRIP S_Motor=0\n50 TRIP S_Motor=0\n"
+    return "".join(ORDINARY.splitlines(True)[:2]) + trips
+
+
+def outvoted(seats, text=ORDINARY):
+    """The lines of a run, with an OUTVOTED line behind each whose number, from 1, has a seat."""
+    lines = []
+    for number, line in enumerate(text.splitlines(True), 1):
+        lines.append(line)
+        if number in seats:
+            lines.append(f"{line.split()[0]} OUTVOTED {seats[number]}\n")
+    return "".join(lines)
+
+
+def from_third(seat, heals):
+    """What `vote` or `heal` writes where this seat is struck before the third scan, and gives no report from then on."""
+    return outvoted({3: seat} if heals else dict.fromkeys(range(3, 7), seat))
+
+
+# Fault files for the motor of which a command says the same, but for what comes where channel A is struck before the third scan: a title,
+# the bytes, the status and the text.
+def fault_files(struck, status):
     line = "before 3 A code 0 ff"
     rows = [
         ("empty", "", DONE, ORDINARY),
-        ("no line feed at the end", line, TRIPPED, tripped),
-        ("CR before the line feed", line + "\r\n", TRIPPED, tripped),
+        ("no line feed at the end", line, status, struck),
+        ("CR before the line feed", line + "\r\n", status, struck),
         ("CR at the end of the text", line + "\r", BAD, refused("F1", 1)),
         ("two CRs and a line feed", line + "\r\r\n", BAD, refused("F1", 1)),
         ("CR in place of a blank", line.replace(" ", "\r", 1) + "\n", BAD, refused("F1", 1)),
-        ("CR and a line feed", "\r\n" + line + "\n", TRIPPED, tripped),
+        ("CR and a line feed", "\r\n" + line + "\n", status, struck),
         ("NUL behind the line", line + "\0\n", BAD, refused("F1", 1)),
         ("NUL behind the last line", line + "\n\0", BAD, refused("F1", 2)),
         ("a word of 60,000 bytes", "before 3 A code 0 " + "f" * 60000 + "\n", BAD, refused("F1", 1)),
-        ("a comment of 600 bytes", "#" * 600 + "\n" + line, TRIPPED, tripped),
+        ("a comment of 600 bytes", "#" * 600 + "\n" + line, status, struck),
         ("a comment of 601 bytes", "#" * 601 + "\n" + line, BAD, refused("F1", 1)),
-        ("a comment of 600 bytes with its CR", "#" * 599 + "\r\n" + line, TRIPPED, tripped),
+        ("a comment of 600 bytes with its CR", "#" * 599 + "\r\n" + line, status, struck),
         ("a comment of 601 bytes with its CR", "#" * 600 + "\r\n" + line, BAD, refused("F1", 1)),
-        ("a line of 600 bytes", line + " " * (600 - len(line)) + "\n", TRIPPED, tripped),
+        ("a line of 600 bytes", line + " " * (600 - len(line)) + "\n", status, struck),
         ("a line of 601 bytes", line + " " * (601 - len(line)) + "\n", BAD, refused("F1", 1)),
         ("512 digits", "before 3 A code 0 " + "ff" * 256 + "\n", BAD, refused("F3", 1)),
         ("514 digits", "before 3 A code 0 " + "ff" * 257 + "\n", BAD, refused("F1", 1)),
@@ -233,11 +254,11 @@ def fault_files():
         ("offset 2^32 - 1 and two bytes", "before 3 A code 4294967295 ffff\n", BAD, refused("F3", 1)),
         ("offset 2^32", "before 3 A code 4294967296 ff\n", BAD, refused("F1", 1)),
         ("offset 2^64", "before 3 A code 18446744073709551616 ff\n", BAD, refused("F1", 1)),
-        ("500 zeros before a scan", "before " + "0" * 500 + "3 A code 0 ff\n", TRIPPED, tripped),
-        ("the last byte of the code", "before 3 A code 32 ff\n", TRIPPED, tripped),
+        ("500 zeros before a scan", "before " + "0" * 500 + "3 A code 0 ff\n", status, struck),
+        ("the last byte of the code", "before 3 A code 32 ff\n", status, struck),
         ("one past the code", "before 3 A code 33 ff\n", BAD, refused("F3", 1)),
-        ("1,000 faults", (line + "\n") * 1000, TRIPPED, tripped),
-        ("1,000 lines and no line feed", "#\n" * 999 + line, TRIPPED, tripped),
+        ("1,000 faults", (line + "\n") * 1000, status, struck),
+        ("1,000 lines and no line feed", "#\n" * 999 + line, status, struck),
         ("1,001 lines", "#\n" * 1000 + line, BAD, refused("F5", 1001)),
         ("1,001 lines, the 1,000th wrong", "#\n" * 999 + "x\n#\n", BAD, refused("F1", 1000)),
     ]
@@ -246,6 +267,57 @@ def fault_files():
         ("NUL", b"\0", refused("F1", 1)), ("#", b"#", refused("F1", 1)), ("CR", b"\r", refused("F1", 1)),
     ):
         rows.append((f"64 MiB of {title}", Repeated(byte, TRACE), BAD, whole))
+    return rows
+
+
+# Fault files for the three seats of `vote` and `heal`: a title, the bytes, the status and the text.
+def seat_files(heals):
+    line = "before 3 A code 0 ff\n"
+    silent = "before 3 A memory 10 01\n"  # a byte of the stack, which is written before it is read
+    rows = fault_files(from_third("A", heals), DONE)
+    rows += [
+        ("seat B", line.replace("A", "B"), DONE, from_third("B", heals)),
+        ("seat C", line.replace("A", "C"), DONE, from_third("C", heals)),
+        ("seat D", line.replace("A", "D"), BAD, refused("F1", 1)),
+        ("a small letter for the seat", line.replace("A", "c"), BAD, refused("F1", 1)),
+        ("two letters for the seat", line.replace("A", "AB"), BAD, refused("F1", 1)),
+        ("the last byte of C's code", "before 3 C code 126 ff\n", DONE, from_third("C", heals)),
+        ("one past C's code", "before 3 C code 127 ff\n", BAD, refused("F3", 1)),
+        ("the last two bytes of C's code and one past", "before 3 C code 125 ffffff\n", BAD, refused("F3", 1)),
+        ("the last byte of C's memory", "before 3 C memory 44 ff\n", DONE, from_third("C", heals)),
+        ("one past C's memory", "before 3 C memory 45 ff\n", BAD, refused("F3", 1)),
+        ("C's offset 2^32 - 1", "before 3 C memory 4294967295 ff\n", BAD, refused("F3", 1)),
+        ("C's offset 2^32", "before 3 C memory 4294967296 ff\n", BAD, refused("F1", 1)),
+        ("C's offset 2^64", "before 3 C memory 18446744073709551616 ff\n", BAD, refused("F1", 1)),
+        ("C's whole memory", "before 3 C memory 0 " + "ff" * 45 + "\n", DONE, from_third("C", heals)),
+        ("C's scan 2^32 - 1", "before 4294967295 C code 0 ff\n", DONE, ORDINARY),
+        ("C's scan 2^64 + 3", "before 18446744073709551619 C code 0 ff\n", BAD, refused("F1", 1)),
+        ("C's turn 2^32 - 1", "before 3 turn 4294967295 C code 0 ff\n", DONE, ORDINARY),
+        ("scans that fall", "before 4 A code 0 ff\n" + line, BAD, refused("F2", 2)),
+        ("scans that fall, and another seat", "before 4 B code 0 ff\n" + line, BAD, refused("F2", 2)),
+        ("turns that fall", "before 3 turn 2 A code 0 ff\nbefore 3 turn 1 A code 0 ff\n", BAD, refused("F2", 2)),
+        ("a turn, and then none in the same scan", "before 3 turn 2 A code 0 ff\n" + line, BAD, refused("F2", 2)),
+        ("another seat, and past its region", line + "before 4 C code 127 ff\n", BAD, refused("F3", 2)),
+        ("C running again behind its last turn", "before 2 turn 28 C memory 4 00\n", DONE, ORDINARY),
+        ("a progress of C that is none, at the last turn", "before 2 turn 28 C memory 4 09\n", DONE, outvoted({2: "C"})),
+        ("a seat that is not seen, and it again", silent + "before 4 A code 0 ff\n", DONE,
+         outvoted({4: "A"} if heals else dict.fromkeys(range(4, 7), "A"))),
+    ]
+    two = "".join(ORDINARY.splitlines(True)[:2])
+    for title, content, text in (  # of two seats: what `heal` writes
+        ("two seats, one after the other", line + "before 4 B code 0 ff\n", outvoted({3: "A", 4: "B"})),
+        ("each seat in turn", line + "before 4 B code 0 ff\nbefore 5 C code 0 ff\nbefore 6 A code 0 ff\n",
+         outvoted({3: "A", 4: "B", 5: "C", 6: "A"})),
+        ("two seats in one scan", line + "before 3 B code 0 ff\n", two + refused("F4", 2)),
+        ("two seats in one scan, the second at a turn", line + "before 3 turn 9 B code 0 ff\n", two + refused("F4", 2)),
+        ("a seat that is not seen, and another", silent + "#\n\nbefore 6 C code 0 ff\n",
+         "".join(ORDINARY.splitlines(True)[:5]) + refused("F4", 4)),
+        ("a seat whose bytes stood there before, and another", "before 1 A memory 0 00\nbefore 2 B memory 0 00\n", FIRST + refused("F4", 2)),
+        ("a seat that is not seen, and another one never", silent + "before 7 C code 0 ff\n", ORDINARY),
+    ):
+        number = next(n for n, row in enumerate(content.splitlines(), 1) if row.startswith("before") and " A " not in row)
+        status = BAD if "refused" in text else DONE
+        rows.append((title, content, status, text) if heals else (title, content, BAD, refused("F4", number)))
     return rows
 
 
@@ -362,7 +434,10 @@ def bad_files(run, table):
     """Every bad file, by the command that reads it."""
     readers = (
         ("source", ["check", "bad"], sources), ("trace", ["run", "M", "bad"], traces),
-        ("faults", ["fault", "M", "U", "bad"], fault_files), ("certificate", ["verify", "M", "bad"], certificates),
+        ("faults", ["fault", "M", "U", "bad"], lambda: fault_files(tripped_text(), TRIPPED)),
+        ("certificate", ["verify", "M", "bad"], certificates),
+        ("faults of vote", ["vote", "M", "U", "bad"], lambda: seat_files(False)),
+        ("faults of heal", ["heal", "M", "U", "bad"], lambda: seat_files(True)),
     )
     for reader, words, rows in readers:
         for title, content, status, text in rows():
@@ -387,10 +462,28 @@ def large_certificates(run, table):
             table.add(title, (status, text), run.ended(["verify", "wide", "bad"]))
 
 
+def many_faults(run, table):
+    """As many faults as a file may have, each in the next seat, and each of them healed before the next."""
+    title = "faults of heal: 1,000 faults, each in the next seat"
+    if table.wants(title):
+        seats = {number: "ABC"[number % 3] for number in range(1, 1001)}
+        run.write("bad", "".join(f"before {number} {seat} code 0 ff\n" for number, seat in seats.items()))
+        run.write("parts", HEADER + "".join(f"{10 * k} {int(k % 10 != 8)} {int(k % 10 == 3)} 1\n" for k in range(2_000)))
+        text = run.ended(["run", "M", "parts"])[1].decode()
+        table.add(title, (DONE, outvoted(seats, text)), run.ended(["heal", "M", "parts", "bad"]))
+    title = "faults of heal: a restart between two seats"
+    if table.wants(title):
+        run.write("bad", "before 1 A memory 10 01\nbefore 2 B code 0 ff\n")
+        run.write("parts", HEADER + "0 1 0 1\nrestart\n10 1 0 1\n")
+        text = FIRST + "restart\n10 S_Motor=0 E=1,0,8001\n10 OUTVOTED B\n"
+        table.add(title, (DONE, text), run.ended(["heal", "M", "parts", "bad"]))
+
+
 # The words in which a name stands that is no ordinary file, and what is written before it is read.
 READERS = (
     ("source", ["check", "{}"], ""), ("trace", ["run", "M", "{}"], ""),
     ("faults", ["fault", "M", "U", "{}"], ""), ("certificate", ["verify", "M", "{}"], ""),
+    ("faults of vote", ["vote", "M", "U", "{}"], ""), ("faults of heal", ["heal", "M", "U", "{}"], ""),
 )
 
 
@@ -417,6 +510,8 @@ def odd_names(run, table):
         ("trace", ["run", "M", "{}"], {"/dev/null": (BAD, refused("T1", 1)), "/dev/zero": (BAD, refused("T9", 1)),
                                        "/dev/full": (BAD, refused("T9", 1))}),
         ("faults", ["fault", "M", "U", "{}"], {"/dev/null": (DONE, ORDINARY), "/dev/zero": (BAD, refused("F1", 1))}),
+        ("faults of vote", ["vote", "M", "U", "{}"], {"/dev/null": (DONE, ORDINARY), "/dev/zero": (BAD, refused("F1", 1))}),
+        ("faults of heal", ["heal", "M", "U", "{}"], {"/dev/null": (DONE, ORDINARY), "/dev/zero": (BAD, refused("F1", 1))}),
         ("certificate", ["verify", "M", "{}"], {"/dev/null": (BAD, refused("O4", 1)), "/dev/zero": (BAD, refused("C2", 1))}),
     )
     for reader, words, wanted in devices:
@@ -453,7 +548,7 @@ def through_pipe(run, words):
 
 COMMANDS = (
     ["run", "M", "U"], ["fault", "M", "U", "F"], ["check", "M"], ["cert", "M"], ["verify", "M", "C"], ["image", "M"], ["load", "1"],
-    ["demand", "M"], ["run"],
+    ["demand", "M"], ["vote", "M", "U", "F"], ["heal", "M", "U", "F"], ["run"],
 )
 
 
@@ -560,7 +655,9 @@ def main(program, word):
         run.write("long", HEADER + "".join(f"{10 * k} {int(k % 10 != 8)} {int(k % 10 == 3)} 1\n" for k in range(100_000)))
         bad_files(run, table)
         large_certificates(run, table)
+        many_faults(run, table)
         odd_names(run, table)
+        changing_files(run, table)
         outputs(run, table)
         proportions(run, table)
     finally:

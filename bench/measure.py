@@ -2,10 +2,11 @@
 
 python3 measure.py [FOLDER [PROGRAM]]     FOLDER keeps the files that generate.py writes; the default is /tmp/plcsafe-bench
 
-Run ./plcsafe once before, so that the program is built. Times are processor times on this machine, of sources the mean of ten
-runs. The peak is the most memory that the process held, as GNU time says it. `valgrind`, where it is installed, counts
-instructions: the difference of two runs over traces of two and four thousand scans gives the instructions of a scan with its
-line, without the start of the program, and `load 10` and a run over 20,000 scans are counted whole.
+Run ./plcsafe once before, so that the program is built. Times are processor times on this machine, the least of five
+runs. The peak is the most memory that the process held, as GNU time says it. At the end the same stands as one table for a page.
+`valgrind`, where it is installed, counts instructions: the difference of two runs over traces of two and four thousand scans
+gives the instructions of a scan with its line, without the start of the program, whole and function by function; `load 10` and a
+run over 20,000 scans are counted whole.
 """
 import os
 import re
@@ -19,110 +20,123 @@ PROGRAM = os.path.abspath(sys.argv[2] if len(sys.argv) > 2 else BUILT)
 MIB = 1 << 20
 
 
-def measured(words, folder):
-    """The exit status and the processor time in seconds of a run whose output is thrown away."""
-    process = subprocess.Popen([PROGRAM, *words], cwd=folder, stdout=subprocess.DEVNULL)
-    _, status, usage = os.wait4(process.pid, 0)
+def processor_time(command, folder, file):
+    """The exit status and the processor time in seconds of a run that reads this file and whose output is thrown away."""
+    with open(os.path.join(folder, file), "rb") as text:
+        process = subprocess.Popen(command, cwd=folder, stdin=text, stdout=subprocess.DEVNULL)
+        _, status, usage = os.wait4(process.pid, 0)
     return os.waitstatus_to_exitcode(status), usage.ru_utime + usage.ru_stime
 
 
-def peak_of(words, folder):
+def peak_of(command, folder, file):
     """The most memory that a run held, in MiB. GNU time starts it, since a child of this process begins with its memory."""
-    command = ["/usr/bin/time", "-q", "-f", "%M", PROGRAM, *words]
-    run = subprocess.run(command, cwd=folder, stdout=subprocess.DEVNULL, stderr=subprocess.PIPE, text=True, check=False)
+    words = ["/usr/bin/time", "-q", "-f", "%M", *command]
+    with open(os.path.join(folder, file), "rb") as text:
+        run = subprocess.run(words, cwd=folder, stdin=text, stdout=subprocess.DEVNULL, stderr=subprocess.PIPE, text=True, check=False)
     return float(run.stderr.split()[-1]) / 1024
 
 
-def show(title, words, folder, per=None, times=1):
-    """Prints a line for a run, the mean of `times` of them; `per` is a unit, the number of such units, and units in a second."""
-    runs = [measured(words, folder) for _ in range(times)]
-    status, seconds, peak = runs[0][0], sum(run[1] for run in runs) / times, peak_of(words, folder)
-    rate = f", {seconds / per[1] * per[2]:8.2f} {per[0]}" if per else ""
-    print(f"{title:42} status {status}, {seconds:7.3f} s, peak {peak:6.1f} MiB{rate}", flush=True)
-    return seconds
+def show(title, command, folder, file=os.devnull):
+    """Prints a line for a command, and gives its time in seconds, the least of five runs, and its peak in MiB."""
+    runs = [processor_time(command, folder, file) for _ in range(5)]
+    status, seconds, peak = runs[0][0], min(run[1] for run in runs), peak_of(command, folder, file)
+    print(f"{title:42} status {status}, {seconds:8.4f} s, peak {peak:6.1f} MiB", flush=True)
+    return seconds, peak
 
 
-def ratio(less, more):
-    print(f"{'  twice the input takes':42} {more / less:.2f} times the time")
+def grows(name, half, whole):
+    """Says how a command grows from one input to one twice as large, and gives its row of the table: both times and both peaks."""
+    ratio = whole[0] / half[0]
+    print(f"{'  twice the input takes':42} {ratio:.2f} times the time")
+    return f"| `{name}` | {said(half[0])} | {said(whole[0])} | {ratio:.2f} | {half[1]:.1f} | {whole[1]:.1f} |"
 
 
-def instructions(words, folder):
-    """The instructions of a run, as callgrind counts them."""
-    command = ["valgrind", "--tool=callgrind", "--callgrind-out-file=/dev/null", PROGRAM, *words]
-    said = subprocess.run(command, cwd=folder, stdout=subprocess.DEVNULL, stderr=subprocess.PIPE, text=True, check=False).stderr
-    return int(re.search(r"Collected : (\d+)", said).group(1))
+def said(seconds):
+    """A time as it stands in the table: in ms where it is short."""
+    return f"{seconds:.2f} s" if seconds >= 1 else f"{seconds * 1000:.1f} ms"
+
+
+def counted(words, folder, out="/dev/null"):
+    """The instructions of a run, as callgrind counts them, which writes those of each function to a file."""
+    command = ["valgrind", "--tool=callgrind", f"--callgrind-out-file={out}", PROGRAM, *words]
+    said_by_it = subprocess.run(command, cwd=folder, stdout=subprocess.DEVNULL, stderr=subprocess.PIPE, text=True, check=False).stderr
+    return int(re.search(r"Collected : (\d+)", said_by_it).group(1))
+
+
+def of_functions(file):
+    """The instructions of each function in a file of callgrind, without those of the functions that it calls."""
+    command = ["callgrind_annotate", "--threshold=100", "--show-percs=no", file]
+    counts = {}
+    for line in subprocess.run(command, stdout=subprocess.PIPE, text=True, check=True).stdout.splitlines():
+        row = re.match(r"\s*([\d,]+)\s+[^:\s]+:(\S.*?)(?: \[.*\])?$", line)
+        if row:
+            counts[row.group(2)] = counts.get(row.group(2), 0) + int(row.group(1).replace(",", ""))
+    return counts
 
 
 def size(folder, file):
     return os.path.getsize(os.path.join(folder, file))
 
 
-def lines(folder, file):
-    with open(os.path.join(folder, file), "rb") as text:
-        return sum(1 for _ in text)
-
-
 def sources(folder):
-    for command in ("check", "cert"):
-        half = show(f"{command}, half the limits (0.5 MiB)", [command, "limits-half.st"], folder, times=10)
-        whole = show(f"{command}, the limits (1 MiB)", [command, "limits.st"], folder, times=10)
-        ratio(half, whole)
+    """The rows of the commands over sources. A certificate is that of its source."""
     for file in ("limits-half", "limits"):
         with open(os.path.join(folder, f"{file}.cert"), "wb") as out:
             subprocess.run([PROGRAM, "cert", f"{file}.st"], cwd=folder, stdout=out, check=True)
-    half = show("verify, half the limits", ["verify", "limits-half.st", "limits-half.cert"], folder, times=10)
-    whole = show("verify, the limits", ["verify", "limits.st", "limits.cert"], folder, times=10)
-    ratio(half, whole)
-    half = show("image, half the limits", ["image", "limits-half.st"], folder, times=10)
-    whole = show("image, the limits", ["image", "limits.st"], folder, times=10)
-    ratio(half, whole)
-
-
-def over_traces(folder, command, *more):
-    """Prints a line for a command over the largest trace and over half of it, and how the time grows."""
-    times = []
-    for file in ("motor-32.trace", "motor-64.trace"):
-        mib, scans = size(folder, file) / MIB, lines(folder, file) - 1
-        words = [command, "motor.st", file, *more]
-        times.append(show(f"{command}, {mib:.0f} MiB, {scans} scans", words, folder, ("ms for a MiB", mib, 1e3)))
-    ratio(*times)
-
-
-def tool(folder, words, file):
-    """Prints a line for a tool of the system over a file, the processor time alone."""
-    with open(os.path.join(folder, file), "rb") as text:
-        process = subprocess.Popen(words, stdin=text, stdout=subprocess.DEVNULL)
-        _, status, usage = os.wait4(process.pid, 0)
-    title = f"{' '.join(words)} < {file}"
-    print(f"{title:42} status {os.waitstatus_to_exitcode(status)}, {usage.ru_utime + usage.ru_stime:7.3f} s", flush=True)
+    rows = []
+    for command in ("check", "cert", "verify", "image", "demand"):
+        runs = []
+        for file in ("limits-half", "limits"):
+            words = [PROGRAM, command, f"{file}.st", *([f"{file}.cert"] if command == "verify" else [])]
+            runs.append(show(f"{command}, {size(folder, f'{file}.st') / MIB:.1f} MiB", words, folder))
+        rows.append(grows(command, *runs))
+    return rows
 
 
 def traces(folder):
+    """The rows of the commands over traces, and of a load. The fault strikes no scan, so that each is made in full."""
     with open(os.path.join(folder, "late.faults"), "w", encoding="ascii") as out:
-        out.write("before 1000000 A code 0 00\n")
-    over_traces(folder, "run")
-    for command in ("fault", "vote", "heal"):
-        over_traces(folder, command, "late.faults")
-    for number in (500, 1000):
-        show(f"load {number}", ["load", str(number)], folder, ("ms for 1,000 scans", number, 1e3))
-    for file in ("motor-32.trace", "motor-64.trace"):
-        tool(folder, ["cat"], file)
-        tool(folder, ["wc", "-l"], file)
+        out.write("before 4000000000 A code 0 00\n")
+    rows = []
+    for command in ("run", "fault", "vote", "heal"):
+        runs = []
+        for file in ("motor-32.trace", "motor-64.trace"):
+            words = [PROGRAM, command, "motor.st", file, *([] if command == "run" else ["late.faults"])]
+            runs.append(show(f"{command}, {size(folder, file) / MIB:.0f} MiB", words, folder))
+        rows.append(grows(command, *runs))
+    loads = [show(f"load {number}", [PROGRAM, "load", str(number)], folder) for number in (500, 1000)]
+    return [*rows, grows("load", *loads)]
+
+
+def tools(folder):
+    """The rows of two tools of the system over the traces."""
+    rows = []
+    for words in (["cat"], ["wc", "-l"]):
+        name = " ".join(words)
+        rows.append(grows(name, *(show(f"{name} < {file}", words, folder, file) for file in ("motor-32.trace", "motor-64.trace"))))
+    return rows
 
 
 def scans(folder):
+    """Prints the instructions of a scan, whole and of each function that has 5 of them or more, of a load and of a run."""
     if shutil.which("valgrind") is None:
         print("valgrind is not installed: no instructions are counted")
         return
-    less = instructions(["run", "motor.st", "motor-2k.trace"], folder)
-    more = instructions(["run", "motor.st", "motor-4k.trace"], folder)
+    files = [os.path.join(folder, f"callgrind-{number}k") for number in (2, 4)]
+    less = counted(["run", "motor.st", "motor-2k.trace"], folder, files[0])
+    more = counted(["run", "motor.st", "motor-4k.trace"], folder, files[1])
     print(f"{'a scan of the motor with its line':42} {(more - less) / 2000:.0f} instructions")
-    print(f"{'load 10':42} {instructions(['load', '10'], folder) / 1e6:.1f} million instructions")
+    before, after = map(of_functions, files)
+    shares = {name: (count - before.get(name, 0)) / 2000 for name, count in after.items()}
+    for name, share in sorted(shares.items(), key=lambda it: -it[1]):
+        if share >= 5 and name != "PROGRAM TOTALS":
+            print(f"  {share:6.0f} {name}")
+    print(f"{'load 10':42} {counted(['load', '10'], folder) / 1e6:.1f} million instructions")
     with open(os.path.join(folder, "motor-64.trace"), "rb") as text:
         first = [next(text) for _ in range(20001)]
     with open(os.path.join(folder, "motor-20k.trace"), "wb") as out:
         out.writelines(first)
-    whole = instructions(["run", "motor.st", "motor-20k.trace"], folder)
+    whole = counted(["run", "motor.st", "motor-20k.trace"], folder)
     print(f"{'run, 20,000 scans of the motor':42} {whole / 1e6:.1f} million instructions")
 
 
@@ -131,9 +145,10 @@ def main(folder):
         sys.exit("the program is not built: run ./plcsafe once")
     if not os.path.isfile(os.path.join(folder, "limits-half.st")):
         subprocess.run([sys.executable, os.path.join(HERE, "generate.py"), folder], check=True)
-    sources(folder)
-    traces(folder)
+    rows = [*sources(folder), *traces(folder), *tools(folder)]
     scans(folder)
+    print("| | time at half | time at the limits | twice the input takes | MiB at half | MiB at the limits |")
+    print("|---|---|---|---|---|---|", *rows, sep="\n")
 
 
 if __name__ == "__main__":

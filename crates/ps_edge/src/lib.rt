@@ -2,8 +2,8 @@
 //! which the program exits.
 //!
 //! `exit` has the numbers, and how a run ends once its output was flushed; `output` is an output that is flushed at its end;
-//! `program` does all that the program does. `telling` tells a person on standard error why a call did not do all; `spoken` says
-//! which file a rule speaks of, and `noting` of what kind a failure of the output was.
+//! `program` does all that the program does. `telling` tells a person on standard error why a call did not do all, and the notes
+//! on an application; `spoken` says which file a rule speaks of, and `noting` of what kind a failure of the output was.
 #![tactic(auto)]
 
 mod exit;

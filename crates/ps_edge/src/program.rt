@@ -95,7 +95,7 @@ fn run_on<R: rt::Files, W: Write + Drop>(
 }
 
 // Does what these words ask, over the files and the standard output of the system, and tells on standard error why where it does not
-// do all.
+// do all, and the notes on an application that `check` accepts.
 fn do_list<R: Env + rt::Files + Print + Eprint + AllocGlobal>(system: &R, words: &Words) -> Status
     ensures usage { result ≡ Status.Usage → asked.command_of words.now ≡ NotTaken }
     ensures not_taken { asked.command_of words.now ≡ NotTaken → (result ≡ Status.Usage) ⊎ ((result ≡ Status.WriteFault) ⊎ (result ≡ Status.Memory)) }
@@ -108,8 +108,8 @@ fn do_list<R: Env + rt::Files + Print + Eprint + AllocGlobal>(system: &R, words:
 }
 
 /// Does what the words ask, over the files and the standard output of the system, and says the number with which the program
-/// exits. Where it does not do all it tells why on standard error, after what the standard output has. Without words it does
-/// nothing.
+/// exits. Where it does not do all it tells why on standard error, after what the standard output has, and where `check` accepts an
+/// application, the notes on it. Without words it does nothing.
 pub fn exit_of_words<R: Env + rt::Files + Print + Eprint + AllocGlobal>(
     system: &R,
     words: io::Result<Words>,

@@ -1,10 +1,15 @@
-// What a person is told on standard error, where a call did not do all.
+// What a person is told on standard error: why a call did not do all, and the notes of an application that is accepted.
 
 use crate::spoken::Spoken;
 use ps_base::{Bytes, Memory, Refusal, Rule};
 use ps_detail::{detail_on, inputs_told};
-use ps_message::{NO_MEMORY, NOT_TAKEN, UNWRITTEN, Unread, message, trip_message, unread_message};
+use ps_message::{
+    NO_MEMORY, NOT_TAKEN, UNWRITTEN, Unread, message, note_line, trip_message, unread_message,
+};
+use ps_model::App;
+use ps_notes::notes;
 use ps_outside::{DiskFiles, read_upto};
+use ps_source::read_resolved;
 use ps_top::{Left, Status, Trip};
 use ps_words::{Command, Words, command_of};
 use std::alloc::Global;
@@ -125,6 +130,30 @@ fn tell_unread<R: rt::Files + Eprint>(system: &R, alloc: Global, command: &Comma
     }
 }
 
+// Tells the notes of an application from a file of this name, a line each. Those that there is no memory for are left out.
+fn tell_notes_of<R: Eprint>(
+    system: &R,
+    alloc: Global,
+    name: &str,
+    app: &App,
+) -> Result<(), Memory> {
+    for note in &notes(alloc, app)? {
+        let line = note_line(alloc, name.as_bytes(), app, *note)?;
+        print_bytes(system, line.as_slice());
+    }
+    Ok(())
+}
+
+// Tells the notes of an application that was accepted, which is read anew. Where it cannot be, none is told.
+fn tell_notes<R: rt::Files + Eprint>(system: &R, alloc: Global, name: &str) {
+    let mut files = DiskFiles::new(system);
+    if let Ok(app) = read_resolved(alloc, name, &mut files) {
+        match tell_notes_of(system, alloc, name, &app) {
+            Ok(()) | Err(Memory) => (),
+        }
+    }
+}
+
 // Prints bytes on standard error, where they are text. A failure is nobody's concern.
 fn print_bytes<R: Eprint>(system: &R, bytes: &[u8]) {
     if let Ok(text) = std::str::from_utf8(bytes) {
@@ -139,8 +168,9 @@ fn print_text<R: Eprint>(system: &R, text: &str) {
     }
 }
 
-/// Tells a person on standard error why a call did not do all: the message of a refusal, or why there is none. `is_closed` says
-/// that nobody reads the output any more, of which nothing is told. Nothing is told where the environment has PLCSAFE_QUIET=1.
+/// Tells a person on standard error why a call did not do all: the message of a refusal, or why there is none. Where `check`
+/// accepted an application it tells the notes on it. `is_closed` says that nobody reads the output any more, of which nothing is
+/// told. Nothing is told where the environment has PLCSAFE_QUIET=1.
 ///
 /// It changes nothing of the answer: what cannot be told is left out.
 pub(crate) fn tell<R: Env + rt::Files + Eprint + AllocGlobal>(
@@ -150,7 +180,7 @@ pub(crate) fn tell<R: Env + rt::Files + Eprint + AllocGlobal>(
     left: &Left,
     is_closed: bool,
 ) {
-    if status == Status::Done || is_quiet(system) {
+    if is_quiet(system) {
         return;
     }
     let alloc = system.alloc();
@@ -159,7 +189,11 @@ pub(crate) fn tell<R: Env + rt::Files + Eprint + AllocGlobal>(
         Err(Memory) => Command::NotTaken,
     };
     match status {
-        Status::Done => (),
+        Status::Done => {
+            if let Command::Check { app } = &command {
+                tell_notes(system, alloc, app);
+            }
+        }
         Status::Refused | Status::BadInput => {
             if let Some(refusal) = &left.refusal {
                 tell_refusal(system, alloc, &command, refusal);

@@ -8,7 +8,7 @@ use std::alloc::Global;
 use std::test::Fail;
 
 /// The images of the motor behind an emergency stop.
-const MOTOR_IMAGES: &str = "\
+pub const MOTOR_IMAGES: &str = "\
 A code 33 memory 97 turns 11
 0301010000030003000100010600000300040000000001000401000204020003
 07

@@ -4,7 +4,8 @@
 //! - `calls`: how a call is made and what it has to write, once or for each fault file of a table.
 //! - `motor`: the application and the trace that most faults strike, and what a run of it writes.
 //! - `code`, `cells`, `turns`: faults that strike the code, the cells, and amid the turns of a scan.
-//! - `refused`, `reached`, `outside`: fault files that are refused, faults that are not reached, and files that are not held.
+//! - `refused`, `reached`: fault files that are refused, and faults that are not reached.
+//! - `outside`: files that are not held, and for each command each read and each write that fails in turn.
 //! - `votes`: faults that strike three seats, outvoted and healed.
 //! - `left`: the worlds that a call leaves. `demands`: what safe outputs demand. `images`: the images.
 #![tactic(auto)]

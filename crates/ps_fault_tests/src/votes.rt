@@ -9,7 +9,7 @@ use std::alloc::Global;
 use std::process::Abort;
 
 /// What is written for the ordinary use of the motor where seat A is outvoted in the third scan.
-const THIRD: &str = "\
+pub const THIRD: &str = "\
 0 S_Motor=0 E=1,0,8001
 10 S_Motor=0 E=1,0,8002
 20 S_Motor=0 E=1,0,8003
@@ -20,7 +20,7 @@ const THIRD: &str = "\
 ";
 
 /// Where seat C is outvoted in the second scan and seat A in the fourth.
-const BOTH: &str = "\
+pub const BOTH: &str = "\
 0 S_Motor=0 E=1,0,8001
 10 S_Motor=0 E=1,0,8002
 10 OUTVOTED C
@@ -66,7 +66,7 @@ refused F4 line 2
 ";
 
 /// Faults of seat C and then of seat A, which show one after the other.
-const STRUCK_IN_TURN: &str = "before 2 C code 0 ff\nbefore 4 A memory 81 8001\n";
+pub const STRUCK_IN_TURN: &str = "before 2 C code 0 ff\nbefore 4 A memory 81 8001\n";
 
 /// Faults of which the first does not show, so its seat is dirty when the second is reached.
 const STILL_DIRTY: &str = "before 2 A memory 86 ff\nbefore 4 B code 0 00\n";

@@ -2,3 +2,4 @@ pub mod Shown
 pub mod Quoted
 pub mod Message
 pub mod Ending
+pub mod NoteLine

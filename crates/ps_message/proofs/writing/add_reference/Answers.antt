@@ -1,13 +1,6 @@
-use Rattle.std.proofs.Common.{◌≡◌, ℕ, List, ◌++◌, codes, ap, ◌∙◌, append_assoc}
+use Rattle.std.proofs.Common.{ℕ, List, ◌++◌, codes, ap, ◌∙◌}
+use Rattle.ps_message.proofs.Joining.{three_more}
 use Rattle.ps_message.proofs.writing.add_reference.Goals as goal
-
--- three texts, one behind the other
-three_more : (old a b c one two three : List ℕ) → one ≡ old ++ a → two ≡ one ++ b → three ≡ two ++ c → three ≡ old ++ ((a ++ b) ++ c)
-three_more old a b c one two three first second third =
-    third
-    ∙ ap (λ (t : List ℕ). t ++ c) (second ∙ ap (λ (t : List ℕ). t ++ b) first)
-    ∙ ap (λ (t : List ℕ). t ++ c) (append_assoc old a b)
-    ∙ append_assoc old (a ++ b) c
 
 pub returns : goal.returns
 returns c =

@@ -1,13 +1,9 @@
-use Rattle.std.proofs.Common.{ℕ, List, Result, Ok, Err, IfOk, length, ◌≤◌, ◌≡◌, sym, subst}
+use Rattle.std.proofs.Common.{length, ◌≤◌}
 use Rattle.ps_base.specs.declared.failing.Place.{Place}
 use Rattle.ps_message.specs.Message.{message_text, IsEnded}
 use Rattle.ps_message.proofs.Bounds.{short-advice, length-message, message-ended}
+use Rattle.ps_message.proofs.Joining.{of_given}
 use Rattle.ps_message.proofs.writing.message.Goals as goal
-
--- what holds of a text holds of what is given, where it is that text
-of_given : {E : Type 0} (P : List ℕ → Type 0) (text : List ℕ) → P text → (r : Result (List ℕ) E) → IfOk r (λ bytes. bytes ≡ text) → IfOk r P
-of_given P text holds (Ok bytes) same = subst P (sym same) holds
-of_given P text holds (Err e) same = same
 
 pub returns-clause-bounded : goal.returns-clause-bounded
 returns-clause-bounded c =

@@ -1,0 +1,15 @@
+use Rattle.std.proofs.Common.{length, ◌≤◌}
+use Rattle.ps_message.specs.Message.{IsEnded}
+use Rattle.ps_message.specs.NoteLine.{note_text}
+use Rattle.ps_message.proofs.Joining.{of_given}
+use Rattle.ps_message.proofs.NoteBounds.{length-note, note-ended}
+use Rattle.ps_message.proofs.noted.note_line.Goals as goal
+
+pub returns-clause-bounded : goal.returns-clause-bounded
+returns-clause-bounded c =
+    of_given (λ bytes. length bytes ≤ 4000) (note_text c.args.file.now c.args.app.now c.args.note) (length-note c.args.file.now c.args.app.now c.args.note)
+    c.written.result c.written.ensures
+
+pub returns-clause-ended : goal.returns-clause-ended
+returns-clause-ended c =
+    of_given IsEnded (note_text c.args.file.now c.args.app.now c.args.note) (note-ended c.args.file.now c.args.app.now c.args.note) c.written.result c.written.ensures

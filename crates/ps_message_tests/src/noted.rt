@@ -1,0 +1,173 @@
+// Applications, and the lines of their notes.
+
+use ps_base::{Bytes, Memory};
+use ps_message::note_line;
+use ps_model::App;
+use ps_notes::notes;
+use ps_outside::MemFiles;
+use ps_source::read_resolved;
+use std::alloc::Global;
+use std::test::Fail;
+
+/// An application, and the lines of its notes.
+struct Row {
+    text: &'static str,
+    lines: &'static str,
+}
+
+/// One row a note, where it is the only one, and rows in which something comes close to a note.
+const ROWS: &[Row] = &[
+    // 1: nothing at Activate; FALSE, and a signal, are something
+    Row {
+        text: "\
+PROGRAM P VAR_INPUT S_A, S_B : SAFEBOOL; On : BOOL; END_VAR VAR_OUTPUT S_O, S_P, S_Q : SAFEBOOL; END_VAR
+VAR One, Two, Three : SF_TwoHandControlTypeII; END_VAR
+One(S_Button1 := S_A, S_Button2 := S_B);
+Two(Activate := FALSE, S_Button1 := S_A, S_Button2 := S_B);
+Three(Activate := On, S_Button1 := S_A, S_Button2 := S_B);
+S_O := One.S_TwoHandOut; S_P := Two.S_TwoHandOut; S_Q := Three.S_TwoHandOut;
+END_PROGRAM",
+        lines: "a.st: note: One.Activate is left free, so the block stays Idle; give it TRUE or a signal (docs/notes.md, 1)\n",
+    },
+    // 2: nothing at a TIME pin; a time of 0 ms is something
+    Row {
+        text: "\
+PROGRAM P VAR_INPUT S_A, S_B : SAFEBOOL; END_VAR VAR_OUTPUT S_O, S_P : SAFEBOOL; END_VAR
+VAR One, Two : SF_Equivalent; END_VAR
+One(Activate := TRUE, S_ChannelA := S_A, S_ChannelB := S_B);
+Two(Activate := TRUE, S_ChannelA := S_A, S_ChannelB := S_B, DiscrepancyTime := T#0ms);
+S_O := One.S_EquivalentOut; S_P := Two.S_EquivalentOut;
+END_PROGRAM",
+        lines: "a.st: note: One.DiscrepancyTime is left free, so the time is 0 ms; give it a TIME literal (docs/notes.md, 2)\n",
+    },
+    // 3: an output of an instance, a local and an output that a step reads before they are driven; the first of the steps is named
+    Row {
+        text: "\
+PROGRAM P VAR_INPUT S_A, S_B : SAFEBOOL; END_VAR VAR_OUTPUT S_O, S_P, S_Q : SAFEBOOL; END_VAR
+VAR S_L : SAFEBOOL; Hands : SF_TwoHandControlTypeII; END_VAR
+S_O := Hands.S_TwoHandOut AND S_L;
+S_P := S_Q AND S_L;
+Hands(Activate := S_P, S_Button1 := S_A, S_Button2 := S_B);
+S_L := S_A;
+S_Q := Hands.S_TwoHandOut;
+END_PROGRAM",
+        lines: "\
+a.st: note: S_Q is read in the assignment to S_P before the step that drives it, so its value there is that of the scan before; move that step up, if the value of this scan is meant (docs/notes.md, 3)
+a.st: note: S_L is read in the assignment to S_O before the step that drives it, so its value there is that of the scan before; move that step up, if the value of this scan is meant (docs/notes.md, 3)
+a.st: note: Hands.S_TwoHandOut is read in the assignment to S_O before the step that drives it, so its value there is that of the scan before; move that step up, if the value of this scan is meant (docs/notes.md, 3)
+",
+    },
+    // a step that reads what it drives itself, as one that holds itself, is meant so
+    Row {
+        text: "\
+PROGRAM P VAR_INPUT S_A, S_B : SAFEBOOL; END_VAR VAR_OUTPUT S_O : SAFEBOOL; END_VAR
+VAR Hands : SF_TwoHandControlTypeII; END_VAR
+Hands(Activate := TRUE, S_Button1 := S_A, S_Button2 := S_B AND (S_A OR Hands.S_TwoHandOut));
+S_O := (S_O OR Hands.S_TwoHandOut) AND S_A;
+END_PROGRAM",
+        lines: "",
+    },
+    // 4: an input that nothing reads; one that is read at a pin alone is read
+    Row {
+        text: "\
+PROGRAM P VAR_INPUT S_A, S_B : SAFEBOOL; Ack : BOOL; END_VAR VAR_OUTPUT S_O : SAFEBOOL; END_VAR
+VAR Hands : SF_TwoHandControlTypeII; END_VAR
+Hands(Activate := TRUE, S_Button1 := S_A, S_Button2 := S_B);
+S_O := Hands.S_TwoHandOut;
+END_PROGRAM",
+        lines: "a.st: note: Ack is an input that no step reads; give it to a block, or leave it out (docs/notes.md, 4)\n",
+    },
+    // 5: an instance that is read by its own call alone; one of which Ready alone is read is read
+    Row {
+        text: "\
+PROGRAM P VAR_INPUT S_A, S_B : SAFEBOOL; END_VAR VAR_OUTPUT S_O : SAFEBOOL; Lamp : BOOL; END_VAR
+VAR One, Two : SF_TwoHandControlTypeII; END_VAR
+One(Activate := TRUE, S_Button1 := S_A AND One.S_TwoHandOut, S_Button2 := S_B);
+Two(Activate := TRUE, S_Button1 := S_A, S_Button2 := S_B);
+S_O := S_A; Lamp := Two.Ready;
+END_PROGRAM",
+        lines: "a.st: note: One has no output that another step reads; read one, or leave the block out (docs/notes.md, 5)\n",
+    },
+    // 6: TRUE at the pins of a restart; FALSE and a signal are no restart by itself
+    Row {
+        text: "\
+PROGRAM P VAR_INPUT S_A : SAFEBOOL; Ack : BOOL; END_VAR VAR_OUTPUT S_O, S_P : SAFEBOOL; END_VAR
+VAR One, Two : SF_EmergencyStop; END_VAR
+One(Activate := TRUE, S_EStopIn := S_A, S_StartReset := TRUE, S_AutoReset := TRUE, Reset := Ack);
+Two(Activate := TRUE, S_EStopIn := S_A, S_StartReset := FALSE, S_AutoReset := S_A, Reset := Ack);
+S_O := One.S_EStopOut; S_P := Two.S_EStopOut;
+END_PROGRAM",
+        lines: "\
+a.st: note: One.S_StartReset is TRUE, so the block restarts by itself; leave it free where a person has to reset it (docs/notes.md, 6)
+a.st: note: One.S_AutoReset is TRUE, so the block restarts by itself; leave it free where a person has to reset it (docs/notes.md, 6)
+",
+    },
+    // all six: those of calls in the order of the text, and then those of signals
+    Row {
+        text: "\
+PROGRAM P VAR_INPUT S_A, S_B : SAFEBOOL; Ack : BOOL; END_VAR VAR_OUTPUT S_O : SAFEBOOL; END_VAR
+VAR Guard : SF_GuardMonitoring; Pair : SF_Equivalent; END_VAR
+S_O := Guard.S_GuardMonitoring;
+Pair(Activate := TRUE, S_ChannelA := S_A, S_ChannelB := S_B);
+Guard(S_GuardSwitch1 := S_A, S_GuardSwitch2 := S_B, S_AutoReset := TRUE, DiscrepancyTime := T#100ms);
+END_PROGRAM",
+        lines: "\
+a.st: note: Pair.DiscrepancyTime is left free, so the time is 0 ms; give it a TIME literal (docs/notes.md, 2)
+a.st: note: Pair has no output that another step reads; read one, or leave the block out (docs/notes.md, 5)
+a.st: note: Guard.Activate is left free, so the block stays Idle; give it TRUE or a signal (docs/notes.md, 1)
+a.st: note: Guard.S_AutoReset is TRUE, so the block restarts by itself; leave it free where a person has to reset it (docs/notes.md, 6)
+a.st: note: Ack is an input that no step reads; give it to a block, or leave it out (docs/notes.md, 4)
+a.st: note: Guard.S_GuardMonitoring is read in the assignment to S_O before the step that drives it, so its value there is that of the scan before; move that step up, if the value of this scan is meant (docs/notes.md, 3)
+",
+    },
+    // within a function block the names have a point; a step that is a call is named as such
+    Row {
+        text: "\
+FUNCTION_BLOCK Side VAR_INPUT S_A, S_B, S_On : SAFEBOOL; END_VAR VAR_OUTPUT S_O : SAFEBOOL; END_VAR
+VAR Hands : SF_TwoHandControlTypeII; END_VAR
+Hands(S_Button1 := S_A, S_Button2 := S_B AND S_On);
+S_O := Hands.S_TwoHandOut;
+END_FUNCTION_BLOCK
+PROGRAM P VAR_INPUT S_A, S_B : SAFEBOOL; END_VAR VAR_OUTPUT S_O : SAFEBOOL; END_VAR
+VAR S_L : SAFEBOOL; Left : Side; Stop : SF_EmergencyStop; END_VAR
+Stop(Activate := TRUE, S_EStopIn := S_L);
+Left(S_A := S_A, S_B := S_B, S_On := Stop.S_EStopOut);
+S_L := S_A;
+S_O := Left.S_O;
+END_PROGRAM",
+        lines: "\
+a.st: note: Left.Hands.Activate is left free, so the block stays Idle; give it TRUE or a signal (docs/notes.md, 1)
+a.st: note: S_L is read in the call of Stop before the step that drives it, so its value there is that of the scan before; move that step up, if the value of this scan is meant (docs/notes.md, 3)
+",
+    },
+];
+
+/// The lines of the notes of an application.
+fn lines_of(alloc: Global, app: &App) -> Result<Bytes, Memory> {
+    let mut lines = Bytes::new(alloc);
+    for note in &notes(alloc, app)? {
+        lines.extend_from_slice(note_line(alloc, b"a.st", app, *note)?.as_slice())?;
+    }
+    Ok(lines)
+}
+
+/// The lines of the notes of this text, or none where it is refused.
+fn lines_told(alloc: Global, text: &str) -> Result<Option<Bytes>, Memory> {
+    let mut files = MemFiles::new(alloc);
+    files.put("A", text.as_bytes())?;
+    match read_resolved(alloc, "A", &mut files) {
+        Ok(app) => Ok(Some(lines_of(alloc, &app)?)),
+        Err(_) => Ok(None),
+    }
+}
+
+#[test]
+fn each_note_has_its_line(rt: HostRuntime) -> Result<(), Fail> {
+    for row in ROWS {
+        match lines_told(rt.alloc(), row.text)? {
+            Some(lines) => assert_eq!(rt; lines.as_slice(), row.lines.as_bytes(), "{}", row.text),
+            None => assert!(rt; false, "refused: {}", row.text),
+        }
+    }
+    Ok(())
+}

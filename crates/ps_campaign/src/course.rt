@@ -1,10 +1,9 @@
 // A world, and the plain evaluator beside it.
 
-ghost use Rattle.std.specs.Prelude.{◌≡◌, ◌≤◌, IfOk, length};
+ghost use Rattle.std.specs.Prelude.{IfOk, IfSome};
 ghost use Rattle.ps_model.specs.Typing.{Accepted};
-ghost use Rattle.ps_model.specs.Network.{input_count, instance_count};
-ghost use Rattle.ps_scan.specs.Cells.{IsFor};
 ghost use Rattle.ps_campaign.specs.Beginning.{IsBeginning};
+ghost use Rattle.ps_campaign.specs.Made.{Tells};
 
 use crate::draws::Draws;
 use crate::scans::draw_scan;
@@ -29,23 +28,26 @@ pub(crate) struct Course<'a> {
     scan: Scan,
     report: Report,
     wanted: Report,
+    blank: Report,
 }
 
 impl<'a> Model for Course<'a> {
     ghost use Rattle.std.specs.Prelude.{◌≡◌, ◌≤◌, length};
-    ghost use Rattle.ps_world.specs.Whole.{Whole};
+    ghost use Rattle.ps_campaign.specs.Made.{Made};
     ghost use Rattle.ps_model.specs.Network.{input_count, instance_count};
+    ghost use Rattle.ps_model.specs.Fields.{blank_report};
     ghost use Rattle.ps_scan.specs.Cells.{IsFor};
 
-    ghost Value = { Whole };
+    ghost Value = { Made };
 
-    ghost view = { λ c. c.world };
+    ghost view = { λ c. record { world = c.world; report = c.report; wanted = c.wanted } };
 
     ghost invariant = { λ c. (c.world.state.last ≤ c.scan.now) × (c.world.setup.sizes.inputs ≡ input_count c.app.now)
         × (c.world.setup.sizes.outputs ≡ length c.app.now.outputs) × (c.world.setup.sizes.instances ≡ instance_count c.app.now)
         × (length c.scan.ins ≡ input_count c.app.now) × IsFor c.app.now c.scanner
         × (length c.report.outs ≡ length c.app.now.outputs) × (length c.report.diags ≡ instance_count c.app.now)
-        × (length c.wanted.outs ≡ length c.app.now.outputs) × (length c.wanted.diags ≡ instance_count c.app.now) };
+        × (length c.wanted.outs ≡ length c.app.now.outputs) × (length c.wanted.diags ≡ instance_count c.app.now)
+        × (c.blank ≡ blank_report (length c.app.now.outputs) (instance_count c.app.now)) };
 }
 
 // The world of an accepted application, at the beginning.
@@ -72,22 +74,6 @@ pub(crate) struct Outcome {
     pub(crate) is_blank: bool,
 }
 
-// Whether a report is blank.
-fn is_blank(report: &Report) -> bool {
-    for j in 0..report.outs.len() {
-        if report.outs.at(j) {
-            return false;
-        }
-    }
-    for i in 0..report.diags.len() {
-        let diag = report.diags.at(i);
-        if diag.ready || diag.error || diag.code != 0 {
-            return false;
-        }
-    }
-    true
-}
-
 impl<'a> Course<'a> {
     /// The course of an accepted application, before its first scan.
     pub(crate) fn build(alloc: Global, app: &'a App) -> Result<Course<'a>, Memory>
@@ -98,6 +84,7 @@ impl<'a> Course<'a> {
         let scan = Scan::for_app(alloc, app)?;
         let report = Report::for_app(alloc, app)?;
         let wanted = Report::for_app(alloc, app)?;
+        let blank = Report::for_app(alloc, app)?;
         let world = world_of(alloc, app)?;
         Ok(Course {
             app,
@@ -107,6 +94,7 @@ impl<'a> Course<'a> {
             scan,
             report,
             wanted,
+            blank,
         })
     }
 
@@ -141,7 +129,9 @@ impl<'a> Course<'a> {
     }
 
     /// Makes the scan in the world, with these faults, and by the evaluator. None: a scan is begun in the world.
-    pub(crate) fn make_scan(&mut self, faults: &[Fault]) -> Option<Outcome> {
+    pub(crate) fn make_scan(&mut self, faults: &[Fault]) -> Option<Outcome>
+        ensures { IfSome result (Tells self.old self.new) }
+    {
         if self.world.scan_begun() {
             return None;
         }
@@ -159,7 +149,7 @@ impl<'a> Course<'a> {
             was_tripped,
             is_tripped: self.world.is_tripped(),
             is_wanted: self.report.first_difference(&self.wanted).is_none(),
-            is_blank: is_blank(&self.report),
+            is_blank: self.report.first_difference(&self.blank).is_none(),
         })
     }
 }

@@ -4,10 +4,10 @@ ghost use Rattle.std.specs.Prelude.{OnOk};
 ghost use Rattle.ps_model.specs.Typing.{Accepted};
 
 use ps_base::{Bytes, Fail, Memory, Place, Refusal, Rule};
-use ps_demand::{NoLines, demand_lines as lines_of_app};
+use ps_demand::{DemandFail, NoLines, demand_lines as lines_of_app, demand_of, demand_text};
 use ps_flow::{FlowFail, FlowRefusal, derive};
 use ps_lexer::lex;
-use ps_model::App;
+use ps_model::{App, is_safe};
 use ps_parser::parse;
 use ps_resolve::resolve;
 use std::alloc::Global;
@@ -47,6 +47,16 @@ impl From<NoLines> for NoText {
     }
 }
 
+impl NoText {
+    // Why the demand of this signal is not given.
+    fn of_demand(fail: DemandFail, signal: u16) -> NoText {
+        match fail {
+            DemandFail::Memory => NoText::Memory,
+            DemandFail::Large => NoText::Large(signal),
+        }
+    }
+}
+
 // Nothing, where SAFEBOOL flow accepts an application, and else its rule, without a place.
 fn accept(alloc: Global, app: &App) -> Result<(), NoText>
     ensures { OnOk result (Accepted app.now) }
@@ -73,4 +83,18 @@ pub fn demand_lines(alloc: Global, text: &str) -> Result<Bytes, NoText> {
     let app = app_of(alloc, text)?;
     accept(alloc, &app)?;
     Ok(lines_of_app(alloc, &app)?)
+}
+
+/// The text of what one signal of the application of a text demands, by itself. There is none where no SAFEBOOL signal has this
+/// number.
+pub fn demand_alone(alloc: Global, text: &str, signal: u16) -> Result<Option<Bytes>, NoText> {
+    let app = app_of(alloc, text)?;
+    accept(alloc, &app)?;
+    if signal >= app.signal_count() || !is_safe(&app, signal) {
+        return Ok(None);
+    }
+    match demand_of(alloc, &app, signal) {
+        Ok(demand) => Ok(Some(demand_text(alloc, &app, signal, &demand)?)),
+        Err(fail) => Err(NoText::of_demand(fail, signal)),
+    }
 }

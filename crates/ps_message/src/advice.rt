@@ -314,9 +314,9 @@ pub fn advice_on(rule: Rule) -> Advice
         },
         Rule::F4 => Advice {
             name: "F4",
-            sentence: "the fault is not of the channel of the first one",
+            sentence: "the fault is not of the channel of the first one, or with heal comes while another one is dirty",
             of_name: "",
-            remedy: "make a file for each channel",
+            remedy: "make a file for each channel; with heal let the one that was struck be outvoted first",
         },
         Rule::F5 => Advice {
             name: "F5",

@@ -241,7 +241,7 @@ impl Hint {
             },
             Hint::ThirdChannel => Said {
                 sentence: "",
-                remedy: "the channels of fault are A and B; C is a seat of vote and heal",
+                remedy: "see the form in docs/traces.md; C is a seat of vote and heal alone",
             },
         }
     }

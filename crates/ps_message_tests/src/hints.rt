@@ -474,7 +474,7 @@ give the texts in the order of the usage line: APP TRACE FAULTS, or APP CERT (do
         message: "\
 a.st:1: F1: a line is not of the form, or has over 600 bytes\n\
 \x20   before 1 C memory 0 00\n\
-the channels of fault are A and B; C is a seat of vote and heal (docs/refusals.md, F1)\n\
+see the form in docs/traces.md; C is a seat of vote and heal alone (docs/refusals.md, F1)\n\
 ",
     },
 ];

@@ -577,9 +577,9 @@ image has the sizes of code and memory (docs/refusals.md, F3)\n\
         column: 0,
         text: "first\n2 B code 0 ff\nlast\n",
         message: "\
-a.st:2: F4: the fault is not of the channel of the first one\n\
+a.st:2: F4: the fault is not of the channel of the first one, or with heal comes while another one is dirty\n\
 \x20   2 B code 0 ff\n\
-make a file for each channel (docs/refusals.md, F4)\n\
+make a file for each channel; with heal let the one that was struck be outvoted first (docs/refusals.md, F4)\n\
 ",
     },
     Row {

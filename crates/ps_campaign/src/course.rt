@@ -1,0 +1,155 @@
+// A world, and the plain evaluator beside it.
+
+ghost use Rattle.std.specs.Prelude.{IfOk, IfSome};
+ghost use Rattle.ps_model.specs.Typing.{Accepted};
+ghost use Rattle.ps_campaign.specs.Beginning.{IsBeginning};
+ghost use Rattle.ps_campaign.specs.Made.{Tells};
+
+use crate::draws::Draws;
+use crate::scans::draw_scan;
+use crate::state::draw_state;
+use ps_base::{Bytes, Memory};
+use ps_machine::CodeImage;
+use ps_model::{App, Channel, Fault, ImageSizes, Report, Scan, Verdict};
+use ps_scan::Scanner;
+use ps_stackgen::stack_image;
+use ps_world::World;
+use std::alloc::Global;
+use std::marker::Model;
+
+/// The world of an application, which makes scans that a fault may strike, and the plain evaluator, which makes the same scans.
+#[derive(Drop)]
+pub(crate) struct Course<'a> {
+    app: &'a App,
+    // the code of channel A
+    code: CodeImage,
+    world: World,
+    scanner: Scanner,
+    scan: Scan,
+    report: Report,
+    wanted: Report,
+    blank: Report,
+}
+
+impl<'a> Model for Course<'a> {
+    ghost use Rattle.std.specs.Prelude.{◌≡◌, ◌≤◌, length};
+    ghost use Rattle.ps_campaign.specs.Made.{Made};
+    ghost use Rattle.ps_model.specs.Network.{input_count, instance_count};
+    ghost use Rattle.ps_model.specs.Fields.{blank_report};
+    ghost use Rattle.ps_scan.specs.Cells.{IsFor};
+
+    ghost Value = { Made };
+
+    ghost view = { λ c. record { world = c.world; report = c.report; wanted = c.wanted } };
+
+    ghost invariant = { λ c. (c.world.state.last ≤ c.scan.now) × (c.world.setup.sizes.inputs ≡ input_count c.app.now)
+        × (c.world.setup.sizes.outputs ≡ length c.app.now.outputs) × (c.world.setup.sizes.instances ≡ instance_count c.app.now)
+        × (length c.scan.ins ≡ input_count c.app.now) × IsFor c.app.now c.scanner
+        × (length c.report.outs ≡ length c.app.now.outputs) × (length c.report.diags ≡ instance_count c.app.now)
+        × (length c.wanted.outs ≡ length c.app.now.outputs) × (length c.wanted.diags ≡ instance_count c.app.now)
+        × (c.blank ≡ blank_report (length c.app.now.outputs) (instance_count c.app.now)) };
+}
+
+// The world of an accepted application, at the beginning.
+#[tactic(auto, using(crate::proofs::Beginnings::is_beginning))]
+fn world_of(alloc: Global, app: &App) -> Result<World, Memory>
+    requires { Accepted app.now }
+    ensures { IfOk result (IsBeginning app.now) }
+{
+    let world = World::build(alloc, app)?;
+    Ok(world)
+}
+
+/// What a scan came to.
+#[derive(Clone, Copy)]
+pub(crate) struct Outcome {
+    pub(crate) verdict: Verdict,
+    /// Whether the world was tripped before the scan.
+    pub(crate) was_tripped: bool,
+    /// Whether it is tripped after the scan.
+    pub(crate) is_tripped: bool,
+    /// Whether the report is that of the plain evaluator.
+    pub(crate) is_wanted: bool,
+    /// Whether every output, Ready and Error of the report is FALSE and every code 0.
+    pub(crate) is_blank: bool,
+}
+
+impl<'a> Course<'a> {
+    /// The course of an accepted application, before its first scan.
+    pub(crate) fn build(alloc: Global, app: &'a App) -> Result<Course<'a>, Memory>
+        requires { Accepted app.now }
+    {
+        let code = stack_image(alloc, app)?;
+        let scanner = Scanner::new(alloc, app)?;
+        let scan = Scan::for_app(alloc, app)?;
+        let report = Report::for_app(alloc, app)?;
+        let wanted = Report::for_app(alloc, app)?;
+        let blank = Report::for_app(alloc, app)?;
+        let world = world_of(alloc, app)?;
+        Ok(Course {
+            app,
+            code,
+            world,
+            scanner,
+            scan,
+            report,
+            wanted,
+            blank,
+        })
+    }
+
+    /// The lengths of the regions.
+    pub(crate) fn sizes(&self) -> ImageSizes {
+        self.world.sizes()
+    }
+
+    /// Whether the world and the evaluator have begun anew: no scan is begun.
+    pub(crate) fn restart(&mut self) -> bool {
+        if self.world.scan_begun() {
+            return false;
+        }
+        self.world.restart();
+        self.scanner.restart(self.app);
+        true
+    }
+
+    /// Draws the time and the inputs of the next scan.
+    pub(crate) fn draw_scan(&mut self, draws: &mut Draws, one_in: u32) {
+        draw_scan(draws, &mut self.scan, one_in);
+    }
+
+    /// The cells of a channel in another state, after a few scans from the time of the last scan on.
+    pub(crate) fn draw_state(
+        &self,
+        alloc: Global,
+        draws: &mut Draws,
+        channel: Channel,
+    ) -> Result<Bytes, Memory> {
+        draw_state(alloc, draws, self.app, &self.code, channel, self.scan.now)
+    }
+
+    /// Makes the scan in the world, with these faults, and by the evaluator. None: a scan is begun in the world.
+    pub(crate) fn make_scan(&mut self, faults: &[Fault]) -> Option<Outcome>
+        ensures { IfSome result (Tells self.old self.new) }
+    {
+        if self.world.scan_begun() {
+            return None;
+        }
+        let was_tripped = self.world.is_tripped();
+        let verdict = self.world.make_scan(&self.scan, faults, &mut self.report);
+        self.scanner.scan(
+            self.app,
+            self.scan.now,
+            self.scan.ins.as_slice(),
+            &mut self.wanted,
+        );
+        self.app.sound();
+        Some(Outcome {
+            verdict,
+            was_tripped,
+            is_tripped: self.world.is_tripped(),
+            is_wanted: self.report.first_difference(&self.wanted).is_none(),
+            is_blank: self.report.first_difference(&self.blank).is_none(),
+        })
+    }
+}

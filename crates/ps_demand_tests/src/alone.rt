@@ -1,0 +1,81 @@
+// What one signal demands, by itself.
+
+use crate::lines::{NoText, demand_alone};
+use std::alloc::Global;
+
+/// A motor behind an emergency stop: signal 3 is its SAFEBOOL output.
+const MOTOR: &str = "\
+PROGRAM M
+VAR_INPUT
+  S_In : SAFEBOOL;
+  Ack, Run : BOOL;
+END_VAR
+VAR_OUTPUT S_Motor : SAFEBOOL; END_VAR
+VAR E : SF_EmergencyStop; END_VAR
+E(Activate := TRUE, S_EStopIn := S_In, Reset := Ack);
+S_Motor := E.S_EStopOut AND Run;
+END_PROGRAM
+";
+
+/// An output, signal 1, that needs a value of the scan before.
+const FEEDBACK: &str = "\
+PROGRAM Fb
+VAR_INPUT S_In : SAFEBOOL; END_VAR
+VAR_OUTPUT S_O : SAFEBOOL; END_VAR
+VAR X, Y : SAFEBOOL; END_VAR
+X := Y AND S_In; Y := S_In; S_O := X;
+END_PROGRAM
+";
+
+/// Signals each of which reads the one before twice: S_O, signal 1, has 512 leaves, and L10, signal 11, has 1,024.
+const DOUBLED: &str = "\
+PROGRAM Chain
+VAR_INPUT S_A : SAFEBOOL; END_VAR
+VAR_OUTPUT S_O : SAFEBOOL; END_VAR
+VAR L1, L2, L3, L4, L5, L6, L7, L8, L9, L10 : SAFEBOOL; END_VAR
+L1 := S_A AND S_A; L2 := L1 AND L1; L3 := L2 AND L2; L4 := L3 AND L3; L5 := L4 AND L4;
+L6 := L5 AND L5; L7 := L6 AND L6; L8 := L7 AND L7; L9 := L8 AND L8; L10 := L9 AND L9;
+S_O := L9;
+END_PROGRAM
+";
+
+/// Whether a signal of the application of a text demands this, where that is a text.
+fn is_demanded(alloc: Global, text: &str, signal: u16, demand: &str) -> Result<bool, NoText> {
+    match demand_alone(alloc, text, signal)? {
+        Some(found) => Ok(found.as_slice() == demand.as_bytes()),
+        None => Ok(false),
+    }
+}
+
+/// Whether a signal of the application of a text is no SAFEBOOL signal.
+fn is_plain(alloc: Global, text: &str, signal: u16) -> Result<bool, NoText> {
+    Ok(demand_alone(alloc, text, signal)?.is_none())
+}
+
+#[test]
+fn outputs(rt: HostRuntime) {
+    let alloc = rt.alloc();
+    assert_eq!(rt; is_demanded(alloc, MOTOR, 3, "S_In"), Ok(true));
+    assert_eq!(rt;
+        is_demanded(alloc, FEEDBACK, 1, "Y@before AND S_In"),
+        Ok(true)
+    );
+    assert_eq!(rt; is_demanded(alloc, DOUBLED, 1, "S_A"), Ok(true));
+}
+
+#[test]
+fn signals_that_are_not_safe(rt: HostRuntime) {
+    let alloc = rt.alloc();
+    assert_eq!(rt; is_plain(alloc, MOTOR, 1), Ok(true));
+    assert_eq!(rt; is_plain(alloc, MOTOR, 3), Ok(false));
+}
+
+#[test]
+fn a_local_signal_with_too_many_leaves(rt: HostRuntime) {
+    let alloc = rt.alloc();
+    assert_eq!(rt;
+        is_demanded(alloc, DOUBLED, 11, "S_A"),
+        Err(NoText::Large(11))
+    );
+    assert_eq!(rt; is_demanded(alloc, DOUBLED, 10, "S_A"), Ok(true));
+}

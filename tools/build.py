@@ -6,10 +6,13 @@ build.py --check     only says by its status whether the program is built (0) or
 build.py CRATE       proves and builds this library, and those below it (to try the launcher on something small)
 
 Crates that do not stand on each other are proved at the same time, as many as there are processors and memory allows,
-those with the most work above them first. On a terminal one line tells how far it is; elsewhere it is a plain line now and
-then. What an `rt` run says of a crate goes to crates/CRATE/out/build.log. The status is 0 where the program is built, and 9
-where it could not be.
+those with the most work above them first. Each is proved in a folder of its own, crates/CRATE/out/stage, since a run of `rt`
+keeps every other one out of the crates that it stands on. On a terminal one line tells how far it is; elsewhere it is a plain
+line now and then. What an `rt` run says of a crate goes to crates/CRATE/out/build.log. The status is 0 where the program is
+built, and 9 where it could not be.
 """
+import contextlib
+import fcntl
 import hashlib
 import os
 import pathlib
@@ -96,6 +99,69 @@ def free_memory():
     return 4 * GIBIBYTE
 
 
+@contextlib.contextmanager
+def alone_in(folder):
+    """Waits until no run of `rt` and no other launcher works in a folder, and keeps them out meanwhile."""
+    held = os.open(folder, os.O_RDONLY)
+    try:
+        fcntl.flock(held, fcntl.LOCK_EX)
+        yield
+    finally:
+        os.close(held)
+
+
+def link_or_copy(source, target):
+    """Gives a built file a second name, which takes no room; `rt` never writes into one, but makes it anew. Else a copy."""
+    try:
+        os.link(source, target)
+    except OSError:
+        shutil.copy2(source, target)
+
+
+def replace_folder(source, target):
+    """Puts what a folder of built files holds in place of what another one held."""
+    shutil.rmtree(target, ignore_errors=True)
+    if source.is_dir():
+        shutil.copytree(source, target, copy_function=link_or_copy)
+
+
+class Stage:
+    """The folder in which a crate is proved: its files, those of the crates that it stands on, and their libraries."""
+
+    def __init__(self, name, names):
+        self.name, self.names = name, names
+        self.out = ROOT / "crates" / name / "out"
+        self.root = self.out / "stage"
+        self.crate = self.root / "crates" / name
+
+    def lay(self):
+        """Lays it out anew, but for what an earlier run kept of its proof."""
+        lines = [line for line in (ROOT / "crates.txt").read_text().splitlines() if line.partition(":")[0].strip() in self.names]
+        for old in (self.root / "crates").glob("*"):
+            for part in [part for part in old.glob("*") if old != self.crate or part.name != "out"]:
+                shutil.rmtree(part) if part.is_dir() else part.unlink()
+        for name in self.names:
+            files = ROOT / "crates" / name
+            folders = ("src", "specs", "proofs") if name != self.name else [part.name for part in files.iterdir()]
+            for part in [files / folder for folder in folders if folder not in ("out", "must-fail")]:
+                target = self.root / "crates" / name / part.name
+                if part.is_dir():
+                    shutil.copytree(part, target)
+                elif part.exists():
+                    shutil.copy2(part, target)
+            replace_folder(files / "out" / "rlib", self.root / "crates" / name / "out" / "rlib")
+        shutil.copy2(ROOT / "HANDLES", self.root / "HANDLES")
+        (self.root / "crates.txt").write_text("\n".join(lines) + "\n")
+
+    def take(self):
+        """Takes the library or the program that was built into the crate's own folder."""
+        with alone_in(self.out.parent):
+            replace_folder(self.crate / "out" / "rlib", self.out / "rlib")
+            program = self.crate / "out" / self.name
+            if program.is_file():
+                shutil.copy2(program, self.out / self.name)
+
+
 class Progress:
     """What is said while crates are proved: one line that changes on a terminal, and else a plain line a minute."""
 
@@ -123,12 +189,13 @@ class Progress:
 class Proof:
     """One `rt` run over a crate, with how many of its functions are checked."""
 
-    def __init__(self, name, command, functions):
-        self.name, self.functions, self.checked = name, functions, 0
-        self.log = ROOT / "crates" / name / "out" / "build.log"
+    def __init__(self, stage, command, functions):
+        self.name, self.stage, self.functions, self.checked = stage.name, stage, functions, 0
+        self.log = stage.out / "build.log"
         self.log.parent.mkdir(parents=True, exist_ok=True)
+        stage.lay()
         self.process = subprocess.Popen(
-            command, cwd=ROOT / "crates" / name, stdin=subprocess.DEVNULL, stdout=subprocess.PIPE, stderr=subprocess.STDOUT,
+            command, cwd=stage.crate, stdin=subprocess.DEVNULL, stdout=subprocess.PIPE, stderr=subprocess.STDOUT,
             text=True, errors="replace", start_new_session=True)
         self.reader = threading.Thread(target=self.read, daemon=True)
         self.reader.start()
@@ -183,7 +250,7 @@ class Build:
         for place, name in enumerate(able[:max(room, 0)]):
             jobs = max(1, room - len(able) + 1) if place == 0 else 1
             verb = ["run", "--jobs", str(jobs), "--", "run", "data/A", "data/T"] if name == PROGRAM else ["lib", "--jobs", str(jobs)]
-            self.running.append(Proof(name, ["rt", *verb], self.costs[name][0]))
+            self.running.append(Proof(Stage(name, below(self.stands_on, name)), ["rt", *verb], self.costs[name][0]))
 
     def share(self):
         """The part of all work that is done, and the seconds that are left by the speed so far, where that is known."""
@@ -222,6 +289,7 @@ class Build:
             print(f"plcsafe: crate {proof.name} could not be proved and built (status {proof.process.returncode}): read {log}",
                   file=sys.stderr)
             return False
+        proof.stage.take()
         self.done.append(proof.name)
         return True
 
@@ -253,9 +321,16 @@ def main(words):
     if not shutil.which("rt"):
         print("plcsafe: the command rt of the Rattle kit is not on the path", file=sys.stderr)
         return 9
+    out = ROOT / "crates" / PROGRAM / "out"
+    out.mkdir(exist_ok=True)
+    with alone_in(out):
+        return build(words, out)
+
+
+def build(words, out):
+    """Builds the library that the words name, or else the program, where that is not built."""
     if words and words[0] != "--check":
         return 0 if Build(words[0]).run() else 9
-    out = ROOT / "crates" / PROGRAM / "out"
     built = out / "built"
     names = below(crates(), PROGRAM)
     print_now = fingerprint(names)

@@ -303,6 +303,7 @@ class Build:
                 for proof in [proof for proof in self.running if proof.ended()]:
                     if not self.finish(proof):
                         return False
+                    self.begin()
                     self.tell(important=True)
                 self.tell()
         except KeyboardInterrupt:

@@ -3,6 +3,8 @@
 
 gate.py [--costs] [WORD..]     runs `rt ci --anew`, or `rt ci WORD..`, at the top of the repository, and prints a table when it
                                has ended, the costliest crates first, and the longest chain of crates by wall clock
+--kept                         runs plain `rt ci`: the same as --anew on a machine that has proved nothing, but what it proves
+                               can be taken by other runs, and it takes what others proved
 --costs                        writes the functions and processor seconds of each proof to tools/costs.txt, by which the
                                launcher tells how much is left
 
@@ -97,7 +99,8 @@ def longest_chain(wall):
 
 def main(words):
     writes_costs = "--costs" in words
-    words = [word for word in words if word != "--costs"] or ["--anew"]
+    takes_kept = "--kept" in words
+    words = [word for word in words if word not in ("--costs", "--kept")] or ([] if takes_kept else ["--anew"])
     status, said, whole, seconds, spans = measure(words)
     used = collections.Counter()
     for (_, name, step), taken in seconds.items():

@@ -6,10 +6,11 @@ build.py --check     only says by its status whether the program is built (0) or
 build.py CRATE       proves and builds this library, and those below it (to try the launcher on something small)
 
 Crates that do not stand on each other are proved at the same time, as many as there are processors and memory allows,
-those with the most work above them first. Each is proved in a folder of its own, crates/CRATE/out/stage, since a run of `rt`
-keeps every other one out of the crates that it stands on. On a terminal one line tells how far it is; elsewhere it is a plain
-line now and then. What an `rt` run says of a crate goes to crates/CRATE/out/build.log. The status is 0 where the program is
-built, and 9 where it could not be.
+those with the most work above them first. The first of these, for which all others wait in the end, goes before the others
+and is checked by a job for each processor, so that none is idle where few crates are left. Each is proved in a folder of its
+own, crates/CRATE/out/stage, since a run of `rt` keeps every other one out of the crates that it stands on. On a terminal one
+line tells how far it is; elsewhere it is a plain line now and then. What an `rt` run says of a crate goes to
+crates/CRATE/out/build.log. The status is 0 where the program is built, and 9 where it could not be.
 """
 import contextlib
 import fcntl
@@ -28,6 +29,7 @@ PROGRAM = "ps_main"
 FOLDERS = ("src", "specs", "proofs")
 GIBIBYTE = 1 << 30
 MEMORY_EACH = 2 * GIBIBYTE  # what a crate's proof takes at the most, for most crates
+BEHIND = 5  # how much a crate that can wait gives way to the one that cannot, as `nice` counts it
 SO_FAR = re.compile(r"so far: (\d+) of (\d+) functions")
 
 
@@ -189,14 +191,16 @@ class Progress:
 class Proof:
     """One `rt` run over a crate, with how many of its functions are checked."""
 
-    def __init__(self, stage, command, functions):
+    def __init__(self, stage, command, functions, can_wait):
         self.name, self.stage, self.functions, self.checked = stage.name, stage, functions, 0
         self.log = stage.out / "build.log"
         self.log.parent.mkdir(parents=True, exist_ok=True)
         stage.lay()
         self.process = subprocess.Popen(
             command, cwd=stage.crate, stdin=subprocess.DEVNULL, stdout=subprocess.PIPE, stderr=subprocess.STDOUT,
-            text=True, errors="replace", start_new_session=True)
+            text=True, errors="replace", process_group=0)
+        if can_wait:
+            os.setpriority(os.PRIO_PROCESS, self.process.pid, BEHIND)
         self.reader = threading.Thread(target=self.read, daemon=True)
         self.reader.start()
 
@@ -242,15 +246,15 @@ class Build:
         return sorted(able, key=lambda name: -self.chain[name])
 
     def begin(self):
-        """Begins what can be begun, with the processors that are left over for the crate with the longest chain."""
-        able = self.ready()
+        """Begins what can be begun: the crate with the longest chain above it with all processors, each other with half of them."""
         room = self.processors - len(self.running)
         if self.running:
             room = min(room, int(free_memory() / MEMORY_EACH))
-        for place, name in enumerate(able[:max(room, 0)]):
-            jobs = max(1, room - len(able) + 1) if place == 0 else 1
-            verb = ["run", "--jobs", str(jobs), "--", "run", "data/A", "data/T"] if name == PROGRAM else ["lib", "--jobs", str(jobs)]
-            self.running.append(Proof(Stage(name, below(self.stands_on, name)), ["rt", *verb], self.costs[name][0]))
+        for name in self.ready()[:max(room, 0)]:
+            can_wait = any(self.chain[proof.name] >= self.chain[name] for proof in self.running)
+            jobs = ["--jobs", str(max(1, self.processors // 2) if can_wait else self.processors)]
+            command = ["rt", "run", *jobs, "--", "run", "data/A", "data/T"] if name == PROGRAM else ["rt", "lib", *jobs]
+            self.running.append(Proof(Stage(name, below(self.stands_on, name)), command, self.costs[name][0], can_wait))
 
     def share(self):
         """The part of all work that is done, and the seconds that are left by the speed so far, where that is known."""

@@ -15,6 +15,10 @@ pub(crate) enum Hint {
     Beginning,
     /// The first token of a line does not fit.
     Unfinished,
+    /// A section begins where none may.
+    Opening,
+    /// A semicolon where nothing is to be ended.
+    Empty,
     /// A sign stands where a value is asked.
     Valueless,
     /// A sign that does not fit.
@@ -43,6 +47,8 @@ pub(crate) enum Hint {
     Quoted,
     /// A keyword as a name.
     Keyword,
+    /// TRUE or FALSE as an operand.
+    Constant,
     /// A value at a declaration.
     Initial,
     /// A further program or function block behind the end.
@@ -65,6 +71,8 @@ pub(crate) enum Hint {
     Typographic,
     /// A letter beyond ASCII.
     Letter,
+    /// A text in UTF-16, or no text.
+    Wide,
     /// Another text in the place of an application.
     OtherGiven,
     /// An application in the place of another text.
@@ -119,6 +127,14 @@ impl Hint {
                 sentence: "",
                 remedy: "a semicolon may be missing at the end of the line before, or an END_VAR; see docs/language.md for the forms",
             },
+            Hint::Opening => Said {
+                sentence: "",
+                remedy: "a text begins with PROGRAM or FUNCTION_BLOCK and a name, and a section ends with END_VAR before the next one",
+            },
+            Hint::Empty => Said {
+                sentence: "a semicolon stands where nothing is to be ended",
+                remedy: "leave it out: one ends each declaration, assignment and call, and none stands behind END_VAR or END_PROGRAM",
+            },
             Hint::Joining => Said {
                 sentence: "",
                 remedy: "what stands before it is to be followed by a sign or an operator, as ; : := . ( ) AND OR",
@@ -167,6 +183,10 @@ impl Hint {
                 sentence: "",
                 remedy: "AND, OR, TRUE and FALSE are keywords and no names; see docs/language.md for the forms",
             },
+            Hint::Constant => Said {
+                sentence: "TRUE and FALSE are no operands",
+                remedy: "they stand at the pins of a call alone: leave the operand out, or name a signal",
+            },
             Hint::Initial => Said {
                 sentence: "a declaration gives no value",
                 remedy: "leave the value out: each signal is what its statement says, from the first scan on",
@@ -210,6 +230,10 @@ impl Hint {
             Hint::Letter => Said {
                 sentence: "a letter beyond ASCII stands outside a comment",
                 remedy: "write names with the letters A to Z, digits and _; other letters stand in comments alone",
+            },
+            Hint::Wide => Said {
+                sentence: "the file is in UTF-16, or is no text",
+                remedy: "save it as UTF-8 without a byte order mark",
             },
             Hint::OtherGiven => Said {
                 sentence: "this looks like a trace, a fault file or a certificate, and an application is asked here",
@@ -363,16 +387,36 @@ fn ends_with_type(front: &[u8]) -> bool {
 
 // Whether a word is a keyword that might be meant as a name.
 fn is_keyword(word: &[u8]) -> bool {
-    word.eq_ignore_ascii_case(b"AND")
-        || word.eq_ignore_ascii_case(b"OR")
-        || word.eq_ignore_ascii_case(b"TRUE")
-        || word.eq_ignore_ascii_case(b"FALSE")
+    word.eq_ignore_ascii_case(b"AND") || word.eq_ignore_ascii_case(b"OR") || is_constant(word)
+}
+
+// Whether a word is a value that stands at pins alone.
+fn is_constant(word: &[u8]) -> bool {
+    word.eq_ignore_ascii_case(b"TRUE") || word.eq_ignore_ascii_case(b"FALSE")
+}
+
+// Whether a word begins a section of declarations.
+fn opens_section(word: &[u8]) -> bool {
+    word.eq_ignore_ascii_case(b"VAR_INPUT")
+        || word.eq_ignore_ascii_case(b"VAR_OUTPUT")
+        || word.eq_ignore_ascii_case(b"VAR")
+}
+
+// Whether nothing is to be ended by a semicolon behind these bytes.
+fn ends_already(front: &[u8]) -> bool {
+    let word = last_word(front);
+    front.ends_with(b";")
+        || word.eq_ignore_ascii_case(b"END_VAR")
+        || word.eq_ignore_ascii_case(b"END_PROGRAM")
+        || word.eq_ignore_ascii_case(b"END_FUNCTION_BLOCK")
 }
 
 // What is said of a sign that does not fit behind these bytes.
 fn hint_on_sign(front: &[u8], back: &[u8]) -> Hint {
     if asks_value(front) {
         Hint::Valueless
+    } else if back.starts_with(b";") && ends_already(front) {
+        Hint::Empty
     } else if back.starts_with(b":=") && ends_with_type(front) {
         Hint::Initial
     } else {
@@ -385,12 +429,16 @@ fn begins_other(word: &[u8]) -> bool {
     word == b"time".as_slice() || word == b"before".as_slice()
 }
 
-// What is said of the first token of a text or a line that does not fit.
-fn hint_on_first(line: u32, here: &[u8]) -> Hint {
+// What is said of the first token of a text or a line that does not fit, by the bytes from it on.
+fn hint_on_first(line: u32, back: &[u8]) -> Hint {
     if line == 1 {
         Hint::Beginning
-    } else if begins_application(here) {
+    } else if back.starts_with(b";") {
+        Hint::Empty
+    } else if begins_application(back) {
         Hint::Behind
+    } else if opens_section(first_word(back)) {
+        Hint::Opening
     } else {
         Hint::Unfinished
     }
@@ -413,7 +461,10 @@ fn hint_on_grammar(line: u32, front: &[u8], back: &[u8]) -> Option<Hint> {
         return Some(hint);
     }
     if before.is_empty() {
-        return Some(hint_on_first(line, here));
+        return Some(hint_on_first(line, back));
+    }
+    if is_constant(here) && asks_value(before) {
+        return Some(Hint::Constant);
     }
     if is_keyword(here) {
         return Some(Hint::Keyword);
@@ -427,9 +478,15 @@ fn hint_on_grammar(line: u32, front: &[u8], back: &[u8]) -> Option<Hint> {
     Some(Hint::Joining)
 }
 
+// Whether bytes begin as no text in ASCII or UTF-8 does.
+fn is_wide(bytes: &[u8]) -> bool {
+    matches!(bytes, [0xFF, 0xFE, ..] | [0xFE, 0xFF, ..] | [0, ..])
+}
+
 // What is said of a byte that begins no token.
 fn hint_on_byte(front: &[u8], back: &[u8]) -> Option<Hint> {
     match back {
+        _ if is_wide(back) => Some(Hint::Wide),
         [0xEF, 0xBB, 0xBF, ..] => Some(Hint::ByteOrderMark),
         [0xC2, 0xA0, ..] | [0xE2, 0x80, 0xAF, ..] => Some(Hint::HardBlank),
         [0xE2, 0x80, ..] | [0xE2, 0x88, 0x92, ..] => Some(Hint::Typographic),
@@ -535,6 +592,7 @@ fn hint_at(rule: Rule, line: u32, front: &[u8], back: &[u8]) -> Option<Hint> {
         Rule::L3 if has_decimal_comma(back) => Some(Hint::DecimalComma),
         Rule::P1 => hint_on_grammar(line, front, back),
         Rule::B2 | Rule::N2 | Rule::N3 => hint_on_word(first_word(back)),
+        Rule::C1 | Rule::T1 | Rule::F1 if is_wide(back) => Some(Hint::Wide),
         Rule::C1 => hint_on_certificate(back),
         Rule::T1 | Rule::T2 | Rule::T4 | Rule::T5 | Rule::T6 => hint_on_trace(rule, back),
         Rule::F1 => hint_on_faults(back),

@@ -1,8 +1,7 @@
 // The messages of calls that end without a refusal.
 
-ghost use Rattle.std.specs.Prelude.{◌≡◌, ◌++◌, IsTrue, IfOk, OnOk};
-ghost use Rattle.ps_message.specs.Message.{are_few};
-ghost use Rattle.ps_message.specs.Ending.{SaysOfFile, help_line, wrong_line};
+ghost use Rattle.std.specs.Prelude.{◌≡◌, ◌++◌, IfOk, OnOk};
+ghost use Rattle.ps_message.specs.Ending.{cause_shown, channel_shown, help_line, remedy_of, trip_text, unread_text, wrong_line, wrong_of};
 
 use crate::shown::add_last;
 use crate::writing::{MOST_OF_FILE, add_number};
@@ -53,8 +52,8 @@ struct OfFile {
 impl Unread {
     // Its words.
     fn said(self) -> OfFile
-        ensures wrong { IsTrue (are_few 200 result.wrong.now) }
-        ensures remedy { IsTrue (are_few 200 result.remedy.now) }
+        ensures wrong { result.wrong.now ≡ wrong_of self }
+        ensures remedy { result.remedy.now ≡ remedy_of self }
     {
         match self {
             Unread::Missing => OfFile {
@@ -102,7 +101,7 @@ fn add_help(message: &mut Bytes, said: &OfFile) -> Result<(), Memory>
 /// The message of a file of this name that could not be read: the name, why, and what helps. The name is shown as in the message
 /// of a refusal.
 pub fn unread_message(alloc: Global, file: &[u8], why: Unread) -> Result<Bytes, Memory>
-    ensures { IfOk result (SaysOfFile file.now) }
+    ensures says { IfOk result (λ bytes. bytes ≡ unread_text file.now why) }
 {
     let mut message = Bytes::new(alloc);
     let said = why.said();
@@ -112,7 +111,9 @@ pub fn unread_message(alloc: Global, file: &[u8], why: Unread) -> Result<Bytes, 
 }
 
 // The name of a channel.
-fn add_channel(message: &mut Bytes, channel: Channel) -> Result<(), Memory> {
+fn add_channel(message: &mut Bytes, channel: Channel) -> Result<(), Memory>
+    ensures { OnOk result (message.new ≡ message.old ++ channel_shown channel) }
+{
     match channel {
         Channel::A => message.extend_from_slice(b"channel A"),
         Channel::B => message.extend_from_slice(b"channel B"),
@@ -120,7 +121,9 @@ fn add_channel(message: &mut Bytes, channel: Channel) -> Result<(), Memory> {
 }
 
 // Why a scan tripped.
-fn add_cause(message: &mut Bytes, cause: Cause) -> Result<(), Memory> {
+fn add_cause(message: &mut Bytes, cause: Cause) -> Result<(), Memory>
+    ensures { OnOk result (message.new ≡ message.old ++ cause_shown cause) }
+{
     match cause {
         Cause::Differ(field) => add_number(
             message,
@@ -143,7 +146,9 @@ fn add_cause(message: &mut Bytes, cause: Cause) -> Result<(), Memory> {
 }
 
 /// The message of a scan of the trace of this name that tripped: its time in ms, why, and what that means.
-pub fn trip_message(alloc: Global, file: &[u8], now: u32, cause: Cause) -> Result<Bytes, Memory> {
+pub fn trip_message(alloc: Global, file: &[u8], now: u32, cause: Cause) -> Result<Bytes, Memory>
+    ensures says { IfOk result (λ bytes. bytes ≡ trip_text file.now now cause) }
+{
     let mut message = Bytes::new(alloc);
     add_last(&mut message, file, MOST_OF_FILE)?;
     add_number(&mut message, b": the scan at ", now)?;

@@ -68,6 +68,43 @@ a semicolon may be missing at the end of the line before, or an END_VAR; see doc
         rule: Rule::P1,
         line: 2,
         column: 1,
+        text: "(* a press *)\nVAR_INPUT S_1 : SAFEBOOL; END_VAR\n",
+        message: "\
+a.st:2:1: P1: VAR_INPUT does not fit here\n\
+\x20   VAR_INPUT S_1 : SAFEBOOL; END_VAR\n\
+\x20   ^\n\
+the line before: (* a press *)\n\
+a text begins with PROGRAM or FUNCTION_BLOCK and a name, and a section ends with END_VAR before the next one (docs/refusals.md, P1)\n\
+",
+    },
+    Row {
+        rule: Rule::P1,
+        line: 1,
+        column: 12,
+        text: "S_O := S_1;;\n",
+        message: "\
+a.st:1:12: P1: a semicolon stands where nothing is to be ended\n\
+\x20   S_O := S_1;;\n\
+\x20              ^\n\
+leave it out: one ends each declaration, assignment and call, and none stands behind END_VAR or END_PROGRAM (docs/refusals.md, P1)\n\
+",
+    },
+    Row {
+        rule: Rule::P1,
+        line: 1,
+        column: 16,
+        text: "S_O := S_1 AND TRUE;\n",
+        message: "\
+a.st:1:16: P1: TRUE and FALSE are no operands\n\
+\x20   S_O := S_1 AND TRUE;\n\
+\x20                  ^\n\
+they stand at the pins of a call alone: leave the operand out, or name a signal (docs/refusals.md, P1)\n\
+",
+    },
+    Row {
+        rule: Rule::P1,
+        line: 2,
+        column: 1,
         text: "END_PROGRAM\nPROGRAM Q END_PROGRAM\n",
         message: "\
 a.st:2:1: P1: PROGRAM does not fit here\n\
@@ -339,6 +376,29 @@ a.st:1:1: L1: the text begins with a byte order mark\n\
 \x20   \\xef\\xbb\\xbfPROGRAM P\n\
 \x20   ^\n\
 save the file as UTF-8 without it (docs/refusals.md, L1)\n\
+",
+    },
+    Row {
+        rule: Rule::L1,
+        line: 1,
+        column: 2,
+        text: "P\0R\0O\0",
+        message: "\
+a.st:1:2: L1: the file is in UTF-16, or is no text\n\
+\x20   P\\x00R\\x00O\\x00\n\
+\x20    ^\n\
+save it as UTF-8 without a byte order mark (docs/refusals.md, L1)\n\
+",
+    },
+    Row {
+        rule: Rule::T1,
+        line: 1,
+        column: 0,
+        text: "\0t\0i\0m\0e",
+        message: "\
+a.st:1: T1: the file is in UTF-16, or is no text\n\
+\x20   \\x00t\\x00i\\x00m\\x00e\n\
+save it as UTF-8 without a byte order mark (docs/refusals.md, T1)\n\
 ",
     },
     Row {

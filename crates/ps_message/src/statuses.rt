@@ -129,20 +129,21 @@ fn add_cause(message: &mut Bytes, cause: Cause) -> Result<(), Memory>
             message,
             b"the reports of the channels differ, first in field ",
             u32::from(field),
-        ),
+        )?,
         Cause::Stuck(channel) => {
             add_channel(message, channel)?;
-            message.extend_from_slice(b" did not end within its turns")
+            message.extend_from_slice(b" did not end within its turns")?;
         }
         Cause::Trap(channel, trap) => {
             add_channel(message, channel)?;
-            add_number(message, b" was stopped by trap ", u32::from(trap))
+            add_number(message, b" was stopped by trap ", u32::from(trap))?;
         }
         Cause::NoReport(channel) => {
             add_channel(message, channel)?;
-            message.extend_from_slice(b" holds no report in its memory")
+            message.extend_from_slice(b" holds no report in its memory")?;
         }
     }
+    Ok(())
 }
 
 /// The message of a scan of the trace of this name that tripped: its time in ms, why, and what that means.

@@ -26,8 +26,25 @@ PROVED = re.compile(r"^logic=proved functions=(\d+)")
 HEAD = re.compile(r"^== (\w+)$")
 
 
-def provers():
-    """Each prover that runs now: its process, the crate, what it is for, and its processor seconds so far."""
+def descends(process, top):
+    """Whether a process was begun by another one, or by one that it began."""
+    while process > 1 and process != top:
+        try:
+            process = int(pathlib.Path(f"/proc/{process}/stat").read_text().rpartition(")")[2].split()[1])
+        except OSError:
+            return False
+    return process == top
+
+
+def step_of(words):
+    """What a prover is for, by its words. A wrong body, and what it is tried over, is checked, and a library is built."""
+    if b"--test" in words:
+        return "tests"
+    return "edits" if words[1] == b"check" and b"src/lib.rt" in words else "proof"
+
+
+def provers(top):
+    """Each prover of this run that runs now: its process, the crate, what it is for, and its processor seconds so far."""
     for folder in pathlib.Path("/proc").iterdir():
         if not folder.name.isdigit():
             continue
@@ -35,12 +52,13 @@ def provers():
             words = (folder / "cmdline").read_bytes().split(b"\0")
             if not words[0].endswith(b"/rattle") or b"--crate-name" not in words:
                 continue
-            where = os.readlink(folder / "cwd")
+            if not descends(int(folder.name), top):
+                continue
             numbers = (folder / "stat").read_text().rpartition(")")[2].split()
-        except OSError:
+        except (OSError, IndexError):
             continue
         name = words[words.index(b"--crate-name") + 1].decode()
-        step = "edits" if "rt-edits-" in where else "tests" if b"--test" in words else "proof"
+        step = step_of(words)
         born = int(numbers[19]) / TICKS
         yield (folder.name, born), name, step, (int(numbers[11]) + int(numbers[12])) / TICKS
 
@@ -55,7 +73,7 @@ def measure(words):
         run = subprocess.Popen(["rt", "ci", *words], cwd=ROOT, stdin=subprocess.DEVNULL, stdout=out, stderr=subprocess.STDOUT)
         while run.poll() is None:
             now = time.monotonic() - started
-            for process, name, step, used in provers():
+            for process, name, step, used in provers(run.pid):
                 seconds[process, name, step] = used
                 span = spans[name, step]
                 span[0], span[1] = min(span[0], now), max(span[1], now)

@@ -7,9 +7,9 @@ build.py CRATE       proves and builds this library, and those below it (to try 
 
 Crates that do not stand on each other are proved at the same time, as many as there are processors and memory allows,
 those with the most work above them first. The first of these, for which all others wait in the end, goes before the others
-and is checked by a job for each processor, so that none is idle where few crates are left. Each is proved in a folder of its
-own, crates/CRATE/out/stage, since a run of `rt` keeps every other one out of the crates that it stands on. On a terminal one
-line tells how far it is; elsewhere it is a plain line now and then. What an `rt` run says of a crate goes to
+and, where processors are left over and it is large, is checked by more than one job. Each is proved in a folder of its own,
+crates/CRATE/out/stage, since a run of `rt` keeps every other one out of the crates that it stands on. On a terminal one line
+tells how far it is; elsewhere it is a plain line now and then. What an `rt` run says of a crate goes to
 crates/CRATE/out/build.log. The status is 0 where the program is built, and 9 where it could not be.
 """
 import contextlib
@@ -29,6 +29,7 @@ PROGRAM = "ps_main"
 FOLDERS = ("src", "specs", "proofs")
 GIBIBYTE = 1 << 30
 MEMORY_EACH = 2 * GIBIBYTE  # what a crate's proof takes at the most, for most crates
+SECONDS_EACH = 80  # the processor seconds of a crate's proof, as tools/costs.txt has them, for which a further job is worth its reading
 BEHIND = 5  # how much a crate that can wait gives way to the one that cannot, as `nice` counts it
 SO_FAR = re.compile(r"so far: (\d+) of (\d+) functions")
 
@@ -245,14 +246,19 @@ class Build:
         able = [name for name in self.names if name not in begun and all(low in self.done for low in self.stands_on[name])]
         return sorted(able, key=lambda name: -self.chain[name])
 
+    def jobs_for(self, name, spare):
+        """How many jobs check a crate where so many processors are free: each reads the libraries below anew, so a small crate gets one."""
+        return max(1, min(spare, round(self.costs[name][1] / SECONDS_EACH)))
+
     def begin(self):
-        """Begins what can be begun: the crate with the longest chain above it with all processors, each other with half of them."""
+        """Begins what can be begun, with the processors that are left over for the crate with the longest chain above it."""
+        able = self.ready()
         room = self.processors - len(self.running)
         if self.running:
             room = min(room, int(free_memory() / MEMORY_EACH))
-        for name in self.ready()[:max(room, 0)]:
+        for name in able[:max(room, 0)]:
             can_wait = any(self.chain[proof.name] >= self.chain[name] for proof in self.running)
-            jobs = ["--jobs", str(max(1, self.processors // 2) if can_wait else self.processors)]
+            jobs = ["--jobs", str(1 if can_wait else self.jobs_for(name, room - len(able) + 1))]
             command = ["rt", "run", *jobs, "--", "run", "data/A", "data/T"] if name == PROGRAM else ["rt", "lib", *jobs]
             self.running.append(Proof(Stage(name, below(self.stands_on, name)), command, self.costs[name][0], can_wait))
 

@@ -1,3 +1,4 @@
 pub mod Beginning
+pub mod Pairs
 pub mod Made
 pub mod Rightness

@@ -16,7 +16,12 @@ MayTrip struck (NoReport of) = of ≡ struck
 
 -- A scan that is released has the evaluator's report, and the world is tripped neither before nor after it. A scan trips behind a fault
 -- alone; the world was not tripped before. A scan is down where it was. Reports that are not released are blank.
-abbrev pub IsRight : Channel → (is_struck : Bool) → Outcome → Verdict → Type 0
-IsRight struck is_struck o Released = (o.was_tripped ≡ false) × (o.is_tripped ≡ false) × (o.is_wanted ≡ true)
-IsRight struck is_struck o (Tripped cause) = (o.was_tripped ≡ false) × (o.is_tripped ≡ true) × (o.is_blank ≡ true) × (is_struck ≡ true) × MayTrip struck cause
-IsRight struck is_struck o Down = (o.was_tripped ≡ true) × (o.is_tripped ≡ true) × (o.is_blank ≡ true)
+abbrev pub IsAllowed : Channel → (is_struck : Bool) → Outcome → Verdict → Type 0
+IsAllowed struck is_struck o Released = (o.was_tripped ≡ false) × (o.is_tripped ≡ false) × (o.is_wanted ≡ true)
+IsAllowed struck is_struck o (Tripped cause) = (o.was_tripped ≡ false) × (o.is_tripped ≡ true) × (o.is_blank ≡ true) × (is_struck ≡ true) × MayTrip struck cause
+IsAllowed struck is_struck o Down = (o.was_tripped ≡ true) × (o.is_tripped ≡ true) × (o.is_blank ≡ true)
+
+-- A scan is right where its verdict is the one that the two reports ask for, and the scan is as this verdict allows.
+pub record IsRight (struck : Channel) (is_struck : Bool) (o : Outcome) : Type 0 where
+  pub verdict : o.verdict ≡ o.wanted_verdict
+  pub allowed : IsAllowed struck is_struck o o.verdict

@@ -164,13 +164,8 @@ impl Counts {
             self.differ, self.stuck, self.trap, self.no_report
         )?;
         println!(rt; "faults: all {}", self.faults)?;
-        for (name, row) in SITES.iter().zip(self.sites.iter()) {
-            print_row(rt, name, row)?;
-        }
-        for (name, row) in SORTS.iter().zip(self.sorts.iter()) {
-            print_row(rt, name, row)?;
-        }
-        Ok(())
+        print_rows(rt, &SITES, &self.sites)?;
+        print_rows(rt, &SORTS, &self.sorts)
     }
 }
 
@@ -187,6 +182,14 @@ const SORTS: [&str; 7] = [
     "other-code",
     "other-state",
 ];
+
+// Prints rows under their names.
+fn print_rows<P: Print>(rt: &P, names: &[&str], rows: &[Row]) -> io::Result<()> {
+    for (name, row) in names.iter().zip(rows.iter()) {
+        print_row(rt, name, row)?;
+    }
+    Ok(())
+}
 
 // Prints a row.
 fn print_row<P: Print>(rt: &P, name: &str, row: &Row) -> io::Result<()> {

@@ -1,11 +1,14 @@
-// A world, and the plain evaluator beside it.
+// A world, and beside it the plain evaluator and a pair of seats.
 
-ghost use Rattle.std.specs.Prelude.{IfOk, IfSome};
+ghost use Rattle.std.specs.Prelude.{◌≡◌, length, IfOk, IfSome};
 ghost use Rattle.ps_model.specs.Typing.{Accepted};
+ghost use Rattle.ps_model.specs.Network.{instance_count};
+ghost use Rattle.ps_model.specs.Fields.{blank_report};
 ghost use Rattle.ps_campaign.specs.Beginning.{IsBeginning};
 ghost use Rattle.ps_campaign.specs.Made.{Tells};
 
 use crate::draws::Draws;
+use crate::pair::Pair;
 use crate::scans::draw_scan;
 use crate::state::draw_state;
 use ps_base::{Bytes, Memory};
@@ -17,18 +20,36 @@ use ps_world::World;
 use std::alloc::Global;
 use std::marker::Model;
 
-/// The world of an application, which makes scans that a fault may strike, and the plain evaluator, which makes the same scans.
-#[derive(Drop)]
+/// The world of an application, which makes scans that a fault may strike, a pair of seats, which makes the same scans with the same
+/// faults, and the plain evaluator, which makes them without faults.
 pub(crate) struct Course<'a> {
     app: &'a App,
     // the code of channel A
     code: CodeImage,
     world: World,
+    pair: Pair,
     scanner: Scanner,
     scan: Scan,
     report: Report,
     wanted: Report,
     blank: Report,
+}
+
+impl<'a> Drop for Course<'a> {
+    // One call for whoever owns one, in place of a walk through all that it holds.
+    fn drop(self) {
+        let Course {
+            app: _,
+            code: _,
+            world: _,
+            pair: _,
+            scanner: _,
+            scan: _,
+            report: _,
+            wanted: _,
+            blank: _,
+        } = self;
+    }
 }
 
 impl<'a> Model for Course<'a> {
@@ -40,11 +61,11 @@ impl<'a> Model for Course<'a> {
 
     ghost Value = { Made };
 
-    ghost view = { λ c. record { world = c.world; report = c.report; wanted = c.wanted } };
+    ghost view = { λ c. record { world = c.world; pair = c.pair; report = c.report; wanted = c.wanted } };
 
     ghost invariant = { λ c. (c.world.state.last ≤ c.scan.now) × (c.world.setup.sizes.inputs ≡ input_count c.app.now)
         × (c.world.setup.sizes.outputs ≡ length c.app.now.outputs) × (c.world.setup.sizes.instances ≡ instance_count c.app.now)
-        × (length c.scan.ins ≡ input_count c.app.now) × IsFor c.app.now c.scanner
+        × (c.pair.a.sizes.inputs ≡ input_count c.app.now) × (length c.scan.ins ≡ input_count c.app.now) × IsFor c.app.now c.scanner
         × (length c.report.outs ≡ length c.app.now.outputs) × (length c.report.diags ≡ instance_count c.app.now)
         × (length c.wanted.outs ≡ length c.app.now.outputs) × (length c.wanted.diags ≡ instance_count c.app.now)
         × (c.blank ≡ blank_report (length c.app.now.outputs) (instance_count c.app.now)) };
@@ -60,10 +81,23 @@ fn world_of(alloc: Global, app: &App) -> Result<World, Memory>
     Ok(world)
 }
 
+// Three blank reports of an application.
+fn blank_reports(alloc: Global, app: &App) -> Result<(Report, Report, Report), Memory>
+    ensures { let blank = blank_report (length app.now.outputs) (instance_count app.now) in
+        IfOk result (λ reports. (reports.0 ≡ blank) × (reports.1 ≡ blank) × (reports.2 ≡ blank)) }
+{
+    let first = Report::for_app(alloc, app)?;
+    let second = Report::for_app(alloc, app)?;
+    let third = Report::for_app(alloc, app)?;
+    Ok((first, second, third))
+}
+
 /// What a scan came to.
 #[derive(Clone, Copy)]
 pub(crate) struct Outcome {
     pub(crate) verdict: Verdict,
+    /// The verdict that the pair of seats asks for.
+    pub(crate) wanted_verdict: Verdict,
     /// Whether the world was tripped before the scan.
     pub(crate) was_tripped: bool,
     /// Whether it is tripped after the scan.
@@ -79,17 +113,17 @@ impl<'a> Course<'a> {
     pub(crate) fn build(alloc: Global, app: &'a App) -> Result<Course<'a>, Memory>
         requires { Accepted app.now }
     {
+        let world = world_of(alloc, app)?;
+        let pair = Pair::build(alloc, app)?;
+        let scan = Scan::for_app(alloc, app)?;
         let code = stack_image(alloc, app)?;
         let scanner = Scanner::new(alloc, app)?;
-        let scan = Scan::for_app(alloc, app)?;
-        let report = Report::for_app(alloc, app)?;
-        let wanted = Report::for_app(alloc, app)?;
-        let blank = Report::for_app(alloc, app)?;
-        let world = world_of(alloc, app)?;
+        let (report, wanted, blank) = blank_reports(alloc, app)?;
         Ok(Course {
             app,
             code,
             world,
+            pair,
             scanner,
             scan,
             report,
@@ -103,12 +137,13 @@ impl<'a> Course<'a> {
         self.world.sizes()
     }
 
-    /// Whether the world and the evaluator have begun anew: no scan is begun.
+    /// Whether the world, the pair and the evaluator have begun anew: no scan is begun.
     pub(crate) fn restart(&mut self) -> bool {
         if self.world.scan_begun() {
             return false;
         }
         self.world.restart();
+        self.pair.restart();
         self.scanner.restart(self.app);
         true
     }
@@ -128,7 +163,7 @@ impl<'a> Course<'a> {
         draw_state(alloc, draws, self.app, &self.code, channel, self.scan.now)
     }
 
-    /// Makes the scan in the world, with these faults, and by the evaluator. None: a scan is begun in the world.
+    /// Makes the scan in the world and in the pair, with these faults, and by the evaluator. None: a scan is begun in the world.
     pub(crate) fn make_scan(&mut self, faults: &[Fault]) -> Option<Outcome>
         ensures { IfSome result (Tells self.old self.new) }
     {
@@ -137,6 +172,7 @@ impl<'a> Course<'a> {
         }
         let was_tripped = self.world.is_tripped();
         let verdict = self.world.make_scan(&self.scan, faults, &mut self.report);
+        let wanted_verdict = self.pair.make_scan(&self.scan, faults);
         self.scanner.scan(
             self.app,
             self.scan.now,
@@ -146,6 +182,7 @@ impl<'a> Course<'a> {
         self.app.sound();
         Some(Outcome {
             verdict,
+            wanted_verdict,
             was_tripped,
             is_tripped: self.world.is_tripped(),
             is_wanted: self.report.first_difference(&self.wanted).is_none(),

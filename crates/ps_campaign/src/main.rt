@@ -3,15 +3,18 @@
 //!
 //! A case is an application that follows from the seed and the number of the case: its text goes through the rules of the language,
 //! and its world makes ten trials, each from a restart on. A trial is a few scans, and faults in one region of one channel, which
-//! strike one of them. Each scan is made by the plain evaluator too. A report that is released has to be the evaluator's; a world
-//! may trip only behind a fault, by a difference or by the channel that was struck; it stays down up to the restart.
+//! strike one of them. Each scan is made by the plain evaluator too, and, with the same faults, by a pair of seats that the campaign
+//! drives itself. A verdict has to be the one that the two reports of the pair ask for: the failing of A, else that of B, else the first
+//! field in which they differ, else released. A report that is released has to be the evaluator's; a world may trip only behind a fault,
+//! by a difference or by the channel that was struck; it stays down up to the restart.
 //!
 //! It prints what the cases come to. At the first scan that is not what it has to be, it prints the seed and the case, and exits with 1.
 //!
 //! - `draws`: choices that follow from a seed.
 //! - `shape`, `text`: an application's declarations, and its text.
 //! - `application`: from the text to the application and its codes.
-//! - `course`: a world with the evaluator beside it.
+//! - `pair`: two seats, turn by turn, and the verdict that they ask for.
+//! - `course`: a world with the evaluator and the pair beside it.
 //! - `scans`, `state`: scans as they come, and the cells of other states.
 //! - `strike`: the faults of a trial.
 //! - `trial`: trials, and what each scan has to be.
@@ -22,6 +25,7 @@ mod application;
 mod counts;
 mod course;
 mod draws;
+mod pair;
 mod scans;
 mod shape;
 mod state;

@@ -1,6 +1,6 @@
 // The cells of a channel in other states of an application.
 
-ghost use Rattle.std.specs.Prelude.{◌≡◌, length};
+ghost use Rattle.std.specs.Prelude.{◌≡◌, length, IfOk};
 ghost use Rattle.ps_model.specs.Network.{input_count};
 ghost use Rattle.ps_model.specs.Sized.{AreSizesOf};
 
@@ -58,6 +58,29 @@ fn cells_b(alloc: Global, cells: &[u8]) -> Result<Bytes, Memory> {
     Ok(stored)
 }
 
+// Channel A of an application at the beginning, with this code.
+fn new_stack(alloc: Global, app: &App, code: &CodeImage) -> Result<StackChannel, Memory>
+    ensures { IfOk result (λ channel. AreSizesOf app.now channel.sizes) }
+{
+    let sizes = Sizes::of(alloc, app)?;
+    StackChannel::new(alloc, code, &sizes)
+}
+
+// The cells of channel A with this code, after a few scans behind this one.
+fn cells_after(
+    alloc: Global,
+    draws: &mut Draws,
+    app: &App,
+    code: &CodeImage,
+    scan: &mut Scan,
+) -> Result<Bytes, Memory>
+    requires { length scan.old.ins ≡ input_count app.now }
+{
+    let mut channel = new_stack(alloc, app, code)?;
+    run(&mut channel, app, draws, scan);
+    cells_a(alloc, &channel)
+}
+
 /// The cells of a channel after a few scans of an application, with this code of channel A, from a time on.
 pub(crate) fn draw_state(
     alloc: Global,
@@ -67,12 +90,9 @@ pub(crate) fn draw_state(
     channel: Channel,
     now: u32,
 ) -> Result<Bytes, Memory> {
-    let sizes = Sizes::of(alloc, app)?;
     let mut scan = Scan::for_app(alloc, app)?;
     scan.now = now;
-    let mut stack = StackChannel::new(alloc, code, &sizes)?;
-    run(&mut stack, app, draws, &mut scan);
-    let cells = cells_a(alloc, &stack)?;
+    let cells = cells_after(alloc, draws, app, code, &mut scan)?;
     match channel {
         Channel::A => Ok(cells),
         Channel::B => cells_b(alloc, cells.as_slice()),

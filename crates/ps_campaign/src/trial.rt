@@ -2,7 +2,7 @@
 
 ghost use Rattle.std.specs.Prelude.{◌≡◌, true, IfOk, IsNone};
 ghost use Rattle.ps_model.specs.Typing.{Accepted};
-ghost use Rattle.ps_campaign.specs.Rightness.{MayTrip, IsRight};
+ghost use Rattle.ps_campaign.specs.Rightness.{MayTrip, IsAllowed, IsRight};
 
 use crate::application::{Codes, application, codes_of_text};
 use crate::counts::{Counts, Found};
@@ -12,7 +12,7 @@ use crate::shape::draw_shape;
 use crate::strike::{Plan, Sort};
 use crate::text::{Choice, text_of};
 use ps_base::{Bytes, Fail, Memory};
-use ps_model::{App, Cause, Channel, Verdict};
+use ps_model::{App, Cause, Channel, Fault, Verdict};
 use std::alloc::Global;
 
 /// Why a campaign stops at a case.
@@ -51,9 +51,9 @@ fn wrong_trip(cause: Cause, channel: Channel, is_struck: bool) -> Option<&'stati
     }
 }
 
-// Why a scan is not what it has to be, where this channel alone was struck, if it was.
-fn wrong(outcome: Outcome, channel: Channel, is_struck: bool) -> Option<&'static str>
-    ensures { IsNone result → IsRight channel is_struck outcome outcome.verdict }
+// Why a scan is not what its verdict allows, where this channel alone was struck, if it was.
+fn wrong_scan(outcome: Outcome, channel: Channel, is_struck: bool) -> Option<&'static str>
+    ensures { IsNone result → IsAllowed channel is_struck outcome outcome.verdict }
 {
     match outcome.verdict {
         Verdict::Released if outcome.was_tripped => Some("released behind a trip"),
@@ -67,6 +67,16 @@ fn wrong(outcome: Outcome, channel: Channel, is_struck: bool) -> Option<&'static
         Verdict::Tripped(cause) => wrong_trip(cause, channel, is_struck),
         Verdict::Down => None,
     }
+}
+
+// Why a scan is not what it has to be, where this channel alone was struck, if it was.
+fn wrong(outcome: Outcome, channel: Channel, is_struck: bool) -> Option<&'static str>
+    ensures { IsNone result → IsRight channel is_struck outcome }
+{
+    if outcome.verdict != outcome.wanted_verdict {
+        return Some("the verdict is not that of the two reports");
+    }
+    wrong_scan(outcome, channel, is_struck)
 }
 
 // What the faults of a plan copy, where they do: the code of another application, or the cells of another state.
@@ -85,8 +95,88 @@ fn draw_at_hand(
     }
 }
 
-// Makes the scans of a trial, from the beginning. The faults of the plan strike one of them.
+// The faults of a plan.
+fn draw_faults(
+    alloc: Global,
+    draws: &mut Draws,
+    course: &Course<'_>,
+    plan: Plan,
+    codes: &Codes,
+) -> Result<Vec<Fault>, Memory> {
+    let at_hand = draw_at_hand(alloc, draws, course, plan, codes)?;
+    plan.draw_faults(alloc, draws, at_hand.as_slice())
+}
+
+// The scans of a trial: how many, which one of them the faults strike, and in one of how many scans an input that is TRUE changes.
+#[derive(Clone, Copy)]
+struct Scans {
+    count: u32,
+    struck: u32,
+    one_in: u32,
+}
+
+impl Scans {
+    // The scans of a trial.
+    fn draw(draws: &mut Draws) -> Scans {
+        let count = draws.below(10).saturating_add(3);
+        Scans {
+            count,
+            struck: draws.below(count),
+            one_in: draws.below(8).saturating_add(2),
+        }
+    }
+}
+
+// Makes the scan with this number, and says whether it found the faults.
+fn make_scan(
+    draws: &mut Draws,
+    course: &mut Course<'_>,
+    scans: Scans,
+    scan: u32,
+    channel: Channel,
+    faults: &[Fault],
+    counts: &mut Counts,
+) -> Result<bool, Stop> {
+    course.draw_scan(draws, scans.one_in);
+    let made = if scan == scans.struck {
+        course.make_scan(faults)
+    } else {
+        course.make_scan(&[])
+    };
+    let Some(outcome) = made else {
+        return Err(Stop::Differs(scan, "a scan that is not closed"));
+    };
+    counts.add_scan(outcome.verdict);
+    match wrong(outcome, channel, scan >= scans.struck) {
+        Some(why) => Err(Stop::Differs(scan, why)),
+        None => Ok(matches!(outcome.verdict, Verdict::Tripped(_))),
+    }
+}
+
+// Makes the scans of a trial, from the beginning, and says when the faults of this channel, which strike one of them, were found.
 fn make_scans(
+    draws: &mut Draws,
+    course: &mut Course<'_>,
+    scans: Scans,
+    channel: Channel,
+    faults: &[Fault],
+    counts: &mut Counts,
+) -> Result<Found, Stop> {
+    let mut found = Found::Never;
+    for scan in 0..scans.count {
+        if make_scan(draws, course, scans, scan, channel, faults, counts)? {
+            found = if scan == scans.struck {
+                Found::Same
+            } else {
+                Found::Later
+            };
+        }
+    }
+    Ok(found)
+}
+
+// Makes a trial, from the beginning: its scans, one of which the faults of the plan strike.
+fn make_trial(
     alloc: Global,
     draws: &mut Draws,
     course: &mut Course<'_>,
@@ -94,34 +184,10 @@ fn make_scans(
     codes: &Codes,
     counts: &mut Counts,
 ) -> Result<(), Stop> {
-    let scans = draws.below(10).saturating_add(3);
-    let struck = draws.below(scans);
-    let one_in = draws.below(8).saturating_add(2);
-    let at_hand = draw_at_hand(alloc, draws, course, plan, codes)?;
-    let faults = plan.draw_faults(alloc, draws, at_hand.as_slice())?;
-    let mut found = Found::Never;
-    for scan in 0..scans {
-        course.draw_scan(draws, one_in);
-        let made = if scan == struck {
-            course.make_scan(&faults)
-        } else {
-            course.make_scan(&[])
-        };
-        let Some(outcome) = made else {
-            return Err(Stop::Differs(scan, "a scan that is not closed"));
-        };
-        counts.add_scan(outcome.verdict);
-        if let Some(why) = wrong(outcome, plan.site.channel, scan >= struck) {
-            return Err(Stop::Differs(scan, why));
-        }
-        if let Verdict::Tripped(_) = outcome.verdict {
-            found = if scan == struck {
-                Found::Same
-            } else {
-                Found::Later
-            };
-        }
-    }
+    let scans = Scans::draw(draws);
+    let faults = draw_faults(alloc, draws, course, plan, codes)?;
+    let channel = plan.site.channel;
+    let found = make_scans(draws, course, scans, channel, faults.as_slice(), counts)?;
     counts.add_trial(plan.site, plan.sort, faults.len(), found);
     Ok(())
 }
@@ -140,7 +206,7 @@ fn make_trials(
     let turns = app.turns_a().saturating_add(app.turns_b());
     for _ in 0..TRIALS {
         let plan = Plan::draw(draws, course.sizes(), turns);
-        make_scans(alloc, draws, &mut course, plan, codes, counts)?;
+        make_trial(alloc, draws, &mut course, plan, codes, counts)?;
         if !course.restart() {
             return Err(Stop::Differs(0, "a scan that is not closed"));
         }
@@ -148,17 +214,30 @@ fn make_trials(
     Ok(())
 }
 
-// An application and the codes of another one with the same declarations, where no rule refuses one of both.
-fn draw_application(alloc: Global, draws: &mut Draws) -> Result<(App, Codes), Fail>
-    ensures { IfOk result (λ drawn. Accepted drawn.0) }
-{
+// The texts of two applications with the same declarations.
+fn draw_texts(alloc: Global, draws: &mut Draws) -> Result<(String, String), Memory> {
     let shape = draw_shape(alloc, draws)?;
     let choice = Choice::draw(draws);
     let text = text_of(alloc, &shape, choice)?;
     let other = text_of(alloc, &shape, choice.changed(draws, &shape))?;
-    let app = application(alloc, text.as_str())?;
-    let codes = codes_of_text(alloc, other.as_str())?;
+    Ok((text, other))
+}
+
+// The application of a text and the codes of that of another one, where no rule refuses one of both.
+fn both(alloc: Global, text: &str, other: &str) -> Result<(App, Codes), Fail>
+    ensures { IfOk result (λ drawn. Accepted drawn.0) }
+{
+    let app = application(alloc, text)?;
+    let codes = codes_of_text(alloc, other)?;
     Ok((app, codes))
+}
+
+// An application and the codes of another one with the same declarations, where no rule refuses one of both.
+fn draw_application(alloc: Global, draws: &mut Draws) -> Result<(App, Codes), Fail>
+    ensures { IfOk result (λ drawn. Accepted drawn.0) }
+{
+    let (text, other) = draw_texts(alloc, draws)?;
+    both(alloc, text.as_str(), other.as_str())
 }
 
 /// Makes the trials of a case, and counts them. A case whose application is refused has none.

@@ -15,12 +15,23 @@ use ps_stackvm::StackChannel;
 use std::alloc::Global;
 
 /// Channels A and B of an application and the plain evaluator, with the plain evaluator's report of the last scan.
-#[derive(Drop)]
 pub struct SideBySide {
     stack: StackChannel,
     equation: EquationChannel,
     plain: Scanner,
     report: Report,
+}
+
+impl Drop for SideBySide {
+    // One call for whoever owns one, in place of a walk through all that it holds.
+    fn drop(self) {
+        let SideBySide {
+            stack: _,
+            equation: _,
+            plain: _,
+            report: _,
+        } = self;
+    }
 }
 
 // Whether a scan is done.

@@ -15,11 +15,22 @@ use std::marker::Model;
 /// Channel C: a machine that runs decision code (profile). It has its own copy of the code and its cells, and
 /// remembers nothing else. Every turn reads its row from that code, so bytes that a fault replaced
 /// are run as they are. Of its calls only `new` takes memory.
-#[derive(Drop, Debug)]
+#[derive(Debug)]
 pub struct DecisionChannel {
     sizes: Sizes,
     code: Vec<u8>,
     cells: Vec<u8>,
+}
+
+impl Drop for DecisionChannel {
+    // One call for whoever owns one, in place of a walk through all that it holds.
+    fn drop(self) {
+        let DecisionChannel {
+            sizes: _,
+            code: _,
+            cells: _,
+        } = self;
+    }
 }
 
 impl Model for DecisionChannel {

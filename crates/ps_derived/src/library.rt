@@ -14,10 +14,19 @@ pub struct Sources {
 }
 
 /// A whole text: its function blocks in the order of the text, and its program.
-#[derive(Drop)]
 pub struct Library {
     pub blocks: Sources,
     pub program: Source,
+}
+
+impl Drop for Library {
+    // One call for whoever owns one, in place of a walk through all that it holds.
+    fn drop(self) {
+        let Library {
+            blocks: _,
+            program: _,
+        } = self;
+    }
 }
 
 impl Model for Sources {

@@ -14,18 +14,34 @@ use std::alloc::Global;
 use std::marker::Model;
 
 /// The name of a function block, the names that it declares, and its inputs in order.
-#[derive(Drop)]
 pub struct Interface {
     pub name: Name,
     pub scope: Scope,
     pub inputs: Names,
 }
 
+impl Drop for Interface {
+    // One call for whoever owns one, in place of a walk through all that it holds.
+    fn drop(self) {
+        let Interface {
+            name: _,
+            scope: _,
+            inputs: _,
+        } = self;
+    }
+}
+
 /// Function blocks in the order of the text, found by their names. Contracts see them as a list.
-#[derive(Drop)]
 pub struct Interfaces {
     items: Vec<Interface>,
     table: Table,
+}
+
+impl Drop for Interfaces {
+    // One call for whoever owns one, in place of a walk through all that it holds.
+    fn drop(self) {
+        let Interfaces { items: _, table: _ } = self;
+    }
 }
 
 impl Model for Interfaces {
@@ -149,8 +165,10 @@ impl Interfaces {
     pub fn with(self, alloc: Global, interface: Interface) -> Result<Interfaces, Memory>
         ensures { IfOk result (λ s. s ≡ self ++ interface ∷ []) }
     {
-        let mut items = self.items;
-        let mut table = self.table;
+        let Interfaces {
+            mut items,
+            mut table,
+        } = self;
         table.enter(alloc, &interface.name, items.len())?;
         items.push(interface)?;
         Ok(Interfaces { items, table })

@@ -12,10 +12,19 @@ use std::alloc::Global;
 use std::marker::Model;
 
 /// The declared names of a body in order, with the place of each one's first declaration, which contracts see as a list.
-#[derive(Drop)]
 pub struct Scope {
     declared: Vec<Declared>,
     table: Table,
+}
+
+impl Drop for Scope {
+    // One call for whoever owns one, in place of a walk through all that it holds.
+    fn drop(self) {
+        let Scope {
+            declared: _,
+            table: _,
+        } = self;
+    }
 }
 
 impl Model for Scope {

@@ -15,11 +15,22 @@ use std::marker::Model;
 /// remembers nothing else. Contracts see both as bytes as they are stored: each byte of the cells is
 /// 255 less its plain value. Every turn reads its row from that code, so bytes that a fault replaced
 /// are run as they are. Of its calls only `new` takes memory.
-#[derive(Drop, Debug)]
+#[derive(Debug)]
 pub struct EquationChannel {
     sizes: Sizes,
     code: Vec<u8>,
     plain: PlainCells,
+}
+
+impl Drop for EquationChannel {
+    // One call for whoever owns one, in place of a walk through all that it holds.
+    fn drop(self) {
+        let EquationChannel {
+            sizes: _,
+            code: _,
+            plain: _,
+        } = self;
+    }
 }
 
 impl Model for EquationChannel {

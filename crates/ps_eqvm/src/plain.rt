@@ -21,7 +21,7 @@ use std::marker::Model;
 
 /// Channel B's cells, which contracts see with their plain content. The numbers are kept as numbers,
 /// the work cells and signals as bits, and the instances' bytes as they are stored.
-#[derive(Drop, Debug)]
+#[derive(Debug)]
 pub struct PlainCells {
     offset: u32,
     progress: u8,
@@ -29,6 +29,20 @@ pub struct PlainCells {
     passed: u32,
     cells: BitCells,
     blocks: InstanceBytes,
+}
+
+impl Drop for PlainCells {
+    // One call for whoever owns one, in place of a walk through all that it holds.
+    fn drop(self) {
+        let PlainCells {
+            offset: _,
+            progress: _,
+            last: _,
+            passed: _,
+            cells: _,
+            blocks: _,
+        } = self;
+    }
 }
 
 impl Model for PlainCells {

@@ -16,24 +16,48 @@ use std::alloc::Global;
 use std::marker::Model;
 
 /// What a copy of a function block has: its declarations in the order of a copy, and its statements.
-#[derive(Drop)]
 pub struct Content {
     pub declarations: Declarations,
     pub statements: Statements,
 }
 
+impl Drop for Content {
+    // One call for whoever owns one, in place of a walk through all that it holds.
+    fn drop(self) {
+        let Content {
+            declarations: _,
+            statements: _,
+        } = self;
+    }
+}
+
 /// A function block, with its content where this is kept.
-#[derive(Drop)]
 pub struct Laid {
     pub interface: Interface,
     pub content: Option<Content>,
 }
 
+impl Drop for Laid {
+    // One call for whoever owns one, in place of a walk through all that it holds.
+    fn drop(self) {
+        let Laid {
+            interface: _,
+            content: _,
+        } = self;
+    }
+}
+
 /// Function blocks in the order of the text, found by their names. Contracts see them as a list.
-#[derive(Drop)]
 pub struct Laids {
     items: Vec<Laid>,
     table: Table,
+}
+
+impl Drop for Laids {
+    // One call for whoever owns one, in place of a walk through all that it holds.
+    fn drop(self) {
+        let Laids { items: _, table: _ } = self;
+    }
 }
 
 impl Model for Laids {
@@ -85,8 +109,10 @@ impl Laids {
         requires { laid.interface.inputs ≡ inputs laid.interface.scope }
         ensures { IfOk result (λ s. s ≡ self ++ laid ∷ []) }
     {
-        let mut items = self.items;
-        let mut table = self.table;
+        let Laids {
+            mut items,
+            mut table,
+        } = self;
         table.enter(alloc, &laid.interface.name, items.len())?;
         items.push(laid)?;
         Ok(Laids { items, table })

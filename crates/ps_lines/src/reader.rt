@@ -42,7 +42,6 @@ pub enum Got {
 }
 
 /// A reader of the lines of one file. All memory that it uses is taken by `start`.
-#[derive(Drop)]
 pub struct LineReader {
     name: String,
     limits: Limits,
@@ -68,6 +67,25 @@ pub struct LineReader {
     ghost shown: { begin ≤ end },
     ghost shown_in_piece: { IsTrue in_piece → end ≤ vec_len piece },
     ghost shown_in_line: { in_piece ≡ false → end ≤ vec_len line },
+}
+
+impl Drop for LineReader {
+    // One call for whoever owns one, in place of a walk through all that it holds.
+    fn drop(self) {
+        let LineReader {
+            name: _,
+            limits: _,
+            piece: _,
+            from: _,
+            upto: _,
+            at: _,
+            line: _,
+            count: _,
+            in_piece: _,
+            begin: _,
+            end: _,
+        } = self;
+    }
 }
 
 impl LineReader {

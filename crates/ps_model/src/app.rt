@@ -13,7 +13,6 @@ use std::marker::Model;
 ///
 /// Signals are numbered from 0: inputs, outputs, locals, and then for each instance its safe outputs,
 /// Ready and Error. Instances and steps are numbered from 0 in their order.
-#[derive(Drop)]
 pub struct App {
     name: Label,
     inputs: Signals,
@@ -21,6 +20,20 @@ pub struct App {
     locals: Signals,
     instances: Instances,
     steps: Steps,
+}
+
+impl Drop for App {
+    // One call for whoever owns one, in place of a walk through all that it holds.
+    fn drop(self) {
+        let App {
+            name: _,
+            inputs: _,
+            outputs: _,
+            locals: _,
+            instances: _,
+            steps: _,
+        } = self;
+    }
 }
 
 impl Model for App {

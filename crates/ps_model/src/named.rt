@@ -51,11 +51,21 @@ struct Placed {
 
 /// Instances in order of declaration, which contracts see as a list.
 /// The numbers, the types and the instances of their outputs are kept beside them, so that no reader of an application adds them up.
-#[derive(Drop)]
 pub struct Instances {
     items: Vec<Placed>,
     types: Vec<Ty>,
     owners: Vec<usize>,
+}
+
+impl Drop for Instances {
+    // One call for whoever owns one, in place of a walk through all that it holds.
+    fn drop(self) {
+        let Instances {
+            items: _,
+            types: _,
+            owners: _,
+        } = self;
+    }
 }
 
 impl Model for Instances {

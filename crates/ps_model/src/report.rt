@@ -42,12 +42,19 @@ impl Model for Diags {
 }
 
 /// The report of a scan.
-#[derive(Drop, Debug)]
+#[derive(Debug)]
 pub struct Report {
     /// The values of the outputs, in order.
     pub outs: Bits,
     /// What each instance says of itself, in order.
     pub diags: Diags,
+}
+
+impl Drop for Report {
+    // One call for whoever owns one, in place of a walk through all that it holds.
+    fn drop(self) {
+        let Report { outs: _, diags: _ } = self;
+    }
 }
 
 ghost use Rattle.std.specs.Prelude.{◌≡◌, IfOk, false, replicate};

@@ -10,7 +10,7 @@ use std::alloc::Global;
 
 /// The sizes of an application: how many signals, instances, inputs and outputs it has, and where the outputs of each instance
 /// stand.
-#[derive(Drop, Debug)]
+#[derive(Debug)]
 pub struct Sizes {
     /// How many signals there are, pin outputs among them.
     pub signals: u16,
@@ -25,6 +25,20 @@ pub struct Sizes {
     /// Of each instance the kind.
     pub kinds: Kinds,
     ghost places: { ArePlaces signals instances inputs outputs first_pins kinds },
+}
+
+impl Drop for Sizes {
+    // One call for whoever owns one, in place of a walk through all that it holds.
+    fn drop(self) {
+        let Sizes {
+            signals: _,
+            instances: _,
+            inputs: _,
+            outputs: _,
+            first_pins: _,
+            kinds: _,
+        } = self;
+    }
 }
 
 // A copy of first output signals.

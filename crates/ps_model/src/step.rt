@@ -62,12 +62,23 @@ pub enum Step {
 /// The steps in the order of the text, which contracts see as a list.
 /// Beside them are kept the nodes of their values, the first step that assigns each signal and the first that calls each
 /// instance, so that no reader of an application walks its expressions or its steps.
-#[derive(Drop)]
 pub struct Steps {
     items: Vec<Step>,
     nodes: Vec<Node>,
     assigning: Vec<Option<usize>>,
     calling: Vec<Option<usize>>,
+}
+
+impl Drop for Steps {
+    // One call for whoever owns one, in place of a walk through all that it holds.
+    fn drop(self) {
+        let Steps {
+            items: _,
+            nodes: _,
+            assigning: _,
+            calling: _,
+        } = self;
+    }
 }
 
 impl Model for Steps {

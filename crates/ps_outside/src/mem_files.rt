@@ -20,7 +20,6 @@ struct HeldFile {
 ///
 /// The reads of all names are counted together, from 1. There is one count of faults for each file that is held,
 /// and one for all names that are not held.
-#[derive(Drop)]
 pub struct MemFiles {
     alloc: Global,
     files: BTreeMap<String, HeldFile>,
@@ -30,6 +29,20 @@ pub struct MemFiles {
     calls: u64,
     most: usize,
     ghost some: { 0 < most },
+}
+
+impl Drop for MemFiles {
+    // One call for whoever owns one, in place of a walk through all that it holds.
+    fn drop(self) {
+        let MemFiles {
+            alloc: _,
+            files: _,
+            others: _,
+            failing: _,
+            calls: _,
+            most: _,
+        } = self;
+    }
 }
 
 impl MemFiles {

@@ -15,11 +15,21 @@ use std::marker::Model;
 ///
 /// Groups are nested at most `MOST_GROUPS` deep. Each TIME literal is at most `LARGEST_TIME` ms. Each name in it is a name of the language, or several names joined by
 /// dots as one name. The names of a declaration, the factors of a product and the products of a sum are one at least.
-#[derive(Drop)]
 pub struct Source {
     pub name: Name,
     pub sections: Sections,
     pub statements: Statements,
+}
+
+impl Drop for Source {
+    // One call for whoever owns one, in place of a walk through all that it holds.
+    fn drop(self) {
+        let Source {
+            name: _,
+            sections: _,
+            statements: _,
+        } = self;
+    }
 }
 
 impl Model for Source {

@@ -66,10 +66,19 @@ fn put_outputs(outs: &mut Bits, signals: &[bool], first: usize)
 
 /// What an application keeps between its scans: a value of each signal and a state of each instance. All memory that its
 /// scans use is taken by `new`.
-#[derive(Drop)]
 pub struct Scanner {
     signals: Vec<bool>,
     instances: Vec<Instance>,
+}
+
+impl Drop for Scanner {
+    // One call for whoever owns one, in place of a walk through all that it holds.
+    fn drop(self) {
+        let Scanner {
+            signals: _,
+            instances: _,
+        } = self;
+    }
 }
 
 impl Model for Scanner {

@@ -24,11 +24,21 @@ use ps_resolve::resolve;
 use std::alloc::Global;
 
 /// An accepted application, with its certificate, which was checked.
-#[derive(Drop)]
 pub struct Accepted {
     pub(crate) app: App,
     pub(crate) certificate: Certificate,
     pub(crate) checked: Checked,
+}
+
+impl Drop for Accepted {
+    // One call for whoever owns one, in place of a walk through all that it holds.
+    fn drop(self) {
+        let Accepted {
+            app: _,
+            certificate: _,
+            checked: _,
+        } = self;
+    }
 }
 
 impl Accepted {
@@ -37,7 +47,12 @@ impl Accepted {
         ensures app { result.0 ≡ app_of self }
         ensures checked { result.1 ≡ checked_of self }
     {
-        (self.app, self.checked)
+        let Accepted {
+            app,
+            certificate: _,
+            checked,
+        } = self;
+        (app, checked)
     }
 
     /// The text of the certificate.

@@ -15,10 +15,19 @@ use ps_parser::Source;
 use std::alloc::Global;
 
 /// An accepted application none of whose SAFEBOOL outputs has a demand of over 1,000 leaves, with the lines of what they demand.
-#[derive(Drop)]
 pub struct Demanded {
     pub(crate) accepted: Accepted,
     pub(crate) lines: Bytes,
+}
+
+impl Drop for Demanded {
+    // One call for whoever owns one, in place of a walk through all that it holds.
+    fn drop(self) {
+        let Demanded {
+            accepted: _,
+            lines: _,
+        } = self;
+    }
 }
 
 impl Demanded {
@@ -27,8 +36,9 @@ impl Demanded {
         ensures lines { result.0 ≡ lines_demanded self }
         ensures checked { result.1 ≡ checked_of self.accepted }
     {
-        let (_, checked) = self.accepted.into_parts();
-        (self.lines, checked)
+        let Demanded { accepted, lines } = self;
+        let (_, checked) = accepted.into_parts();
+        (lines, checked)
     }
 }
 

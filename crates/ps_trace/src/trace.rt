@@ -92,7 +92,6 @@ pub enum Next {
 }
 
 /// A reader of the trace of an application, behind its header. All memory that it uses is taken by `start`.
-#[derive(Drop)]
 pub struct TraceReader {
     lines: LineReader,
     // for each input the place of its value on a scan line, and the values of a line
@@ -107,6 +106,20 @@ pub struct TraceReader {
     ghost counted: { number ≤ begin_of lines + 1 },
     ghost limited: { (limits_of lines).largest ≡ LARGEST_TRACE },
     ghost near: { begin_of lines ≤ LARGEST_TRACE },
+}
+
+impl Drop for TraceReader {
+    // One call for whoever owns one, in place of a walk through all that it holds.
+    fn drop(self) {
+        let TraceReader {
+            lines: _,
+            places: _,
+            values: _,
+            number: _,
+            last: _,
+            refusal: _,
+        } = self;
+    }
 }
 
 impl TraceReader {

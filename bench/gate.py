@@ -1,10 +1,10 @@
 #!/usr/bin/env python3
 """Measures the gate: for each crate the processor seconds and the wall clock of its proof, its tests and its must-fail edits.
 
-gate.py [--costs] [WORD..]     runs `rt ci --anew`, or `rt ci WORD..`, at the top of the repository, and prints a table when it
-                               has ended, the costliest crates first, and the longest chain of crates by wall clock
---kept                         runs plain `rt ci`: the same as --anew on a machine that has proved nothing, but what it proves
-                               can be taken by other runs, and it takes what others proved
+gate.py [--costs] [WORD..]     runs `rt ci` from nothing (with the word --anew where the kit keeps what it proved), or
+                               `rt ci WORD..`, at the top of the repository, and prints a table when it has ended, the costliest
+                               crates first, and the longest chain of crates by wall clock
+--kept                         runs plain `rt ci`, which takes what was proved before where the kit keeps that
 --costs                        writes the functions and processor seconds of each proof to tools/costs.txt, by which the
                                launcher tells how much is left
 
@@ -115,10 +115,16 @@ def longest_chain(wall):
     return max(map(chain, lows), default=(0.0, []))
 
 
+def from_nothing():
+    """The words by which `rt ci` proves all from nothing. A kit that does not know the word --anew keeps nothing between runs."""
+    helped = subprocess.run(["rt", "help"], stdin=subprocess.DEVNULL, stdout=subprocess.PIPE, stderr=subprocess.STDOUT, text=True)
+    return ["--anew"] if "--anew" in helped.stdout else []
+
+
 def main(words):
     writes_costs = "--costs" in words
     takes_kept = "--kept" in words
-    words = [word for word in words if word not in ("--costs", "--kept")] or ([] if takes_kept else ["--anew"])
+    words = [word for word in words if word not in ("--costs", "--kept")] or ([] if takes_kept else from_nothing())
     status, said, whole, seconds, spans = measure(words)
     used = collections.Counter()
     for (_, name, step), taken in seconds.items():

@@ -2,6 +2,7 @@
 
 ghost use Rattle.std.specs.Prelude.{◌≡◌, ◌≤◌, ◌∷◌, [], IfOk, true, false, map, option_map, Some, codes, length, slice_get, List, ℕ};
 ghost use Rattle.std.specs.List.{list_all};
+ghost use Rattle.clap.specs.Simple.{with_subcommand};
 ghost use Rattle.clap.specs.Words.{app_of, rule_of, rows_of, found_of, fault_of, first_of, Row, subcommand_rows_of};
 ghost use Rattle.clap.specs.declared.builder.command.Command.TheViews.{out-Command as fields_of};
 ghost use Rattle.ps_words.specs.Command as asked;
@@ -57,21 +58,54 @@ fn bare_program<'a>(alloc: Global) -> Command<'a>
         .disable_version_flag(true)
 }
 
-// The program with a subcommand for each of its commands.
+// A command with one more subcommand, of this name with one argument.
+fn add_one<'a>(
+    alloc: Global,
+    command: Command<'a>,
+    name: &'a str,
+) -> Result<Command<'a>, AllocError>
+    ensures { IfOk result (λ c. app_of c ≡ with_subcommand (app_of command.entry) (parsing.subcommand name.now parsing.one)) }
+{
+    command.subcommand(with_one(alloc, name)?)
+}
+
+// The same with two arguments.
+fn add_two<'a>(
+    alloc: Global,
+    command: Command<'a>,
+    name: &'a str,
+) -> Result<Command<'a>, AllocError>
+    ensures { IfOk result (λ c. app_of c ≡ with_subcommand (app_of command.entry) (parsing.subcommand name.now parsing.two)) }
+{
+    command.subcommand(with_two(alloc, name)?)
+}
+
+// The same with three arguments.
+fn add_three<'a>(
+    alloc: Global,
+    command: Command<'a>,
+    name: &'a str,
+) -> Result<Command<'a>, AllocError>
+    ensures { IfOk result (λ c. app_of c ≡ with_subcommand (app_of command.entry) (parsing.subcommand name.now parsing.three)) }
+{
+    command.subcommand(with_three(alloc, name)?)
+}
+
+// The program with a subcommand for each of its commands. Nothing is owned where one of them fails, so that the proof
+// drops no half of a program.
 fn program<'a>(alloc: Global) -> Result<Command<'a>, AllocError>
     ensures { IfOk result (λ c. app_of c ≡ parsing.plcsafe) }
 {
-    bare_program(alloc)
-        .subcommand(with_two(alloc, "run")?)?
-        .subcommand(with_three(alloc, "fault")?)?
-        .subcommand(with_one(alloc, "check")?)?
-        .subcommand(with_one(alloc, "cert")?)?
-        .subcommand(with_two(alloc, "verify")?)?
-        .subcommand(with_one(alloc, "image")?)?
-        .subcommand(with_one(alloc, "load")?)?
-        .subcommand(with_one(alloc, "demand")?)?
-        .subcommand(with_three(alloc, "vote")?)?
-        .subcommand(with_three(alloc, "heal")?)
+    let program = add_two(alloc, bare_program(alloc), "run")?;
+    let program = add_three(alloc, program, "fault")?;
+    let program = add_one(alloc, program, "check")?;
+    let program = add_one(alloc, program, "cert")?;
+    let program = add_two(alloc, program, "verify")?;
+    let program = add_one(alloc, program, "image")?;
+    let program = add_one(alloc, program, "load")?;
+    let program = add_one(alloc, program, "demand")?;
+    let program = add_three(alloc, program, "vote")?;
+    add_three(alloc, program, "heal")
 }
 
 // Whether a value is the word, or neither is there.

@@ -191,7 +191,7 @@ class Build:
         self.progress.show(text, time.monotonic())
 
     def run_in(self, stage):
-        """Proves and builds all in this folder. Whether that went well."""
+        """Proves and builds all in this folder, and says what is wrong where it cannot. Whether that went well."""
         run = subprocess.Popen(["rt", "ci"], cwd=stage, stdin=subprocess.DEVNULL, stdout=subprocess.PIPE,
                                stderr=subprocess.STDOUT, text=True, errors="replace", process_group=0)
         reader = threading.Thread(target=self.read, args=(run.stdout,), daemon=True)
@@ -207,6 +207,9 @@ class Build:
             return False
         reader.join()
         self.progress.end()
+        if run.returncode != 0:
+            what = f"crate {self.failed[0]} could not be proved" if self.failed else "the program could not be built"
+            print(f"plcsafe: {what}: read {os.path.relpath(self.log)}", file=sys.stderr)
         return run.returncode == 0
 
     def run(self):
@@ -216,8 +219,6 @@ class Build:
             stage = pathlib.Path(folder)
             lay(stage, self.names)
             if not self.run_in(stage):
-                what = f"crate {self.failed[0]} could not be proved" if self.failed else "the program could not be built"
-                print(f"plcsafe: {what}: read {os.path.relpath(self.log)}", file=sys.stderr)
                 return False
             program = stage / "crates" / PROGRAM / "out" / PROGRAM
             if program.is_file():

@@ -3,9 +3,10 @@
 ghost use Rattle.std.specs.Prelude.{◌≡◌, length, true, IfOk};
 ghost use Rattle.ps_model.specs.Network.{input_count, instance_count};
 ghost use Rattle.ps_model.specs.Sized.{AreSizesOf};
+ghost use Rattle.ps_model.specs.Typing.{Accepted};
 
-use ps_base::Fail;
-use ps_channel_tests::code::{accept, application, equation_code_of, stack_code_of};
+use ps_base::{Fail, Memory};
+use ps_channel_tests::code::{application, equation_channel, stack_channel};
 use ps_channel_tests::texts::MOTOR;
 use ps_decision::{DecisionChannel, decision_image, turns_c};
 use ps_eqvm::EquationChannel;
@@ -58,104 +59,89 @@ fn fill(scan: &mut Scan, k: u32)
     }
 }
 
-// A new channel A of an application.
-fn stack_channel(alloc: Global, app: &App) -> Result<StackChannel, Fail>
+// Channel C of an accepted application, at the start.
+fn decision_channel(alloc: Global, app: &App) -> Result<DecisionChannel, Memory>
+    requires { Accepted app.now }
     ensures { IfOk result (λ channel. AreSizesOf app.now channel.sizes) }
 {
-    let code = stack_code_of(alloc, app)?;
     let sizes = Sizes::of(alloc, app)?;
-    Ok(StackChannel::new(alloc, &code, &sizes)?)
-}
-
-// A new channel B of an application.
-fn equation_channel(alloc: Global, app: &App) -> Result<EquationChannel, Fail>
-    ensures { IfOk result (λ channel. AreSizesOf app.now channel.sizes) }
-{
-    let code = equation_code_of(alloc, app)?;
-    let sizes = Sizes::of(alloc, app)?;
-    Ok(EquationChannel::new(alloc, &code, &sizes)?)
-}
-
-// A new channel C of an application.
-fn decision_channel(alloc: Global, app: &App) -> Result<DecisionChannel, Fail>
-    ensures { IfOk result (λ channel. AreSizesOf app.now channel.sizes) }
-{
-    accept(alloc, app)?;
     let code = decision_image(alloc, app)?;
-    let sizes = Sizes::of(alloc, app)?;
-    Ok(DecisionChannel::new(alloc, &code, &sizes)?)
+    DecisionChannel::new(alloc, &code, &sizes)
+}
+
+// What a scan of an application is made with.
+struct Work {
+    scan: Scan,
+    report: Report,
+}
+
+impl Drop for Work {
+    // One call for whoever owns one.
+    fn drop(self) {
+        let Work { scan: _, report: _ } = self;
+    }
+}
+
+impl Work {
+    // A scan and a report of an application's sizes.
+    fn of(alloc: Global, app: &App) -> Result<Work, Memory>
+        ensures { IfOk result (λ work. length work.scan.ins ≡ input_count app.now) }
+    {
+        let scan = Scan::for_app(alloc, app)?;
+        let report = Report::for_app(alloc, app)?;
+        Ok(Work { scan, report })
+    }
 }
 
 // So many scans through channel A.
-fn run_stack(
-    channel: &mut StackChannel,
-    app: &App,
-    scan: &mut Scan,
-    report: &mut Report,
-    scans: u32,
-) -> Tally
+fn run_stack(channel: &mut StackChannel, app: &App, work: &mut Work, scans: u32) -> Tally
     requires sizes { AreSizesOf app.now channel.old.sizes }
-    requires ins { length scan.old.ins ≡ input_count app.now }
-    ensures { length scan.new.ins ≡ input_count app.now }
+    requires ins { length work.old.scan.ins ≡ input_count app.now }
 {
     let mut tally = Tally::new();
     let budget = app.turns_a();
     for k in 0..scans {
-        fill(scan, k);
-        channel.begin(scan);
+        fill(&mut work.scan, k);
+        channel.begin(&work.scan);
         let turns = channel.turns(budget);
-        if is_sized(report, app) && channel.report_into(report) {
-            tally.add(turns, report);
+        if is_sized(&work.report, app) && channel.report_into(&mut work.report) {
+            tally.add(turns, &work.report);
         }
     }
     tally
 }
 
 // So many scans through channel B.
-fn run_equation(
-    channel: &mut EquationChannel,
-    app: &App,
-    scan: &mut Scan,
-    report: &mut Report,
-    scans: u32,
-) -> Tally
+fn run_equation(channel: &mut EquationChannel, app: &App, work: &mut Work, scans: u32) -> Tally
     requires sizes { AreSizesOf app.now channel.old.sizes }
-    requires ins { length scan.old.ins ≡ input_count app.now }
-    ensures { length scan.new.ins ≡ input_count app.now }
+    requires ins { length work.old.scan.ins ≡ input_count app.now }
 {
     let mut tally = Tally::new();
     let budget = app.turns_b();
     for k in 0..scans {
-        fill(scan, k);
-        channel.begin(scan);
+        fill(&mut work.scan, k);
+        channel.begin(&work.scan);
         let turns = channel.turns(budget);
-        if is_sized(report, app) && channel.report_into(report) {
-            tally.add(turns, report);
+        if is_sized(&work.report, app) && channel.report_into(&mut work.report) {
+            tally.add(turns, &work.report);
         }
     }
     tally
 }
 
 // So many scans through channel C.
-fn run_decision(
-    channel: &mut DecisionChannel,
-    app: &App,
-    scan: &mut Scan,
-    report: &mut Report,
-    scans: u32,
-) -> Tally
+fn run_decision(channel: &mut DecisionChannel, app: &App, work: &mut Work, scans: u32) -> Tally
     requires sizes { AreSizesOf app.now channel.old.sizes }
-    requires ins { length scan.old.ins ≡ input_count app.now }
-    ensures { length scan.new.ins ≡ input_count app.now }
+    requires ins { length work.old.scan.ins ≡ input_count app.now }
 {
     let mut tally = Tally::new();
     let budget = turns_c(app);
     for k in 0..scans {
-        fill(scan, k);
-        channel.begin(scan);
+        fill(&mut work.scan, k);
+        channel.begin(&work.scan);
         let turns = channel.turns(budget);
-        if is_sized(report, app) && channel.report_into(report) {
-            tally.add(turns, report);
+        if is_sized(&work.report, app) && channel.report_into(&mut work.report) {
+            tally.add(turns, &work.report);
         }
     }
     tally
@@ -169,22 +155,38 @@ pub struct Tallies {
     pub c: Tally,
 }
 
-// So many scans of an application through each channel.
-fn run_each(alloc: Global, app: &App, scans: u32) -> Result<Tallies, Fail> {
-    let mut stack = stack_channel(alloc, app)?;
-    let mut equation = equation_channel(alloc, app)?;
-    let mut decision = decision_channel(alloc, app)?;
-    let mut scan = Scan::for_app(alloc, app)?;
-    let mut report = Report::for_app(alloc, app)?;
-    Ok(Tallies {
-        a: run_stack(&mut stack, app, &mut scan, &mut report, scans),
-        b: run_equation(&mut equation, app, &mut scan, &mut report, scans),
-        c: run_decision(&mut decision, app, &mut scan, &mut report, scans),
-    })
+// So many scans of an accepted application through channel A.
+fn tally_a(alloc: Global, app: &App, scans: u32) -> Result<Tally, Memory>
+    requires { Accepted app.now }
+{
+    let mut work = Work::of(alloc, app)?;
+    let mut channel = stack_channel(alloc, app)?;
+    Ok(run_stack(&mut channel, app, &mut work, scans))
+}
+
+// So many scans of an accepted application through channel B.
+fn tally_b(alloc: Global, app: &App, scans: u32) -> Result<Tally, Memory>
+    requires { Accepted app.now }
+{
+    let mut work = Work::of(alloc, app)?;
+    let mut channel = equation_channel(alloc, app)?;
+    Ok(run_equation(&mut channel, app, &mut work, scans))
+}
+
+// So many scans of an accepted application through channel C.
+fn tally_c(alloc: Global, app: &App, scans: u32) -> Result<Tally, Memory>
+    requires { Accepted app.now }
+{
+    let mut work = Work::of(alloc, app)?;
+    let mut channel = decision_channel(alloc, app)?;
+    Ok(run_decision(&mut channel, app, &mut work, scans))
 }
 
 /// So many scans of the motor through each channel.
 pub fn run(alloc: Global, scans: u32) -> Result<Tallies, Fail> {
     let app = application(alloc, MOTOR)?;
-    run_each(alloc, &app, scans)
+    let a = tally_a(alloc, &app, scans)?;
+    let b = tally_b(alloc, &app, scans)?;
+    let c = tally_c(alloc, &app, scans)?;
+    Ok(Tallies { a, b, c })
 }

@@ -1,112 +1,42 @@
 // Walks through the tables of the blocks of actuators, and what loads as their states.
 
-use crate::walk::{load_each, walk};
+use crate::states;
+use crate::walk::{Tables, hold};
 use ps_actuators::{Edm, OutControl, SafetyRequest};
 
-#[test]
-fn safety_request(rt: HostRuntime) {
-    let scans = [
-        (0, 0b00001, 0x8001, 0),
-        (10, 0b00001, 0x8003, 0),
-        (110, 0b00001, 0xC003, 0),
-        (120, 0b01001, 0x8005, 0),
-        (130, 0b01011, 0x8012, 0),
-        (140, 0b00011, 0x8012, 0),
-        (150, 0b01011, 0x8002, 2),
-        (160, 0b01101, 0x8003, 0),
-        (170, 0b01101, 0x8000, 1),
-        (180, 0b01001, 0xC002, 0),
-        (190, 0b01001, 0xC004, 0),
-        (200, 0b00001, 0xC002, 0),
-    ];
-    walk::<SafetyRequest>(&rt, 100, &scans);
-}
-
-#[test]
-fn safety_request_before_the_limit(rt: HostRuntime) {
-    let scans = [
-        (0, 0b00001, 0x8001, 0),
-        (10, 0b00001, 0x8003, 0),
-        (109, 0b00101, 0x8000, 1),
-        (110, 0b00111, 0x8002, 2),
-    ];
-    walk::<SafetyRequest>(&rt, 100, &scans);
-}
-
-#[test]
-fn out_control(rt: HostRuntime) {
-    let scans = [
-        (0, 0b00001, 0x8001, 0),
-        (10, 0b00001, 0x8002, 0),
-        (20, 0b00111, 0x8003, 0),
-        (30, 0b1000111, 0x8010, 0),
-        (40, 0b1000111, 0xC010, 0),
-        (50, 0b1000011, 0x8010, 0),
-        (60, 0b1000111, 0x8000, 1),
-        (70, 0b00011, 0x8010, 0),
-        (80, 0b00001, 0x8002, 0),
-    ];
-    walk::<OutControl>(&rt, 0, &scans);
-}
-
-#[test]
-fn out_control_with_held_reset(rt: HostRuntime) {
-    let scans = [
-        (0, 0b1000011, 0x8001, 0),
-        (10, 0b1000011, 0xC001, 0),
-        (20, 0b00011, 0x8001, 0),
-        (30, 0b1000011, 0x8010, 0),
-        (40, 0b1001111, 0x8000, 1),
-    ];
-    walk::<OutControl>(&rt, 0, &scans);
-}
-
-#[test]
-fn edm_before_the_limit(rt: HostRuntime) {
-    let scans = [
-        (0, 0b11101, 0x8001, 0),
-        (10, 0b11101, 0x8010, 0),
-        (20, 0b11111, 0x8000, 1),
-        (69, 0b10111, 0x8000, 1),
-        (70, 0b10111, 0xC070, 0),
-    ];
-    walk::<Edm>(&rt, 50, &scans);
-}
-
-// The time of 8010 restarts while both contacts are TRUE.
-#[test]
-fn edm_at_the_limit(rt: HostRuntime) {
-    let scans = [
-        (0, 0b11101, 0x8001, 0),
-        (10, 0b11101, 0x8010, 0),
-        (20, 0b11111, 0x8000, 1),
-        (70, 0b11111, 0xC090, 0),
-        (80, 0b11101, 0xC090, 0),
-        (90, 0b111101, 0x8010, 0),
-        (139, 0b111101, 0x8010, 0),
-        (140, 0b111001, 0x8010, 0),
-        (189, 0b111001, 0xC010, 0),
-        (199, 0b111001, 0xC011, 0),
-        (209, 0b11001, 0xC010, 0),
-    ];
-    walk::<Edm>(&rt, 50, &scans);
-}
-
-#[test]
-fn edm_with_held_reset(rt: HostRuntime) {
-    let scans = [
-        (0, 0b100001, 0x8001, 0),
-        (10, 0b100001, 0xC001, 0),
-        (20, 0b00001, 0x8001, 0),
-        (30, 0b100001, 0x8010, 0),
-        (81, 0b100001, 0xC030, 0),
-    ];
-    walk::<Edm>(&rt, 50, &scans);
-}
-
-#[test]
-fn safety_request_loads(rt: HostRuntime) {
-    let rows = [
+const SAFETY_REQUEST: Tables = Tables {
+    walks: &[
+        (
+            "in use",
+            100,
+            &[
+                (0, 0b00001, 0x8001, 0),
+                (10, 0b00001, 0x8003, 0),
+                (110, 0b00001, 0xC003, 0),
+                (120, 0b01001, 0x8005, 0),
+                (130, 0b01011, 0x8012, 0),
+                (140, 0b00011, 0x8012, 0),
+                (150, 0b01011, 0x8002, 2),
+                (160, 0b01101, 0x8003, 0),
+                (170, 0b01101, 0x8000, 1),
+                (180, 0b01001, 0xC002, 0),
+                (190, 0b01001, 0xC004, 0),
+                (200, 0b00001, 0xC002, 0),
+            ],
+        ),
+        (
+            "before the limit",
+            100,
+            &[
+                (0, 0b00001, 0x8001, 0),
+                (10, 0b00001, 0x8003, 0),
+                (109, 0b00101, 0x8000, 1),
+                (110, 0b00111, 0x8002, 2),
+            ],
+        ),
+    ],
+    codes: states::SAFETY_REQUEST,
+    loads: &[
         (0x8000_00_00_00_01020304_00000000000000, true),
         (0x8012_00_00_00_01020304_00000000000000, true),
         (0xC005_00_00_00_01020304_00000000000000, true),
@@ -122,13 +52,40 @@ fn safety_request_loads(rt: HostRuntime) {
         (0x8000_00_00_01_01020304_00000000000000, false),
         (0x8000_00_00_00_01020304_01000000000000, false),
         (0x8000_00_00_00_01020304_00000000000001, false),
-    ];
-    load_each::<SafetyRequest>(&rt, &rows);
-}
+    ],
+};
 
-#[test]
-fn out_control_loads(rt: HostRuntime) {
-    let rows = [
+const OUT_CONTROL: Tables = Tables {
+    walks: &[
+        (
+            "in use",
+            0,
+            &[
+                (0, 0b00001, 0x8001, 0),
+                (10, 0b00001, 0x8002, 0),
+                (20, 0b00111, 0x8003, 0),
+                (30, 0b1000111, 0x8010, 0),
+                (40, 0b1000111, 0xC010, 0),
+                (50, 0b1000011, 0x8010, 0),
+                (60, 0b1000111, 0x8000, 1),
+                (70, 0b00011, 0x8010, 0),
+                (80, 0b00001, 0x8002, 0),
+            ],
+        ),
+        (
+            "with held reset",
+            0,
+            &[
+                (0, 0b1000011, 0x8001, 0),
+                (10, 0b1000011, 0xC001, 0),
+                (20, 0b00011, 0x8001, 0),
+                (30, 0b1000011, 0x8010, 0),
+                (40, 0b1001111, 0x8000, 1),
+            ],
+        ),
+    ],
+    codes: states::OUT_CONTROL,
+    loads: &[
         (0x8000_00_00_00_01020304_00000000000000, true),
         (0x8010_00_00_00_01020304_00000000000000, true),
         (0xC010_00_00_00_01020304_00000000000000, true),
@@ -144,13 +101,54 @@ fn out_control_loads(rt: HostRuntime) {
         (0x8000_00_00_01_01020304_00000000000000, false),
         (0x8000_00_00_00_01020304_01000000000000, false),
         (0x8000_00_00_00_01020304_00000000000001, false),
-    ];
-    load_each::<OutControl>(&rt, &rows);
-}
+    ],
+};
 
-#[test]
-fn edm_loads(rt: HostRuntime) {
-    let rows = [
+const EDM: Tables = Tables {
+    walks: &[
+        (
+            "before the limit",
+            50,
+            &[
+                (0, 0b11101, 0x8001, 0),
+                (10, 0b11101, 0x8010, 0),
+                (20, 0b11111, 0x8000, 1),
+                (69, 0b10111, 0x8000, 1),
+                (70, 0b10111, 0xC070, 0),
+            ],
+        ),
+        // The time of 8010 restarts while both contacts are TRUE.
+        (
+            "at the limit",
+            50,
+            &[
+                (0, 0b11101, 0x8001, 0),
+                (10, 0b11101, 0x8010, 0),
+                (20, 0b11111, 0x8000, 1),
+                (70, 0b11111, 0xC090, 0),
+                (80, 0b11101, 0xC090, 0),
+                (90, 0b111101, 0x8010, 0),
+                (139, 0b111101, 0x8010, 0),
+                (140, 0b111001, 0x8010, 0),
+                (189, 0b111001, 0xC010, 0),
+                (199, 0b111001, 0xC011, 0),
+                (209, 0b11001, 0xC010, 0),
+            ],
+        ),
+        (
+            "with held reset",
+            50,
+            &[
+                (0, 0b100001, 0x8001, 0),
+                (10, 0b100001, 0xC001, 0),
+                (20, 0b00001, 0x8001, 0),
+                (30, 0b100001, 0x8010, 0),
+                (81, 0b100001, 0xC030, 0),
+            ],
+        ),
+    ],
+    codes: states::EDM,
+    loads: &[
         (0x8000_00_00_00_01020304_00000000000000, true),
         (0x8010_00_00_00_01020304_00000000000000, true),
         (0xC091_00_00_00_01020304_00000000000000, true),
@@ -166,6 +164,12 @@ fn edm_loads(rt: HostRuntime) {
         (0x8000_00_00_01_01020304_00000000000000, false),
         (0x8000_00_00_00_01020304_01000000000000, false),
         (0x8000_00_00_00_01020304_00000000000001, false),
-    ];
-    load_each::<Edm>(&rt, &rows);
+    ],
+};
+
+#[test]
+fn blocks(rt: HostRuntime) {
+    hold::<SafetyRequest>(&rt, &SAFETY_REQUEST);
+    hold::<OutControl>(&rt, &OUT_CONTROL);
+    hold::<Edm>(&rt, &EDM);
 }

@@ -1,83 +1,54 @@
 // Walks through the tables of the blocks of guards, and what loads as their states.
 
-use crate::walk::{load_each, walk};
+use crate::states;
+use crate::walk::{Tables, hold};
 use ps_guards::{GuardLocking, GuardMonitoring};
 
-#[test]
-fn guard_locking(rt: HostRuntime) {
-    let scans = [
-        (0, 0b01011, 0x8001, 0),
-        (10, 0b01011, 0x8003, 0),
-        (20, 0b10001011, 0x8000, 1),
-        (30, 0b10011111, 0x8013, 2),
-        (40, 0b10010101, 0x8012, 2),
-        (50, 0b10111, 0x8013, 2),
-        (60, 0b00111, 0x8011, 0),
-        (70, 0b10001011, 0x8000, 1),
-        (80, 0b10001001, 0xC004, 0),
-        (90, 0b10001011, 0xC004, 0),
-    ];
-    walk::<GuardLocking>(&rt, 0, &scans);
-}
-
-#[test]
-fn guard_locking_with_held_reset(rt: HostRuntime) {
-    let scans = [
-        (0, 0b10001011, 0x8001, 0),
-        (10, 0b10001011, 0x8003, 0),
-        (20, 0b10001011, 0xC002, 0),
-        (30, 0b01011, 0x8003, 0),
-        (40, 0b10001011, 0x8000, 1),
-    ];
-    walk::<GuardLocking>(&rt, 0, &scans);
-}
-
-#[test]
-fn guard_monitoring_before_the_limit(rt: HostRuntime) {
-    let scans = [
-        (0, 0b00001, 0x8001, 0),
-        (10, 0b00001, 0x8002, 0),
-        (20, 0b00001, 0x8012, 0),
-        (30, 0b00011, 0x8004, 0),
-        (129, 0b00111, 0x8005, 0),
-        (140, 0b100111, 0x8003, 0),
-        (150, 0b100111, 0xC001, 0),
-        (160, 0b00111, 0x8003, 0),
-        (170, 0b100111, 0x8000, 1),
-        (180, 0b00011, 0x8002, 0),
-    ];
-    walk::<GuardMonitoring>(&rt, 100, &scans);
-}
-
-#[test]
-fn guard_monitoring_at_the_limit(rt: HostRuntime) {
-    let scans = [
-        (0, 0b00001, 0x8001, 0),
-        (10, 0b00001, 0x8002, 0),
-        (20, 0b00001, 0x8012, 0),
-        (30, 0b00011, 0x8004, 0),
-        (130, 0b00111, 0xC011, 0),
-        (140, 0b00011, 0xC011, 0),
-        (150, 0b00001, 0x8012, 0),
-        (160, 0b00101, 0x8014, 0),
-        (261, 0b00101, 0xC012, 0),
-    ];
-    walk::<GuardMonitoring>(&rt, 100, &scans);
-}
-
-#[test]
-fn guard_monitoring_that_starts_alone(rt: HostRuntime) {
-    let scans = [
-        (0, 0b01111, 0x8001, 0),
-        (10, 0b01111, 0x8000, 1),
-        (20, 0b01110, 0x0000, 0),
-    ];
-    walk::<GuardMonitoring>(&rt, 100, &scans);
-}
-
-#[test]
-fn guard_monitoring_loads(rt: HostRuntime) {
-    let rows = [
+const GUARD_MONITORING: Tables = Tables {
+    walks: &[
+        (
+            "before the limit",
+            100,
+            &[
+                (0, 0b00001, 0x8001, 0),
+                (10, 0b00001, 0x8002, 0),
+                (20, 0b00001, 0x8012, 0),
+                (30, 0b00011, 0x8004, 0),
+                (129, 0b00111, 0x8005, 0),
+                (140, 0b100111, 0x8003, 0),
+                (150, 0b100111, 0xC001, 0),
+                (160, 0b00111, 0x8003, 0),
+                (170, 0b100111, 0x8000, 1),
+                (180, 0b00011, 0x8002, 0),
+            ],
+        ),
+        (
+            "at the limit",
+            100,
+            &[
+                (0, 0b00001, 0x8001, 0),
+                (10, 0b00001, 0x8002, 0),
+                (20, 0b00001, 0x8012, 0),
+                (30, 0b00011, 0x8004, 0),
+                (130, 0b00111, 0xC011, 0),
+                (140, 0b00011, 0xC011, 0),
+                (150, 0b00001, 0x8012, 0),
+                (160, 0b00101, 0x8014, 0),
+                (261, 0b00101, 0xC012, 0),
+            ],
+        ),
+        (
+            "that starts alone",
+            100,
+            &[
+                (0, 0b01111, 0x8001, 0),
+                (10, 0b01111, 0x8000, 1),
+                (20, 0b01110, 0x0000, 0),
+            ],
+        ),
+    ],
+    codes: states::GUARD_MONITORING,
+    loads: &[
         (0x8000_00_00_00_01020304_00000000000000, true),
         (0x8012_00_00_00_01020304_00000000000000, true),
         (0xC012_00_00_00_01020304_00000000000000, true),
@@ -93,13 +64,41 @@ fn guard_monitoring_loads(rt: HostRuntime) {
         (0x8000_00_00_01_01020304_00000000000000, false),
         (0x8000_00_00_00_01020304_01000000000000, false),
         (0x8000_00_00_00_01020304_00000000000001, false),
-    ];
-    load_each::<GuardMonitoring>(&rt, &rows);
-}
+    ],
+};
 
-#[test]
-fn guard_locking_loads(rt: HostRuntime) {
-    let rows = [
+const GUARD_LOCKING: Tables = Tables {
+    walks: &[
+        (
+            "in use",
+            0,
+            &[
+                (0, 0b01011, 0x8001, 0),
+                (10, 0b01011, 0x8003, 0),
+                (20, 0b10001011, 0x8000, 1),
+                (30, 0b10011111, 0x8013, 2),
+                (40, 0b10010101, 0x8012, 2),
+                (50, 0b10111, 0x8013, 2),
+                (60, 0b00111, 0x8011, 0),
+                (70, 0b10001011, 0x8000, 1),
+                (80, 0b10001001, 0xC004, 0),
+                (90, 0b10001011, 0xC004, 0),
+            ],
+        ),
+        (
+            "with held reset",
+            0,
+            &[
+                (0, 0b10001011, 0x8001, 0),
+                (10, 0b10001011, 0x8003, 0),
+                (20, 0b10001011, 0xC002, 0),
+                (30, 0b01011, 0x8003, 0),
+                (40, 0b10001011, 0x8000, 1),
+            ],
+        ),
+    ],
+    codes: states::GUARD_LOCKING,
+    loads: &[
         (0x8000_00_00_00_01020304_00000000000000, true),
         (0x8011_00_00_00_01020304_00000000000000, true),
         (0xC004_00_00_00_01020304_00000000000000, true),
@@ -115,6 +114,11 @@ fn guard_locking_loads(rt: HostRuntime) {
         (0x8000_00_00_01_01020304_00000000000000, false),
         (0x8000_00_00_00_01020304_01000000000000, false),
         (0x8000_00_00_00_01020304_00000000000001, false),
-    ];
-    load_each::<GuardLocking>(&rt, &rows);
+    ],
+};
+
+#[test]
+fn blocks(rt: HostRuntime) {
+    hold::<GuardMonitoring>(&rt, &GUARD_MONITORING);
+    hold::<GuardLocking>(&rt, &GUARD_LOCKING);
 }

@@ -1,139 +1,51 @@
 // Walks through the tables of the blocks of an operator, and what loads as their states.
 
-use crate::walk::{load_each, walk};
+use crate::states;
+use crate::walk::{Tables, hold};
 use ps_operator::{EnableSwitch, ModeSelector, TwoHandThree, TwoHandTwo};
 
-#[test]
-fn two_hand_three_before_the_limit(rt: HostRuntime) {
-    let scans = [
-        (0, 0b00001, 0x8001, 0),
-        (10, 0b00001, 0x8004, 0),
-        (20, 0b00011, 0x8005, 0),
-        (519, 0b00111, 0x8000, 1),
-        (600, 0b00101, 0x8008, 0),
-        (610, 0b00111, 0x8009, 0),
-        (620, 0b00001, 0x8004, 0),
-    ];
-    walk::<TwoHandThree>(&rt, 500, &scans);
-}
-
-#[test]
-fn two_hand_three_at_the_limit(rt: HostRuntime) {
-    let scans = [
-        (0, 0b00001, 0x8001, 0),
-        (10, 0b00001, 0x8004, 0),
-        (20, 0b00011, 0x8005, 0),
-        (520, 0b00111, 0xC006, 0),
-        (600, 0b00011, 0xC006, 0),
-        (610, 0b00001, 0x8004, 0),
-    ];
-    walk::<TwoHandThree>(&rt, 500, &scans);
-}
-
-#[test]
-fn two_hand_three_with_one_button(rt: HostRuntime) {
-    let scans = [
-        (0, 0b00001, 0x8001, 0),
-        (10, 0b00001, 0x8004, 0),
-        (20, 0b00011, 0x8005, 0),
-        (520, 0b00011, 0xC004, 0),
-        (600, 0b00001, 0x8004, 0),
-        (700, 0b00101, 0x8006, 0),
-        (1201, 0b00101, 0xC005, 0),
-    ];
-    walk::<TwoHandThree>(&rt, 500, &scans);
-}
-
-#[test]
-fn two_hand_two(rt: HostRuntime) {
-    let scans = [
-        (0, 0b00011, 0x8001, 0),
-        (10, 0b00111, 0xC003, 0),
-        (20, 0b00011, 0xC003, 0),
-        (30, 0b00001, 0x8001, 0),
-        (40, 0b00001, 0x8004, 0),
-        (50, 0b00101, 0x8006, 0),
-        (60, 0b00111, 0x8000, 1),
-        (70, 0b00011, 0x8007, 0),
-        (80, 0b00111, 0x8009, 0),
-        (90, 0b00110, 0x0000, 0),
-    ];
-    walk::<TwoHandTwo>(&rt, 0, &scans);
-}
-
-#[test]
-fn mode_selector(rt: HostRuntime) {
-    let scans = [
-        (0, 0b1101000000111, 0x8005, 0),
-        (10, 0b1101000000111, 0xC001, 0),
-        (20, 0b1101000000111, 0xC003, 0),
-        (30, 0b101000000111, 0xC001, 0),
-        (40, 0b1101000000101, 0x8005, 0),
-        (50, 0b101000000101, 0x8000, 0x102),
-        (60, 0b100000000101, 0x8004, 0x102),
-        (70, 0b100000000001, 0x8004, 0x102),
-        (80, 0b101000000001, 0x8005, 0),
-        (1080, 0b101000000001, 0xC002, 0),
-    ];
-    walk::<ModeSelector>(&rt, 1000, &scans);
-}
-
-#[test]
-fn mode_selector_before_the_limit(rt: HostRuntime) {
-    let scans = [
-        (0, 0b101000000001, 0x8005, 0),
-        (999, 0b101000000001, 0x8005, 0),
-        (1000, 0b101000000001, 0xC002, 0),
-        (1010, 0b1101000000001, 0x8005, 0),
-    ];
-    walk::<ModeSelector>(&rt, 1000, &scans);
-}
-
-// Time restarts where a mode is TRUE; a rise of S_SetMode takes it.
-#[test]
-fn mode_selector_restarts_its_time(rt: HostRuntime) {
-    let scans = [
-        (0, 0b00001, 0x8005, 0),
-        (900, 0b100000001, 0x8005, 0),
-        (1899, 0b00001, 0x8005, 0),
-        (1900, 0b10100000001, 0x8000, 0x180),
-    ];
-    walk::<ModeSelector>(&rt, 1000, &scans);
-}
-
-#[test]
-fn enable_switch(rt: HostRuntime) {
-    let scans = [
-        (0, 0b01011, 0x8004, 0),
-        (10, 0b01011, 0x8005, 0),
-        (20, 0b01011, 0x8006, 0),
-        (30, 0b01111, 0x8000, 1),
-        (40, 0b00011, 0x8007, 0),
-        (50, 0b01111, 0xC030, 0),
-        (60, 0b01011, 0xC040, 0),
-        (70, 0b101011, 0x8006, 0),
-        (80, 0b101111, 0x8000, 1),
-    ];
-    walk::<EnableSwitch>(&rt, 0, &scans);
-}
-
-#[test]
-fn enable_switch_with_held_reset(rt: HostRuntime) {
-    let scans = [
-        (0, 0b101111, 0x8004, 0),
-        (10, 0b101111, 0x8005, 0),
-        (20, 0b101111, 0xC010, 0),
-        (30, 0b101011, 0xC020, 0),
-        (40, 0b101011, 0xC001, 0),
-        (50, 0b01011, 0xC020, 0),
-        (60, 0b101011, 0x8006, 0),
-    ];
-    walk::<EnableSwitch>(&rt, 0, &scans);
-}
-
-#[test]
-fn mode_selector_loads(rt: HostRuntime) {
-    let rows = [
+const MODE_SELECTOR: Tables = Tables {
+    walks: &[
+        (
+            "in use",
+            1000,
+            &[
+                (0, 0b1101000000111, 0x8005, 0),
+                (10, 0b1101000000111, 0xC001, 0),
+                (20, 0b1101000000111, 0xC003, 0),
+                (30, 0b101000000111, 0xC001, 0),
+                (40, 0b1101000000101, 0x8005, 0),
+                (50, 0b101000000101, 0x8000, 0x102),
+                (60, 0b100000000101, 0x8004, 0x102),
+                (70, 0b100000000001, 0x8004, 0x102),
+                (80, 0b101000000001, 0x8005, 0),
+                (1080, 0b101000000001, 0xC002, 0),
+            ],
+        ),
+        (
+            "before the limit",
+            1000,
+            &[
+                (0, 0b101000000001, 0x8005, 0),
+                (999, 0b101000000001, 0x8005, 0),
+                (1000, 0b101000000001, 0xC002, 0),
+                (1010, 0b1101000000001, 0x8005, 0),
+            ],
+        ),
+        // Time restarts where a mode is TRUE; a rise of S_SetMode takes it.
+        (
+            "restarts its time",
+            1000,
+            &[
+                (0, 0b00001, 0x8005, 0),
+                (900, 0b100000001, 0x8005, 0),
+                (1899, 0b00001, 0x8005, 0),
+                (1900, 0b10100000001, 0x8000, 0x180),
+            ],
+        ),
+    ],
+    codes: states::MODE_SELECTOR,
+    loads: &[
         (0x8000_00_00_00_01020304_00000000000000, true),
         (0x8005_00_00_00_01020304_00000000000000, true),
         (0xC004_00_00_00_01020304_00000000000000, true),
@@ -155,13 +67,28 @@ fn mode_selector_loads(rt: HostRuntime) {
         (0x0000_00_00_01_01020304_00000000000000, false),
         (0x8000_00_00_00_01020304_01000000000000, false),
         (0x8000_00_00_00_01020304_00000000000001, false),
-    ];
-    load_each::<ModeSelector>(&rt, &rows);
-}
+    ],
+};
 
-#[test]
-fn two_hand_two_loads(rt: HostRuntime) {
-    let rows = [
+const TWO_HAND_TWO: Tables = Tables {
+    walks: &[(
+        "in use",
+        0,
+        &[
+            (0, 0b00011, 0x8001, 0),
+            (10, 0b00111, 0xC003, 0),
+            (20, 0b00011, 0xC003, 0),
+            (30, 0b00001, 0x8001, 0),
+            (40, 0b00001, 0x8004, 0),
+            (50, 0b00101, 0x8006, 0),
+            (60, 0b00111, 0x8000, 1),
+            (70, 0b00011, 0x8007, 0),
+            (80, 0b00111, 0x8009, 0),
+            (90, 0b00110, 0x0000, 0),
+        ],
+    )],
+    codes: states::TWO_HAND_TWO,
+    loads: &[
         (0x8000_00_00_00_01020304_00000000000000, true),
         (0x8019_00_00_00_01020304_00000000000000, true),
         (0xC003_00_00_00_01020304_00000000000000, true),
@@ -177,13 +104,52 @@ fn two_hand_two_loads(rt: HostRuntime) {
         (0x8000_00_00_01_01020304_00000000000000, false),
         (0x8000_00_00_00_01020304_01000000000000, false),
         (0x8000_00_00_00_01020304_00000000000001, false),
-    ];
-    load_each::<TwoHandTwo>(&rt, &rows);
-}
+    ],
+};
 
-#[test]
-fn two_hand_three_loads(rt: HostRuntime) {
-    let rows = [
+const TWO_HAND_THREE: Tables = Tables {
+    walks: &[
+        (
+            "before the limit",
+            500,
+            &[
+                (0, 0b00001, 0x8001, 0),
+                (10, 0b00001, 0x8004, 0),
+                (20, 0b00011, 0x8005, 0),
+                (519, 0b00111, 0x8000, 1),
+                (600, 0b00101, 0x8008, 0),
+                (610, 0b00111, 0x8009, 0),
+                (620, 0b00001, 0x8004, 0),
+            ],
+        ),
+        (
+            "at the limit",
+            500,
+            &[
+                (0, 0b00001, 0x8001, 0),
+                (10, 0b00001, 0x8004, 0),
+                (20, 0b00011, 0x8005, 0),
+                (520, 0b00111, 0xC006, 0),
+                (600, 0b00011, 0xC006, 0),
+                (610, 0b00001, 0x8004, 0),
+            ],
+        ),
+        (
+            "with one button",
+            500,
+            &[
+                (0, 0b00001, 0x8001, 0),
+                (10, 0b00001, 0x8004, 0),
+                (20, 0b00011, 0x8005, 0),
+                (520, 0b00011, 0xC004, 0),
+                (600, 0b00001, 0x8004, 0),
+                (700, 0b00101, 0x8006, 0),
+                (1201, 0b00101, 0xC005, 0),
+            ],
+        ),
+    ],
+    codes: states::TWO_HAND_THREE,
+    loads: &[
         (0x8000_00_00_00_01020304_00000000000000, true),
         (0x8009_00_00_00_01020304_00000000000000, true),
         (0xC006_00_00_00_01020304_00000000000000, true),
@@ -199,13 +165,42 @@ fn two_hand_three_loads(rt: HostRuntime) {
         (0x8000_00_00_01_01020304_00000000000000, false),
         (0x8000_00_00_00_01020304_01000000000000, false),
         (0x8000_00_00_00_01020304_00000000000001, false),
-    ];
-    load_each::<TwoHandThree>(&rt, &rows);
-}
+    ],
+};
 
-#[test]
-fn enable_switch_loads(rt: HostRuntime) {
-    let rows = [
+const ENABLE_SWITCH: Tables = Tables {
+    walks: &[
+        (
+            "in use",
+            0,
+            &[
+                (0, 0b01011, 0x8004, 0),
+                (10, 0b01011, 0x8005, 0),
+                (20, 0b01011, 0x8006, 0),
+                (30, 0b01111, 0x8000, 1),
+                (40, 0b00011, 0x8007, 0),
+                (50, 0b01111, 0xC030, 0),
+                (60, 0b01011, 0xC040, 0),
+                (70, 0b101011, 0x8006, 0),
+                (80, 0b101111, 0x8000, 1),
+            ],
+        ),
+        (
+            "with held reset",
+            0,
+            &[
+                (0, 0b101111, 0x8004, 0),
+                (10, 0b101111, 0x8005, 0),
+                (20, 0b101111, 0xC010, 0),
+                (30, 0b101011, 0xC020, 0),
+                (40, 0b101011, 0xC001, 0),
+                (50, 0b01011, 0xC020, 0),
+                (60, 0b101011, 0x8006, 0),
+            ],
+        ),
+    ],
+    codes: states::ENABLE_SWITCH,
+    loads: &[
         (0x8000_00_00_00_01020304_00000000000000, true),
         (0x8007_00_00_00_01020304_00000000000000, true),
         (0xC040_00_00_00_01020304_00000000000000, true),
@@ -221,6 +216,13 @@ fn enable_switch_loads(rt: HostRuntime) {
         (0x8000_00_00_01_01020304_00000000000000, false),
         (0x8000_00_00_00_01020304_01000000000000, false),
         (0x8000_00_00_00_01020304_00000000000001, false),
-    ];
-    load_each::<EnableSwitch>(&rt, &rows);
+    ],
+};
+
+#[test]
+fn blocks(rt: HostRuntime) {
+    hold::<ModeSelector>(&rt, &MODE_SELECTOR);
+    hold::<TwoHandTwo>(&rt, &TWO_HAND_TWO);
+    hold::<TwoHandThree>(&rt, &TWO_HAND_THREE);
+    hold::<EnableSwitch>(&rt, &ENABLE_SWITCH);
 }

@@ -2,7 +2,6 @@
 
 use ps_model::Kind;
 use ps_rows::{CountedBlock, MaskRow, RowRange, next_of, row, row_count, state_rows};
-use std::process::Abort;
 
 // The DiagCode after a step with Activate alone, and None where the step is refused.
 fn code_after(
@@ -22,52 +21,36 @@ fn code_after(
     Some(block.stepped_if_kept(kind, 1, 0, 0)?.code)
 }
 
-// Each row is a kind, a DiagCode, the last Reset, the last auxiliary input, the mode, and what is wanted.
-fn check(rt: &impl Abort, rows: &[(Kind, u16, bool, bool, u8, Option<u16>)]) {
-    for (kind, code, last_reset, last_auxiliary, mode, wanted) in rows {
+// Each row is a kind, a DiagCode, the last Reset, the last auxiliary input, the mode, and what is wanted. They ask first of states,
+// then of last inputs, and then of modes.
+const STEPS: &[(Kind, u16, bool, bool, u8, Option<u16>)] = &[
+    (Kind::EmergencyStop, 0x8001, false, false, 0, Some(0x8002)),
+    (Kind::EmergencyStop, 0x8006, false, false, 0, None),
+    (Kind::Espe, 0x0000, false, false, 0, Some(0x8001)),
+    (Kind::Espe, 0x0001, false, false, 0, None),
+    (Kind::Edm, 0xC091, true, false, 0, Some(0xC090)),
+    (Kind::Edm, 0xC092, true, false, 0, None),
+    (Kind::EmergencyStop, 0xC001, true, false, 0, Some(0x8002)),
+    (Kind::EmergencyStop, 0xC001, true, true, 0, None),
+    (Kind::Equivalent, 0xC001, false, false, 0, Some(0x8001)),
+    (Kind::Equivalent, 0xC001, true, false, 0, None),
+    (Kind::TwoHandTwo, 0xC001, false, true, 0, None),
+    (Kind::OutControl, 0xC010, true, true, 0, Some(0x8002)),
+    (Kind::ModeSelector, 0x8000, true, true, 7, Some(0x8005)),
+    (Kind::ModeSelector, 0x8000, true, true, 8, None),
+    (Kind::ModeSelector, 0x8004, true, true, 7, Some(0x8004)),
+    (Kind::ModeSelector, 0x8004, true, true, 255, None),
+    (Kind::ModeSelector, 0x8005, false, false, 0, Some(0xC002)),
+    (Kind::ModeSelector, 0x8005, false, false, 1, None),
+    (Kind::OutControl, 0x8000, false, false, 1, None),
+];
+
+#[test]
+fn steps(rt: HostRuntime) {
+    for (kind, code, last_reset, last_auxiliary, mode, wanted) in STEPS {
         let after = code_after(*kind, *code, *last_reset, *last_auxiliary, *mode);
-        assert_eq!(rt; after, *wanted, "{kind:?} in {code}");
+        assert!(rt; after == *wanted, "{kind:?} in {code:x}, mode {mode}");
     }
-}
-
-#[test]
-fn states(rt: HostRuntime) {
-    let rows = [
-        (Kind::EmergencyStop, 0x8001, false, false, 0, Some(0x8002)),
-        (Kind::EmergencyStop, 0x8006, false, false, 0, None),
-        (Kind::Espe, 0x0000, false, false, 0, Some(0x8001)),
-        (Kind::Espe, 0x0001, false, false, 0, None),
-        (Kind::Edm, 0xC091, true, false, 0, Some(0xC090)),
-        (Kind::Edm, 0xC092, true, false, 0, None),
-    ];
-    check(&rt, &rows);
-}
-
-#[test]
-fn last_inputs(rt: HostRuntime) {
-    let rows = [
-        (Kind::EmergencyStop, 0xC001, true, false, 0, Some(0x8002)),
-        (Kind::EmergencyStop, 0xC001, true, true, 0, None),
-        (Kind::Equivalent, 0xC001, false, false, 0, Some(0x8001)),
-        (Kind::Equivalent, 0xC001, true, false, 0, None),
-        (Kind::TwoHandTwo, 0xC001, false, true, 0, None),
-        (Kind::OutControl, 0xC010, true, true, 0, Some(0x8002)),
-    ];
-    check(&rt, &rows);
-}
-
-#[test]
-fn modes(rt: HostRuntime) {
-    let rows = [
-        (Kind::ModeSelector, 0x8000, true, true, 7, Some(0x8005)),
-        (Kind::ModeSelector, 0x8000, true, true, 8, None),
-        (Kind::ModeSelector, 0x8004, true, true, 7, Some(0x8004)),
-        (Kind::ModeSelector, 0x8004, true, true, 255, None),
-        (Kind::ModeSelector, 0x8005, false, false, 0, Some(0xC002)),
-        (Kind::ModeSelector, 0x8005, false, false, 1, None),
-        (Kind::OutControl, 0x8000, false, false, 1, None),
-    ];
-    check(&rt, &rows);
 }
 
 #[test]

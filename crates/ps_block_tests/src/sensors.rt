@@ -1,101 +1,55 @@
 // Walks through the tables of the blocks of sensors, and what loads as their states.
 
-use crate::walk::{load_each, walk};
+use crate::states;
+use crate::walk::{Tables, hold};
 use ps_sensors::{Antivalent, EmergencyStop, Equivalent, Espe};
 
-#[test]
-fn equivalent_before_the_limit(rt: HostRuntime) {
-    let scans = [
-        (0, 0b00001, 0x8001, 0),
-        (10, 0b00011, 0x8004, 0),
-        (59, 0b00111, 0x8000, 1),
-        (70, 0b00011, 0x8005, 0),
-        (80, 0b00001, 0x8001, 0),
-    ];
-    walk::<Equivalent>(&rt, 50, &scans);
-}
-
-#[test]
-fn equivalent_at_the_limit(rt: HostRuntime) {
-    let scans = [
-        (0, 0b00001, 0x8001, 0),
-        (10, 0b00011, 0x8004, 0),
-        (60, 0b00111, 0xC001, 0),
-        (70, 0b00011, 0xC001, 0),
-        (80, 0b00001, 0x8001, 0),
-    ];
-    walk::<Equivalent>(&rt, 50, &scans);
-}
-
-#[test]
-fn equivalent_after_the_limit(rt: HostRuntime) {
-    let scans = [
-        (0, 0b00001, 0x8001, 0),
-        (10, 0b00101, 0x8014, 0),
-        (61, 0b00101, 0xC002, 0),
-        (70, 0b00100, 0x0000, 0),
-    ];
-    walk::<Equivalent>(&rt, 50, &scans);
-}
-
-#[test]
-fn equivalent_with_limit_0(rt: HostRuntime) {
-    let scans = [
-        (5, 0b00011, 0x8001, 0),
-        (5, 0b00011, 0x8004, 0),
-        (5, 0b00011, 0xC001, 0),
-    ];
-    walk::<Equivalent>(&rt, 0, &scans);
-}
-
-#[test]
-fn antivalent(rt: HostRuntime) {
-    let scans = [
-        (0, 0b00101, 0x8001, 0),
-        (10, 0b00111, 0x8004, 0),
-        (20, 0b00011, 0x8000, 1),
-        (30, 0b00111, 0x8005, 0),
-        (80, 0b00111, 0xC003, 0),
-        (90, 0b00101, 0x8001, 0),
-    ];
-    walk::<Antivalent>(&rt, 50, &scans);
-}
-
-#[test]
-fn emergency_stop_with_held_reset(rt: HostRuntime) {
-    let scans = [
-        (0, 0b00011, 0x8001, 0),
-        (10, 0b10011, 0x8002, 0),
-        (20, 0b10011, 0xC001, 0),
-        (30, 0b00011, 0x8002, 0),
-        (40, 0b00011, 0x8003, 0),
-        (50, 0b10011, 0x8000, 1),
-        (60, 0b10010, 0x0000, 0),
-    ];
-    walk::<EmergencyStop>(&rt, 0, &scans);
-}
-
-#[test]
-fn espe_with_held_reset(rt: HostRuntime) {
-    let scans = [
-        (0, 0b00011, 0x8001, 0),
-        (10, 0b10011, 0x8002, 0),
-        (20, 0b10011, 0xC001, 0),
-        (30, 0b00011, 0x8002, 0),
-        (40, 0b00011, 0x8003, 0),
-        (50, 0b10011, 0x8000, 1),
-        (60, 0b10001, 0x8004, 0),
-        (70, 0b10001, 0xC002, 0),
-        (80, 0b00001, 0x8004, 0),
-        (90, 0b00011, 0x8005, 0),
-        (95, 0b01011, 0x8000, 1),
-    ];
-    walk::<Espe>(&rt, 0, &scans);
-}
-
-#[test]
-fn equivalent_loads(rt: HostRuntime) {
-    let rows = [
+const EQUIVALENT: Tables = Tables {
+    walks: &[
+        (
+            "before the limit",
+            50,
+            &[
+                (0, 0b00001, 0x8001, 0),
+                (10, 0b00011, 0x8004, 0),
+                (59, 0b00111, 0x8000, 1),
+                (70, 0b00011, 0x8005, 0),
+                (80, 0b00001, 0x8001, 0),
+            ],
+        ),
+        (
+            "at the limit",
+            50,
+            &[
+                (0, 0b00001, 0x8001, 0),
+                (10, 0b00011, 0x8004, 0),
+                (60, 0b00111, 0xC001, 0),
+                (70, 0b00011, 0xC001, 0),
+                (80, 0b00001, 0x8001, 0),
+            ],
+        ),
+        (
+            "after the limit",
+            50,
+            &[
+                (0, 0b00001, 0x8001, 0),
+                (10, 0b00101, 0x8014, 0),
+                (61, 0b00101, 0xC002, 0),
+                (70, 0b00100, 0x0000, 0),
+            ],
+        ),
+        (
+            "with limit 0",
+            0,
+            &[
+                (5, 0b00011, 0x8001, 0),
+                (5, 0b00011, 0x8004, 0),
+                (5, 0b00011, 0xC001, 0),
+            ],
+        ),
+    ],
+    codes: states::EQUIVALENT,
+    loads: &[
         (0x8000_00_00_00_01020304_00000000000000, true),
         (0x8014_00_00_00_01020304_00000000000000, true),
         (0xC003_00_00_00_01020304_00000000000000, true),
@@ -111,13 +65,24 @@ fn equivalent_loads(rt: HostRuntime) {
         (0x8000_00_00_01_01020304_00000000000000, false),
         (0x8000_00_00_00_01020304_01000000000000, false),
         (0x8000_00_00_00_01020304_00000000000001, false),
-    ];
-    load_each::<Equivalent>(&rt, &rows);
-}
+    ],
+};
 
-#[test]
-fn antivalent_loads(rt: HostRuntime) {
-    let rows = [
+const ANTIVALENT: Tables = Tables {
+    walks: &[(
+        "in use",
+        50,
+        &[
+            (0, 0b00101, 0x8001, 0),
+            (10, 0b00111, 0x8004, 0),
+            (20, 0b00011, 0x8000, 1),
+            (30, 0b00111, 0x8005, 0),
+            (80, 0b00111, 0xC003, 0),
+            (90, 0b00101, 0x8001, 0),
+        ],
+    )],
+    codes: states::ANTIVALENT,
+    loads: &[
         (0x8000_00_00_00_01020304_00000000000000, true),
         (0x8005_00_00_00_01020304_00000000000000, true),
         (0xC002_00_00_00_01020304_00000000000000, true),
@@ -133,13 +98,25 @@ fn antivalent_loads(rt: HostRuntime) {
         (0x8000_00_00_01_01020304_00000000000000, false),
         (0x8000_00_00_00_01020304_01000000000000, false),
         (0x8000_00_00_00_01020304_00000000000001, false),
-    ];
-    load_each::<Antivalent>(&rt, &rows);
-}
+    ],
+};
 
-#[test]
-fn emergency_stop_loads(rt: HostRuntime) {
-    let rows = [
+const EMERGENCY_STOP: Tables = Tables {
+    walks: &[(
+        "with held reset",
+        0,
+        &[
+            (0, 0b00011, 0x8001, 0),
+            (10, 0b10011, 0x8002, 0),
+            (20, 0b10011, 0xC001, 0),
+            (30, 0b00011, 0x8002, 0),
+            (40, 0b00011, 0x8003, 0),
+            (50, 0b10011, 0x8000, 1),
+            (60, 0b10010, 0x0000, 0),
+        ],
+    )],
+    codes: states::EMERGENCY_STOP,
+    loads: &[
         (0x8000_00_00_00_01020304_00000000000000, true),
         (0x8005_00_00_00_01020304_00000000000000, true),
         (0xC002_00_00_00_01020304_00000000000000, true),
@@ -155,13 +132,29 @@ fn emergency_stop_loads(rt: HostRuntime) {
         (0x8000_00_00_01_01020304_00000000000000, false),
         (0x8000_00_00_00_01020304_01000000000000, false),
         (0x8000_00_00_00_01020304_00000000000001, false),
-    ];
-    load_each::<EmergencyStop>(&rt, &rows);
-}
+    ],
+};
 
-#[test]
-fn espe_loads(rt: HostRuntime) {
-    let rows = [
+const ESPE: Tables = Tables {
+    walks: &[(
+        "with held reset",
+        0,
+        &[
+            (0, 0b00011, 0x8001, 0),
+            (10, 0b10011, 0x8002, 0),
+            (20, 0b10011, 0xC001, 0),
+            (30, 0b00011, 0x8002, 0),
+            (40, 0b00011, 0x8003, 0),
+            (50, 0b10011, 0x8000, 1),
+            (60, 0b10001, 0x8004, 0),
+            (70, 0b10001, 0xC002, 0),
+            (80, 0b00001, 0x8004, 0),
+            (90, 0b00011, 0x8005, 0),
+            (95, 0b01011, 0x8000, 1),
+        ],
+    )],
+    codes: states::ESPE,
+    loads: &[
         (0x8000_00_00_00_01020304_00000000000000, true),
         (0x8003_00_00_00_01020304_00000000000000, true),
         (0xC001_00_00_00_01020304_00000000000000, true),
@@ -177,6 +170,13 @@ fn espe_loads(rt: HostRuntime) {
         (0x8000_00_00_01_01020304_00000000000000, false),
         (0x8000_00_00_00_01020304_01000000000000, false),
         (0x8000_00_00_00_01020304_00000000000001, false),
-    ];
-    load_each::<Espe>(&rt, &rows);
+    ],
+};
+
+#[test]
+fn blocks(rt: HostRuntime) {
+    hold::<Equivalent>(&rt, &EQUIVALENT);
+    hold::<Antivalent>(&rt, &ANTIVALENT);
+    hold::<EmergencyStop>(&rt, &EMERGENCY_STOP);
+    hold::<Espe>(&rt, &ESPE);
 }

@@ -36,9 +36,25 @@ fn step_both<B: SafetyBlock>(
     (outs, rows)
 }
 
-/// Steps a block from its first state, and asserts DiagCode and safe outputs of each step. A scan is its time in ms, the
-/// Boolean pins, and what is wanted.
-pub fn walk<B: SafetyBlock>(rt: &impl Abort, limit: u32, scans: &[(u32, u32, u16, u16)]) {
+/// A walk: its name, the limit in ms, and its scans. A scan is its time in ms, the Boolean pins, and what is wanted: the DiagCode
+/// and the safe outputs.
+pub type Walk = (&'static str, u32, &'static [(u32, u32, u16, u16)]);
+
+/// The same, of the DiagCode alone.
+pub type Codes = (&'static str, u32, &'static [(u32, u32, u16)]);
+
+/// What is tested of a block.
+pub struct Tables {
+    pub walks: &'static [Walk],
+    pub codes: &'static [Codes],
+    /// Sixteen bytes, and whether they load: the DiagCode, the last Reset, the last auxiliary input, the latched mode, the time, and
+    /// seven bytes that are 0.
+    pub loads: &'static [(u128, bool)],
+}
+
+// Steps a block from its first state, and asserts what each scan of a walk wants.
+fn walk<B: SafetyBlock>(rt: &impl Abort, walk: &Walk) {
+    let (name, limit, scans) = *walk;
     let mut state = B::fresh();
     let mut rows = CountedBlock::idle();
     let mut last = 0;
@@ -51,13 +67,14 @@ pub fn walk<B: SafetyBlock>(rt: &impl Abort, limit: u32, scans: &[(u32, u32, u16
         let (outs, stepped) = step_both::<B>(rt, &mut state, rows, pins, now.saturating_sub(last));
         rows = stepped;
         last = *now;
-        assert_eq!(rt; outs.diag.code, *code, "at {now}");
-        assert_eq!(rt; outs.safe, *safe, "at {now}");
+        let is_so = outs.diag.code == *code && outs.safe == *safe;
+        assert!(rt; is_so, "{name} at {now}");
     }
 }
 
-/// The same, of the DiagCode alone.
-pub fn walk_codes<B: SafetyBlock>(rt: &impl Abort, limit: u32, scans: &[(u32, u32, u16)]) {
+// The same, of the DiagCode alone.
+fn walk_codes<B: SafetyBlock>(rt: &impl Abort, walk: &Codes) {
+    let (name, limit, scans) = *walk;
     let mut state = B::fresh();
     let mut rows = CountedBlock::idle();
     let mut last = 0;
@@ -70,15 +87,20 @@ pub fn walk_codes<B: SafetyBlock>(rt: &impl Abort, limit: u32, scans: &[(u32, u3
         let (outs, stepped) = step_both::<B>(rt, &mut state, rows, pins, now.saturating_sub(last));
         rows = stepped;
         last = *now;
-        assert_eq!(rt; outs.diag.code, *code, "at {now}");
+        assert!(rt; outs.diag.code == *code, "{name} at {now}");
     }
 }
 
-/// Asserts of each sixteen bytes whether they load: the DiagCode, the last Reset, the last auxiliary input, the latched
-/// mode, the time, and seven bytes that are 0.
-pub fn load_each<B: SafetyBlock>(rt: &impl Abort, rows: &[(u128, bool)]) {
-    for (bytes, loads) in rows {
+/// Asserts what is tested of a block. A failed assertion names its row.
+pub fn hold<B: SafetyBlock>(rt: &impl Abort, tables: &Tables) {
+    for each in tables.walks {
+        walk::<B>(rt, each);
+    }
+    for each in tables.codes {
+        walk_codes::<B>(rt, each);
+    }
+    for (bytes, loads) in tables.loads {
         let state = B::load(&bytes.to_be_bytes());
-        assert_eq!(rt; state.is_some(), *loads, "at {bytes:x}");
+        assert!(rt; state.is_some() == *loads, "load of {bytes:x}");
     }
 }

@@ -1,22 +1,23 @@
-// From the text of an application to the codes of both channels, and the figures of these.
+// From the text of an application to both channels, and the form of their figures.
 
-ghost use Rattle.std.specs.Prelude.{OnOk};
+ghost use Rattle.std.specs.Prelude.{OnOk, IfOk};
+ghost use Rattle.ps_model.specs.Sized.{AreSizesOf};
 ghost use Rattle.ps_model.specs.Typing.{Accepted};
 
-use ps_base::{Fail, Place, Refusal};
+use ps_base::{Fail, Memory, Place, Refusal};
 use ps_eqgen::equation_image;
-use ps_eqvm::{EquationChannel, EquationImage};
+use ps_eqvm::EquationChannel;
 use ps_flow::{FlowFail, FlowRefusal, derive};
 use ps_lexer::lex;
-use ps_model::{App, Region, Sizes};
+use ps_model::{App, Sizes};
 use ps_parser::parse;
 use ps_resolve::resolve;
 use ps_stackgen::stack_image;
-use ps_stackvm::{StackChannel, StackImage};
+use ps_stackvm::StackChannel;
 use std::alloc::Global;
 
-/// The application of a text, where no rule of the language refuses it.
-pub fn application(alloc: Global, text: &str) -> Result<App, Fail> {
+// The application of a text, where no rule of the language refuses it.
+fn resolved(alloc: Global, text: &str) -> Result<App, Fail> {
     let tokens = lex(alloc, text.as_bytes())?;
     let source = parse(alloc, &tokens)?;
     resolve(alloc, &source)
@@ -33,8 +34,8 @@ fn flow_fail(fail: FlowFail) -> Fail {
     }
 }
 
-/// Nothing, where SAFEBOOL flow accepts an application, and else its refusal, at line 0.
-pub fn accept(alloc: Global, app: &App) -> Result<(), Fail>
+// Nothing, where SAFEBOOL flow accepts an application, and else its refusal, at line 0.
+fn accept(alloc: Global, app: &App) -> Result<(), Fail>
     ensures { OnOk result (Accepted app.now) }
 {
     match derive(alloc, app) {
@@ -43,10 +44,33 @@ pub fn accept(alloc: Global, app: &App) -> Result<(), Fail>
     }
 }
 
-/// The stack code of an application, where its SAFEBOOL flow is accepted.
-pub fn stack_code_of(alloc: Global, app: &App) -> Result<StackImage, Fail> {
-    accept(alloc, app)?;
-    Ok(stack_image(alloc, app)?)
+/// The application of a text, where no rule of the language refuses it and SAFEBOOL flow accepts it.
+pub fn application(alloc: Global, text: &str) -> Result<App, Fail>
+    ensures { IfOk result Accepted }
+{
+    let app = resolved(alloc, text)?;
+    accept(alloc, &app)?;
+    Ok(app)
+}
+
+/// Channel A of an accepted application, at the start.
+pub fn stack_channel(alloc: Global, app: &App) -> Result<StackChannel, Memory>
+    requires { Accepted app.now }
+    ensures { IfOk result (λ channel. AreSizesOf app.now channel.sizes) }
+{
+    let sizes = Sizes::of(alloc, app)?;
+    let code = stack_image(alloc, app)?;
+    StackChannel::new(alloc, &code, &sizes)
+}
+
+/// Channel B of an accepted application, at the start.
+pub fn equation_channel(alloc: Global, app: &App) -> Result<EquationChannel, Memory>
+    requires { Accepted app.now }
+    ensures { IfOk result (λ channel. AreSizesOf app.now channel.sizes) }
+{
+    let sizes = Sizes::of(alloc, app)?;
+    let code = equation_image(alloc, app)?;
+    EquationChannel::new(alloc, &code, &sizes)
 }
 
 /// The lengths of a channel's code and cells in bytes, and its budget of turns.
@@ -55,34 +79,4 @@ pub struct Figures {
     pub code: u32,
     pub cells: u32,
     pub turns: u32,
-}
-
-/// The equation code of an application, where its SAFEBOOL flow is accepted.
-pub fn equation_code_of(alloc: Global, app: &App) -> Result<EquationImage, Fail> {
-    accept(alloc, app)?;
-    Ok(equation_image(alloc, app)?)
-}
-
-/// The figures of channel A for an application, where its SAFEBOOL flow is accepted.
-pub fn stack_figures(alloc: Global, app: &App) -> Result<Figures, Fail> {
-    let code = stack_code_of(alloc, app)?;
-    let sizes = Sizes::of(alloc, app)?;
-    let channel = StackChannel::new(alloc, &code, &sizes)?;
-    Ok(Figures {
-        code: code.len(),
-        cells: channel.region_len(Region::Cells),
-        turns: app.turns_a(),
-    })
-}
-
-/// The figures of channel B for an application, where its SAFEBOOL flow is accepted.
-pub fn equation_figures(alloc: Global, app: &App) -> Result<Figures, Fail> {
-    let code = equation_code_of(alloc, app)?;
-    let sizes = Sizes::of(alloc, app)?;
-    let channel = EquationChannel::new(alloc, &code, &sizes)?;
-    Ok(Figures {
-        code: code.len(),
-        cells: channel.region_len(Region::Cells),
-        turns: app.turns_b(),
-    })
 }

@@ -5,8 +5,10 @@
 //! - `code`: from a text to its application, its codes and their figures. `texts`: texts whose codes are known from outside;
 //!   `codes`, `wide`: their tests.
 //! - `side_by_side`, `tables`: all three with the same scans, and rows of scans with what they are to show; `blocks`, `press`,
-//!   `wires` have such tables, and `worked` runs them.
-//! - `channel_a`, `channel_b`: turns, traps and spoiled bytes of one channel.
+//!   `wires` have such tables, and `worked` has all of them.
+//! - `motor`: a channel of the application M, whichever it is; `channel_a`, `channel_b`: turns, traps and spoiled bytes of one channel.
+//!
+//! The tests are few and go over tables, since each function is proved over all that the channels stand on.
 #![tactic(auto)]
 
 pub mod blocks;
@@ -17,6 +19,8 @@ mod channel_b;
 pub mod code;
 #[cfg(test)]
 mod codes;
+#[cfg(test)]
+mod motor;
 pub mod press;
 pub mod side_by_side;
 pub mod tables;
@@ -24,5 +28,4 @@ pub mod texts;
 #[cfg(test)]
 mod wide;
 pub mod wires;
-#[cfg(test)]
-mod worked;
+pub mod worked;

@@ -5,12 +5,11 @@ ghost use Rattle.ps_model.specs.Network.{input_count};
 ghost use Rattle.ps_model.specs.Typing.{Accepted};
 ghost use Rattle.ps_channel_tests.specs.SideBySide.{IsOf};
 
+use crate::code::{equation_channel, stack_channel};
 use ps_base::Memory;
-use ps_eqgen::equation_image;
 use ps_eqvm::EquationChannel;
-use ps_model::{App, Diags, Progress, Report, Scan, Sizes};
+use ps_model::{App, Diags, Progress, Report, Scan};
 use ps_scan::Scanner;
-use ps_stackgen::stack_image;
 use ps_stackvm::StackChannel;
 use std::alloc::Global;
 
@@ -66,14 +65,15 @@ impl SideBySide {
         requires { Accepted app.now }
         ensures { IfOk result (IsOf app.now) }
     {
-        let sizes = Sizes::of(alloc, app)?;
-        let stack_code = stack_image(alloc, app)?;
-        let equation_code = equation_image(alloc, app)?;
+        let stack = stack_channel(alloc, app)?;
+        let equation = equation_channel(alloc, app)?;
+        let plain = Scanner::new(alloc, app)?;
+        let report = Report::for_app(alloc, app)?;
         Ok(SideBySide {
-            stack: StackChannel::new(alloc, &stack_code, &sizes)?,
-            equation: EquationChannel::new(alloc, &equation_code, &sizes)?,
-            plain: Scanner::new(alloc, app)?,
-            report: Report::for_app(alloc, app)?,
+            stack,
+            equation,
+            plain,
+            report,
         })
     }
 
@@ -102,14 +102,9 @@ impl SideBySide {
     fn agree(&self, alloc: Global, app: &App) -> Result<bool, Memory>
         requires { IsOf app.now self.now }
     {
-        let mut stack = Report::for_app(alloc, app)?;
-        let mut equation = Report::for_app(alloc, app)?;
-        Ok(
-            self.stack.report_into(&mut stack)
-                && self.equation.report_into(&mut equation)
-                && same_report(&stack, &self.report)
-                && same_report(&equation, &self.report),
-        )
+        let mut report = Report::for_app(alloc, app)?;
+        let is_stack = self.stack.report_into(&mut report) && same_report(&report, &self.report);
+        Ok(is_stack && self.equation.report_into(&mut report) && same_report(&report, &self.report))
     }
 
     /// Makes a scan of all three. True exactly where each channel is done after exactly its budget of turns, and both

@@ -4,7 +4,7 @@ ghost use Rattle.std.specs.Prelude.{◌≡◌};
 ghost use Rattle.ps_model.specs.Typing.{Accepted};
 ghost use Rattle.ps_channel_tests.specs.SideBySide.{IsOf};
 
-use crate::code::{accept, application};
+use crate::code::application;
 use crate::side_by_side::SideBySide;
 use ps_base::{Fail, Memory};
 use ps_model::{App, Bits, Diags, Scan};
@@ -104,6 +104,5 @@ fn rows_met(alloc: Global, app: &App, rows: &str) -> Result<u32, Memory>
 /// the DiagCode of each instance.
 pub fn met(alloc: Global, text: &str, rows: &str) -> Result<u32, Fail> {
     let app = application(alloc, text)?;
-    accept(alloc, &app)?;
     Ok(rows_met(alloc, &app, rows)?)
 }

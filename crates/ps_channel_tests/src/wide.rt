@@ -2,7 +2,7 @@
 
 ghost use Rattle.ps_model.specs.Typing.{Accepted};
 
-use crate::code::{Figures, accept, application};
+use crate::code::{Figures, application};
 use crate::codes::has_figures;
 use crate::side_by_side::SideBySide;
 use crate::tables::scan_of;
@@ -11,23 +11,6 @@ use ps_base::{Fail, Memory};
 use ps_model::{App, Scan};
 use std::alloc::Global;
 use std::test::Fail as TestFail;
-
-#[test]
-fn figures_of_512_inputs(rt: HostRuntime) -> Result<(), TestFail> {
-    let text = wide(rt.alloc(), 512)?;
-    let stack = Figures {
-        code: 2051,
-        cells: 587,
-        turns: 1025,
-    };
-    let equation = Figures {
-        code: 2566,
-        cells: 574,
-        turns: 514,
-    };
-    assert!(rt; has_figures(rt.alloc(), text.as_str(), stack, equation));
-    Ok(())
-}
 
 // So many digits 1, of which one is 0 instead.
 fn all_but(alloc: Global, count: u32, off: u32) -> Result<String, Memory> {
@@ -56,32 +39,35 @@ fn output_after(alloc: Global, app: &App, scan: &Scan) -> Result<Option<bool>, M
     Ok(all.report().outs.as_slice().first().copied())
 }
 
-// The output of the application of 512 inputs where all of them but one are TRUE. None where the channels and the plain
+// The output of the application of a text of 512 inputs where all of them but one are TRUE. None where the channels and the plain
 // evaluator do not agree on it.
-fn output(alloc: Global, off: u32) -> Result<Option<bool>, Fail> {
+fn output(alloc: Global, text: &str, off: u32) -> Result<Option<bool>, Fail> {
     let scan = scan_but(alloc, off)?;
-    let text = wide(alloc, 512)?;
-    let app = application(alloc, text.as_str())?;
-    accept(alloc, &app)?;
+    let app = application(alloc, text)?;
     Ok(output_after(alloc, &app, &scan)?)
 }
 
-// Whether the output is this where all inputs but one are TRUE.
-fn is_output(alloc: Global, off: u32, value: bool) -> bool {
-    output(alloc, off) == Ok(Some(value))
-}
-
+// The figures of both channels, and the output where all inputs are TRUE, all but the first, and all but the last.
 #[test]
-fn all_inputs_true(rt: HostRuntime) {
-    assert!(rt; is_output(rt.alloc(), 512, true));
-}
-
-#[test]
-fn first_input_false(rt: HostRuntime) {
-    assert!(rt; is_output(rt.alloc(), 0, false));
-}
-
-#[test]
-fn last_input_false(rt: HostRuntime) {
-    assert!(rt; is_output(rt.alloc(), 511, false));
+fn wide_and(rt: HostRuntime) -> Result<(), TestFail> {
+    let text = wide(rt.alloc(), 512)?;
+    let stack = Figures {
+        code: 2051,
+        cells: 587,
+        turns: 1025,
+    };
+    let equation = Figures {
+        code: 2566,
+        cells: 574,
+        turns: 514,
+    };
+    assert!(rt;
+        has_figures(rt.alloc(), text.as_str(), stack, equation) == Ok(true),
+        "figures"
+    );
+    for (off, value) in [(512, true), (0, false), (511, false)] {
+        let is_so = output(rt.alloc(), text.as_str(), off) == Ok(Some(value));
+        assert!(rt; is_so, "all but {off}");
+    }
+    Ok(())
 }

@@ -2,163 +2,25 @@
 
 use crate::blocks;
 use crate::press::{PRESS, PRESS_AT_WORK};
+#[cfg(test)]
 use crate::tables::met;
 use crate::texts::{DEEP, MOTOR};
 use crate::wires::{FEEDBACK, FEEDBACK_ROWS};
-use std::alloc::Global;
-use std::process::Abort;
-
-// Whether the application of a text meets so many rows of a table, and no further one.
-fn is_met(alloc: Global, text: &str, rows: &str, count: u32) -> bool {
-    met(alloc, text, rows) == Ok(count)
-}
-
-// The application of a text meets so many rows of a table, and no further one.
-fn meets(rt: &impl Abort, alloc: Global, text: &str, rows: &str, count: u32) {
-    assert!(rt; is_met(alloc, text, rows, count), "{rows}");
-}
-
-#[test]
-fn ordinary_use(rt: HostRuntime) {
-    meets(&rt, rt.alloc(), MOTOR, blocks::ORDINARY_USE, 6);
-}
-
-#[test]
-fn held_reset(rt: HostRuntime) {
-    meets(&rt, rt.alloc(), MOTOR, blocks::HELD_RESET, 3);
-}
 
 // The scans behind a restart, which begin anew at a later time.
-#[test]
-fn behind_a_restart(rt: HostRuntime) {
-    let rows = "\
+const BEHIND_A_RESTART: &str = "\
 30 101 0 8001
 40 101 0 8002
 ";
-    meets(&rt, rt.alloc(), MOTOR, rows, 2);
-}
 
 // The earliest and the latest time.
-#[test]
-fn largest_time(rt: HostRuntime) {
-    let rows = "\
+const LARGEST_TIME: &str = "\
 0 000 0 8001
 4294967295 000 0 8002
 ";
-    meets(&rt, rt.alloc(), MOTOR, rows, 2);
-}
-
-#[test]
-fn late_contact(rt: HostRuntime) {
-    meets(&rt, rt.alloc(), blocks::CONTACTS, blocks::LATE_CONTACT, 3);
-}
-
-#[test]
-fn contact_in_time(rt: HostRuntime) {
-    meets(
-        &rt,
-        rt.alloc(),
-        blocks::CONTACTS,
-        blocks::CONTACT_IN_TIME,
-        3,
-    );
-}
-
-#[test]
-fn limit_zero(rt: HostRuntime) {
-    meets(
-        &rt,
-        rt.alloc(),
-        blocks::CONTACTS_AT_ONCE,
-        blocks::LIMIT_ZERO,
-        3,
-    );
-}
-
-#[test]
-fn antivalent_contacts(rt: HostRuntime) {
-    meets(
-        &rt,
-        rt.alloc(),
-        blocks::OPPOSED_CONTACTS,
-        blocks::ANTIVALENT_CONTACTS,
-        6,
-    );
-}
-
-#[test]
-fn second_button_in_time(rt: HostRuntime) {
-    meets(
-        &rt,
-        rt.alloc(),
-        blocks::TWO_HANDS,
-        blocks::SECOND_BUTTON_IN_TIME,
-        4,
-    );
-}
-
-#[test]
-fn second_button_late(rt: HostRuntime) {
-    meets(
-        &rt,
-        rt.alloc(),
-        blocks::TWO_HANDS,
-        blocks::SECOND_BUTTON_LATE,
-        4,
-    );
-}
-
-#[test]
-fn no_second_button(rt: HostRuntime) {
-    meets(
-        &rt,
-        rt.alloc(),
-        blocks::TWO_HANDS,
-        blocks::NO_SECOND_BUTTON,
-        4,
-    );
-}
-
-#[test]
-fn mode_selector(rt: HostRuntime) {
-    meets(&rt, rt.alloc(), blocks::MODES, blocks::MODE_SELECTOR, 10);
-}
-
-#[test]
-fn enable_switch(rt: HostRuntime) {
-    meets(&rt, rt.alloc(), blocks::ENABLING, blocks::ENABLE_SWITCH, 9);
-}
-
-#[test]
-fn guard_locking(rt: HostRuntime) {
-    meets(&rt, rt.alloc(), blocks::LOCKING, blocks::GUARD_LOCKING, 10);
-}
-
-#[test]
-fn safety_request(rt: HostRuntime) {
-    meets(
-        &rt,
-        rt.alloc(),
-        blocks::REQUESTING,
-        blocks::SAFETY_REQUEST,
-        12,
-    );
-}
-
-#[test]
-fn press(rt: HostRuntime) {
-    meets(&rt, rt.alloc(), PRESS, PRESS_AT_WORK, 18);
-}
-
-#[test]
-fn feedback_of_locals(rt: HostRuntime) {
-    meets(&rt, rt.alloc(), FEEDBACK, FEEDBACK_ROWS, 3);
-}
 
 // S_O is S_A OR S_B AND S_C.
-#[test]
-fn deepest_expression(rt: HostRuntime) {
-    let rows = "\
+const DEEPEST: &str = "\
 0 000 0
 10 001 0
 20 010 0
@@ -166,42 +28,97 @@ fn deepest_expression(rt: HostRuntime) {
 40 100 1
 50 110 1
 ";
-    meets(&rt, rt.alloc(), DEEP, rows, 6);
-}
 
-#[test]
-fn deepest_expression_at_the_last_pin(rt: HostRuntime) {
-    meets(
-        &rt,
-        rt.alloc(),
-        blocks::DEEP_RESET,
-        blocks::MODE_SELECTOR,
-        10,
-    );
-}
-
-// A table that tells another code or output, or has too few inputs, is not met.
-#[test]
-fn wrong_code(rt: HostRuntime) {
-    let rows = "\
+// A table that tells another code.
+const WRONG_CODE: &str = "\
 0 00 0 8001
 10 10 0 8000
 ";
-    meets(&rt, rt.alloc(), blocks::CONTACTS, rows, 1);
-}
 
-#[test]
-fn wrong_output(rt: HostRuntime) {
-    let rows = "\
+// A table that tells another output.
+const WRONG_OUTPUT: &str = "\
 0 00 1 8001
 ";
-    meets(&rt, rt.alloc(), blocks::CONTACTS, rows, 0);
+
+// A table that has too few inputs.
+const TOO_FEW_INPUTS: &str = "\
+0 0 0 8001
+";
+
+// All tables.
+const TABLES: &[(&str, &str, &str, u32)] = &[
+    ("ordinary use", MOTOR, blocks::ORDINARY_USE, 6),
+    ("held reset", MOTOR, blocks::HELD_RESET, 3),
+    ("behind a restart", MOTOR, BEHIND_A_RESTART, 2),
+    ("largest time", MOTOR, LARGEST_TIME, 2),
+    ("late contact", blocks::CONTACTS, blocks::LATE_CONTACT, 3),
+    (
+        "contact in time",
+        blocks::CONTACTS,
+        blocks::CONTACT_IN_TIME,
+        3,
+    ),
+    (
+        "limit zero",
+        blocks::CONTACTS_AT_ONCE,
+        blocks::LIMIT_ZERO,
+        3,
+    ),
+    (
+        "antivalent contacts",
+        blocks::OPPOSED_CONTACTS,
+        blocks::ANTIVALENT_CONTACTS,
+        6,
+    ),
+    (
+        "second button in time",
+        blocks::TWO_HANDS,
+        blocks::SECOND_BUTTON_IN_TIME,
+        4,
+    ),
+    (
+        "second button late",
+        blocks::TWO_HANDS,
+        blocks::SECOND_BUTTON_LATE,
+        4,
+    ),
+    (
+        "no second button",
+        blocks::TWO_HANDS,
+        blocks::NO_SECOND_BUTTON,
+        4,
+    ),
+    ("mode selector", blocks::MODES, blocks::MODE_SELECTOR, 10),
+    ("enable switch", blocks::ENABLING, blocks::ENABLE_SWITCH, 9),
+    ("guard locking", blocks::LOCKING, blocks::GUARD_LOCKING, 10),
+    (
+        "safety request",
+        blocks::REQUESTING,
+        blocks::SAFETY_REQUEST,
+        12,
+    ),
+    ("press", PRESS, PRESS_AT_WORK, 18),
+    ("feedback of locals", FEEDBACK, FEEDBACK_ROWS, 3),
+    ("deepest expression", DEEP, DEEPEST, 6),
+    (
+        "deepest expression at the last pin",
+        blocks::DEEP_RESET,
+        blocks::MODE_SELECTOR,
+        10,
+    ),
+    ("wrong code", blocks::CONTACTS, WRONG_CODE, 1),
+    ("wrong output", blocks::CONTACTS, WRONG_OUTPUT, 0),
+    ("too few inputs", blocks::CONTACTS, TOO_FEW_INPUTS, 0),
+];
+
+/// All tables: a name, a text, a table of its rows, and how many of these its application meets before the first that it does not.
+pub fn tables() -> &'static [(&'static str, &'static str, &'static str, u32)] {
+    TABLES
 }
 
 #[test]
-fn too_few_inputs(rt: HostRuntime) {
-    let rows = "\
-0 0 0 8001
-";
-    meets(&rt, rt.alloc(), blocks::CONTACTS, rows, 0);
+fn worked_tables(rt: HostRuntime) {
+    for (name, text, rows, count) in tables() {
+        assert!(rt; met(rt.alloc(), text, rows) == Ok(*count), "{name}");
+    }
 }

@@ -1,22 +1,20 @@
 // Codes that are worked out by hand, and their figures.
 
-use ps_base::Fail;
-use ps_channel_tests::code::{Figures, accept, application};
-use ps_channel_tests::texts::{DEEP, MOTOR, TIMES, wide};
-use ps_decision::{DecisionChannel, DecisionImage, decision_image, turns_c};
-use ps_model::{App, Region, Sizes};
-use std::alloc::Global;
+ghost use Rattle.ps_model.specs.Typing.{Accepted};
 
-// The decision code of an application, where its SAFEBOOL flow is accepted.
-fn code_of(alloc: Global, app: &App) -> Result<DecisionImage, Fail> {
-    accept(alloc, app)?;
-    Ok(decision_image(alloc, app)?)
-}
+use crate::beside::channel_of;
+use ps_base::{Fail, Memory};
+use ps_channel_tests::code::{Figures, application};
+use ps_channel_tests::texts::{DEEP, MOTOR, TIMES, wide};
+use ps_decision::{decision_image, turns_c};
+use ps_model::{App, Region};
+use std::alloc::Global;
+use std::test::Fail as TestFail;
 
 // Whether the decision code of the application of a text has these bytes.
 fn has_code(alloc: Global, text: &str, code: &[u8]) -> Result<bool, Fail> {
     let app = application(alloc, text)?;
-    Ok(code_of(alloc, &app)?.as_slice() == code)
+    Ok(decision_image(alloc, &app)?.as_slice() == code)
 }
 
 const MOTOR_CODE: [u8; 127] = [
@@ -37,11 +35,6 @@ const MOTOR_CODE: [u8; 127] = [
     4, // END
 ];
 
-#[test]
-fn the_code_of_m(rt: HostRuntime) {
-    assert_eq!(rt; has_code(rt.alloc(), MOTOR, &MOTOR_CODE), Ok(true));
-}
-
 const TIMES_CODE: [u8; 126] = [
     2, 0xF0, 0, 0, 0, 0, 0, 8, // SET pin cell 0 := 0, on at 8: Activate, free
     1, 0, 0, 0, 0, 0, 19, 0, 0, 0, 27, // DECIDE S_A: 19, 27
@@ -60,18 +53,23 @@ const TIMES_CODE: [u8; 126] = [
     4, // END
 ];
 
+// A text, with the bytes of its code.
+const CODES: &[(&str, &[u8])] = &[(MOTOR, &MOTOR_CODE), (TIMES, &TIMES_CODE)];
+
 #[test]
-fn limits_and_free_pins(rt: HostRuntime) {
-    assert_eq!(rt; has_code(rt.alloc(), TIMES, &TIMES_CODE), Ok(true));
+fn codes(rt: HostRuntime) {
+    for (text, code) in CODES {
+        assert!(rt; has_code(rt.alloc(), text, code) == Ok(true), "{text}");
+    }
 }
 
-// The figures of channel C for an application, where its SAFEBOOL flow is accepted.
-fn figures_for(alloc: Global, app: &App) -> Result<Figures, Fail> {
-    let code = code_of(alloc, app)?;
-    let sizes = Sizes::of(alloc, app)?;
-    let channel = DecisionChannel::new(alloc, &code, &sizes)?;
+// The figures of channel C for an accepted application.
+fn figures_for(alloc: Global, app: &App) -> Result<Figures, Memory>
+    requires { Accepted app.now }
+{
+    let channel = channel_of(alloc, app)?;
     Ok(Figures {
-        code: code.len(),
+        code: channel.region_len(Region::Code),
         cells: channel.region_len(Region::Cells),
         turns: turns_c(app),
     })
@@ -80,42 +78,45 @@ fn figures_for(alloc: Global, app: &App) -> Result<Figures, Fail> {
 // The figures of channel C for the application of a text.
 fn figures(alloc: Global, text: &str) -> Result<Figures, Fail> {
     let app = application(alloc, text)?;
-    figures_for(alloc, &app)
+    Ok(figures_for(alloc, &app)?)
 }
 
-#[test]
-fn figures_of_m(rt: HostRuntime) {
-    let wanted = Figures {
-        code: 127,
-        cells: 45,
-        turns: 15,
-    };
-    assert_eq!(rt; figures(rt.alloc(), MOTOR), Ok(wanted));
-}
-
-// 35 signals are decided; then two rows set the target, and END.
-#[test]
-fn figures_of_the_deepest_expression(rt: HostRuntime) {
-    let wanted = Figures {
-        code: 11 * 35 + 2 * 8 + 1,
-        cells: 22 + 4,
-        turns: 35 + 2 + 1,
-    };
-    assert_eq!(rt; figures(rt.alloc(), DEEP), Ok(wanted));
-}
+// A text, with its figures. In the deepest expression 35 signals are decided; then two rows set the target, and END.
+const FIGURES: &[(&str, Figures)] = &[
+    (
+        MOTOR,
+        Figures {
+            code: 127,
+            cells: 45,
+            turns: 15,
+        },
+    ),
+    (
+        DEEP,
+        Figures {
+            code: 11 * 35 + 2 * 8 + 1,
+            cells: 22 + 4,
+            turns: 35 + 2 + 1,
+        },
+    ),
+];
 
 // The figures of the AND of 512 inputs, which are the most.
-fn widest_figures(alloc: Global) -> Result<Figures, Fail> {
-    let text = wide(alloc, 512)?;
-    figures(alloc, text.as_str())
-}
+const WIDEST: Figures = Figures {
+    code: 11 * 512 + 2 * 8 + 1,
+    cells: 22 + 513,
+    turns: 512 + 2 + 1,
+};
 
 #[test]
-fn figures_of_512_inputs(rt: HostRuntime) {
-    let wanted = Figures {
-        code: 11 * 512 + 2 * 8 + 1,
-        cells: 22 + 513,
-        turns: 512 + 2 + 1,
-    };
-    assert_eq!(rt; widest_figures(rt.alloc()), Ok(wanted));
+fn figures_of_each(rt: HostRuntime) -> Result<(), TestFail> {
+    for (text, wanted) in FIGURES {
+        assert!(rt; figures(rt.alloc(), text) == Ok(*wanted), "{text}");
+    }
+    let text = wide(rt.alloc(), 512)?;
+    assert!(rt;
+        figures(rt.alloc(), text.as_str()) == Ok(WIDEST),
+        "512 inputs"
+    );
+    Ok(())
 }

@@ -4,9 +4,13 @@
 //! - `beside`: channel C beside the other three, over the worked tables of ps_channel_tests; `worked` and `wide` are its tests.
 //! - `codes`: codes that are known from outside, with their figures.
 //! - `traps`: single turns over given bytes.
+//!
+//! The tests are few and go over tables, since each function is proved over all that the channels stand on. A failed assertion
+//! names its row.
 #![tactic(auto)]
 
-pub mod beside;
+#[cfg(test)]
+mod beside;
 #[cfg(test)]
 mod codes;
 #[cfg(test)]

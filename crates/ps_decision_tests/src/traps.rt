@@ -11,6 +11,7 @@ use ps_channel_tests::texts::MOTOR;
 use ps_decision::{DecisionChannel, DecisionImage};
 use ps_model::{Progress, Region, Sizes};
 use std::alloc::Global;
+use std::test::Fail as TestFail;
 
 // The bytes of words in hexadecimal; none where a word is no byte.
 fn code_in(alloc: Global, words: &str) -> Result<Option<DecisionImage>, Memory> {
@@ -72,18 +73,10 @@ fn does(alloc: Global, sizes: &Sizes, row: &str) -> Result<bool, Memory> {
     Ok(channel.progress() == progress)
 }
 
-// How many rows a channel of the sizes of an application's text does, one after the other, before the first that it does not.
-fn done(alloc: Global, text: &str, rows: &str) -> Result<u32, Fail> {
+// The sizes of the application of a text.
+fn sizes_of(alloc: Global, text: &str) -> Result<Sizes, Fail> {
     let app = application(alloc, text)?;
-    let sizes = Sizes::of(alloc, &app)?;
-    let mut count: u32 = 0;
-    for row in rows.lines() {
-        if !does(alloc, &sizes, row)? {
-            return Ok(count);
-        }
-        count = count.saturating_add(1);
-    }
-    Ok(count)
+    Ok(Sizes::of(alloc, &app)?)
 }
 
 // In M pin cells stand from byte 9 on, seven signals from byte 22 on and the one instance from byte 29 on.
@@ -109,11 +102,6 @@ FF 04 |  | 1 | 1
 03 00 01 00 00 05 00 00 00 |  | 1 | 2
 ";
 
-#[test]
-fn reading(rt: HostRuntime) {
-    assert_eq!(rt; done(rt.alloc(), MOTOR, READING), Ok(17));
-}
-
 // DECIDE: 5 for a bad operand, 4 for its byte; a place past the end is the next turn's.
 const DECISIONS: &str = "\
 01 00 06 00 00 00 00 00 00 00 00 |  | 1 | run
@@ -135,11 +123,6 @@ const DECISIONS: &str = "\
 01 00 06 FF FF FF FF 00 00 00 0B 04 | 28=1 | 2 | 2
 ";
 
-#[test]
-fn decisions(rt: HostRuntime) {
-    assert_eq!(rt; done(rt.alloc(), MOTOR, DECISIONS), Ok(17));
-}
-
 // SET: 5 for a bad target, 4 for its byte; a place past the end is the next turn's.
 const SETTINGS: &str = "\
 02 00 06 00 00 00 00 08 04 | 28=2 | 2 | done
@@ -153,11 +136,6 @@ const SETTINGS: &str = "\
 02 00 06 01 00 00 00 09 04 |  | 1 | run
 02 00 06 01 00 00 00 09 04 |  | 2 | 2
 ";
-
-#[test]
-fn settings(rt: HostRuntime) {
-    assert_eq!(rt; done(rt.alloc(), MOTOR, SETTINGS), Ok(10));
-}
 
 // CALL: 6 for an instance or a kind, 5 for outputs, 4 for a pin cell, 7 for the instance's bytes.
 const CALLS: &str = "\
@@ -176,11 +154,6 @@ const CALLS: &str = "\
 03 00 00 03 00 04 00 00 00 00 | 13=1 14=2 | 1 | run
 ";
 
-#[test]
-fn calls(rt: HostRuntime) {
-    assert_eq!(rt; done(rt.alloc(), MOTOR, CALLS), Ok(13));
-}
-
 // CALL over the bytes of an SF_EmergencyStop: 7 where they load for no state.
 const LOADING: &str = "\
 03 00 00 03 00 04 00 00 00 00 | 29=80 30=05 | 1 | run
@@ -194,11 +167,6 @@ const LOADING: &str = "\
 03 00 00 03 00 04 00 00 00 00 | 44=1 | 1 | 7
 ";
 
-#[test]
-fn bytes_that_do_not_load(rt: HostRuntime) {
-    assert_eq!(rt; done(rt.alloc(), MOTOR, LOADING), Ok(9));
-}
-
 // A kind with thirteen pins and eleven outputs among sixteen signals: its last pin cell is read, and its last output fits.
 const THIRTEEN_PINS: &str = "\
 03 00 00 05 00 05 00 00 00 00 | 21=1 | 1 | run
@@ -207,7 +175,23 @@ const THIRTEEN_PINS: &str = "\
 03 00 00 05 00 06 00 00 00 00 |  | 1 | 5
 ";
 
+// Each application with a table of its rows.
+const TABLES: &[(&str, &str)] = &[
+    (MOTOR, READING),
+    (MOTOR, DECISIONS),
+    (MOTOR, SETTINGS),
+    (MOTOR, CALLS),
+    (MOTOR, LOADING),
+    (MODES, THIRTEEN_PINS),
+];
+
 #[test]
-fn thirteen_pins(rt: HostRuntime) {
-    assert_eq!(rt; done(rt.alloc(), MODES, THIRTEEN_PINS), Ok(4));
+fn turns(rt: HostRuntime) -> Result<(), TestFail> {
+    for (text, rows) in TABLES {
+        let sizes = sizes_of(rt.alloc(), text)?;
+        for row in rows.lines() {
+            assert!(rt; does(rt.alloc(), &sizes, row) == Ok(true), "{row}");
+        }
+    }
+    Ok(())
 }

@@ -1,11 +1,7 @@
 // Heights, pins and bytes of instances, each on both sides of its bounds. The cells are those of M, with the stack's height at
 // 4. CALL is of M's instance as SF_EmergencyStop.
 
-use super::traps::turns;
-
-#[test]
-fn heights(rt: HostRuntime) {
-    let table = "\
+const HEIGHTS: &str = "\
 01 00 06 | 4=00 => runs
 01 00 06 | 4=3f => runs
 01 00 06 | 4=40 => trap 3
@@ -29,12 +25,8 @@ fn heights(rt: HostRuntime) {
 05 07 07 | 4=40 => runs
 05 07 07 | 4=41 => trap 3
 ";
-    turns(&rt, rt.alloc(), table);
-}
 
-#[test]
-fn heights_of_a_call(rt: HostRuntime) {
-    let table = "\
+const HEIGHTS_OF_A_CALL: &str = "\
 06 00 00 03 00 04 00 00 00 00 | 4=00 74=00 => trap 3
 06 00 00 03 00 04 00 00 00 00 | 4=04 74=00 => trap 3
 06 00 00 03 00 04 00 00 00 00 | 4=05 74=00 => runs
@@ -43,12 +35,8 @@ fn heights_of_a_call(rt: HostRuntime) {
 06 00 00 03 00 04 00 00 00 00 | 4=41 74=00 => trap 3
 06 00 00 03 00 04 00 00 00 00 | 4=ff 74=00 => trap 3
 ";
-    turns(&rt, rt.alloc(), table);
-}
 
-#[test]
-fn a_two_where_a_boolean_is_read(rt: HostRuntime) {
-    let table = "\
+const A_TWO_WHERE_A_BOOLEAN_IS_READ: &str = "\
 01 00 06 | 4=00 80=02 => trap 4
 01 00 06 | 4=00 79=02 => runs
 02 00 06 | 4=03 12=02 => trap 4
@@ -63,12 +51,8 @@ fn a_two_where_a_boolean_is_read(rt: HostRuntime) {
 05 07 07 | 4=03 10=02 => runs
 05 07 07 | 4=03 13=02 => runs
 ";
-    turns(&rt, rt.alloc(), table);
-}
 
-#[test]
-fn a_two_at_each_pin(rt: HostRuntime) {
-    let table = "\
+const A_TWO_AT_EACH_PIN: &str = "\
 06 00 00 03 00 04 00 00 00 00 | 4=06 11=02 => trap 4
 06 00 00 03 00 04 00 00 00 00 | 4=06 12=02 => trap 4
 06 00 00 03 00 04 00 00 00 00 | 4=06 13=02 => trap 4
@@ -77,12 +61,8 @@ fn a_two_at_each_pin(rt: HostRuntime) {
 06 00 00 03 00 04 00 00 00 00 | 4=06 10=02 => runs
 06 00 00 03 00 04 00 00 00 00 | 4=06 16=02 => runs
 ";
-    turns(&rt, rt.alloc(), table);
-}
 
-#[test]
-fn bytes_of_an_instance(rt: HostRuntime) {
-    let table = "\
+const BYTES_OF_AN_INSTANCE: &str = "\
 06 00 00 03 00 04 00 00 00 00 | 4=05 83=01 => runs
 06 00 00 03 00 04 00 00 00 00 | 4=05 83=02 => trap 7
 06 00 00 03 00 04 00 00 00 00 | 4=05 84=02 => trap 7
@@ -99,5 +79,12 @@ fn bytes_of_an_instance(rt: HostRuntime) {
 06 00 00 03 00 04 00 00 00 00 | 4=05 95=01 => trap 7
 06 00 00 03 00 04 00 00 00 00 | 4=05 96=01 => trap 7
 ";
-    turns(&rt, rt.alloc(), table);
-}
+
+/// The tables.
+pub const TABLES: &[&str] = &[
+    HEIGHTS,
+    HEIGHTS_OF_A_CALL,
+    A_TWO_WHERE_A_BOOLEAN_IS_READ,
+    A_TWO_AT_EACH_PIN,
+    BYTES_OF_AN_INSTANCE,
+];

@@ -1,10 +1,11 @@
-// The application M: three inputs, one output and one SF_EmergencyStop, so seven signals and one instance. Its steps are
-// E(Activate := TRUE, S_EStopIn := S_In, Reset := Ack); and S_Motor := E.S_EStopOut AND Run;
+// The application M in channel A. Its steps are E(Activate := TRUE, S_EStopIn := S_In, Reset := Ack); and
+// S_Motor := E.S_EStopOut AND Run;
 
 ghost use Rattle.std.specs.Prelude.{◌≡◌, ◌<◌, ◌^◌, IfOk, length};
 
+use crate::motor::Motor;
 use ps_base::Memory;
-use ps_model::{Bits, Diags, FirstPins, Kind, Kinds, Report, Scan, Sizes};
+use ps_model::{FirstPins, Kind, Kinds, Progress, Region, Sizes};
 use ps_stackvm::{StackChannel, StackImage};
 use std::alloc::Global;
 
@@ -65,24 +66,31 @@ pub fn channel(alloc: Global, code: &[u8]) -> Result<StackChannel, Memory>
     StackChannel::new(alloc, &image, &sizes)
 }
 
-/// A scan of M.
-pub fn scan(alloc: Global, now: u32, ins: [bool; 3]) -> Result<Scan, Memory>
-    ensures { IfOk result (λ s. length s.ins ≡ 3) }
-{
-    let [s_in, ack, run] = ins;
-    let mut bits = Bits::new(alloc);
-    bits.push(s_in)?;
-    bits.push(ack)?;
-    bits.push(run)?;
-    Ok(Scan { now, ins: bits })
+impl Motor for StackChannel {
+    fn with_code(alloc: Global, code: &[u8]) -> Option<StackChannel> {
+        if code.len() >= 100 {
+            return None;
+        }
+        channel(alloc, code).ok()
+    }
+
+    fn stored(plain: u8) -> u8 {
+        plain
+    }
+
+    fn replace(&mut self, region: Region, at: u32, bytes: &[u8]) -> bool {
+        self.spoil(region, at, bytes).is_ok()
+    }
+
+    fn take_turn(&mut self) -> Option<Progress> {
+        if self.turns(1) == 0 {
+            return None;
+        }
+        Some(self.progress())
+    }
 }
 
-/// A report of M's sizes.
-pub fn report(alloc: Global) -> Result<Report, Memory>
-    ensures outs { IfOk result (λ r. length r.outs ≡ 1) }
-    ensures diags { IfOk result (λ r. length r.diags ≡ 1) }
-{
-    let outs = Bits::all_false(alloc, 1)?;
-    let diags = Diags::all_idle(alloc, 1)?;
-    Ok(Report { outs, diags })
+/// Whether the byte at a place of the cells is this one.
+pub fn is_cell(channel: &StackChannel, at: u32, byte: u8) -> bool {
+    at < channel.region_len(Region::Cells) && channel.cell(at) == byte
 }

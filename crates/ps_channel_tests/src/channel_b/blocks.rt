@@ -1,162 +1,101 @@
-// The traps of BLOCK on both sides of every bound, and which comes where two causes meet.
+// The traps of BLOCK (f4) on both sides of every bound, and which comes where two causes meet. A row is an instance in two bytes,
+// a kind, the first output signal in two bytes, the limit in four, and a number of operands, of two bytes each.
 
-use super::fixtures::stands;
-use ps_model::Progress;
-use std::alloc::Global;
-use std::process::Abort;
-use std::test::Fail;
-
-// A BLOCK row of a kind with so many operands, over six operands that are FALSE.
-fn row(instance: u16, kind: u8, first: u16, count: u8) -> [u8; 23] {
-    let [i0, i1] = instance.to_be_bytes();
-    let [o0, o1] = first.to_be_bytes();
-    [
-        0xF4, i0, i1, kind, o0, o1, 0, 0, 0, 0, count, // the limit is 0
-        0xFF, 0xFE, 0xFF, 0xFE, 0xFF, 0xFE, 0xFF, 0xFE, 0xFF, 0xFE, 0xFF, 0xFE,
-    ]
-}
-
-// The row of M's SF_EmergencyStop cut to so many bytes, where so many operands are told.
-#[test]
-fn the_end_of_a_row(rt: HostRuntime) -> Result<(), Fail> {
-    let cases = [
-        (0, 10, Progress::Trapped(2)),
-        (0, 11, Progress::Trapped(3)),
-        (1, 11, Progress::Trapped(2)),
-        (5, 11, Progress::Trapped(2)),
-        (5, 12, Progress::Trapped(2)),
-        (5, 20, Progress::Trapped(2)),
-        (5, 21, Progress::Running),
-        (6, 22, Progress::Trapped(2)),
-        (6, 23, Progress::Trapped(3)),
-        (255, 23, Progress::Trapped(2)),
-    ];
-    for (count, len, wanted) in cases {
-        assert!(rt; len <= 23);
-        let code = row(0, 3, 4, count);
-        stands(&rt, rt.alloc(), &code[..len], &[], wanted)?;
-    }
-    Ok(())
-}
+// The row of M's SF_EmergencyStop cut short, where so many operands are told.
+const END_OF_A_ROW: &str = "\
+f4 00 00 03 00 04 00 00 00 00 => trap 2
+f4 00 00 03 00 04 00 00 00 00 00 => trap 3
+f4 00 00 03 00 04 00 00 00 00 01 => trap 2
+f4 00 00 03 00 04 00 00 00 00 05 => trap 2
+f4 00 00 03 00 04 00 00 00 00 05 ff => trap 2
+f4 00 00 03 00 04 00 00 00 00 05 ff fe ff fe ff fe ff fe ff => trap 2
+f4 00 00 03 00 04 00 00 00 00 05 ff fe ff fe ff fe ff fe ff fe => runs
+f4 00 00 03 00 04 00 00 00 00 06 ff fe ff fe ff fe ff fe ff fe ff => trap 2
+f4 00 00 03 00 04 00 00 00 00 06 ff fe ff fe ff fe ff fe ff fe ff fe => trap 3
+f4 00 00 03 00 04 00 00 00 00 ff ff fe ff fe ff fe ff fe ff fe ff fe => trap 2
+";
 
 // Instance, kind, first output signal and number of operands. There is one instance, and there are seven signals.
-#[test]
-fn instances_kinds_and_outputs(rt: HostRuntime) -> Result<(), Fail> {
-    let cases = [
-        (0, 3, 4, 5, Progress::Running),
-        (0, 4, 4, 5, Progress::Running),
-        (0, 13, 4, 6, Progress::Running),
-        (1, 3, 4, 5, Progress::Trapped(6)),
-        (0xFFFF, 3, 4, 5, Progress::Trapped(6)),
-        (0, 0, 4, 5, Progress::Trapped(6)),
-        (0, 14, 4, 5, Progress::Trapped(6)),
-        (0, 255, 4, 5, Progress::Trapped(6)),
-        (0, 3, 5, 5, Progress::Trapped(5)),
-        (0, 3, 0xFFFF, 5, Progress::Trapped(5)),
-        (0, 11, 3, 5, Progress::Trapped(3)),
-        (0, 11, 4, 5, Progress::Trapped(5)),
-        (0, 3, 4, 4, Progress::Trapped(3)),
-        (0, 3, 4, 6, Progress::Trapped(3)),
-        (1, 14, 5, 4, Progress::Trapped(6)),
-        (0, 3, 5, 4, Progress::Trapped(5)),
-    ];
-    for (instance, kind, first, count, wanted) in cases {
-        let code = row(instance, kind, first, count);
-        stands(&rt, rt.alloc(), &code, &[], wanted)?;
-    }
-    Ok(())
-}
-
-// Turns of the row of M's SF_EmergencyStop with so many operands, of which one is told, and where a byte of the cells
-// has a plain value.
-fn take_turns(
-    rt: &impl Abort,
-    alloc: Global,
-    cases: &[(u8, u16, u32, u8, Progress)],
-) -> Result<(), Fail> {
-    for (count, operand, at, plain, wanted) in cases {
-        let mut code = row(0, 3, 4, *count);
-        let [high, low] = operand.to_be_bytes();
-        code[17] = high;
-        code[18] = low;
-        stands(rt, alloc, &code, &[(*at, *plain)], *wanted)?;
-    }
-    Ok(())
-}
+const INSTANCES_KINDS_AND_OUTPUTS: &str = "\
+f4 00 00 03 00 04 00 00 00 00 05 ff fe ff fe ff fe ff fe ff fe ff fe => runs
+f4 00 00 04 00 04 00 00 00 00 05 ff fe ff fe ff fe ff fe ff fe ff fe => runs
+f4 00 00 0d 00 04 00 00 00 00 06 ff fe ff fe ff fe ff fe ff fe ff fe => runs
+f4 00 01 03 00 04 00 00 00 00 05 ff fe ff fe ff fe ff fe ff fe ff fe => trap 6
+f4 ff ff 03 00 04 00 00 00 00 05 ff fe ff fe ff fe ff fe ff fe ff fe => trap 6
+f4 00 00 00 00 04 00 00 00 00 05 ff fe ff fe ff fe ff fe ff fe ff fe => trap 6
+f4 00 00 0e 00 04 00 00 00 00 05 ff fe ff fe ff fe ff fe ff fe ff fe => trap 6
+f4 00 00 ff 00 04 00 00 00 00 05 ff fe ff fe ff fe ff fe ff fe ff fe => trap 6
+f4 00 00 03 00 05 00 00 00 00 05 ff fe ff fe ff fe ff fe ff fe ff fe => trap 5
+f4 00 00 03 ff ff 00 00 00 00 05 ff fe ff fe ff fe ff fe ff fe ff fe => trap 5
+f4 00 00 0b 00 03 00 00 00 00 05 ff fe ff fe ff fe ff fe ff fe ff fe => trap 3
+f4 00 00 0b 00 04 00 00 00 00 05 ff fe ff fe ff fe ff fe ff fe ff fe => trap 5
+f4 00 00 03 00 04 00 00 00 00 04 ff fe ff fe ff fe ff fe ff fe ff fe => trap 3
+f4 00 00 03 00 04 00 00 00 00 06 ff fe ff fe ff fe ff fe ff fe ff fe => trap 3
+f4 00 01 0e 00 05 00 00 00 00 04 ff fe ff fe ff fe ff fe ff fe ff fe => trap 6
+f4 00 00 03 00 05 00 00 00 00 04 ff fe ff fe ff fe ff fe ff fe ff fe => trap 5
+";
 
 // Operand 3 of the row. The operands are judged before their number, and their number before their bytes.
-#[test]
-fn operands(rt: HostRuntime) -> Result<(), Fail> {
-    let cases = [
-        (5, 6, 0, 0, Progress::Running),
-        (5, 7, 0, 0, Progress::Trapped(5)),
-        (5, 3999, 0, 0, Progress::Trapped(5)),
-        (5, 4000, 0, 0, Progress::Trapped(5)),
-        (5, 0xF000, 0, 0, Progress::Running),
-        (5, 0xF02F, 0, 0, Progress::Running),
-        (5, 0xF030, 0, 0, Progress::Trapped(5)),
-        (5, 0xFFFD, 0, 0, Progress::Trapped(5)),
-        (5, 0xFFFF, 0, 0, Progress::Running),
-        (4, 0xFFFD, 0, 0, Progress::Trapped(5)),
-        (6, 0xFFFD, 0, 0, Progress::Trapped(5)),
-        (3, 0xFFFD, 0, 0, Progress::Trapped(3)),
-        (5, 1, 62, 1, Progress::Running),
-        (5, 1, 62, 2, Progress::Trapped(4)),
-        (5, 1, 62, 255, Progress::Trapped(4)),
-        (5, 2, 62, 255, Progress::Running),
-        (5, 0xF02F, 60, 2, Progress::Trapped(4)),
-        (4, 1, 62, 2, Progress::Trapped(3)),
-    ];
-    take_turns(&rt, rt.alloc(), &cases)
-}
+const OPERANDS: &str = "\
+f4 00 00 03 00 04 00 00 00 00 05 ff fe ff fe ff fe 00 06 ff fe ff fe | 0=00 => runs
+f4 00 00 03 00 04 00 00 00 00 05 ff fe ff fe ff fe 00 07 ff fe ff fe | 0=00 => trap 5
+f4 00 00 03 00 04 00 00 00 00 05 ff fe ff fe ff fe 0f 9f ff fe ff fe | 0=00 => trap 5
+f4 00 00 03 00 04 00 00 00 00 05 ff fe ff fe ff fe 0f a0 ff fe ff fe | 0=00 => trap 5
+f4 00 00 03 00 04 00 00 00 00 05 ff fe ff fe ff fe f0 00 ff fe ff fe | 0=00 => runs
+f4 00 00 03 00 04 00 00 00 00 05 ff fe ff fe ff fe f0 2f ff fe ff fe | 0=00 => runs
+f4 00 00 03 00 04 00 00 00 00 05 ff fe ff fe ff fe f0 30 ff fe ff fe | 0=00 => trap 5
+f4 00 00 03 00 04 00 00 00 00 05 ff fe ff fe ff fe ff fd ff fe ff fe | 0=00 => trap 5
+f4 00 00 03 00 04 00 00 00 00 05 ff fe ff fe ff fe ff ff ff fe ff fe | 0=00 => runs
+f4 00 00 03 00 04 00 00 00 00 04 ff fe ff fe ff fe ff fd ff fe ff fe | 0=00 => trap 5
+f4 00 00 03 00 04 00 00 00 00 06 ff fe ff fe ff fe ff fd ff fe ff fe | 0=00 => trap 5
+f4 00 00 03 00 04 00 00 00 00 03 ff fe ff fe ff fe ff fd ff fe ff fe | 0=00 => trap 3
+f4 00 00 03 00 04 00 00 00 00 05 ff fe ff fe ff fe 00 01 ff fe ff fe | 62=01 => runs
+f4 00 00 03 00 04 00 00 00 00 05 ff fe ff fe ff fe 00 01 ff fe ff fe | 62=02 => trap 4
+f4 00 00 03 00 04 00 00 00 00 05 ff fe ff fe ff fe 00 01 ff fe ff fe | 62=ff => trap 4
+f4 00 00 03 00 04 00 00 00 00 05 ff fe ff fe ff fe 00 02 ff fe ff fe | 62=ff => runs
+f4 00 00 03 00 04 00 00 00 00 05 ff fe ff fe ff fe f0 2f ff fe ff fe | 60=02 => trap 4
+f4 00 00 03 00 04 00 00 00 00 04 ff fe ff fe ff fe 00 01 ff fe ff fe | 62=02 => trap 3
+";
 
-// A byte of the instance, from 68 on: DiagCode, last Reset, last auxiliary input, mode, the time that remains, and seven
-// bytes that are 0.
-#[test]
-fn bytes_that_do_not_load(rt: HostRuntime) -> Result<(), Fail> {
-    let cases = [
-        (5, 0, 68, 0x80, Progress::Running),
-        (5, 0, 68, 0x81, Progress::Trapped(7)),
-        (5, 0, 69, 1, Progress::Trapped(7)),
-        (5, 0, 70, 1, Progress::Running),
-        (5, 0, 70, 2, Progress::Trapped(7)),
-        (5, 0, 71, 1, Progress::Trapped(7)),
-        (5, 0, 72, 1, Progress::Trapped(7)),
-        (5, 0, 73, 255, Progress::Running),
-        (5, 0, 76, 255, Progress::Running),
-        (5, 0, 77, 1, Progress::Trapped(7)),
-        (5, 0, 80, 128, Progress::Trapped(7)),
-        (5, 0, 83, 1, Progress::Trapped(7)),
-        (4, 0, 68, 0x81, Progress::Trapped(3)),
-        (5, 7, 68, 0x81, Progress::Trapped(5)),
-    ];
-    take_turns(&rt, rt.alloc(), &cases)
-}
+// A byte of the instance, from 68 on: DiagCode, last Reset, last auxiliary input, mode, the time that remains, and seven bytes that
+// are 0.
+const LOADING: &str = "\
+f4 00 00 03 00 04 00 00 00 00 05 ff fe ff fe ff fe 00 00 ff fe ff fe | 68=80 => runs
+f4 00 00 03 00 04 00 00 00 00 05 ff fe ff fe ff fe 00 00 ff fe ff fe | 68=81 => trap 7
+f4 00 00 03 00 04 00 00 00 00 05 ff fe ff fe ff fe 00 00 ff fe ff fe | 69=01 => trap 7
+f4 00 00 03 00 04 00 00 00 00 05 ff fe ff fe ff fe 00 00 ff fe ff fe | 70=01 => runs
+f4 00 00 03 00 04 00 00 00 00 05 ff fe ff fe ff fe 00 00 ff fe ff fe | 70=02 => trap 7
+f4 00 00 03 00 04 00 00 00 00 05 ff fe ff fe ff fe 00 00 ff fe ff fe | 71=01 => trap 7
+f4 00 00 03 00 04 00 00 00 00 05 ff fe ff fe ff fe 00 00 ff fe ff fe | 72=01 => trap 7
+f4 00 00 03 00 04 00 00 00 00 05 ff fe ff fe ff fe 00 00 ff fe ff fe | 73=ff => runs
+f4 00 00 03 00 04 00 00 00 00 05 ff fe ff fe ff fe 00 00 ff fe ff fe | 76=ff => runs
+f4 00 00 03 00 04 00 00 00 00 05 ff fe ff fe ff fe 00 00 ff fe ff fe | 77=01 => trap 7
+f4 00 00 03 00 04 00 00 00 00 05 ff fe ff fe ff fe 00 00 ff fe ff fe | 80=80 => trap 7
+f4 00 00 03 00 04 00 00 00 00 05 ff fe ff fe ff fe 00 00 ff fe ff fe | 83=01 => trap 7
+f4 00 00 03 00 04 00 00 00 00 04 ff fe ff fe ff fe 00 00 ff fe ff fe | 68=81 => trap 3
+f4 00 00 03 00 04 00 00 00 00 05 ff fe ff fe ff fe 00 07 ff fe ff fe | 68=81 => trap 5
+";
 
 // States of SF_EmergencyStop, by the lower byte of a DiagCode whose higher byte is 80.
-#[test]
-fn states(rt: HostRuntime) -> Result<(), Fail> {
-    let cases = [
-        (0, Progress::Running),
-        (1, Progress::Running),
-        (5, Progress::Running),
-        (6, Progress::Trapped(7)),
-        (0x14, Progress::Trapped(7)),
-    ];
-    for (low, wanted) in cases {
-        let places = [(68, 0x80), (69, low)];
-        stands(&rt, rt.alloc(), &row(0, 3, 4, 5), &places, wanted)?;
-    }
-    Ok(())
-}
+const STATES: &str = "\
+f4 00 00 03 00 04 00 00 00 00 05 ff fe ff fe ff fe ff fe ff fe ff fe | 68=80 69=00 => runs
+f4 00 00 03 00 04 00 00 00 00 05 ff fe ff fe ff fe ff fe ff fe ff fe | 68=80 69=01 => runs
+f4 00 00 03 00 04 00 00 00 00 05 ff fe ff fe ff fe ff fe ff fe ff fe | 68=80 69=05 => runs
+f4 00 00 03 00 04 00 00 00 00 05 ff fe ff fe ff fe ff fe ff fe ff fe | 68=80 69=06 => trap 7
+f4 00 00 03 00 04 00 00 00 00 05 ff fe ff fe ff fe ff fe ff fe ff fe | 68=80 69=14 => trap 7
+";
 
 // An odd operand comes before bytes that do not load.
-#[test]
-fn odd_before_unloadable(rt: HostRuntime) -> Result<(), Fail> {
-    let mut code = row(0, 3, 4, 5);
-    code[11] = 0;
-    code[12] = 1;
-    let places = [(62, 2), (68, 0x81)];
-    stands(&rt, rt.alloc(), &code, &places, Progress::Trapped(4))?;
-    Ok(())
-}
+const ODD_BEFORE_UNLOADABLE: &str = "\
+f4 00 00 03 00 04 00 00 00 00 05 00 01 ff fe ff fe ff fe ff fe ff fe | 62=02 68=81 => trap 4
+";
+
+/// The tables.
+pub const TABLES: &[&str] = &[
+    END_OF_A_ROW,
+    INSTANCES_KINDS_AND_OUTPUTS,
+    OPERANDS,
+    LOADING,
+    STATES,
+    ODD_BEFORE_UNLOADABLE,
+];

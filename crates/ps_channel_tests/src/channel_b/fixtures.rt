@@ -1,17 +1,14 @@
-// The application M: three inputs, one output and one SF_EmergencyStop, so seven signals and one instance. Its steps are
-// E(Activate := TRUE, S_EStopIn := S_In, Reset := Ack); and S_Motor := E.S_EStopOut AND Run; its cells have 84 bytes, of
-// which those of the signals begin at 61 and those of the instance at 68.
+// The application M in channel B. Its steps are E(Activate := TRUE, S_EStopIn := S_In, Reset := Ack); and
+// S_Motor := E.S_EStopOut AND Run; its cells have 84 bytes, of which those of the signals begin at 61 and those of the instance
+// at 68.
 
 ghost use Rattle.std.specs.Prelude.{◌≡◌, ◌+◌, ◌<◌, ◌^◌, IfOk, length};
 
+use crate::motor::{Motor, report, said, scan};
 use ps_base::Memory;
 use ps_eqvm::{EquationChannel, EquationImage};
-use ps_model::{
-    Bits, Diags, FirstPins, Kind, Kinds, Progress, Region, Report, Scan, Sizes, output_count,
-};
+use ps_model::{FirstPins, Kind, Kinds, Progress, Region, Sizes, output_count};
 use std::alloc::Global;
-use std::process::Abort;
-use std::test::Fail;
 
 /// The code of M.
 pub const CODE: [u8; 37] = [
@@ -84,83 +81,59 @@ pub fn motor(alloc: Global, code: &[u8]) -> Result<EquationChannel, Memory>
     channel(alloc, Kind::EmergencyStop, 3, 1, code)
 }
 
-/// One turn, where the scan runs.
-pub fn turn(channel: &mut EquationChannel)
+impl Motor for EquationChannel {
+    fn with_code(alloc: Global, code: &[u8]) -> Option<EquationChannel> {
+        if code.len() >= 100 {
+            return None;
+        }
+        motor(alloc, code).ok()
+    }
+
+    fn stored(plain: u8) -> u8 {
+        255 - plain
+    }
+
+    fn replace(&mut self, region: Region, at: u32, bytes: &[u8]) -> bool {
+        self.spoil(region, at, bytes).is_ok()
+    }
+
+    fn take_turn(&mut self) -> Option<Progress> {
+        if self.turns(1) == 0 {
+            return None;
+        }
+        Some(self.progress())
+    }
+}
+
+// So many turns of one scan, each of which runs. Fewer where it stops.
+fn turns_made(channel: &mut EquationChannel, most: u8) -> u8
     ensures { channel.new.sizes ≡ channel.old.sizes }
 {
-    if channel.progress() == Progress::Running {
+    for done in 0..most {
+        if channel.progress() != Progress::Running {
+            return done;
+        }
         channel.turn();
     }
+    most
 }
 
-/// Where M's channel stands after one turn of this code, over cells of plain value 0 in which these
-/// places have these plain bytes.
-pub fn after_a_turn(
-    rt: &impl Abort,
-    alloc: Global,
-    code: &[u8],
-    places: &[(u32, u8)],
-) -> Result<Progress, Memory>
-    requires { length code.now < 2 ^ 32 }
-{
-    let mut channel = motor(alloc, code)?;
-    for (at, plain) in places {
-        assert!(rt; channel.spoil(Region::Cells, *at, &[255 - *plain]).is_ok());
-    }
-    turn(&mut channel);
-    Ok(channel.progress())
-}
-
-/// M's channel stands so after one turn of this code, over cells of plain value 0 in which these
-/// places have these plain bytes.
-pub fn stands(
-    rt: &impl Abort,
-    alloc: Global,
-    code: &[u8],
-    places: &[(u32, u8)],
-    wanted: Progress,
-) -> Result<(), Memory>
-    requires { length code.now < 2 ^ 32 }
-{
-    let is_so = after_a_turn(rt, alloc, code, places)? == wanted;
-    assert!(rt; is_so, "{code:?} {places:?}");
-    Ok(())
-}
-
-/// A scan with these inputs.
-pub fn scan(alloc: Global, now: u32, inputs: &[bool]) -> Result<Scan, Memory>
-    ensures { IfOk result (λ s. length s.ins ≡ length inputs.now) }
-{
-    let mut ins = Bits::new(alloc);
-    for input in inputs {
-        ins.push(*input)?;
-    }
-    Ok(Scan { now, ins })
-}
-
-/// One scan of so many turns: each but the last leaves it running, and then it is done.
-pub fn make_scan(
-    rt: &impl Abort,
+/// One scan. Whether it is done after exactly so many turns.
+pub fn is_made(
     alloc: Global,
     channel: &mut EquationChannel,
     now: u32,
     inputs: &[bool],
     turns: u8,
-) -> Result<(), Fail>
+) -> bool
     requires { length inputs.now ≡ channel.old.sizes.inputs }
     ensures { channel.new.sizes ≡ channel.old.sizes }
 {
-    let scan = scan(alloc, now, inputs)?;
+    let Ok(scan) = scan(alloc, now, inputs) else {
+        return false;
+    };
     channel.begin(&scan);
-    for done in 0..turns {
-        assert!(rt;
-            channel.progress() == Progress::Running,
-            "{done} turns at {now}"
-        );
-        channel.turn();
-    }
-    assert!(rt; channel.progress() == Progress::Done, "at {now}");
-    Ok(())
+    turns_made(channel, turns) == turns && channel.progress() == Progress::Done
 }
 
 /// What a channel of one output and one instance reports: the output, and the DiagCode of the
@@ -169,11 +142,9 @@ pub fn reported(alloc: Global, channel: &EquationChannel) -> Result<Option<(bool
     requires outputs { channel.now.sizes.outputs ≡ 1 }
     requires instances { channel.now.sizes.instances ≡ 1 }
 {
-    let outs = Bits::all_false(alloc, 1)?;
-    let diags = Diags::all_idle(alloc, 1)?;
-    let mut report = Report { outs, diags };
-    if channel.report_into(&mut report) && report.outs.len() == 1 && report.diags.len() == 1 {
-        Ok(Some((report.outs.at(0), report.diags.at(0).code)))
+    let mut report = report(alloc)?;
+    if channel.report_into(&mut report) {
+        Ok(said(&report))
     } else {
         Ok(None)
     }

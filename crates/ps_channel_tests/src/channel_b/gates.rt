@@ -1,178 +1,167 @@
-// The reading of rows, and the traps of SET, ALL and ANY on both sides of every bound, and which comes where two causes
-// meet.
+// The reading of rows, and the traps of SET (f1), ALL (f2) and ANY (f3) on both sides of every bound, and which comes where two
+// causes meet. A row is an opcode with a target and an operand. There are seven signals, and signal 1 stands at 62.
 
-use super::fixtures::{channel, stands, turn};
+use super::fixtures::channel;
+use crate::motor::Motor;
 use ps_model::{Kind, Progress};
 use std::alloc::Global;
-use std::process::Abort;
-use std::test::Fail;
 
-const SET: u8 = 0xF1;
+// The rows at the ends of code: the first bytes of LAST and SET, as many as are told, from an offset whose lowest byte stands at 3.
+const END_OF_CODE: &str = "\
+f0 | 3=00 => done
+ | 3=00 => trap 2
+f0 | 3=01 => trap 2
+f0 f1 | 3=01 => trap 2
+f0 f1 00 00 00 | 3=01 => trap 2
+f0 f1 00 00 00 01 | 3=01 => runs
+f0 f1 00 00 00 01 | 3=05 => trap 1
+f0 f1 00 00 00 01 | 3=06 => trap 2
+f0 f1 00 00 00 01 | 3=ff => trap 2
+";
 
-const ALL: u8 = 0xF2;
+// One byte alone is the code.
+const FIRST_BYTES: &str = "\
+00 => trap 1
+ef => trap 1
+f0 => done
+f1 => trap 2
+f2 => trap 2
+f3 => trap 2
+f4 => trap 2
+f5 => trap 1
+ff => trap 1
+";
 
-const ANY: u8 = 0xF3;
+const OPERANDS: &str = "\
+f1 00 00 00 00 | 62=07 => runs
+f1 00 00 00 06 | 62=07 => runs
+f1 00 00 00 07 | 62=07 => trap 5
+f1 00 00 0f 9f | 62=07 => trap 5
+f1 00 00 0f a0 | 62=07 => trap 5
+f1 00 00 ef ff | 62=07 => trap 5
+f1 00 00 f0 00 | 62=07 => runs
+f1 00 00 f0 2f | 62=07 => runs
+f1 00 00 f0 30 | 62=07 => trap 5
+f1 00 00 ff fd | 62=07 => trap 5
+f1 00 00 ff fe | 62=07 => runs
+f1 00 00 ff ff | 62=07 => runs
+f2 00 00 00 00 | 62=07 => runs
+f2 00 00 00 06 | 62=07 => runs
+f2 00 00 00 07 | 62=07 => trap 5
+f2 00 00 0f 9f | 62=07 => trap 5
+f2 00 00 0f a0 | 62=07 => trap 5
+f2 00 00 ef ff | 62=07 => trap 5
+f2 00 00 f0 00 | 62=07 => runs
+f2 00 00 f0 2f | 62=07 => runs
+f2 00 00 f0 30 | 62=07 => trap 5
+f2 00 00 ff fd | 62=07 => trap 5
+f2 00 00 ff fe | 62=07 => runs
+f2 00 00 ff ff | 62=07 => runs
+f3 00 00 00 00 | 62=07 => runs
+f3 00 00 00 06 | 62=07 => runs
+f3 00 00 00 07 | 62=07 => trap 5
+f3 00 00 0f 9f | 62=07 => trap 5
+f3 00 00 0f a0 | 62=07 => trap 5
+f3 00 00 ef ff | 62=07 => trap 5
+f3 00 00 f0 00 | 62=07 => runs
+f3 00 00 f0 2f | 62=07 => runs
+f3 00 00 f0 30 | 62=07 => trap 5
+f3 00 00 ff fd | 62=07 => trap 5
+f3 00 00 ff fe | 62=07 => runs
+f3 00 00 ff ff | 62=07 => runs
+";
 
-// A row of an opcode with a target and an operand.
-fn row(opcode: u8, target: u16, operand: u16) -> [u8; 5] {
-    let [t0, t1] = target.to_be_bytes();
-    let [c0, c1] = operand.to_be_bytes();
-    [opcode, t0, t1, c0, c1]
-}
-
-// The rows at the ends of code: the first bytes of LAST and SET, as many as are told, from a plain offset whose lowest
-// byte is told.
-#[test]
-fn the_end_of_code(rt: HostRuntime) -> Result<(), Fail> {
-    let code = [0xF0, SET, 0, 0, 0, 1];
-    let cases = [
-        (0, 0, Progress::Trapped(2)),
-        (1, 0, Progress::Done),
-        (1, 1, Progress::Trapped(2)),
-        (2, 1, Progress::Trapped(2)),
-        (5, 1, Progress::Trapped(2)),
-        (6, 1, Progress::Running),
-        (6, 5, Progress::Trapped(1)),
-        (6, 6, Progress::Trapped(2)),
-        (6, 255, Progress::Trapped(2)),
-    ];
-    for (len, offset, wanted) in cases {
-        assert!(rt; len <= 6);
-        stands(&rt, rt.alloc(), &code[..len], &[(3, offset)], wanted)?;
-    }
-    Ok(())
-}
-
-// Each of these bytes alone is the code.
-#[test]
-fn first_bytes(rt: HostRuntime) -> Result<(), Fail> {
-    let cases = [
-        (0, Progress::Trapped(1)),
-        (0xEF, Progress::Trapped(1)),
-        (0xF0, Progress::Done),
-        (0xF1, Progress::Trapped(2)),
-        (0xF2, Progress::Trapped(2)),
-        (0xF3, Progress::Trapped(2)),
-        (0xF4, Progress::Trapped(2)),
-        (0xF5, Progress::Trapped(1)),
-        (0xFF, Progress::Trapped(1)),
-    ];
-    for (opcode, wanted) in cases {
-        stands(&rt, rt.alloc(), &[opcode], &[], wanted)?;
-    }
-    Ok(())
-}
-
-// Turns of rows over M's seven signals, where signal 1 has the plain byte 7: a target, an operand, and what each opcode
-// leaves.
-fn take_turns(
-    rt: &impl Abort,
-    alloc: Global,
-    opcode: u8,
-    cases: &[(u16, u16, Progress)],
-) -> Result<(), Fail> {
-    for (target, operand, wanted) in cases {
-        let code = row(opcode, *target, *operand);
-        stands(rt, alloc, &code, &[(62, 7)], *wanted)?;
-    }
-    Ok(())
-}
-
-#[test]
-fn operands(rt: HostRuntime) -> Result<(), Fail> {
-    let cases = [
-        (0, 0, Progress::Running),
-        (0, 6, Progress::Running),
-        (0, 7, Progress::Trapped(5)),
-        (0, 3999, Progress::Trapped(5)),
-        (0, 4000, Progress::Trapped(5)),
-        (0, 0xEFFF, Progress::Trapped(5)),
-        (0, 0xF000, Progress::Running),
-        (0, 0xF02F, Progress::Running),
-        (0, 0xF030, Progress::Trapped(5)),
-        (0, 0xFFFD, Progress::Trapped(5)),
-        (0, 0xFFFE, Progress::Running),
-        (0, 0xFFFF, Progress::Running),
-    ];
-    take_turns(&rt, rt.alloc(), SET, &cases)?;
-    take_turns(&rt, rt.alloc(), ALL, &cases)?;
-    take_turns(&rt, rt.alloc(), ANY, &cases)
-}
-
-#[test]
-fn targets(rt: HostRuntime) -> Result<(), Fail> {
-    let cases = [
-        (6, 0, Progress::Running),
-        (7, 0, Progress::Trapped(5)),
-        (3999, 0, Progress::Trapped(5)),
-        (4000, 0, Progress::Trapped(5)),
-        (0xEFFF, 0, Progress::Trapped(5)),
-        (0xF000, 0, Progress::Running),
-        (0xF02F, 0, Progress::Running),
-        (0xF030, 0, Progress::Trapped(5)),
-        (0xFFFD, 0, Progress::Trapped(5)),
-        (0xFFFE, 0, Progress::Trapped(5)),
-        (0xFFFF, 0, Progress::Trapped(5)),
-    ];
-    take_turns(&rt, rt.alloc(), SET, &cases)?;
-    take_turns(&rt, rt.alloc(), ALL, &cases)?;
-    take_turns(&rt, rt.alloc(), ANY, &cases)
-}
+const TARGETS: &str = "\
+f1 00 06 00 00 | 62=07 => runs
+f1 00 07 00 00 | 62=07 => trap 5
+f1 0f 9f 00 00 | 62=07 => trap 5
+f1 0f a0 00 00 | 62=07 => trap 5
+f1 ef ff 00 00 | 62=07 => trap 5
+f1 f0 00 00 00 | 62=07 => runs
+f1 f0 2f 00 00 | 62=07 => runs
+f1 f0 30 00 00 | 62=07 => trap 5
+f1 ff fd 00 00 | 62=07 => trap 5
+f1 ff fe 00 00 | 62=07 => trap 5
+f1 ff ff 00 00 | 62=07 => trap 5
+f2 00 06 00 00 | 62=07 => runs
+f2 00 07 00 00 | 62=07 => trap 5
+f2 0f 9f 00 00 | 62=07 => trap 5
+f2 0f a0 00 00 | 62=07 => trap 5
+f2 ef ff 00 00 | 62=07 => trap 5
+f2 f0 00 00 00 | 62=07 => runs
+f2 f0 2f 00 00 | 62=07 => runs
+f2 f0 30 00 00 | 62=07 => trap 5
+f2 ff fd 00 00 | 62=07 => trap 5
+f2 ff fe 00 00 | 62=07 => trap 5
+f2 ff ff 00 00 | 62=07 => trap 5
+f3 00 06 00 00 | 62=07 => runs
+f3 00 07 00 00 | 62=07 => trap 5
+f3 0f 9f 00 00 | 62=07 => trap 5
+f3 0f a0 00 00 | 62=07 => trap 5
+f3 ef ff 00 00 | 62=07 => trap 5
+f3 f0 00 00 00 | 62=07 => runs
+f3 f0 2f 00 00 | 62=07 => runs
+f3 f0 30 00 00 | 62=07 => trap 5
+f3 ff fd 00 00 | 62=07 => trap 5
+f3 ff fe 00 00 | 62=07 => trap 5
+f3 ff ff 00 00 | 62=07 => trap 5
+";
 
 // Signal 1 has a byte that is neither 0 nor 1. SET does not read its target; a bad target or operand comes first.
-#[test]
-fn odd_bytes(rt: HostRuntime) -> Result<(), Fail> {
-    let set_over = [
-        (0, 1, Progress::Trapped(4)),
-        (1, 0, Progress::Running),
-        (1, 1, Progress::Trapped(4)),
-        (7, 1, Progress::Trapped(5)),
-        (0xFFFF, 1, Progress::Trapped(5)),
-        (1, 7, Progress::Trapped(5)),
-    ];
-    let joined = [
-        (0, 1, Progress::Trapped(4)),
-        (1, 0, Progress::Trapped(4)),
-        (1, 0xFFFE, Progress::Trapped(4)),
-        (1, 0xFFFF, Progress::Trapped(4)),
-        (0, 2, Progress::Running),
-        (7, 1, Progress::Trapped(5)),
-        (0xFFFE, 1, Progress::Trapped(5)),
-        (1, 7, Progress::Trapped(5)),
-    ];
-    take_turns(&rt, rt.alloc(), SET, &set_over)?;
-    take_turns(&rt, rt.alloc(), ALL, &joined)?;
-    take_turns(&rt, rt.alloc(), ANY, &joined)
-}
+const ODD_BYTES: &str = "\
+f1 00 00 00 01 | 62=07 => trap 4
+f1 00 01 00 00 | 62=07 => runs
+f1 00 01 00 01 | 62=07 => trap 4
+f1 00 07 00 01 | 62=07 => trap 5
+f1 ff ff 00 01 | 62=07 => trap 5
+f1 00 01 00 07 | 62=07 => trap 5
+f2 00 00 00 01 | 62=07 => trap 4
+f2 00 01 00 00 | 62=07 => trap 4
+f2 00 01 ff fe | 62=07 => trap 4
+f2 00 01 ff ff | 62=07 => trap 4
+f2 00 00 00 02 | 62=07 => runs
+f2 00 07 00 01 | 62=07 => trap 5
+f2 ff fe 00 01 | 62=07 => trap 5
+f2 00 01 00 07 | 62=07 => trap 5
+f3 00 00 00 01 | 62=07 => trap 4
+f3 00 01 00 00 | 62=07 => trap 4
+f3 00 01 ff fe | 62=07 => trap 4
+f3 00 01 ff ff | 62=07 => trap 4
+f3 00 00 00 02 | 62=07 => runs
+f3 00 07 00 01 | 62=07 => trap 5
+f3 ff fe 00 01 | 62=07 => trap 5
+f3 00 01 00 07 | 62=07 => trap 5
+";
 
-// A plain byte of signal 1, and what ALL of it leaves.
-#[test]
-fn bytes_of_a_target(rt: HostRuntime) -> Result<(), Fail> {
-    let cases = [
-        (0, Progress::Running),
-        (1, Progress::Running),
-        (2, Progress::Trapped(4)),
-        (255, Progress::Trapped(4)),
-    ];
-    for (plain, wanted) in cases {
-        stands(&rt, rt.alloc(), &row(ALL, 1, 0), &[(62, plain)], wanted)?;
-    }
-    Ok(())
-}
+// A byte of signal 1, and what ALL of it leaves.
+const BYTES_OF_A_TARGET: &str = "\
+f2 00 01 00 00 | 62=00 => runs
+f2 00 01 00 00 | 62=01 => runs
+f2 00 01 00 00 | 62=02 => trap 4
+f2 00 01 00 00 | 62=ff => trap 4
+";
 
-// Signal 3,999 is the last that an operand can name, however many there are: here 4,001.
-#[test]
-fn signal_3999(rt: HostRuntime) -> Result<(), Fail> {
-    let cases = [
-        (3998, Progress::Running),
-        (3999, Progress::Running),
-        (4000, Progress::Trapped(5)),
-    ];
-    for (target, wanted) in cases {
-        let code = row(SET, target, 0xFFFF);
-        let mut long = channel(rt.alloc(), Kind::EmergencyStop, 3998, 0, &code)?;
-        turn(&mut long);
-        assert!(rt; long.progress() == wanted, "{target}");
-    }
-    Ok(())
+/// The tables.
+pub const TABLES: &[&str] = &[
+    END_OF_CODE,
+    FIRST_BYTES,
+    OPERANDS,
+    TARGETS,
+    ODD_BYTES,
+    BYTES_OF_A_TARGET,
+];
+
+/// Signal 3,999 is the last that an operand can name, however many there are: here 4,001.
+pub const LAST_SIGNALS: &[(u16, Progress)] = &[
+    (3998, Progress::Running),
+    (3999, Progress::Running),
+    (4000, Progress::Trapped(5)),
+];
+
+/// How the scan stands after a turn that sets a signal, of which there are 4,001. None: it does not run before it.
+pub fn after_setting(alloc: Global, target: u16) -> Option<Progress> {
+    let [high, low] = target.to_be_bytes();
+    let code = [0xF1, high, low, 0xFF, 0xFF];
+    let mut long = channel(alloc, Kind::EmergencyStop, 3998, 0, &code).ok()?;
+    long.take_turn()
 }

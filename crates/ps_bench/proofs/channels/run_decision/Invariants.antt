@@ -5,4 +5,4 @@ use Rattle.ps_bench.proofs.channels.run_decision.Given as goal
 
 -- the channel has the application's sizes, and the scan its inputs
 abbrev pub invariant-loop-k : goal.invariant-loop-k
-invariant-loop-k l = record { sizes : AreSizesOf l.app l.channel.sizes; ins : length l.scan.ins ≡ input_count l.app }
+invariant-loop-k l = record { sizes : AreSizesOf l.app l.channel.sizes; ins : length l.work.scan.ins ≡ input_count l.app }

@@ -1,6 +1,7 @@
 // How much of a flat source may still be written.
 
-ghost use Rattle.std.specs.Prelude.{◌≡◌, ◌+◌, OnOk};
+ghost use Rattle.std.specs.Prelude.{◌≡◌, ◌+◌, ◌<◌, OnOk, OnErr};
+ghost use Rattle.ps_flatten.specs.declared.budget.TheConstants.{MOST_NAMES, MOST_STATEMENTS, MOST_FLAT_BYTES, ITEM_BYTES};
 
 use ps_base::Memory;
 
@@ -25,7 +26,9 @@ pub struct Budget {
 
 impl Budget {
     /// The budget of a text of which nothing is written.
-    pub fn new() -> Budget {
+    pub fn new() -> Budget
+        ensures { result ≡ record { names = MOST_NAMES; statements = MOST_STATEMENTS; bytes = MOST_FLAT_BYTES } }
+    {
         Budget {
             names: MOST_NAMES,
             statements: MOST_STATEMENTS,
@@ -34,14 +37,18 @@ impl Budget {
     }
 
     /// The budget of one more body.
-    pub fn begin_body(&mut self) {
+    pub fn begin_body(&mut self)
+        ensures { self.new ≡ record self.old { names = MOST_NAMES; statements = MOST_STATEMENTS } }
+    {
         self.names = MOST_NAMES;
         self.statements = MOST_STATEMENTS;
     }
 
-    /// Takes one declared name.
+    /// Takes one declared name. `Err` comes only where none is left.
     pub fn take_name(&mut self) -> Result<(), Memory>
-        ensures { OnOk result (self.new.names + 1 ≡ self.old.names) }
+        ensures taken { OnOk result (self.old ≡ record self.new { names = self.new.names + 1 }) }
+        ensures spent { OnErr result (self.old.names ≡ 0) }
+        ensures kept { OnErr result (self.new ≡ self.old) }
     {
         if self.names == 0 {
             return Err(Memory);
@@ -50,9 +57,11 @@ impl Budget {
         Ok(())
     }
 
-    /// Takes one statement.
+    /// Takes one statement. `Err` comes only where none is left.
     pub fn take_statement(&mut self) -> Result<(), Memory>
-        ensures { OnOk result (self.new.statements + 1 ≡ self.old.statements) }
+        ensures taken { OnOk result (self.old ≡ record self.new { statements = self.new.statements + 1 }) }
+        ensures spent { OnErr result (self.old.statements ≡ 0) }
+        ensures kept { OnErr result (self.new ≡ self.old) }
     {
         if self.statements == 0 {
             return Err(Memory);
@@ -61,17 +70,17 @@ impl Budget {
         Ok(())
     }
 
-    /// Takes the bytes of a text, and those of an item.
-    pub fn take_item(&mut self, text: usize) -> Result<(), Memory> {
+    /// Takes the bytes of a text, and those of an item. `Err` comes only where fewer are left.
+    pub fn take_item(&mut self, text: usize) -> Result<(), Memory>
+        ensures taken { OnOk result (self.old ≡ record self.new { bytes = self.new.bytes + text + ITEM_BYTES }) }
+        ensures spent { OnErr result (self.old.bytes < text + ITEM_BYTES) }
+        ensures kept { OnErr result (self.new ≡ self.old) }
+    {
         let text = text as u64;
-        if self.bytes < text {
+        if self.bytes < ITEM_BYTES || self.bytes - ITEM_BYTES < text {
             return Err(Memory);
         }
-        self.bytes -= text;
-        if self.bytes < ITEM_BYTES {
-            return Err(Memory);
-        }
-        self.bytes -= ITEM_BYTES;
+        self.bytes -= ITEM_BYTES + text;
         Ok(())
     }
 }

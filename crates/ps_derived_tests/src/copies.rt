@@ -1,98 +1,166 @@
 // Many copies, deep nesting, and the limits.
 
-use crate::saying::said;
+use crate::saying::hold;
+use ps_base::Memory;
 use std::alloc::Global;
+use std::process::Abort;
 use std::test::Fail as TestFail;
 
-// A text of a first function block, then of so many with two instances each of the one before, and of a program with one
-// instance of the last. `declares` and `calls` say what each of them declares and calls.
-fn chain(
-    alloc: Global,
-    first: &str,
+// A first function block, then so many with instances of the one before, which they declare and call so, and a program with one
+// instance of the last.
+struct Chain {
+    name: &'static str,
+    first: &'static str,
     count: u32,
-    names: &str,
-    calls: &str,
-) -> Result<String, TestFail> {
-    let mut text = format!(in alloc; "FUNCTION_BLOCK F0 {first} END_FUNCTION_BLOCK\n")?;
-    for i in 0..count {
+    names: &'static str,
+    calls: &'static str,
+    expected: &'static str,
+}
+
+// What each first function block declares, and the two instances of each other one.
+const LOCAL: &str = "VAR x : BOOL; END_VAR";
+
+const SOURCE: &str = "VAR x, y : BOOL; Q : SF_EDM; END_VAR y := x; x := Q.Ready; Q();";
+
+// Chains, and what is said of each.
+static CHAINS: &[Chain] = &[
+    // Empty copies without number.
+    Chain {
+        name: "60 empty copies",
+        first: "",
+        count: 60,
+        names: "a, b",
+        calls: "a(); b();",
+        expected: "inputs 0 outputs 0 locals 0 instances 0 steps 0 nodes 0",
+    },
+    // Two instances each.
+    Chain {
+        name: "two locals",
+        first: LOCAL,
+        count: 1,
+        names: "a, b",
+        calls: "a(); b();",
+        expected: "inputs 0 outputs 0 locals 2 instances 0 steps 0 nodes 0",
+    },
+    Chain {
+        name: "32 locals",
+        first: LOCAL,
+        count: 5,
+        names: "a, b",
+        calls: "a(); b();",
+        expected: "inputs 0 outputs 0 locals 32 instances 0 steps 0 nodes 0",
+    },
+    Chain {
+        name: "2 ^ 12 locals",
+        first: LOCAL,
+        count: 12,
+        names: "a, b",
+        calls: "a(); b();",
+        expected: "refused B4 at line 14 column 9",
+    },
+    Chain {
+        name: "2 ^ 63 locals",
+        first: LOCAL,
+        count: 63,
+        names: "a, b",
+        calls: "a(); b();",
+        expected: "refused B4 at line 65 column 9",
+    },
+    // Sixty-four deep, and one more.
+    Chain {
+        name: "64 deep",
+        first: SOURCE,
+        count: 63,
+        names: "a",
+        calls: "a();",
+        expected: "inputs 0 outputs 0 locals 2 instances 1 steps 3 nodes 2",
+    },
+    Chain {
+        name: "65 deep",
+        first: SOURCE,
+        count: 64,
+        names: "a",
+        calls: "a();",
+        expected: "refused B4 at line 66 column 9",
+    },
+];
+
+// Numbers of names in a program, what stands behind them, and what is said of it.
+static NAMES: &[(u32, &str, &str)] = &[
+    (
+        4_000,
+        "END_VAR",
+        "inputs 0 outputs 0 locals 4000 instances 0 steps 0 nodes 0",
+    ),
+    (4_001, "END_VAR", "refused B4 at line 1 column 9"),
+    (
+        3_999,
+        "Q : SF_EDM; END_VAR Q();",
+        "refused N11 at line 1 column 9",
+    ),
+];
+
+// Adds the function blocks of a chain to a text.
+fn push_blocks(alloc: Global, text: &mut String, chain: &Chain) -> Result<(), Memory> {
+    let Chain {
+        first,
+        count,
+        names,
+        calls,
+        ..
+    } = chain;
+    let block = format!(in alloc; "FUNCTION_BLOCK F0 {first} END_FUNCTION_BLOCK\n")?;
+    text.push_str(block.as_str())?;
+    for i in 0..*count {
         let next = i.saturating_add(1);
         let block = format!(in alloc;
             "FUNCTION_BLOCK F{next} VAR {names} : F{i}; END_VAR {calls} END_FUNCTION_BLOCK\n"
         )?;
         text.push_str(block.as_str())?;
     }
+    Ok(())
+}
+
+// The text of a chain.
+fn text_of(alloc: Global, chain: &Chain) -> Result<String, Memory> {
+    let mut text = String::new(alloc);
+    push_blocks(alloc, &mut text, chain)?;
+    let count = chain.count;
     let program = format!(in alloc; "PROGRAM P VAR G : F{count}; END_VAR G(); END_PROGRAM\n")?;
     text.push_str(program.as_str())?;
     Ok(text)
 }
 
-#[test]
-fn empty_copies_without_number(rt: HostRuntime) -> Result<(), TestFail> {
-    let text = chain(rt.alloc(), "", 60, "a, b", "a(); b();")?;
-    assert_eq!(rt;
-        said(rt.alloc(), text.as_str())?.as_str(),
-        "inputs 0 outputs 0 locals 0 instances 0 steps 0 nodes 0"
-    );
-    Ok(())
-}
-
-#[test]
-fn two_instances_each(rt: HostRuntime) -> Result<(), TestFail> {
-    for (count, is) in [
-        (1, "inputs 0 outputs 0 locals 2 instances 0 steps 0 nodes 0"),
-        (
-            5,
-            "inputs 0 outputs 0 locals 32 instances 0 steps 0 nodes 0",
-        ),
-        (12, "refused B4 at line 14 column 9"),
-        (63, "refused B4 at line 65 column 9"),
-    ] {
-        let text = chain(
-            rt.alloc(),
-            "VAR x : BOOL; END_VAR",
-            count,
-            "a, b",
-            "a(); b();",
-        )?;
-        assert_eq!(rt; said(rt.alloc(), text.as_str())?.as_str(), is, "{count}");
+// Asserts what is said of each chain.
+fn chains(rt: &impl Abort, alloc: Global) -> Result<(), Memory> {
+    for chain in CHAINS {
+        let text = text_of(alloc, chain)?;
+        hold(rt, alloc, chain.name, text.as_str(), chain.expected)?;
     }
     Ok(())
 }
 
-#[test]
-fn sixty_four_deep(rt: HostRuntime) -> Result<(), TestFail> {
-    let first = "VAR x, y : BOOL; Q : SF_EDM; END_VAR y := x; x := Q.Ready; Q();";
-    let text = chain(rt.alloc(), first, 63, "a", "a();")?;
-    assert_eq!(rt;
-        said(rt.alloc(), text.as_str())?.as_str(),
-        "inputs 0 outputs 0 locals 2 instances 1 steps 3 nodes 2"
-    );
-    let more = chain(rt.alloc(), first, 64, "a", "a();")?;
-    assert_eq!(rt;
-        said(rt.alloc(), more.as_str())?.as_str(),
-        "refused B4 at line 66 column 9"
-    );
-    Ok(())
-}
+// A chain whose last function block has copies beyond the limits.
+static BEYOND: Chain = Chain {
+    name: "not used",
+    first: LOCAL,
+    count: 62,
+    names: "a, b",
+    calls: "a(); b();",
+    expected: "inputs 0 outputs 0 locals 9 instances 0 steps 1 nodes 1",
+};
 
-// What is said of the program of a chain, where another program has no instance of it.
-#[test]
-fn blocks_beyond_the_limits_that_no_instance_uses(rt: HostRuntime) -> Result<(), TestFail> {
-    let mut text = chain(rt.alloc(), "VAR x : BOOL; END_VAR", 62, "a, b", "a(); b();")?;
-    let length = text.as_str().find("PROGRAM").unwrap_or(0);
-    text.truncate(length);
+// Asserts what is said of a program that has no instance of that.
+fn beyond_the_limits(rt: &impl Abort, alloc: Global) -> Result<(), Memory> {
+    let mut text = String::new(alloc);
+    push_blocks(alloc, &mut text, &BEYOND)?;
     text.push_str("PROGRAM P VAR x : BOOL; G : F3; END_VAR G(); x := x; END_PROGRAM\n")?;
-    assert_eq!(rt;
-        said(rt.alloc(), text.as_str())?.as_str(),
-        "inputs 0 outputs 0 locals 9 instances 0 steps 1 nodes 1"
-    );
-    Ok(())
+    hold(rt, alloc, BEYOND.name, text.as_str(), BEYOND.expected)
 }
 
 // A program with so many names.
-fn with_names(alloc: Global, count: u32, behind: &str) -> Result<String, TestFail> {
-    let mut text = String::new(alloc);
-    text.push_str("PROGRAM P VAR ")?;
+fn with_names(alloc: Global, count: u32, behind: &str) -> Result<String, Memory> {
+    let mut text = String::from_str(alloc, "PROGRAM P VAR ")?;
     for i in 0..count {
         let name = format!(in alloc; "x{i} : BOOL; ")?;
         text.push_str(name.as_str())?;
@@ -102,38 +170,37 @@ fn with_names(alloc: Global, count: u32, behind: &str) -> Result<String, TestFai
     Ok(text)
 }
 
-#[test]
-fn limits_without_function_blocks(rt: HostRuntime) -> Result<(), TestFail> {
-    for (count, behind, is) in [
-        (
-            4_000,
-            "END_VAR",
-            "inputs 0 outputs 0 locals 4000 instances 0 steps 0 nodes 0",
-        ),
-        (4_001, "END_VAR", "refused B4 at line 1 column 9"),
-        (
-            3_999,
-            "Q : SF_EDM; END_VAR Q();",
-            "refused N11 at line 1 column 9",
-        ),
-    ] {
-        let text = with_names(rt.alloc(), count, behind)?;
-        assert_eq!(rt; said(rt.alloc(), text.as_str())?.as_str(), is, "{count}");
+// Asserts what is said of programs with so many names.
+fn names(rt: &impl Abort, alloc: Global) -> Result<(), Memory> {
+    for (count, behind, expected) in NAMES {
+        let text = with_names(alloc, *count, behind)?;
+        hold(rt, alloc, behind, text.as_str(), expected)?;
     }
     Ok(())
 }
 
-#[test]
-fn too_many_blocks_before_an_instance_that_is_not_called(rt: HostRuntime) -> Result<(), TestFail> {
-    let mut text = String::new(rt.alloc());
+// Asserts that too many function blocks are refused before an instance that is not called.
+fn too_many_blocks(rt: &impl Abort, alloc: Global) -> Result<(), Memory> {
+    let mut text = String::new(alloc);
     for i in 0_u32..65 {
-        let block = format!(in rt.alloc(); "FUNCTION_BLOCK F{i} END_FUNCTION_BLOCK ")?;
+        let block = format!(in alloc; "FUNCTION_BLOCK F{i} END_FUNCTION_BLOCK ")?;
         text.push_str(block.as_str())?;
     }
     text.push_str("\nPROGRAM P VAR G : F1; END_VAR END_PROGRAM\n")?;
-    assert_eq!(rt;
-        said(rt.alloc(), text.as_str())?.as_str(),
-        "refused B4 at line 2 column 9"
-    );
+    hold(
+        rt,
+        alloc,
+        "blocks",
+        text.as_str(),
+        "refused B4 at line 2 column 9",
+    )
+}
+
+#[test]
+fn copies(rt: HostRuntime) -> Result<(), TestFail> {
+    chains(&rt, rt.alloc())?;
+    beyond_the_limits(&rt, rt.alloc())?;
+    names(&rt, rt.alloc())?;
+    too_many_blocks(&rt, rt.alloc())?;
     Ok(())
 }

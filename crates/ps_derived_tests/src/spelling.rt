@@ -16,31 +16,42 @@ fn add_name(alloc: Global, line: &mut String, name: &Name) -> Result<(), Memory>
     Ok(())
 }
 
-// The declared names of a source, and the first names of its statements.
-fn names_of(alloc: Global, source: &Source) -> Result<String, Memory> {
-    let mut line = String::new(alloc);
+// Adds the declared names of a source.
+fn add_declared(alloc: Global, line: &mut String, source: &Source) -> Result<(), Memory> {
     for section in source.sections.as_slice() {
         for declaration in section.declarations.as_slice() {
             for name in declaration.names.as_slice() {
-                add_name(alloc, &mut line, name)?;
+                add_name(alloc, line, name)?;
             }
         }
     }
+    Ok(())
+}
+
+// The first name of a statement.
+fn first_name(statement: &Statement) -> &Name {
+    match statement {
+        Statement::Assign(Target::Name(name), _) => name,
+        Statement::Assign(Target::Pin(name, _), _) => name,
+        Statement::Call(name, _) => name,
+    }
+}
+
+// The declared names of a source, and the first names of its statements.
+fn names_of(alloc: Global, source: &Source) -> Result<String, Memory> {
+    let mut line = String::new(alloc);
+    add_declared(alloc, &mut line, source)?;
     line.push_str("| ")?;
     for statement in source.statements.as_slice() {
-        match statement {
-            Statement::Assign(Target::Name(name), _) => add_name(alloc, &mut line, name)?,
-            Statement::Assign(Target::Pin(name, _), _) => add_name(alloc, &mut line, name)?,
-            Statement::Call(name, _) => add_name(alloc, &mut line, name)?,
-        }
+        add_name(alloc, &mut line, first_name(statement))?;
     }
     Ok(line)
 }
 
 // The names of the flat source of a text, or its refusal.
-fn names(alloc: Global, text: &str) -> Result<String, TestFail> {
+fn names(alloc: Global, text: &str) -> Result<String, Memory> {
     match flat(alloc, text) {
-        Ok(source) => Ok(names_of(alloc, &source)?),
+        Ok(source) => names_of(alloc, &source),
         Err(fail) => Ok(format!(in alloc; "{fail}")?),
     }
 }
@@ -56,27 +67,24 @@ L(i := x); y := l.q; K(I := K.Q);
 END_PROGRAM
 ";
 
-#[test]
-fn names_and_places_of_copies(rt: HostRuntime) -> Result<(), TestFail> {
-    assert_eq!(rt;
-        names(rt.alloc(), PAIRS)?.as_str(),
-        "x@5:21 K.I@3:30 K.Q@3:83 K.A.I@1:81 K.A.Q@1:53 K.A.h@1:24 K.B.I@1:81 K.B.Q@1:53 K.B.h@1:24 \
-        y@5:52 L.I@3:30 L.Q@3:83 L.A.I@1:81 L.A.Q@1:53 L.A.h@1:24 L.B.I@1:81 L.B.Q@1:53 L.B.h@1:24 \
-        | L.I@6:3 L.A.I@4:3 L.A.H@2:1 L.A.q@2:9 L.B.I@4:14 L.B.H@2:1 L.B.q@2:9 L.Q@4:25 y@6:12 \
-        K.I@6:24 K.A.I@4:3 K.A.H@2:1 K.A.q@2:9 K.B.I@4:14 K.B.H@2:1 K.B.q@2:9 K.Q@4:25 "
-    );
-    Ok(())
-}
+// The names and places of its copies.
+const COPIES: &str =
+    "x@5:21 K.I@3:30 K.Q@3:83 K.A.I@1:81 K.A.Q@1:53 K.A.h@1:24 K.B.I@1:81 K.B.Q@1:53 K.B.h@1:24 \
+y@5:52 L.I@3:30 L.Q@3:83 L.A.I@1:81 L.A.Q@1:53 L.A.h@1:24 L.B.I@1:81 L.B.Q@1:53 L.B.h@1:24 \
+| L.I@6:3 L.A.I@4:3 L.A.H@2:1 L.A.q@2:9 L.B.I@4:14 L.B.H@2:1 L.B.q@2:9 L.Q@4:25 y@6:12 \
+K.I@6:24 K.A.I@4:3 K.A.H@2:1 K.A.q@2:9 K.B.I@4:14 K.B.H@2:1 K.B.q@2:9 K.Q@4:25 ";
+
+// A program that is its own flat source.
+const FLAT: &str = "PROGRAM P VAR x, E : BOOL; END_VAR y.z := x; E(); END_PROGRAM\n";
+
+// Texts, and the names and places of their flat sources.
+static TEXTS: &[(&str, &str)] = &[(PAIRS, COPIES), (FLAT, "x@1:15 E@1:18 | y@1:36 E@1:46 ")];
 
 #[test]
-fn a_program_is_its_own_flat_source(rt: HostRuntime) -> Result<(), TestFail> {
-    assert_eq!(rt;
-        names(
-            rt.alloc(),
-            "PROGRAM P VAR x, E : BOOL; END_VAR y.z := x; E(); END_PROGRAM\n"
-        )?
-        .as_str(),
-        "x@1:15 E@1:18 | y@1:36 E@1:46 "
-    );
+fn names_and_places(rt: HostRuntime) -> Result<(), TestFail> {
+    for (text, expected) in TEXTS {
+        let names = names(rt.alloc(), text)?;
+        assert_eq!(rt; names.as_str(), *expected, "{text}");
+    }
     Ok(())
 }

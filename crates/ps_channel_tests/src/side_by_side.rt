@@ -104,6 +104,7 @@ impl SideBySide {
     {
         let mut report = Report::for_app(alloc, app)?;
         let is_stack = self.stack.report_into(&mut report) && same_report(&report, &self.report);
+        report.clear();
         Ok(is_stack && self.equation.report_into(&mut report) && same_report(&report, &self.report))
     }
 

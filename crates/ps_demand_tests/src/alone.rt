@@ -1,6 +1,6 @@
 // What one signal demands, by itself.
 
-use crate::lines::{NoText, demand_alone};
+use crate::lines::{NoText, Wanted, demand_alone};
 use std::alloc::Global;
 
 /// A motor behind an emergency stop: signal 3 is its SAFEBOOL output.
@@ -39,43 +39,30 @@ S_O := L9;
 END_PROGRAM
 ";
 
-/// Whether a signal of the application of a text demands this, where that is a text.
-fn is_demanded(alloc: Global, text: &str, signal: u16, demand: &str) -> Result<bool, NoText> {
-    match demand_alone(alloc, text, signal)? {
-        Some(found) => Ok(found.as_slice() == demand.as_bytes()),
-        None => Ok(false),
+/// Applications, numbers of signals, and what each signal demands. None: it is no SAFEBOOL signal.
+static SIGNALS: &[(&str, u16, Option<Wanted>)] = &[
+    (MOTOR, 3, Some(Wanted::Lines("S_In"))),
+    (MOTOR, 1, None),
+    (FEEDBACK, 1, Some(Wanted::Lines("Y@before AND S_In"))),
+    (DOUBLED, 1, Some(Wanted::Lines("S_A"))),
+    (DOUBLED, 10, Some(Wanted::Lines("S_A"))),
+    (DOUBLED, 11, Some(Wanted::Large(11))),
+];
+
+/// Whether a signal of the application of a text demands that.
+fn is_demanded(alloc: Global, text: &str, signal: u16, wanted: Option<Wanted>) -> bool {
+    match (demand_alone(alloc, text, signal), wanted) {
+        (Ok(Some(found)), Some(Wanted::Lines(demand))) => found.as_slice() == demand.as_bytes(),
+        (Err(NoText::Large(found)), Some(Wanted::Large(large))) => found == large,
+        (Ok(None), None) => true,
+        _ => false,
     }
 }
 
-/// Whether a signal of the application of a text is no SAFEBOOL signal.
-fn is_plain(alloc: Global, text: &str, signal: u16) -> Result<bool, NoText> {
-    Ok(demand_alone(alloc, text, signal)?.is_none())
-}
-
 #[test]
-fn outputs(rt: HostRuntime) {
-    let alloc = rt.alloc();
-    assert_eq!(rt; is_demanded(alloc, MOTOR, 3, "S_In"), Ok(true));
-    assert_eq!(rt;
-        is_demanded(alloc, FEEDBACK, 1, "Y@before AND S_In"),
-        Ok(true)
-    );
-    assert_eq!(rt; is_demanded(alloc, DOUBLED, 1, "S_A"), Ok(true));
-}
-
-#[test]
-fn signals_that_are_not_safe(rt: HostRuntime) {
-    let alloc = rt.alloc();
-    assert_eq!(rt; is_plain(alloc, MOTOR, 1), Ok(true));
-    assert_eq!(rt; is_plain(alloc, MOTOR, 3), Ok(false));
-}
-
-#[test]
-fn a_local_signal_with_too_many_leaves(rt: HostRuntime) {
-    let alloc = rt.alloc();
-    assert_eq!(rt;
-        is_demanded(alloc, DOUBLED, 11, "S_A"),
-        Err(NoText::Large(11))
-    );
-    assert_eq!(rt; is_demanded(alloc, DOUBLED, 10, "S_A"), Ok(true));
+fn signals(rt: HostRuntime) {
+    for (text, signal, wanted) in SIGNALS {
+        let is_met = is_demanded(rt.alloc(), text, *signal, *wanted);
+        assert!(rt; is_met, "signal {signal} of {text}");
+    }
 }

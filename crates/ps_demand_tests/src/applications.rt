@@ -1,6 +1,10 @@
-// The tables, and the tests that each is met to its end.
+// Tables of applications, and whole applications, with their lines.
 
-use crate::tables::{rows_met, whole_met};
+use crate::lines::{Wanted, hold};
+use ps_base::Memory;
+use std::alloc::Global;
+use std::process::Abort;
+use std::test::Fail;
 
 // Three inputs, an output and three locals.
 const PLAIN: &str = "PROGRAM P \
@@ -28,11 +32,6 @@ S_o := x; x := S_a; => S_o needs x@before
 S_o := S_a AND S_o; => S_o needs S_a AND S_o@before
 ";
 
-#[test]
-fn formulas(rt: HostRuntime) {
-    assert_eq!(rt; rows_met(rt.alloc(), (PLAIN, END), FORMULAS), Ok(14));
-}
-
 // The same with contacts that change together.
 const CONTACTS: &str = "PROGRAM P \
 VAR_INPUT S_a, S_b, S_c : SAFEBOOL; b : BOOL; END_VAR \
@@ -55,11 +54,6 @@ Ee(S_ChannelNO := S_b); S_o := Ee.S_AntivalentOut; => S_o needs FALSE
 S_o := eE.s_antivalentout OR S_c; Ee(S_ChannelNC := S_a); => S_o needs Ee.S_AntivalentOut@before OR S_c
 Ee(S_ChannelNC := S_a, S_ChannelNO := Ee.S_AntivalentOut); S_o := Ee.S_AntivalentOut; => S_o needs S_a AND NOT Ee.S_AntivalentOut@before
 ";
-
-#[test]
-fn negations(rt: HostRuntime) {
-    assert_eq!(rt; rows_met(rt.alloc(), (CONTACTS, END), NEGATIONS), Ok(13));
-}
 
 // Three inputs and an output.
 const BLOCK: &str = "PROGRAM P \
@@ -86,11 +80,6 @@ SF_OutControl; END_VAR E(S_SafeControl := S_a OR S_b, ProcessControl := b); S_o 
 SF_EDM; END_VAR E(S_OutControl := S_a, S_EDM1 := S_b, S_EDM2 := S_c); S_o := E.S_EDM_Out; => S_o needs S_a
 ";
 
-#[test]
-fn kinds(rt: HostRuntime) {
-    assert_eq!(rt; rows_met(rt.alloc(), (BLOCK, END), KINDS), Ok(16));
-}
-
 // Outputs of both types.
 const OUTPUTS: &str = "PROGRAM P \
 VAR_INPUT S_a, S_b : SAFEBOOL; b : BOOL; END_VAR \
@@ -98,33 +87,10 @@ VAR_OUTPUT Lamp : BOOL; S_two, S_one : SAFEBOOL; END_VAR VAR_OUTPUT Horn : BOOL;
 S_one := S_a; S_three := S_two OR S_one; Lamp := b; S_two := S_b AND S_one; Horn := b; \
 END_PROGRAM";
 
-// A line for each SAFEBOOL output, in the order of declaration.
-#[test]
-fn outputs_in_order(rt: HostRuntime) {
-    let lines = "S_two needs S_b AND S_a\nS_one needs S_a\nS_three needs S_two@before OR S_a\n";
-    assert_eq!(rt; whole_met(rt.alloc(), OUTPUTS, lines), Ok(true));
-}
-
-// No output is SAFEBOOL.
-#[test]
-fn no_output(rt: HostRuntime) {
-    let text =
-        "PROGRAM P VAR_INPUT S_a : SAFEBOOL; END_VAR VAR_OUTPUT Lamp : BOOL; END_VAR Lamp := S_a; END_PROGRAM";
-    assert_eq!(rt; whole_met(rt.alloc(), text, ""), Ok(true));
-}
-
 // A signal that is read before it is assigned.
 const FEEDBACK: &str =
     "PROGRAM Fb VAR_INPUT S_In : SAFEBOOL; END_VAR VAR_OUTPUT S_O : SAFEBOOL; END_VAR \
 VAR X, Y : SAFEBOOL; END_VAR X := Y AND S_In; Y := S_In; S_O := X; END_PROGRAM";
-
-#[test]
-fn feedback(rt: HostRuntime) {
-    assert_eq!(rt;
-        whole_met(rt.alloc(), FEEDBACK, "S_O needs Y@before AND S_In\n"),
-        Ok(true)
-    );
-}
 
 // A press with an emergency stop, a guard, a two-hand control and contactors that are monitored.
 const PRESS: &str = "\
@@ -153,12 +119,6 @@ Lamp := Stop.Error OR Guard.Error OR Edm.Error;
 END_PROGRAM
 ";
 
-#[test]
-fn press(rt: HostRuntime) {
-    let line = "S_Ram needs S_EStop AND S_G1 AND S_G2 AND S_L AND S_R\n";
-    assert_eq!(rt; whole_met(rt.alloc(), PRESS, line), Ok(true));
-}
-
 // A clamp that closes only while both hands are on their buttons.
 const STATION: &str = "PROGRAM Station
 VAR_INPUT S_Stop, S_Left, S_Right : SAFEBOOL; Ack : BOOL; END_VAR
@@ -169,12 +129,6 @@ Hands(Activate := Stop.S_EStopOut, S_Button1 := S_Left, S_Button2 := S_Right);
 S_Clamp := Stop.S_EStopOut AND Hands.S_TwoHandOut;
 Lamp := Stop.Error OR Hands.Error;
 END_PROGRAM";
-
-#[test]
-fn station(rt: HostRuntime) {
-    let line = "S_Clamp needs S_Stop AND S_Left AND S_Right\n";
-    assert_eq!(rt; whole_met(rt.alloc(), STATION, line), Ok(true));
-}
 
 // A robot cell: automatic work behind a locked guard, slow work by an enable switch in the mode of setting up.
 const CELL: &str = "PROGRAM Cell
@@ -195,9 +149,50 @@ S_Slow := Switch.S_EnableSwitchOut;
 S_Unlock := Guard.S_UnlockGuard;
 END_PROGRAM";
 
+// An application without a SAFEBOOL output.
+const LAMP: &str =
+    "PROGRAM P VAR_INPUT S_a : SAFEBOOL; END_VAR VAR_OUTPUT Lamp : BOOL; END_VAR Lamp := S_a; END_PROGRAM";
+
+// Applications, and the lines of their SAFEBOOL outputs in the order of declaration.
+static WHOLE: &[(&str, &str)] = &[
+    (
+        OUTPUTS,
+        "S_two needs S_b AND S_a\nS_one needs S_a\nS_three needs S_two@before OR S_a\n",
+    ),
+    (LAMP, ""),
+    (FEEDBACK, "S_O needs Y@before AND S_In\n"),
+    (
+        PRESS,
+        "S_Ram needs S_EStop AND S_G1 AND S_G2 AND S_L AND S_R\n",
+    ),
+    (STATION, "S_Clamp needs S_Stop AND S_Left AND S_Right\n"),
+    (
+        CELL,
+        "S_Work needs S_Closed AND S_Locked\nS_Slow needs S_Ch1 AND S_Ch2\nS_Unlock needs S_Still\n",
+    ),
+];
+
+// Beginnings of applications, and what stands between each and the end, with the line of the only SAFEBOOL output.
+static TABLES: &[(&str, &str)] = &[(PLAIN, FORMULAS), (CONTACTS, NEGATIONS), (BLOCK, KINDS)];
+
+// Asserts that a row's line is written for its application.
+fn row_is_met(rt: &impl Abort, alloc: Global, head: &str, row: &str) -> Result<(), Memory> {
+    let (body, line) = row.split_once(" => ").unwrap_or((row, ""));
+    let text = format!(in alloc; "{head}{body}{END}")?;
+    let lines = format!(in alloc; "{line}\n")?;
+    hold(rt, alloc, row, text.as_str(), Wanted::Lines(lines.as_str()));
+    Ok(())
+}
+
 #[test]
-fn cell(rt: HostRuntime) {
-    let lines =
-        "S_Work needs S_Closed AND S_Locked\nS_Slow needs S_Ch1 AND S_Ch2\nS_Unlock needs S_Still\n";
-    assert_eq!(rt; whole_met(rt.alloc(), CELL, lines), Ok(true));
+fn applications(rt: HostRuntime) -> Result<(), Fail> {
+    for (head, rows) in TABLES {
+        for row in rows.lines() {
+            row_is_met(&rt, rt.alloc(), head, row)?;
+        }
+    }
+    for (text, lines) in WHOLE {
+        hold(&rt, rt.alloc(), text, text, Wanted::Lines(lines));
+    }
+    Ok(())
 }

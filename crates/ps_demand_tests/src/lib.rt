@@ -1,7 +1,7 @@
 //! Tests of what safe outputs demand, from the text of an application to the lines.
 //!
-//! - `lines`: from a text to its lines. `tables`: tables of applications with their lines.
-//! - `applications`: the tables, and the tests that each is met. `sizes`: applications near the bound of 1,000 leaves, and far beyond it.
+//! - `lines`: from a text to its lines, and whether they are those that are wanted.
+//! - `applications`: tables of applications with their lines. `sizes`: applications near the bound of 1,000 leaves, and far beyond it.
 //! - `places`: where the rule M1 refuses a text. `alone`: what one signal demands, by itself.
 #![tactic(auto)]
 
@@ -9,12 +9,9 @@
 mod alone;
 #[cfg(test)]
 mod applications;
+#[cfg(test)]
 mod lines;
 #[cfg(test)]
 mod places;
 #[cfg(test)]
 mod sizes;
-mod tables;
-
-pub use lines::{NoText, demand_alone, demand_lines};
-pub use tables::{rows_met, whole_met};

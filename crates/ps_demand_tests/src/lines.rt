@@ -3,22 +3,23 @@
 ghost use Rattle.std.specs.Prelude.{OnOk};
 ghost use Rattle.ps_model.specs.Typing.{Accepted};
 
-use ps_base::{Bytes, Fail, Memory, Place, Refusal, Rule};
+use ps_base::{Bytes, Fail, Memory};
 use ps_demand::{DemandFail, NoLines, demand_lines as lines_of_app, demand_of, demand_text};
-use ps_flow::{FlowFail, FlowRefusal, derive};
+use ps_flow::{FlowFail, derive};
 use ps_lexer::lex;
 use ps_model::{App, is_safe};
 use ps_parser::parse;
 use ps_resolve::resolve;
 use std::alloc::Global;
+use std::process::Abort;
 
 /// Why a text has no lines.
-#[derive(Clone, Copy, Debug, PartialEq, Eq)]
+#[derive(Clone, Copy)]
 pub enum NoText {
     /// Memory is wanting.
     Memory,
     /// A rule refuses the text.
-    Refused(Refusal),
+    Refused,
     /// The demand of this signal has over 1,000 leaves.
     Large(u16),
 }
@@ -33,7 +34,7 @@ impl From<Fail> for NoText {
     fn from(fail: Fail) -> NoText {
         match fail {
             Fail::Memory => NoText::Memory,
-            Fail::Refused(refusal) => NoText::Refused(refusal),
+            Fail::Refused(_) => NoText::Refused,
         }
     }
 }
@@ -47,27 +48,14 @@ impl From<NoLines> for NoText {
     }
 }
 
-impl NoText {
-    // Why the demand of this signal is not given.
-    fn of_demand(fail: DemandFail, signal: u16) -> NoText {
-        match fail {
-            DemandFail::Memory => NoText::Memory,
-            DemandFail::Large => NoText::Large(signal),
-        }
-    }
-}
-
-// Nothing, where SAFEBOOL flow accepts an application, and else its rule, without a place.
+// Nothing, where SAFEBOOL flow accepts an application.
 fn accept(alloc: Global, app: &App) -> Result<(), NoText>
     ensures { OnOk result (Accepted app.now) }
 {
     match derive(alloc, app) {
         Ok(_) => Ok(()),
         Err(FlowFail::Memory) => Err(NoText::Memory),
-        Err(FlowFail::Refused(FlowRefusal { rule, .. })) => Err(NoText::Refused(Refusal {
-            rule,
-            place: Place { line: 0, column: 0 },
-        })),
+        Err(FlowFail::Refused(_)) => Err(NoText::Refused),
     }
 }
 
@@ -78,8 +66,8 @@ fn app_of(alloc: Global, text: &str) -> Result<App, Fail> {
     resolve(alloc, &source)
 }
 
-/// The line of each SAFEBOOL output of the application of a text, in order, each with a line feed behind it.
-pub fn demand_lines(alloc: Global, text: &str) -> Result<Bytes, NoText> {
+// The line of each SAFEBOOL output of the application of a text, in order, each with a line feed behind it.
+fn demand_lines(alloc: Global, text: &str) -> Result<Bytes, NoText> {
     let app = app_of(alloc, text)?;
     accept(alloc, &app)?;
     Ok(lines_of_app(alloc, &app)?)
@@ -95,6 +83,30 @@ pub fn demand_alone(alloc: Global, text: &str, signal: u16) -> Result<Option<Byt
     }
     match demand_of(alloc, &app, signal) {
         Ok(demand) => Ok(Some(demand_text(alloc, &app, signal, &demand)?)),
-        Err(fail) => Err(NoText::of_demand(fail, signal)),
+        Err(DemandFail::Memory) => Err(NoText::Memory),
+        Err(DemandFail::Large) => Err(NoText::Large(signal)),
     }
+}
+
+/// What comes of an application, or of one signal of it.
+#[derive(Clone, Copy)]
+pub enum Wanted<'a> {
+    /// This text.
+    Lines(&'a str),
+    /// None, since the demand of this signal is too large.
+    Large(u16),
+}
+
+// Whether that comes of an application.
+fn is_met(alloc: Global, text: &str, wanted: Wanted) -> bool {
+    match (demand_lines(alloc, text), wanted) {
+        (Ok(found), Wanted::Lines(lines)) => found.as_slice() == lines.as_bytes(),
+        (Err(NoText::Large(found)), Wanted::Large(signal)) => found == signal,
+        _ => false,
+    }
+}
+
+/// Asserts what comes of an application. The name is that of its row.
+pub fn hold(rt: &impl Abort, alloc: Global, name: &str, text: &str, wanted: Wanted) {
+    assert!(rt; is_met(alloc, text, wanted), "{name}");
 }

@@ -1,27 +1,23 @@
 // Where the rule M1 refuses a text: in the order of the rules, and at which place.
 
-use ps_base::{Memory, Place, Refusal, Rule};
+use ps_base::{Memory, Place, Rule};
 use ps_outside::MemFiles;
 use ps_source::{NoApplication, read_demanded};
 use std::alloc::Global;
+use std::test::Fail;
 
-// The refusal of a text whose demands are asked for, or none.
-fn refusal_of(alloc: Global, text: &str) -> Result<Option<Refusal>, Memory> {
+// The rule that refuses a text whose demands are asked for, with its line and column, or none.
+fn refusal_of(alloc: Global, text: &str) -> Result<Option<(Rule, u32, u32)>, Memory> {
     let mut files = MemFiles::new(alloc);
     files.put("A", text.as_bytes())?;
     match read_demanded(alloc, "A", &mut files) {
         Ok(_) => Ok(None),
-        Err(NoApplication::Refused(refusal)) => Ok(Some(refusal)),
+        Err(NoApplication::Refused(refusal)) => {
+            let Place { line, column } = refusal.place;
+            Ok(Some((refusal.rule, line, column)))
+        }
         Err(NoApplication::Memory | NoApplication::Fault) => Err(Memory),
     }
-}
-
-// A rule and a place.
-fn at(rule: Rule, line: u32, column: u32) -> Result<Option<Refusal>, Memory> {
-    Ok(Some(Refusal {
-        rule,
-        place: Place { line, column },
-    }))
 }
 
 // The last signal has 1,024 leaves, and the one before 512.
@@ -33,45 +29,34 @@ L1 := S_A AND S_A; L2 := L1 AND L1; L3 := L2 AND L2; L4 := L3 AND L3; L5 := L4 A
 L6 := L5 AND L5; L7 := L6 AND L6; L8 := L7 AND L7; L9 := L8 AND L8; L10 := L9 AND L9;
 ";
 
-// The refusal of this with two statements more.
-fn chain(alloc: Global, first: &str, second: &str) -> Result<Option<Refusal>, Memory> {
+// Two statements behind those, and the rule that refuses the text, with its line and column.
+static BODIES: &[(&str, &str, Option<(Rule, u32, u32)>)] = &[
+    // 512 leaves are none too many.
+    ("S_O := L9;", "S_P := L9;", None),
+    // The target of the assignment.
+    ("S_O := L9;", "S_P := L10;", Some((Rule::M1, 8, 3))),
+    // Of two the one that is declared first, though it is assigned later.
+    ("S_P := L10;", "S_O := L10;", Some((Rule::M1, 8, 3))),
+    // A rule S stands before it, though its place is a later one, and so does a rule N.
+    ("S_O := L10;", "S_P := b;", Some((Rule::S1, 8, 3))),
+    ("S_O := L10;", "S_P := c;", Some((Rule::N2, 8, 10))),
+];
+
+// The refusal of a text with these statements.
+fn refusal_with(
+    alloc: Global,
+    first: &str,
+    second: &str,
+) -> Result<Option<(Rule, u32, u32)>, Memory> {
     let text = format!(in alloc; "{CHAIN}{first}\n  {second}\nEND_PROGRAM\n")?;
     refusal_of(alloc, text.as_str())
 }
 
-// 512 leaves are none too many.
 #[test]
-fn few_leaves(rt: HostRuntime) {
-    assert_eq!(rt; chain(rt.alloc(), "S_O := L9;", "S_P := L9;"), Ok(None));
-}
-
-// The target of the assignment.
-#[test]
-fn target(rt: HostRuntime) {
-    assert_eq!(rt;
-        chain(rt.alloc(), "S_O := L9;", "S_P := L10;"),
-        at(Rule::M1, 8, 3)
-    );
-}
-
-// Of two the one that is declared first, though it is assigned later.
-#[test]
-fn declared_first(rt: HostRuntime) {
-    assert_eq!(rt;
-        chain(rt.alloc(), "S_P := L10;", "S_O := L10;"),
-        at(Rule::M1, 8, 3)
-    );
-}
-
-// A rule S stands before it, though its place is a later one, and so does a rule N.
-#[test]
-fn rules_before(rt: HostRuntime) {
-    assert_eq!(rt;
-        chain(rt.alloc(), "S_O := L10;", "S_P := b;"),
-        at(Rule::S1, 8, 3)
-    );
-    assert_eq!(rt;
-        chain(rt.alloc(), "S_O := L10;", "S_P := c;"),
-        at(Rule::N2, 8, 10)
-    );
+fn places(rt: HostRuntime) -> Result<(), Fail> {
+    for (first, second, expected) in BODIES {
+        let found = refusal_with(rt.alloc(), first, second)?;
+        assert_eq!(rt; found, *expected, "{first} {second}");
+    }
+    Ok(())
 }

@@ -1,9 +1,10 @@
 // Applications near the bound of 1,000 leaves, and far beyond it.
 
-use crate::lines::{NoText, demand_lines};
-use crate::tables::whole_met;
+use crate::lines::{Wanted, hold};
 use ps_base::Memory;
 use std::alloc::Global;
+use std::process::Abort;
+use std::test::Fail;
 
 // Signals each of which reads the one before twice: Ln has 2 ^ n leaves.
 const DOUBLING: &str = "PROGRAM P \
@@ -14,93 +15,86 @@ L6 := L5 AND L5; L7 := L6 AND L6; L8 := L7 AND L7; L9 := L8 AND L8; L10 := L9 AN
 
 const END: &str = " END_PROGRAM";
 
-// The number of the first output of an application whose demand is too large, if one is.
-fn large_in(alloc: Global, text: &str) -> Result<Option<u16>, Memory> {
-    match demand_lines(alloc, text) {
-        Err(NoText::Large(signal)) => Ok(Some(signal)),
-        Err(NoText::Memory) => Err(Memory),
-        Err(NoText::Refused(_)) | Ok(_) => Ok(None),
+// Statements behind those, and what comes of the application.
+static BODIES: &[(&str, Wanted)] = &[
+    // 1,024 leaves.
+    ("S_o := L10; S_p := S_A;", Wanted::Large(1)),
+    // 1,001 leaves, of the second output.
+    (
+        "S_o := L9; S_p := L9 AND L8 AND L7 AND L6 AND L5 AND L3 AND S_A;",
+        Wanted::Large(2),
+    ),
+    // Both outputs: the first is named, though it is assigned later.
+    ("S_p := L10; S_o := L10;", Wanted::Large(1)),
+    // 512 leaves, and 1,000. L10 is too large, and no output reads it.
+    (
+        "S_o := L9; S_p := L9 AND L8 AND L7 AND L6 AND L5 AND L3;",
+        Wanted::Lines("S_o needs S_A\nS_p needs S_A\n"),
+    ),
+];
+
+// Adds a part to a text, with a number in the place of its `#`.
+fn push_numbered(alloc: Global, text: &mut String, part: &str, number: u32) -> Result<(), Memory> {
+    let (before, behind) = part.split_once('#').unwrap_or((part, ""));
+    let numbered = format!(in alloc; "{before}{number}{behind}")?;
+    text.push_str(numbered.as_str())?;
+    Ok(())
+}
+
+// Adds the AND of a local so many times and once more, and the end of its statement.
+fn push_product(alloc: Global, text: &mut String, local: u32, more: u32) -> Result<(), Memory> {
+    push_numbered(alloc, text, "L#", local)?;
+    for _ in 0..more {
+        push_numbered(alloc, text, " AND L#", local)?;
     }
+    text.push_str(";\n")?;
+    Ok(())
 }
 
-// The same of these statements behind those above.
-fn too_large(alloc: Global, body: &str) -> Result<Option<u16>, Memory> {
-    let text = format!(in alloc; "{DOUBLING}{body}{END}")?;
-    large_in(alloc, text.as_str())
-}
-
-// 1,024 leaves.
-#[test]
-fn large_demand(rt: HostRuntime) {
-    assert_eq!(rt;
-        too_large(rt.alloc(), "S_o := L10; S_p := S_A;"),
-        Ok(Some(1))
-    );
-}
-
-// 1,001 leaves, of the second output.
-#[test]
-fn one_leaf_too_many(rt: HostRuntime) {
-    let body = "S_o := L9; S_p := L9 AND L8 AND L7 AND L6 AND L5 AND L3 AND S_A;";
-    assert_eq!(rt; too_large(rt.alloc(), body), Ok(Some(2)));
-}
-
-// Both outputs: the first is named, though it is assigned later.
-#[test]
-fn first_of_two(rt: HostRuntime) {
-    assert_eq!(rt;
-        too_large(rt.alloc(), "S_p := L10; S_o := L10;"),
-        Ok(Some(1))
-    );
-}
-
-// Whether these statements behind those above have these lines.
-fn lines_met(alloc: Global, body: &str, lines: &str) -> Result<bool, NoText> {
-    let text = format!(in alloc; "{DOUBLING}{body}{END}").map_err(|_| NoText::Memory)?;
-    whole_met(alloc, text.as_str(), lines)
-}
-
-// 512 leaves, and 1,000. L10 is too large, and no output reads it.
-#[test]
-fn most_leaves(rt: HostRuntime) {
-    let body = "S_o := L9; S_p := L9 AND L8 AND L7 AND L6 AND L5 AND L3;";
-    assert_eq!(rt;
-        lines_met(rt.alloc(), body, "S_o needs S_A\nS_p needs S_A\n"),
-        Ok(true)
-    );
-}
-
-// Statements of which each reads what the one before assigns: 60 that read it twice, and then 19 that read it 1,000 times. That is
-// 19,200 nodes, and more than 2 ^ 200 leaves.
-fn deep_text(alloc: Global) -> Result<String, Memory> {
-    let mut text = String::new(alloc);
-    text.push_str(
-        "PROGRAM P VAR_INPUT S_A : SAFEBOOL; END_VAR VAR_OUTPUT S_o : SAFEBOOL; END_VAR VAR L0",
-    )?;
-    for i in 1..80u32 {
-        text.push_str(format!(in alloc; ", L{i}")?.as_str())?;
+// Adds the further locals and the statement of the first.
+fn push_locals(alloc: Global, text: &mut String) -> Result<(), Memory> {
+    for local in 1..80u32 {
+        push_numbered(alloc, text, ", L#", local)?;
     }
     text.push_str(" : SAFEBOOL; END_VAR L0 := S_A;\n")?;
-    for i in 1..80u32 {
-        let before = i - 1;
-        text.push_str(format!(in alloc; "L{i} := L{before}")?.as_str())?;
-        let more = if i <= 60 { 1 } else { 999 };
-        for _ in 0..more {
-            text.push_str(format!(in alloc; " AND L{before}")?.as_str())?;
-        }
-        text.push_str(";\n")?;
+    Ok(())
+}
+
+// Adds the statements of the further locals, each of which reads the local before: 60 twice, and 19 a thousand times.
+fn push_statements(alloc: Global, text: &mut String) -> Result<(), Memory> {
+    for local in 1..80u32 {
+        push_numbered(alloc, text, "L# := ", local)?;
+        let more = if local <= 60 { 1 } else { 999 };
+        push_product(alloc, text, local - 1, more)?;
     }
+    Ok(())
+}
+
+// An application of 19,200 nodes, whose output has more than 2 ^ 200 leaves.
+fn deep_text(alloc: Global) -> Result<String, Memory> {
+    let begin =
+        "PROGRAM P VAR_INPUT S_A : SAFEBOOL; END_VAR VAR_OUTPUT S_o : SAFEBOOL; END_VAR VAR L0";
+    let mut text = String::from_str(alloc, begin)?;
+    push_locals(alloc, &mut text)?;
+    push_statements(alloc, &mut text)?;
     text.push_str("S_o := L79; END_PROGRAM")?;
     Ok(text)
 }
 
-// Whether it is refused. That is by counting, at once.
-fn deep_is_large(alloc: Global) -> Result<Option<u16>, Memory> {
-    let text = deep_text(alloc)?;
-    large_in(alloc, text.as_str())
+// Asserts what comes of each application.
+fn each_is_met(rt: &impl Abort, alloc: Global) -> Result<(), Memory> {
+    for (body, wanted) in BODIES {
+        let text = format!(in alloc; "{DOUBLING}{body}{END}")?;
+        hold(rt, alloc, body, text.as_str(), *wanted);
+    }
+    Ok(())
 }
 
 #[test]
-fn very_large_demand(rt: HostRuntime) {
-    assert_eq!(rt; deep_is_large(rt.alloc()), Ok(Some(1)));
+fn sizes(rt: HostRuntime) -> Result<(), Fail> {
+    each_is_met(&rt, rt.alloc())?;
+    // It is refused by counting, at once.
+    let text = deep_text(rt.alloc())?;
+    hold(&rt, rt.alloc(), "deep", text.as_str(), Wanted::Large(1));
+    Ok(())
 }

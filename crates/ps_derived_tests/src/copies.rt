@@ -6,18 +6,22 @@ use std::alloc::Global;
 use std::process::Abort;
 use std::test::Fail as TestFail;
 
-// A first function block, then so many with instances of the one before, which they declare and call so, and a program with one
-// instance of the last.
+// A first function block, then so many with instances of the one before in their body, in which `#` stands for its number, and a
+// program with one instance of the last.
 struct Chain {
     name: &'static str,
     first: &'static str,
     count: u32,
-    names: &'static str,
-    calls: &'static str,
+    body: &'static str,
     expected: &'static str,
 }
 
-// What each first function block declares, and the two instances of each other one.
+// Bodies with one instance and with two.
+const ONE: &str = " VAR a : F#; END_VAR a(); END_FUNCTION_BLOCK\n";
+
+const TWO: &str = " VAR a, b : F#; END_VAR a(); b(); END_FUNCTION_BLOCK\n";
+
+// What first function blocks hold.
 const LOCAL: &str = "VAR x : BOOL; END_VAR";
 
 const SOURCE: &str = "VAR x, y : BOOL; Q : SF_EDM; END_VAR y := x; x := Q.Ready; Q();";
@@ -29,8 +33,7 @@ static CHAINS: &[Chain] = &[
         name: "60 empty copies",
         first: "",
         count: 60,
-        names: "a, b",
-        calls: "a(); b();",
+        body: TWO,
         expected: "inputs 0 outputs 0 locals 0 instances 0 steps 0 nodes 0",
     },
     // Two instances each.
@@ -38,32 +41,28 @@ static CHAINS: &[Chain] = &[
         name: "two locals",
         first: LOCAL,
         count: 1,
-        names: "a, b",
-        calls: "a(); b();",
+        body: TWO,
         expected: "inputs 0 outputs 0 locals 2 instances 0 steps 0 nodes 0",
     },
     Chain {
         name: "32 locals",
         first: LOCAL,
         count: 5,
-        names: "a, b",
-        calls: "a(); b();",
+        body: TWO,
         expected: "inputs 0 outputs 0 locals 32 instances 0 steps 0 nodes 0",
     },
     Chain {
         name: "2 ^ 12 locals",
         first: LOCAL,
         count: 12,
-        names: "a, b",
-        calls: "a(); b();",
+        body: TWO,
         expected: "refused B4 at line 14 column 9",
     },
     Chain {
         name: "2 ^ 63 locals",
         first: LOCAL,
         count: 63,
-        names: "a, b",
-        calls: "a(); b();",
+        body: TWO,
         expected: "refused B4 at line 65 column 9",
     },
     // Sixty-four deep, and one more.
@@ -71,16 +70,14 @@ static CHAINS: &[Chain] = &[
         name: "64 deep",
         first: SOURCE,
         count: 63,
-        names: "a",
-        calls: "a();",
+        body: ONE,
         expected: "inputs 0 outputs 0 locals 2 instances 1 steps 3 nodes 2",
     },
     Chain {
         name: "65 deep",
         first: SOURCE,
         count: 64,
-        names: "a",
-        calls: "a();",
+        body: ONE,
         expected: "refused B4 at line 66 column 9",
     },
 ];
@@ -100,23 +97,30 @@ static NAMES: &[(u32, &str, &str)] = &[
     ),
 ];
 
+// Adds a part to a text, with a number in the place of its `#`.
+fn push_numbered(alloc: Global, text: &mut String, part: &str, number: u32) -> Result<(), Memory> {
+    let (before, behind) = part.split_once('#').unwrap_or((part, ""));
+    let numbered = format!(in alloc; "{before}{number}{behind}")?;
+    text.push_str(numbered.as_str())?;
+    Ok(())
+}
+
+// Adds a part to a text so many times, with the number of the copy, from 0.
+fn push_each(alloc: Global, text: &mut String, part: &str, count: u32) -> Result<(), Memory> {
+    for number in 0..count {
+        push_numbered(alloc, text, part, number)?;
+    }
+    Ok(())
+}
+
 // Adds the function blocks of a chain to a text.
 fn push_blocks(alloc: Global, text: &mut String, chain: &Chain) -> Result<(), Memory> {
-    let Chain {
-        first,
-        count,
-        names,
-        calls,
-        ..
-    } = chain;
-    let block = format!(in alloc; "FUNCTION_BLOCK F0 {first} END_FUNCTION_BLOCK\n")?;
-    text.push_str(block.as_str())?;
-    for i in 0..*count {
-        let next = i.saturating_add(1);
-        let block = format!(in alloc;
-            "FUNCTION_BLOCK F{next} VAR {names} : F{i}; END_VAR {calls} END_FUNCTION_BLOCK\n"
-        )?;
-        text.push_str(block.as_str())?;
+    text.push_str("FUNCTION_BLOCK F0 ")?;
+    text.push_str(chain.first)?;
+    text.push_str(" END_FUNCTION_BLOCK\n")?;
+    for number in 0..chain.count {
+        push_numbered(alloc, text, "FUNCTION_BLOCK F#", number.saturating_add(1))?;
+        push_numbered(alloc, text, chain.body, number)?;
     }
     Ok(())
 }
@@ -125,9 +129,8 @@ fn push_blocks(alloc: Global, text: &mut String, chain: &Chain) -> Result<(), Me
 fn text_of(alloc: Global, chain: &Chain) -> Result<String, Memory> {
     let mut text = String::new(alloc);
     push_blocks(alloc, &mut text, chain)?;
-    let count = chain.count;
-    let program = format!(in alloc; "PROGRAM P VAR G : F{count}; END_VAR G(); END_PROGRAM\n")?;
-    text.push_str(program.as_str())?;
+    let program = "PROGRAM P VAR G : F#; END_VAR G(); END_PROGRAM\n";
+    push_numbered(alloc, &mut text, program, chain.count)?;
     Ok(text)
 }
 
@@ -145,8 +148,7 @@ static BEYOND: Chain = Chain {
     name: "not used",
     first: LOCAL,
     count: 62,
-    names: "a, b",
-    calls: "a(); b();",
+    body: TWO,
     expected: "inputs 0 outputs 0 locals 9 instances 0 steps 1 nodes 1",
 };
 
@@ -161,10 +163,7 @@ fn beyond_the_limits(rt: &impl Abort, alloc: Global) -> Result<(), Memory> {
 // A program with so many names.
 fn with_names(alloc: Global, count: u32, behind: &str) -> Result<String, Memory> {
     let mut text = String::from_str(alloc, "PROGRAM P VAR ")?;
-    for i in 0..count {
-        let name = format!(in alloc; "x{i} : BOOL; ")?;
-        text.push_str(name.as_str())?;
-    }
+    push_each(alloc, &mut text, "x# : BOOL; ", count)?;
     text.push_str(behind)?;
     text.push_str(" END_PROGRAM\n")?;
     Ok(text)
@@ -182,10 +181,8 @@ fn names(rt: &impl Abort, alloc: Global) -> Result<(), Memory> {
 // Asserts that too many function blocks are refused before an instance that is not called.
 fn too_many_blocks(rt: &impl Abort, alloc: Global) -> Result<(), Memory> {
     let mut text = String::new(alloc);
-    for i in 0_u32..65 {
-        let block = format!(in alloc; "FUNCTION_BLOCK F{i} END_FUNCTION_BLOCK ")?;
-        text.push_str(block.as_str())?;
-    }
+    let block = "FUNCTION_BLOCK F# END_FUNCTION_BLOCK ";
+    push_each(alloc, &mut text, block, 65)?;
     text.push_str("\nPROGRAM P VAR G : F1; END_VAR END_PROGRAM\n")?;
     hold(
         rt,

@@ -1,6 +1,6 @@
 // Texts with function blocks, and what is said of them.
 
-use crate::saying::hold;
+use crate::saying::{hold, joined};
 use ps_base::Memory;
 use std::alloc::Global;
 use std::process::Abort;
@@ -243,23 +243,19 @@ fn changes(
 // Asserts what is said of the gate behind each function block.
 fn unused(rt: &impl Abort, alloc: Global) -> Result<(), Memory> {
     for (block, expected) in UNUSED {
-        let text = format!(in alloc; "{block}\n{GATE}")?;
+        let text = joined(alloc, &[block, "\n", GATE])?;
         hold(rt, alloc, block, text.as_str(), expected)?;
     }
     Ok(())
 }
 
-// A program with one instance of a function block, which is called so.
-fn with_one(alloc: Global, block: &str, call: &str) -> Result<String, Memory> {
-    Ok(format!(in alloc;
-        "{block}\nPROGRAM P VAR_INPUT S_i : SAFEBOOL; END_VAR\nVAR G : F; END_VAR\n{call}\nEND_PROGRAM\n"
-    )?)
-}
+// What stands between a function block and the call of its one instance.
+const INSTANCE: &str = "\nPROGRAM P VAR_INPUT S_i : SAFEBOOL; END_VAR\nVAR G : F; END_VAR\n";
 
 // Asserts what is said of a program with one instance of each function block.
 fn used_once(rt: &impl Abort, alloc: Global) -> Result<(), Memory> {
     for (block, call, expected) in WITH_ONE {
-        let text = with_one(alloc, block, call)?;
+        let text = joined(alloc, &[block, INSTANCE, call, "\nEND_PROGRAM\n"])?;
         hold(rt, alloc, block, text.as_str(), expected)?;
     }
     Ok(())

@@ -57,3 +57,12 @@ pub fn hold(
     assert_eq!(rt; said.as_str(), expected, "{name}");
     Ok(())
 }
+
+/// A text of these parts.
+pub fn joined(alloc: Global, parts: &[&str]) -> Result<String, Memory> {
+    let mut text = String::new(alloc);
+    for part in parts {
+        text.push_str(part)?;
+    }
+    Ok(text)
+}

@@ -31,7 +31,7 @@ pub fn files_of(alloc: Global, held: (&str, &str, &str)) -> Result<MemFiles, Mem
 
 /// How a call ended, and what it left: whether a world of two channels is tripped, and which seats of a world of three are dirty,
 /// where it left one.
-#[derive(Clone, Copy, Debug, PartialEq, Eq)]
+#[derive(Clone, Copy)]
 pub struct Ended {
     pub status: Status,
     pub tripped: Option<bool>,
@@ -82,28 +82,37 @@ fn answer_to(
     Ok((out, ended.status))
 }
 
-/// Fails: memory is wanting for what a test asks.
-pub fn no_memory(rt: &impl Abort) {
-    assert!(rt; false, "memory is wanting");
-}
-
-/// Asserts that a call with these words writes this text and ends with this status, where `A`, `T` and `F` are held.
+/// Asserts that a call with these words writes this text and ends with this status, where `A`, `T` and `F` are held. The name is
+/// that of its row.
 pub fn gives(
     rt: &impl Abort,
     alloc: Global,
+    name: &str,
     words: &str,
     held: (&str, &str, &str),
     wanted: (&str, Status),
-) {
+) -> Result<(), Memory> {
     let (text, status) = wanted;
-    let (_, _, faults) = held;
-    match answer_to(alloc, words, held) {
-        Ok((out, found)) => {
-            assert_eq!(rt; out.taken(), text.as_bytes(), "{words}, {faults}");
-            assert_eq!(rt; found, status, "{words}, {faults}");
-        }
-        Err(Memory) => no_memory(rt),
+    let (out, found) = answer_to(alloc, words, held)?;
+    assert_eq!(rt; out.taken(), text.as_bytes(), "{words}, {name}");
+    assert_eq!(rt; found, status, "{words}, {name}");
+    Ok(())
+}
+
+/// A name, the words of a call, what is held under `A`, `T` and `F`, and the text and the status of the call.
+pub type Call = (
+    &'static str,
+    &'static str,
+    (&'static str, &'static str, &'static str),
+    (&'static str, Status),
+);
+
+/// Asserts what comes of each call of a table.
+pub fn each_gives(rt: &impl Abort, alloc: Global, calls: &[Call]) -> Result<(), Memory> {
+    for (name, words, held, wanted) in calls {
+        gives(rt, alloc, name, words, *held, *wanted)?;
     }
+    Ok(())
 }
 
 /// The lines of a row, which has a bar for each line feed but the last.
@@ -115,37 +124,50 @@ fn lines_of(alloc: Global, row: &str) -> Result<String, Memory> {
 
 /// Asserts of each fault file of a table that `fault` of an application and a trace writes this text with it, and ends with
 /// this status. A row is a fault file, a bar for each line feed but the last.
-pub fn each_gives(
+pub fn each_strikes(
     rt: &impl Abort,
     alloc: Global,
     held: (&str, &str),
     rows: &str,
     wanted: (&str, Status),
-) {
+) -> Result<(), Memory> {
     let (app, trace) = held;
     for row in rows.lines() {
-        match lines_of(alloc, row) {
-            Ok(faults) => {
-                let held = (app, trace, faults.as_str());
-                gives(rt, alloc, "fault A T F", held, wanted);
-            }
-            Err(Memory) => no_memory(rt),
-        }
+        let faults = lines_of(alloc, row)?;
+        let held = (app, trace, faults.as_str());
+        gives(rt, alloc, row, "fault A T F", held, wanted)?;
     }
+    Ok(())
 }
 
-/// Asserts of each fault file of a table what `fault` of an application and a trace writes first for it, and that it ends with
-/// this status. A row is a fault file as above and, behind ` => `, the line.
-pub fn each_is_refused(rt: &impl Abort, alloc: Global, held: (&str, &str), rows: &str) {
+/// Asserts of each fault file of a table what `fault` of an application and a trace writes first for it, and that it is refused. A
+/// row is a fault file as above and, behind ` => `, the line.
+pub fn each_is_refused(
+    rt: &impl Abort,
+    alloc: Global,
+    held: (&str, &str),
+    rows: &str,
+) -> Result<(), Memory> {
     for row in rows.lines() {
-        match row.split_once(" => ") {
-            Some((faults, line)) => match lines_of(alloc, line) {
-                Ok(text) => each_gives(rt, alloc, held, faults, (text.as_str(), Status::BadInput)),
-                Err(Memory) => no_memory(rt),
-            },
-            None => assert!(rt; false, "no row: {row}"),
-        }
+        let (faults, line) = row.split_once(" => ").unwrap_or((row, ""));
+        let text = lines_of(alloc, line)?;
+        each_strikes(rt, alloc, held, faults, (text.as_str(), Status::BadInput))?;
     }
+    Ok(())
+}
+
+/// Adds a row of a table to a trace and a text.
+fn push_row(trace: &mut String, text: &mut String, row: &str) -> Result<(), Memory> {
+    match row.split_once(" => ") {
+        Some((line, written)) => {
+            trace.push_str(line)?;
+            text.push_str(written)?;
+            text.push_str("\n")?;
+        }
+        None => trace.push_str(row)?,
+    }
+    trace.push_str("\n")?;
+    Ok(())
 }
 
 /// The trace and the text of a table. A row is a line of the trace and, behind ` => `, the line that is written for
@@ -154,15 +176,7 @@ pub fn trace_and_text(alloc: Global, rows: &str) -> Result<(String, String), Mem
     let mut trace = String::new(alloc);
     let mut text = String::new(alloc);
     for row in rows.lines() {
-        match row.split_once(" => ") {
-            Some((line, written)) => {
-                trace.push_str(line)?;
-                text.push_str(written)?;
-                text.push_str("\n")?;
-            }
-            None => trace.push_str(row)?,
-        }
-        trace.push_str("\n")?;
+        push_row(&mut trace, &mut text, row)?;
     }
     Ok((trace, text))
 }
@@ -176,12 +190,8 @@ pub fn each_walks(
     walk: &str,
     rows: &str,
     status: Status,
-) {
-    match trace_and_text(alloc, walk) {
-        Ok((trace, text)) => {
-            let held = (app, trace.as_str());
-            each_gives(rt, alloc, held, rows, (text.as_str(), status));
-        }
-        Err(Memory) => no_memory(rt),
-    }
+) -> Result<(), Memory> {
+    let (trace, text) = trace_and_text(alloc, walk)?;
+    let held = (app, trace.as_str());
+    each_strikes(rt, alloc, held, rows, (text.as_str(), status))
 }

@@ -1,6 +1,7 @@
 // Faults that strike the cells of a channel before a scan.
 
-use crate::motor::{each_trips, none_shows};
+use crate::motor::{QUIET, Struck};
+use ps_top::Status;
 
 /// Cells of channel A that Begin sets anew, that a scan writes before it reads them, and that hold a value already.
 const UNSEEN_IN_A: &str = "\
@@ -17,11 +18,6 @@ before 3 A memory 83 01
 before 1 A memory 96 00
 ";
 
-#[test]
-fn cells_of_channel_a_that_do_not_show(rt: HostRuntime) {
-    none_shows(&rt, rt.alloc(), UNSEEN_IN_A);
-}
-
 /// The same of channel B.
 const UNSEEN_IN_B: &str = "\
 before 3 B memory 0 00
@@ -34,18 +30,8 @@ before 3 B memory 61 00
 before 3 B memory 64 00
 ";
 
-#[test]
-fn cells_of_channel_b_that_do_not_show(rt: HostRuntime) {
-    none_shows(&rt, rt.alloc(), UNSEEN_IN_B);
-}
-
 /// The state that both channels reach in this scan anyway.
 const AGREED: &str = "before 4 A memory 81 8000";
-
-#[test]
-fn a_fault_on_which_both_channels_then_agree(rt: HostRuntime) {
-    none_shows(&rt, rt.alloc(), AGREED);
-}
 
 /// Instances whose bytes stand for no state.
 const NO_STATE: &str = "\
@@ -67,11 +53,6 @@ const NO_STATE_TEXT: &str = "\
 50 TRIP S_Motor=0
 ";
 
-#[test]
-fn instances_without_a_state(rt: HostRuntime) {
-    each_trips(&rt, rt.alloc(), NO_STATE, NO_STATE_TEXT);
-}
-
 /// The state of free running, in either channel.
 const FREE: &str = "\
 before 3 A memory 81 8000
@@ -88,11 +69,6 @@ const FREE_TEXT: &str = "\
 50 TRIP S_Motor=0
 ";
 
-#[test]
-fn outputs_that_differ(rt: HostRuntime) {
-    each_trips(&rt, rt.alloc(), FREE, FREE_TEXT);
-}
-
 /// The state of the first scan, in a later one.
 const EARLIER: &str = "before 3 A memory 81 8001";
 
@@ -105,11 +81,6 @@ const EARLIER_TEXT: &str = "\
 40 TRIP S_Motor=0
 50 TRIP S_Motor=0
 ";
-
-#[test]
-fn codes_that_differ(rt: HostRuntime) {
-    each_trips(&rt, rt.alloc(), EARLIER, EARLIER_TEXT);
-}
 
 /// A reset that was seen before the scan in which it comes.
 const SEEN: &str = "before 4 A memory 83 01";
@@ -124,7 +95,13 @@ const SEEN_TEXT: &str = "\
 50 TRIP S_Motor=0
 ";
 
-#[test]
-fn a_reset_that_was_seen(rt: HostRuntime) {
-    each_trips(&rt, rt.alloc(), SEEN, SEEN_TEXT);
-}
+/// The tables.
+pub static STRUCK: &[Struck] = &[
+    (UNSEEN_IN_A, QUIET),
+    (UNSEEN_IN_B, QUIET),
+    (AGREED, QUIET),
+    (NO_STATE, (NO_STATE_TEXT, Status::Tripped)),
+    (FREE, (FREE_TEXT, Status::Tripped)),
+    (EARLIER, (EARLIER_TEXT, Status::Tripped)),
+    (SEEN, (SEEN_TEXT, Status::Tripped)),
+];

@@ -1,6 +1,7 @@
 // Faults that strike the code of a channel.
 
-use crate::motor::{each_trips, each_trips_second};
+use crate::motor::Struck;
+use ps_top::Status;
 
 /// The first trip of channel A for an instruction that there is none of.
 const A_IN_THE_THIRD: &str = "\
@@ -27,11 +28,6 @@ before 3 A code 29 ff
 before 3 A code 32 ff
 ";
 
-#[test]
-fn code_of_channel_a(rt: HostRuntime) {
-    each_trips(&rt, rt.alloc(), CODE_OF_A, A_IN_THE_THIRD);
-}
-
 /// The same of channel B.
 const B_IN_THE_THIRD: &str = "\
 0 S_Motor=0 E=1,0,8001
@@ -51,13 +47,8 @@ before 3 B code 31 00
 before 3 B code 36 00
 ";
 
-#[test]
-fn code_of_channel_b(rt: HostRuntime) {
-    each_trips(&rt, rt.alloc(), CODE_OF_B, B_IN_THE_THIRD);
-}
-
 /// A fault that strikes before the second scan, with the cause of the trip. The other lines are the same for all.
-const IN_THE_SECOND: &str = "\
+pub const IN_THE_SECOND: &str = "\
 before 2 A code 0 ff => trap A 1
 before 2 B code 0 00 => trap B 1
 before 2 A code 12 01000001000001000004 => stuck A
@@ -67,7 +58,8 @@ before 2 B code 10 041234 => trap B 5
 before 2 B code 10 04 => trap B 3
 ";
 
-#[test]
-fn causes_in_the_second_scan(rt: HostRuntime) {
-    each_trips_second(&rt, rt.alloc(), IN_THE_SECOND);
-}
+/// The tables.
+pub static STRUCK: &[Struck] = &[
+    (CODE_OF_A, (A_IN_THE_THIRD, Status::Tripped)),
+    (CODE_OF_B, (B_IN_THE_THIRD, Status::Tripped)),
+];

@@ -1,15 +1,8 @@
 // What safe outputs demand.
 
-use crate::calls::gives;
+use crate::calls::Call;
 use crate::motor::MOTOR;
 use ps_top::Status;
-use std::alloc::Global;
-use std::process::Abort;
-
-/// Asserts that `demand` of an application writes this text, and ends with this status.
-fn demands(rt: &impl Abort, alloc: Global, app: &str, wanted: (&str, Status)) {
-    gives(rt, alloc, "demand A", (app, "", ""), wanted);
-}
 
 /// A press.
 const PRESS: &str = "\
@@ -47,17 +40,6 @@ VAR X, Y : SAFEBOOL; END_VAR
 X := Y AND S_In; Y := S_In; S_O := X;
 END_PROGRAM
 ";
-
-#[test]
-fn applications(rt: HostRuntime) {
-    let alloc = rt.alloc();
-    let motor = ("S_Motor needs S_In\n", Status::Done);
-    demands(&rt, alloc, MOTOR, motor);
-    let press = "S_Ram needs S_EStop AND S_G1 AND S_G2 AND S_L AND S_R\n";
-    demands(&rt, alloc, PRESS, (press, Status::Done));
-    let feedback = ("S_O needs Y@before AND S_In\n", Status::Done);
-    demands(&rt, alloc, FEEDBACK, feedback);
-}
 
 /// Demands that double from line to line: 512 leaves.
 const DOUBLED: &str = "\
@@ -99,10 +81,39 @@ S_O := L10;
 END_PROGRAM
 ";
 
-#[test]
-fn large_demands(rt: HostRuntime) {
-    let alloc = rt.alloc();
-    demands(&rt, alloc, DOUBLED, ("S_O needs S_A\n", Status::Done));
-    let refused = ("refused M1 line 15 column 1\n", Status::Refused);
-    demands(&rt, alloc, TOO_LARGE, refused);
-}
+/// What comes of each application.
+pub static CALLS: &[Call] = &[
+    (
+        "the motor",
+        "demand A",
+        (MOTOR, "", ""),
+        ("S_Motor needs S_In\n", Status::Done),
+    ),
+    (
+        "a press",
+        "demand A",
+        (PRESS, "", ""),
+        (
+            "S_Ram needs S_EStop AND S_G1 AND S_G2 AND S_L AND S_R\n",
+            Status::Done,
+        ),
+    ),
+    (
+        "a value of the scan before",
+        "demand A",
+        (FEEDBACK, "", ""),
+        ("S_O needs Y@before AND S_In\n", Status::Done),
+    ),
+    (
+        "512 leaves",
+        "demand A",
+        (DOUBLED, "", ""),
+        ("S_O needs S_A\n", Status::Done),
+    ),
+    (
+        "1,024 leaves",
+        "demand A",
+        (TOO_LARGE, "", ""),
+        ("refused M1 line 15 column 1\n", Status::Refused),
+    ),
+];

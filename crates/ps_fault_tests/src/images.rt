@@ -1,6 +1,6 @@
 // The images of applications.
 
-use crate::calls::gives;
+use crate::calls::{Call, gives};
 use crate::motor::MOTOR;
 use ps_base::Memory;
 use ps_top::Status;
@@ -16,12 +16,6 @@ B code 37 memory 84 turns 5
 f400000300040000000005ffff0000fffefffe0001f1f0000004f2f0000002f1
 0003f000f0
 ";
-
-#[test]
-fn images_of_a_motor(rt: HostRuntime) {
-    let wanted = (MOTOR_IMAGES, Status::Done);
-    gives(&rt, rt.alloc(), "image A", (MOTOR, "", ""), wanted);
-}
 
 // Adds the names of 512 inputs, with a text between each two.
 fn push_inputs(text: &mut String, alloc: Global, between: &str) -> Result<(), Memory> {
@@ -195,20 +189,33 @@ f00001f3f2f00001f4f2f00001f5f2f00001f6f2f00001f7f2f00001f8f2f000
 f10200f000f0
 ";
 
-#[test]
-fn images_of_a_wide_application(rt: HostRuntime) -> Result<(), Fail> {
-    let alloc = rt.alloc();
-    let app = wide(alloc)?;
-    let wanted = (WIDE_IMAGES, Status::Done);
-    gives(&rt, alloc, "image A", (app.as_str(), "", ""), wanted);
-    Ok(())
-}
+/// What comes of `image` of applications that are short, and of none.
+pub static CALLS: &[Call] = &[
+    (
+        "the motor",
+        "image A",
+        (MOTOR, "", ""),
+        (MOTOR_IMAGES, Status::Done),
+    ),
+    (
+        "no text",
+        "image A",
+        ("", "", ""),
+        ("refused P1 line 1 column 1\n", Status::Refused),
+    ),
+    (
+        "no file",
+        "image none",
+        ("", "", ""),
+        ("", Status::ReadFault),
+    ),
+];
 
 #[test]
-fn applications_without_images(rt: HostRuntime) {
-    let alloc = rt.alloc();
-    let refused = ("refused P1 line 1 column 1\n", Status::Refused);
-    gives(&rt, alloc, "image A", ("", "", ""), refused);
-    let unread = ("", Status::ReadFault);
-    gives(&rt, alloc, "image none", ("", "", ""), unread);
+fn images_of_a_wide_application(rt: HostRuntime) -> Result<(), Fail> {
+    let app = wide(rt.alloc())?;
+    let held = (app.as_str(), "", "");
+    let wanted = (WIDE_IMAGES, Status::Done);
+    gives(&rt, rt.alloc(), "512 inputs", "image A", held, wanted)?;
+    Ok(())
 }

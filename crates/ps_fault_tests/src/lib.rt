@@ -8,8 +8,12 @@
 //! - `outside`: files that are not held, and for each command each read and each write that fails in turn.
 //! - `votes`: faults that strike three seats, outvoted and healed.
 //! - `left`: the worlds that a call leaves. `demands`: what safe outputs demand. `images`: the images.
+//! - `all`: the tests that go over the tables of these. They are few, since each function of a test is proved over all that the
+//!   program stands on.
 #![tactic(auto)]
 
+#[cfg(test)]
+mod all;
 #[cfg(test)]
 mod calls;
 #[cfg(test)]

@@ -1,6 +1,6 @@
 // A motor behind an emergency stop, an ordinary use of it, and what is written for that use.
 
-use crate::calls::{each_gives, gives, no_memory};
+use crate::calls::{Call, each_strikes};
 use ps_base::Memory;
 use ps_top::Status;
 use std::alloc::Global;
@@ -51,11 +51,6 @@ const TRIPPED: &str = " S_Motor=0
 50 TRIP S_Motor=0
 ";
 
-/// Asserts of each fault file of a table that the motor trips with it in its ordinary use, with this text.
-pub fn each_trips(rt: &impl Abort, alloc: Global, rows: &str, text: &str) {
-    each_gives(rt, alloc, (MOTOR, USE), rows, (text, Status::Tripped));
-}
-
 // What is written where the motor trips in the second scan with a cause.
 fn tripped_by(alloc: Global, cause: &str) -> Result<String, Memory> {
     Ok(format!(in alloc; "{SCAN}10 TRIP {cause}{TRIPPED}")?)
@@ -63,33 +58,38 @@ fn tripped_by(alloc: Global, cause: &str) -> Result<String, Memory> {
 
 /// Asserts of each fault file of a table that the motor trips with it in the second scan of its ordinary use. A row is a
 /// fault file and, behind ` => `, the cause.
-pub fn each_trips_second(rt: &impl Abort, alloc: Global, rows: &str) {
+pub fn each_trips_second(rt: &impl Abort, alloc: Global, rows: &str) -> Result<(), Memory> {
     for row in rows.lines() {
-        match row.split_once(" => ") {
-            Some((faults, cause)) => match tripped_by(alloc, cause) {
-                Ok(text) => each_trips(rt, alloc, faults, text.as_str()),
-                Err(Memory) => no_memory(rt),
-            },
-            None => assert!(rt; false, "no row: {row}"),
-        }
+        let (faults, cause) = row.split_once(" => ").unwrap_or((row, ""));
+        let text = tripped_by(alloc, cause)?;
+        let wanted = (text.as_str(), Status::Tripped);
+        each_strikes(rt, alloc, (MOTOR, USE), faults, wanted)?;
     }
+    Ok(())
 }
 
-/// Asserts of each fault file of a table that it does not show in the motor's ordinary use.
-pub fn none_shows(rt: &impl Abort, alloc: Global, rows: &str) {
-    each_gives(rt, alloc, (MOTOR, USE), rows, (ORDINARY, Status::Done));
+/// Fault files, a row each, and what `fault` of the motor in its ordinary use writes with each, and how it ends.
+pub type Struck = (&'static str, (&'static str, Status));
+
+/// Asserts what comes of each fault file of each table.
+pub fn each_is_struck(rt: &impl Abort, alloc: Global, tables: &[Struck]) -> Result<(), Memory> {
+    for (rows, wanted) in tables {
+        each_strikes(rt, alloc, (MOTOR, USE), rows, *wanted)?;
+    }
+    Ok(())
 }
 
-/// Asserts that `fault` of the motor in its ordinary use writes this text with this fault file, and ends with this status.
-pub fn strikes(rt: &impl Abort, alloc: Global, faults: &str, wanted: (&str, Status)) {
-    gives(rt, alloc, "fault A T F", (MOTOR, USE, faults), wanted);
-}
+/// What comes of faults that do not show.
+pub const QUIET: (&str, Status) = (ORDINARY, Status::Done);
 
-#[test]
-fn no_fault(rt: HostRuntime) {
-    let alloc = rt.alloc();
-    let wanted = (ORDINARY, Status::Done);
-    strikes(&rt, alloc, "", wanted);
-    strikes(&rt, alloc, "# none\n\n \t\r\n", wanted);
-    gives(&rt, alloc, "run A T", (MOTOR, USE, ""), wanted);
-}
+/// Calls without a fault.
+pub static CALLS: &[Call] = &[
+    ("no fault", "fault A T F", (MOTOR, USE, ""), QUIET),
+    (
+        "lines that are skipped",
+        "fault A T F",
+        (MOTOR, USE, "# none\n\n \t\r\n"),
+        QUIET,
+    ),
+    ("no fault", "run A T", (MOTOR, USE, ""), QUIET),
+];

@@ -1,6 +1,6 @@
 // Files that are not held, and reads and writes that fail in turn, for each command.
 
-use crate::calls::{ROOM, call, files_of, gives, no_memory, words_of};
+use crate::calls::{Call, ROOM, call, files_of, words_of};
 use crate::images::MOTOR_IMAGES;
 use crate::motor::{MOTOR, ORDINARY, USE};
 use crate::votes::{BOTH, STRUCK_IN_TURN, THIRD};
@@ -9,29 +9,32 @@ use ps_outside::MemSink;
 use ps_top::Status;
 use std::alloc::Global;
 use std::process::Abort;
+use std::test::Fail;
 
-#[test]
-fn names_that_are_not_held(rt: HostRuntime) {
-    let held = (MOTOR, USE, "");
-    for words in [
-        "fault A T none",
+/// Names that are not held. The source is judged before the fault file, and that before the trace.
+pub static CALLS: &[Call] = &[
+    ("a fault file", "fault A T none", HELD, UNREAD),
+    ("a trace", "fault A none F", HELD, UNREAD),
+    ("an application", "fault none T F", HELD, UNREAD),
+    ("an application", "demand none", HELD, UNREAD),
+    (
+        "a fault file that is refused",
         "fault A none F",
-        "fault none T F",
-        "demand none",
-    ] {
-        gives(&rt, rt.alloc(), words, held, ("", Status::ReadFault));
-    }
-}
+        (MOTOR, "", "x\n"),
+        ("refused F1 line 1\n", Status::BadInput),
+    ),
+    (
+        "a source that is refused",
+        "fault A none none",
+        ("", "", ""),
+        ("refused P1 line 1 column 1\n", Status::Refused),
+    ),
+];
 
-// The source is judged before the fault file, and that before the trace.
-#[test]
-fn refusals_before_a_name_that_is_not_held(rt: HostRuntime) {
-    let alloc = rt.alloc();
-    let faults = ("refused F1 line 1\n", Status::BadInput);
-    gives(&rt, alloc, "fault A none F", (MOTOR, "", "x\n"), faults);
-    let source = ("refused P1 line 1 column 1\n", Status::Refused);
-    gives(&rt, alloc, "fault A none none", ("", "", ""), source);
-}
+/// What is held beside a name that is not, and what comes of it.
+const HELD: (&str, &str, &str) = (MOTOR, USE, "");
+
+const UNREAD: (&str, Status) = ("", Status::ReadFault);
 
 /// A fault that trips the motor in its third scan.
 const STRUCK: &str = "before 3 A memory 81 8000\n";
@@ -216,6 +219,26 @@ struct Failing {
     most: u32,
 }
 
+impl Failing {
+    /// This read fails, and each gives at most so many bytes.
+    fn read(read: u32, most: u32) -> Failing {
+        Failing {
+            read,
+            write: 0,
+            most,
+        }
+    }
+
+    /// This write fails.
+    fn write(write: u32) -> Failing {
+        Failing {
+            read: 0,
+            write,
+            most: 0,
+        }
+    }
+}
+
 /// What a call writes, and how it ends, over an outside of which this fails.
 fn answer(alloc: Global, row: &Row, failing: Failing) -> Result<(MemSink, Status), Memory> {
     let mut files = files_of(alloc, (MOTOR, USE, row.third))?;
@@ -231,15 +254,18 @@ fn answer(alloc: Global, row: &Row, failing: Failing) -> Result<(MemSink, Status
 }
 
 /// Asserts that a call over an outside of which this fails writes this text, and ends with this status.
-fn ends(rt: &impl Abort, alloc: Global, row: &Row, failing: Failing, wanted: (&str, Status)) {
+fn ends(
+    rt: &impl Abort,
+    alloc: Global,
+    row: &Row,
+    failing: Failing,
+    wanted: (&str, Status),
+) -> Result<(), Memory> {
     let (text, status) = wanted;
-    match answer(alloc, row, failing) {
-        Ok((out, found)) => {
-            assert_eq!(rt; out.taken(), text.as_bytes(), "{}, {failing:?}", row.words);
-            assert_eq!(rt; found, status, "{}, {failing:?}", row.words);
-        }
-        Err(Memory) => no_memory(rt),
-    }
+    let (out, found) = answer(alloc, row, failing)?;
+    assert_eq!(rt; out.taken(), text.as_bytes(), "{}, {failing:?}", row.words);
+    assert_eq!(rt; found, status, "{}, {failing:?}", row.words);
+    Ok(())
 }
 
 /// Whether bytes are first lines of a text, or none.
@@ -247,109 +273,72 @@ fn begins(text: &[u8], bytes: &[u8]) -> bool {
     text.starts_with(bytes) && (bytes.is_empty() || bytes.ends_with(b"\n"))
 }
 
-/// Asserts that a call over an outside of which a read fails writes first lines of its text, and ends as a fault of reading.
-fn stops(rt: &impl Abort, alloc: Global, row: &Row, failing: Failing) {
-    match answer(alloc, row, failing) {
-        Ok((out, found)) => {
-            let is_begun = begins(row.text.as_bytes(), out.taken());
-            assert!(rt; is_begun, "{}, {failing:?}", row.words);
-            assert_eq!(rt; found, Status::ReadFault, "{}, {failing:?}", row.words);
-        }
-        Err(Memory) => no_memory(rt),
+/// Whether a call over an outside of which a read fails writes first lines of its text, and ends as a fault of reading.
+fn is_stopped(alloc: Global, row: &Row, failing: Failing) -> Result<bool, Memory> {
+    let (out, found) = answer(alloc, row, failing)?;
+    Ok(begins(row.text.as_bytes(), out.taken()) && found == Status::ReadFault)
+}
+
+/// What a call writes, and how it ends, where this read fails. Nothing is written before the last read but where that is of a trace.
+fn behind_read(row: &Row, read: u32) -> (&'static str, Status) {
+    if read < row.reads {
+        ("", Status::ReadFault)
+    } else if read == row.reads {
+        (row.before, Status::ReadFault)
+    } else {
+        (row.text, row.status)
     }
 }
 
-// Nothing is written before the last read but where that is of a trace.
-#[test]
-fn each_read_fails_in_turn(rt: HostRuntime) {
-    let alloc = rt.alloc();
-    for row in ROWS {
-        for read in 1..row.reads.saturating_add(2) {
-            let failing = Failing {
-                read,
-                write: 0,
-                most: 0,
-            };
-            let wanted = if read < row.reads {
-                ("", Status::ReadFault)
-            } else if read == row.reads {
-                (row.before, Status::ReadFault)
-            } else {
-                (row.text, row.status)
-            };
-            ends(&rt, alloc, row, failing, wanted);
-        }
+/// Asserts what comes of a call where each read fails in turn, and where one fails that it does not make.
+fn each_read(rt: &impl Abort, alloc: Global, row: &Row) -> Result<(), Memory> {
+    for read in 1..row.reads.saturating_add(2) {
+        ends(
+            rt,
+            alloc,
+            row,
+            Failing::read(read, 0),
+            behind_read(row, read),
+        )?;
     }
+    Ok(())
 }
 
-#[test]
-fn each_read_of_a_piece_fails_in_turn(rt: HostRuntime) {
-    let alloc = rt.alloc();
-    for row in ROWS {
-        for read in 1..row.pieces.saturating_add(2) {
-            let failing = Failing {
-                read,
-                write: 0,
-                most: PIECE,
-            };
-            if read <= row.pieces {
-                stops(&rt, alloc, row, failing);
-            } else {
-                ends(&rt, alloc, row, failing, (row.text, row.status));
-            }
-        }
+/// Asserts the same where each read gives a piece.
+fn each_piece(rt: &impl Abort, alloc: Global, row: &Row) -> Result<(), Memory> {
+    for read in 1..row.pieces.saturating_add(1) {
+        let is_met = is_stopped(alloc, row, Failing::read(read, PIECE))?;
+        assert!(rt; is_met, "{}, {read}", row.words);
     }
+    let behind = Failing::read(row.pieces.saturating_add(1), PIECE);
+    ends(rt, alloc, row, behind, (row.text, row.status))
 }
 
-#[test]
-fn reads_that_give_little(rt: HostRuntime) {
-    let alloc = rt.alloc();
-    for row in ROWS {
-        for most in [1, 3] {
-            let failing = Failing {
-                read: 0,
-                write: 0,
-                most,
-            };
-            ends(&rt, alloc, row, failing, (row.text, row.status));
-        }
-    }
-}
-
-/// Asserts that a call whose `write`-th write fails writes the lines before it, and ends as a fault of writing.
-fn unwritten(rt: &impl Abort, alloc: Global, row: &Row, write: u32, before: &str) {
-    let failing = Failing {
-        read: 0,
-        write,
-        most: 0,
-    };
-    ends(rt, alloc, row, failing, (before, Status::WriteFault));
-}
-
-/// Asserts that each write of a call is one line of its text, by the writes that fail in turn.
-fn each_line_fails(rt: &impl Abort, alloc: Global, row: &Row) -> Result<(), Memory> {
+/// Asserts that each write of a call is one line of its text, by the writes that fail in turn, and where one fails that it does not
+/// make.
+fn each_line(rt: &impl Abort, alloc: Global, row: &Row) -> Result<(), Memory> {
     let mut before = String::new(alloc);
     let mut write: u32 = 1;
     for line in row.text.lines() {
-        unwritten(rt, alloc, row, write, before.as_str());
+        let wanted = (before.as_str(), Status::WriteFault);
+        ends(rt, alloc, row, Failing::write(write), wanted)?;
         before.push_str(line)?;
         before.push_str("\n")?;
         write = write.saturating_add(1);
     }
-    let failing = Failing {
-        read: 0,
-        write,
-        most: 0,
-    };
-    ends(rt, alloc, row, failing, (before.as_str(), row.status));
-    Ok(())
+    let wanted = (before.as_str(), row.status);
+    ends(rt, alloc, row, Failing::write(write), wanted)
 }
 
 #[test]
-fn each_write_fails_in_turn(rt: HostRuntime) {
+fn each_read_and_each_write_fails_in_turn(rt: HostRuntime) -> Result<(), Fail> {
     for row in ROWS {
-        if each_line_fails(&rt, rt.alloc(), row) == Err(Memory) {
-            no_memory(&rt);
-        }
+        each_read(&rt, rt.alloc(), row)?;
+        each_piece(&rt, rt.alloc(), row)?;
+        let wanted = (row.text, row.status);
+        ends(&rt, rt.alloc(), row, Failing::read(0, 1), wanted)?;
+        ends(&rt, rt.alloc(), row, Failing::read(0, 3), wanted)?;
+        each_line(&rt, rt.alloc(), row)?;
     }
+    Ok(())
 }

@@ -1,7 +1,6 @@
 // Faults that are reached and faults that are not, restarts, and traces that are refused.
 
-use crate::calls::each_walks;
-use crate::motor::{MOTOR, none_shows};
+use crate::motor::{QUIET, Struck};
 use ps_top::Status;
 
 /// Faults for a turn or a scan that does not come. A scan has 16 turns, and the faults of turn 17 strike before its end.
@@ -13,11 +12,6 @@ before 7 A code 0 ff
 before 7 turn 1 B code 0 00
 before 4294967295 A code 0 ff
 ";
-
-#[test]
-fn faults_that_are_not_reached(rt: HostRuntime) {
-    none_shows(&rt, rt.alloc(), UNREACHED);
-}
 
 /// A trip, and a restart after it.
 const RESTART: &str = "\
@@ -31,12 +25,7 @@ restart => restart
 ";
 
 /// The fault that trips.
-pub const STRUCK: &str = "before 3 A memory 81 8000";
-
-#[test]
-fn a_restart_after_a_trip(rt: HostRuntime) {
-    each_walks(&rt, rt.alloc(), MOTOR, RESTART, STRUCK, Status::Tripped);
-}
+pub const STRUCK_ONCE: &str = "before 3 A memory 81 8000";
 
 /// A trip in the second scan, one scan more, and a restart.
 const DOWN: &str = "\
@@ -56,18 +45,6 @@ before 2 A code 0 ff|before 3 A code 0 ff
 before 2 A code 0 ff|before 3 turn 1 A code 0 ff
 ";
 
-#[test]
-fn faults_after_a_trip_are_not_reached(rt: HostRuntime) {
-    each_walks(
-        &rt,
-        rt.alloc(),
-        MOTOR,
-        DOWN,
-        BEFORE_THE_RESTART,
-        Status::Tripped,
-    );
-}
-
 /// Two trips: the scans of a world that is tripped are counted, and the fourth comes after the restart.
 const TWICE: &str = "\
 time S_In Ack Run
@@ -82,13 +59,8 @@ restart => restart
 /// Faults before the second and the fourth scan.
 const TWO_FAULTS: &str = "before 2 A code 0 ff|before 4 A code 0 ff";
 
-#[test]
-fn a_second_trip(rt: HostRuntime) {
-    each_walks(&rt, rt.alloc(), MOTOR, TWICE, TWO_FAULTS, Status::Tripped);
-}
-
 /// A trip, and a time that goes back.
-pub const BAD_LINE: &str = "\
+const BAD_LINE: &str = "\
 time S_In Ack Run
 0 1 0 1 => 0 S_Motor=0 E=1,0,8001
 10 1 0 1 => 10 S_Motor=0 E=1,0,8002
@@ -99,7 +71,13 @@ time S_In Ack Run
 40 1 0 1 => refused T7 line 8
 ";
 
-#[test]
-fn a_refusal_of_the_trace_after_a_trip(rt: HostRuntime) {
-    each_walks(&rt, rt.alloc(), MOTOR, BAD_LINE, STRUCK, Status::BadInput);
-}
+/// The table over the ordinary use.
+pub static STRUCK: &[Struck] = &[(UNREACHED, QUIET)];
+
+/// Traces with what is written, fault files, a row each, and how `fault` of the motor ends with each of these.
+pub static WALKS: &[(&str, &str, Status)] = &[
+    (RESTART, STRUCK_ONCE, Status::Tripped),
+    (DOWN, BEFORE_THE_RESTART, Status::Tripped),
+    (TWICE, TWO_FAULTS, Status::Tripped),
+    (BAD_LINE, STRUCK_ONCE, Status::BadInput),
+];

@@ -1,10 +1,11 @@
 // Fault files that are refused.
 
-use crate::calls::each_is_refused;
-use crate::motor::{MOTOR, ORDINARY, USE, strikes};
+use crate::calls::{each_is_refused, gives};
+use crate::motor::{MOTOR, QUIET, USE};
 use ps_base::Memory;
 use ps_top::Status;
 use std::alloc::Global;
+use std::process::Abort;
 use std::test::Fail;
 
 /// Lines of another form.
@@ -22,11 +23,6 @@ Before 1 A memory 0 00 => refused F1 line 1
 # a line that is skipped||x => refused F1 line 3
 ";
 
-#[test]
-fn other_forms(rt: HostRuntime) {
-    each_is_refused(&rt, rt.alloc(), (MOTOR, USE), FORMS);
-}
-
 /// Faults out of order, past the end of a region, and of the other channel; and lines that break two rules.
 const PLACES: &str = "\
 before 2 turn 3 A memory 0 00|before 2 A memory 0 00 => refused F2 line 2
@@ -40,11 +36,6 @@ before 1 A memory 96 00|before 1 B memory 0 ff => refused F4 line 2
 before 2 A memory 0 00|before 1 B memory 84 00 => refused F2 line 2
 before 1 A memory 0 00|before 1 B memory 84 00 => refused F3 line 2
 ";
-
-#[test]
-fn order_regions_and_channels(rt: HostRuntime) {
-    each_is_refused(&rt, rt.alloc(), (MOTOR, USE), PLACES);
-}
 
 /// A text, so many copies of a second one, and a third one.
 fn repeated(
@@ -62,39 +53,42 @@ fn repeated(
     Ok(text)
 }
 
-#[test]
-fn a_thousand_lines(rt: HostRuntime) -> Result<(), Fail> {
-    let alloc = rt.alloc();
-    let wanted = (ORDINARY, Status::Done);
-    let faults = repeated(alloc, "", 1_000, "before 7 A memory 0 00\n", "")?;
-    strikes(&rt, alloc, faults.as_str(), wanted);
-    let skipped = repeated(alloc, "", 1_000, "#\n", "")?;
-    strikes(&rt, alloc, skipped.as_str(), wanted);
+/// A fault that is not reached.
+const FAULT: &str = "before 7 A memory 0 00\n";
+
+/// What comes of a line that is refused.
+const FIRST: (&str, Status) = ("refused F1 line 1\n", Status::BadInput);
+
+const LAST: (&str, Status) = ("refused F5 line 1001\n", Status::BadInput);
+
+/// A name, a text, a second one with its number of copies, a third one, and what comes of the motor's ordinary use with that fault
+/// file.
+static LONG: &[(&str, &str, &str, u32, &str, (&str, Status))] = &[
+    // A thousand lines, and one more.
+    ("most faults", "", FAULT, 1_000, "", QUIET),
+    ("most skipped lines", "", "#\n", 1_000, "", QUIET),
+    ("a line more", "", FAULT, 1_000, "x", LAST),
+    ("a skipped line more", "", "#\n", 1_001, "", LAST),
+    ("the first line", "x\n", "#\n", 1_001, "", FIRST),
+    // A line has at most 600 bytes, skipped or not. A carriage return before its end counts.
+    ("the longest line", "#", "x", 598, "\r\n", QUIET),
+    ("a longer line", "#", "x", 599, "\r\n", FIRST),
+];
+
+/// Asserts what comes of each long fault file.
+fn each_long_is_met(rt: &impl Abort, alloc: Global) -> Result<(), Memory> {
+    for (name, before, part, count, after, wanted) in LONG {
+        let faults = repeated(alloc, before, *count, part, after)?;
+        let held = (MOTOR, USE, faults.as_str());
+        gives(rt, alloc, name, "fault A T F", held, *wanted)?;
+    }
     Ok(())
 }
 
 #[test]
-fn a_line_more(rt: HostRuntime) -> Result<(), Fail> {
-    let alloc = rt.alloc();
-    let wanted = ("refused F5 line 1001\n", Status::BadInput);
-    let faults = repeated(alloc, "", 1_000, "before 7 A memory 0 00\n", "x")?;
-    strikes(&rt, alloc, faults.as_str(), wanted);
-    let skipped = repeated(alloc, "", 1_001, "#\n", "")?;
-    strikes(&rt, alloc, skipped.as_str(), wanted);
-    let first = repeated(alloc, "x\n", 1_001, "#\n", "")?;
-    let wanted = ("refused F1 line 1\n", Status::BadInput);
-    strikes(&rt, alloc, first.as_str(), wanted);
-    Ok(())
-}
-
-// A line has at most 600 bytes, skipped or not. A carriage return before its end counts.
-#[test]
-fn a_line_that_is_too_long(rt: HostRuntime) -> Result<(), Fail> {
-    let alloc = rt.alloc();
-    let most = repeated(alloc, "#", 598, "x", "\r\n")?;
-    strikes(&rt, alloc, most.as_str(), (ORDINARY, Status::Done));
-    let more = repeated(alloc, "#", 599, "x", "\r\n")?;
-    let wanted = ("refused F1 line 1\n", Status::BadInput);
-    strikes(&rt, alloc, more.as_str(), wanted);
+fn refused_fault_files(rt: HostRuntime) -> Result<(), Fail> {
+    each_is_refused(&rt, rt.alloc(), (MOTOR, USE), FORMS)?;
+    each_is_refused(&rt, rt.alloc(), (MOTOR, USE), PLACES)?;
+    each_long_is_met(&rt, rt.alloc())?;
     Ok(())
 }

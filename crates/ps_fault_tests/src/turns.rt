@@ -1,6 +1,7 @@
 // Faults that strike amid the turns of a scan.
 
-use crate::motor::{each_trips, each_trips_second, none_shows};
+use crate::motor::{QUIET, Struck};
+use ps_top::Status;
 
 /// Faults that change an output behind its assignment.
 const OUTPUT: &str = "\
@@ -18,11 +19,6 @@ const OUTPUT_TEXT: &str = "\
 50 TRIP S_Motor=0
 ";
 
-#[test]
-fn an_output_behind_its_assignment(rt: HostRuntime) {
-    each_trips(&rt, rt.alloc(), OUTPUT, OUTPUT_TEXT);
-}
-
 /// Faults of a code that is written once it was read, and of a channel that ends before its first instruction.
 const CODE: &str = "\
 before 3 turn 16 A memory 81 1234
@@ -39,11 +35,6 @@ const CODE_TEXT: &str = "\
 50 TRIP S_Motor=0
 ";
 
-#[test]
-fn codes_that_differ(rt: HostRuntime) {
-    each_trips(&rt, rt.alloc(), CODE, CODE_TEXT);
-}
-
 /// A channel that ends before the first instruction of the scan in which the motor runs.
 const ENDED: &str = "before 4 turn 1 A memory 5 01";
 
@@ -57,13 +48,8 @@ const ENDED_TEXT: &str = "\
 50 TRIP S_Motor=0
 ";
 
-#[test]
-fn a_channel_that_ends_at_once(rt: HostRuntime) {
-    each_trips(&rt, rt.alloc(), ENDED, ENDED_TEXT);
-}
-
 /// Channels that go back to their beginning, that run again behind their end, and whose progress is none.
-const PROGRESS: &str = "\
+pub const PROGRESS: &str = "\
 before 2 turn 12 A memory 0 00000000 => stuck A
 before 2 turn 17 A memory 5 00 => stuck A
 before 2 turn 11 B memory 4 ff => stuck B
@@ -71,15 +57,13 @@ before 2 turn 2 A memory 5 08 => trap A 7
 before 2 turn 2 A memory 5 09 => trap A 0
 ";
 
-#[test]
-fn progress_of_a_channel(rt: HostRuntime) {
-    each_trips_second(&rt, rt.alloc(), PROGRESS);
-}
-
 /// Faults before an assignment that overwrites them.
 const OVERWRITTEN: &str = "before 3 turn 15 A memory 77 01";
 
-#[test]
-fn an_output_before_its_assignment(rt: HostRuntime) {
-    none_shows(&rt, rt.alloc(), OVERWRITTEN);
-}
+/// The tables.
+pub static STRUCK: &[Struck] = &[
+    (OUTPUT, (OUTPUT_TEXT, Status::Tripped)),
+    (CODE, (CODE_TEXT, Status::Tripped)),
+    (ENDED, (ENDED_TEXT, Status::Tripped)),
+    (OVERWRITTEN, QUIET),
+];

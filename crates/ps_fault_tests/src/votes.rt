@@ -1,9 +1,8 @@
 // Faults that strike three seats, of which one is outvoted, and healed or not.
 
-use crate::calls::{ROOM, call, files_of, gives, words_of};
-use crate::motor::{MOTOR, ORDINARY, USE};
+use crate::calls::{Call, gives};
+use crate::motor::{MOTOR, QUIET, USE};
 use ps_base::Memory;
-use ps_outside::MemSink;
 use ps_top::Status;
 use std::alloc::Global;
 use std::process::Abort;
@@ -69,7 +68,7 @@ refused F4 line 2
 pub const STRUCK_IN_TURN: &str = "before 2 C code 0 ff\nbefore 4 A memory 81 8001\n";
 
 /// Faults of which the first does not show, so its seat is dirty when the second is reached.
-const STILL_DIRTY: &str = "before 2 A memory 86 ff\nbefore 4 B code 0 00\n";
+pub const STILL_DIRTY: &str = "before 2 A memory 86 ff\nbefore 4 B code 0 00\n";
 
 /// Two channels that have to agree, with a time for it.
 const PAIR: &str = "\
@@ -82,89 +81,22 @@ S_O := Q.S_EquivalentOut;
 END_PROGRAM
 ";
 
-/// Asserts that a command writes this text for the motor's ordinary use with these faults, and ends with this status.
-fn votes(rt: &impl Abort, alloc: Global, words: &str, faults: &str, wanted: (&str, Status)) {
-    gives(rt, alloc, words, (MOTOR, USE, faults), wanted);
-}
+/// A trace of that pair, and what is written for it where seat B is outvoted.
+const PAIR_TRACE: &str = "time S_A S_B\n0 0 0\n10 1 0\n40 1 0\n60 1 1\n";
 
-#[test]
-fn one_seat_is_outvoted(rt: HostRuntime) {
-    let alloc = rt.alloc();
-    let shows = "before 3 A memory 81 8000\n";
-    votes(&rt, alloc, "vote A T F", shows, (THIRD, Status::Done));
-    let stays = "before 2 C code 0 ff\n";
-    votes(&rt, alloc, "vote A T F", stays, (STAYS, Status::Done));
-    let late = "before 2 turn 28 C memory 4 09\n";
-    votes(&rt, alloc, "vote A T F", late, (SECOND, Status::Done));
-}
-
-#[test]
-fn none_is_outvoted(rt: HostRuntime) {
-    let alloc = rt.alloc();
-    let wanted = (ORDINARY, Status::Done);
-    votes(&rt, alloc, "vote A T F", "", wanted);
-    votes(&rt, alloc, "heal A T F", "", wanted);
-    let again = "before 2 turn 28 C memory 4 00\n";
-    votes(&rt, alloc, "vote A T F", again, wanted);
-    let last = "before 9 C code 126 00\n";
-    votes(&rt, alloc, "vote A T F", last, wanted);
-    let cell = "before 9 C memory 44 00\n";
-    votes(&rt, alloc, "vote A T F", cell, wanted);
-    let unreached = "before 1 A memory 86 ff\nbefore 9 B memory 0 00\n";
-    votes(&rt, alloc, "heal A T F", unreached, wanted);
-}
-
-#[test]
-fn fault_files_that_are_refused(rt: HostRuntime) {
-    let alloc = rt.alloc();
-    let two = "before 1 A memory 0 00\nbefore 1 C memory 0 00\n";
-    let wanted = ("refused F4 line 2\n", Status::BadInput);
-    votes(&rt, alloc, "vote A T F", two, wanted);
-    let wanted = ("refused F3 line 1\n", Status::BadInput);
-    let code = "before 9 C code 127 00\n";
-    votes(&rt, alloc, "vote A T F", code, wanted);
-    let cell = "before 9 C memory 45 00\n";
-    votes(&rt, alloc, "vote A T F", cell, wanted);
-    votes(&rt, alloc, "heal A T F", cell, wanted);
-    let wanted = ("refused F1 line 1\n", Status::BadInput);
-    let none = "before 1 D memory 0 00\n";
-    votes(&rt, alloc, "heal A T F", none, wanted);
-}
-
-#[test]
-fn seats_are_healed(rt: HostRuntime) {
-    let alloc = rt.alloc();
-    let wanted = (BOTH, Status::Done);
-    votes(&rt, alloc, "heal A T F", STRUCK_IN_TURN, wanted);
-    let trace = "time S_A S_B\n0 0 0\n10 1 0\n40 1 0\n60 1 1\n";
-    let text = "\
+const PAIR_TEXT: &str = "\
 0 S_O=0 Q=1,0,8001
 10 S_O=0 Q=1,0,8004
 40 S_O=0 Q=1,0,8004
 40 OUTVOTED B
 60 S_O=0 Q=1,1,C001
 ";
-    let held = (PAIR, trace, "before 3 B code 0 00\n");
-    gives(&rt, alloc, "heal A T F", held, (text, Status::Done));
-}
 
-#[test]
-fn faults_that_heal_refuses(rt: HostRuntime) {
-    let alloc = rt.alloc();
-    let wanted = (REFUSED_FOURTH, Status::BadInput);
-    votes(&rt, alloc, "heal A T F", STILL_DIRTY, wanted);
-    let text = "0 S_Motor=0 E=1,0,8001\nrefused F4 line 2\n";
-    let next = "before 1 A memory 0 00\nbefore 2 B memory 0 00\n";
-    let bad = "time S_In Ack Run\n0 1 0 1\n10 1 0 1\n20 1 0\n";
-    let held = (MOTOR, bad, next);
-    gives(&rt, alloc, "heal A T F", held, (text, Status::BadInput));
-}
+/// A trace with a restart, in which the time falls, and what is written for it where seat C is outvoted.
+const RESTART: &str =
+    "time S_In Ack Run\n0 1 0 1\n10 1 0 1\nrestart\n20 1 0 1\n30 1 0 1\n25 1 0 1\n";
 
-#[test]
-fn restarts_and_refusals_of_the_trace(rt: HostRuntime) {
-    let alloc = rt.alloc();
-    let trace = "time S_In Ack Run\n0 1 0 1\n10 1 0 1\nrestart\n20 1 0 1\n30 1 0 1\n25 1 0 1\n";
-    let text = "\
+const RESTART_TEXT: &str = "\
 0 S_Motor=0 E=1,0,8001
 10 S_Motor=0 E=1,0,8002
 10 OUTVOTED C
@@ -173,44 +105,97 @@ restart
 30 S_Motor=0 E=1,0,8002
 refused T7 line 7
 ";
-    let held = (MOTOR, trace, "before 2 C code 0 ff\n");
-    gives(&rt, alloc, "vote A T F", held, (text, Status::BadInput));
-}
 
-/// Which seats are dirty in the world of three seats that a call leaves, if it leaves one.
-fn dirty_behind(
-    alloc: Global,
-    words: &str,
-    faults: &str,
-) -> Result<Option<(bool, bool, bool)>, Memory> {
-    let mut files = files_of(alloc, (MOTOR, USE, faults))?;
-    let mut out = MemSink::new(alloc, ROOM)?;
-    let words = words_of(alloc, words)?;
-    Ok(call(alloc, &words, &mut files, &mut out).dirty)
-}
+/// A trace whose last line has a value too few, and what is written for it where the second scan's fault is refused.
+const SHORT_LINE: &str = "time S_In Ack Run\n0 1 0 1\n10 1 0 1\n20 1 0\n";
 
-/// Asserts which seats are dirty in the world of three seats that a call leaves, if it leaves one.
-fn leaves(
-    rt: &impl Abort,
-    alloc: Global,
-    words: &str,
-    faults: &str,
-    wanted: Option<(bool, bool, bool)>,
-) {
-    let is_left = dirty_behind(alloc, words, faults) == Ok(wanted);
-    assert!(rt; is_left, "{words}, {faults}");
-}
+const SHORT_LINE_TEXT: &str = "0 S_Motor=0 E=1,0,8001\nrefused F4 line 2\n";
 
-#[test]
-fn seats_that_are_left(rt: HostRuntime) {
-    let alloc = rt.alloc();
-    let struck = "before 3 A memory 81 8000\n";
-    let only_a = Some((true, false, false));
-    leaves(&rt, alloc, "vote A T F", struck, only_a);
-    let clean = Some((false, false, false));
-    leaves(&rt, alloc, "heal A T F", struck, clean);
-    leaves(&rt, alloc, "heal A T F", STRUCK_IN_TURN, clean);
-    leaves(&rt, alloc, "heal A T F", STILL_DIRTY, only_a);
-    leaves(&rt, alloc, "vote A T F", STILL_DIRTY, None);
-    leaves(&rt, alloc, "fault A T F", struck, None);
+/// The command, the fault file, and what comes of the motor's ordinary use.
+static ROWS: &[(&str, &str, (&str, Status))] = &[
+    // One seat is outvoted.
+    (
+        "vote A T F",
+        "before 3 A memory 81 8000\n",
+        (THIRD, Status::Done),
+    ),
+    (
+        "vote A T F",
+        "before 2 C code 0 ff\n",
+        (STAYS, Status::Done),
+    ),
+    (
+        "vote A T F",
+        "before 2 turn 28 C memory 4 09\n",
+        (SECOND, Status::Done),
+    ),
+    // None is outvoted.
+    ("vote A T F", "", QUIET),
+    ("heal A T F", "", QUIET),
+    ("vote A T F", "before 2 turn 28 C memory 4 00\n", QUIET),
+    ("vote A T F", "before 9 C code 126 00\n", QUIET),
+    ("vote A T F", "before 9 C memory 44 00\n", QUIET),
+    (
+        "heal A T F",
+        "before 1 A memory 86 ff\nbefore 9 B memory 0 00\n",
+        QUIET,
+    ),
+    // Fault files that are refused.
+    (
+        "vote A T F",
+        "before 1 A memory 0 00\nbefore 1 C memory 0 00\n",
+        ("refused F4 line 2\n", Status::BadInput),
+    ),
+    ("vote A T F", "before 9 C code 127 00\n", NO_PLACE),
+    ("vote A T F", "before 9 C memory 45 00\n", NO_PLACE),
+    ("heal A T F", "before 9 C memory 45 00\n", NO_PLACE),
+    (
+        "heal A T F",
+        "before 1 D memory 0 00\n",
+        ("refused F1 line 1\n", Status::BadInput),
+    ),
+    // Seats are healed, and a fault is refused while one is not.
+    ("heal A T F", STRUCK_IN_TURN, (BOTH, Status::Done)),
+    (
+        "heal A T F",
+        STILL_DIRTY,
+        (REFUSED_FOURTH, Status::BadInput),
+    ),
+];
+
+/// What comes of a fault past the end of its region.
+const NO_PLACE: (&str, Status) = ("refused F3 line 1\n", Status::BadInput);
+
+/// Calls over other applications and traces.
+pub static CALLS: &[Call] = &[
+    (
+        "a seat is healed",
+        "heal A T F",
+        (PAIR, PAIR_TRACE, "before 3 B code 0 00\n"),
+        (PAIR_TEXT, Status::Done),
+    ),
+    (
+        "a fault is refused before the trace",
+        "heal A T F",
+        (
+            MOTOR,
+            SHORT_LINE,
+            "before 1 A memory 0 00\nbefore 2 B memory 0 00\n",
+        ),
+        (SHORT_LINE_TEXT, Status::BadInput),
+    ),
+    (
+        "a restart",
+        "vote A T F",
+        (MOTOR, RESTART, "before 2 C code 0 ff\n"),
+        (RESTART_TEXT, Status::BadInput),
+    ),
+];
+
+/// Asserts what comes of the motor's ordinary use with each fault file.
+pub fn each_votes(rt: &impl Abort, alloc: Global) -> Result<(), Memory> {
+    for (words, faults, wanted) in ROWS {
+        gives(rt, alloc, faults, words, (MOTOR, USE, faults), *wanted)?;
+    }
+    Ok(())
 }

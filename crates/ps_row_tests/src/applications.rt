@@ -1,6 +1,6 @@
 // Small applications: feedback, empty parts, names.
 
-use crate::calls::{gives, walk};
+use crate::calls::{Call, Walk};
 use ps_top::Status;
 
 /// The AND of two inputs.
@@ -18,11 +18,6 @@ time S_1 S_2
 5 1 0 => 5 S_O=0
 ";
 
-#[test]
-fn the_and_of_two_inputs(rt: HostRuntime) {
-    walk(&rt, rt.alloc(), AND, AND_LINES, Status::Done);
-}
-
 /// A value too few.
 const MISSING: &str = "\
 time S_1 S_2
@@ -30,22 +25,12 @@ time S_1 S_2
 5 1 => refused T4 line 3
 ";
 
-#[test]
-fn a_value_too_few(rt: HostRuntime) {
-    walk(&rt, rt.alloc(), AND, MISSING, Status::BadInput);
-}
-
 /// A word that is no value.
 const NO_VALUE: &str = "\
 time S_1 S_2
 0 1 1 => 0 S_O=1
 5 1 x => refused T5 line 3
 ";
-
-#[test]
-fn a_word_that_is_no_value(rt: HostRuntime) {
-    walk(&rt, rt.alloc(), AND, NO_VALUE, Status::BadInput);
-}
 
 /// A local that is read before it is assigned has the value of the scan before.
 const FEEDBACK: &str = "\
@@ -64,11 +49,6 @@ time S_In
 20 0 => 20 S_O=0
 ";
 
-#[test]
-fn feedback(rt: HostRuntime) {
-    walk(&rt, rt.alloc(), FEEDBACK, FEEDBACK_LINES, Status::Done);
-}
-
 /// A restart forgets the scan before.
 const FEEDBACK_RESTART: &str = "\
 time S_In
@@ -79,11 +59,6 @@ restart => restart
 30 1 => 30 S_O=1
 ";
 
-#[test]
-fn feedback_after_a_restart(rt: HostRuntime) {
-    walk(&rt, rt.alloc(), FEEDBACK, FEEDBACK_RESTART, Status::Done);
-}
-
 const EMPTY: &str = "\
 PROGRAM P END_PROGRAM";
 
@@ -92,26 +67,6 @@ time
 7 => 7
 07 => 7
 ";
-
-#[test]
-fn no_inputs_and_no_outputs(rt: HostRuntime) {
-    walk(&rt, rt.alloc(), EMPTY, EMPTY_LINES, Status::Done);
-}
-
-#[test]
-fn commands_on_an_empty_program(rt: HostRuntime) {
-    let alloc = rt.alloc();
-    let counts = "accepted inputs 0 outputs 0 locals 0 instances 0 steps 0 nodes 0\n";
-    gives(&rt, alloc, "check A", (EMPTY, ""), (counts, Status::Done));
-    gives(&rt, alloc, "cert A", (EMPTY, ""), ("", Status::Done));
-    gives(
-        &rt,
-        alloc,
-        "verify A T",
-        (EMPTY, ""),
-        ("verified 0 lines\n", Status::Done),
-    );
-}
 
 /// An input whose name is the header's first word.
 const TIME: &str = "\
@@ -122,11 +77,6 @@ time TIME
 0 1 => 0 Out=1
 1 0 => 1 Out=0
 ";
-
-#[test]
-fn an_input_with_the_name_time(rt: HostRuntime) {
-    walk(&rt, rt.alloc(), TIME, TIME_LINES, Status::Done);
-}
 
 /// Outputs and instances stand in order of declaration, spelt as they are declared.
 const ORDER: &str = "\
@@ -145,7 +95,49 @@ time b
 4 1 => 4 zZ=1 Aa=1 F=0,0,0000 e=1,0,8001
 ";
 
-#[test]
-fn order_of_the_fields(rt: HostRuntime) {
-    walk(&rt, rt.alloc(), ORDER, ORDER_LINES, Status::Done);
-}
+/// The runs.
+pub static WALKS: &[Walk] = &[
+    ("the and of two inputs", AND, AND_LINES, Status::Done),
+    ("a value too few", AND, MISSING, Status::BadInput),
+    ("a word that is no value", AND, NO_VALUE, Status::BadInput),
+    ("feedback", FEEDBACK, FEEDBACK_LINES, Status::Done),
+    (
+        "feedback after a restart",
+        FEEDBACK,
+        FEEDBACK_RESTART,
+        Status::Done,
+    ),
+    ("no inputs and no outputs", EMPTY, EMPTY_LINES, Status::Done),
+    (
+        "an input with the name time",
+        TIME,
+        TIME_LINES,
+        Status::Done,
+    ),
+    ("order of the fields", ORDER, ORDER_LINES, Status::Done),
+];
+
+/// What `check` writes for an empty program.
+const NOTHING: &str = "accepted inputs 0 outputs 0 locals 0 instances 0 steps 0 nodes 0\n";
+
+/// Commands on an empty program.
+pub static CALLS: &[Call] = &[
+    (
+        "an empty program",
+        "check A",
+        (EMPTY, ""),
+        (NOTHING, Status::Done),
+    ),
+    (
+        "an empty program",
+        "cert A",
+        (EMPTY, ""),
+        ("", Status::Done),
+    ),
+    (
+        "an empty program",
+        "verify A T",
+        (EMPTY, ""),
+        ("verified 0 lines\n", Status::Done),
+    ),
+];

@@ -1,6 +1,6 @@
 // Blocks, each alone in an application and walked through its table.
 
-use crate::calls::walk;
+use crate::calls::Walk;
 use ps_top::Status;
 
 /// Two contacts that close within 50 ms.
@@ -21,28 +21,12 @@ time S_A S_B
 60 1 1 => 60 S_O=0 E=1,1,C001
 ";
 
-#[test]
-fn limit_of_a_timer(rt: HostRuntime) {
-    walk(&rt, rt.alloc(), EQUIVALENT, EQUIVALENT_LATE, Status::Done);
-}
-
 const EQUIVALENT_IN_TIME: &str = "\
 time S_A S_B
 0 0 0 => 0 S_O=0 E=1,0,8001
 10 1 0 => 10 S_O=0 E=1,0,8004
 59 1 1 => 59 S_O=1 E=1,0,8000
 ";
-
-#[test]
-fn just_before_the_limit(rt: HostRuntime) {
-    walk(
-        &rt,
-        rt.alloc(),
-        EQUIVALENT,
-        EQUIVALENT_IN_TIME,
-        Status::Done,
-    );
-}
 
 /// The same without a time.
 const NO_TIME: &str = "\
@@ -61,11 +45,6 @@ time S_A S_B
 5 1 0 => 5 S_O=0 E=1,0,8004
 5 1 0 => 5 S_O=0 E=1,1,C001
 ";
-
-#[test]
-fn limit_0(rt: HostRuntime) {
-    walk(&rt, rt.alloc(), NO_TIME, NO_TIME_LINES, Status::Done);
-}
 
 /// A normally closed and a normally open contact.
 const ANTIVALENT: &str = "\
@@ -88,11 +67,6 @@ time S_NC S_NO
 90 0 1 => 90 S_O=0 E=1,0,8001
 ";
 
-#[test]
-fn antivalent_contacts(rt: HostRuntime) {
-    walk(&rt, rt.alloc(), ANTIVALENT, ANTIVALENT_LINES, Status::Done);
-}
-
 /// Two buttons, pressed within 500 ms.
 const TWO_HANDS: &str = "\
 PROGRAM P
@@ -112,11 +86,6 @@ time S_B1 S_B2
 519 1 1 => 519 S_O=1 E=1,0,8000
 ";
 
-#[test]
-fn both_hands_in_time(rt: HostRuntime) {
-    walk(&rt, rt.alloc(), TWO_HANDS, BOTH_IN_TIME, Status::Done);
-}
-
 const BOTH_LATE: &str = "\
 time S_B1 S_B2
 0 0 0 => 0 S_O=0 E=1,0,8001
@@ -125,11 +94,6 @@ time S_B1 S_B2
 520 1 1 => 520 S_O=0 E=1,1,C006
 ";
 
-#[test]
-fn both_hands_too_late(rt: HostRuntime) {
-    walk(&rt, rt.alloc(), TWO_HANDS, BOTH_LATE, Status::Done);
-}
-
 const ONE_LATE: &str = "\
 time S_B1 S_B2
 0 0 0 => 0 S_O=0 E=1,0,8001
@@ -137,11 +101,6 @@ time S_B1 S_B2
 20 1 0 => 20 S_O=0 E=1,0,8005
 520 1 0 => 520 S_O=0 E=1,1,C004
 ";
-
-#[test]
-fn one_hand_for_too_long(rt: HostRuntime) {
-    walk(&rt, rt.alloc(), TWO_HANDS, ONE_LATE, Status::Done);
-}
 
 /// A selector of two modes.
 const MODES: &str = "\
@@ -169,11 +128,6 @@ time S_A S_B S_U Ack
 1080 0 0 1 0 => 1080 S_M1=0 K=1,1,C002
 ";
 
-#[test]
-fn mode_selector(rt: HostRuntime) {
-    walk(&rt, rt.alloc(), MODES, MODES_LINES, Status::Done);
-}
-
 /// An enable switch of three positions.
 const SWITCH: &str = "\
 PROGRAM P
@@ -198,11 +152,6 @@ time S_1 S_2 Ack
 70 0 1 1 => 70 S_O=0 E=1,0,8006
 80 1 1 1 => 80 S_O=1 E=1,0,8000
 ";
-
-#[test]
-fn enable_switch(rt: HostRuntime) {
-    walk(&rt, rt.alloc(), SWITCH, SWITCH_LINES, Status::Done);
-}
 
 /// A guard that is locked.
 const GUARD: &str = "\
@@ -229,11 +178,6 @@ time S_M S_S S_L U Ack
 80 0 0 1 0 1 => 80 S_Locked=0 S_Unlock=0 E=1,1,C004
 90 1 0 1 0 1 => 90 S_Locked=0 S_Unlock=0 E=1,1,C004
 ";
-
-#[test]
-fn guard_locking(rt: HostRuntime) {
-    walk(&rt, rt.alloc(), GUARD, GUARD_LINES, Status::Done);
-}
 
 /// A request to a drive, which acknowledges it.
 const REQUEST: &str = "\
@@ -263,7 +207,32 @@ time S_Op S_Acknowledged Ack
 200 0 0 0 => 200 S_Active=0 S_Request=0 E=1,1,C002
 ";
 
-#[test]
-fn safety_request(rt: HostRuntime) {
-    walk(&rt, rt.alloc(), REQUEST, REQUEST_LINES, Status::Done);
-}
+/// The runs.
+pub static WALKS: &[Walk] = &[
+    (
+        "limit of a timer",
+        EQUIVALENT,
+        EQUIVALENT_LATE,
+        Status::Done,
+    ),
+    (
+        "just before the limit",
+        EQUIVALENT,
+        EQUIVALENT_IN_TIME,
+        Status::Done,
+    ),
+    ("limit 0", NO_TIME, NO_TIME_LINES, Status::Done),
+    (
+        "antivalent contacts",
+        ANTIVALENT,
+        ANTIVALENT_LINES,
+        Status::Done,
+    ),
+    ("both hands in time", TWO_HANDS, BOTH_IN_TIME, Status::Done),
+    ("both hands too late", TWO_HANDS, BOTH_LATE, Status::Done),
+    ("one hand for too long", TWO_HANDS, ONE_LATE, Status::Done),
+    ("mode selector", MODES, MODES_LINES, Status::Done),
+    ("enable switch", SWITCH, SWITCH_LINES, Status::Done),
+    ("guard locking", GUARD, GUARD_LINES, Status::Done),
+    ("safety request", REQUEST, REQUEST_LINES, Status::Done),
+];

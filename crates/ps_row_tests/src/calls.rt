@@ -27,7 +27,7 @@ pub fn files_of(alloc: Global, app: &str, other: &str) -> Result<MemFiles, Memor
 }
 
 /// How a call ended, and the nodes of the application and the lines of the certificate that it left, if any.
-#[derive(Clone, Copy, Debug, PartialEq, Eq)]
+#[derive(Clone, Copy)]
 pub struct Ended {
     pub status: Status,
     pub counts: Option<(u32, u32)>,
@@ -61,27 +61,51 @@ fn answer_to(alloc: Global, words: &str, held: (&str, &str)) -> Result<(MemSink,
     Ok((out, ended.status))
 }
 
-/// Fails: memory is wanting for what a test asks.
-pub fn no_memory(rt: &impl Abort) {
-    assert!(rt; false, "memory is wanting");
-}
-
-/// Asserts that a call with these words writes this text and ends with this status, where `A` and `T` are held.
+/// Asserts that a call with these words writes this text and ends with this status, where `A` and `T` are held. A name says of
+/// what.
 pub fn gives(
     rt: &impl Abort,
     alloc: Global,
+    name: &str,
     words: &str,
     held: (&str, &str),
     wanted: (&str, Status),
-) {
+) -> Result<(), Memory> {
     let (text, status) = wanted;
-    match answer_to(alloc, words, held) {
-        Ok((out, found)) => {
-            assert_eq!(rt; out.taken(), text.as_bytes(), "{words}");
-            assert_eq!(rt; found, status, "{words}");
-        }
-        Err(Memory) => no_memory(rt),
+    let (out, found) = answer_to(alloc, words, held)?;
+    assert_eq!(rt; out.taken(), text.as_bytes(), "{name}: {words}");
+    assert_eq!(rt; found, status, "{name}: {words}");
+    Ok(())
+}
+
+/// A name, the words of a call, what is held under `A` and `T`, and the text and the status of the call.
+pub type Call = (
+    &'static str,
+    &'static str,
+    (&'static str, &'static str),
+    (&'static str, Status),
+);
+
+/// Asserts what comes of each call of a table.
+pub fn each_gives(rt: &impl Abort, alloc: Global, calls: &[Call]) -> Result<(), Memory> {
+    for (name, words, held, wanted) in calls {
+        gives(rt, alloc, name, words, *held, *wanted)?;
     }
+    Ok(())
+}
+
+/// Adds a row of a table to a trace and a text.
+fn push_row(trace: &mut String, text: &mut String, row: &str) -> Result<(), Memory> {
+    match row.split_once(" => ") {
+        Some((line, written)) => {
+            trace.push_str(line)?;
+            text.push_str(written)?;
+            text.push_str("\n")?;
+        }
+        None => trace.push_str(row)?,
+    }
+    trace.push_str("\n")?;
+    Ok(())
 }
 
 /// The trace and the text of a table. A row is a line of the trace and, behind ` => `, the line that is written for
@@ -90,28 +114,34 @@ pub fn trace_and_text(alloc: Global, rows: &str) -> Result<(String, String), Mem
     let mut trace = String::new(alloc);
     let mut text = String::new(alloc);
     for row in rows.lines() {
-        match row.split_once(" => ") {
-            Some((line, written)) => {
-                trace.push_str(line)?;
-                text.push_str(written)?;
-                text.push_str("\n")?;
-            }
-            None => trace.push_str(row)?,
-        }
-        trace.push_str("\n")?;
+        push_row(&mut trace, &mut text, row)?;
     }
     Ok((trace, text))
 }
 
+/// A name, an application, the rows of its trace and its text, as above, and how `run` ends.
+pub type Walk = (&'static str, &'static str, &'static str, Status);
+
 /// Asserts that `run` of an application writes a table's text for its trace, and ends with this status.
-pub fn walk(rt: &impl Abort, alloc: Global, app: &str, rows: &str, status: Status) {
-    match trace_and_text(alloc, rows) {
-        Ok((trace, text)) => {
-            let held = (app, trace.as_str());
-            gives(rt, alloc, "run A T", held, (text.as_str(), status));
-        }
-        Err(Memory) => no_memory(rt),
+pub fn walk(
+    rt: &impl Abort,
+    alloc: Global,
+    name: &str,
+    app: &str,
+    rows: &str,
+    status: Status,
+) -> Result<(), Memory> {
+    let (trace, text) = trace_and_text(alloc, rows)?;
+    let held = (app, trace.as_str());
+    gives(rt, alloc, name, "run A T", held, (text.as_str(), status))
+}
+
+/// Asserts what comes of each run of a table.
+pub fn each_walks(rt: &impl Abort, alloc: Global, walks: &[Walk]) -> Result<(), Memory> {
+    for (name, app, rows, status) in walks {
+        walk(rt, alloc, name, app, rows, *status)?;
     }
+    Ok(())
 }
 
 /// A line with a line feed behind it.
@@ -122,36 +152,9 @@ pub fn line_of(alloc: Global, line: &str) -> Result<String, Memory> {
 }
 
 /// A text between a head and an end, with a line feed for each bar.
-pub fn between(alloc: Global, around: (&str, &str), text: &str) -> Result<String, Memory> {
-    let (head, end) = around;
+pub fn between(alloc: Global, head: &str, text: &str, end: &str) -> Result<String, Memory> {
     let mut whole = String::from_str(alloc, head)?;
     whole.push_str(text.replace(alloc, '|', "\n")?.as_str())?;
     whole.push_str(end)?;
     Ok(whole)
-}
-
-/// Asserts of each application of a table what a command says of it. A row is a line of the application and,
-/// behind ` => `, what is written for it; the line stands between a head and an end.
-pub fn hold(
-    rt: &impl Abort,
-    alloc: Global,
-    command: &str,
-    around: (&str, &str),
-    rows: &str,
-    status: Status,
-) {
-    for row in rows.lines() {
-        match row.split_once(" => ") {
-            Some((line, written)) => {
-                match (between(alloc, around, line), line_of(alloc, written)) {
-                    (Ok(app), Ok(text)) => {
-                        let held = (app.as_str(), "time\n");
-                        gives(rt, alloc, command, held, (text.as_str(), status));
-                    }
-                    _ => no_memory(rt),
-                }
-            }
-            None => assert!(rt; false, "no row: {row}"),
-        }
-    }
 }

@@ -1,22 +1,11 @@
 // Certificates: what `cert` writes, and what `verify` says of others.
 
-use crate::calls::gives;
+use crate::calls::Call;
 use crate::motor::MOTOR;
 use ps_top::Status;
 
 /// The certificate of the motor.
 pub const CERTIFICATE: &str = "0 SRC\n3 SRC\n2 AND 2\n";
-
-#[test]
-fn what_cert_writes(rt: HostRuntime) {
-    gives(
-        &rt,
-        rt.alloc(),
-        "cert A",
-        (MOTOR, ""),
-        (CERTIFICATE, Status::Done),
-    );
-}
 
 /// The motor with an OR.
 const OR: &str = "\
@@ -46,29 +35,25 @@ S_Motor := E.S_EStopOut AND Run;
 END_PROGRAM
 ";
 
-// `verify` does not derive: what flow would refuse shows as an objection to the certificate.
-#[test]
-fn what_flow_would_refuse(rt: HostRuntime) {
-    let alloc = rt.alloc();
-    gives(
-        &rt,
-        alloc,
+/// What `cert` writes. `verify` does not derive: what flow would refuse shows as an objection to the certificate.
+pub static CALLS: &[Call] = &[
+    (
+        "the motor",
+        "cert A",
+        (MOTOR, ""),
+        (CERTIFICATE, Status::Done),
+    ),
+    (
+        "an OR",
         "verify A T",
         (OR, "0 SRC\n"),
         ("refused O4 line 2\n", Status::BadInput),
-    );
-    gives(
-        &rt,
-        alloc,
+    ),
+    (
+        "a time",
         "verify A T",
         (MISFIT, "0 SRC\n"),
         ("refused O5 line 2\n", Status::BadInput),
-    );
-    gives(
-        &rt,
-        alloc,
-        "verify A none",
-        (OR, ""),
-        ("", Status::ReadFault),
-    );
-}
+    ),
+    ("an OR", "verify A none", (OR, ""), ("", Status::ReadFault)),
+];

@@ -1,6 +1,6 @@
 // Drivers: what is assigned and called, and where literals stand.
 
-use crate::tables::{E, END, P, check_each};
+use crate::tables::{E, END, Of, P, Table};
 
 const ASSIGNED_INPUTS: &str = "\
 b := S_i; S_o := S_i; => refused N6 line 2 column 1
@@ -9,21 +9,11 @@ S_o := S_i; S_o := S_i; b := b; => refused N6 line 2 column 25
 b := b; b := b; S_o := S_i; => refused N6 line 2 column 1
 ";
 
-#[test]
-fn inputs_that_are_assigned(rt: HostRuntime) {
-    check_each(&rt, rt.alloc(), (P, END), ASSIGNED_INPUTS);
-}
-
 const ASSIGNED_PINS: &str = "\
 E(); E.Ready := b; S_o := S_i; => refused N6 line 2 column 6
 E(); E.S_EStopOut := S_i; S_o := S_i; => refused N6 line 2 column 6
 E(); e.ERROR := b; S_o := S_i; => refused N6 line 2 column 6
 ";
-
-#[test]
-fn pin_outputs_that_are_assigned(rt: HostRuntime) {
-    check_each(&rt, rt.alloc(), (E, END), ASSIGNED_PINS);
-}
 
 const SECOND_ASSIGNMENTS: &str = "\
 S_o := S_i; S_o := S_i; => refused N7 line 2 column 13
@@ -32,11 +22,6 @@ VAR x : BOOL; END_VAR x := b; S_o := S_i; X := b; => refused N7 line 2 column 43
 S_o := S_i; S_o := b; S_o := S_i; => refused N7 line 2 column 13
 VAR x, y : BOOL; END_VAR x := y; x := b; S_o := S_i; => refused N7 line 2 column 34
 ";
-
-#[test]
-fn second_assignments(rt: HostRuntime) {
-    check_each(&rt, rt.alloc(), (P, END), SECOND_ASSIGNMENTS);
-}
 
 const NO_ASSIGNMENT: &str = "\
 VAR x : BOOL; END_VAR S_o := S_i AND x; => refused N8 line 2 column 5
@@ -49,11 +34,6 @@ VAR x : BOOL; END_VAR x := S_i; => refused N8 line 1 column 66
 VAR_OUTPUT Q : BOOL; END_VAR S_o := S_i AND Q; => refused N8 line 2 column 12
  => refused N8 line 1 column 66
 ";
-
-#[test]
-fn signals_without_an_assignment(rt: HostRuntime) {
-    check_each(&rt, rt.alloc(), (P, END), NO_ASSIGNMENT);
-}
 
 const CALLS: &str = "\
 E(); E(); S_o := S_i; => refused N9 line 2 column 6
@@ -68,11 +48,6 @@ VAR e2, F : SF_EDM; END_VAR F(); S_o := S_i; => refused N10 line 1 column 94
 VAR e2, F : SF_EDM; END_VAR E(); F(); S_o := S_i AND e2.Error; => refused N10 line 2 column 5
 ";
 
-#[test]
-fn second_calls_and_none(rt: HostRuntime) {
-    check_each(&rt, rt.alloc(), (E, END), CALLS);
-}
-
 const LITERALS: &str = "\
 S_o := (TRUE); => refused N12 line 2 column 9
 S_o := TRUE; => refused N12 line 2 column 8
@@ -85,11 +60,6 @@ S_o := TRUE AND (FALSE); => refused N12 line 2 column 8
 VAR Q : SF_EDM; END_VAR Q(MonitoringTime := (T#1s)); S_o := S_i; => refused N12 line 2 column 46
 ";
 
-#[test]
-fn literals_in_values(rt: HostRuntime) {
-    check_each(&rt, rt.alloc(), (P, END), LITERALS);
-}
-
 const LITERALS_IN_CALLS: &str = "\
 E(Activate := (TRUE)); S_o := S_i; => refused N12 line 2 column 16
 E(Activate := TRUE AND b); S_o := S_i; => refused N12 line 2 column 15
@@ -98,18 +68,20 @@ E(Activate := TRUE, Reset := ((FALSE))); S_o := b; => refused N12 line 2 column 
 E(S_EStopIn := S_i AND TRUE); S_o := S_i; => refused N12 line 2 column 24
 ";
 
-#[test]
-fn literals_in_arguments(rt: HostRuntime) {
-    check_each(&rt, rt.alloc(), (E, END), LITERALS_IN_CALLS);
-}
-
 const TAKEN: &str = "\
 VAR x : BOOL; END_VAR S_o := S_i; => accepted inputs 2 outputs 1 locals 1 instances 0 steps 1 nodes 1
 VAR x : BOOL; END_VAR x := x; S_o := S_i; => accepted inputs 2 outputs 1 locals 1 instances 0 steps 2 nodes 2
 VAR Q : SF_EDM; END_VAR Q(Activate := TRUE, MonitoringTime := T#1s); S_o := S_i; => accepted inputs 2 outputs 1 locals 0 instances 1 steps 2 nodes 1
 ";
 
-#[test]
-fn drivers_that_are_taken(rt: HostRuntime) {
-    check_each(&rt, rt.alloc(), (P, END), TAKEN);
-}
+/// The tables.
+pub static TABLES: &[Table] = &[
+    ("check A", Of::Applications(P, END), ASSIGNED_INPUTS),
+    ("check A", Of::Applications(E, END), ASSIGNED_PINS),
+    ("check A", Of::Applications(P, END), SECOND_ASSIGNMENTS),
+    ("check A", Of::Applications(P, END), NO_ASSIGNMENT),
+    ("check A", Of::Applications(E, END), CALLS),
+    ("check A", Of::Applications(P, END), LITERALS),
+    ("check A", Of::Applications(E, END), LITERALS_IN_CALLS),
+    ("check A", Of::Applications(P, END), TAKEN),
+];

@@ -55,9 +55,6 @@ fn numbers_of_calls(rt: HostRuntime) {
     for row in CALLS.lines() {
         assert!(rt; ends(rt.alloc(), row), "{row}");
     }
-}
-
-#[test]
-fn number_of_a_write_that_fails(rt: HostRuntime) {
-    assert!(rt; exit_of(rt.alloc(), "check A", "", true) == Ok(6));
+    let number = exit_of(rt.alloc(), "check A", "", true);
+    assert!(rt; number == Ok(6), "a write that fails");
 }

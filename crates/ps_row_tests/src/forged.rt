@@ -1,7 +1,7 @@
 // Certificates for the motor and for other programs, most of them forged.
 
 use crate::motor::MOTOR;
-use crate::tables::verify_each;
+use crate::tables::{Of, Table};
 
 /// Certificates for the motor.
 const CERTIFICATES: &str = "\
@@ -30,11 +30,6 @@ const CERTIFICATES: &str = "\
  => refused O4 line 1
 ";
 
-#[test]
-fn certificates_for_the_motor(rt: HostRuntime) {
-    verify_each(&rt, rt.alloc(), MOTOR, CERTIFICATES);
-}
-
 /// Texts of which some are no certificates.
 const FORMS: &str = "\
 0 SRC|3 SRC|2 and 2| => refused C1 line 3
@@ -53,11 +48,6 @@ const FORMS: &str = "\
 5 SRC|x| => refused C1 line 2
 ";
 
-#[test]
-fn texts_of_certificates(rt: HostRuntime) {
-    verify_each(&rt, rt.alloc(), MOTOR, FORMS);
-}
-
 /// A program whose output may be TRUE where its BOOL input is.
 const UNSAFE: &str = "PROGRAM M
 VAR_INPUT S_In : SAFEBOOL; Run : BOOL; END_VAR
@@ -75,11 +65,6 @@ const FOR_UNSAFE: &str = "\
 0 SRC| => refused O3 line 1
 ";
 
-#[test]
-fn certificates_for_an_unsafe_program(rt: HostRuntime) {
-    verify_each(&rt, rt.alloc(), UNSAFE, FOR_UNSAFE);
-}
-
 /// The same with a SAFEBOOL input in place of the BOOL one.
 const SAFE: &str = "PROGRAM M
 VAR_INPUT S_In, S_Run : SAFEBOOL; END_VAR
@@ -96,11 +81,6 @@ const FOR_SAFE: &str = "\
 1 SRC|2 SRC|0 OR| => refused O3 line 3
 ";
 
-#[test]
-fn certificates_for_a_safe_program(rt: HostRuntime) {
-    verify_each(&rt, rt.alloc(), SAFE, FOR_SAFE);
-}
-
 /// A program with a TIME literal at a Boolean pin.
 const MISFIT: &str = "PROGRAM M
 VAR_INPUT S_In : SAFEBOOL; END_VAR
@@ -115,7 +95,11 @@ const FOR_MISFIT: &str = "\
 0 SRC|0 SRC 1| => refused O3 line 2
 ";
 
-#[test]
-fn certificates_for_a_program_with_a_misfit(rt: HostRuntime) {
-    verify_each(&rt, rt.alloc(), MISFIT, FOR_MISFIT);
-}
+/// The tables.
+pub static TABLES: &[Table] = &[
+    ("verify A T", Of::Certificates(MOTOR), CERTIFICATES),
+    ("verify A T", Of::Certificates(MOTOR), FORMS),
+    ("verify A T", Of::Certificates(UNSAFE), FOR_UNSAFE),
+    ("verify A T", Of::Certificates(SAFE), FOR_SAFE),
+    ("verify A T", Of::Certificates(MISFIT), FOR_MISFIT),
+];

@@ -5,7 +5,7 @@ use crate::motor::MOTOR;
 use ps_base::Memory;
 use ps_outside::MemSink;
 use std::alloc::Global;
-use std::process::Abort;
+use std::test::Fail;
 
 /// The nodes of the application and the lines of the certificate that a call leaves, if any.
 fn left_by(
@@ -20,34 +20,29 @@ fn left_by(
     Ok(call(alloc, &words, &mut files, &mut out).counts)
 }
 
-/// Asserts of each call what it leaves: its words, the application and the further text that are held, and the nodes and lines.
-fn leave(rt: &impl Abort, alloc: Global, calls: &[(&str, &str, &str, Option<(u32, u32)>)]) {
-    for (words, app, other, wanted) in calls {
-        let is_left = left_by(alloc, words, app, other) == Ok(*wanted);
-        assert!(rt; is_left, "{words}");
+/// The trace of a scan, and a certificate that says an input twice.
+const TRACE: &str = "time S_In Ack Run\n0 1 0 1\n";
+
+const CERT: &str = "0 SRC\n3 SRC\n3 SRC\n2 AND 3\n";
+
+/// The words of a call, the application and the further text that are held, and the nodes and lines that it leaves: nothing where
+/// all is refused.
+static CALLS: &[(&str, &str, &str, Option<(u32, u32)>)] = &[
+    ("check A", MOTOR, "", Some((5, 3))),
+    ("cert A", MOTOR, "", Some((5, 3))),
+    ("run A T", MOTOR, TRACE, Some((5, 3))),
+    ("load 1", "", "", Some((25, 10))),
+    ("verify A T", MOTOR, CERT, Some((5, 4))),
+    ("check A", "PROGRAM P", "", None),
+    ("verify A T", MOTOR, "0 SRC\n", None),
+    ("check", MOTOR, "", None),
+];
+
+#[test]
+fn counts_of_the_certificate(rt: HostRuntime) -> Result<(), Fail> {
+    for (words, app, other, wanted) in CALLS {
+        let counts = left_by(rt.alloc(), words, app, other)?;
+        assert_eq!(rt; counts, *wanted, "{words}, {other}");
     }
-}
-
-#[test]
-fn counts_of_the_certificate(rt: HostRuntime) {
-    let trace = "time S_In Ack Run\n0 1 0 1\n";
-    let cert = "0 SRC\n3 SRC\n3 SRC\n2 AND 3\n";
-    let calls = [
-        ("check A", MOTOR, "", Some((5, 3))),
-        ("cert A", MOTOR, "", Some((5, 3))),
-        ("run A T", MOTOR, trace, Some((5, 3))),
-        ("load 1", "", "", Some((25, 10))),
-        ("verify A T", MOTOR, cert, Some((5, 4))),
-    ];
-    leave(&rt, rt.alloc(), &calls);
-}
-
-#[test]
-fn nothing_where_all_is_refused(rt: HostRuntime) {
-    let calls = [
-        ("check A", "PROGRAM P", "", None),
-        ("verify A T", MOTOR, "0 SRC\n", None),
-        ("check", MOTOR, "", None),
-    ];
-    leave(&rt, rt.alloc(), &calls);
+    Ok(())
 }

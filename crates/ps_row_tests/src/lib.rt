@@ -1,14 +1,19 @@
 //! Tests of whole calls of the program, over files and a sink in memory: which text is written, and with which status the
 //! call ends.
 //!
-//! - `calls`: how a call is made and what it has to write; `tables`: the same of each row of a table.
-//! - `motor`, `press`, `blocks`, `applications`: runs of applications. `nested`, `machine`: applications with function blocks.
+//! - `calls`: how a call is made and what it has to write; `tables`: the same of each row of a table of texts.
+//! - `motor`, `press`, `blocks`, `applications`, `traces`: runs of applications. `nested`, `machine`: applications with function
+//!   blocks.
 //! - `sources`, `texts`, `names`, `drivers`, `flow`, `sizes`: what `check` says of texts.
 //! - `certificates`, `forged`: what `cert` writes, and what `verify` says of certificates.
-//! - `traces`, `loads`, `usage`, `outside`, `left`: traces, loads, words that are not taken, failures, and what a call leaves.
+//! - `loads`, `usage`, `outside`, `left`: loads, words that are not taken, failures, and what a call leaves.
 //! - `exits`: the numbers with which the program exits.
+//! - `all`: the tests that go over the tables of these. They are few, since each function of a test is proved over all that the
+//!   program stands on.
 #![tactic(auto)]
 
+#[cfg(test)]
+mod all;
 #[cfg(test)]
 mod applications;
 #[cfg(test)]

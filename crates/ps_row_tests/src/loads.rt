@@ -1,24 +1,24 @@
 // Loads: generated scans, which are counted.
 
-use crate::calls::{call, gives, words_of};
+use crate::calls::{Call, call, words_of};
+use ps_base::Memory;
 use ps_outside::{MemFiles, MemSink};
 use ps_top::Status;
-use std::test::Fail;
+use std::alloc::Global;
 
-#[test]
-fn scans_are_counted(rt: HostRuntime) {
-    let line = "load 1 scans 1000 true 500 errors 0\n";
-    gives(&rt, rt.alloc(), "load 1", ("", ""), (line, Status::Done));
-}
+/// What a load writes.
+pub static CALLS: &[Call] = &[(
+    "scans are counted",
+    "load 1",
+    ("", ""),
+    ("load 1 scans 1000 true 500 errors 0\n", Status::Done),
+)];
 
-#[test]
-fn a_summary_that_is_not_written(rt: HostRuntime) -> Result<(), Fail> {
-    let alloc = rt.alloc();
+/// Whether a load whose summary has no room ends as a fault of writing, and writes nothing.
+pub fn is_unwritten(alloc: Global) -> Result<bool, Memory> {
     let mut files = MemFiles::new(alloc);
     let mut out = MemSink::new(alloc, 10)?;
     let words = words_of(alloc, "load 2")?;
     let status = call(alloc, &words, &mut files, &mut out).status;
-    assert!(rt; status == Status::WriteFault);
-    assert!(rt; out.taken().is_empty());
-    Ok(())
+    Ok(status == Status::WriteFault && out.taken().is_empty())
 }

@@ -1,6 +1,6 @@
 // The machine with two sides of two guards each, whose text and trace stand in the repository's examples.
 
-use crate::calls::walk;
+use crate::calls::Walk;
 use ps_top::Status;
 
 /// The application: a guard is a function block, and a side is one of two guards.
@@ -72,7 +72,10 @@ time S_EStop S_LF1 S_LF2 S_LR1 S_LR2 S_RF1 S_RF2 S_RR1 S_RR2 Ack
 1300 1  1 1  1 1  1 1  1 1  1 => 1300 S_Run=1 Lamp=0 Stop=1,0,8000 Left.Front.Guard=1,0,8000 Left.Rear.Guard=1,0,8000 Right.Front.Guard=1,0,8000 Right.Rear.Guard=1,0,8000
 ";
 
-#[test]
-fn a_shift_of_a_machine_with_two_sides(rt: HostRuntime) {
-    walk(&rt, rt.alloc(), MACHINE, SHIFT, Status::Done);
-}
+/// The runs.
+pub static WALKS: &[Walk] = &[(
+    "a shift of a machine with two sides",
+    MACHINE,
+    SHIFT,
+    Status::Done,
+)];

@@ -1,6 +1,6 @@
 // A motor behind an emergency stop.
 
-use crate::calls::{gives, walk};
+use crate::calls::{Call, Walk};
 use ps_top::Status;
 
 /// The application.
@@ -28,11 +28,6 @@ time S_In Ack Run
 50 0 0 1 => 50 S_Motor=0 E=1,0,8004
 ";
 
-#[test]
-fn ordinary_use(rt: HostRuntime) {
-    walk(&rt, rt.alloc(), MOTOR, ORDINARY, Status::Done);
-}
-
 /// A reset that is held.
 const HELD: &str = "\
 time S_In Ack Run
@@ -40,11 +35,6 @@ time S_In Ack Run
 10 1 1 1 => 10 S_Motor=0 E=1,0,8002
 20 1 1 1 => 20 S_Motor=0 E=1,1,C001
 ";
-
-#[test]
-fn held_reset(rt: HostRuntime) {
-    walk(&rt, rt.alloc(), MOTOR, HELD, Status::Done);
-}
 
 /// The latest time, and one past it.
 const LARGEST: &str = "\
@@ -55,11 +45,6 @@ time S_In Ack Run
 4294967295 0 0 0
 ";
 
-#[test]
-fn largest_time(rt: HostRuntime) {
-    walk(&rt, rt.alloc(), MOTOR, LARGEST, Status::BadInput);
-}
-
 /// A line with a value too many.
 const MIDDLE: &str = "\
 time S_In Ack Run
@@ -69,21 +54,11 @@ time S_In Ack Run
 30 1 1 1
 ";
 
-#[test]
-fn refusal_in_the_middle(rt: HostRuntime) {
-    walk(&rt, rt.alloc(), MOTOR, MIDDLE, Status::BadInput);
-}
-
 /// A header in another order and letter case.
 const OTHER_ORDER: &str = "\
 time run S_IN ack
 0 1 1 0 => 0 S_Motor=0 E=1,0,8001
 ";
-
-#[test]
-fn header_in_another_order(rt: HostRuntime) {
-    walk(&rt, rt.alloc(), MOTOR, OTHER_ORDER, Status::Done);
-}
 
 /// A restart after three scans.
 const RESTART: &str = "\
@@ -96,11 +71,6 @@ restart => restart
 40 1 0 1 => 40 S_Motor=0 E=1,0,8002
 ";
 
-#[test]
-fn restart(rt: HostRuntime) {
-    walk(&rt, rt.alloc(), MOTOR, RESTART, Status::Done);
-}
-
 /// Restarts one after the other, and a time that does not begin again.
 const RESTARTS: &str = "\
 time S_In Ack Run
@@ -112,21 +82,11 @@ restart => restart
 4 1 0 1 => refused T7 line 7
 ";
 
-#[test]
-fn restarts(rt: HostRuntime) {
-    walk(&rt, rt.alloc(), MOTOR, RESTARTS, Status::BadInput);
-}
-
 /// A restart in place of the header.
 const RESTART_FIRST: &str = "\
 restart => refused T1 line 1
 time S_In Ack Run
 ";
-
-#[test]
-fn restart_before_the_header(rt: HostRuntime) {
-    walk(&rt, rt.alloc(), MOTOR, RESTART_FIRST, Status::BadInput);
-}
 
 /// A restart line with a second word.
 const RESTART_WITH_A_WORD: &str = "\
@@ -135,44 +95,45 @@ time S_In Ack Run
 restart 1 => refused T4 line 3
 ";
 
-#[test]
-fn restart_with_a_word(rt: HostRuntime) {
-    walk(
-        &rt,
-        rt.alloc(),
+/// The runs.
+pub static WALKS: &[Walk] = &[
+    ("ordinary use", MOTOR, ORDINARY, Status::Done),
+    ("held reset", MOTOR, HELD, Status::Done),
+    ("largest time", MOTOR, LARGEST, Status::BadInput),
+    ("refusal in the middle", MOTOR, MIDDLE, Status::BadInput),
+    ("header in another order", MOTOR, OTHER_ORDER, Status::Done),
+    ("restart", MOTOR, RESTART, Status::Done),
+    ("restarts", MOTOR, RESTARTS, Status::BadInput),
+    (
+        "restart before the header",
+        MOTOR,
+        RESTART_FIRST,
+        Status::BadInput,
+    ),
+    (
+        "restart with a word",
         MOTOR,
         RESTART_WITH_A_WORD,
         Status::BadInput,
-    );
-}
+    ),
+];
 
-#[test]
-fn traces_without_scans(rt: HostRuntime) {
-    let alloc = rt.alloc();
-    gives(
-        &rt,
-        alloc,
+/// What `check` writes for the motor.
+const COUNTS: &str = "accepted inputs 3 outputs 1 locals 0 instances 1 steps 2 nodes 5\n";
+
+/// Calls without a scan.
+pub static CALLS: &[Call] = &[
+    (
+        "a header alone",
         "run A T",
         (MOTOR, "time S_In Ack Run\n"),
         ("", Status::Done),
-    );
-    gives(
-        &rt,
-        alloc,
+    ),
+    (
+        "no header",
         "run A T",
         (MOTOR, ""),
         ("refused T1 line 1\n", Status::BadInput),
-    );
-}
-
-#[test]
-fn what_check_says(rt: HostRuntime) {
-    let text = "accepted inputs 3 outputs 1 locals 0 instances 1 steps 2 nodes 5\n";
-    gives(
-        &rt,
-        rt.alloc(),
-        "check A",
-        (MOTOR, ""),
-        (text, Status::Done),
-    );
-}
+    ),
+    ("the motor", "check A", (MOTOR, ""), (COUNTS, Status::Done)),
+];

@@ -1,6 +1,6 @@
 // Names: declared twice, not declared, of no type, of the wrong sort; pins that a call names twice.
 
-use crate::tables::{E, END, P, check_each};
+use crate::tables::{E, END, Of, P, Table};
 
 const DECLARED_TWICE: &str = "\
 VAR x : BOOL; X : BOOL; END_VAR S_o := S_i; => refused N1 line 2 column 15
@@ -10,11 +10,6 @@ VAR x : BOOL; x : BOOL; x : BOOL; END_VAR S_o := S_i; => refused N1 line 2 colum
 VAR x : BOOL; x : Nothing; END_VAR S_o := Zz; => refused N1 line 2 column 15
 VAR_INPUT B : BOOL; END_VAR VAR x : SF_EDM; END_VAR S_o := b; => refused N1 line 2 column 11
 ";
-
-#[test]
-fn names_declared_twice(rt: HostRuntime) {
-    check_each(&rt, rt.alloc(), (P, END), DECLARED_TWICE);
-}
 
 const NOT_DECLARED: &str = "\
 S_o := Zz; => refused N2 line 2 column 8
@@ -29,22 +24,12 @@ S_o := aaaaaaaaaaaaaaaaaaaaaaaaaaaaaaaaaaaaaaaaaaaaaaaaaaaaaaaaaaaaaaaa; => refu
 S_o := SF_EDM; => refused N2 line 2 column 8
 ";
 
-#[test]
-fn names_not_declared(rt: HostRuntime) {
-    check_each(&rt, rt.alloc(), (P, END), NOT_DECLARED);
-}
-
 const NOT_DECLARED_IN_CALLS: &str = "\
 E(Reset := Zz); S_o := S_i; => refused N2 line 2 column 12
 E(Nothing := Zz); S_o := S_i; => refused N2 line 2 column 14
 E(); b(Q := Zz); S_o := S_i; => refused N2 line 2 column 13
 E(); S_o := S_i; S_o := S_i; b := Zz; b := Yy; => refused N2 line 2 column 35
 ";
-
-#[test]
-fn names_in_calls_not_declared(rt: HostRuntime) {
-    check_each(&rt, rt.alloc(), (E, END), NOT_DECLARED_IN_CALLS);
-}
 
 const NO_TYPES: &str = "\
 VAR x : Nothing; END_VAR S_o := S_i; => refused N3 line 2 column 9
@@ -57,11 +42,6 @@ VAR x : Nothing; END_VAR S_o := x; => refused N3 line 2 column 9
 VAR x : Nothing; END_VAR S_o := S_i.Ready; => refused N3 line 2 column 9
 ";
 
-#[test]
-fn types_that_are_none(rt: HostRuntime) {
-    check_each(&rt, rt.alloc(), (P, END), NO_TYPES);
-}
-
 const NO_PINS: &str = "\
 E(Nothing := b); S_o := S_i; => refused N4 line 2 column 3
 E(S_EStopOut := b); S_o := S_i; => refused N4 line 2 column 3
@@ -71,11 +51,6 @@ E(MonitoringTime := T#1s); S_o := S_i; => refused N4 line 2 column 3
 E(Reset := b, reset := b, Nothing := b); S_o := S_i; => refused N4 line 2 column 27
 E(Q := b, Q := b); S_o := S_i; => refused N4 line 2 column 3
 ";
-
-#[test]
-fn pins_that_a_call_cannot_name(rt: HostRuntime) {
-    check_each(&rt, rt.alloc(), (E, END), NO_PINS);
-}
 
 const NO_OUTPUTS: &str = "\
 E(); S_o := E.S_EStopIn; => refused N4 line 2 column 15
@@ -87,11 +62,6 @@ E(); E.DiagCode := b; S_o := S_i; => refused N4 line 2 column 8
 E(); E.Nothing := b; S_o := S_i; => refused N4 line 2 column 8
 ";
 
-#[test]
-fn pins_that_cannot_be_read_or_assigned(rt: HostRuntime) {
-    check_each(&rt, rt.alloc(), (E, END), NO_OUTPUTS);
-}
-
 const WRONG_SORTS: &str = "\
 E(); S_o := S_i.Ready; => refused N4 line 2 column 13
 E(); S_o := E; => refused N4 line 2 column 13
@@ -102,11 +72,6 @@ E(Reset := E); S_o := S_i; => refused N4 line 2 column 12
 b := b; E(Reset := b, Reset := E); S_o := S_i; => refused N4 line 2 column 32
 ";
 
-#[test]
-fn names_of_the_wrong_sort(rt: HostRuntime) {
-    check_each(&rt, rt.alloc(), (E, END), WRONG_SORTS);
-}
-
 const PINS_TWICE: &str = "\
 E(Reset := b, reset := b); S_o := S_i; => refused N5 line 2 column 15
 E(Reset := b, Reset := b, Reset := b); S_o := S_i; => refused N5 line 2 column 15
@@ -115,11 +80,6 @@ S_o := S_i; S_o := S_i; E(Reset := b, Reset := b); => refused N5 line 2 column 3
 b := b; E(Reset := b, Reset := b); S_o := S_i; => refused N5 line 2 column 23
 ";
 
-#[test]
-fn pins_that_a_call_names_twice(rt: HostRuntime) {
-    check_each(&rt, rt.alloc(), (E, END), PINS_TWICE);
-}
-
 const TAKEN: &str = "\
 VAR P : BOOL; END_VAR S_o := S_i; => accepted inputs 2 outputs 1 locals 1 instances 0 steps 1 nodes 1
 VAR p : SAFEBOOL; END_VAR p := S_i; S_o := P; => accepted inputs 2 outputs 1 locals 1 instances 0 steps 2 nodes 2
@@ -127,17 +87,21 @@ VAR x : safebool; y : Bool; END_VAR x := S_i; S_o := x; => accepted inputs 2 out
 VAR F : sf_Edm; END_VAR F(); S_o := S_i; => accepted inputs 2 outputs 1 locals 0 instances 1 steps 2 nodes 1
 ";
 
-#[test]
-fn names_that_are_taken(rt: HostRuntime) {
-    check_each(&rt, rt.alloc(), (P, END), TAKEN);
-}
-
 const TAKEN_IN_CALLS: &str = "\
 E(S_EStopIn := S_i, reset := b, ACTIVATE := true); S_o := e.s_estopout; => accepted inputs 2 outputs 1 locals 0 instances 1 steps 2 nodes 3
 E(S_EStopIn := TRUE); S_o := S_i; => accepted inputs 2 outputs 1 locals 0 instances 1 steps 2 nodes 1
 ";
 
-#[test]
-fn pins_in_any_letter_case(rt: HostRuntime) {
-    check_each(&rt, rt.alloc(), (E, END), TAKEN_IN_CALLS);
-}
+/// The tables.
+pub static TABLES: &[Table] = &[
+    ("check A", Of::Applications(P, END), DECLARED_TWICE),
+    ("check A", Of::Applications(P, END), NOT_DECLARED),
+    ("check A", Of::Applications(E, END), NOT_DECLARED_IN_CALLS),
+    ("check A", Of::Applications(P, END), NO_TYPES),
+    ("check A", Of::Applications(E, END), NO_PINS),
+    ("check A", Of::Applications(E, END), NO_OUTPUTS),
+    ("check A", Of::Applications(E, END), WRONG_SORTS),
+    ("check A", Of::Applications(E, END), PINS_TWICE),
+    ("check A", Of::Applications(P, END), TAKEN),
+    ("check A", Of::Applications(E, END), TAKEN_IN_CALLS),
+];

@@ -1,12 +1,13 @@
 // Texts with function blocks, and what the program writes for them.
 
-use crate::calls::{ROOM, files_of, gives, walk, words_of};
+use crate::calls::{Call, ROOM, call, files_of, walk, words_of};
 use crate::motor::ORDINARY;
-use crate::tables::{END, check, check_each, verify};
+use crate::tables::{END, Of, Table};
 use ps_base::Memory;
 use ps_outside::MemSink;
-use ps_top::{Left, Status, top};
+use ps_top::Status;
 use std::alloc::Global;
+use std::process::Abort;
 use std::test::Fail;
 
 /// A motor behind an emergency stop, which stands in a function block.
@@ -27,17 +28,6 @@ S_Motor := G.S_Q AND Run;
 END_PROGRAM
 ";
 
-// It runs as the motor without one, and reports the instance by its name with a dot.
-#[test]
-fn an_instance_in_a_function_block(rt: HostRuntime) -> Result<(), Fail> {
-    let alloc = rt.alloc();
-    let rows = ORDINARY.replace(alloc, 'E', "G.E")?;
-    walk(&rt, alloc, GATED, rows.as_str(), Status::Done);
-    let counts = "accepted inputs 3 outputs 1 locals 3 instances 1 steps 5 nodes 8";
-    check(&rt, alloc, GATED, counts);
-    Ok(())
-}
-
 /// A gate, and a program with one instance of it, up to its statements.
 const GATE: &str = "\
 FUNCTION_BLOCK Gate VAR_INPUT S_I : SAFEBOOL; R : BOOL; END_VAR VAR_OUTPUT S_Q : SAFEBOOL; END_VAR S_Q := S_I AND R; END_FUNCTION_BLOCK
@@ -57,11 +47,6 @@ G(R := b, S_I := b);|S_o := G.S_Q; => refused S1 line 4 column 11
 G(R := b, S_I := S_i);|S_o := b; => refused S1 line 5 column 1
 ";
 
-#[test]
-fn letters_in_their_order(rt: HostRuntime) {
-    check_each(&rt, rt.alloc(), (GATE, END), LETTERS);
-}
-
 /// A program with one instance of the function block F, behind its text.
 const ONE: &str = "
 PROGRAM P VAR_INPUT S_i : SAFEBOOL; b : BOOL; END_VAR VAR_OUTPUT S_o : SAFEBOOL; END_VAR VAR G : F; END_VAR
@@ -74,11 +59,6 @@ const INSIDE: &str = "\
 FUNCTION_BLOCK F VAR_INPUT I : BOOL; END_VAR VAR S_x : SAFEBOOL; END_VAR|S_x := I; END_FUNCTION_BLOCK => refused S1 line 2 column 1
 FUNCTION_BLOCK F VAR_INPUT I : BOOL; END_VAR VAR E : SF_EmergencyStop; END_VAR|E(S_EStopIn := I); END_FUNCTION_BLOCK => refused S2 line 2 column 3
 ";
-
-#[test]
-fn flow_in_a_function_block(rt: HostRuntime) {
-    check_each(&rt, rt.alloc(), ("", ONE), INSIDE);
-}
 
 /// Instances in instances, which read each other's outputs, and those of a block, of the scan before.
 const DEEP: &str = "\
@@ -95,14 +75,8 @@ END_PROGRAM
 const LINES: &str =
     "0 SRC\n1 SRC\n3 SRC\n2 AND 3\n5 SRC\n6 SRC\n8 SRC\n7 AND 7\n10 SRC\n11 SRC\n12 SRC\n";
 
-#[test]
-fn a_certificate_and_a_demand_of_instances_in_instances(rt: HostRuntime) {
-    let alloc = rt.alloc();
-    gives(&rt, alloc, "cert A", (DEEP, ""), (LINES, Status::Done));
-    verify(&rt, alloc, DEEP, LINES, "verified 11 lines");
-    let demand = "S_o needs K.Y.S_Q@before AND K.X.E.S_EStopOut@before\n";
-    gives(&rt, alloc, "demand A", (DEEP, ""), (demand, Status::Done));
-}
+/// Their demand.
+const DEMAND: &str = "S_o needs K.Y.S_Q@before AND K.X.E.S_EStopOut@before\n";
 
 /// The same with each instance written out by hand.
 const WRITTEN_OUT: &str = "\
@@ -120,15 +94,70 @@ fn image_of(alloc: Global, app: &str) -> Result<MemSink, Memory> {
     let mut files = files_of(alloc, app, "")?;
     let mut out = MemSink::new(alloc, ROOM)?;
     let words = words_of(alloc, "image A")?;
-    top(alloc, &words, &mut files, &mut out, &mut Left::new());
+    call(alloc, &words, &mut files, &mut out);
     Ok(out)
 }
 
+/// The tables.
+pub static TABLES: &[Table] = &[
+    ("check A", Of::Applications(GATE, END), LETTERS),
+    ("check A", Of::Applications("", ONE), INSIDE),
+];
+
+/// What `check` writes for the motor with a function block.
+const COUNTS: &str = "accepted inputs 3 outputs 1 locals 3 instances 1 steps 5 nodes 8\n";
+
+/// Calls that make no scans.
+pub static CALLS: &[Call] = &[
+    (
+        "a function block",
+        "check A",
+        (GATED, ""),
+        (COUNTS, Status::Done),
+    ),
+    (
+        "instances in instances",
+        "cert A",
+        (DEEP, ""),
+        (LINES, Status::Done),
+    ),
+    (
+        "instances in instances",
+        "verify A T",
+        (DEEP, LINES),
+        ("verified 11 lines\n", Status::Done),
+    ),
+    (
+        "instances in instances",
+        "demand A",
+        (DEEP, ""),
+        (DEMAND, Status::Done),
+    ),
+];
+
+/// Asserts that the motor with a function block runs as that without one, and reports the instance by its name with a dot.
+fn runs_as_the_motor(rt: &impl Abort, alloc: Global) -> Result<(), Memory> {
+    let rows = ORDINARY.replace(alloc, 'E', "G.E")?;
+    walk(
+        rt,
+        alloc,
+        "a function block",
+        GATED,
+        rows.as_str(),
+        Status::Done,
+    )
+}
+
+/// Whether the image of nested instances is that of the flat source.
+fn is_image_of_the_flat_source(alloc: Global) -> Result<bool, Memory> {
+    let nested = image_of(alloc, DEEP)?;
+    let written_out = image_of(alloc, WRITTEN_OUT)?;
+    Ok(nested.taken() == written_out.taken() && !nested.taken().is_empty())
+}
+
 #[test]
-fn the_image_is_that_of_the_flat_source(rt: HostRuntime) -> Result<(), Fail> {
-    let nested = image_of(rt.alloc(), DEEP)?;
-    let written_out = image_of(rt.alloc(), WRITTEN_OUT)?;
-    assert!(rt; nested.taken() == written_out.taken());
-    assert!(rt; !nested.taken().is_empty());
+fn function_blocks(rt: HostRuntime) -> Result<(), Fail> {
+    runs_as_the_motor(&rt, rt.alloc())?;
+    assert!(rt; is_image_of_the_flat_source(rt.alloc())?, "images");
     Ok(())
 }

@@ -1,59 +1,60 @@
 // Reads and writes that fail, and reads that give little.
 
-use crate::calls::{ROOM, files_of, gives, trace_and_text, words_of};
+use crate::calls::{Call, ROOM, call, files_of, gives, trace_and_text, words_of};
 use crate::certificates::CERTIFICATE;
 use crate::motor::{MOTOR, ORDINARY};
 use ps_base::Memory;
 use ps_outside::{MemFiles, MemSink};
-use ps_top::{Left, Status, top};
+use ps_top::Status;
 use std::alloc::Global;
 use std::process::Abort;
 use std::test::Fail;
 
-/// Asserts that a call with these words over these files, whose `k`-th write fails where `k` is not 0, writes this text
-/// with this status.
-fn call(
-    rt: &impl Abort,
-    alloc: Global,
-    words: &str,
-    files: &mut MemFiles,
-    k: u32,
-    wanted: (&str, Status),
-) -> Result<(), Memory> {
-    let (text, status) = wanted;
-    let mut out = MemSink::new(alloc, ROOM)?;
-    if k > 0 {
-        out.fail_at(k)?;
-    }
-    let list = words_of(alloc, words)?;
-    let found = top(alloc, &list, files, &mut out, &mut Left::new());
-    assert_eq!(rt; out.taken(), text.as_bytes(), "{words}, write {k}");
-    assert_eq!(rt; found, status, "{words}, write {k}");
-    Ok(())
-}
+/// The bytes that a read gives at most, the number of the read and that of the write that fails, each from 1 and 0 for none; then
+/// how many lines of a call's text are written, and how it ends.
+type Failing = (u32, u32, u32, u32, Status);
 
-/// The same of a run.
-fn run(
-    rt: &impl Abort,
-    alloc: Global,
-    files: &mut MemFiles,
-    k: u32,
-    wanted: (&str, Status),
-) -> Result<(), Memory> {
-    call(rt, alloc, "run A T", files, k, wanted)
-}
+/// Runs of the motor in its ordinary use. The application is read by two calls, the second of which finds its end, and so is the
+/// trace. Each line is one write.
+static RUNS: &[Failing] = &[
+    (1, 0, 0, 6, Status::Done),
+    (3, 0, 0, 6, Status::Done),
+    (0, 1, 0, 0, Status::ReadFault),
+    (0, 2, 0, 0, Status::ReadFault),
+    (0, 3, 0, 0, Status::ReadFault),
+    (0, 4, 0, 6, Status::ReadFault),
+    (0, 5, 0, 6, Status::Done),
+    (0, 0, 1, 0, Status::WriteFault),
+    (0, 0, 2, 1, Status::WriteFault),
+    (0, 0, 3, 2, Status::WriteFault),
+    (0, 0, 4, 3, Status::WriteFault),
+    (0, 0, 5, 4, Status::WriteFault),
+    (0, 0, 6, 5, Status::WriteFault),
+    (0, 0, 7, 6, Status::Done),
+];
 
-#[test]
-fn reads_that_give_little(rt: HostRuntime) -> Result<(), Fail> {
-    let alloc = rt.alloc();
-    let (trace, text) = trace_and_text(alloc, ORDINARY)?;
-    for most in [1, 3] {
-        let mut files = files_of(alloc, MOTOR, trace.as_str())?;
-        files.cut_to(most);
-        run(&rt, alloc, &mut files, 0, (text.as_str(), Status::Done))?;
-    }
-    Ok(())
-}
+/// The certificate of the motor. Each line is one write.
+static CERTIFICATES: &[Failing] = &[
+    (0, 0, 1, 0, Status::WriteFault),
+    (0, 0, 2, 1, Status::WriteFault),
+    (0, 0, 3, 2, Status::WriteFault),
+    (0, 0, 4, 3, Status::Done),
+];
+
+/// Names that are not held.
+pub static CALLS: &[Call] = &[
+    ("an application", "run none T", HELD, UNREAD),
+    ("a trace", "run A none", HELD, UNREAD),
+    ("an application", "check none", HELD, UNREAD),
+    ("an application", "cert none", HELD, UNREAD),
+    ("a certificate", "verify A none", HELD, UNREAD),
+    ("an application", "verify none T", HELD, UNREAD),
+];
+
+/// What is held beside them, and what comes of them.
+const HELD: (&str, &str) = (MOTOR, "time S_In Ack Run\n");
+
+const UNREAD: (&str, Status) = ("", Status::ReadFault);
 
 /// The first lines of a text.
 fn lines(alloc: Global, text: &str, most: u32) -> Result<String, Memory> {
@@ -65,64 +66,69 @@ fn lines(alloc: Global, text: &str, most: u32) -> Result<String, Memory> {
     Ok(lines)
 }
 
-#[test]
-fn each_write_fails_in_turn(rt: HostRuntime) -> Result<(), Fail> {
-    let alloc = rt.alloc();
-    let (trace, text) = trace_and_text(alloc, ORDINARY)?;
-    for k in 1..8 {
-        let status = if k == 7 {
-            Status::Done
-        } else {
-            Status::WriteFault
-        };
-        let before = lines(alloc, text.as_str(), k - 1)?;
-        let mut files = files_of(alloc, MOTOR, trace.as_str())?;
-        run(&rt, alloc, &mut files, k, (before.as_str(), status))?;
+/// The motor and a trace, of which a read fails and each read gives at most so many bytes.
+fn files_failing(alloc: Global, trace: &str, read: u32, most: u32) -> Result<MemFiles, Memory> {
+    let mut files = files_of(alloc, MOTOR, trace)?;
+    files.fail_at(read)?;
+    if most > 0 {
+        files.cut_to(most);
+    }
+    Ok(files)
+}
+
+/// What a call over the motor and a trace writes, of which that fails, and how it ends.
+fn answer(
+    alloc: Global,
+    words: &str,
+    trace: &str,
+    failing: &Failing,
+) -> Result<(MemSink, Status), Memory> {
+    let (most, read, write, _, _) = failing;
+    let mut files = files_failing(alloc, trace, *read, *most)?;
+    let mut out = MemSink::new(alloc, ROOM)?;
+    out.fail_at(*write)?;
+    let list = words_of(alloc, words)?;
+    let ended = call(alloc, &list, &mut files, &mut out);
+    Ok((out, ended.status))
+}
+
+/// Whether that comes of a call whose text is this where nothing fails.
+fn is_met(
+    alloc: Global,
+    words: &str,
+    trace: &str,
+    text: &str,
+    failing: &Failing,
+) -> Result<bool, Memory> {
+    let (_, _, _, count, status) = failing;
+    let before = lines(alloc, text, *count)?;
+    let (out, found) = answer(alloc, words, trace, failing)?;
+    Ok(out.taken() == before.as_str().as_bytes() && found == *status)
+}
+
+/// Asserts that of each row.
+fn each_is_met(
+    rt: &impl Abort,
+    alloc: Global,
+    words: &str,
+    held: (&str, &str),
+    rows: &[Failing],
+) -> Result<(), Memory> {
+    let (trace, text) = held;
+    for failing in rows {
+        assert!(rt;
+            is_met(alloc, words, trace, text, failing)?,
+            "{words}, {failing:?}"
+        );
     }
     Ok(())
 }
 
-// Each line of a certificate is one write.
-#[test]
-fn each_write_of_a_certificate_fails_in_turn(rt: HostRuntime) -> Result<(), Fail> {
-    let alloc = rt.alloc();
-    for k in 1..5 {
-        let status = if k == 4 {
-            Status::Done
-        } else {
-            Status::WriteFault
-        };
-        let before = lines(alloc, CERTIFICATE, k - 1)?;
-        let mut files = files_of(alloc, MOTOR, "")?;
-        let wanted = (before.as_str(), status);
-        call(&rt, alloc, "cert A", &mut files, k, wanted)?;
-    }
-    Ok(())
-}
-
-// The application is read by two calls, the second of which finds its end, and so is the trace.
-#[test]
-fn each_read_fails_in_turn(rt: HostRuntime) -> Result<(), Fail> {
-    let alloc = rt.alloc();
+/// Asserts what comes of runs and certificates where something fails.
+fn each_fails(rt: &impl Abort, alloc: Global) -> Result<(), Memory> {
     let (trace, text) = trace_and_text(alloc, ORDINARY)?;
-    for call in 1..4 {
-        let mut files = files_of(alloc, MOTOR, trace.as_str())?;
-        files.fail_at(call)?;
-        run(&rt, alloc, &mut files, 0, ("", Status::ReadFault))?;
-    }
-    let mut files = files_of(alloc, MOTOR, trace.as_str())?;
-    files.fail_at(4)?;
-    run(
-        &rt,
-        alloc,
-        &mut files,
-        0,
-        (text.as_str(), Status::ReadFault),
-    )?;
-    let mut files = files_of(alloc, MOTOR, trace.as_str())?;
-    files.fail_at(5)?;
-    run(&rt, alloc, &mut files, 0, (text.as_str(), Status::Done))?;
-    Ok(())
+    each_is_met(rt, alloc, "run A T", (trace.as_str(), text.as_str()), RUNS)?;
+    each_is_met(rt, alloc, "cert A", ("", CERTIFICATE), CERTIFICATES)
 }
 
 /// A text, so many copies of a second one, and a third one.
@@ -141,67 +147,50 @@ fn repeated(
     Ok(text)
 }
 
-// The first read of the trace holds the header, 509 lines and 6 bytes of the next.
-#[test]
-fn the_second_read_of_a_long_trace_fails(rt: HostRuntime) -> Result<(), Fail> {
-    let alloc = rt.alloc();
+/// Whether of a long trace, whose second read fails, what its first read gives is written: the header, 509 lines and 6 bytes of the
+/// next.
+fn is_cut(alloc: Global) -> Result<bool, Memory> {
     let trace = repeated(alloc, "time S_In Ack Run\n", 1_000, "0 0 0 0\n", "")?;
-    let text = repeated(
+    let begin = "0 S_Motor=0 E=1,0,8001\n";
+    let text = repeated(alloc, begin, 508, "0 S_Motor=0 E=1,0,8002\n", "")?;
+    let failing = (0, 4, 0, 509, Status::ReadFault);
+    is_met(alloc, "run A T", trace.as_str(), text.as_str(), &failing)
+}
+
+/// The header, two scans and the first byte of a line that is skipped.
+const START: &str = "time S_In Ack Run\n0 1 0 1\n10 1 0 1\n#";
+
+/// What is written for them.
+const SAID: &str = "0 S_Motor=0 E=1,0,8001\n10 S_Motor=0 E=1,0,8002\n";
+
+/// The same where the line is too long.
+const REFUSED: &str = "0 S_Motor=0 E=1,0,8001\n10 S_Motor=0 E=1,0,8002\nrefused T8 line 4\n";
+
+/// Asserts what is written for a line of so many further bytes, and what stands behind it.
+fn long_line(
+    rt: &impl Abort,
+    alloc: Global,
+    count: u32,
+    after: &str,
+    wanted: (&str, Status),
+) -> Result<(), Memory> {
+    let trace = repeated(alloc, START, count, "x", after)?;
+    gives(
+        rt,
         alloc,
-        "0 S_Motor=0 E=1,0,8001\n",
-        508,
-        "0 S_Motor=0 E=1,0,8002\n",
-        "",
-    )?;
-    let mut files = files_of(alloc, MOTOR, trace.as_str())?;
-    files.fail_at(4)?;
-    run(
-        &rt,
-        alloc,
-        &mut files,
-        0,
-        (text.as_str(), Status::ReadFault),
-    )?;
-    Ok(())
+        "a long line",
+        "run A T",
+        (MOTOR, trace.as_str()),
+        wanted,
+    )
 }
 
 #[test]
-fn a_line_that_is_too_long(rt: HostRuntime) -> Result<(), Fail> {
-    let alloc = rt.alloc();
-    let start = "time S_In Ack Run\n0 1 0 1\n10 1 0 1\n#";
-    let said = "0 S_Motor=0 E=1,0,8001\n10 S_Motor=0 E=1,0,8002\n";
-    let most = repeated(alloc, start, 65_535, "x", "\n")?;
-    gives(
-        &rt,
-        alloc,
-        "run A T",
-        (MOTOR, most.as_str()),
-        (said, Status::Done),
-    );
-    let more = repeated(alloc, start, 65_536, "x", "\n20 1 0 1\n")?;
-    let refused = repeated(alloc, said, 1, "refused T8 line 4\n", "")?;
-    gives(
-        &rt,
-        alloc,
-        "run A T",
-        (MOTOR, more.as_str()),
-        (refused.as_str(), Status::BadInput),
-    );
+fn failures(rt: HostRuntime) -> Result<(), Fail> {
+    each_fails(&rt, rt.alloc())?;
+    assert!(rt; is_cut(rt.alloc())?, "a long trace");
+    long_line(&rt, rt.alloc(), 65_535, "\n", (SAID, Status::Done))?;
+    let refused = (REFUSED, Status::BadInput);
+    long_line(&rt, rt.alloc(), 65_536, "\n20 1 0 1\n", refused)?;
     Ok(())
-}
-
-#[test]
-fn names_that_are_not_held(rt: HostRuntime) {
-    let alloc = rt.alloc();
-    let held = (MOTOR, "time S_In Ack Run\n");
-    for words in [
-        "run none T",
-        "run A none",
-        "check none",
-        "cert none",
-        "verify A none",
-        "verify none T",
-    ] {
-        gives(&rt, alloc, words, held, ("", Status::ReadFault));
-    }
 }

@@ -1,6 +1,6 @@
 // A press with a guard, two hands, an emergency stop and contactors that are monitored.
 
-use crate::calls::{gives, walk};
+use crate::calls::{Call, Walk};
 use ps_top::Status;
 
 /// The application.
@@ -53,19 +53,11 @@ time S_EStop S_G1 S_G2 S_L S_R S_K1 S_K2 Ack Auto
 2500 1 1 1 0 0 1 1 1 1 => 2500 S_Ram=0 Lamp=0 Stop=1,0,8000 Guard=1,0,8000 Hands=1,0,8004 Out=1,0,8002 Edm=1,0,8010
 ";
 
-#[test]
-fn strokes_of_a_press(rt: HostRuntime) {
-    walk(&rt, rt.alloc(), PRESS, STROKES, Status::Done);
-}
+/// The runs.
+pub static WALKS: &[Walk] = &[("strokes of a press", PRESS, STROKES, Status::Done)];
 
-#[test]
-fn what_check_says(rt: HostRuntime) {
-    let text = "accepted inputs 9 outputs 2 locals 1 instances 5 steps 8 nodes 21\n";
-    gives(
-        &rt,
-        rt.alloc(),
-        "check A",
-        (PRESS, ""),
-        (text, Status::Done),
-    );
-}
+/// What `check` writes for the press.
+const COUNTS: &str = "accepted inputs 9 outputs 2 locals 1 instances 5 steps 8 nodes 21\n";
+
+/// A call without a trace.
+pub static CALLS: &[Call] = &[("the press", "check A", (PRESS, ""), (COUNTS, Status::Done))];

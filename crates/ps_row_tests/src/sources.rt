@@ -1,15 +1,6 @@
-// What `check` writes, and sources that are refused, at their places.
+// Sources that are refused, at their places.
 
-use crate::calls::hold;
-use crate::motor::MOTOR;
-use crate::tables::{END, check};
-use ps_top::Status;
-
-#[test]
-fn what_check_writes(rt: HostRuntime) {
-    let counts = "accepted inputs 3 outputs 1 locals 0 instances 1 steps 2 nodes 5";
-    check(&rt, rt.alloc(), MOTOR, counts);
-}
+use crate::tables::{END, Of, Table};
 
 /// The lines of a motor before its call.
 const BEFORE: &str = "\
@@ -32,22 +23,6 @@ E(Activate := TRUE, S_EStopIn := T#1s, Reset := Ack);|S_Motor := E.S_EStopOut AN
 E(Activate := TRUE, S_EStopIn := S_In, Reset := T#1s);|S_Motor := E.S_EStopOut AND Run; => refused S3 line 8 column 40
 ";
 
-#[test]
-fn each_command_refuses_the_source(rt: HostRuntime) {
-    let alloc = rt.alloc();
-    hold(&rt, alloc, "run A T", (BEFORE, END), LINES, Status::Refused);
-    hold(
-        &rt,
-        alloc,
-        "run A none",
-        (BEFORE, END),
-        LINES,
-        Status::Refused,
-    );
-    hold(&rt, alloc, "check A", (BEFORE, END), LINES, Status::Refused);
-    hold(&rt, alloc, "cert A", (BEFORE, END), LINES, Status::Refused);
-}
-
 /// Whole texts.
 const WHOLE: &str = "\
 PROGRAM P VAR_INPUT S_In : SAFEBOOL; END_VAR E( => refused P1 line 1 column 48
@@ -58,16 +33,12 @@ T#1.5s => refused L3 line 1 column 1
  => refused P1 line 1 column 1
 ";
 
-#[test]
-fn whole_texts_that_are_refused(rt: HostRuntime) {
-    let alloc = rt.alloc();
-    hold(&rt, alloc, "check A", ("", ""), WHOLE, Status::Refused);
-    hold(
-        &rt,
-        alloc,
-        "verify A none",
-        ("", ""),
-        WHOLE,
-        Status::Refused,
-    );
-}
+/// The tables: each command that reads an application refuses it.
+pub static TABLES: &[Table] = &[
+    ("run A T", Of::Applications(BEFORE, END), LINES),
+    ("run A none", Of::Applications(BEFORE, END), LINES),
+    ("check A", Of::Applications(BEFORE, END), LINES),
+    ("cert A", Of::Applications(BEFORE, END), LINES),
+    ("check A", Of::Applications("", ""), WHOLE),
+    ("verify A none", Of::Applications("", ""), WHOLE),
+];

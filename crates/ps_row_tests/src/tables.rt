@@ -1,7 +1,7 @@
 // Tables of applications and certificates, with the line that the program writes for each. A row is a text, a bar for each
-// line feed, and, behind ` => `, the line.
+// line feed, and, behind ` => `, the line. A failed assertion names its row.
 
-use crate::calls::{between, gives, line_of, no_memory};
+use crate::calls::{between, gives, line_of};
 use ps_base::Memory;
 use ps_top::Status;
 use std::alloc::Global;
@@ -18,6 +18,16 @@ pub const E: &str =
 /// The end of both.
 pub const END: &str = "\nEND_PROGRAM\n";
 
+/// What a row of a table is: an application between a head and an end, or a certificate for an application.
+#[derive(Clone, Copy)]
+pub enum Of {
+    Applications(&'static str, &'static str),
+    Certificates(&'static str),
+}
+
+/// The words of a call, what each row is, and the rows.
+pub type Table = (&'static str, Of, &'static str);
+
 /// The status of a call of `check` or `verify` that writes this line.
 fn status_behind(line: &str) -> Status {
     if line.starts_with("refused C") || line.starts_with("refused O") {
@@ -29,46 +39,41 @@ fn status_behind(line: &str) -> Status {
     }
 }
 
-/// Asserts that a command writes this line, and ends with its status.
-fn writes(rt: &impl Abort, alloc: Global, words: &str, held: (&str, &str), line: &str) {
-    match line_of(alloc, line) {
-        Ok(text) => gives(rt, alloc, words, held, (text.as_str(), status_behind(line))),
-        Err(Memory) => no_memory(rt),
-    }
+/// Asserts that a call writes this line, and ends with its status.
+pub fn says(
+    rt: &impl Abort,
+    alloc: Global,
+    name: &str,
+    words: &str,
+    held: (&str, &str),
+    line: &str,
+) -> Result<(), Memory> {
+    let text = line_of(alloc, line)?;
+    let wanted = (text.as_str(), status_behind(line));
+    gives(rt, alloc, name, words, held, wanted)
 }
 
-/// Asserts that `check` writes this line for an application, and ends with its status.
-pub fn check(rt: &impl Abort, alloc: Global, app: &str, line: &str) {
-    writes(rt, alloc, "check A", (app, ""), line);
-}
-
-/// Asserts that `verify` writes this line for an application and a certificate, and ends with its status.
-pub fn verify(rt: &impl Abort, alloc: Global, app: &str, cert: &str, line: &str) {
-    writes(rt, alloc, "verify A T", (app, cert), line);
-}
-
-/// Asserts of each text of a table, between a head and an end, what `check` writes for it.
-pub fn check_each(rt: &impl Abort, alloc: Global, around: (&str, &str), rows: &str) {
-    for row in rows.lines() {
-        match row.split_once(" => ") {
-            Some((text, line)) => match between(alloc, around, text) {
-                Ok(app) => check(rt, alloc, app.as_str(), line),
-                Err(Memory) => no_memory(rt),
-            },
-            None => assert!(rt; false, "no row: {row}"),
+/// Asserts what a call writes for a row.
+fn row_says(rt: &impl Abort, alloc: Global, words: &str, of: Of, row: &str) -> Result<(), Memory> {
+    let (text, line) = row.split_once(" => ").unwrap_or((row, ""));
+    match of {
+        Of::Applications(head, end) => {
+            let app = between(alloc, head, text, end)?;
+            says(rt, alloc, row, words, (app.as_str(), "time\n"), line)
+        }
+        Of::Certificates(app) => {
+            let cert = between(alloc, "", text, "")?;
+            says(rt, alloc, row, words, (app, cert.as_str()), line)
         }
     }
 }
 
-/// Asserts of each certificate of a table what `verify` writes for it and an application.
-pub fn verify_each(rt: &impl Abort, alloc: Global, app: &str, rows: &str) {
-    for row in rows.lines() {
-        match row.split_once(" => ") {
-            Some((text, line)) => match between(alloc, ("", ""), text) {
-                Ok(cert) => verify(rt, alloc, app, cert.as_str(), line),
-                Err(Memory) => no_memory(rt),
-            },
-            None => assert!(rt; false, "no row: {row}"),
+/// Asserts what a call writes for each row of each table.
+pub fn each_says(rt: &impl Abort, alloc: Global, tables: &[Table]) -> Result<(), Memory> {
+    for (words, of, rows) in tables {
+        for row in rows.lines() {
+            row_says(rt, alloc, words, *of, row)?;
         }
     }
+    Ok(())
 }

@@ -1,6 +1,6 @@
 // Texts that are no spelling of a program, and programs with empty parts, beside those of sources.
 
-use crate::tables::{END, P, check_each};
+use crate::tables::{END, Of, P, Table};
 
 const LINES: &str = "\
 S_o := S_i; (*) => refused L2 line 2 column 13
@@ -17,21 +17,11 @@ S_o := S_i.Function_Block; => refused P1 line 2 column 12
 S_o := S_i.Ready.b; => refused P1 line 2 column 17
 ";
 
-#[test]
-fn lines_that_are_refused(rt: HostRuntime) {
-    check_each(&rt, rt.alloc(), (P, END), LINES);
-}
-
 const WHOLE: &str = "\
 T#(* => refused L3 line 1 column 1
 PROGRAM P\r\r @ => refused L1 line 1 column 13
 PROGRAM P b := Zz; END_PROGRAM PROGRAM => refused P1 line 1 column 32
 ";
-
-#[test]
-fn whole_texts_that_are_refused(rt: HostRuntime) {
-    check_each(&rt, rt.alloc(), ("", ""), WHOLE);
-}
 
 const EMPTY_PARTS: &str = "\
 PROGRAM P END_PROGRAM => accepted inputs 0 outputs 0 locals 0 instances 0 steps 0 nodes 0
@@ -39,7 +29,9 @@ program p(***)VAR(*(*)END_VAR end_program// => accepted inputs 0 outputs 0 local
 PROGRAM P VAR E : SF_EDM; END_VAR E(); END_PROGRAM => accepted inputs 0 outputs 0 locals 0 instances 1 steps 1 nodes 0
 ";
 
-#[test]
-fn texts_with_empty_parts(rt: HostRuntime) {
-    check_each(&rt, rt.alloc(), ("", ""), EMPTY_PARTS);
-}
+/// The tables.
+pub static TABLES: &[Table] = &[
+    ("check A", Of::Applications(P, END), LINES),
+    ("check A", Of::Applications("", ""), WHOLE),
+    ("check A", Of::Applications("", ""), EMPTY_PARTS),
+];

@@ -1,9 +1,12 @@
 // Words that are not taken.
 
-use crate::calls::{ROOM, files_of, gives};
+use crate::calls::{ROOM, call, files_of, gives};
 use crate::motor::MOTOR;
+use ps_base::Memory;
 use ps_outside::MemSink;
-use ps_top::{Left, Status, Words, top};
+use ps_top::{Status, Words};
+use std::alloc::Global;
+use std::process::Abort;
 use std::test::Fail;
 
 /// The usage line.
@@ -65,45 +68,31 @@ version
 plcsafe check A
 ";
 
-#[test]
-fn words_that_are_not_taken(rt: HostRuntime) {
-    for words in WORDS.lines() {
-        gives(&rt, rt.alloc(), words, (MOTOR, ""), (USAGE, Status::Usage));
-    }
+/// Empty words.
+static EMPTY_WORDS: &[&str] = &["", "run A T ", " run A T"];
+
+/// Asserts that words are not taken.
+fn are_not_taken(rt: &impl Abort, alloc: Global, words: &str) -> Result<(), Memory> {
+    let wanted = (USAGE, Status::Usage);
+    gives(rt, alloc, "words", words, (MOTOR, ""), wanted)
 }
 
-#[test]
-fn empty_words(rt: HostRuntime) {
-    gives(&rt, rt.alloc(), "", (MOTOR, ""), (USAGE, Status::Usage));
-    gives(
-        &rt,
-        rt.alloc(),
-        "run A T ",
-        (MOTOR, ""),
-        (USAGE, Status::Usage),
-    );
-    gives(
-        &rt,
-        rt.alloc(),
-        " run A T",
-        (MOTOR, ""),
-        (USAGE, Status::Usage),
-    );
-}
-
-#[test]
-fn no_words(rt: HostRuntime) -> Result<(), Fail> {
-    let alloc = rt.alloc();
+/// Whether a call of no words writes the usage line, and ends so.
+fn is_usage_without_words(alloc: Global) -> Result<bool, Memory> {
     let mut files = files_of(alloc, MOTOR, "")?;
     let mut out = MemSink::new(alloc, ROOM)?;
-    let status = top(
-        alloc,
-        &Words::new(alloc),
-        &mut files,
-        &mut out,
-        &mut Left::new(),
-    );
-    assert!(rt; out.taken() == USAGE.as_bytes());
-    assert!(rt; status == Status::Usage);
+    let status = call(alloc, &Words::new(alloc), &mut files, &mut out).status;
+    Ok(out.taken() == USAGE.as_bytes() && status == Status::Usage)
+}
+
+#[test]
+fn words_that_are_not_taken(rt: HostRuntime) -> Result<(), Fail> {
+    for words in WORDS.lines() {
+        are_not_taken(&rt, rt.alloc(), words)?;
+    }
+    for words in EMPTY_WORDS {
+        are_not_taken(&rt, rt.alloc(), words)?;
+    }
+    assert!(rt; is_usage_without_words(rt.alloc())?, "no words");
     Ok(())
 }

@@ -1,9 +1,11 @@
 // Texts with function blocks.
 
-use ps_base::{Fail, Place, Refusal, Rule};
+use crate::telling::repeated;
+use ps_base::{Fail, Memory, Place, Refusal, Rule};
 use ps_derived::{is_within_limits, parse_library};
 use ps_lexer::lex;
 use std::alloc::Global;
+use std::process::Abort;
 use std::test::Fail as TestFail;
 
 // An emergency stop within a function block, and a motor behind it.
@@ -23,51 +25,46 @@ S_Motor := G.S_Q AND Run;
 END_PROGRAM
 ";
 
-// How many function blocks a text has, and whether it keeps their limits.
-fn library(alloc: Global, text: &str) -> Result<(usize, bool), Fail> {
+// An empty function block, and an empty program.
+const BLOCK: &str = "FUNCTION_BLOCK F END_FUNCTION_BLOCK\n";
+
+const PROGRAM: &str = "PROGRAM P END_PROGRAM\n";
+
+// How many function blocks a text has, and whether it keeps their limits, or its refusal.
+type Library = Result<(usize, bool), Fail>;
+
+// No program stands behind a function block.
+const NO_PROGRAM: Refusal = Refusal {
+    rule: Rule::P1,
+    place: Place { line: 2, column: 1 },
+};
+
+// A part, how often it stands, what stands behind it, and the function blocks of that text.
+static TEXTS: &[(&str, u32, &str, Library)] = &[
+    (GATE, 1, "", Ok((1, true))),
+    (BLOCK, 1, "", Err(Fail::Refused(NO_PROGRAM))),
+    (BLOCK, 64, PROGRAM, Ok((64, true))),
+    (BLOCK, 65, PROGRAM, Ok((65, false))),
+];
+
+// The function blocks of a text.
+fn library(alloc: Global, text: &str) -> Library {
     let tokens = lex(alloc, text.as_bytes())?;
     let library = parse_library(alloc, &tokens)?;
     let is_within = is_within_limits(alloc, &library)?;
     Ok((library.blocks.len(), is_within))
 }
 
-// Whether a text has so many function blocks, and keeps their limits, or does not.
-fn is_library(alloc: Global, text: &str, count: usize, is_within: bool) -> bool {
-    library(alloc, text) == Ok((count, is_within))
-}
-
-#[test]
-fn a_function_block(rt: HostRuntime) {
-    assert!(rt; is_library(rt.alloc(), GATE, 1, true));
-}
-
-// Whether a text is refused by P1 at this place.
-fn is_refused(alloc: Global, text: &str, place: Place) -> bool {
-    let rule = Rule::P1;
-    library(alloc, text) == Err(Fail::Refused(Refusal { rule, place }))
-}
-
-#[test]
-fn no_program_behind_a_function_block(rt: HostRuntime) {
-    let place = Place { line: 2, column: 1 };
-    assert!(rt; is_refused(rt.alloc(), "FUNCTION_BLOCK F END_FUNCTION_BLOCK\n", place));
-}
-
-// A text with so many empty function blocks, and an empty program.
-fn with_blocks(alloc: Global, count: usize) -> Result<String, TestFail> {
-    let mut text = String::new(alloc);
-    for _ in 0..count {
-        text.push_str("FUNCTION_BLOCK F END_FUNCTION_BLOCK\n")?;
-    }
-    text.push_str("PROGRAM P END_PROGRAM\n")?;
-    Ok(text)
-}
-
-#[test]
-fn most_function_blocks(rt: HostRuntime) -> Result<(), TestFail> {
-    for (count, is_within) in [(64, true), (65, false)] {
-        let text = with_blocks(rt.alloc(), count)?;
-        assert!(rt; is_library(rt.alloc(), text.as_str(), count, is_within));
+// Asserts the function blocks of each text.
+fn texts(rt: &impl Abort, alloc: Global) -> Result<(), Memory> {
+    for (part, count, end, wanted) in TEXTS {
+        let text = repeated(alloc, "", part, *count, end)?;
+        assert_eq!(rt; library(alloc, text.as_str()), *wanted, "{count} of {part}");
     }
     Ok(())
+}
+
+#[test]
+fn libraries(rt: HostRuntime) -> Result<(), TestFail> {
+    Ok(texts(&rt, rt.alloc())?)
 }

@@ -5,52 +5,36 @@ ghost use Rattle.ps_trace.specs.Reading.{input_count_of};
 
 use crate::inputs::{application, no_scan};
 use crate::telling::{equal, repeated, tell, told_text};
+use ps_base::Memory;
 use ps_model::Scan;
 use ps_outside::MemFiles;
 use ps_trace::{Next, TraceReader, TraceStop};
 use std::alloc::Global;
-use std::process::Abort;
 use std::test::Fail;
 
-// A trace with a header, a scan and a line of `#`, so many further bytes and these gives these words.
-fn gives_behind(
-    rt: &impl Abort,
-    alloc: Global,
-    count: u32,
-    end: &str,
-    expected: &str,
-) -> Result<(), Fail> {
-    let text = repeated(alloc, "time S_In Ack Run\n0 1 0 1\n#", "x", count, end)?;
-    let told = told_text(alloc, text.as_str(), 0)?;
-    equal(rt, told.as_str(), expected, end);
-    Ok(())
-}
+// The header, a scan and the first byte of a line that is skipped.
+const BEGIN: &str = "time S_In Ack Run\n0 1 0 1\n#";
 
-// T8: a skipped line is not too long with 65,536 bytes, its carriage return among them.
-#[test]
-fn long_lines(rt: HostRuntime) -> Result<(), Fail> {
-    let refused = "0 1 0 1;T8 3;T8 3;T8 3;";
-    gives_behind(
-        &rt,
-        rt.alloc(),
-        65_534,
-        "\r\n5 0 0 1",
-        "0 1 0 1;5 0 0 1;end;end;",
-    )?;
-    gives_behind(&rt, rt.alloc(), 65_535, "\r\n5 0 0 1", refused)?;
-    gives_behind(&rt, rt.alloc(), 65_536, "", refused)
-}
+// How many further bytes stand behind that, what stands behind those, and what the trace gives.
+static LONG_TRACES: &[(u32, &str, &str)] = &[
+    // T8: a skipped line is not too long with 65,536 bytes, its carriage return among them.
+    (65_534, "\r\n5 0 0 1", "0 1 0 1;5 0 0 1;end;end;"),
+    (65_535, "\r\n5 0 0 1", "0 1 0 1;T8 3;T8 3;T8 3;"),
+    (65_536, "", "0 1 0 1;T8 3;T8 3;T8 3;"),
+    // T9 comes before T8: of 67,108,865 bytes the last line is refused as too large, and of one less as too long.
+    (67_108_837, "", "0 1 0 1;T8 3;T8 3;T8 3;"),
+    (67_108_838, "", "0 1 0 1;T9 3;T9 3;T9 3;"),
+];
 
-// T9 comes before T8: of 67,108,865 bytes the last line is refused as too large, and of one less as too long.
-#[test]
-fn the_largest_trace(rt: HostRuntime) -> Result<(), Fail> {
-    gives_behind(&rt, rt.alloc(), 67_108_837, "", "0 1 0 1;T8 3;T8 3;T8 3;")?;
-    gives_behind(&rt, rt.alloc(), 67_108_838, "", "0 1 0 1;T9 3;T9 3;T9 3;")
+// What a trace of so many further bytes gives, in words.
+fn told_long(alloc: Global, count: u32, end: &str) -> Result<String, Memory> {
+    let text = repeated(alloc, BEGIN, "x", count, end)?;
+    told_text(alloc, text.as_str(), 0)
 }
 
 // A file T of a header and 1,000 lines `0 0 0 0`, whose second read fails: its first piece has the header and 509 whole
 // scan lines.
-fn failing_file(alloc: Global) -> Result<MemFiles, Fail> {
+fn failing_file(alloc: Global) -> Result<MemFiles, Memory> {
     let text = repeated(alloc, "time S_In Ack Run\n", "0 0 0 0\n", 1000, "")?;
     let mut files = MemFiles::new(alloc);
     files.put("T", text.as_bytes())?;
@@ -73,7 +57,7 @@ fn tell_last(
     count: u32,
     last: Result<Next, TraceStop>,
     scan: &Scan,
-) -> Result<(), Fail> {
+) -> Result<(), Memory> {
     let more = format!(in alloc; "{count} scans, ")?;
     words.push_str(more.as_str())?;
     tell(alloc, words, last, scan)
@@ -86,7 +70,7 @@ fn tell_scans(
     reader: &mut TraceReader,
     files: &mut MemFiles,
     scan: &mut Scan,
-) -> Result<(), Fail>
+) -> Result<(), Memory>
     requires { length scan.old.ins ≡ input_count_of reader.old }
     ensures { length scan.new.ins ≡ input_count_of reader.new }
 {
@@ -110,9 +94,13 @@ fn told_twice(alloc: Global) -> Result<String, Fail> {
     Ok(words)
 }
 
-// After a read that fails a later call goes on with the same line.
 #[test]
-fn a_read_fails(rt: HostRuntime) -> Result<(), Fail> {
+fn long_traces(rt: HostRuntime) -> Result<(), Fail> {
+    for (count, end, expected) in LONG_TRACES {
+        let told = told_long(rt.alloc(), *count, end)?;
+        assert_eq!(rt; told.as_str(), *expected, "{count} bytes, {end:?}");
+    }
+    // After a read that fails a later call goes on with the same line.
     let told = told_twice(rt.alloc())?;
     equal(&rt, told.as_str(), "509 scans, fault;491 scans, end;", "");
     Ok(())

@@ -1,78 +1,106 @@
 // Files and outputs, in memory and of the system, with failures.
 
-use ps_base::Bytes;
-use ps_outside::{DiskFiles, MemFiles, MemSink, ReadFail, StdSink, Stopped, read_upto, write_all};
+use ps_base::Memory;
+use ps_outside::{
+    DiskFiles, Files, MemFiles, MemSink, ReadFail, Sink, StdSink, Stopped, read_upto, write_all,
+};
+use std::alloc::Global;
 use std::fs;
+use std::process::Abort;
 use std::test::Fail;
 
-fn is_read(outcome: Result<Bytes, ReadFail>, expected: &str) -> bool {
-    match outcome {
-        Ok(bytes) => bytes.as_slice() == expected.as_bytes(),
-        Err(_) => false,
+// A name, how many of its bytes are read at most, and those that come. None: the read fails.
+type Read = (&'static str, u32, Option<&'static str>);
+
+// Reads of the system's files.
+static OF_THE_SYSTEM: &[Read] = &[
+    ("fish.txt", 100, Some("one fish two fish")),
+    ("fish.txt", 8, Some("one fish")),
+    ("no such file", 8, None),
+];
+
+// Reads of files in memory, whole and in pieces.
+static IN_MEMORY: &[Read] = &[("fish", 100, Some("one fish")), ("bird", 0, None)];
+
+// Reads of files in memory of which the second call fails: it would find the end.
+static FAILING: &[Read] = &[("fish", 100, None), ("fish", 3, Some("one"))];
+
+// Pieces that are written, and what comes of each.
+type Write = (&'static str, Result<(), Stopped>);
+
+// Pieces in four bytes of room: then a write takes nothing.
+static IN_A_ROOM: &[Write] = &[("ab", Ok(())), ("cdef", Err(Stopped { taken: 2 }))];
+
+// Pieces in six bytes of room, of which the second write fails. Then the room that is left is two bytes.
+static FAILING_ONCE: &[Write] = &[
+    ("one ", Ok(())),
+    ("f", Err(Stopped { taken: 0 })),
+    ("fish", Err(Stopped { taken: 0 })),
+    ("is", Ok(())),
+];
+
+// Whether a read of some files gives those bytes.
+fn is_read<F: Files>(alloc: Global, files: &mut F, read: &Read) -> bool {
+    let (name, most, expected) = read;
+    match (read_upto(alloc, files, name, *most), expected) {
+        (Ok(bytes), Some(text)) => bytes.as_slice() == text.as_bytes(),
+        (Err(ReadFail::Fault), None) => true,
+        _ => false,
     }
 }
 
-fn is_fault(outcome: Result<Bytes, ReadFail>) -> bool {
-    matches!(&outcome, Err(ReadFail::Fault))
+// Asserts what each read of some files gives, one after the other.
+fn reads<F: Files>(rt: &impl Abort, alloc: Global, files: &mut F, rows: &[Read]) {
+    for read in rows {
+        assert!(rt; is_read(alloc, files, read), "{read:?}");
+    }
 }
 
-#[test]
-fn disk_files(rt: HostRuntime) -> Result<(), Fail> {
-    fs::write(&rt, "fish.txt", "one fish two fish")?;
-    let mut files = DiskFiles::new(&rt);
-    assert!(rt;
-        is_read(
-            read_upto(rt.alloc(), &mut files, "fish.txt", 100),
-            "one fish two fish"
-        )
-    );
-    assert!(rt; is_read(read_upto(rt.alloc(), &mut files, "fish.txt", 8), "one fish"));
-    assert!(rt; is_fault(read_upto(rt.alloc(), &mut files, "no such file", 8)));
-    fs::remove_file(&rt, "fish.txt")?;
-    Ok(())
+// Asserts what comes of each piece, one after the other.
+fn writes<S: Sink>(rt: &impl Abort, sink: &mut S, rows: &[Write]) {
+    for (piece, expected) in rows {
+        assert_eq!(rt; write_all(sink, piece.as_bytes()), *expected, "{piece}");
+    }
 }
 
-#[test]
-fn std_sink(rt: HostRuntime) {
-    let mut room = [0u8; 4];
-    let mut sink = StdSink::new(room.as_mut_slice());
-    assert!(rt; write_all(&mut sink, b"ab") == Ok(()));
-    // two bytes of room are left, and then a write takes nothing
-    assert!(rt; write_all(&mut sink, b"cdef") == Err(Stopped { taken: 2 }));
-}
-
-#[test]
-fn mem_files(rt: HostRuntime) -> Result<(), Fail> {
-    let mut files = MemFiles::new(rt.alloc());
+// Asserts what reads of files in memory give.
+fn mem_files(rt: &impl Abort, alloc: Global) -> Result<(), Memory> {
+    let mut files = MemFiles::new(alloc);
     files.put("fish", b"red")?;
     files.put("fish", b"one fish")?;
-    assert!(rt; is_read(read_upto(rt.alloc(), &mut files, "fish", 100), "one fish"));
+    reads(rt, alloc, &mut files, IN_MEMORY);
     files.cut_to(3);
-    assert!(rt; is_read(read_upto(rt.alloc(), &mut files, "fish", 100), "one fish"));
-    assert!(rt; is_fault(read_upto(rt.alloc(), &mut files, "bird", 0)));
+    reads(rt, alloc, &mut files, IN_MEMORY);
     Ok(())
 }
 
-#[test]
-fn mem_files_fail(rt: HostRuntime) -> Result<(), Fail> {
-    let mut files = MemFiles::new(rt.alloc());
+// Asserts the same where a call fails.
+fn failing_files(rt: &impl Abort, alloc: Global) -> Result<(), Memory> {
+    let mut files = MemFiles::new(alloc);
     files.put("fish", b"one fish")?;
     files.fail_at(2)?;
-    // the second read would find the end
-    assert!(rt; is_fault(read_upto(rt.alloc(), &mut files, "fish", 100)));
-    assert!(rt; is_read(read_upto(rt.alloc(), &mut files, "fish", 3), "one"));
+    reads(rt, alloc, &mut files, FAILING);
+    Ok(())
+}
+
+// Asserts what comes of pieces that are written to memory.
+fn mem_sink(rt: &impl Abort, alloc: Global) -> Result<(), Memory> {
+    let mut sink = MemSink::new(alloc, 6)?;
+    sink.fail_at(2)?;
+    writes(rt, &mut sink, FAILING_ONCE);
+    assert!(rt; sink.taken() == b"one is".as_slice());
     Ok(())
 }
 
 #[test]
-fn mem_sink(rt: HostRuntime) -> Result<(), Fail> {
-    let mut sink = MemSink::new(rt.alloc(), 6)?;
-    sink.fail_at(2)?;
-    assert!(rt; write_all(&mut sink, b"one ") == Ok(()));
-    assert!(rt; write_all(&mut sink, b"f") == Err(Stopped { taken: 0 }));
-    // the room that is left is two bytes
-    assert!(rt; write_all(&mut sink, b"fish") == Err(Stopped { taken: 0 }));
-    assert!(rt; write_all(&mut sink, b"is") == Ok(()));
-    assert!(rt; sink.taken() == b"one is".as_slice());
+fn files_and_outputs(rt: HostRuntime) -> Result<(), Fail> {
+    fs::write(&rt, "fish.txt", "one fish two fish")?;
+    reads(&rt, rt.alloc(), &mut DiskFiles::new(&rt), OF_THE_SYSTEM);
+    fs::remove_file(&rt, "fish.txt")?;
+    mem_files(&rt, rt.alloc())?;
+    failing_files(&rt, rt.alloc())?;
+    let mut room = [0u8; 4];
+    writes(&rt, &mut StdSink::new(room.as_mut_slice()), IN_A_ROOM);
+    mem_sink(&rt, rt.alloc())?;
     Ok(())
 }

@@ -1,12 +1,11 @@
 // What a fault file says, in words.
 
-use crate::telling::{equal, refused};
+use crate::telling::refused;
+use ps_base::Memory;
 use ps_model::{Fault, ImageSizes};
 use ps_outside::MemFiles;
 use ps_trace::{Faults, TraceFail, read_faults};
 use std::alloc::Global;
-use std::process::Abort;
-use std::test::Fail;
 
 const SIZES: ImageSizes = ImageSizes {
     a_code: 40,
@@ -16,7 +15,7 @@ const SIZES: ImageSizes = ImageSizes {
 };
 
 // A fault in words.
-fn told_fault(alloc: Global, fault: &Fault) -> Result<String, Fail> {
+fn told_fault(alloc: Global, fault: &Fault) -> Result<String, Memory> {
     Ok(format!(in alloc;
         "{} {} {:?} {:?} {} {:?};",
         fault.scan,
@@ -29,7 +28,7 @@ fn told_fault(alloc: Global, fault: &Fault) -> Result<String, Fail> {
 }
 
 // The faults of a list, in words.
-fn told_faults(alloc: Global, faults: &Faults) -> Result<String, Fail> {
+fn told_faults(alloc: Global, faults: &Faults) -> Result<String, Memory> {
     let mut words = String::new(alloc);
     for i in 0..faults.len() {
         words.push_str(told_fault(alloc, faults.at(i))?.as_str())?;
@@ -38,7 +37,7 @@ fn told_faults(alloc: Global, faults: &Faults) -> Result<String, Fail> {
 }
 
 // What the fault file F of these files says, in words.
-fn told_file(alloc: Global, files: &mut MemFiles) -> Result<String, Fail> {
+fn told_file(alloc: Global, files: &mut MemFiles) -> Result<String, Memory> {
     match read_faults(alloc, files, "F", &SIZES) {
         Ok(faults) => told_faults(alloc, &faults),
         Err(TraceFail::Memory) => Ok(String::from_str(alloc, "memory")?),
@@ -48,28 +47,11 @@ fn told_file(alloc: Global, files: &mut MemFiles) -> Result<String, Fail> {
 }
 
 // What a text says as a fault file, read in pieces of at most so many bytes, or whole (0).
-pub(crate) fn told_text(alloc: Global, text: &str, most: u32) -> Result<String, Fail> {
+pub(crate) fn told_text(alloc: Global, text: &str, most: u32) -> Result<String, Memory> {
     let mut files = MemFiles::new(alloc);
     files.put("F", text.as_bytes())?;
     if most > 0 {
         files.cut_to(most);
     }
     told_file(alloc, &mut files)
-}
-
-// A text says these words, in pieces of at most so many bytes, or whole (0).
-fn says(rt: &impl Abort, alloc: Global, text: &str, most: u32, expected: &str) -> Result<(), Fail> {
-    let told = told_text(alloc, text, most)?;
-    equal(rt, told.as_str(), expected, text);
-    Ok(())
-}
-
-// Each text says these words, read whole, and in pieces of one and of three bytes.
-pub(crate) fn say(rt: &impl Abort, alloc: Global, texts: &[(&str, &str)]) -> Result<(), Fail> {
-    for (text, expected) in texts {
-        says(rt, alloc, text, 0, expected)?;
-        says(rt, alloc, text, 1, expected)?;
-        says(rt, alloc, text, 3, expected)?;
-    }
-    Ok(())
 }

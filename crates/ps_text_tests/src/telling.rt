@@ -4,21 +4,23 @@ ghost use Rattle.std.specs.Prelude.{◌≡◌, length};
 ghost use Rattle.ps_trace.specs.Reading.{input_count_of};
 
 use crate::inputs::{application, no_scan};
-use ps_base::Refusal;
+use ps_base::{Memory, Refusal};
 use ps_model::Scan;
 use ps_outside::MemFiles;
 use ps_trace::{Next, TraceFail, TraceReader, TraceStop};
 use std::alloc::Global;
 use std::process::Abort;
-use std::test::Fail;
+
+/// How texts are read: whole (0), and in pieces of at most one and of three bytes.
+pub(crate) static PIECES: &[u32] = &[0, 1, 3];
 
 // A refusal in words.
-pub(crate) fn refused(alloc: Global, refusal: Refusal) -> Result<String, Fail> {
+pub(crate) fn refused(alloc: Global, refusal: Refusal) -> Result<String, Memory> {
     Ok(format!(in alloc; "{:?} {}", refusal.rule, refusal.place.line)?)
 }
 
 // A scan in words: its time, then 0 or 1 for each input.
-fn told_scan(alloc: Global, scan: &Scan) -> Result<String, Fail> {
+fn told_scan(alloc: Global, scan: &Scan) -> Result<String, Memory> {
     let mut words = format!(in alloc; "{}", scan.now)?;
     for value in scan.ins.as_slice() {
         words.push_str(if *value { " 1" } else { " 0" })?;
@@ -27,7 +29,7 @@ fn told_scan(alloc: Global, scan: &Scan) -> Result<String, Fail> {
 }
 
 // What a call gave, in words.
-fn told(alloc: Global, next: Result<Next, TraceStop>, scan: &Scan) -> Result<String, Fail> {
+fn told(alloc: Global, next: Result<Next, TraceStop>, scan: &Scan) -> Result<String, Memory> {
     match next {
         Ok(Next::Scan) => told_scan(alloc, scan),
         Ok(Next::Restart) => Ok(String::from_str(alloc, "restart")?),
@@ -38,7 +40,7 @@ fn told(alloc: Global, next: Result<Next, TraceStop>, scan: &Scan) -> Result<Str
 }
 
 // Why no reader was made, in words.
-fn told_fail(alloc: Global, fail: TraceFail) -> Result<String, Fail> {
+fn told_fail(alloc: Global, fail: TraceFail) -> Result<String, Memory> {
     match fail {
         TraceFail::Memory => Ok(String::from_str(alloc, "memory")?),
         TraceFail::Fault => Ok(String::from_str(alloc, "fault")?),
@@ -52,7 +54,7 @@ pub(crate) fn tell(
     words: &mut String,
     next: Result<Next, TraceStop>,
     scan: &Scan,
-) -> Result<(), Fail> {
+) -> Result<(), Memory> {
     let more = told(alloc, next, scan)?;
     words.push_str(more.as_str())?;
     words.push_str(";")?;
@@ -66,7 +68,7 @@ fn told_calls(
     files: &mut MemFiles,
     scan: &mut Scan,
     calls: u32,
-) -> Result<String, Fail>
+) -> Result<String, Memory>
     requires { length scan.old.ins ≡ input_count_of reader.old }
 {
     let mut words = String::new(alloc);
@@ -78,7 +80,7 @@ fn told_calls(
 }
 
 // What the trace T of these files gives in so many calls, in words.
-fn told_trace(alloc: Global, files: &mut MemFiles, calls: u32) -> Result<String, Fail> {
+fn told_trace(alloc: Global, files: &mut MemFiles, calls: u32) -> Result<String, Memory> {
     let app = application(alloc)?;
     let mut scan = no_scan(alloc)?;
     match TraceReader::start(alloc, files, "T", &app) {
@@ -88,7 +90,7 @@ fn told_trace(alloc: Global, files: &mut MemFiles, calls: u32) -> Result<String,
 }
 
 // What a text gives as a trace in four calls, in pieces of at most so many bytes, or whole (0).
-pub(crate) fn told_text(alloc: Global, text: &str, most: u32) -> Result<String, Fail> {
+pub(crate) fn told_text(alloc: Global, text: &str, most: u32) -> Result<String, Memory> {
     let mut files = MemFiles::new(alloc);
     files.put("T", text.as_bytes())?;
     if most > 0 {
@@ -104,7 +106,7 @@ pub(crate) fn repeated(
     part: &str,
     count: u32,
     end: &str,
-) -> Result<String, Fail> {
+) -> Result<String, Memory> {
     let mut text = String::from_str(alloc, begin)?;
     for _ in 0..count {
         text.push_str(part)?;
@@ -116,27 +118,4 @@ pub(crate) fn repeated(
 // Asserts that the words of a text, or of a text with this part, are those that are expected.
 pub(crate) fn equal(rt: &impl Abort, told: &str, expected: &str, text: &str) {
     assert_eq!(rt; told, expected, "at {text:?}");
-}
-
-// A text gives these words, in pieces of at most so many bytes, or whole (0).
-fn gives(
-    rt: &impl Abort,
-    alloc: Global,
-    text: &str,
-    most: u32,
-    expected: &str,
-) -> Result<(), Fail> {
-    let told = told_text(alloc, text, most)?;
-    equal(rt, told.as_str(), expected, text);
-    Ok(())
-}
-
-// Each text gives these words, read whole, and in pieces of one and of three bytes.
-pub(crate) fn give(rt: &impl Abort, alloc: Global, traces: &[(&str, &str)]) -> Result<(), Fail> {
-    for (text, expected) in traces {
-        gives(rt, alloc, text, 0, expected)?;
-        gives(rt, alloc, text, 1, expected)?;
-        gives(rt, alloc, text, 3, expected)?;
-    }
-    Ok(())
 }

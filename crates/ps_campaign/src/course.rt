@@ -1,11 +1,14 @@
 // A world, and beside it the plain evaluator and a pair of seats.
 
-ghost use Rattle.std.specs.Prelude.{◌≡◌, length, IfOk, IfSome};
+ghost use Rattle.std.specs.Prelude.{◌≡◌, ◌≤◌, false, true, length, IfOk, IfSome, IfNone};
 ghost use Rattle.ps_model.specs.Typing.{Accepted};
 ghost use Rattle.ps_model.specs.Network.{instance_count};
 ghost use Rattle.ps_model.specs.Fields.{blank_report};
+ghost use Rattle.ps_world.specs.Whole.{IsWorldOf, happened};
+ghost use Rattle.ps_world.specs.Worlds.Event.{Restart};
 ghost use Rattle.ps_campaign.specs.Beginning.{IsBeginning};
 ghost use Rattle.ps_campaign.specs.Made.{Tells};
+ghost use Rattle.ps_campaign.specs.Pairs.{IsPairOf, after_restart};
 
 use crate::draws::Draws;
 use crate::pair::Pair;
@@ -61,7 +64,7 @@ impl<'a> Model for Course<'a> {
 
     ghost Value = { Made };
 
-    ghost view = { λ c. record { world = c.world; pair = c.pair; report = c.report; wanted = c.wanted } };
+    ghost view = { λ c. record { world = c.world; pair = c.pair; scan = c.scan; report = c.report; wanted = c.wanted } };
 
     ghost invariant = { λ c. (c.world.state.last ≤ c.scan.now) × (c.world.setup.sizes.inputs ≡ input_count c.app.now)
         × (c.world.setup.sizes.outputs ≡ length c.app.now.outputs) × (c.world.setup.sizes.instances ≡ instance_count c.app.now)
@@ -75,7 +78,8 @@ impl<'a> Model for Course<'a> {
 #[tactic(auto, using(crate::proofs::Beginnings::is_beginning))]
 fn world_of(alloc: Global, app: &App) -> Result<World, Memory>
     requires { Accepted app.now }
-    ensures { IfOk result (IsBeginning app.now) }
+    ensures world { IfOk result (IsWorldOf app.now) }
+    ensures beginning { IfOk result (IsBeginning app.now) }
 {
     let world = World::build(alloc, app)?;
     Ok(world)
@@ -112,6 +116,8 @@ impl<'a> Course<'a> {
     /// The course of an accepted application, before its first scan.
     pub(crate) fn build(alloc: Global, app: &'a App) -> Result<Course<'a>, Memory>
         requires { Accepted app.now }
+        ensures world { IfOk result (λ course. IsWorldOf app.now course.world) }
+        ensures pair { IfOk result (λ course. IsPairOf app.now course.pair) }
     {
         let world = world_of(alloc, app)?;
         let pair = Pair::build(alloc, app)?;
@@ -133,12 +139,19 @@ impl<'a> Course<'a> {
     }
 
     /// The lengths of the regions.
-    pub(crate) fn sizes(&self) -> ImageSizes {
+    pub(crate) fn sizes(&self) -> ImageSizes
+        ensures { let state = self.now.world.state in
+            result ≡ record { a_code = length state.a.code; a_cells = length state.a.cells; b_code = length state.b.code; b_cells = length state.b.cells } }
+    {
         self.world.sizes()
     }
 
     /// Whether the world, the pair and the evaluator have begun anew: no scan is begun.
-    pub(crate) fn restart(&mut self) -> bool {
+    pub(crate) fn restart(&mut self) -> bool
+        ensures world { result ≡ true → self.new.world ≡ happened Restart self.old.world }
+        ensures pair { result ≡ true → self.new.pair ≡ after_restart self.old.pair }
+        ensures begun { result ≡ false → self.old.world.state.begun ≡ true }
+    {
         if self.world.scan_begun() {
             return false;
         }
@@ -149,7 +162,10 @@ impl<'a> Course<'a> {
     }
 
     /// Draws the time and the inputs of the next scan.
-    pub(crate) fn draw_scan(&mut self, draws: &mut Draws, one_in: u32) {
+    pub(crate) fn draw_scan(&mut self, draws: &mut Draws, one_in: u32)
+        ensures later { self.old.scan.now ≤ self.new.scan.now }
+        ensures kept { self.new ≡ record self.old { scan = self.new.scan } }
+    {
         draw_scan(draws, &mut self.scan, one_in);
     }
 
@@ -165,7 +181,8 @@ impl<'a> Course<'a> {
 
     /// Makes the scan in the world and in the pair, with these faults, and by the evaluator. None: a scan is begun in the world.
     pub(crate) fn make_scan(&mut self, faults: &[Fault]) -> Option<Outcome>
-        ensures { IfSome result (Tells self.old self.new) }
+        ensures tells { IfSome result (Tells faults.now self.old self.new) }
+        ensures begun { IfNone result (self.old.world.state.begun ≡ true) }
     {
         if self.world.scan_begun() {
             return None;

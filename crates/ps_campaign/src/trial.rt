@@ -1,6 +1,6 @@
 // The trials of an application: scans from the beginning, of which faults strike one.
 
-ghost use Rattle.std.specs.Prelude.{◌≡◌, true, IfOk, IsNone};
+ghost use Rattle.std.specs.Prelude.{◌≡◌, true, IfOk, IfSome, IsNone};
 ghost use Rattle.ps_model.specs.Typing.{Accepted};
 ghost use Rattle.ps_campaign.specs.Rightness.{MayTrip, IsAllowed, IsRight};
 
@@ -34,7 +34,8 @@ pub(crate) const TRIALS: u32 = 10;
 
 // Why a trip is not what it has to be, where this channel alone was struck, if it was.
 fn wrong_trip(cause: Cause, channel: Channel, is_struck: bool) -> Option<&'static str>
-    ensures { IsNone result → (is_struck ≡ true) × MayTrip channel cause }
+    ensures right { IsNone result → (is_struck ≡ true) × MayTrip channel cause }
+    ensures wrong { IfSome result (λ _. ¬ ((is_struck ≡ true) × MayTrip channel cause)) }
 {
     if !is_struck {
         return Some("a trip without a fault");
@@ -53,7 +54,8 @@ fn wrong_trip(cause: Cause, channel: Channel, is_struck: bool) -> Option<&'stati
 
 // Why a scan is not what its verdict allows, where this channel alone was struck, if it was.
 fn wrong_scan(outcome: Outcome, channel: Channel, is_struck: bool) -> Option<&'static str>
-    ensures { IsNone result → IsAllowed channel is_struck outcome outcome.verdict }
+    ensures right { IsNone result → IsAllowed channel is_struck outcome outcome.verdict }
+    ensures wrong { IfSome result (λ _. ¬ (IsAllowed channel is_struck outcome outcome.verdict)) }
 {
     match outcome.verdict {
         Verdict::Released if outcome.was_tripped => Some("released behind a trip"),
@@ -71,7 +73,8 @@ fn wrong_scan(outcome: Outcome, channel: Channel, is_struck: bool) -> Option<&'s
 
 // Why a scan is not what it has to be, where this channel alone was struck, if it was.
 fn wrong(outcome: Outcome, channel: Channel, is_struck: bool) -> Option<&'static str>
-    ensures { IsNone result → IsRight channel is_struck outcome }
+    ensures right { IsNone result → IsRight channel is_struck outcome }
+    ensures wrong { IfSome result (λ _. ¬ (IsRight channel is_struck outcome)) }
 {
     if outcome.verdict != outcome.wanted_verdict {
         return Some("the verdict is not that of the two reports");

@@ -1,5 +1,5 @@
 -- The message of a refusal.
-use Rattle.std.specs.Prelude.{◌≡◌, ℕ, Bool, nat_le, ◌==◌, ◌||◌, ◌&&◌, List, [], ◌++◌, codes, decimal, length, if◌then◌else◌}
+use Rattle.std.specs.Prelude.{◌≡◌, ◌≢◌, ℕ, Bool, nat_le, ◌==◌, ◌||◌, ◌&&◌, List, [], ◌++◌, codes, decimal, length, if◌then◌else◌}
 use Rattle.ps_base.specs.declared.failing.Rule.{Rule}
 use Rattle.ps_base.specs.declared.failing.Place.{Place}
 use Rattle.ps_base.specs.declared.failing.Refusal.{Refusal}
@@ -51,10 +51,14 @@ abbrev pub is_short : Advice → Bool
 is_short advice =
     are_few 3 advice.name.now && are_few 200 advice.sentence.now && are_few 200 advice.of_name.now && are_few 200 advice.remedy.now
 
--- these bytes are the message of a refusal, with an advice on its rule and further words
-abbrev pub Says : (file text : List ℕ) → Refusal → List ℕ → Type 0
-Says file text refusal bytes =
-    (advice : Advice) × IsOf refusal.rule advice × (words : List ℕ) × (bytes ≡ message_text advice words file text refusal.place)
+-- where words are given, these are they
+abbrev pub AreGiven : (given words : List ℕ) → Type 0
+AreGiven given words = given ≢ [] → words ≡ given
+
+-- these bytes are the message of a refusal, with an advice on its rule, and with further words: those that are given, where there are any
+abbrev pub Says : (file text : List ℕ) → Refusal → (given : List ℕ) → List ℕ → Type 0
+Says file text refusal given bytes =
+    (advice : Advice) × IsOf refusal.rule advice × (words : List ℕ) × AreGiven given words × (bytes ≡ message_text advice words file text refusal.place)
 
 -- the last byte is a line feed
 abbrev pub IsEnded : List ℕ → Type 0

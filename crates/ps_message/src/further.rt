@@ -1,7 +1,10 @@
 // A second line of a text that a refusal rests on, besides that of its place.
 
-use crate::hints::without_blanks;
+ghost use Rattle.std.specs.Prelude.{IfOk};
+ghost use Rattle.ps_message.specs.Message.{AreGiven};
+
 use crate::quoted::{cut_at, line_at};
+use crate::words::without_blanks;
 use ps_base::{Bytes, Memory, Place, Refusal, Rule};
 use std::alloc::Global;
 
@@ -58,7 +61,9 @@ pub(crate) fn further_on(
     text: &[u8],
     refusal: &Refusal,
     given: &[u8],
-) -> Result<Bytes, Memory> {
+) -> Result<Bytes, Memory>
+    ensures given { IfOk result (AreGiven given.now) }
+{
     if !given.is_empty() {
         return Bytes::from_slice(alloc, given);
     }

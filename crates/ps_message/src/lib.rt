@@ -8,8 +8,8 @@
 //! declare it in VAR_INPUT, VAR_OUTPUT or VAR, or spell it as it is declared (docs/refusals.md, N2)
 //! ```
 //!
-//! - `advice`: the table of what is said of each rule; `hints`: what is said instead where bytes of another language, or of another
-//!   kind of text, stand at the place.
+//! - `advice`: the table of what is said of each rule; `hints`: what was most likely meant where bytes of another language, or of
+//!   another kind of text, stand at the place; `hint`: what is said of it instead; `words`: the words of a line.
 //! - `shown`: bytes that a user wrote, as a terminal may take them.
 //! - `quoted`: the line of a place, a window on it, and the caret.
 //! - `further`: a second line of the text that a refusal rests on. `writing`: the whole message. `statuses`: the messages of calls that end without a refusal.
@@ -18,11 +18,13 @@
 
 pub mod advice;
 mod further;
+mod hint;
 mod hints;
 mod noted;
 mod quoted;
 mod shown;
 mod statuses;
+mod words;
 mod writing;
 
 pub use advice::{Advice, advice_on};

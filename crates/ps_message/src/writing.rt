@@ -143,7 +143,7 @@ pub fn message(
     refusal: &Refusal,
     words: &[u8],
 ) -> Result<Bytes, Memory>
-    ensures says { IfOk result (λ bytes. Says file.now text.now refusal.now bytes) }
+    ensures says { IfOk result (λ bytes. Says file.now text.now refusal.now words.now bytes) }
     ensures bounded { IfOk result (λ bytes. length bytes ≤ LONGEST_MESSAGE) }
     ensures ended { IfOk result IsEnded }
 {

@@ -1,6 +1,6 @@
-use Rattle.std.proofs.Common.{length, ◌≤◌}
+use Rattle.std.proofs.Common.{length, ◌≤◌, refl, ◌∙◌}
 use Rattle.ps_base.specs.declared.failing.Place.{Place}
-use Rattle.ps_message.specs.Message.{message_text, IsEnded}
+use Rattle.ps_message.specs.Message.{message_text, AreGiven, IsEnded, Says}
 use Rattle.ps_message.proofs.Bounds.{short-advice, length-message, message-ended}
 use Rattle.ps_message.proofs.Joining.{of_given}
 use Rattle.ps_message.proofs.writing.message.Goals as goal
@@ -17,3 +17,11 @@ returns-clause-ended c =
     let place : Place = c.args.refusal.now.place in
     of_given IsEnded (message_text c.advice_of-advice.result c.as_slice.result.now c.args.file.now c.args.text.now place)
     (message-ended c.advice_of-advice.result c.as_slice.result.now c.args.file.now c.args.text.now place) c.written.result c.written.ensures.says
+
+pub returns-clause-says : goal.returns-clause-says
+returns-clause-says c =
+    let place : Place = c.args.refusal.now.place in
+    let given : AreGiven c.args.words.now c.as_slice.result.now = λ some. c.as_slice.ensures ∙ c.in_ok-further.ensures.given some in
+    of_given (Says c.args.file.now c.args.text.now c.args.refusal.now c.args.words.now)
+    (message_text c.advice_of-advice.result c.as_slice.result.now c.args.file.now c.args.text.now place)
+    (c.advice_of-advice.result, c.advice_of-advice.ensures.name, c.as_slice.result.now, given, refl) c.written.result c.written.ensures.says

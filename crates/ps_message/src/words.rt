@@ -1,0 +1,41 @@
+// The words of a line, and its blanks.
+
+/// Whether a byte goes into a name.
+pub(crate) fn is_of_word(byte: u8) -> bool {
+    byte.is_ascii_alphanumeric() || byte == b'_'
+}
+
+// Whether a byte is a blank.
+fn is_blank(byte: u8) -> bool {
+    byte == b' ' || byte == b'\t' || byte == b'\r'
+}
+
+/// The bytes up to the last one that is no blank.
+pub(crate) fn without_blanks(bytes: &[u8]) -> &[u8] {
+    for i in (0..bytes.len()).rev() {
+        if !is_blank(bytes[i]) {
+            return &bytes[..i + 1];
+        }
+    }
+    &[]
+}
+
+/// The word at the end of bytes.
+pub(crate) fn last_word(bytes: &[u8]) -> &[u8] {
+    for i in (0..bytes.len()).rev() {
+        if !is_of_word(bytes[i]) {
+            return &bytes[i + 1..];
+        }
+    }
+    bytes
+}
+
+/// The word at the beginning of bytes.
+pub(crate) fn first_word(bytes: &[u8]) -> &[u8] {
+    for i in 0..bytes.len() {
+        if !is_of_word(bytes[i]) {
+            return &bytes[..i];
+        }
+    }
+    bytes
+}

@@ -127,7 +127,9 @@ pub fn exit_of_words<R: Env + rt::Files + Print + Eprint + AllocGlobal>(
     exit_code(do_list(system, &words))
 }
 
-/// Does all that the program does, and says the number with which it exits.
-pub fn exit_of_program<R: Env + rt::Files + Print + Eprint + AllocGlobal>(system: &R) -> u8 {
+/// Does all that the program does, and says the number with which it exits: 0 to 7, or 8 where there are no words.
+pub fn exit_of_program<R: Env + rt::Files + Print + Eprint + AllocGlobal>(system: &R) -> u8
+    ensures in_range { result ≤ 8 }
+{
     exit_of_words(system, words_of(system))
 }

@@ -3,7 +3,7 @@
 ghost use Rattle.std.specs.Prelude.{◌≡◌, IsTrue};
 ghost use Rattle.ps_message.specs.Message.{are_few, is_short};
 
-use crate::advice::Advice;
+use crate::advice::{Advice, Said};
 
 /// What was most likely meant at a place.
 #[derive(Clone, Copy)]
@@ -88,15 +88,6 @@ pub(crate) enum Hint {
     ReturnInCertificate,
     /// Channel C in a fault file of two channels.
     ThirdChannel,
-}
-
-// What is said of a hint.
-#[derive(Clone, Copy)]
-struct Said {
-    // what is wrong; empty where the rule's own words serve
-    sentence: &'static str,
-    // what helps
-    remedy: &'static str,
 }
 
 impl Hint {

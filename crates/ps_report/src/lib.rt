@@ -15,5 +15,5 @@ mod short;
 pub use buffer::LineBuffer;
 pub use counts::{check_line, load_line};
 pub use image::image_text;
-pub use refusal::refusal_line;
+pub use refusal::{refusal_line, rule_name};
 pub use short::{LONGEST_SHORT_LINE, ShortLine};

@@ -6,8 +6,8 @@ ghost use Rattle.ps_report.specs.Short.{rule_text, names_column, column_text, re
 use crate::short::ShortLine;
 use ps_base::{Refusal, Rule};
 
-// A rule's name, as `L3`.
-fn rule_name(rule: Rule) -> &'static str
+/// A rule's name, as `L3`.
+pub fn rule_name(rule: Rule) -> &'static str
     ensures name { result.now ≡ rule_text rule }
     ensures short { length result.now ≤ 3 }
 {

@@ -1,4 +1,5 @@
 use Rattle.std.proofs.Common.{◌+◌, ◌∷◌, [], length, get_or, cond, sym, ap, ◌∙◌, arith, length-append}
+use Rattle.std.proofs.lemmas.List.Sums.{sum_by-take-le}
 use Rattle.std.proofs.lemmas.Option.{slice_get_within}
 use Rattle.ps_names.specs.declared.entry.Entry.{Entry}
 use Rattle.ps_names.specs.Names.{is_input, is_output, is_local, is_instance}
@@ -6,6 +7,36 @@ use Rattle.ps_names.specs.Limits.{outputs_of}
 use Rattle.ps_names.specs.Stands.{number_as}
 use Rattle.ps_resolve.proofs.NumberLists.{sum_more, more_numbers, number_in_is, both_numbers}
 use Rattle.ps_resolve.proofs.numbers.numbers.Goals as goal
+
+pub number_in-number-requires-clause-inputs : goal.number_in-number-requires-clause-inputs
+number_in-number-requires-clause-inputs c =
+    let all = ap (λ x. x.inputs) c.count-all.ensures in let before = c.loop-i.invariant.inputs in
+    let fewer = sum_by-take-le (λ (e : Entry). cond (is_input e.sort) 1 0) c.args.entries.now c.loop-i.i in omega arith
+
+pub number_in-number-requires-clause-outputs : goal.number_in-number-requires-clause-outputs
+number_in-number-requires-clause-outputs c =
+    let all = ap (λ x. x.outputs) c.count-all.ensures in let before = c.loop-i.invariant.outputs in
+    let fewer = sum_by-take-le (λ (e : Entry). cond (is_output e.sort) 1 0) c.args.entries.now c.loop-i.i in omega arith
+
+pub number_in-number-requires-clause-locals : goal.number_in-number-requires-clause-locals
+number_in-number-requires-clause-locals c =
+    let all = ap (λ x. x.locals) c.count-all.ensures in let before = c.loop-i.invariant.locals in
+    let fewer = sum_by-take-le (λ (e : Entry). cond (is_local e.sort) 1 0) c.args.entries.now c.loop-i.i in omega arith
+
+pub number_in-number-requires-clause-instances : goal.number_in-number-requires-clause-instances
+number_in-number-requires-clause-instances c =
+    let all = ap (λ x. x.instances) c.count-all.ensures in let before = c.loop-i.invariant.instances in
+    let fewer = sum_by-take-le (λ (e : Entry). cond (is_instance e.sort) 1 0) c.args.entries.now c.loop-i.i in omega arith
+
+pub overflow_cast-first : goal.overflow_cast-first
+overflow_cast-first c =
+    let most = c.requires.signals in let now = c.loop-i.invariant.first in
+    let fewer = sum_by-take-le (λ (e : Entry). outputs_of e.sort) c.args.entries.now c.loop-i.i in omega arith
+
+pub overflow_add-first-in-loop-i : goal.overflow_add-first-in-loop-i
+overflow_add-first-in-loop-i c =
+    let most = c.requires.signals in let now = c.loop-i.invariant.first in let few = c.outputs_of-first.ensures.few in
+    let fewer = sum_by-take-le (λ (e : Entry). outputs_of e.sort) c.args.entries.now c.loop-i.i in omega arith
 
 pub loop-i-preserved : goal.loop-i-preserved
 loop-i-preserved c =

@@ -11,10 +11,16 @@ use ps_table::Table;
 use std::alloc::Global;
 
 /// Which names were counted, and which of them more than once, without letter case.
-#[derive(Drop)]
 pub struct Tally {
     pub once: Table,
     pub again: Table,
+}
+
+impl Drop for Tally {
+    // One call for whoever owns one, in place of a walk through all that it holds.
+    fn drop(self) {
+        let Tally { once: _, again: _ } = self;
+    }
 }
 
 impl Tally {

@@ -11,9 +11,15 @@ use ps_parser::Name;
 use std::alloc::Global;
 
 /// Names with the place of each in some list, by their text in lower case. A look-up takes the time of one hash.
-#[derive(Drop)]
 pub struct Table {
     pub places: IndexMap<Vec<u8>, usize>,
+}
+
+impl Drop for Table {
+    // One call for whoever owns one, in place of a walk through all that it holds.
+    fn drop(self) {
+        let Table { places: _ } = self;
+    }
 }
 
 impl Table {

@@ -59,3 +59,15 @@ returns-in-Err-clause-answers g c =
     (found.0, found.1, ap (λ (s : ImageSizes). (faults_of found.0 s).refusal) (sym same) ∙ c.read_faults.ensures.refuses tells found.0 found.1 refusal is)))
     (λ e. c.read_faults.ensures.fault (c.in-Err.is ∙ ap Err e))
     c.refuse_faults.ensures.says
+
+pub returns-in-Ok-clause-refuses : goal.returns-in-Ok-clause-refuses
+returns-in-Ok-clause-refuses g c = c.run_named.ensures.refuses
+
+pub returns-in-Ok-clause-no_usage : goal.returns-in-Ok-clause-no_usage
+returns-in-Ok-clause-no_usage g c = c.run_named.ensures.no_usage
+
+pub returns-in-Ok-clause-checked : goal.returns-in-Ok-clause-checked
+returns-in-Ok-clause-checked g c = c.run_named.ensures.checked
+
+pub run_named-requires-clause-first : goal.run_named-requires-clause-first
+run_named-requires-clause-first g c = c.new-world.ensures.begins c.args.app.now c.requires.first

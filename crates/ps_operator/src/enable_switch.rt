@@ -171,7 +171,6 @@ impl SafetyBlock for EnableSwitch {
         image.write(into);
     }
 
-    #[tactic(auto, using(crate::proofs::SameEnableSwitchStates::same_kept, ps_block::proofs::Loading::loads_from, ps_block::proofs::Loading::no_state, ps_block::proofs::Loading::not_last), unfolding(ps_model::specs::Blocks::block))]
     fn load(from: &[u8; 16]) -> Option<EnableSwitchState> {
         let image = Image::read(Kind::EnableSwitch, from)?;
         let phase = Phase::with_code(image.code)?;

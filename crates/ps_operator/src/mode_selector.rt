@@ -273,7 +273,6 @@ impl SafetyBlock for ModeSelector {
         image.write(into);
     }
 
-    #[tactic(auto, using(crate::proofs::SameModeSelectorStates::same_kept, ps_block::proofs::Loading::loads_from, ps_block::proofs::Loading::no_state), unfolding(ps_model::specs::Blocks::block))]
     fn load(from: &[u8; 16]) -> Option<ModeSelectorState> {
         let image = Image::read(Kind::ModeSelector, from)?;
         let phase = Phase::with_code(image.code, image.mode)?;

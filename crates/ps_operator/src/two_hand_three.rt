@@ -126,7 +126,6 @@ impl SafetyBlock for TwoHandThree {
         image.write(into);
     }
 
-    #[tactic(auto, using(crate::proofs::SameTwoHandThreeStates::same_kept, ps_block::proofs::Loading::loads_from, ps_block::proofs::Loading::no_state, ps_block::proofs::Loading::not_last), unfolding(ps_model::specs::Blocks::block))]
     fn load(from: &[u8; 16]) -> Option<TwoHandThreeState> {
         let image = Image::read(Kind::TwoHandThree, from)?;
         let phase = Phase::with_code(image.code)?;

@@ -188,5 +188,6 @@ pub(crate) fn state_rows(code: u16) -> Option<RowRange>
 pub(crate) fn next_of(code: u16, conditions: u32) -> Option<(u16, u8)>
     ensures { result ≡ first_fit EDM code conditions }
 {
-    at_state!(code, first_in, &EDM, code, conditions)
+    let rows: &[MaskRow] = &EDM;
+    at_state!(code, first_in, rows, code, conditions)
 }

@@ -131,5 +131,6 @@ pub(crate) fn state_rows(code: u16) -> Option<RowRange>
 pub(crate) fn next_of(code: u16, conditions: u32) -> Option<(u16, u8)>
     ensures { result ≡ first_fit GUARD_LOCKING code conditions }
 {
-    at_state!(code, first_in, &GUARD_LOCKING, code, conditions)
+    let rows: &[MaskRow] = &GUARD_LOCKING;
+    at_state!(code, first_in, rows, code, conditions)
 }

@@ -127,5 +127,6 @@ pub(crate) fn state_rows(code: u16) -> Option<RowRange>
 pub(crate) fn next_of(code: u16, conditions: u32) -> Option<(u16, u8)>
     ensures { result ≡ first_fit GUARD_MONITORING code conditions }
 {
-    at_state!(code, first_in, &GUARD_MONITORING, code, conditions)
+    let rows: &[MaskRow] = &GUARD_MONITORING;
+    at_state!(code, first_in, rows, code, conditions)
 }

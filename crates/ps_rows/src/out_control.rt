@@ -110,5 +110,6 @@ pub(crate) fn state_rows(code: u16) -> Option<RowRange>
 pub(crate) fn next_of(code: u16, conditions: u32) -> Option<(u16, u8)>
     ensures { result ≡ first_fit OUT_CONTROL code conditions }
 {
-    at_state!(code, first_in, &OUT_CONTROL, code, conditions)
+    let rows: &[MaskRow] = &OUT_CONTROL;
+    at_state!(code, first_in, rows, code, conditions)
 }

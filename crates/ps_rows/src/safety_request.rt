@@ -110,5 +110,6 @@ pub(crate) fn state_rows(code: u16) -> Option<RowRange>
 pub(crate) fn next_of(code: u16, conditions: u32) -> Option<(u16, u8)>
     ensures { result ≡ first_fit SAFETY_REQUEST code conditions }
 {
-    at_state!(code, first_in, &SAFETY_REQUEST, code, conditions)
+    let rows: &[MaskRow] = &SAFETY_REQUEST;
+    at_state!(code, first_in, rows, code, conditions)
 }

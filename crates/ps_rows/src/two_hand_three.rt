@@ -143,5 +143,6 @@ pub(crate) fn state_rows(code: u16) -> Option<RowRange>
 pub(crate) fn next_of(code: u16, conditions: u32) -> Option<(u16, u8)>
     ensures { result ≡ first_fit TWO_HAND_THREE code conditions }
 {
-    at_state!(code, first_in, &TWO_HAND_THREE, code, conditions)
+    let rows: &[MaskRow] = &TWO_HAND_THREE;
+    at_state!(code, first_in, rows, code, conditions)
 }

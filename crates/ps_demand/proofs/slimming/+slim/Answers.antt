@@ -1,4 +1,4 @@
-use Rattle.std.proofs.Common.{◌≡◌, ℕ, ◌<◌, ◌+◌, true, false, List, ◌∷◌, ◌++◌, refl, map, get_or, append-nil, drop, length, length-append, ap, sym, ◌∙◌, subst, IfOk, arith}
+use Rattle.std.proofs.Common.{◌≡◌, ℕ, ◌<◌, ◌+◌, true, false, List, ◌∷◌, ◌++◌, refl, map, append-nil, drop, length, length-append, ap, sym, ◌∙◌, subst, IfOk, arith}
 use Rattle.std.specs.Prelude.{flat_map}
 use Rattle.std.proofs.lemmas.Bool.{cond-true, cond-false}
 use Rattle.std.proofs.lemmas.List.{drop_all}
@@ -10,21 +10,16 @@ use Rattle.ps_model.specs.Nodes.{nodes, nodes_below}
 use Rattle.ps_model.specs.Typing.{safe}
 use Rattle.ps_model.specs.Values.{IsBelow, AreBelow}
 use Rattle.ps_model.proofs.Formulas.{formula-Signal, formula-And, formula-Or}
-use Rattle.ps_model.proofs.Rest.{rest_at}
 use Rattle.ps_demand.specs.declared.join.Join.TheVariants.{And, Or}
 use Rattle.ps_demand.specs.Passes.{slim_over, safe_slims, all_slims, kept_for}
 use Rattle.ps_demand.specs.Requirement.{Requirement}
 use Rattle.ps_demand.specs.Slim.{parts_within, slim_of_parts}
 use Rattle.ps_demand.specs.Views.{requirement}
 use Rattle.ps_demand.proofs.Kept.{kept_at}
+use Rattle.ps_demand.proofs.Operands.{operands_at}
 use Rattle.ps_demand.proofs.Parts.{within_more}
 use Rattle.ps_demand.proofs.slimming.+slim.Goals as goal
 use Rattle.ps_demand.proofs.slimming.+slim.Goals.{slim_conjunction-then-is_safe_value+in_ok-part+in_ok-add_part, slim_conjunction-else-is_safe_value}
-
--- the operands that are left are the next one and those behind it
-operands_at : (all : List Expr) (i : ℕ) (x : Expr) → i < length all → x ≡ get_or all i x →
-    operands (map formula (drop i all)) ≡ operand (formula x) (operands (map formula (drop (i + 1) all)))
-operands_at all i x inside is = ap (λ es. operands (map formula es)) (rest_at all i x inside is)
 
 -- an operand that is not safe adds no part
 safe_slims-less : (net : Network) (kept : ℕ → Requirement) (left es : Formulas) (e : Formula) → left ≡ operand e es → safe net e ≡ false →
@@ -91,14 +86,14 @@ slim_conjunction-loop-x-preserved t c =
     let all = flat_map (parts_within And) (safe_slims net kept (operands (map formula c.args.all.now))) in
     let whole : map requirement c.if-is_safe_value.parts.items ++ flat_map (parts_within And) (safe_slims net kept rest) ≡ all =
     elim c.if-is_safe_value.branch [
-        slim_conjunction-then-is_safe_value+in_ok-part+in_ok-add_part w ↦
-        within_more And so_far (map requirement c.if-is_safe_value.parts.items) (safe_slims net kept rest) (safe_slims net kept left) all
-        (requirement w.in_ok-part.part) (slim_over net kept e) (ap (λ p. map requirement p.items) w.parts-is ∙ w.in_ok-add_part.ensures) w.in_ok-part.ensures
-        (safe_slims-more net kept left rest e next (sym c.is_safe_value.ensures ∙ w.if-is_safe_value.true)) c.loop-x.invariant.whole
-        | slim_conjunction-else-is_safe_value w ↦
-        ap (λ p. map requirement p.items ++ flat_map (parts_within And) (safe_slims net kept rest)) w.parts-is
-        ∙ ap (λ ds. so_far ++ flat_map (parts_within And) ds) (sym (safe_slims-less net kept left rest e next (sym c.is_safe_value.ensures ∙ w.if-is_safe_value.false)))
-        ∙ c.loop-x.invariant.whole
+      | slim_conjunction-then-is_safe_value+in_ok-part+in_ok-add_part w ↦
+          within_more And so_far (map requirement c.if-is_safe_value.parts.items) (safe_slims net kept rest) (safe_slims net kept left) all
+          (requirement w.in_ok-part.part) (slim_over net kept e) (ap (λ p. map requirement p.items) w.parts-is ∙ w.in_ok-add_part.ensures) w.in_ok-part.ensures
+          (safe_slims-more net kept left rest e next (sym c.is_safe_value.ensures ∙ w.if-is_safe_value.true)) c.loop-x.invariant.whole
+      | slim_conjunction-else-is_safe_value w ↦
+          ap (λ p. map requirement p.items ++ flat_map (parts_within And) (safe_slims net kept rest)) w.parts-is
+          ∙ ap (λ ds. so_far ++ flat_map (parts_within And) ds) (sym (safe_slims-less net kept left rest e next (sym c.is_safe_value.ensures ∙ w.if-is_safe_value.false)))
+          ∙ c.loop-x.invariant.whole
     ] in
     record { whole = whole; few = omega (arith, count, c.loop-x.invariant.few); below = (subst (AreBelow (signal_count net)) next c.loop-x.invariant.below).1 }
 

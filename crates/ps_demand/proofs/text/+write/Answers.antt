@@ -26,12 +26,12 @@ write_parts-loop-i-preserved t c =
     let whole = c.args.bytes.now ++ parts_text net join (requirements (map requirement c.args.parts.now.items.items)) in
     let left : Bool → List Demand → List ℕ = λ more ds. left_text net join more (requirements (map requirement ds)) in
     let written = part_written net join behind (requirement c.part-item.result) (requirements (map requirement (drop (i + 1) items)))
-        start c.write_where.new.bytes c.write_where-in-loop-i.new.bytes c.write_demand.new.bytes c.write_where-in-loop-i-2.new.bytes whole
-        (c.in_ok-write_where.ensures ∙ ap (λ word. start ++ where_wanted behind word) c.joining_word.ensures)
-        (c.in_ok-write_where-2.ensures ∙ ap (λ wanted. c.write_where.new.bytes ++ where_wanted wanted (codes "(")) c.is_group.ensures)
-        c.in_ok-write_demand.ensures
-        (c.in_ok-write_where-3.ensures ∙ ap (λ wanted. c.write_demand.new.bytes ++ where_wanted wanted (codes ")")) c.is_group-in-loop-i.ensures)
-        (ap (λ ds. start ++ left behind ds) (sym next) ∙ c.loop-i.invariant) in
+    start c.write_where.new.bytes c.write_where-in-loop-i.new.bytes c.write_demand.new.bytes c.write_where-in-loop-i-2.new.bytes whole
+    (c.in_ok-write_where.ensures ∙ ap (λ word. start ++ where_wanted behind word) c.joining_word.ensures)
+    (c.in_ok-write_where-2.ensures ∙ ap (λ wanted. c.write_where.new.bytes ++ where_wanted wanted (codes "(")) c.is_group.ensures)
+    c.in_ok-write_demand.ensures
+    (c.in_ok-write_where-3.ensures ∙ ap (λ wanted. c.write_demand.new.bytes ++ where_wanted wanted (codes ")")) c.is_group-in-loop-i.ensures)
+    (ap (λ ds. start ++ left behind ds) (sym next) ∙ c.loop-i.invariant) in
     let later : nat_lt 0 (i + 1) ≡ true = lt-ltb 0 (i + 1) (omega arith) in
     ap (λ more. c.write_where-in-loop-i-2.new.bytes ++ left more (drop (i + 1) items)) later ∙ written
 

@@ -4,6 +4,7 @@ pub mod SafeOutputs
 pub mod DemandHolds
 pub mod RunsHold
 pub mod Views
+pub mod Operands
 pub mod Parts
 pub mod NeedPins
 pub mod Tables

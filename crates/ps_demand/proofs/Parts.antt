@@ -1,11 +1,13 @@
 -- Lists of parts: when they are the same, and what they are as one.
-use Rattle.std.proofs.Common.{◌≡◌, ◌≢◌, suc, ◌<◌, Bool, true, false, List, [], ◌∷◌, ◌++◌, length, ap, sym, ◌∙◌, refl, arith, append_assoc}
-use Rattle.std.specs.Prelude.{◌||◌, not}
+use Rattle.std.proofs.Common.{◌≡◌, ◌≢◌, suc, ◌<◌, Bool, true, false, List, [], ◌∷◌, ◌++◌, map, length, get_or, ap, sym, ◌∙◌, refl, arith, append_assoc}
+use Rattle.std.specs.Prelude.{◌||◌, not, flat_map}
 use Rattle.std.specs.List.{list_any}
 use Rattle.std.proofs.lemmas.Bool.{and_right, true≢false, false≢true, cond-true, cond-false}
 use Rattle.ps_demand.specs.declared.join.Join.{Join}
+use Rattle.ps_demand.specs.declared.join.Join.TheVariants.{And}
 use Rattle.ps_demand.specs.Requirement.{Requirement, requirements, parts, group, same, same_parts}
-use Rattle.ps_demand.specs.Slim.{neutral, telling, gathered}
+use Rattle.ps_demand.specs.Passes.{slim_together}
+use Rattle.ps_demand.specs.Slim.{neutral, parts_within, telling, gathered, joined}
 
 -- lists of different lengths are not the same
 pub lengths_differ : (ds es : List Requirement) → length ds ≢ length es → same_parts (requirements ds) (requirements es) ≡ false
@@ -48,3 +50,23 @@ telling_less join d earlier ds h =
 pub parts_of_list : (ds : List Requirement) → parts (requirements ds) ≡ ds
 parts_of_list [] = refl
 parts_of_list (d ∷ ds) = ap (λ es. d ∷ es) (parts_of_list ds)
+
+-- with one part more, what is joined so far and what is left make the same whole
+pub within_more : (join : Join) (so_far more ds left whole : List Requirement) (d e : Requirement) → more ≡ so_far ++ parts_within join d → d ≡ e →
+    left ≡ e ∷ ds → so_far ++ flat_map (parts_within join) left ≡ whole → more ++ flat_map (parts_within join) ds ≡ whole
+within_more join so_far more ds left whole d e added is next before =
+    ap (λ es. es ++ flat_map (parts_within join) ds) (added ∙ ap (λ x. so_far ++ parts_within join x) is)
+    ∙ append_assoc so_far (parts_within join e) (flat_map (parts_within join) ds)
+    ∙ ap (λ es. so_far ++ flat_map (parts_within join) es) (sym next) ∙ before
+
+-- one part stands alone
+pub together_alone : {X : Type 0} (f : X → Requirement) (xs : List X) (x : X) → length xs ≡ 1 → f (get_or xs 0 x) ≡ slim_together (map f xs)
+together_alone f [] x h = absurd (omega arith)
+together_alone f (y ∷ []) x h = refl
+together_alone f (y ∷ z ∷ xs) x h = absurd (omega arith)
+
+-- parts other than one are joined
+pub together_joined : {X : Type 0} (f : X → Requirement) (xs : List X) → length xs ≢ 1 → joined And (map f xs) ≡ slim_together (map f xs)
+together_joined f [] h = refl
+together_joined f (x ∷ []) h = absurd (h refl)
+together_joined f (x ∷ y ∷ xs) h = refl

@@ -1,3 +1,4 @@
+pub mod EdmSteps
 pub mod SameEdmStates
 pub mod SameOutControlStates
 pub mod SameSafetyRequestStates

@@ -214,7 +214,6 @@ impl SafetyBlock for Edm {
         }
     }
 
-    #[tactic(auto, unfolding(ps_model::specs::Blocks::block, ps_model::specs::Blocks::latched, ps_model::specs::Blocks::outs))]
     fn step(state: &mut EdmState, pins: Pins) -> Outs {
         let seen = Seen::at(pins, state.since).with_reset(5, state.last_reset);
         let phase = state.phase.next(seen);

@@ -18,8 +18,9 @@ returns-clause-shows c =
     let s : GuardLockingState = record { phase = c.next-phase.result; since = c.if-ne.state.since; last_reset = c.pin-state.result } in
     let closed = sameb the_type c.next-phase.result ClosedUnlocked in
     let either : c.if-eq.from ≡ (sameb the_type c.next-phase.result OpenUnlocked || closed) = elim c.if-eq.branch [
-        then-eq w ↦ w.from-is ∙ w.if-eq.true ∙ ap (λ x. x || closed) (sym w.if-eq.true ∙ c.eq-2.ensures)
-      | else-eq w ↦ w.from-is ∙ w.eq-else-eq.ensures ∙ ap (λ x. x || closed) (sym w.if-eq.false ∙ c.eq-2.ensures) ] in
+      | then-eq w ↦ w.from-is ∙ w.if-eq.true ∙ ap (λ x. x || closed) (sym w.if-eq.true ∙ c.eq-2.ensures)
+      | else-eq w ↦ w.from-is ∙ w.eq-else-eq.ensures ∙ ap (λ x. x || closed) (sym w.if-eq.false ∙ c.eq-2.ensures)
+    ] in
     subst (λ o. Shows GuardLocking o (kept_of s)) (sym (c.of.ensures ∙ (λ i. shown_in (c.code.ensures.code i) ((c.from-locked.ensures ∙ ap bool_byte c.eq.ensures) i + 2 * (c.from-unlock.ensures ∙ ap bool_byte either) i)))) (guard_locking_shows s)
 
 pub returns-clause-moves : goal.returns-clause-moves
@@ -30,5 +31,6 @@ returns-clause-moves c =
     guard_locking_moves old c.args.pins.bits c.args.pins.limit now c.with_reset-seen.result s
     (c.with_reset-seen.ensures ∙ ap (λ x. with_reset x 7 old.last_reset) c.at.ensures) c.next-phase.ensures c.pin-state.ensures
     (elim c.if-ne.branch [
-        then-ne w ↦ ap (λ x. x.since) w.state-is ∙ ap (λ x. if not x && true then old.since else now) (sym w.if-ne.true ∙ c.ne.ensures)
-      | else-ne w ↦ ap (λ x. x.since) w.state-is ∙ ap (λ x. if not x && true then old.since else now) (sym w.if-ne.false ∙ c.ne.ensures) ])
+      | then-ne w ↦ ap (λ x. x.since) w.state-is ∙ ap (λ x. if not x && true then old.since else now) (sym w.if-ne.true ∙ c.ne.ensures)
+      | else-ne w ↦ ap (λ x. x.since) w.state-is ∙ ap (λ x. if not x && true then old.since else now) (sym w.if-ne.false ∙ c.ne.ensures)
+    ])

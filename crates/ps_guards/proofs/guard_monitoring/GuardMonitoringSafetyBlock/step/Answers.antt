@@ -23,5 +23,6 @@ returns-clause-moves c =
     guard_monitoring_moves old c.args.pins.bits c.args.pins.limit now c.with_reset-seen.result s
     (c.with_reset-seen.ensures ∙ ap (λ x. with_reset x 5 old.last_reset) c.at.ensures) c.next-phase.ensures c.pin-state.ensures
     (elim c.if-ne.branch [
-        then-ne w ↦ ap (λ x. x.since) w.state-is ∙ ap (λ x. if not x && true then old.since else now) (sym w.if-ne.true ∙ c.ne.ensures)
-      | else-ne w ↦ ap (λ x. x.since) w.state-is ∙ ap (λ x. if not x && true then old.since else now) (sym w.if-ne.false ∙ c.ne.ensures) ])
+      | then-ne w ↦ ap (λ x. x.since) w.state-is ∙ ap (λ x. if not x && true then old.since else now) (sym w.if-ne.true ∙ c.ne.ensures)
+      | else-ne w ↦ ap (λ x. x.since) w.state-is ∙ ap (λ x. if not x && true then old.since else now) (sym w.if-ne.false ∙ c.ne.ensures)
+    ])

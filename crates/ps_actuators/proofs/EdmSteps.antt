@@ -1,8 +1,7 @@
 -- What a step of SF_EDM keeps and shows.
 use Rattle.std.proofs.Common.{◌≡◌, ℕ, ◌-◌, ◌<◌, ◌^◌, Bool, true, false, refl, sym, ap, ◌∙◌, lit<}
-use Rattle.std.specs.Prelude.{◌==◌, ◌&&◌, not, nat_le, if◌then◌else◌}
-use Rattle.std.proofs.lemmas.Bool.Decides.{same_from_decides, Decides-eqb}
-use denote.Enum.Bare.{sameb, same_true, true_same}
+use Rattle.std.specs.Prelude.{◌&&◌, not, nat_le, if◌then◌else◌}
+use denote.Enum.Bare.{sameb}
 use mir.Val.{bool_byte}
 use Rattle.ps_model.specs.Table.{Conditions, row_at}
 use Rattle.ps_model.specs.Blocks.{block, next, outs, latched}
@@ -18,11 +17,7 @@ use Rattle.ps_actuators.specs.declared.monitoring.Phase.TheVariants.{Idle, Init,
 use Rattle.ps_actuators.specs.declared.monitoring.EdmState.{EdmState}
 use Rattle.ps_actuators.specs.EdmStates.{code_of, kept_of}
 use Rattle.ps_actuators.proofs.SameEdmStates.{same_phase}
-
-same_code : (p q : Phase) → (code_of p == code_of q) ≡ sameb the_type p q
-same_code p q =
-    let by_code = Decides-eqb (code_of p) (code_of q) in
-    same_from_decides {P = p ≡ q} _ _ (λ e. same_phase p q (by_code.0 e), λ e. by_code.1 (ap code_of e)) (same_true the_type tt p q, true_same the_type p q)
+use Rattle.ps_actuators.proofs.SameCodes.{same_code, not_not}
 
 outputs : (p : Phase) → shown 1 (shown_in (code_of p) (bool_byte (sameb the_type p Enabled))) ≡ outs Edm (code_of p) 0
 unfolding outs block
@@ -85,10 +80,6 @@ restarts ResetError32 c = refl
 restarts EdmError33 c = refl
 restarts ResetError33 c = refl
 
-not_not : (b : Bool) → not (not b) ≡ b
-not_not true = refl
-not_not false = refl
-
 pub edm_moves : (old : EdmState) (bits limit now : ℕ) (seen : Seen) (s : EdmState) →
     seen ≡ with_reset (seen_at bits (nat_le limit (now - old.since))) 5 old.last_reset →
     code_of s.phase ≡ next Edm (code_of old.phase) (conditions_of seen 0) → s.last_reset ≡ pin_of seen.bits 5 →
@@ -99,8 +90,9 @@ edm_moves old bits limit now seen s sees code reset since =
     let c = conditions_of (with_reset (seen_at bits (nat_le limit (now - old.since))) 5 old.last_reset) 0 in
     let to = code ∙ ap (λ x. next Edm (code_of old.phase) (conditions_of x 0)) sees in
     let last = reset ∙ ap (λ x. pin_of x.bits 5) sees in
-    let runs : s.since ≡ (if runs_on Edm (code_of old.phase) (code_of s.phase) c then old.since else now) =
+    let same = same_code the_type tt code_of same_phase s.phase old.phase in
+    let timer : s.since ≡ (if runs_on Edm (code_of old.phase) (code_of s.phase) c then old.since else now) =
     since ∙ (λ i. if not_not (sameb the_type s.phase old.phase) i && not (sameb the_type s.phase OutputDisabled && pin_of (sees i).bits 2 && pin_of (sees i).bits 3) then old.since else now)
-    ∙ sym (λ i. if same_code s.phase old.phase i && not (restarts s.phase c i) then old.since else now) in
-    let timer = runs ∙ ap (λ x. if runs_on Edm (code_of old.phase) x c then old.since else now) to in
-    λ i. record { code = to i; last_reset = last i; last_auxiliary = false; mode = 0; timer = timer i }
+    ∙ sym (λ i. if same i && not (restarts s.phase c i) then old.since else now) in
+    let renewed = timer ∙ ap (λ x. if runs_on Edm (code_of old.phase) x c then old.since else now) to in
+    λ i. record { code = to i; last_reset = last i; last_auxiliary = false; mode = 0; timer = renewed i }

@@ -30,21 +30,27 @@ returns-clause-moves c =
     edm_moves old c.args.pins.bits c.args.pins.limit now c.with_reset-seen.result s
     (c.with_reset-seen.ensures ∙ ap (λ x. with_reset x 5 old.last_reset) c.at.ensures) c.next-phase.ensures c.pin-state.ensures
     (elim c.if-ne.branch [
-        then-ne w ↦ elim w.then-ne.branch [
-            then-ne-via-then-ne w' ↦ ap (λ x. x.since) w.state-is ∙ ap (λ x. if not x && not again then old.since else now) (sym w'.if-ne.true ∙ c.ne.ensures)
-          | then-ne-via-else-ne+then-pin-2 w' ↦
+      | then-ne w ↦ elim w.then-ne.branch [
+        | then-ne-via-then-ne w' ↦ ap (λ x. x.since) w.state-is ∙ ap (λ x. if not x && not again then old.since else now) (sym w'.if-ne.true ∙ c.ne.ensures)
+        | then-ne-via-else-ne+then-pin-2 w' ↦
             let off : w'.if-eq.value ≡ (disabled && pin_of bits 2) = elim w'.if-eq.branch [
-                then-eq w'' ↦ w''.value-is ∙ w''.pin.ensures ∙ ap (λ x. x && pin_of bits 2) (sym w''.if-eq.true ∙ w'.eq.ensures)
-              | else-eq w'' ↦ w''.value-is ∙ w''.if-eq.false ∙ ap (λ x. x && pin_of bits 2) (sym w''.if-eq.false ∙ w'.eq.ensures) ] in
+              | then-eq w'' ↦ w''.value-is ∙ w''.pin.ensures ∙ ap (λ x. x && pin_of bits 2) (sym w''.if-eq.true ∙ w'.eq.ensures)
+              | else-eq w'' ↦ w''.value-is ∙ w''.if-eq.false ∙ ap (λ x. x && pin_of bits 2) (sym w''.if-eq.false ∙ w'.eq.ensures)
+            ] in
             let restarts : w'.if-pin.value ≡ again = elim w'.if-pin.branch [
-                then-pin w'' ↦ w''.value-is ∙ w''.pin-then-pin.ensures ∙ ap (λ x. x && pin_of bits 3) (sym w''.if-pin.true ∙ off)
-              | else-pin w'' ↦ w''.value-is ∙ w''.if-pin.false ∙ ap (λ x. x && pin_of bits 3) (sym w''.if-pin.false ∙ off) ] in
-            ap (λ x. x.since) w.state-is ∙ (λ i. if not ((sym w'.if-ne.false ∙ c.ne.ensures) i) && not ((sym w'.if-pin-2.true ∙ restarts) i) then old.since else now) ]
+              | then-pin w'' ↦ w''.value-is ∙ w''.pin-then-pin.ensures ∙ ap (λ x. x && pin_of bits 3) (sym w''.if-pin.true ∙ off)
+              | else-pin w'' ↦ w''.value-is ∙ w''.if-pin.false ∙ ap (λ x. x && pin_of bits 3) (sym w''.if-pin.false ∙ off)
+            ] in
+            ap (λ x. x.since) w.state-is ∙ (λ i. if not ((sym w'.if-ne.false ∙ c.ne.ensures) i) && not ((sym w'.if-pin-2.true ∙ restarts) i) then old.since else now)
+      ]
       | else-ne+else-pin-2 w ↦
-        let off : w.if-eq.value ≡ (disabled && pin_of bits 2) = elim w.if-eq.branch [
-            then-eq w' ↦ w'.value-is ∙ w'.pin.ensures ∙ ap (λ x. x && pin_of bits 2) (sym w'.if-eq.true ∙ w.eq.ensures)
-          | else-eq w' ↦ w'.value-is ∙ w'.if-eq.false ∙ ap (λ x. x && pin_of bits 2) (sym w'.if-eq.false ∙ w.eq.ensures) ] in
-        let restarts : w.if-pin.value ≡ again = elim w.if-pin.branch [
-            then-pin w' ↦ w'.value-is ∙ w'.pin-then-pin.ensures ∙ ap (λ x. x && pin_of bits 3) (sym w'.if-pin.true ∙ off)
-          | else-pin w' ↦ w'.value-is ∙ w'.if-pin.false ∙ ap (λ x. x && pin_of bits 3) (sym w'.if-pin.false ∙ off) ] in
-        ap (λ x. x.since) w.state-is ∙ (λ i. if not ((sym w.if-ne.false ∙ c.ne.ensures) i) && not ((sym w.if-pin-2.false ∙ restarts) i) then old.since else now) ])
+          let off : w.if-eq.value ≡ (disabled && pin_of bits 2) = elim w.if-eq.branch [
+            | then-eq w' ↦ w'.value-is ∙ w'.pin.ensures ∙ ap (λ x. x && pin_of bits 2) (sym w'.if-eq.true ∙ w.eq.ensures)
+            | else-eq w' ↦ w'.value-is ∙ w'.if-eq.false ∙ ap (λ x. x && pin_of bits 2) (sym w'.if-eq.false ∙ w.eq.ensures)
+          ] in
+          let restarts : w.if-pin.value ≡ again = elim w.if-pin.branch [
+            | then-pin w' ↦ w'.value-is ∙ w'.pin-then-pin.ensures ∙ ap (λ x. x && pin_of bits 3) (sym w'.if-pin.true ∙ off)
+            | else-pin w' ↦ w'.value-is ∙ w'.if-pin.false ∙ ap (λ x. x && pin_of bits 3) (sym w'.if-pin.false ∙ off)
+          ] in
+          ap (λ x. x.since) w.state-is ∙ (λ i. if not ((sym w.if-ne.false ∙ c.ne.ensures) i) && not ((sym w.if-pin-2.false ∙ restarts) i) then old.since else now)
+    ])

@@ -19,6 +19,7 @@ use Rattle.ps_actuators.specs.EdmStates.{code_of, kept_of}
 use Rattle.ps_actuators.proofs.SameEdmStates.{same_phase}
 use Rattle.ps_actuators.proofs.SameCodes.{same_code, not_not}
 
+-- the outputs are those of the state
 outputs : (p : Phase) → shown 1 (shown_in (code_of p) (bool_byte (sameb the_type p Enabled))) ≡ outs Edm (code_of p) 0
 unfolding outs block
 outputs Idle = refl
@@ -45,10 +46,12 @@ outputs ResetError32 = refl
 outputs EdmError33 = refl
 outputs ResetError33 = refl
 
+-- no further bit is set
 few : (b : Bool) → bool_byte b < 2 ^ 1
 few true = lit< tt
 few false = lit< tt
 
+-- a step shows its new state
 pub edm_shows : (s : EdmState) → Shows Edm (shown_in (code_of s.phase) (bool_byte (sameb the_type s.phase Enabled))) (kept_of s)
 unfolding block
 edm_shows s = record { outputs = outputs s.phase; no_more = few (sameb the_type s.phase Enabled); code = refl }
@@ -80,6 +83,7 @@ restarts ResetError32 c = refl
 restarts EdmError33 c = refl
 restarts ResetError33 c = refl
 
+-- a step keeps what the table makes of the old state
 pub edm_moves : (old : EdmState) (bits limit now : ℕ) (seen : Seen) (s : EdmState) →
     seen ≡ with_reset (seen_at bits (nat_le limit (now - old.since))) 5 old.last_reset →
     code_of s.phase ≡ next Edm (code_of old.phase) (conditions_of seen 0) → s.last_reset ≡ pin_of seen.bits 5 →

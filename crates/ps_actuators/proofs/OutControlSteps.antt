@@ -19,9 +19,11 @@ use Rattle.ps_actuators.specs.OutControlStates.{code_of, kept_of}
 use Rattle.ps_actuators.proofs.SameOutControlStates.{same_phase}
 use Rattle.ps_actuators.proofs.SameCodes.{same_code, not_not}
 
+-- the safe outputs of each state
 abbrev pub safe_of : Phase → ℕ
 safe_of p = bool_byte (sameb the_type p Enabled)
 
+-- the outputs are those of the state
 outputs : (p : Phase) → shown 1 (shown_in (code_of p) (safe_of p)) ≡ outs OutControl (code_of p) 0
 unfolding outs block
 outputs Idle = refl
@@ -34,6 +36,7 @@ outputs ControlError = refl
 outputs ResetError1 = refl
 outputs ResetError2 = refl
 
+-- no further bit is set
 few : (p : Phase) → safe_of p < 2 ^ 1
 few Idle = lit< tt
 few Init = lit< tt
@@ -45,6 +48,7 @@ few ControlError = lit< tt
 few ResetError1 = lit< tt
 few ResetError2 = lit< tt
 
+-- a step shows its new state
 pub out_control_shows : (s : OutControlState) → Shows OutControl (shown_in (code_of s.phase) (safe_of s.phase)) (kept_of s)
 unfolding block
 out_control_shows s = record { outputs = outputs s.phase; no_more = few s.phase; code = refl }
@@ -62,6 +66,7 @@ restarts ControlError c = refl
 restarts ResetError1 c = refl
 restarts ResetError2 c = refl
 
+-- a step keeps what the table makes of the old state
 pub out_control_moves : (old : OutControlState) (bits limit now : ℕ) (seen : Seen) (s : OutControlState) →
     seen ≡ with_auxiliary (with_reset (seen_at bits (nat_le limit (now - old.since))) 6 old.last_reset) 2 old.last_process →
     code_of s.phase ≡ next OutControl (code_of old.phase) (conditions_of seen 0) → s.last_reset ≡ pin_of seen.bits 6 → s.last_process ≡ pin_of seen.bits 2 →

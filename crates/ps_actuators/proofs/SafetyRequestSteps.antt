@@ -19,9 +19,11 @@ use Rattle.ps_actuators.specs.SafetyRequestStates.{code_of, kept_of}
 use Rattle.ps_actuators.proofs.SameSafetyRequestStates.{same_phase}
 use Rattle.ps_actuators.proofs.SameCodes.{same_code, not_not}
 
+-- the safe outputs of each state
 abbrev pub safe_of : Phase → ℕ
 safe_of p = bool_byte (sameb the_type p Safe) + 2 * bool_byte (sameb the_type p Operation)
 
+-- the outputs are those of the state
 outputs : (p : Phase) → shown 2 (shown_in (code_of p) (safe_of p)) ≡ outs SafetyRequest (code_of p) 0
 unfolding outs block
 outputs Idle = refl
@@ -36,6 +38,7 @@ outputs ResetError2 = refl
 outputs ResetError3 = refl
 outputs WaitForOperation = refl
 
+-- no further bit is set
 few : (p : Phase) → safe_of p < 2 ^ 2
 few Idle = lit< tt
 few Init = lit< tt
@@ -49,6 +52,7 @@ few ResetError2 = lit< tt
 few ResetError3 = lit< tt
 few WaitForOperation = lit< tt
 
+-- a step shows its new state
 pub safety_request_shows : (s : SafetyRequestState) → Shows SafetyRequest (shown_in (code_of s.phase) (safe_of s.phase)) (kept_of s)
 unfolding block
 safety_request_shows s = record { outputs = outputs s.phase; no_more = few s.phase; code = refl }
@@ -68,6 +72,7 @@ restarts ResetError2 c = refl
 restarts ResetError3 c = refl
 restarts WaitForOperation c = refl
 
+-- a step keeps what the table makes of the old state
 pub safety_request_moves : (old : SafetyRequestState) (bits limit now : ℕ) (seen : Seen) (s : SafetyRequestState) →
     seen ≡ with_reset (seen_at bits (nat_le limit (now - old.since))) 3 old.last_reset →
     code_of s.phase ≡ next SafetyRequest (code_of old.phase) (conditions_of seen 0) → s.last_reset ≡ pin_of seen.bits 3 →

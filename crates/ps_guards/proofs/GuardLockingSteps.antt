@@ -19,9 +19,11 @@ use Rattle.ps_guards.specs.GuardLockingStates.{code_of, kept_of}
 use Rattle.ps_guards.proofs.SameGuardLockingStates.{same_phase}
 use Rattle.ps_guards.proofs.SameCodes.{same_code, not_not}
 
+-- the safe outputs of each state
 abbrev pub safe_of : Phase → ℕ
 safe_of p = bool_byte (sameb the_type p Locked) + 2 * bool_byte (sameb the_type p OpenUnlocked || sameb the_type p ClosedUnlocked)
 
+-- the outputs are those of the state
 outputs : (p : Phase) → shown 2 (shown_in (code_of p) (safe_of p)) ≡ outs GuardLocking (code_of p) 0
 unfolding outs block
 outputs Idle = refl
@@ -37,6 +39,7 @@ outputs ResetError2 = refl
 outputs ResetError3 = refl
 outputs SafetyLost = refl
 
+-- no further bit is set
 few : (p : Phase) → safe_of p < 2 ^ 2
 few Idle = lit< tt
 few Init = lit< tt
@@ -51,6 +54,7 @@ few ResetError2 = lit< tt
 few ResetError3 = lit< tt
 few SafetyLost = lit< tt
 
+-- a step shows its new state
 pub guard_locking_shows : (s : GuardLockingState) → Shows GuardLocking (shown_in (code_of s.phase) (safe_of s.phase)) (kept_of s)
 unfolding block
 guard_locking_shows s = record { outputs = outputs s.phase; no_more = few s.phase; code = refl }
@@ -71,6 +75,7 @@ restarts ResetError2 c = refl
 restarts ResetError3 c = refl
 restarts SafetyLost c = refl
 
+-- a step keeps what the table makes of the old state
 pub guard_locking_moves : (old : GuardLockingState) (bits limit now : ℕ) (seen : Seen) (s : GuardLockingState) →
     seen ≡ with_reset (seen_at bits (nat_le limit (now - old.since))) 7 old.last_reset →
     code_of s.phase ≡ next GuardLocking (code_of old.phase) (conditions_of seen 0) → s.last_reset ≡ pin_of seen.bits 7 →

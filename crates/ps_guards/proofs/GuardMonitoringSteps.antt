@@ -19,9 +19,11 @@ use Rattle.ps_guards.specs.GuardMonitoringStates.{code_of, kept_of}
 use Rattle.ps_guards.proofs.SameGuardMonitoringStates.{same_phase}
 use Rattle.ps_guards.proofs.SameCodes.{same_code, not_not}
 
+-- the safe outputs of each state
 abbrev pub safe_of : Phase → ℕ
 safe_of p = bool_byte (sameb the_type p Enabled)
 
+-- the outputs are those of the state
 outputs : (p : Phase) → shown 1 (shown_in (code_of p) (safe_of p)) ≡ outs GuardMonitoring (code_of p) 0
 unfolding outs block
 outputs Idle = refl
@@ -37,6 +39,7 @@ outputs ResetError = refl
 outputs DiscrepancyError1 = refl
 outputs DiscrepancyError2 = refl
 
+-- no further bit is set
 few : (p : Phase) → safe_of p < 2 ^ 1
 few Idle = lit< tt
 few Init = lit< tt
@@ -51,6 +54,7 @@ few ResetError = lit< tt
 few DiscrepancyError1 = lit< tt
 few DiscrepancyError2 = lit< tt
 
+-- a step shows its new state
 pub guard_monitoring_shows : (s : GuardMonitoringState) → Shows GuardMonitoring (shown_in (code_of s.phase) (safe_of s.phase)) (kept_of s)
 unfolding block
 guard_monitoring_shows s = record { outputs = outputs s.phase; no_more = few s.phase; code = refl }
@@ -71,6 +75,7 @@ restarts ResetError c = refl
 restarts DiscrepancyError1 c = refl
 restarts DiscrepancyError2 c = refl
 
+-- a step keeps what the table makes of the old state
 pub guard_monitoring_moves : (old : GuardMonitoringState) (bits limit now : ℕ) (seen : Seen) (s : GuardMonitoringState) →
     seen ≡ with_reset (seen_at bits (nat_le limit (now - old.since))) 5 old.last_reset →
     code_of s.phase ≡ next GuardMonitoring (code_of old.phase) (conditions_of seen 0) → s.last_reset ≡ pin_of seen.bits 5 →

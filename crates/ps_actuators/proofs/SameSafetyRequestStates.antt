@@ -24,7 +24,11 @@ found_by_code ResetError2 = refl
 found_by_code ResetError3 = refl
 found_by_code WaitForOperation = refl
 
+-- two states of the table with one code are one
+pub same_phase : (p q : Phase) → code_of p ≡ code_of q → p ≡ q
+same_phase = same_state code_of phases found_by_code
+
 pub same_kept : (s s' : SafetyRequestState) → kept_of s ≡ kept_of s' → s ≡ s'
 same_kept s s' e =
-    let phase : s.phase ≡ s'.phase = same_state code_of phases found_by_code s.phase s'.phase (ap (λ (k : Kept). k.code) e) in
+    let phase : s.phase ≡ s'.phase = same_phase s.phase s'.phase (ap (λ (k : Kept). k.code) e) in
     λ i. record { phase = phase i; since = (e i).timer; last_reset = (e i).last_reset }

@@ -214,7 +214,6 @@ impl SafetyBlock for Edm {
         }
     }
 
-    #[tactic(auto, unfolding(ps_model::specs::Blocks::block, ps_model::specs::Blocks::latched, ps_model::specs::Blocks::outs))]
     fn step(state: &mut EdmState, pins: Pins) -> Outs {
         let seen = Seen::at(pins, state.since).with_reset(5, state.last_reset);
         let phase = state.phase.next(seen);
@@ -237,7 +236,6 @@ impl SafetyBlock for Edm {
         image.write(into);
     }
 
-    #[tactic(auto, using(crate::proofs::SameEdmStates::same_kept, ps_block::proofs::Loading::loads_from, ps_block::proofs::Loading::no_state, ps_block::proofs::Loading::not_last), unfolding(ps_model::specs::Blocks::block))]
     fn load(from: &[u8; 16]) -> Option<EdmState> {
         let image = Image::read(Kind::Edm, from)?;
         let phase = Phase::with_code(image.code)?;

@@ -133,7 +133,6 @@ impl SafetyBlock for OutControl {
         }
     }
 
-    #[tactic(auto, unfolding(ps_model::specs::Blocks::block, ps_model::specs::Blocks::latched, ps_model::specs::Blocks::outs))]
     fn step(state: &mut OutControlState, pins: Pins) -> Outs {
         let seen = Seen::at(pins, state.since)
             .with_reset(6, state.last_reset)
@@ -159,7 +158,6 @@ impl SafetyBlock for OutControl {
         image.write(into);
     }
 
-    #[tactic(auto, using(crate::proofs::SameOutControlStates::same_kept, ps_block::proofs::Loading::loads_from, ps_block::proofs::Loading::no_state, ps_block::proofs::Loading::not_last), unfolding(ps_model::specs::Blocks::block))]
     fn load(from: &[u8; 16]) -> Option<OutControlState> {
         let image = Image::read(Kind::OutControl, from)?;
         let phase = Phase::with_code(image.code)?;

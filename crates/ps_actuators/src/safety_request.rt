@@ -136,7 +136,6 @@ impl SafetyBlock for SafetyRequest {
         }
     }
 
-    #[tactic(auto, unfolding(ps_model::specs::Blocks::block, ps_model::specs::Blocks::latched, ps_model::specs::Blocks::outs))]
     fn step(state: &mut SafetyRequestState, pins: Pins) -> Outs {
         let seen = Seen::at(pins, state.since).with_reset(3, state.last_reset);
         let phase = state.phase.next(seen);
@@ -161,7 +160,6 @@ impl SafetyBlock for SafetyRequest {
         image.write(into);
     }
 
-    #[tactic(auto, using(crate::proofs::SameSafetyRequestStates::same_kept, ps_block::proofs::Loading::loads_from, ps_block::proofs::Loading::no_state, ps_block::proofs::Loading::not_last), unfolding(ps_model::specs::Blocks::block))]
     fn load(from: &[u8; 16]) -> Option<SafetyRequestState> {
         let image = Image::read(Kind::SafetyRequest, from)?;
         let phase = Phase::with_code(image.code)?;

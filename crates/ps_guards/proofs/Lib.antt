@@ -1,2 +1,5 @@
+pub mod GuardLockingSteps
+pub mod GuardMonitoringSteps
+pub mod SameCodes
 pub mod SameGuardLockingStates
 pub mod SameGuardMonitoringStates

@@ -149,7 +149,6 @@ impl SafetyBlock for GuardLocking {
         }
     }
 
-    #[tactic(auto, unfolding(ps_model::specs::Blocks::block, ps_model::specs::Blocks::latched, ps_model::specs::Blocks::outs))]
     fn step(state: &mut GuardLockingState, pins: Pins) -> Outs {
         let seen = Seen::at(pins, state.since).with_reset(7, state.last_reset);
         let phase = state.phase.next(seen);
@@ -174,7 +173,6 @@ impl SafetyBlock for GuardLocking {
         image.write(into);
     }
 
-    #[tactic(auto, using(crate::proofs::SameGuardLockingStates::same_kept, ps_block::proofs::Loading::loads_from, ps_block::proofs::Loading::no_state, ps_block::proofs::Loading::not_last), unfolding(ps_model::specs::Blocks::block))]
     fn load(from: &[u8; 16]) -> Option<GuardLockingState> {
         let image = Image::read(Kind::GuardLocking, from)?;
         let phase = Phase::with_code(image.code)?;

@@ -198,20 +198,17 @@ impl Instances {
         ensures pushed { OnOk result (self.new ≡ self.old ++ instance ∷ []) }
         ensures refused { OnErr result (self.new ≡ self.old) }
     {
+        let place = self.items.len();
+        let kind = instance.kind;
         let first = self.types.len();
-        let owned = self.owners.len();
-        push_outputs(
-            &mut self.types,
-            &mut self.owners,
-            instance.kind,
-            self.items.len(),
-        )?;
-        if self.items.push(Placed { instance, first }).is_err() {
-            self.types.truncate(first);
-            self.owners.truncate(owned);
-            return Err(Memory);
+        self.items.push(Placed { instance, first })?;
+        match push_outputs(&mut self.types, &mut self.owners, kind, place) {
+            Ok(()) => Ok(()),
+            Err(wanting) => {
+                self.items.truncate(place);
+                Err(wanting)
+            }
         }
-        Ok(())
     }
 
     /// How many there are.

@@ -158,23 +158,21 @@ impl Steps {
         ensures pushed { OnOk result (self.new ≡ self.old ++ action step ∷ []) }
         ensures refused { OnErr result (self.new ≡ self.old) }
     {
-        let kept = self.nodes.len();
-        let mut nodes = Vec::new(*self.nodes.allocator());
-        write_step(&step, &mut nodes)?;
-        make_room_for_step(&step, &mut self.assigning, &mut self.calling)?;
-        self.nodes.extend_from_slice(&nodes)?;
         let place = self.items.len();
-        if self.items.push(step).is_err() {
-            self.nodes.truncate(kept);
-            return Err(Memory);
-        }
-        note_step(
+        self.items.push(step)?;
+        match write_beside(
             &self.items[place],
             place,
+            &mut self.nodes,
             &mut self.assigning,
             &mut self.calling,
-        );
-        Ok(())
+        ) {
+            Ok(()) => Ok(()),
+            Err(wanting) => {
+                self.items.truncate(place);
+                Err(wanting)
+            }
+        }
     }
 
     /// How many there are.
@@ -214,7 +212,7 @@ impl Steps {
     }
 }
 
-ghost use Rattle.std.specs.Prelude.{◌≡◌, ℕ, ◌++◌, OnOk, flat_map};
+ghost use Rattle.std.specs.Prelude.{◌≡◌, ℕ, ◌++◌, OnOk, OnErr, flat_map};
 ghost use Rattle.ps_model.specs.FirstSteps.{step_noted, with_step, is_assignment_to, is_call, HasRoomFor};
 ghost use Rattle.ps_model.specs.Args.{actual};
 ghost use Rattle.ps_model.specs.Steps.{action};
@@ -281,4 +279,28 @@ fn note_step(
         Step::Assign { target, .. } => note(assigning, *target, place),
         Step::Call { instance, .. } => note(calling, *instance, place),
     }
+}
+
+// Keeps beside the steps what one more at the end gives: its nodes, and its place as the first that assigns a signal or calls
+// an instance. Where memory is wanting, what is kept stays.
+fn write_beside(
+    step: &Step,
+    place: usize,
+    list: &mut Vec<Node>,
+    assigning: &mut Vec<Option<usize>>,
+    calling: &mut Vec<Option<usize>>,
+) -> Result<(), Memory>
+    ensures listed { OnOk result (list.new.items ≡ list.old.items ++ listed_of_step (action step.now)) }
+    ensures assigning { OnOk result ((n : ℕ) → step_noted assigning.new.items n ≡ with_step (is_assignment_to n (action step.now)) place (step_noted assigning.old.items n)) }
+    ensures calling { OnOk result ((n : ℕ) → step_noted calling.new.items n ≡ with_step (is_call n (action step.now)) place (step_noted calling.old.items n)) }
+    ensures list_kept { OnErr result (list.new.items ≡ list.old.items) }
+    ensures assigning_kept { OnErr result ((n : ℕ) → step_noted assigning.new.items n ≡ step_noted assigning.old.items n) }
+    ensures calling_kept { OnErr result ((n : ℕ) → step_noted calling.new.items n ≡ step_noted calling.old.items n) }
+{
+    let mut nodes = Vec::new(*list.allocator());
+    write_step(step, &mut nodes)?;
+    make_room_for_step(step, assigning, calling)?;
+    list.extend_from_slice(&nodes)?;
+    note_step(step, place, assigning, calling);
+    Ok(())
 }

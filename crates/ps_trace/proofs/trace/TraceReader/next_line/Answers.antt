@@ -198,9 +198,11 @@ returns-in-Scan g c =
       refused = λ refusal same. absurd (answer_or_stop _ _ same);
       «open» = c.take_line.ensures.refusal ∙ c.requires.open;
       moves = λ same. absurd (item_or_none _ same);
-      fills = λ next same. subst (λ (n : Next). Fills n old new c.args.into.now c.take_line.new.into) (same_item NextScan next same)
-          (ap (λ (s : Scan). length s.ins) filled ∙ length-map old.places.items (λ place. slice_index_or new.values.items place false) ∙ sym c.requires.sizes,
-          subst (λ (n : ℕ). old.last ≤ n) (sym (ap (λ (s : Scan). s.now) filled)) (c.take_line.ensures.rises now c.in-Scan.is), time ∙ sym (ap (λ (s : Scan). s.now) filled));
+      fills = λ next same. subst (λ (n : Next). Fills n old new c.args.into.now c.take_line.new.into) (same_item NextScan next same) (
+        ap (λ (s : Scan). length s.ins) filled ∙ length-map old.places.items (λ place. slice_index_or new.values.items place false) ∙ sym c.requires.sizes,
+        subst (λ (n : ℕ). old.last ≤ n) (sym (ap (λ (s : Scan). s.now) filled)) (c.take_line.ensures.rises now c.in-Scan.is),
+        time ∙ sym (ap (λ (s : Scan). s.now) filled),
+      );
       goes_on = λ next same. subst (λ (n : Next). GoesOn n old new) (same_item NextScan next same) (ahead, new.near);
       skipped = λ same. absurd (item_or_none _ same);
       skipped_time = λ same. absurd (item_or_none _ same);

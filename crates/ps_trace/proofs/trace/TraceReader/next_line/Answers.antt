@@ -3,7 +3,6 @@ use Rattle.std.proofs.lemmas.List.{length-map}
 use Rattle.std.specs.Result.{IsErrOf}
 use Rattle.ps_base.specs.declared.failing.Refusal.{Refusal}
 use Rattle.ps_base.specs.declared.failing.Rule.{Rule}
-use Rattle.ps_base.specs.declared.limits.TheConstants.{LARGEST_TRACE}
 use Rattle.ps_lines.specs.Lines.{Line}
 use Rattle.ps_lines.specs.Reader.{IsReading, name_of, left, line_of, begin_of}
 use Rattle.ps_lines.specs.declared.reader.LineReader.{LineReader}

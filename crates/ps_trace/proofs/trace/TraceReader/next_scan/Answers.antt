@@ -1,4 +1,4 @@
-use Rattle.std.proofs.Common.{◌≡◌, ◌≤◌, ◌∙◌, ℕ, List, Option, Result, Ok, Err, Some, None, IsTrue, length, subst, sym, ap, arith}
+use Rattle.std.proofs.Common.{◌≡◌, ◌≤◌, ◌∙◌, ℕ, List, Option, Result, Ok, Err, Some, IsTrue, length, subst, sym, ap, arith}
 use Rattle.ps_base.specs.declared.failing.Refusal.{Refusal}
 use Rattle.ps_trace.specs.Reading.{Comes, Fills, items_left, last_of}
 use Rattle.ps_trace.specs.Scans.{Scans}

@@ -17,7 +17,7 @@ use Rattle.ps_actuators.specs.declared.monitoring.Phase.TheVariants.{Idle, Init,
 use Rattle.ps_actuators.specs.declared.monitoring.EdmState.{EdmState}
 use Rattle.ps_actuators.specs.EdmStates.{code_of, kept_of}
 use Rattle.ps_actuators.proofs.SameEdmStates.{same_phase}
-use Rattle.ps_actuators.proofs.SameCodes.{same_code, not_not}
+use Rattle.ps_block.proofs.SameCodes.{same_code, not_not}
 
 -- the outputs are those of the state
 outputs : (p : Phase) → shown 1 (shown_in (code_of p) (bool_byte (sameb the_type p Enabled))) ≡ outs Edm (code_of p) 0

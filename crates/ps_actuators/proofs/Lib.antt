@@ -1,7 +1,6 @@
 pub mod EdmSteps
 pub mod OutControlSteps
 pub mod SafetyRequestSteps
-pub mod SameCodes
 pub mod SameEdmStates
 pub mod SameOutControlStates
 pub mod SameSafetyRequestStates

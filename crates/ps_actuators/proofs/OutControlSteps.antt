@@ -17,7 +17,7 @@ use Rattle.ps_actuators.specs.declared.out_control.Phase.TheVariants.{Idle, Init
 use Rattle.ps_actuators.specs.declared.out_control.OutControlState.{OutControlState}
 use Rattle.ps_actuators.specs.OutControlStates.{code_of, kept_of}
 use Rattle.ps_actuators.proofs.SameOutControlStates.{same_phase}
-use Rattle.ps_actuators.proofs.SameCodes.{same_code, not_not}
+use Rattle.ps_block.proofs.SameCodes.{same_code, not_not}
 
 -- the safe outputs of each state
 abbrev pub safe_of : Phase → ℕ

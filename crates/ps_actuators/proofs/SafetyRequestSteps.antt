@@ -17,7 +17,7 @@ use Rattle.ps_actuators.specs.declared.safety_request.Phase.TheVariants.{Idle, I
 use Rattle.ps_actuators.specs.declared.safety_request.SafetyRequestState.{SafetyRequestState}
 use Rattle.ps_actuators.specs.SafetyRequestStates.{code_of, kept_of}
 use Rattle.ps_actuators.proofs.SameSafetyRequestStates.{same_phase}
-use Rattle.ps_actuators.proofs.SameCodes.{same_code, not_not}
+use Rattle.ps_block.proofs.SameCodes.{same_code, not_not}
 
 -- the safe outputs of each state
 abbrev pub safe_of : Phase → ℕ

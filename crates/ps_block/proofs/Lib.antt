@@ -1,5 +1,6 @@
 pub mod Loading
 pub mod Codes
+pub mod SameCodes
 pub mod Showing
 pub mod Zeros
 pub mod Reading

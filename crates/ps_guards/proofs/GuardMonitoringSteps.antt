@@ -17,7 +17,7 @@ use Rattle.ps_guards.specs.declared.guard_monitoring.Phase.TheVariants.{Idle, In
 use Rattle.ps_guards.specs.declared.guard_monitoring.GuardMonitoringState.{GuardMonitoringState}
 use Rattle.ps_guards.specs.GuardMonitoringStates.{code_of, kept_of}
 use Rattle.ps_guards.proofs.SameGuardMonitoringStates.{same_phase}
-use Rattle.ps_guards.proofs.SameCodes.{same_code, not_not}
+use Rattle.ps_block.proofs.SameCodes.{same_code, not_not}
 
 -- the safe outputs of each state
 abbrev pub safe_of : Phase → ℕ

@@ -11,7 +11,7 @@ use ps_base::limits::{
 use ps_words::Command;
 
 /// The texts that a call is given.
-#[derive(Clone, Copy, Debug, PartialEq, Eq)]
+#[derive(Clone, Copy, PartialEq, Eq)]
 pub(crate) enum Spoken {
     App,
     Cert,

@@ -43,7 +43,7 @@ pub enum Unread {
 }
 
 // What is wrong with a file, and what helps.
-#[derive(Clone, Copy, Debug, PartialEq, Eq)]
+#[derive(Clone, Copy, PartialEq, Eq)]
 struct OfFile {
     wrong: &'static str,
     remedy: &'static str,

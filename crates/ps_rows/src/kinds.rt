@@ -12,7 +12,7 @@ use crate::view::pin;
 use ps_model::Kind;
 
 // What the table says of a kind.
-#[derive(Clone, Copy, PartialEq, Eq, Debug)]
+#[derive(Clone, Copy, PartialEq, Eq)]
 pub(crate) struct KindEntry {
     // The kind.
     pub kind: Kind,

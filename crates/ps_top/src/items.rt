@@ -18,7 +18,7 @@ use ps_trace::{Next, TraceReader, TraceStop};
 use std::alloc::Global;
 
 /// Why the items of a trace were not all done.
-#[derive(Clone, Copy, Debug, PartialEq, Eq)]
+#[derive(Clone, Copy, PartialEq, Eq)]
 pub(crate) enum Cut {
     /// A line is refused.
     Refused(Refusal),

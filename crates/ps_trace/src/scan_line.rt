@@ -11,7 +11,7 @@ use crate::words::{first_field, next_word, number};
 use ps_base::Rule;
 
 // What a line says. A scan's values are written aside.
-#[derive(Clone, Copy, Debug, PartialEq, Eq)]
+#[derive(Clone, Copy, PartialEq, Eq)]
 pub(crate) enum LineSays {
     Nothing,
     Restart,

@@ -29,6 +29,11 @@ fn is_quiet<R: Env + AllocGlobal>(system: &R) -> bool {
     }
 }
 
+// Whether the words are those of `check`, of which alone something is told where all was done.
+fn asks_check(words: &Words) -> bool {
+    words.len() > 0 && words.at(0).as_str() == "check"
+}
+
 // A text of this name, which is read anew for a message. It is empty where it cannot be.
 fn text_of<R: rt::Files>(system: &R, alloc: Global, name: &str, spoken: Spoken) -> Bytes {
     let mut files = DiskFiles::new(system);
@@ -180,7 +185,7 @@ pub(crate) fn tell<R: Env + rt::Files + Eprint + AllocGlobal>(
     left: &Left,
     is_closed: bool,
 ) {
-    if is_quiet(system) {
+    if is_quiet(system) || (status == Status::Done && !asks_check(words)) {
         return;
     }
     let alloc = system.alloc();

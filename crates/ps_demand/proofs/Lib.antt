@@ -16,3 +16,4 @@ pub mod Slimmed
 pub mod PinPlaces
 pub mod Writing
 pub mod Lined
+pub mod SafeLeaves

@@ -5,6 +5,7 @@ pub mod Slim
 pub mod Texts
 pub mod Lines
 pub mod Laws
+pub mod Leaves
 -- Apparatus: how the program's formulas are seen, and what its passes keep for each signal.
 pub mod Answering
 pub mod Views

@@ -1,6 +1,7 @@
 // Laws of demands.
 
 ghost use Rattle.ps_model.specs.Typing.{Accepted};
+ghost use Rattle.ps_demand.specs.Leaves.{LeavesAreSafe};
 ghost use Rattle.ps_demand.specs.Laws.{ValuesMeetDemands, ScansMeetDemands, RunsMeetDemands, SlimHoldsTheSame};
 
 use ps_model::App;
@@ -36,3 +37,9 @@ pub fn runs_meet_demands(app: &App)
     app.sound();
     each_demands();
 }
+
+/// In an accepted application every leaf of the demand of a safe value or a safe signal is SAFEBOOL, of the slim demand too. So nothing
+/// that an output demands is a BOOL signal.
+pub fn leaves_are_safe(app: &App)
+    ensures { Accepted app.now → LeavesAreSafe app.now }
+{}

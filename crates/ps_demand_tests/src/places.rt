@@ -1,8 +1,8 @@
 // Where the rule M1 refuses a text: in the order of the rules, and at which place.
 
 use ps_base::{Memory, Place, Rule};
-use ps_outside::MemFiles;
-use ps_source::{NoApplication, read_demanded};
+use ps_outside::{MemFiles, TextFail};
+use ps_source::read_demanded;
 use std::alloc::Global;
 use std::test::Fail;
 
@@ -12,11 +12,11 @@ fn refusal_of(alloc: Global, text: &str) -> Result<Option<(Rule, u32, u32)>, Mem
     files.put("A", text.as_bytes())?;
     match read_demanded(alloc, "A", &mut files) {
         Ok(_) => Ok(None),
-        Err(NoApplication::Refused(refusal)) => {
+        Err(TextFail::Refused(refusal)) => {
             let Place { line, column } = refusal.place;
             Ok(Some((refusal.rule, line, column)))
         }
-        Err(NoApplication::Memory | NoApplication::Fault) => Err(Memory),
+        Err(TextFail::Memory | TextFail::Fault) => Err(Memory),
     }
 }
 

@@ -10,4 +10,4 @@
 mod feeds;
 mod reader;
 
-pub use reader::{Got, Limits, LineReader, ReadFailed};
+pub use reader::{Got, Limits, LineReader};

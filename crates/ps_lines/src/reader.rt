@@ -1,7 +1,7 @@
 // The reader of lines. It holds one piece of the file, and a line that several pieces make up.
 
 ghost use Rattle.std.specs.Prelude.{◌≡◌, ◌≤◌, ◌<◌, ◌+◌, ◌-◌, ◌++◌, ℕ, List, IsTrue, Some, IsSome, OnOk, OnSome, take, length, vec_len, IfOk, OnErr, IfSome, IfNone, slice_index, true, false};
-ghost use Rattle.ps_outside.specs.Outside.{Rose};
+ghost use Rattle.ps_outside.specs.Outside.{Rose, CountsStay};
 ghost use Rattle.std.specs.Str.Lines.{strip_carriage_return};
 ghost use Rattle.ps_lines.specs.Lines.{HasNoLineFeed};
 
@@ -12,10 +12,6 @@ use std::alloc::Global;
 
 // How many bytes are read at a time.
 const PIECE: usize = 4096;
-
-/// A read that failed. A later call goes on with the same line.
-#[derive(Clone, Copy, Debug, PartialEq, Eq)]
-pub struct ReadFailed;
 
 /// The limits of a text, in bytes.
 #[derive(Clone, Copy, Debug, PartialEq, Eq)]
@@ -124,13 +120,15 @@ impl LineReader {
         }
     }
 
-    /// The next line. After a `ReadFailed` a later call goes on with the same line. It takes no memory.
+    /// The next line. `Failed` comes only where the files' count of the name rose in this call, at the one read that
+    /// failed, and a later call goes on with the same line; where a line comes the counts are as they were. It takes
+    /// no memory.
     ///
     /// It reads in pieces, only while the bytes that are held contain no whole line, and goes on after a read that
     /// gave less than was asked for. A line that is too long is read on without being kept, up to its line feed, the
     /// text's end or a byte past the largest text.
     #[inline(always)]
-    pub fn next_line<F: Files>(&mut self, files: &mut F) -> Result<Got, ReadFailed>
+    pub fn next_line<F: Files>(&mut self, files: &mut F) -> Result<Got, Failed>
         ensures reads { IsTrue (F.tells files.old) → (text : List ℕ) → F.held files.old (name_of self.old) ≡ Some text →
             IsReading self.old text → IsReading self.new text }
         ensures gives { IsTrue (F.tells files.old) → (text : List ℕ) → F.held files.old (name_of self.old) ≡ Some text →
@@ -146,6 +144,7 @@ impl LineReader {
         ensures behind { begin_of self.old ≤ begin_of self.new }
         ensures within { begin_of self.new ≤ (limits_of self.new).largest }
         ensures fault { OnErr result (Rose (F.faults files.old (name_of self.old)) (F.faults files.new (name_of self.old))) }
+        ensures exact { OnOk result (CountsStay (F.faults files.old) (F.faults files.new)) }
 
         ensures counts { (other : List ℕ) → F.faults files.old other ≤ F.faults files.new other }
         ensures kept { F.held files.new ≡ F.held files.old }
@@ -165,7 +164,7 @@ impl LineReader {
 
     // Reads the next piece. Most lines want none, so this stands apart from them.
     #[inline(never)]
-    fn fetch<F: Files>(&mut self, files: &mut F) -> Result<usize, ReadFailed>
+    fn fetch<F: Files>(&mut self, files: &mut F) -> Result<usize, Failed>
         requires all_looked_at { self.old.from ≡ self.old.upto }
         requires not_large { self.old.at ≤ self.old.limits.largest }
         ensures reads { IsTrue (F.tells files.old) → (text : List ℕ) → F.held files.old (name_of self.old) ≡ Some text →
@@ -178,6 +177,7 @@ impl LineReader {
         ensures nothing { IfOk result (λ n. n ≡ 0 → self.new.from ≡ self.new.upto) }
         ensures nothing_read { OnErr result (self.new.at ≡ self.old.at) }
         ensures fault { OnErr result (Rose (F.faults files.old (name_of self.old)) (F.faults files.new (name_of self.old))) }
+        ensures exact { OnOk result (CountsStay (F.faults files.old) (F.faults files.new)) }
         ensures counts { (other : List ℕ) → F.faults files.old other ≤ F.faults files.new other }
         ensures kept { F.held files.new ≡ F.held files.old }
         ensures telling { F.tells files.new ≡ F.tells files.old }
@@ -186,14 +186,10 @@ impl LineReader {
     {
         self.from = 0;
         self.upto = 0;
-        match files.read_at(self.name.as_str(), self.at, &mut self.piece) {
-            Ok(n) => {
-                self.at += n as u64;
-                self.upto = n;
-                Ok(n)
-            }
-            Err(Failed) => Err(ReadFailed),
-        }
+        let n = files.read_at(self.name.as_str(), self.at, &mut self.piece)?;
+        self.at += n as u64;
+        self.upto = n;
+        Ok(n)
     }
 
     // The text ends.

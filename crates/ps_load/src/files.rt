@@ -2,7 +2,7 @@
 
 ghost use Rattle.std.specs.Prelude.{◌≡◌, ◌≤◌, ◌+◌, ◌-◌, true, ℕ, List, Some, IsSome, IsNone, IsErr, IfOk, OnOk, OnErr, ◌↔◌, length, min};
 ghost use Rattle.ps_load.specs.Holding.{held_of, faults_of};
-ghost use Rattle.ps_outside.specs.Outside.{Rose, Reads, last_count};
+ghost use Rattle.ps_outside.specs.Outside.{Rose, Reads, CountsStay, last_count};
 
 use crate::texts::{read_app, read_trace};
 use ps_outside::{Failed, Files};
@@ -55,12 +55,13 @@ impl Files for LoadFiles {
         ensures reads { IsErr result ↔ IsNone (held_of self.old name.now) }
         ensures given { (text : List ℕ) → held_of self.old name.now ≡ Some text → IfOk result (λ n. n ≡ min (length text - at) (length buf.new)) }
         ensures rises { OnErr result (self.new.others ≡ min (self.old.others + 1) last_count) }
-        ensures uncounted { OnOk result (self.new ≡ self.old) }
+        ensures unchanged { OnOk result (self.new ≡ self.old) }
 
         ensures fits { IfOk result (λ n. n ≤ length buf.new) }
         ensures found { OnOk result (IsSome (held_of self.old name.now)) }
         ensures bytes { (text : List ℕ) → held_of self.old name.now ≡ Some text → IfOk result (λ n. Reads text at n buf.new) }
         ensures failed { OnErr result (Rose (faults_of self.old name.now) (faults_of self.new name.now)) }
+        ensures exact { OnOk result (CountsStay (faults_of self.old) (faults_of self.new)) }
         ensures counts { (other : List ℕ) → faults_of self.old other ≤ faults_of self.new other }
         ensures kept { self.new.number ≡ self.old.number }
     {

@@ -2,5 +2,7 @@
 pub mod Outside
 pub mod InMemory
 pub mod Output
+-- why a text gave nothing
+pub mod Failing
 -- how files in memory are stored
 pub mod HeldFiles

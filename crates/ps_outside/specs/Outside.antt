@@ -9,6 +9,10 @@ last_count = 18446744073709551615
 abbrev pub Rose : ℕ → ℕ → Type 0
 Rose before after = (before < after) ⊎ (last_count ≤ after)
 
+-- the count of every name is as it was
+abbrev pub CountsStay : (before after : List ℕ → ℕ) → Type 0
+CountsStay before after = (name : List ℕ) → after name ≡ before name
+
 -- the first n places of a buffer hold the n bytes of a text that stand at an offset
 pub record Reads (text : List ℕ) (at n : ℕ) (buffer : List ℕ) : Type 0 where
   pub bytes : take n buffer ≡ take n (drop at text)

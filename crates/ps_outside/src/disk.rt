@@ -1,12 +1,13 @@
 // The files of the system, and an output of the system: the edge that is trusted. They tell no bytes.
 
 ghost use Rattle.std.specs.Prelude.{◌≡◌, ◌≤◌, ◌<◌, ◌+◌, false, [], None, ℕ, List, length, min, IsErr, IfOk, OnOk, OnErr};
+ghost use Rattle.std.specs.Io.Buffered.{writer_buffer, writer_contents};
 ghost use Rattle.std.specs.Io.KnownBytes.{Keeps, WriteAppends};
 ghost use Rattle.ps_outside.specs.Outside.{Rose, last_count};
 
-use crate::{Failed, Files, Sink};
+use crate::{Failed, Files, Output, Sink};
 use std::fs::File;
-use std::io::{ErrorKind, Read, Seek, SeekFrom, Write};
+use std::io::{BufWriter, ErrorKind, Read, Seek, SeekFrom, Write};
 use std::marker::Model;
 use std::{io, rt};
 
@@ -49,7 +50,7 @@ impl<'a, R: rt::Files> Files for DiskFiles<'a, R> {
         ensures fits { IfOk result (λ n. n ≤ length buf.new) }
         ensures failed { OnErr result (Rose self.old self.new) }
         ensures rises { OnErr result (self.new ≡ min (self.old + 1) last_count) }
-        ensures uncounted { OnOk result (self.new ≡ self.old) }
+        ensures exact { OnOk result (self.new ≡ self.old) }
         ensures counts { self.old ≤ self.new }
     {
         counted(read_disk(self.system, name, at, buf), &mut self.faults)
@@ -73,6 +74,8 @@ fn read_disk<R: rt::Files>(system: &R, name: &str, at: u64, buf: &mut [u8]) -> i
 pub struct StdSink<W: Write + Drop> {
     out: W,
     faults: u64,
+    // whether the last write or flush failed since nobody reads what is written
+    closed: bool,
 }
 
 impl<W: Write + Drop> Model for StdSink<W> {
@@ -88,17 +91,11 @@ impl<W: Write + Drop> StdSink<W> {
     pub fn new(out: W) -> StdSink<W>
         ensures { result ≡ record { writer = out; faults = 0 } }
     {
-        StdSink { out, faults: 0 }
-    }
-
-    /// Hands on what the writer still holds back, by a flush. One that fails counts as a write that failed.
-    pub fn finish(&mut self) -> Result<(), Failed>
-        ensures kept { Keeps (W.contents self.old.writer) (W.contents self.new.writer) }
-        ensures failed { OnErr result (Rose self.old.faults self.new.faults) }
-        ensures rises { OnErr result (self.new.faults ≡ min (self.old.faults + 1) last_count) }
-        ensures uncounted { OnOk result (self.new.faults ≡ self.old.faults) }
-    {
-        counted(self.out.flush(), &mut self.faults)
+        StdSink {
+            out,
+            faults: 0,
+            closed: false,
+        }
     }
 }
 
@@ -117,21 +114,52 @@ impl<W: Write + Drop> Sink for StdSink<W> {
         ensures fits { IfOk result (λ n. n ≤ length piece.now) }
         ensures failed { OnErr result (Rose self.old.faults self.new.faults) }
         ensures rises { OnErr result (self.new.faults ≡ min (self.old.faults + 1) last_count) }
-        ensures uncounted { OnOk result (self.new.faults ≡ self.old.faults) }
+        ensures exact { OnOk result (self.new.faults ≡ self.old.faults) }
         ensures counts { self.old.faults ≤ self.new.faults }
     {
         let answer = match self.out.write(piece) {
             Ok(0) if !piece.is_empty() => Err(ErrorKind::WriteZero.into()),
             answer => answer,
         };
+        self.closed = is_broken_pipe(&answer);
         counted(answer, &mut self.faults)
+    }
+}
+
+// Behind a flush that succeeds the buffer is empty. What the writer below did with the bytes is for the system to say.
+impl<W: Write + Drop> Output for StdSink<BufWriter<W>> {
+    ghost held_back = { λ output. writer_buffer output.writer };
+
+    fn finish(&mut self) -> Result<(), Failed>
+        ensures kept { Keeps (writer_contents W.contents self.old.writer) (writer_contents W.contents self.new.writer) }
+        ensures handed_on { OnOk result (writer_buffer self.new.writer ≡ []) }
+        ensures failed { OnErr result (Rose self.old.faults self.new.faults) }
+        ensures rises { OnErr result (self.new.faults ≡ min (self.old.faults + 1) last_count) }
+        ensures exact { OnOk result (self.new.faults ≡ self.old.faults) }
+        ensures counts { self.old.faults ≤ self.new.faults }
+    {
+        let answer = self.out.flush();
+        self.closed = is_broken_pipe(&answer);
+        counted(answer, &mut self.faults)
+    }
+
+    fn is_closed(&self) -> bool {
+        self.closed
+    }
+}
+
+// Whether a writer failed since nobody reads any more what it writes.
+fn is_broken_pipe<T>(answer: &io::Result<T>) -> bool {
+    match answer {
+        Ok(_) => false,
+        Err(error) => error.kind() == ErrorKind::BrokenPipe,
     }
 }
 
 // What an adapter answers where the system answers this: the same value, or a failure, which raises the count.
 fn counted<T>(answer: io::Result<T>, faults: &mut u64) -> Result<T, Failed>
     ensures same { IfOk answer (λ value. result ≡ Ok value) }
-    ensures uncounted { OnOk answer (faults.new ≡ faults.old) }
+    ensures exact { OnOk answer (faults.new ≡ faults.old) }
     ensures failed { OnErr answer (IsErr result) }
     ensures rises { OnErr answer (faults.new ≡ min (faults.old + 1) last_count) }
     ensures rose { OnErr answer (Rose faults.old faults.new) }

@@ -1,7 +1,7 @@
 // Files that are read by name.
 
 ghost use Rattle.std.specs.Prelude.{◌≡◌, ◌≤◌, ℕ, List, Bool, IsTrue, Option, Some, IsSome, length, IfOk, OnOk, OnErr};
-ghost use Rattle.ps_outside.specs.Outside.{Rose, Reads};
+ghost use Rattle.ps_outside.specs.Outside.{Rose, Reads, CountsStay};
 
 /// A read or a write that failed.
 #[derive(Clone, Copy, Debug, PartialEq, Eq)]
@@ -25,13 +25,15 @@ pub trait Files {
     /// Reads bytes of a file, from the offset `at` on, into the first places of `buf`, and says how many.
     ///
     /// Ok(0) for a buffer that is not empty comes exactly where `at` is at or past the end. `Failed` comes only
-    /// where the name's count rose in this call; reading a name that is not held is such a fault.
+    /// where the name's count rose in this call; reading a name that is not held is such a failure. A read that
+    /// succeeds leaves every count as it was.
     fn read_at(&mut self, name: &str, at: u64, buf: &mut [u8]) -> Result<usize, Failed>
         ensures fits { IfOk result (λ n. n ≤ length buf.new) }
         ensures found { IsTrue (tells self.old) → OnOk result (IsSome (held self.old name.now)) }
         ensures bytes { IsTrue (tells self.old) → (text : List ℕ) → held self.old name.now ≡ Some text →
             IfOk result (λ n. Reads text at n buf.new) }
         ensures failed { OnErr result (Rose (faults self.old name.now) (faults self.new name.now)) }
+        ensures exact { OnOk result (CountsStay (faults self.old) (faults self.new)) }
 
         ensures counts { (other : List ℕ) → faults self.old other ≤ faults self.new other }
         ensures kept { held self.new ≡ held self.old }

@@ -2,7 +2,7 @@
 
 ghost use Rattle.std.specs.Prelude.{◌≡◌, ◌≢◌, ◌<◌, ◌≤◌, ◌+◌, ◌∷◌, ◌++◌, ◌↔◌, [], true, ℕ, List, Some, None, IsSome, IsErr, OnOk, OnErr, IfOk, length, min, take, drop};
 ghost use Rattle.ps_outside.specs.InMemory.{ReadFails, ShareCount, given_count};
-ghost use Rattle.ps_outside.specs.Outside.{Rose, Reads, last_count};
+ghost use Rattle.ps_outside.specs.Outside.{Rose, Reads, CountsStay, last_count};
 
 use crate::{Failed, Files};
 use ps_base::{Bytes, Memory};
@@ -138,7 +138,7 @@ impl Files for MemFiles {
         ensures stays { OnErr result ((other : List ℕ) → ¬ ShareCount (in_memory self.old) name.now other →
             (in_memory self.new).faults other ≡ (in_memory self.old).faults other) }
         ensures counts { (other : List ℕ) → (in_memory self.old).faults other ≤ (in_memory self.new).faults other }
-        ensures uncounted { OnOk result ((in_memory self.new).faults ≡ (in_memory self.old).faults) }
+        ensures exact { OnOk result (CountsStay (in_memory self.old).faults (in_memory self.new).faults) }
 
         ensures kept { (in_memory self.new).held ≡ (in_memory self.old).held }
         ensures failing { (in_memory self.new).failing ≡ (in_memory self.old).failing }

@@ -4,7 +4,7 @@ ghost use Rattle.std.specs.Prelude.{◌≡◌, ◌≤◌, ◌<◌, ◌+◌, ◌�
 ghost use Rattle.ps_outside.specs.InMemory.{WriteFails};
 ghost use Rattle.ps_outside.specs.Outside.{Rose, last_count};
 
-use crate::{Failed, Sink};
+use crate::{Failed, Output, Sink};
 use ps_base::Memory;
 use std::alloc::Global;
 use std::marker::Model;
@@ -94,7 +94,7 @@ impl Sink for MemSink {
         ensures failed { OnErr result (Rose self.old.faults self.new.faults) }
         ensures rises { OnErr result (self.new.faults ≡ min (self.old.faults + 1) last_count) }
         ensures counts { self.old.faults ≤ self.new.faults }
-        ensures uncounted { OnOk result (self.new.faults ≡ self.old.faults) }
+        ensures exact { OnOk result (self.new.faults ≡ self.old.faults) }
 
         ensures failing { self.new.failing ≡ self.old.failing }
         ensures room { self.new.room ≡ self.old.room }
@@ -108,5 +108,19 @@ impl Sink for MemSink {
             Ok(()) => Ok(piece.len()),
             Err(_) => unreachable!(),
         }
+    }
+}
+
+// It holds nothing back.
+impl Output for MemSink {
+    ghost held_back = { λ _. [] };
+
+    fn finish(&mut self) -> Result<(), Failed> {
+        Ok(())
+    }
+
+    // It is read to its end.
+    fn is_closed(&self) -> bool {
+        false
     }
 }

@@ -1,7 +1,7 @@
 // A file's bytes, read whole up to a bound.
 
 ghost use Rattle.std.specs.Prelude.{◌≡◌, ◌≤◌, ℕ, List, IsTrue, Some, IsSome, take, IfOk, OnOk, IsErrOf};
-ghost use Rattle.ps_outside.specs.Outside.{Rose};
+ghost use Rattle.ps_outside.specs.Outside.{Rose, CountsStay};
 ghost use Rattle.ps_outside.specs.declared.reading.ReadFail.TheVariants.{Memory as NoMemory, Fault as IsFault};
 
 use crate::{Failed, Files};
@@ -37,7 +37,8 @@ impl From<Failed> for ReadFail {
 /// The bytes that are held under a name, or the first `most` of them where there are more.
 ///
 /// It reads at least once, also where `most` is 0, and goes on after a read that gave less than was asked for.
-/// `Fault` comes only where the files' count of the name rose in this call.
+/// `Fault` comes only where the files' count of the name rose in this call, at the one read that failed; every other
+/// answer leaves the counts as they were.
 pub fn read_upto<F: Files>(
     alloc: Global,
     files: &mut F,
@@ -48,6 +49,7 @@ pub fn read_upto<F: Files>(
     ensures bytes { IsTrue (F.tells files.old) → (text : List ℕ) → F.held files.old name.now ≡ Some text →
         IfOk result (λ bytes. bytes ≡ take most text) }
     ensures fault { IsErrOf result ReadFail.Fault → Rose (F.faults files.old name.now) (F.faults files.new name.now) }
+    ensures exact { ¬ IsErrOf result ReadFail.Fault → CountsStay (F.faults files.old) (F.faults files.new) }
 
     ensures counts { (other : List ℕ) → F.faults files.old other ≤ F.faults files.new other }
     ensures kept { F.held files.new ≡ F.held files.old }

@@ -5,3 +5,4 @@ pub mod OneReading
 pub mod OneBreach
 pub mod Targets
 pub mod Demandable
+pub mod Decided

@@ -1,7 +1,6 @@
 -- What the text of a source gives where the demands of its outputs are asked for.
-use Rattle.std.specs.Prelude.{◌≡◌, ◌⊎◌, ℕ, List, Some, None, Result, Ok, Err, slice_get}
+use Rattle.std.specs.Prelude.{◌≡◌, ◌⊎◌, ℕ, List, Some, None, Result, slice_get}
 use Rattle.ps_base.specs.declared.failing.Fail.{Fail}
-use Rattle.ps_base.specs.declared.failing.Fail.TheVariants.{Memory as NoMemory, Refused as IsRefused}
 use Rattle.ps_base.specs.declared.failing.Place.{Place}
 use Rattle.ps_base.specs.declared.failing.Refusal.{Refusal}
 use Rattle.ps_base.specs.declared.failing.Rule.TheVariants.{M1}
@@ -13,7 +12,7 @@ use Rattle.ps_model.specs.Formula.{Formula}
 use Rattle.ps_model.specs.Network.{Network}
 use Rattle.ps_model.specs.Typing.{Accepted}
 use Rattle.ps_demand.specs.Lines.{NoneIsLarge, IsFirstLarge, demand_lines}
-use Rattle.ps_source.specs.Answering.{IsChecked, app_of}
+use Rattle.ps_source.specs.Answering.{Decides, IsChecked, app_of}
 use Rattle.ps_source.specs.Source.{Reading, IsProgram, IsAcceptedAs}
 use Rattle.ps_source.specs.Source.Reading.{stands_for, is_refused}
 use Rattle.ps_source.specs.declared.demanding.Demanded.{Demanded}
@@ -56,8 +55,10 @@ pub record IsLined (d : Demanded) : Type 0 where
   pub checked : IsChecked d.accepted
   pub lines_are : d.lines ≡ demand_lines (app_of d.accepted)
 
+-- a text gives an accepted application with the lines of its demands
+abbrev pub GivesDemanded : List ℕ → Demanded → Type 0
+GivesDemanded text d = IsDemandableAs text (stands_for (app_demanded d)) × IsLined d
+
 -- what comes of a text where the demands of its outputs are asked for: an application with their lines, or the refusal
 abbrev pub IsDemanding : List ℕ → Result Demanded Fail → Type 0
-IsDemanding text (Ok d) = IsDemandableAs text (stands_for (app_demanded d)) × IsLined d
-IsDemanding text (Err NoMemory) = Unit {0}
-IsDemanding text (Err (IsRefused refusal)) = IsDemandableAs text (is_refused refusal)
+IsDemanding = Decides GivesDemanded IsDemandableAs

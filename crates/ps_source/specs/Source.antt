@@ -92,6 +92,10 @@ abbrev pub IsAcceptedAs : List ℕ → Reading → Type 0
 IsAcceptedAs source (stands_for net) = Resolves source net × Accepted net
 IsAcceptedAs source (is_refused r) = IsResolvedAs source (is_refused r) ⊎ BreaksFlow source r
 
+-- no text gives two readings by the same rules
+abbrev pub HasOneReading : (List ℕ → Reading → Type 0) → Type 0
+HasOneReading Gives = (source : List ℕ) (first second : Reading) → Gives source first → Gives source second → first ≡ second
+
 -- the counts of an application and of a certificate
 abbrev pub counts : Network → List CertLine → Counts
 counts net lines = record { nodes = length (app_nodes net); lines = length lines }

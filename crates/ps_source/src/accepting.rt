@@ -9,7 +9,7 @@ ghost use Rattle.ps_flow.specs.Written.{written};
 ghost use Rattle.ps_names.specs.Stands.{Stands};
 ghost use Rattle.ps_parser.specs.Places.{step_place};
 ghost use Rattle.ps_source.specs.Source.{pin_name};
-ghost use Rattle.ps_source.specs.Answering.{IsResolution, IsChecked, IsAcceptance, IsSourcedAcceptance, app_of, certificate_of, checked_of};
+ghost use Rattle.ps_source.specs.Answering.{IsResolution, IsChecked, IsSourcedAcceptance, app_of, certificate_of, checked_of};
 
 use ps_base::{Bytes, Fail, Memory, Place, Refusal};
 use ps_checker::laws::derived_passes;
@@ -63,19 +63,8 @@ impl Accepted {
     }
 }
 
-/// Why a name gives no application.
-#[derive(Clone, Copy, Debug, PartialEq, Eq)]
-pub enum NoApplication {
-    /// Memory is wanting.
-    Memory,
-    /// The text could not be read.
-    Fault,
-    /// A rule refuses the text.
-    Refused(Refusal),
-}
-
 // The flat source of a text and the application that stands for it, by the rules L, P, B and N, tried in this order.
-pub(crate) fn resolve_text(alloc: Global, text: &[u8]) -> Result<(Source, App), Fail>
+pub(crate) fn resolve_source(alloc: Global, text: &[u8]) -> Result<(Source, App), Fail>
     ensures { IsResolution text.now result }
 {
     let tokens = lex(alloc, text)?;
@@ -126,7 +115,7 @@ fn with_check(app: App, certificate: Certificate) -> Accepted
 pub(crate) fn accept_source(alloc: Global, text: &[u8]) -> Result<(Source, Accepted), Fail>
     ensures { IsSourcedAcceptance text.now result }
 {
-    let (source, app) = resolve_text(alloc, text)?;
+    let (source, app) = resolve_source(alloc, text)?;
     match derive(alloc, &app) {
         Ok(certificate) => Ok((source, with_check(app, certificate))),
         Err(FlowFail::Memory) => Err(Fail::Memory),
@@ -135,12 +124,4 @@ pub(crate) fn accept_source(alloc: Global, text: &[u8]) -> Result<(Source, Accep
             place: place_of(&source, &app, breach),
         })),
     }
-}
-
-// The accepted application of a text, by the rules L, P, B, N and S, tried in this order, with its certificate.
-pub(crate) fn accept(alloc: Global, text: &[u8]) -> Result<Accepted, Fail>
-    ensures { IsAcceptance text.now result }
-{
-    let (_, accepted) = accept_source(alloc, text)?;
-    Ok(accepted)
 }

@@ -57,7 +57,7 @@ fn place_of_output(source: &Source, app: &App, output: u16) -> Place
 }
 
 // The accepted application of a text with the lines of what its outputs demand, by the rules L, P, B, N, S and M1, tried in this order.
-pub(crate) fn with_demands(alloc: Global, text: &[u8]) -> Result<Demanded, Fail>
+pub(crate) fn demand_source(alloc: Global, text: &[u8]) -> Result<Demanded, Fail>
     ensures { IsDemanding text.now result }
 {
     let (source, accepted) = accept_source(alloc, text)?;

@@ -1,89 +1,103 @@
-// Reading sources and certificates.
+// Reading sources by the names of their files.
 
-ghost use Rattle.std.specs.Prelude.{◌≡◌, ◌≤◌, List, ℕ, IsTrue, IsSome, IfOk, OnOk};
-ghost use Rattle.ps_outside.specs.Outside.{Rose};
-ghost use Rattle.ps_names.specs.Stands.{Stands};
-ghost use Rattle.ps_source.specs.Source.{IsProgram, IsResolvedAs, IsAcceptedAs};
-ghost use Rattle.ps_source.specs.Answering.{Reads, IsFault, IsChecked, app_of};
-ghost use Rattle.ps_source.specs.Demanding.{IsDemandableAs, IsLined, app_demanded};
-ghost use Rattle.ps_source.specs.Source.Reading.{stands_for};
+ghost use Rattle.std.specs.Prelude.{◌≡◌, ◌≤◌, List, ℕ, IsTrue, IfOk, IsErrOf};
+ghost use Rattle.ps_outside.specs.Outside.{Rose, CountsStay};
+ghost use Rattle.ps_source.specs.Source.{IsResolvedAs, IsAcceptedAs};
+ghost use Rattle.ps_source.specs.Answering.{GivesApp, GivesAccepted, Reads, IsFault, IsChecked, IsFrontHeld};
+ghost use Rattle.ps_source.specs.Demanding.{GivesDemanded, IsDemandableAs, IsLined};
 
-use crate::accepting::{Accepted, NoApplication, accept, resolve_text};
-use crate::demanding::{Demanded, with_demands};
+use crate::accepting::Accepted;
+use crate::deciding::{accept_text, demand_text, resolve_text};
+use crate::demanding::Demanded;
+use ps_base::Bytes;
 use ps_base::limits::LARGEST_SOURCE;
-use ps_base::{Bytes, Fail};
 use ps_model::App;
-use ps_outside::{Files, ReadFail, read_upto};
+use ps_outside::{Files, ReadFail, TextFail, read_upto};
 use std::alloc::Global;
 
-/// Reads the application of this name, by the rules L, P, B and N. Where it has function blocks, it is that of its flat source.
-pub fn read_resolved<F: Files>(
-    alloc: Global,
-    app: &str,
-    files: &mut F,
-) -> Result<App, NoApplication>
-    ensures read { IsTrue (F.tells files.old) → Reads (λ text net. IsResolvedAs text (stands_for net)) IsResolvedAs (F.held files.old app.now) result }
-    ensures fault { IsFault result → Rose (F.faults files.old app.now) (F.faults files.new app.now) }
+/// The bytes that decide of the source of this name: all of them, or one more than the largest source has.
+///
+/// `Fault` comes only where the files' count of the name rose in this call; every other answer leaves the counts as
+/// they were.
+pub fn read_source<F: Files>(alloc: Global, app: &str, files: &mut F) -> Result<Bytes, ReadFail>
+    ensures read { IsTrue (F.tells files.old) → IfOk result (λ text. IsFrontHeld text (F.held files.old app.now)) }
+    ensures fault { IsErrOf result ReadFail.Fault → Rose (F.faults files.old app.now) (F.faults files.new app.now) }
+    ensures exact { ¬ IsErrOf result ReadFail.Fault → CountsStay (F.faults files.old) (F.faults files.new) }
     ensures counts { (other : List ℕ) → F.faults files.old other ≤ F.faults files.new other }
     ensures kept { F.held files.new ≡ F.held files.old }
     ensures telling { F.tells files.new ≡ F.tells files.old }
 {
-    match read_upto(alloc, files, app, LARGEST_SOURCE + 1) {
-        Ok(text) => match resolve_text(alloc, text.as_slice()) {
-            Ok((_, app)) => Ok(app),
-            Err(Fail::Refused(refusal)) => Err(NoApplication::Refused(refusal)),
-            Err(Fail::Memory) => Err(NoApplication::Memory),
-        },
-        Err(ReadFail::Memory) => Err(NoApplication::Memory),
-        Err(ReadFail::Fault) => Err(NoApplication::Fault),
+    read_upto(alloc, files, app, LARGEST_SOURCE + 1)
+}
+
+/// Reads the application of this name, by the rules L, P, B and N. Where it has function blocks, it is that of its flat
+/// source.
+///
+/// `Fault` comes only where the files' count of the name rose in this call; every other answer leaves the counts as
+/// they were.
+pub fn read_resolved<F: Files>(alloc: Global, app: &str, files: &mut F) -> Result<App, TextFail>
+    ensures read { IsTrue (F.tells files.old) →
+        Reads GivesApp IsResolvedAs (F.held files.old app.now) result }
+    ensures fault { IsFault result → Rose (F.faults files.old app.now) (F.faults files.new app.now) }
+    ensures exact { ¬ IsFault result → CountsStay (F.faults files.old) (F.faults files.new) }
+    ensures counts { (other : List ℕ) → F.faults files.old other ≤ F.faults files.new other }
+    ensures kept { F.held files.new ≡ F.held files.old }
+    ensures telling { F.tells files.new ≡ F.tells files.old }
+{
+    let text = read_source(alloc, app, files)?;
+    match resolve_text(alloc, text.as_slice()) {
+        Ok(app) => Ok(app),
+        Err(why) => Err(why.into()),
     }
 }
 
 /// Reads the accepted application of this name, by the rules L, P, B, N and S.
+///
+/// `Fault` comes only where the files' count of the name rose in this call; every other answer leaves the counts as
+/// they were.
 pub fn read_accepted<F: Files>(
     alloc: Global,
     app: &str,
     files: &mut F,
-) -> Result<Accepted, NoApplication>
-    ensures read { IsTrue (F.tells files.old) → Reads (λ text a. IsAcceptedAs text (stands_for (app_of a)) × IsChecked a) IsAcceptedAs (F.held files.old app.now) result }
+) -> Result<Accepted, TextFail>
+    ensures read { IsTrue (F.tells files.old) →
+        Reads GivesAccepted IsAcceptedAs (F.held files.old app.now) result }
     ensures checked { IfOk result IsChecked }
     ensures fault { IsFault result → Rose (F.faults files.old app.now) (F.faults files.new app.now) }
+    ensures exact { ¬ IsFault result → CountsStay (F.faults files.old) (F.faults files.new) }
     ensures counts { (other : List ℕ) → F.faults files.old other ≤ F.faults files.new other }
     ensures kept { F.held files.new ≡ F.held files.old }
     ensures telling { F.tells files.new ≡ F.tells files.old }
 {
-    match read_upto(alloc, files, app, LARGEST_SOURCE + 1) {
-        Ok(text) => match accept(alloc, text.as_slice()) {
-            Ok(accepted) => Ok(accepted),
-            Err(Fail::Refused(refusal)) => Err(NoApplication::Refused(refusal)),
-            Err(Fail::Memory) => Err(NoApplication::Memory),
-        },
-        Err(ReadFail::Memory) => Err(NoApplication::Memory),
-        Err(ReadFail::Fault) => Err(NoApplication::Fault),
+    let text = read_source(alloc, app, files)?;
+    match accept_text(alloc, text.as_slice()) {
+        Ok(accepted) => Ok(accepted),
+        Err(why) => Err(why.into()),
     }
 }
 
-/// Reads the accepted application of this name with the lines of what its outputs demand, by the rules L, P, B, N and S, and then by the
-/// rule M1: the demand of each SAFEBOOL output has at most 1,000 leaves before it is made slim.
+/// Reads the accepted application of this name with the lines of what its outputs demand, by the rules L, P, B, N and
+/// S, and then by the rule M1: the demand of each SAFEBOOL output has at most 1,000 leaves before it is made slim.
+///
+/// `Fault` comes only where the files' count of the name rose in this call; every other answer leaves the counts as
+/// they were.
 pub fn read_demanded<F: Files>(
     alloc: Global,
     app: &str,
     files: &mut F,
-) -> Result<Demanded, NoApplication>
-    ensures read { IsTrue (F.tells files.old) → Reads (λ text d. IsDemandableAs text (stands_for (app_demanded d)) × IsLined d) IsDemandableAs (F.held files.old app.now) result }
+) -> Result<Demanded, TextFail>
+    ensures read { IsTrue (F.tells files.old) →
+        Reads GivesDemanded IsDemandableAs (F.held files.old app.now) result }
     ensures lined { IfOk result IsLined }
     ensures fault { IsFault result → Rose (F.faults files.old app.now) (F.faults files.new app.now) }
+    ensures exact { ¬ IsFault result → CountsStay (F.faults files.old) (F.faults files.new) }
     ensures counts { (other : List ℕ) → F.faults files.old other ≤ F.faults files.new other }
     ensures kept { F.held files.new ≡ F.held files.old }
     ensures telling { F.tells files.new ≡ F.tells files.old }
 {
-    match read_upto(alloc, files, app, LARGEST_SOURCE + 1) {
-        Ok(text) => match with_demands(alloc, text.as_slice()) {
-            Ok(demanded) => Ok(demanded),
-            Err(Fail::Refused(refusal)) => Err(NoApplication::Refused(refusal)),
-            Err(Fail::Memory) => Err(NoApplication::Memory),
-        },
-        Err(ReadFail::Memory) => Err(NoApplication::Memory),
-        Err(ReadFail::Fault) => Err(NoApplication::Fault),
+    let text = read_source(alloc, app, files)?;
+    match demand_text(alloc, text.as_slice()) {
+        Ok(demanded) => Ok(demanded),
+        Err(why) => Err(why.into()),
     }
 }

@@ -2,8 +2,8 @@
 
 use crate::telling::equal;
 use ps_base::Memory;
-use ps_lines::{Got, Limits, LineReader, ReadFailed};
-use ps_outside::MemFiles;
+use ps_lines::{Got, Limits, LineReader};
+use ps_outside::{Failed, MemFiles};
 use std::alloc::Global;
 use std::test::Fail;
 
@@ -19,14 +19,14 @@ fn files_of(alloc: Global, text: &str, most: u32, failing: u32) -> Result<MemFil
 }
 
 // What a read of a line came to.
-fn word_of(got: Result<Got, ReadFailed>) -> &'static str {
+fn word_of(got: Result<Got, Failed>) -> &'static str {
     match got {
         Ok(Got::Line) => "line",
         Ok(Got::LastLine) => "last line",
         Ok(Got::TooLong) => "too long",
         Ok(Got::TooLarge) => "too large",
         Ok(Got::End) => "end",
-        Err(ReadFailed) => "fault",
+        Err(Failed) => "fault",
     }
 }
 

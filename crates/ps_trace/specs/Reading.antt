@@ -10,8 +10,8 @@ use Rattle.ps_trace.specs.Scans.{Scans, Headed, scans_from}
 use Rattle.ps_trace.specs.Scans.End.{whole, refused}
 use Rattle.ps_trace.specs.Scans.Headed.{begins, fails}
 use Rattle.ps_trace.specs.declared.trace.TraceReader.{TraceReader}
-use Rattle.ps_trace.specs.declared.trace.TraceFail.{TraceFail}
-use Rattle.ps_trace.specs.declared.trace.TraceFail.TheVariants.{Memory as NoMemory, Fault as IsFault, Refused as IsRefused}
+use Rattle.ps_outside.specs.declared.text_fail.TextFail.{TextFail}
+use Rattle.ps_outside.specs.declared.text_fail.TextFail.TheVariants.{Memory as NoMemory, Fault as IsFault, Refused as IsRefused}
 use Rattle.ps_trace.specs.declared.trace.Next.{Next}
 use Rattle.ps_trace.specs.declared.trace.Next.TheVariants.{Scan as NextScan, Restart as NextRestart, End as NextEnd}
 
@@ -81,7 +81,7 @@ IsHeaded (begins places number lines) = Unit {0}
 IsHeaded (fails refusal) = ⊥
 
 -- the trace was read: an answer that neither a failed read nor want of memory gives
-abbrev pub IsRead : {A : Type 0} → Result A TraceFail → Type 0
+abbrev pub IsRead : {A : Type 0} → Result A TextFail → Type 0
 IsRead (Ok value) = Unit {0}
 IsRead (Err NoMemory) = ⊥
 IsRead (Err IsFault) = ⊥

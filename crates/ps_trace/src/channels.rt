@@ -2,17 +2,17 @@
 
 ghost use Rattle.std.specs.Prelude.{◌≡◌, ◌≤◌, ℕ, List, IsTrue, Some, None, IsSome, Err, IfOk, IsErrOf, refl};
 ghost use Rattle.std.proofs.lemmas.Bool.{false≢true};
-ghost use Rattle.ps_outside.specs.Outside.{Rose};
+ghost use Rattle.ps_outside.specs.Outside.{Rose, CountsStay};
 ghost use Rattle.ps_base.specs.declared.failing.Refusal.{Refusal};
 ghost use Rattle.ps_trace.specs.Channels.{line_of_fault};
 ghost use Rattle.ps_trace.specs.Faults.{channel_fault, channel_of, faults_of, is_same_channel, region_size};
 ghost use Rattle.ps_trace.specs.FaultOrder.{AreInOrder, AreOfOneChannel};
 ghost use Rattle.ps_trace.specs.Reading.{IsRead};
 
+use crate::TraceFail;
 use crate::fault_file::read_faults_of;
 use crate::faults::Faults;
 use crate::target::{FaultLine, Target};
-use crate::trace::TraceFail;
 use ps_model::{Channel, Fault, ImageSizes, Region};
 use ps_outside::Files;
 use std::alloc::Global;
@@ -85,7 +85,8 @@ impl Target for Channel {
 /// A line is `before <scan> <A|B> <code|memory> <offset> <bytes>`, or has `turn <turn>` behind the scan. The first
 /// refused line decides: it is line 1,001 (F5); it has over 600 bytes or not this form (F1); its scan or turn is less
 /// than an earlier line's (F2); it passes the region's end (F3); its channel is not that of the first fault (F4).
-/// `Fault` comes only where the files' count of the name rose in this call.
+/// `Fault` comes only where the files' count of the name rose in this call; every other answer leaves the counts as
+/// they were.
 pub fn read_faults<F: Files>(
     alloc: Global,
     files: &mut F,
@@ -98,6 +99,7 @@ pub fn read_faults<F: Files>(
         (refusal : Refusal) → result ≡ Err (TraceFail.Refused refusal) → (faults_of text sizes.now).refusal ≡ Some refusal }
     ensures found { IsTrue (F.tells files.old) → IsRead result → IsSome (F.held files.old name.now) }
     ensures fault { IsErrOf result TraceFail.Fault → Rose (F.faults files.old name.now) (F.faults files.new name.now) }
+    ensures exact { ¬ IsErrOf result TraceFail.Fault → CountsStay (F.faults files.old) (F.faults files.new) }
 
     // Whether or not the files tell.
     ensures ordered { IfOk result AreInOrder }

@@ -1,7 +1,7 @@
 // Fault files, whoever their faults strike.
 
 ghost use Rattle.std.specs.Prelude.{◌≡◌, ◌≤◌, ℕ, List, IsTrue, Some, None, IsSome, Err, IfOk, IsErrOf, true};
-ghost use Rattle.ps_outside.specs.Outside.{Rose};
+ghost use Rattle.ps_outside.specs.Outside.{Rose, CountsStay};
 ghost use Rattle.ps_base.specs.declared.failing.Refusal.{Refusal};
 ghost use Rattle.ps_trace.specs.Words.{fields};
 ghost use Rattle.ps_trace.specs.Faults.{before_next, fault_judged, falls, faults_in, is_other, words_struck};
@@ -10,9 +10,10 @@ ghost use Rattle.ps_trace.specs.FaultOrder.{StrikeInOrder, StrikeOne};
 ghost use Rattle.ps_trace.specs.FaultSays.{judged_by, struck_by, targets_by};
 ghost use Rattle.ps_trace.specs.Reading.{IsRead};
 
+use crate::TraceFail;
 use crate::fault_line::read_fault;
 use crate::target::{FaultLine, Target};
-use crate::trace::{TraceFail, at_line, feeds};
+use crate::trace::{at_line, feeds};
 use crate::words::first_field;
 use ps_base::limits::{LONGEST_FAULT_LINE, MOST_FAULT_LINES};
 use ps_base::{Memory, Rule};
@@ -51,7 +52,8 @@ pub(crate) enum FaultSays<W> {
 /// A line is `before <scan> <who> <code|memory> <offset> <bytes>`, or has `turn <turn>` behind the scan. The first
 /// refused line decides: it is line 1,001 (F5); it has over 600 bytes or not this form (F1); its scan or turn is less
 /// than an earlier line's (F2); it passes the region's end (F3); where `one_alone` is asked, it strikes another one than
-/// the first fault (F4). `Fault` comes only where the files' count of the name rose in this call.
+/// the first fault (F4). `Fault` comes only where the files' count of the name rose in this call; every other answer
+/// leaves the counts as they were.
 pub fn read_faults_of<W: Target, F: Files>(
     alloc: Global,
     files: &mut F,
@@ -66,6 +68,7 @@ pub fn read_faults_of<W: Target, F: Files>(
         (faults_in (targets_by W.named_by W.is_same W.length_of W.made sizes.now one_alone) text).refusal ≡ Some refusal }
     ensures found { IsTrue (F.tells files.old) → IsRead result → IsSome (F.held files.old name.now) }
     ensures fault { IsErrOf result TraceFail.Fault → Rose (F.faults files.old name.now) (F.faults files.new name.now) }
+    ensures exact { ¬ IsErrOf result TraceFail.Fault → CountsStay (F.faults files.old) (F.faults files.new) }
 
     // Whether or not the files tell.
     ensures ordered { IfOk result (λ faults. StrikeInOrder W.parts faults.items) }

@@ -15,6 +15,7 @@ mod words;
 pub use channels::read_faults;
 pub use fault_file::read_faults_of;
 pub use faults::Faults;
+pub use ps_outside::TextFail as TraceFail;
 pub use target::{FaultLine, Target};
-pub use trace::{Next, TraceFail, TraceReader, TraceStop};
+pub use trace::{Next, TraceReader, TraceStop};
 pub use words::{next_word, number};

@@ -1,7 +1,7 @@
 // The reader of a trace.
 
 ghost use Rattle.std.specs.Prelude.{◌≡◌, ◌≢◌, ◌≤◌, ◌<◌, ◌+◌, ℕ, List, IsTrue, Some, None, IsSome, false, length, vec_len, IfOk, OnOk, OnErr, Ok, Err, IsErrOf};
-ghost use Rattle.ps_outside.specs.Outside.{Rose};
+ghost use Rattle.ps_outside.specs.Outside.{Rose, CountsStay};
 ghost use Rattle.ps_base.specs.declared.limits.TheConstants.{LARGEST_TRACE, LONGEST_TRACE_LINE};
 ghost use Rattle.ps_lines.specs.Reader.{begin_of, limits_of, line_of};
 ghost use Rattle.ps_model.specs.Network.{input_count};
@@ -14,65 +14,21 @@ ghost use Rattle.ps_trace.specs.LineSays.{said_by};
 ghost use Rattle.ps_trace.specs.Scans.{at_line, header_in, inputs_of, scans_of};
 ghost use Rattle.ps_trace.specs.Scans.Headed.{fails};
 ghost use Rattle.ps_base.specs.declared.failing.Rule.{Rule};
-ghost use Rattle.ps_trace.specs.declared.trace.TraceFail.TheVariants.{Memory as NoMemory, Fault as IsFault};
 
+use crate::TraceFail;
 use crate::header::{HeaderSays, read_header};
 use crate::scan_line::{LineSays, read_line};
 use ps_base::limits::{LARGEST_TRACE, LONGEST_TRACE_LINE};
-use ps_base::{Memory, Place, Refusal, Rule};
-use ps_lines::{Got, Limits, LineReader, ReadFailed};
+use ps_base::{Place, Refusal, Rule};
+use ps_lines::{Got, Limits, LineReader};
 use ps_model::{App, Scan};
-use ps_outside::Files;
-use std::alloc::{AllocError, AllocFailed, Global};
-use thiserror::Error;
+use ps_outside::{Failed, Files};
+use std::alloc::Global;
 
 const LIMITS: Limits = Limits {
     longest: LONGEST_TRACE_LINE,
     largest: LARGEST_TRACE,
 };
-
-/// Why a trace or a fault file was not read.
-#[derive(Clone, Copy, Debug, PartialEq, Eq, Error)]
-pub enum TraceFail {
-    #[error("memory is wanting")]
-    Memory,
-    #[error("a file could not be read")]
-    Fault,
-    #[error("refused {:?} at line {}", .0.rule, .0.place.line)]
-    Refused(Refusal),
-}
-
-impl From<Memory> for TraceFail {
-    ghost from_gives = { λ _ fail. fail ≡ NoMemory };
-
-    fn from(_memory: Memory) -> TraceFail {
-        TraceFail::Memory
-    }
-}
-
-impl From<AllocError> for TraceFail {
-    ghost from_gives = { λ _ fail. fail ≡ NoMemory };
-
-    fn from(_error: AllocError) -> TraceFail {
-        TraceFail::Memory
-    }
-}
-
-impl<T: Drop> From<AllocFailed<T>> for TraceFail {
-    ghost from_gives = { λ _ fail. fail ≡ NoMemory };
-
-    fn from(_error: AllocFailed<T>) -> TraceFail {
-        TraceFail::Memory
-    }
-}
-
-impl From<ReadFailed> for TraceFail {
-    ghost from_gives = { λ _ fail. fail ≡ IsFault };
-
-    fn from(_failed: ReadFailed) -> TraceFail {
-        TraceFail::Fault
-    }
-}
 
 /// Why no scan came.
 #[derive(Clone, Copy, Debug, PartialEq, Eq)]
@@ -129,7 +85,8 @@ impl TraceReader {
     ///
     /// It takes all memory that the reader will use, among it a piece of 4,096 bytes and one line of 65,536 bytes.
     /// `Refused` comes exactly where the header is refused, or a line before it, or there is no header (T1, at the
-    /// line one past the number of line feeds). `Fault` comes only where the files' count of the name rose.
+    /// line one past the number of line feeds). `Fault` comes only where the files' count of the name rose; every other
+    /// answer leaves the counts as they were.
     pub fn start<F: Files>(
         alloc: Global,
         files: &mut F,
@@ -151,6 +108,7 @@ impl TraceReader {
         ensures fresh { IfOk result (λ reader. last_of reader ≡ 0) }
         ensures open { IfOk result (λ reader. refusal_of reader ≡ None) }
         ensures fault { IsErrOf result TraceFail.Fault → Rose (F.faults files.old name.now) (F.faults files.new name.now) }
+        ensures exact { ¬ IsErrOf result TraceFail.Fault → CountsStay (F.faults files.old) (F.faults files.new) }
 
         ensures counts { (other : List ℕ) → F.faults files.old other ≤ F.faults files.new other }
         ensures kept { F.held files.new ≡ F.held files.old }
@@ -188,6 +146,8 @@ impl TraceReader {
     ///
     /// With `Next::Scan` the scan stands in `into`; with every other answer `into` is as before. After `Fault` a
     /// later call goes on with the same line; after `Refused` every later call answers the same and reads nothing.
+    /// `Fault` comes only where the files' count of the name rose in this call; every other answer leaves the counts as
+    /// they were.
     #[inline(always)]
     pub fn next_scan<F: Files>(&mut self, files: &mut F, into: &mut Scan) -> Result<Next, TraceStop>
         requires sizes { length into.old.ins ≡ input_count_of self.old }
@@ -211,6 +171,7 @@ impl TraceReader {
         ensures unchanged { OnErr result (into.new ≡ into.old) }
         ensures same_time { OnErr result (last_of self.new ≡ last_of self.old) }
         ensures fault { IsErrOf result TraceStop.Fault → Rose (F.faults files.old (file_of self.old)) (F.faults files.new (file_of self.old)) }
+        ensures exact { ¬ IsErrOf result TraceStop.Fault → CountsStay (F.faults files.old) (F.faults files.new) }
 
         ensures counts { (other : List ℕ) → F.faults files.old other ≤ F.faults files.new other }
         ensures kept { F.held files.new ≡ F.held files.old }
@@ -257,6 +218,7 @@ impl TraceReader {
         ensures unchanged { OnErr result (into.new ≡ into.old) }
         ensures same_time { OnErr result (last_of self.new ≡ last_of self.old) }
         ensures fault { IsErrOf result TraceStop.Fault → Rose (F.faults files.old (file_of self.old)) (F.faults files.new (file_of self.old)) }
+        ensures exact { ¬ IsErrOf result TraceStop.Fault → CountsStay (F.faults files.old) (F.faults files.new) }
         ensures counts { (other : List ℕ) → F.faults files.old other ≤ F.faults files.new other }
         ensures kept { F.held files.new ≡ F.held files.old }
         ensures telling { F.tells files.new ≡ F.tells files.old }
@@ -265,7 +227,7 @@ impl TraceReader {
     {
         let got = match self.lines.next_line(files) {
             Ok(got) => got,
-            Err(ReadFailed) => return Err(TraceStop::Fault),
+            Err(Failed) => return Err(TraceStop::Fault),
         };
         if got == Got::End {
             return Ok(Some(Next::End));

@@ -1,4 +1,5 @@
 use Rattle.std.proofs.Common.{◌≡◌, ◌≤◌, ℕ, List, IsTrue, Some, take, length, ◌-◌}
+use Rattle.ps_outside.specs.Outside.{CountsStay}
 use Rattle.ps_outside.proofs.reading.read_upto.Given as goal
 
 abbrev pub invariant-pieces : goal.invariant-pieces
@@ -6,7 +7,7 @@ invariant-pieces g l = record {
   within : length l.bytes ≤ l.most;
   bytes : IsTrue (g.F.Files.tells l.initial.files) → (text : List ℕ) → g.F.Files.held l.initial.files l.name ≡ Some text →
       l.bytes ≡ take (length l.bytes) text;
-  counts : (other : List ℕ) → g.F.Files.faults l.initial.files other ≤ g.F.Files.faults l.files other;
+  exact : CountsStay (g.F.Files.faults l.initial.files) (g.F.Files.faults l.files);
   kept : g.F.Files.held l.files ≡ g.F.Files.held l.initial.files;
   telling : g.F.Files.tells l.files ≡ g.F.Files.tells l.initial.files;
 }

@@ -38,7 +38,7 @@ lines-init g c =
       near = omega (arith, fresh.nothing);
       limited = ap (λ (limits : Limits). limits.largest) fresh.limits;
       named = c.in_ok-lines.ensures.name;
-      counts = λ other. omega arith;
+      exact = λ other. refl;
       kept = refl;
       telling = refl;
     }
@@ -81,7 +81,7 @@ lines-preserved-in-Nothing g c =
       near = grind (arith, common_steps);
       limited = grind (arith, common_steps);
       named = cc;
-      counts = λ other. omega (arith, c.lines.invariant.counts other, c.next_line.ensures.counts other);
+      exact = λ other. c.in_ok-got.ensures.exact other ∙ c.lines.invariant.exact other;
       kept = cc;
       telling = cc;
     }
@@ -130,7 +130,7 @@ lines-preserved g c =
       near = grind (arith, common_steps);
       limited = grind (arith, common_steps);
       named = cc;
-      counts = λ other. omega (arith, c.lines.invariant.counts other, c.next_line.ensures.counts other);
+      exact = λ other. c.in_ok-got.ensures.exact other ∙ c.lines.invariant.exact other;
       kept = cc;
       telling = cc;
     }
@@ -154,4 +154,7 @@ returns-in-Broken-clause-found g c = λ tells read.
     c.lines.invariant.fresh
 
 pub returns-in_err-push-in-Strikes-clause-counts : goal.returns-in_err-push-in-Strikes-clause-counts
-returns-in_err-push-in-Strikes-clause-counts g c = λ other. omega (arith, c.lines.invariant.counts other, c.next_line.ensures.counts other)
+returns-in_err-push-in-Strikes-clause-counts g c = λ other. omega (arith, c.lines.invariant.exact other, c.next_line.ensures.counts other)
+
+pub returns-in_err-push-in-Strikes-clause-exact : goal.returns-in_err-push-in-Strikes-clause-exact
+returns-in_err-push-in-Strikes-clause-exact g c = λ fine other. c.in_ok-got.ensures.exact other ∙ c.lines.invariant.exact other

@@ -1,4 +1,5 @@
 use Rattle.std.proofs.Common.{◌≡◌, ◌≤◌, ◌<◌, ◌+◌, ◌-◌, ◌++◌, ℕ, List, IsTrue, true, Some, IsSome}
+use Rattle.ps_outside.specs.Outside.{CountsStay}
 use Rattle.ps_base.specs.declared.limits.TheConstants.{MOST_FAULT_LINES}
 use Rattle.ps_lines.specs.Reader.{IsReading, left, begin_of, name_of, limits_of, read_of}
 use Rattle.ps_trace.specs.Faults.{faults_in, faults_from}
@@ -24,7 +25,7 @@ invariant-lines g l = record {
   near : begin_of l.lines ≤ LARGEST_READ;
   limited : (limits_of l.lines).largest ≡ LARGEST_READ;
   named : name_of l.lines ≡ l.name;
-  counts : (other : List ℕ) → g.F.Files.faults l.initial.files other ≤ g.F.Files.faults l.files other;
+  exact : CountsStay (g.F.Files.faults l.initial.files) (g.F.Files.faults l.files);
   kept : g.F.Files.held l.files ≡ g.F.Files.held l.initial.files;
   telling : g.F.Files.tells l.files ≡ g.F.Files.tells l.initial.files;
 }

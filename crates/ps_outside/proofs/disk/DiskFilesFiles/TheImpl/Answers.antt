@@ -1,4 +1,4 @@
-use Rattle.std.proofs.Common.{refl}
+use Rattle.std.proofs.Common.{refl, arith}
 use Rattle.ps_outside.proofs.disk.DiskFilesFiles.TheImpl.Goals as goal
 
 -- the files tell nothing
@@ -8,6 +8,7 @@ read_at-tells g c = record {
   found = λ tells. cc;
   bytes = λ tells. cc;
   failed = c.ensures.failed;
+  exact = grind arith;
   counts = λ other. c.ensures.counts;
   kept = refl;
   telling = refl;

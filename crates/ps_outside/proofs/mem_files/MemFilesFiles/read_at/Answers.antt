@@ -1,6 +1,6 @@
 use Rattle.std.proofs.Common.{◌≡◌, ◌≢◌, ℕ, List, arith, inl}
 use Rattle.std.proofs.lemmas.Map.Text.{text_keys}
-use Rattle.ps_outside.specs.HeldFiles.{held_in, faults_in}
+use Rattle.ps_outside.specs.HeldFiles.{held_in}
 use Rattle.ps_outside.proofs.mem_files.MemFilesFiles.read_at.Goals as goal
 
 pub returns-then-chosen-clause-stays : goal.returns-then-chosen-clause-stays
@@ -19,10 +19,8 @@ returns-then-chosen-clause-kept c =
 pub returns-else-chosen-clause-counts : goal.returns-else-chosen-clause-counts
 returns-else-chosen-clause-counts c = λ other. grind (arith, text_keys)
 
-pub returns-else-chosen-clause-uncounted : goal.returns-else-chosen-clause-uncounted
-returns-else-chosen-clause-uncounted c =
-    let same : (other : List ℕ) → faults_in (c.get_mut.follows.lender c.in-Some.file.now) c.args.self.now.others other ≡ faults_in c.args.self.now.files c.args.self.now.others other = λ other. grind (arith, text_keys) in
-    λ i. λ other. same other i
+pub returns-else-chosen-clause-exact : goal.returns-else-chosen-clause-exact
+returns-else-chosen-clause-exact c = λ other. grind (arith, text_keys)
 
 pub returns-else-chosen-clause-kept : goal.returns-else-chosen-clause-kept
 returns-else-chosen-clause-kept c =

@@ -1,4 +1,5 @@
 use Rattle.std.proofs.Common.{◌≡◌, ◌≤◌, ◌∙◌, ℕ, List, Option, Result, Ok, Err, Some, IsTrue, length, subst, sym, ap, arith}
+use Rattle.std.specs.Result.{IsErrOf}
 use Rattle.ps_base.specs.declared.failing.Refusal.{Refusal}
 use Rattle.ps_trace.specs.Reading.{Comes, Fills, items_left, last_of}
 use Rattle.ps_trace.specs.Scans.{Scans}
@@ -7,16 +8,23 @@ use Rattle.ps_model.specs.declared.report.Scan.{Scan}
 use Rattle.ps_trace.specs.declared.trace.Next.TheVariants.{Scan as NextScan, Restart as NextRestart, End as NextEnd}
 use Rattle.ps_trace.specs.declared.trace.TraceReader.{TraceReader}
 use Rattle.ps_trace.specs.declared.trace.TraceStop.{TraceStop}
-use Rattle.ps_trace.specs.declared.trace.TraceStop.TheVariants.{Refused}
+use Rattle.ps_trace.specs.declared.trace.TraceStop.TheVariants.{Fault, Refused}
 use Rattle.ps_trace.proofs.GoingOn.{goes_on_from}
 use Rattle.ps_trace.proofs.trace.TraceReader.next_scan.Goals as goal
 
 abbrev answered : Next → Result Next TraceStop
 answered next = Ok next
 
+abbrev tried : Option Next → Result (Option Next) TraceStop
+tried next = Ok next
+
 -- an item is no refusal
 item_unrefused : (next : Next) (refusal : Refusal) → answered next ≡ Err (Refused refusal) → ⊥
 item_unrefused next refusal same = cc
+
+-- an answer is no failed read
+next_no_fault : (next : Option Next) → IsErrOf (tried next) Fault → ⊥
+next_no_fault next failed = cc
 
 -- an item fills from an earlier reader on that has the same time, and from an equal scan
 fills_from : (next : Next) (old mid new : TraceReader) (held before after : Scan) → last_of mid ≡ last_of old → held ≡ before →
@@ -43,7 +51,7 @@ lines-preserved g c =
       ahead = omega (arith, before.ahead, after.moves nothing);
       into = after.skipped nothing ∙ before.into;
       time = after.skipped_time nothing ∙ before.time;
-      counts = λ other. omega (arith, before.counts other, after.counts other);
+      exact = λ other. c.in_ok-next.ensures.exact (next_no_fault _) other ∙ before.exact other;
       kept = after.kept ∙ before.kept;
       telling = after.telling ∙ before.telling;
       name = after.name ∙ before.name;
@@ -59,7 +67,7 @@ returns-in_err-next-clause-reads g c = λ tells text held is.
     c.next_line.ensures.reads (subst IsTrue (sym before.telling) tells) text (held_on _ _ _ _ text before.kept before.name held) (before.reads tells text held is)
 
 pub returns-in_err-next-clause-counts : goal.returns-in_err-next-clause-counts
-returns-in_err-next-clause-counts g c = λ other. omega (arith, c.lines.invariant.counts other, c.next_line.ensures.counts other)
+returns-in_err-next-clause-counts g c = λ other. omega (arith, c.lines.invariant.exact other, c.next_line.ensures.counts other)
 
 pub returns-in_err-next-clause-kept : goal.returns-in_err-next-clause-kept
 returns-in_err-next-clause-kept g c = c.next_line.ensures.kept ∙ c.lines.invariant.kept
@@ -88,7 +96,7 @@ returns-in-Some-2-clause-goes_on g c =
     (c.next_line.ensures.goes_on c.in-Some-2.next (c.in_ok-next.was ∙ ap Ok c.in-Some-2.is))
 
 pub returns-in-Some-2-clause-counts : goal.returns-in-Some-2-clause-counts
-returns-in-Some-2-clause-counts g c = λ other. omega (arith, c.lines.invariant.counts other, c.next_line.ensures.counts other)
+returns-in-Some-2-clause-counts g c = λ other. omega (arith, c.lines.invariant.exact other, c.next_line.ensures.counts other)
 
 pub returns-in-Some-2-clause-kept : goal.returns-in-Some-2-clause-kept
 returns-in-Some-2-clause-kept g c = c.next_line.ensures.kept ∙ c.lines.invariant.kept

@@ -1,4 +1,5 @@
 use Rattle.std.proofs.Common.{◌≡◌, ◌≤◌, ◌+◌, ◌-◌, ℕ, List, IsTrue, Some, None}
+use Rattle.ps_outside.specs.Outside.{CountsStay}
 use Rattle.ps_base.specs.declared.limits.TheConstants.{LARGEST_TRACE}
 use Rattle.ps_lines.specs.Reader.{begin_of}
 use Rattle.ps_trace.specs.Reading.{IsReadingTrace, items_left, file_of, last_of}
@@ -14,7 +15,7 @@ invariant-lines g l = record {
   ahead : begin_of l.initial.self.lines ≤ begin_of l.self.lines;
   into : l.into ≡ l.initial.into;
   time : last_of l.self ≡ last_of l.initial.self;
-  counts : (other : List ℕ) → g.F.Files.faults l.initial.files other ≤ g.F.Files.faults l.files other;
+  exact : CountsStay (g.F.Files.faults l.initial.files) (g.F.Files.faults l.files);
   kept : g.F.Files.held l.files ≡ g.F.Files.held l.initial.files;
   telling : g.F.Files.tells l.files ≡ g.F.Files.tells l.initial.files;
   name : file_of l.self ≡ file_of l.initial.self;

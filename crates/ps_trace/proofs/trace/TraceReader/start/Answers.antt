@@ -32,7 +32,7 @@ lines-preserved g c =
       near = grind (arith, common_steps);
       limited = grind (arith, common_steps);
       named = cc;
-      counts = λ other. omega (arith, c.lines.invariant.counts other, c.next_line.ensures.counts other);
+      exact = λ other. c.in_ok-got.ensures.exact other ∙ c.lines.invariant.exact other;
       kept = cc;
       telling = cc;
     }

@@ -4,7 +4,7 @@ use Rattle.ps_base.specs.declared.failing.Fail.TheVariants.{Memory, Refused}
 use Rattle.ps_source.specs.Answering.{IsSourcedAcceptance}
 use Rattle.ps_source.specs.Demanding.{IsDemanding}
 use Rattle.ps_source.specs.declared.demanding.Demanded.{Demanded}
-use Rattle.ps_source.proofs.demanding.with_demands.Goals as goal
+use Rattle.ps_source.proofs.demanding.demand_source.Goals as goal
 
 -- what refuses a text by the rules before M1 refuses it where demands are asked for
 exit : (text : List ℕ) (e : Fail) (r : Result Demanded Fail) → IsErrAnd r (λ d. d ≡ e) → IsSourcedAcceptance text (Err e) → IsDemanding text r

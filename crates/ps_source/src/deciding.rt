@@ -1,0 +1,41 @@
+// What the text of a source gives, from the bytes that decide of it.
+
+ghost use Rattle.std.specs.Prelude.{◌≡◌, List, ℕ, IfOk};
+ghost use Rattle.ps_source.specs.Answering.{IsFrontOf, IsResolved, IsAcceptance, IsChecked};
+ghost use Rattle.ps_source.specs.Demanding.{IsDemanding, IsLined};
+
+use crate::accepting::{Accepted, accept_source, resolve_source};
+use crate::demanding::{Demanded, demand_source};
+use ps_base::Fail;
+use ps_model::App;
+use std::alloc::Global;
+
+/// The application of the text that begins with these bytes, by the rules L, P, B and N, tried in this order. Where it
+/// has function blocks, it is that of its flat source. The bytes are all of the text, or one more than the largest
+/// source has.
+pub fn resolve_text(alloc: Global, text: &[u8]) -> Result<App, Fail>
+    ensures decides { (whole : List ℕ) → IsFrontOf text.now whole → IsResolved whole result }
+{
+    let (_, app) = resolve_source(alloc, text)?;
+    Ok(app)
+}
+
+/// The accepted application of the text that begins with these bytes, by the rules L, P, B, N and S, tried in this
+/// order, with its certificate. The bytes are all of the text, or one more than the largest source has.
+pub fn accept_text(alloc: Global, text: &[u8]) -> Result<Accepted, Fail>
+    ensures decides { (whole : List ℕ) → IsFrontOf text.now whole → IsAcceptance whole result }
+    ensures checked { IfOk result IsChecked }
+{
+    let (_, accepted) = accept_source(alloc, text)?;
+    Ok(accepted)
+}
+
+/// The accepted application of the text that begins with these bytes, with the lines of what its outputs demand, by the
+/// rules L, P, B, N and S, and then by the rule M1: the demand of each SAFEBOOL output has at most 1,000 leaves before
+/// it is made slim. The bytes are all of the text, or one more than the largest source has.
+pub fn demand_text(alloc: Global, text: &[u8]) -> Result<Demanded, Fail>
+    ensures decides { (whole : List ℕ) → IsFrontOf text.now whole → IsDemanding whole result }
+    ensures lined { IfOk result IsLined }
+{
+    demand_source(alloc, text)
+}

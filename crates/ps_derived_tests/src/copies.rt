@@ -6,11 +6,12 @@ use std::alloc::Global;
 use std::process::Abort;
 use std::test::Fail as TestFail;
 
-// A first function block, then so many with instances of the one before in their body, in which `#` stands for its number, and a
-// program with one instance of the last.
+// A first function block, with so many factors at the end of its sum, then so many with instances of the one before in their body,
+// in which `#` stands for its number, and a program with one instance of the last.
 struct Chain {
     name: &'static str,
     first: &'static str,
+    factors: u32,
     count: u32,
     body: &'static str,
     expected: &'static str,
@@ -21,10 +22,18 @@ const ONE: &str = " VAR a : F#; END_VAR a(); END_FUNCTION_BLOCK\n";
 
 const TWO: &str = " VAR a, b : F#; END_VAR a(); b(); END_FUNCTION_BLOCK\n";
 
+// One with an instance of a long name, whose output is read.
+const LONG: &str = " VAR_OUTPUT o : BOOL; END_VAR
+VAR xxxxxxxxxxxxxxxxxxxxxxxxxxxxxxxxxxxxxxxxxxxxxxxxxxxxxxxxxxxxxxxx : F#; END_VAR
+xxxxxxxxxxxxxxxxxxxxxxxxxxxxxxxxxxxxxxxxxxxxxxxxxxxxxxxxxxxxxxxx();
+o := xxxxxxxxxxxxxxxxxxxxxxxxxxxxxxxxxxxxxxxxxxxxxxxxxxxxxxxxxxxxxxxx.o; END_FUNCTION_BLOCK\n";
+
 // What first function blocks hold.
 const LOCAL: &str = "VAR x : BOOL; END_VAR";
 
 const SOURCE: &str = "VAR x, y : BOOL; Q : SF_EDM; END_VAR y := x; x := Q.Ready; Q();";
+
+const SUM: &str = "VAR_OUTPUT o : BOOL; END_VAR VAR x : BOOL; END_VAR x := x; o := x";
 
 // Chains, and what is said of each.
 static CHAINS: &[Chain] = &[
@@ -32,6 +41,7 @@ static CHAINS: &[Chain] = &[
     Chain {
         name: "60 empty copies",
         first: "",
+        factors: 0,
         count: 60,
         body: TWO,
         expected: "inputs 0 outputs 0 locals 0 instances 0 steps 0 nodes 0",
@@ -40,6 +50,7 @@ static CHAINS: &[Chain] = &[
     Chain {
         name: "two locals",
         first: LOCAL,
+        factors: 0,
         count: 1,
         body: TWO,
         expected: "inputs 0 outputs 0 locals 2 instances 0 steps 0 nodes 0",
@@ -47,6 +58,7 @@ static CHAINS: &[Chain] = &[
     Chain {
         name: "32 locals",
         first: LOCAL,
+        factors: 0,
         count: 5,
         body: TWO,
         expected: "inputs 0 outputs 0 locals 32 instances 0 steps 0 nodes 0",
@@ -54,6 +66,7 @@ static CHAINS: &[Chain] = &[
     Chain {
         name: "2 ^ 12 locals",
         first: LOCAL,
+        factors: 0,
         count: 12,
         body: TWO,
         expected: "refused B4 at line 14 column 9",
@@ -61,6 +74,7 @@ static CHAINS: &[Chain] = &[
     Chain {
         name: "2 ^ 63 locals",
         first: LOCAL,
+        factors: 0,
         count: 63,
         body: TWO,
         expected: "refused B4 at line 65 column 9",
@@ -69,6 +83,7 @@ static CHAINS: &[Chain] = &[
     Chain {
         name: "64 deep",
         first: SOURCE,
+        factors: 0,
         count: 63,
         body: ONE,
         expected: "inputs 0 outputs 0 locals 2 instances 1 steps 3 nodes 2",
@@ -76,9 +91,19 @@ static CHAINS: &[Chain] = &[
     Chain {
         name: "65 deep",
         first: SOURCE,
+        factors: 0,
         count: 64,
         body: ONE,
         expected: "refused B4 at line 66 column 9",
+    },
+    // Names of sixty parts of 64 bytes each, 9,000 times: as all copies of all function blocks they took over 1 GiB.
+    Chain {
+        name: "60 deep with long names",
+        first: SUM,
+        factors: 9_000,
+        count: 60,
+        body: LONG,
+        expected: "inputs 0 outputs 0 locals 62 instances 0 steps 62 nodes 9063",
     },
 ];
 
@@ -117,6 +142,10 @@ fn push_each(alloc: Global, text: &mut String, part: &str, count: u32) -> Result
 fn push_blocks(alloc: Global, text: &mut String, chain: &Chain) -> Result<(), Memory> {
     text.push_str("FUNCTION_BLOCK F0 ")?;
     text.push_str(chain.first)?;
+    for _ in 0..chain.factors {
+        text.push_str(" AND x")?;
+    }
+    text.push_str(if chain.factors > 0 { ";" } else { "" })?;
     text.push_str(" END_FUNCTION_BLOCK\n")?;
     for number in 0..chain.count {
         push_numbered(alloc, text, "FUNCTION_BLOCK F#", number.saturating_add(1))?;
@@ -147,6 +176,7 @@ fn chains(rt: &impl Abort, alloc: Global) -> Result<(), Memory> {
 static BEYOND: Chain = Chain {
     name: "not used",
     first: LOCAL,
+    factors: 0,
     count: 62,
     body: TWO,
     expected: "inputs 0 outputs 0 locals 9 instances 0 steps 1 nodes 1",

@@ -1,8 +1,10 @@
 pub mod Mapping
 pub mod Lookups
-pub mod Copies
+pub mod Pieces
+pub mod Seen
+pub mod Nesting
+pub mod Copied
 pub mod Alike
-pub mod Growing
 pub mod Making
 pub mod Given
 pub mod Wholes

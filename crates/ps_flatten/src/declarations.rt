@@ -1,68 +1,47 @@
-// Declarations without derived instances.
+// What stands in the place of the declarations of a body.
 
-ghost use Rattle.std.specs.Prelude.{◌≡◌, ◌++◌, [], IfOk, OnOk, map, if◌then◌else◌};
+ghost use Rattle.std.specs.Prelude.{◌≡◌, ◌++◌, ◌∷◌, [], IfOk, OnOk, IfSome, map, length, if◌then◌else◌};
 ghost use Rattle.std.specs.List.{flat_map};
-ghost use Rattle.std.specs.Option.{option_map, option_copied};
+ghost use Rattle.std.specs.Option.{option_map};
 ghost use Rattle.ps_derived.specs.Flat.{block_in, copy_declares, declaration_flat, section_flat, declarations_in};
-ghost use Rattle.ps_flatten.specs.Laying.{block_of, blocks_of, in_part, copied};
+ghost use Rattle.ps_flatten.specs.Laying.{IsKept, blocks_seen, copied, declares, in_part, kept_seen};
 
-use crate::budget::Budget;
-use crate::inside::add_declarations;
-use crate::laid::{Laid, Laids};
+use crate::laid::{DeclarationPiece, Kept, Laids};
 use ps_base::Memory;
 use ps_derived::copy_of;
-use ps_parser::{Declaration, Declarations, Name, Names, Part, Section, Sections};
+use ps_parser::{Declaration, Name, Names, Part, Section};
 use std::alloc::Global;
 
 // Names as they are.
-fn names_of(alloc: Global, budget: &mut Budget, names: &[Name]) -> Result<Names, Memory>
+fn names_of(alloc: Global, names: &[Name]) -> Result<Names, Memory>
     ensures { IfOk result (λ ns. ns ≡ names.now) }
 {
     let mut copies = Names::new(alloc);
     for name in names {
-        budget.take_name()?;
-        let one = copy_of(alloc, name)?;
-        copies.push(one)?;
+        copies.push(copy_of(alloc, name)?)?;
     }
     Ok(copies)
 }
 
-// Writes the copies of a function block for instances with these names.
+// The copies of a function block for instances with these names.
 fn add_copies(
     alloc: Global,
-    budget: &mut Budget,
-    laid: &Laid,
+    blocks: &Laids,
+    block: &Kept,
     names: &[Name],
-    written: &mut Declarations,
+    pieces: &mut Vec<DeclarationPiece>,
 ) -> Result<(), Memory>
-    ensures { OnOk result (written.new ≡ written.old ++ flat_map (copy_declares (block_of laid.now)) names.now) }
+    requires { IsKept (blocks_seen blocks.now) block.now }
+    ensures { OnOk result (flat_map (declares (blocks_seen blocks.now)) pieces.new.items
+        ≡ flat_map (declares (blocks_seen blocks.now)) pieces.old.items ++ flat_map (copy_declares (kept_seen (blocks_seen blocks.now) block.now)) names.now) }
 {
+    if block.laid.declarations.is_empty() {
+        return Ok(());
+    }
     for name in names {
-        add_one_copy(alloc, budget, laid, name, written)?;
+        pieces.push(DeclarationPiece::Copy(copy_of(alloc, name)?, block.place))?;
     }
     Ok(())
-}
-
-// Writes the copy of a function block for an instance with this name.
-fn add_one_copy(
-    alloc: Global,
-    budget: &mut Budget,
-    laid: &Laid,
-    name: &Name,
-    written: &mut Declarations,
-) -> Result<(), Memory>
-    ensures { OnOk result (written.new ≡ written.old ++ copy_declares (block_of laid.now) name.now) }
-{
-    match &laid.content {
-        None => Ok(()),
-        Some(content) => add_declarations(
-            alloc,
-            budget,
-            name,
-            content.declarations.as_slice(),
-            written,
-        ),
-    }
 }
 
 // The function block that a type is in a part: function blocks are types in VAR alone.
@@ -71,8 +50,9 @@ fn block_in<'a>(
     blocks: &'a Laids,
     part: Part,
     ty: &Name,
-) -> Result<Option<&'a Laid>, Memory>
-    ensures { IfOk result (λ b. option_map block_of (option_copied b) ≡ block_in (blocks_of blocks.now) part ty.now) }
+) -> Result<Option<Kept<'a>>, Memory>
+    ensures kept { IfOk result (λ k. IfSome k (IsKept (blocks_seen blocks.now))) }
+    ensures block { IfOk result (λ k. option_map (kept_seen (blocks_seen blocks.now)) k ≡ block_in (blocks_seen blocks.now) part ty.now) }
 {
     match part {
         Part::Input => Ok(None),
@@ -81,39 +61,41 @@ fn block_in<'a>(
     }
 }
 
-// Writes a declaration of a part, or the copies in the place of derived instances.
+// What stands in the place of a declaration of a part.
 fn add_declaration(
     alloc: Global,
-    budget: &mut Budget,
     blocks: &Laids,
     part: Part,
     declaration: &Declaration,
-    written: &mut Declarations,
+    pieces: &mut Vec<DeclarationPiece>,
 ) -> Result<(), Memory>
-    ensures { OnOk result (written.new ≡ written.old ++ declaration_flat declaration.now (block_in (blocks_of blocks.now) part declaration.now.ty)) }
+    ensures { OnOk result (flat_map (declares (blocks_seen blocks.now)) pieces.new.items
+        ≡ flat_map (declares (blocks_seen blocks.now)) pieces.old.items
+        ++ declaration_flat declaration.now (block_in (blocks_seen blocks.now) part declaration.now.ty)) }
 {
     match block_in(alloc, blocks, part, &declaration.ty)? {
         None => {
-            let names = names_of(alloc, budget, declaration.names.as_slice())?;
+            let names = names_of(alloc, declaration.names.as_slice())?;
             let ty = copy_of(alloc, &declaration.ty)?;
-            written.push(Declaration { names, ty })
+            pieces.push(DeclarationPiece::Own(Declaration { names, ty }))?;
+            Ok(())
         }
-        Some(laid) => { add_copies(alloc, budget, laid, declaration.names.as_slice(), written) }
+        Some(block) => add_copies(alloc, blocks, &block, declaration.names.as_slice(), pieces),
     }
 }
 
-// Writes the declarations of a section, with the copies in the place of derived instances.
-fn add_section(
+/// What stands in the place of the declarations of a section.
+pub fn add_section(
     alloc: Global,
-    budget: &mut Budget,
     blocks: &Laids,
     section: &Section,
-    written: &mut Declarations,
+    pieces: &mut Vec<DeclarationPiece>,
 ) -> Result<(), Memory>
-    ensures { OnOk result (written.new ≡ written.old ++ (section_flat (blocks_of blocks.now) section.now).declarations) }
+    ensures { OnOk result (flat_map (declares (blocks_seen blocks.now)) pieces.new.items
+        ≡ flat_map (declares (blocks_seen blocks.now)) pieces.old.items ++ (section_flat (blocks_seen blocks.now) section.now).declarations) }
 {
     for declaration in section.declarations.as_slice() {
-        add_declaration(alloc, budget, blocks, section.part, declaration, written)?;
+        add_declaration(alloc, blocks, section.part, declaration, pieces)?;
     }
     Ok(())
 }
@@ -130,74 +112,53 @@ fn is_in(part: Part, other: Part) -> bool
     }
 }
 
-// Writes the declarations of a section, where it is one of this part.
+// The same where it is a section of this part.
 fn add_section_if(
     alloc: Global,
-    budget: &mut Budget,
     blocks: &Laids,
     part: Part,
     section: &Section,
-    written: &mut Declarations,
+    pieces: &mut Vec<DeclarationPiece>,
 ) -> Result<(), Memory>
-    ensures { OnOk result (written.new ≡ written.old ++ (if in_part part section.now.part then (section_flat (blocks_of blocks.now) section.now).declarations else [])) }
+    ensures { OnOk result (flat_map (declares (blocks_seen blocks.now)) pieces.new.items
+        ≡ flat_map (declares (blocks_seen blocks.now)) pieces.old.items
+        ++ (if in_part part section.now.part then (section_flat (blocks_seen blocks.now) section.now).declarations else [])) }
 {
     if !is_in(part, section.part) {
         return Ok(());
     }
-    add_section(alloc, budget, blocks, section, written)
+    add_section(alloc, blocks, section, pieces)
 }
 
-// Writes the declarations of one part of a body.
+// What stands in the place of the declarations of one part of a body.
 fn add_part(
     alloc: Global,
-    budget: &mut Budget,
     blocks: &Laids,
     part: Part,
     sections: &[Section],
-    written: &mut Declarations,
+    pieces: &mut Vec<DeclarationPiece>,
 ) -> Result<(), Memory>
-    ensures { OnOk result (written.new ≡ written.old ++ declarations_in (in_part part) (map (section_flat (blocks_of blocks.now)) sections.now)) }
+    ensures { OnOk result (flat_map (declares (blocks_seen blocks.now)) pieces.new.items
+        ≡ flat_map (declares (blocks_seen blocks.now)) pieces.old.items
+        ++ declarations_in (in_part part) (map (section_flat (blocks_seen blocks.now)) sections.now)) }
 {
     for section in sections {
-        add_section_if(alloc, budget, blocks, part, section, written)?;
+        add_section_if(alloc, blocks, part, section, pieces)?;
     }
     Ok(())
 }
 
-/// The declarations of a function block as a copy has them: its inputs, its outputs and its own, without derived
-/// instances.
-pub fn declarations_flat(
+/// What stands in the place of the declarations of a function block, in the order of a copy: its inputs, its outputs and its own.
+pub fn declaration_pieces(
     alloc: Global,
-    budget: &mut Budget,
     blocks: &Laids,
     sections: &[Section],
-) -> Result<Declarations, Memory>
-    ensures { IfOk result (λ ds. ds ≡ copied (map (section_flat (blocks_of blocks.now)) sections.now)) }
+) -> Result<Vec<DeclarationPiece>, Memory>
+    ensures { IfOk result (λ pieces. flat_map (declares (blocks_seen blocks.now)) pieces.items ≡ copied (map (section_flat (blocks_seen blocks.now)) sections.now)) }
 {
-    let mut written = Declarations::new(alloc);
-    add_part(alloc, budget, blocks, Part::Input, sections, &mut written)?;
-    add_part(alloc, budget, blocks, Part::Output, sections, &mut written)?;
-    add_part(alloc, budget, blocks, Part::Local, sections, &mut written)?;
-    Ok(written)
-}
-
-/// The sections of the program, with the copies in the place of derived instances.
-pub fn sections_flat(
-    alloc: Global,
-    budget: &mut Budget,
-    blocks: &Laids,
-    sections: &[Section],
-) -> Result<Sections, Memory>
-    ensures { IfOk result (λ s. s ≡ map (section_flat (blocks_of blocks.now)) sections.now) }
-{
-    let mut written = Sections::new(alloc);
-    for section in sections {
-        let mut declarations = Declarations::new(alloc);
-        add_section(alloc, budget, blocks, section, &mut declarations)?;
-        written.push(Section {
-            part: section.part,
-            declarations,
-        })?;
-    }
-    Ok(written)
+    let mut pieces = Vec::new(alloc);
+    add_part(alloc, blocks, Part::Input, sections, &mut pieces)?;
+    add_part(alloc, blocks, Part::Output, sections, &mut pieces)?;
+    add_part(alloc, blocks, Part::Local, sections, &mut pieces)?;
+    Ok(pieces)
 }

@@ -7,8 +7,7 @@ ghost use Rattle.ps_derived.specs.Flat.{flat};
 ghost use Rattle.ps_derived_rules.specs.BlockRules.{offences};
 ghost use Rattle.ps_flatten.specs.Flattening.{Flattens};
 
-use crate::body::{lay_blocks, lay_program};
-use crate::budget::Budget;
+use crate::body::{lay_blocks, sections_flat, statements_flat};
 use ps_base::{Fail, Memory};
 use ps_derived::{Library, copy_of};
 use ps_derived_rules::first_offence;
@@ -31,14 +30,9 @@ fn build(alloc: Global, library: &Library) -> Result<Source, Memory>
 {
     all_kept(library.blocks.as_slice());
     library.program.kept();
-    let mut budget = Budget::new();
-    let blocks = lay_blocks(
-        alloc,
-        &mut budget,
-        library.blocks.as_slice(),
-        &library.program,
-    )?;
-    let (sections, statements) = lay_program(alloc, &mut budget, &blocks, &library.program)?;
+    let blocks = lay_blocks(alloc, library.blocks.as_slice())?;
+    let sections = sections_flat(alloc, &blocks, library.program.sections.as_slice())?;
+    let statements = statements_flat(alloc, &blocks, &library.program)?;
     let name = copy_of(alloc, &library.program.name)?;
     Ok(Source {
         name,
@@ -52,9 +46,8 @@ fn build(alloc: Global, library: &Library) -> Result<Source, Memory>
 /// It is Ok exactly where none of the rules B1 to B5 refuses the text, as `first_offence` says. Otherwise the answer is
 /// the lowest rule that does, at the earliest of its places. A program without function blocks is its own flat source.
 ///
-/// Time and memory are in proportion to the text and to the flat sources of the function blocks of which the program has
-/// copies, each of which is within the limits of B4. Where these take more than `MOST_FLAT_BYTES` in all, the answer is want
-/// of memory.
+/// Time and memory are in proportion to the text and to the flat source: function blocks are not copied into one another, and each
+/// copy is written once, into the flat source.
 pub fn flatten(alloc: Global, library: &Library) -> Result<Source, Fail>
     ensures { Flattens library.now result }
 {

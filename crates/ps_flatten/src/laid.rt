@@ -1,40 +1,40 @@
-// Function blocks that are laid flat.
+// Function blocks that are laid flat, each over those that stand before it.
 
-ghost use Rattle.std.specs.Prelude.{◌≡◌, ◌∷◌, ◌++◌, [], IfOk, IfSome};
-ghost use Rattle.std.specs.List.{list_all};
+ghost use Rattle.std.specs.Prelude.{◌≡◌, ◌∷◌, ◌++◌, ◌<◌, [], IfOk, IfSome, length, slice_get, take};
 ghost use Rattle.std.specs.Option.{option_map, option_copied};
 ghost use Rattle.ps_derived.specs.Bodies.{inputs};
 ghost use Rattle.ps_derived.specs.Flat.{block_named, instance_of};
-ghost use Rattle.ps_flatten.specs.Laying.{block_of, blocks_of, laid_named, keeps, instance_seen, KnowsInputs};
+ghost use Rattle.ps_flatten.specs.Laying.{block_seen, blocks_seen, kept_seen, instance_seen, IsKept};
 
 use ps_base::Memory;
-use ps_derived::Declared;
 use ps_derived_rules::{Interface, Scope};
-use ps_parser::{Declarations, Name, Part, Statements};
+use ps_parser::{Declaration, Name, Part, Statement};
 use ps_table::Table;
 use std::alloc::Global;
 use std::marker::Model;
 
-/// What a copy of a function block has: its declarations in the order of a copy, and its statements.
-pub struct Content {
-    pub declarations: Declarations,
-    pub statements: Statements,
+/// What stands in the place of a declaration: one without derived instances, or what a copy of a function block declares. The
+/// function block is given by its place in the text, and the name is that of the instance.
+#[derive(Drop)]
+pub enum DeclarationPiece {
+    Own(Declaration),
+    Copy(Name, usize),
 }
 
-impl Drop for Content {
-    // One call for whoever owns one, in place of a walk through all that it holds.
-    fn drop(self) {
-        let Content {
-            declarations: _,
-            statements: _,
-        } = self;
-    }
+/// What stands in the place of a statement: one without derived instances, or the statements of a copy of a function block. The
+/// function block is given by its place in the text, and the name is that of the instance.
+#[derive(Drop)]
+pub enum StatementPiece {
+    Own(Statement),
+    Copy(Name, usize),
 }
 
-/// A function block, with its content where this is kept.
+/// A function block: what bodies see of it, and what it has in the place of its declarations, in the order of a copy, and of
+/// its statements.
 pub struct Laid {
     pub interface: Interface,
-    pub content: Option<Content>,
+    pub declarations: Vec<DeclarationPiece>,
+    pub statements: Vec<StatementPiece>,
 }
 
 impl Drop for Laid {
@@ -42,7 +42,8 @@ impl Drop for Laid {
     fn drop(self) {
         let Laid {
             interface: _,
-            content: _,
+            declarations: _,
+            statements: _,
         } = self;
     }
 }
@@ -64,11 +65,12 @@ impl Model for Laids {
     ghost use Rattle.std.specs.Prelude.{List};
     ghost use Rattle.std.specs.Coded.{codes};
     ghost use Rattle.ps_parser.specs.TreeCode.{sum_code};
+    ghost use Rattle.ps_parser.specs.contracts.expression.Sum as sum;
     ghost use Rattle.ps_flatten.specs.declared.laid.Laid.{Laid};
 
     ghost Value = { List Laid };
 
-    ghost coded = { Prim.hlevel (codes, sum_code) };
+    ghost coded = { Prim.hlevel (codes, sum_code, sum.the_row.coded) };
 
     ghost use Rattle.ps_table.specs.Tables.{Indexes};
 
@@ -79,11 +81,18 @@ impl Model for Laids {
     ghost invariant = { λ s. Indexes (λ b. b.interface.name) s.table s.items.items × KnowInputs s.items.items };
 }
 
+/// A function block with its place in the text.
+#[derive(Clone, Copy)]
+pub struct Kept<'a> {
+    pub place: usize,
+    pub laid: &'a Laid,
+}
+
 /// A derived instance: its name as it is declared, and its function block.
 #[derive(Clone, Copy)]
 pub struct Instance<'a> {
     pub name: &'a Name,
-    pub laid: &'a Laid,
+    pub block: Kept<'a>,
 }
 
 /// A body's declared names, and the function blocks that stand before it.
@@ -118,17 +127,39 @@ impl Laids {
         Ok(Laids { items, table })
     }
 
+    /// How many there are.
+    pub fn len(&self) -> usize
+        ensures { result ≡ length self.now }
+    {
+        self.items.len()
+    }
+
+    /// The function block at a place, where this is one of the first `limit`.
+    pub fn before(&self, limit: usize, place: usize) -> Option<&Laid>
+        ensures within { IfSome result (λ _. place < limit) }
+        ensures seen { option_map (block_seen (take place (blocks_seen self.now))) (option_copied result)
+            ≡ slice_get (take limit (blocks_seen self.now)) place }
+    {
+        if place < limit {
+            self.items.get(place)
+        } else {
+            None
+        }
+    }
+
     /// The first function block with a name, without letter case.
-    pub fn named(&self, alloc: Global, name: &Name) -> Result<Option<&Laid>, Memory>
-        ensures laid { IfOk result (λ b. option_copied b ≡ laid_named self.now name.now) }
-        ensures block { IfOk result (λ b. option_map block_of (option_copied b) ≡ block_named (blocks_of self.now) name.now) }
-        ensures inputs { IfOk result (λ b. IfSome (option_copied b) KnowsInputs) }
+    pub fn named(&self, alloc: Global, name: &Name) -> Result<Option<Kept>, Memory>
+        ensures kept { IfOk result (λ k. IfSome k (IsKept (blocks_seen self.now))) }
+        ensures block { IfOk result (λ k. option_map (kept_seen (blocks_seen self.now)) k ≡ block_named (blocks_seen self.now) name.now) }
     {
         match self.table.place_of(alloc, name)? {
             None => Ok(None),
-            Some(k) => {
-                if k < self.items.len() {
-                    Ok(Some(&self.items[k]))
+            Some(place) => {
+                if place < self.items.len() {
+                    Ok(Some(Kept {
+                        place,
+                        laid: &self.items[place],
+                    }))
                 } else {
                     Ok(None)
                 }
@@ -143,8 +174,9 @@ pub fn instance_of<'a>(
     body: &Body<'a>,
     name: &Name,
 ) -> Result<Option<Instance<'a>>, Memory>
-    ensures inputs { IfOk result (λ i. IfSome i (λ x. KnowsInputs x.laid.now)) }
-    ensures instance { IfOk result (λ i. option_map instance_seen i ≡ instance_of (blocks_of body.now.blocks.now) body.now.scope.now name.now) }
+    ensures kept { IfOk result (λ i. IfSome i (λ x. IsKept (blocks_seen body.now.blocks.now) x.block)) }
+    ensures instance { IfOk result (λ i. option_map (instance_seen (blocks_seen body.now.blocks.now)) i
+        ≡ instance_of (blocks_seen body.now.blocks.now) body.now.scope.now name.now) }
 {
     match body.scope.first(alloc, name)? {
         None => Ok(None),
@@ -153,37 +185,11 @@ pub fn instance_of<'a>(
             Part::Output => Ok(None),
             Part::Local => match body.blocks.named(alloc, &declared.ty)? {
                 None => Ok(None),
-                Some(laid) => Ok(Some(Instance {
+                Some(block) => Ok(Some(Instance {
                     name: &declared.name,
-                    laid,
+                    block,
                 })),
             },
         },
     }
-}
-
-// Whether the content of the function block is kept of which a declaration makes an instance, if it makes one.
-fn keeps(alloc: Global, blocks: &Laids, declared: &Declared) -> Result<bool, Memory>
-    ensures { IfOk result (λ b. b ≡ keeps blocks.now declared.now) }
-{
-    match declared.part {
-        Part::Input => Ok(true),
-        Part::Output => Ok(true),
-        Part::Local => match blocks.named(alloc, &declared.ty)? {
-            None => Ok(true),
-            Some(laid) => Ok(laid.content.is_some()),
-        },
-    }
-}
-
-/// Whether the contents of all function blocks are kept of which a body has instances.
-pub fn keeps_all(alloc: Global, blocks: &Laids, declared: &[Declared]) -> Result<bool, Memory>
-    ensures { IfOk result (λ b. b ≡ list_all (keeps blocks.now) declared.now) }
-{
-    for one in declared {
-        if !keeps(alloc, blocks, one)? {
-            return Ok(false);
-        }
-    }
-    Ok(true)
 }

@@ -1,13 +1,13 @@
 //! The flat source of a text with function blocks: its program without derived instances.
 //!
-//! Rooms: `laid` keeps function blocks that are laid flat; `inside` copies their content into an instance; `values`,
-//! `statements` and `declarations` write a body without derived instances; `body` lays function blocks flat, one after the
-//! other, and the program over them; `budget` bounds what is written; `flattening` tries the rules B first. What a reader
-//! believes stands in specs: `Flattening`.
+//! Rooms: `laid` keeps function blocks that are laid flat, with copies that are named and not written; `values`, `statements` and
+//! `declarations` make them of bodies; `inside` writes a statement or a declaration inside an instance; `copies` writes whole
+//! copies, from the outermost instance inwards; `body` lays function blocks flat, one after the other, and the program over them;
+//! `flattening` tries the rules B first. What a reader believes stands in specs: `Flattening`.
 #![tactic(auto)]
 
 mod body;
-mod budget;
+mod copies;
 mod declarations;
 mod flattening;
 mod inside;
@@ -15,5 +15,4 @@ mod laid;
 mod statements;
 mod values;
 
-pub use budget::MOST_FLAT_BYTES;
 pub use flattening::flatten;

@@ -1,9 +1,8 @@
-// Statements without calls of derived instances.
+// What stands in the place of the statements of a body.
 
 ghost use Rattle.std.specs.Prelude.{◌≡◌, ◌++◌, IfOk, OnOk, map};
 ghost use Rattle.std.specs.List.{flat_map, find};
 ghost use Rattle.std.specs.Option.{option_map, option_copied};
-ghost use Rattle.ps_parser.specs.declared.name.Name.{Name};
 ghost use Rattle.ps_parser.specs.declared.statement.Argument.{Argument};
 ghost use Rattle.ps_parser.specs.ArgumentView.{argument_tree};
 ghost use Rattle.ps_parser.specs.StatementView.{statement_tree};
@@ -11,15 +10,14 @@ ghost use Rattle.ps_table.specs.Tables.{Indexes};
 ghost use Rattle.ps_derived.specs.Bodies.{same};
 ghost use Rattle.ps_derived.specs.Dotted.{inside, statement_inside};
 ghost use Rattle.ps_derived.specs.Flat.{instance_of, input_assigned, call_flat, statement_flat};
-ghost use Rattle.ps_flatten.specs.Laying.{blocks_of, instance_seen, KnowsInputs};
+ghost use Rattle.ps_flatten.specs.Laying.{IsKept, blocks_seen, instance_seen, states};
 
-use crate::budget::Budget;
-use crate::inside::{add_statements, inside};
-use crate::laid::{Body, Instance, instance_of};
+use crate::inside::inside;
+use crate::laid::{Body, Instance, StatementPiece, instance_of};
 use crate::values::{arguments_flat, sum_flat};
 use ps_base::Memory;
 use ps_derived::copy_of;
-use ps_parser::{Argument, Name, Products, Statement, Statements, Sum, Target};
+use ps_parser::{Argument, Name, Products, Statement, Sum, Target};
 use ps_table::Table;
 use std::alloc::Global;
 
@@ -60,12 +58,11 @@ fn argument_of<'a>(
 // such a one would be given nothing.
 fn input_assigned(
     alloc: Global,
-    budget: &mut Budget,
     body: &Body,
     target: Name,
     argument: Option<&Argument>,
 ) -> Result<Statement, Memory>
-    ensures { IfOk result (λ s. statement_tree s ≡ input_assigned (blocks_of body.now.blocks.now) body.now.scope.now target (option_map argument_tree (option_copied argument.entry))) }
+    ensures { IfOk result (λ s. statement_tree s ≡ input_assigned (blocks_seen body.now.blocks.now) body.now.scope.now target (option_map argument_tree (option_copied argument.entry))) }
 {
     match argument {
         None => Ok(Statement::Assign(
@@ -79,76 +76,78 @@ fn input_assigned(
                 text: target.text,
                 place: argument.pin.place,
             };
-            let value = sum_flat(alloc, budget, body, &argument.value)?;
+            let value = sum_flat(alloc, body, &argument.value)?;
             Ok(Statement::Assign(Target::Name(target), value))
         }
     }
 }
 
-// Writes the assignments of an instance's inputs, in their order.
+// The assignments of an instance's inputs, in their order.
 fn add_inputs(
     alloc: Global,
-    budget: &mut Budget,
     body: &Body,
     instance: &Instance,
     arguments: &[Argument],
-    written: &mut Statements,
+    pieces: &mut Vec<StatementPiece>,
 ) -> Result<(), Memory>
-    ensures { OnOk result (written.new ≡ written.old ++ map (λ x. input_assigned (blocks_of body.now.blocks.now) body.now.scope.now (inside instance.now.name.now x) (find (λ a. same x a.pin) (map argument_tree arguments.now))) instance.now.laid.now.interface.inputs) }
+    ensures { OnOk result (flat_map (states (blocks_seen body.now.blocks.now)) pieces.new.items
+        ≡ flat_map (states (blocks_seen body.now.blocks.now)) pieces.old.items
+        ++ map (λ x. input_assigned (blocks_seen body.now.blocks.now) body.now.scope.now (inside instance.now.name.now x) (find (λ a. same x a.pin) (map argument_tree arguments.now)))
+        instance.now.block.laid.now.interface.inputs) }
 {
     let pins = pins_of(alloc, arguments)?;
-    for input in instance.laid.interface.inputs.as_slice() {
-        budget.take_statement()?;
-        let target = inside(alloc, budget, instance.name, input)?;
+    for input in instance.block.laid.interface.inputs.as_slice() {
+        let target = inside(alloc, instance.name, input)?;
         let argument = argument_of(alloc, arguments, &pins, input)?;
-        let one = input_assigned(alloc, budget, body, target, argument)?;
-        written.push(one)?;
+        let one = input_assigned(alloc, body, target, argument)?;
+        pieces.push(StatementPiece::Own(one))?;
     }
     Ok(())
 }
 
-// Writes the statements of an instance's copy.
+// The statements of an instance's copy, where it has any.
 fn add_copy(
     alloc: Global,
-    budget: &mut Budget,
+    body: &Body,
     instance: &Instance,
-    written: &mut Statements,
+    pieces: &mut Vec<StatementPiece>,
 ) -> Result<(), Memory>
-    ensures { OnOk result (written.new ≡ written.old ++ map (statement_inside instance.now.name.now) (instance_seen instance.now).block.flat.statements) }
+    requires { IsKept (blocks_seen body.now.blocks.now) instance.now.block }
+    ensures { OnOk result (flat_map (states (blocks_seen body.now.blocks.now)) pieces.new.items
+        ≡ flat_map (states (blocks_seen body.now.blocks.now)) pieces.old.items
+        ++ map (statement_inside instance.now.name.now) (instance_seen (blocks_seen body.now.blocks.now) instance.now).block.flat.statements) }
 {
-    match &instance.laid.content {
-        None => Ok(()),
-        Some(content) => add_statements(
-            alloc,
-            budget,
-            instance.name,
-            content.statements.as_slice(),
-            written,
-        ),
+    if instance.block.laid.statements.is_empty() {
+        return Ok(());
     }
+    let name = copy_of(alloc, instance.name)?;
+    pieces.push(StatementPiece::Copy(name, instance.block.place))?;
+    Ok(())
 }
 
-// Writes what stands in the place of a call of a name that is this instance, if it is one.
+// What stands in the place of a call of a name that is this instance, if it is one.
 fn add_call(
     alloc: Global,
-    budget: &mut Budget,
     body: &Body,
     name: &Name,
     arguments: &[Argument],
-    written: &mut Statements,
+    pieces: &mut Vec<StatementPiece>,
 ) -> Result<(), Memory>
-    ensures { OnOk result (written.new ≡ written.old ++ call_flat (blocks_of body.now.blocks.now) body.now.scope.now name.now (map argument_tree arguments.now) (instance_of (blocks_of body.now.blocks.now) body.now.scope.now name.now)) }
+    ensures { OnOk result (flat_map (states (blocks_seen body.now.blocks.now)) pieces.new.items
+        ≡ flat_map (states (blocks_seen body.now.blocks.now)) pieces.old.items
+        ++ call_flat (blocks_seen body.now.blocks.now) body.now.scope.now name.now (map argument_tree arguments.now)
+        (instance_of (blocks_seen body.now.blocks.now) body.now.scope.now name.now)) }
 {
     match instance_of(alloc, body, name)? {
         None => {
-            budget.take_statement()?;
             let name = copy_of(alloc, name)?;
-            let arguments = arguments_flat(alloc, budget, body, arguments)?;
-            written.push(Statement::Call(name, arguments))
+            let arguments = arguments_flat(alloc, body, arguments)?;
+            pieces.push(StatementPiece::Own(Statement::Call(name, arguments)))?;
+            Ok(())
         }
         Some(instance) => {
-            add_inputs(alloc, budget, body, &instance, arguments, written)?;
-            add_copy(alloc, budget, &instance, written)
+            add_inputs(alloc, body, &instance, arguments, pieces)?;
+            add_copy(alloc, body, &instance, pieces)
         }
     }
 }
@@ -163,41 +162,42 @@ fn target_of(alloc: Global, target: &Target) -> Result<Target, Memory>
     }
 }
 
-// Writes what stands in the place of a statement.
+// What stands in the place of a statement.
 fn add_statement(
     alloc: Global,
-    budget: &mut Budget,
     body: &Body,
     statement: &Statement,
-    written: &mut Statements,
+    pieces: &mut Vec<StatementPiece>,
 ) -> Result<(), Memory>
-    ensures { OnOk result (written.new ≡ written.old ++ statement_flat (blocks_of body.now.blocks.now) body.now.scope.now (statement_tree statement.now)) }
+    ensures { OnOk result (flat_map (states (blocks_seen body.now.blocks.now)) pieces.new.items
+        ≡ flat_map (states (blocks_seen body.now.blocks.now)) pieces.old.items
+        ++ statement_flat (blocks_seen body.now.blocks.now) body.now.scope.now (statement_tree statement.now)) }
 {
     match statement {
         Statement::Assign(target, value) => {
-            budget.take_statement()?;
             let target = target_of(alloc, target)?;
-            let value = sum_flat(alloc, budget, body, value)?;
-            written.push(Statement::Assign(target, value))
+            let value = sum_flat(alloc, body, value)?;
+            pieces.push(StatementPiece::Own(Statement::Assign(target, value)))?;
+            Ok(())
         }
         Statement::Call(name, arguments) => {
-            add_call(alloc, budget, body, name, arguments.as_slice(), written)
+            add_call(alloc, body, name, arguments.as_slice(), pieces)
         }
     }
 }
 
-/// These statements, with the inputs' assignments and the copies in the place of calls of derived instances.
-pub fn statements_flat(
+/// What stands in the place of the statements of a body.
+pub fn statement_pieces(
     alloc: Global,
-    budget: &mut Budget,
     body: &Body,
     statements: &[Statement],
-) -> Result<Statements, Memory>
-    ensures { IfOk result (λ s. s ≡ flat_map (statement_flat (blocks_of body.now.blocks.now) body.now.scope.now) (map statement_tree statements.now)) }
+) -> Result<Vec<StatementPiece>, Memory>
+    ensures { IfOk result (λ pieces. flat_map (states (blocks_seen body.now.blocks.now)) pieces.items
+        ≡ flat_map (statement_flat (blocks_seen body.now.blocks.now) body.now.scope.now) (map statement_tree statements.now)) }
 {
-    let mut written = Statements::new(alloc);
+    let mut pieces = Vec::new(alloc);
     for statement in statements {
-        add_statement(alloc, budget, body, statement, &mut written)?;
+        add_statement(alloc, body, statement, &mut pieces)?;
     }
-    Ok(written)
+    Ok(pieces)
 }

@@ -2,9 +2,9 @@ use Rattle.std.proofs.Common.{◌+◌, [], ◌∷◌, ◌++◌, take, get_or, sy
 use Rattle.std.proofs.lemmas.List.{take_more}
 use Rattle.ps_derived.specs.Flat.{block_flat, blocks_flat}
 use Rattle.ps_derived.proofs.Counts.{blocks_flat_push}
-use Rattle.ps_flatten.specs.Laying.{AreLaid}
-use Rattle.ps_flatten.proofs.Alike.{laid_push}
-use Rattle.ps_flatten.proofs.Making.{made_laid}
+use Rattle.ps_flatten.specs.Laying.{AreLaid, block_seen, blocks_seen}
+use Rattle.ps_flatten.proofs.Alike.{block_alike, laid_push}
+use Rattle.ps_flatten.proofs.Seen.{seen_push}
 use Rattle.ps_flatten.proofs.body.lay_blocks.Goals as goal
 
 pub loop-i-preserved : goal.loop-i-preserved
@@ -15,8 +15,11 @@ loop-i-preserved c =
     let x = get_or xs i d in
     let bs = blocks_flat [] (take i xs) in
     let ls = c.loop-i.blocks in
-    let one = made_laid ls bs d c.in_ok-interface.interface c.content_if-content.result c.loop-i.invariant c.in_ok-interface.ensures c.content_if-content.ensures.kept c.content_if-content.ensures.content in
-    subst (λ l. AreLaid l (blocks_flat [] (take (i + 1) xs))) (sym c.in_ok-blocks.ensures)
-    (subst (AreLaid (ls ++ (record { interface = c.in_ok-interface.interface; content = c.content_if-content.result }) ∷ []))
+    let seen = blocks_seen ls in
+    let l = block_seen seen c.in_ok-laid.laid in
+    let one = block_alike seen bs c.loop-i.invariant l d c.in_ok-laid.ensures.laid in
+    subst (λ k. AreLaid (blocks_seen k) (blocks_flat [] (take (i + 1) xs))) (sym c.in_ok-blocks.ensures)
+    (subst (λ k. AreLaid k (blocks_flat [] (take (i + 1) xs))) (sym (seen_push [] ls c.in_ok-laid.laid))
+    (subst (AreLaid (seen ++ l ∷ []))
     (ap (λ s. bs ++ block_flat bs s ∷ []) c.index-sources-i.is ∙ sym (blocks_flat_push [] (take i xs) x) ∙ ap (blocks_flat []) (sym (take_more xs i d c.loop-i-test.true)))
-    (laid_push ls bs (record { interface = c.in_ok-interface.interface; content = c.content_if-content.result }) (block_flat bs d) c.loop-i.invariant one))
+    (laid_push seen bs l (block_flat bs d) c.loop-i.invariant one)))

@@ -1,7 +1,7 @@
 use Rattle.std.proofs.Common.{[], take}
 use Rattle.ps_derived.specs.Flat.{blocks_flat}
-use Rattle.ps_flatten.specs.Laying.{AreLaid}
+use Rattle.ps_flatten.specs.Laying.{AreLaid, blocks_seen}
 use Rattle.ps_flatten.proofs.body.lay_blocks.Given as goal
 
 abbrev pub invariant-loop-i : goal.invariant-loop-i
-invariant-loop-i l = AreLaid l.blocks (blocks_flat [] (take l.i l.sources))
+invariant-loop-i l = AreLaid (blocks_seen l.blocks) (blocks_flat [] (take l.i l.sources))

@@ -139,6 +139,8 @@ impl Pair {
         ensures same { self.new ≡ self.old }
         ensures verdict { result ≡ judged (outcome_a self.old) (outcome_b self.old) }
     {
+        self.report_a.clear();
+        self.report_b.clear();
         if let Err(failing) = self.a.outcome_into(&mut self.report_a) {
             return Verdict::Tripped(cause_of_failing(Channel::A, failing));
         }

@@ -9,3 +9,5 @@ pub mod Stepping
 pub mod Scanning
 pub mod WrittenRows
 pub mod Examples
+pub mod Backward
+pub mod Restoring

@@ -9,3 +9,4 @@ pub mod Channel
 pub mod Budget
 pub mod Code
 pub mod Stands
+pub mod Restoring

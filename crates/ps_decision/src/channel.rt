@@ -3,12 +3,12 @@
 ghost use Rattle.std.specs.Prelude.{◌≡◌, ◌+◌, ◌*◌};
 
 use crate::cells::{begin, progress};
-use crate::layout::{INSTANCE_SIZE, SIGNALS_AT};
+use crate::layout::{INSTANCE_SIZE, SIGNALS_AT, TIME_AT};
+use crate::report::read_report;
 use crate::turn::{turn, turns};
 use ps_base::Memory;
-use ps_machine::{CodeImage, ScanMachine, overwrite};
+use ps_machine::{CodeImage, Frame, ScanMachine};
 use ps_model::{OutOfRegion, Progress, Region, Report, Scan, Sizes};
-use ps_stackvm::read_report;
 use std::alloc::Global;
 use std::marker::Model;
 
@@ -17,52 +17,46 @@ use std::marker::Model;
 /// are run as they are. Of its calls only `new` takes memory.
 #[derive(Debug)]
 pub struct DecisionChannel {
-    sizes: Sizes,
-    code: Vec<u8>,
-    cells: Vec<u8>,
+    frame: Frame,
 }
 
 impl Drop for DecisionChannel {
     // One call for whoever owns one, in place of a walk through all that it holds.
     fn drop(self) {
-        let DecisionChannel {
-            sizes: _,
-            code: _,
-            cells: _,
-        } = self;
+        let DecisionChannel { frame: _ } = self;
     }
 }
 
 impl Model for DecisionChannel {
     ghost use Rattle.std.specs.Prelude.{◌≡◌, ◌+◌, ◌*◌, ◌^◌, ◌<◌, length};
+    ghost use Rattle.ps_machine.specs.Frames.{channel_in};
     ghost use Rattle.ps_machine.specs.StoredChannel.{Stored};
     ghost use Rattle.ps_decision.specs.declared.layout.TheConstants.{INSTANCE_SIZE, SIGNALS_AT};
 
     ghost Value = { Stored };
 
-    ghost view = { λ c. record { sizes = c.sizes; code = c.code.items; cells = c.cells.items } };
+    ghost view = { λ c. channel_in c.frame };
 
-    ghost invariant = { λ c. (length c.cells.items ≡ SIGNALS_AT + c.sizes.signals + INSTANCE_SIZE * c.sizes.instances) × (length c.cells.items < 2 ^ 32) × (length c.code.items < 2 ^ 32) };
+    ghost invariant = { λ c. (length c.frame.cells.items ≡ SIGNALS_AT + c.frame.sizes.signals + INSTANCE_SIZE * c.frame.sizes.instances)
+        × (length c.frame.cells.items < 2 ^ 32) × (length c.frame.code.items < 2 ^ 32) };
 }
 
 impl DecisionChannel {
-    ghost use Rattle.std.specs.Prelude.{◌≡◌, ℕ, ◌+◌, ◌<◌, ◌≤◌, length, slice_index, true, false, IfOk, Some, None, is_err, nat_lt};
+    ghost use Rattle.std.specs.Prelude.{◌≡◌, ℕ, ◌+◌, ◌*◌, ◌<◌, ◌≤◌, length, slice_index, true, false, IfOk, Some, None, is_err, nat_lt};
     ghost use Rattle.ps_machine.specs.Machines.{turned};
     ghost use Rattle.ps_machine.specs.Progressing.{progress_said, is_running};
-    ghost use Rattle.ps_machine.specs.StoredChannel.{region_of, spoiled};
+    ghost use Rattle.ps_machine.specs.StoredChannel.{restored_channel, region_of, spoiled};
     ghost use Rattle.ps_decision.specs.Cells.{progress_of};
     ghost use Rattle.ps_decision.specs.Turn.{begin_c, turn_c, report_c};
     ghost use Rattle.ps_decision.specs.Channel.{blank_c};
+    ghost use Rattle.ps_decision.specs.Restoring.{carried_c, restored_c};
 
     /// A channel with its own copy of the code, for an application of these sizes, with cells all 0.
     pub fn new(alloc: Global, image: &CodeImage, sizes: &Sizes) -> Result<DecisionChannel, Memory>
         ensures { IfOk result (λ c. c ≡ record { sizes = sizes.now; code = image.now; cells = blank_c sizes.now }) }
     {
-        let sizes = sizes.copy(alloc)?;
-        let code = Vec::from_slice(alloc, image.as_slice())?;
-        let len = SIGNALS_AT + sizes.signals as usize + INSTANCE_SIZE * sizes.instances as usize;
-        let cells = vec![in alloc; 0; len]?;
-        Ok(DecisionChannel { sizes, code, cells })
+        let frame = Frame::new(alloc, image, sizes, SIGNALS_AT)?;
+        Ok(DecisionChannel { frame })
     }
 
     /// Makes the channel as `new` makes it from this image, which has the length of the channel's code.
@@ -70,8 +64,26 @@ impl DecisionChannel {
         requires { length image.now ≡ length self.old.code }
         ensures { self.new ≡ record { sizes = self.old.sizes; code = image.now; cells = blank_c self.old.sizes } }
     {
-        self.code.copy_from_slice(image.as_slice());
-        self.cells.fill(0);
+        self.frame.renew(image);
+    }
+
+    /// Restores the channel with the code of this image, which has the length of the channel's code: all cells are 0 but the
+    /// time of the last scan in ms, and the signals and instances, whose bytes are these.
+    pub fn restore(&mut self, image: &CodeImage, time: u32, bytes: &[u8])
+        requires image { length image.now ≡ length self.old.code }
+        requires bytes { length bytes.now ≡ self.old.sizes.signals + 16 * self.old.sizes.instances }
+        ensures { self.new ≡ restored_channel (restored_c self.old.sizes time bytes.now) image.now self.old }
+    {
+        self.frame
+            .restore(image, TIME_AT, &time.to_be_bytes(), SIGNALS_AT, bytes);
+    }
+
+    /// Reads the bytes of the signals and then of the instances, as they stand in the cells.
+    pub fn carry_into(&self, bytes: &mut [u8])
+        requires { length bytes.old ≡ self.now.sizes.signals + 16 * self.now.sizes.instances }
+        ensures { bytes.new ≡ carried_c self.now.sizes self.now.cells }
+    {
+        self.frame.carry_into(SIGNALS_AT, bytes);
     }
 
     /// The Begin of a scan, which has one value for each input: offset and progress are 0, and the
@@ -80,7 +92,7 @@ impl DecisionChannel {
         requires { length scan.now.ins ≡ self.old.sizes.inputs }
         ensures { self.new ≡ record self.old { cells = begin_c scan.entry.now.now scan.entry.now.ins self.old.cells } }
     {
-        begin(&mut self.cells, scan.now, scan.ins.as_slice());
+        begin(&mut self.frame.cells, scan.now, scan.ins.as_slice());
     }
 
     /// What the progress byte says: Running for 0, Done for 1, Trapped with the value less 1 for 2 to 8,
@@ -88,7 +100,7 @@ impl DecisionChannel {
     pub fn progress(&self) -> Progress
         ensures { result ≡ progress_said (progress_of self.now.cells) }
     {
-        progress(&self.cells)
+        progress(&self.frame.cells)
     }
 
     /// One row, on any bytes. A trap is marked in the progress byte, and nothing else changes.
@@ -97,10 +109,10 @@ impl DecisionChannel {
         ensures { self.new ≡ record self.old { cells = turn_c self.old.sizes self.old.code self.old.cells } }
     {
         turn(
-            &mut self.cells,
-            &self.code,
-            self.sizes.signals,
-            self.sizes.instances,
+            &mut self.frame.cells,
+            &self.frame.code,
+            self.frame.sizes.signals,
+            self.frame.sizes.instances,
         );
     }
 
@@ -114,10 +126,10 @@ impl DecisionChannel {
         ensures stopped { result < most → is_running (progress_said (progress_of self.new.cells)) ≡ false }
     {
         turns(
-            &mut self.cells,
-            &self.code,
-            self.sizes.signals,
-            self.sizes.instances,
+            &mut self.frame.cells,
+            &self.frame.code,
+            self.frame.sizes.signals,
+            self.frame.sizes.instances,
             most,
         )
     }
@@ -132,17 +144,14 @@ impl DecisionChannel {
         ensures kept { result ≡ false → into.new ≡ into.old }
         ensures sized { (length into.new.outs ≡ length into.old.outs) × (length into.new.diags ≡ length into.old.diags) }
     {
-        read_report(&self.cells, SIGNALS_AT, &self.sizes, into)
+        read_report(&self.frame.cells, &self.frame.sizes, into)
     }
 
     /// The length of a region in bytes.
     pub fn region_len(&self, region: Region) -> u32
         ensures { result ≡ length (region_of region self.now) }
     {
-        match region {
-            Region::Code => self.code.len() as u32,
-            Region::Cells => self.cells.len() as u32,
-        }
+        self.frame.region_len(region)
     }
 
     /// Replaces bytes of a region. OutOfRegion comes exactly where they would pass its end, and then nothing
@@ -151,10 +160,7 @@ impl DecisionChannel {
         ensures bytes { self.new ≡ spoiled region at bytes.now self.old }
         ensures refused { is_err result ≡ nat_lt (length (region_of region self.old)) (at + length bytes.now) }
     {
-        match region {
-            Region::Code => overwrite(&mut self.code, at, bytes),
-            Region::Cells => overwrite(&mut self.cells, at, bytes),
-        }
+        self.frame.spoil(region, at, bytes)
     }
 
     /// A byte of the cells.
@@ -162,16 +168,19 @@ impl DecisionChannel {
         requires { at < length self.now.cells }
         ensures { result ≡ slice_index self.now.cells at }
     {
-        self.cells[at as usize]
+        self.frame.cells[at as usize]
     }
 }
 
 impl ScanMachine for DecisionChannel {
     ghost use Rattle.ps_decision.specs.Channel.{workings_c};
+    ghost use Rattle.ps_decision.specs.Restoring.{restored_c};
 
     ghost stored = { λ channel. channel };
 
     ghost workings = { workings_c };
+
+    ghost restored = { λ sizes limits time bytes. restored_c sizes time bytes };
 
     fn new(alloc: Global, image: &CodeImage, sizes: &Sizes) -> Result<DecisionChannel, Memory> {
         DecisionChannel::new(alloc, image, sizes)
@@ -179,6 +188,10 @@ impl ScanMachine for DecisionChannel {
 
     fn renew(&mut self, image: &CodeImage) {
         self.renew(image);
+    }
+
+    fn restore(&mut self, image: &CodeImage, _limits: &[u32], time: u32, bytes: &mut [u8]) {
+        self.restore(image, time, bytes);
     }
 
     fn begin(&mut self, scan: &Scan) {

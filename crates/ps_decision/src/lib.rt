@@ -3,7 +3,7 @@
 //!
 //! - `channel`: the channel, with its code and its cells; `cells` and `layout` are its cells.
 //! - `turn`: one turn, by `fetch`, `act` and `call`; `pins` is what a call takes from the pin cells.
-//! - The step of an instance and the report of the cells are those of channel A, from its crate.
+//! - `report` is the report that the cells hold. The step of an instance is that of channel A, from its crate.
 //! - `row`: the rows of decision code; the traps are those of channel A.
 //! - `image`: the code of an application; `emit` writes the rows of its values, and `budget` counts them.
 //! - `laws`: what the code promises, and how long it is.
@@ -22,6 +22,7 @@ mod image;
 pub mod laws;
 pub mod layout;
 mod pins;
+mod report;
 mod row;
 mod turn;
 

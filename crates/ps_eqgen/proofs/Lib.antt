@@ -8,3 +8,4 @@ pub mod Scanning
 pub mod Written
 pub mod Shallow
 pub mod Examples
+pub mod SameSizes

@@ -13,3 +13,6 @@ pub mod StaysPlain
 pub mod Runs
 pub mod StoredBytes
 pub mod StoredRuns
+pub mod Chunks
+pub mod Healed
+pub mod Restoring

@@ -9,6 +9,7 @@ pub mod Turn
 pub mod Channel
 pub mod Code
 pub mod Stands
+pub mod Restoring
 -- Apparatus: the same as the functions of the machine have it.
 pub mod Bits
 pub mod LowBits

@@ -2,7 +2,9 @@
 
 ghost use Rattle.std.specs.Prelude.{◌≡◌, ◌+◌, ◌*◌, IfOk};
 
+use crate::counting::{complement, store_counted};
 use crate::layout::{INSTANCE_SIZE, SIGNALS_AT};
+use crate::own_sizes::copy_of;
 use crate::plain::PlainCells;
 use crate::{report, turn};
 use ps_base::Memory;
@@ -55,12 +57,13 @@ fn cells_len(sizes: &Sizes) -> u32
 }
 
 impl EquationChannel {
-    ghost use Rattle.std.specs.Prelude.{◌≡◌, ℕ, ◌+◌, ◌<◌, ◌≤◌, ◌==◌, IfOk, None, Some, false, is_err, length, nat_lt, true};
+    ghost use Rattle.std.specs.Prelude.{◌≡◌, ℕ, ◌+◌, ◌*◌, ◌<◌, ◌≤◌, ◌==◌, IfOk, None, Some, false, is_err, length, nat_lt, true};
     ghost use Rattle.ps_machine.specs.Progressing.{progress_said, is_running};
     ghost use Rattle.ps_eqvm.specs.Bits.{AreBitsOf};
     ghost use Rattle.ps_eqvm.specs.Turn.{turn_b, begin_b, report_b};
     ghost use Rattle.ps_eqvm.specs.Channel.{blank_b, progress_of, bit_cells};
-    ghost use Rattle.ps_machine.specs.StoredChannel.{region_of, spoiled};
+    ghost use Rattle.ps_eqvm.specs.Restoring.{restored_b};
+    ghost use Rattle.ps_machine.specs.StoredChannel.{restored_channel, region_of, spoiled};
     ghost use Rattle.ps_machine.specs.Machines.{turned};
 
     /// A channel with its own copy of the code, for an application of these sizes, with cells of plain
@@ -68,7 +71,7 @@ impl EquationChannel {
     pub fn new(alloc: Global, image: &CodeImage, sizes: &Sizes) -> Result<EquationChannel, Memory>
         ensures { IfOk result (λ c. c ≡ record { sizes = sizes.now; code = image.now; cells = blank_b sizes.now }) }
     {
-        let sizes = sizes.copy(alloc)?;
+        let sizes = copy_of(alloc, sizes)?;
         let code = Vec::from_slice(alloc, image.as_slice())?;
         let plain = PlainCells::all_zero(alloc, sizes.signals, sizes.instances)?;
         Ok(EquationChannel { sizes, code, plain })
@@ -81,6 +84,23 @@ impl EquationChannel {
     {
         self.code.copy_from_slice(image.as_slice());
         self.plain.clear();
+    }
+
+    /// Restores the channel with the code of this image, which has the length of the channel's code, from the plain bytes of the
+    /// signals and instances of another channel, in which a timer is the time since which the state is there: that becomes the
+    /// time that remains of the instance's limit. All times are in ms, and the time of the last scan is this one. `bytes` is
+    /// room for work: what it has then is not said.
+    pub fn restore(&mut self, image: &CodeImage, limits: &[u32], time: u32, bytes: &mut [u8])
+        requires image { length image.now ≡ length self.old.code }
+        requires limits { length limits.now ≡ self.old.sizes.instances }
+        requires bytes { length bytes.old ≡ self.old.sizes.signals + 16 * self.old.sizes.instances }
+        ensures { self.new ≡ restored_channel (restored_b self.old.sizes limits.now time bytes.old) image.now self.old }
+    {
+        self.renew(image);
+        store_counted(bytes, limits, time);
+        let mut stored_time = time.to_be_bytes();
+        complement(&mut stored_time);
+        self.plain.fill(&stored_time, bytes);
     }
 
     /// The Begin of a scan (profile): the offset and the progress are 0, the time passed is that since
@@ -200,10 +220,13 @@ impl EquationChannel {
 
 impl ScanMachine for EquationChannel {
     ghost use Rattle.ps_eqvm.specs.Channel.{workings_b};
+    ghost use Rattle.ps_eqvm.specs.Restoring.{restored_b};
 
     ghost stored = { λ channel. channel };
 
     ghost workings = { workings_b };
+
+    ghost restored = { restored_b };
 
     fn new(alloc: Global, image: &CodeImage, sizes: &Sizes) -> Result<EquationChannel, Memory> {
         EquationChannel::new(alloc, image, sizes)
@@ -211,6 +234,10 @@ impl ScanMachine for EquationChannel {
 
     fn renew(&mut self, image: &CodeImage) {
         self.renew(image);
+    }
+
+    fn restore(&mut self, image: &CodeImage, limits: &[u32], time: u32, bytes: &mut [u8]) {
+        self.restore(image, limits, time, bytes);
     }
 
     fn begin(&mut self, scan: &Scan) {

@@ -88,6 +88,7 @@ fn with_byte(number: u32, i: usize, byte: u8) -> u32
 impl PlainCells {
     ghost use Rattle.std.specs.Prelude.{◌≡◌, ◌+◌, ◌-◌, ◌*◌, ◌<◌, ◌≤◌, ◌^◌, ◌==◌, ℕ, IfOk, IfSome, IfNone, is_err, length, nat_lt, slice_index, slice_set, true};
     ghost use Rattle.ps_machine.specs.Bytes.{bit, be2, instance_bytes, overwritten, replaced};
+    ghost use Rattle.ps_machine.specs.Carrying.{filled};
     ghost use Rattle.ps_model.specs.Blocks.{output_count};
     ghost use Rattle.ps_rows.specs.Counted.{kept_of};
     ghost use Rattle.ps_eqvm.specs.Instances.{LoadAs, LoadNowhere};
@@ -311,6 +312,19 @@ impl PlainCells {
         }
         self.write(at, bytes);
         Ok(())
+    }
+
+    /// The time of the last scan becomes this one in ms, and the signals and instances become these bytes, as they are
+    /// stored.
+    pub fn fill(&mut self, time: &[u8], rest: &[u8])
+        requires time { length time.now ≡ 4 }
+        requires room { SIGNALS_AT + length rest.now ≤ length (laid_out self.old) }
+        ensures written { laid_out self.new ≡ filled (laid_out self.old) LAST_AT time.now SIGNALS_AT rest.now }
+        ensures cells { length self.new.cells ≡ length self.old.cells }
+        ensures blocks { length self.new.blocks ≡ length self.old.blocks }
+    {
+        self.write(LAST_AT as u32, time);
+        self.write(SIGNALS_AT as u32, rest);
     }
 
     // Replaces bytes that are there, as they are stored.

@@ -14,6 +14,8 @@ pub mod PastPins
 pub mod CalledOnce
 pub mod Fitting
 pub mod Instances
+pub mod Carrying
+pub mod Lent
 pub mod Blank
 pub mod Scans
 pub mod Totals

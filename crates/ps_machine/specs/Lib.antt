@@ -7,6 +7,8 @@ pub mod Keeping
 pub mod Standing
 pub mod Reporting
 pub mod Channels
+pub mod Carrying
+pub mod Frames
 pub mod Kinds
 -- Apparatus of laws and contracts: where a channel stands between events, literals at pins, and reads after writes.
 pub mod Phases

@@ -16,6 +16,10 @@ pub record Stored : Type 0 where
 abbrev pub as_compiled : Workings → Sizes → (image : List ℕ) → Stored
 as_compiled w sizes image = record { sizes = sizes; code = image; cells = w.blank }
 
+-- a channel with the code of an image and with these cells
+abbrev pub restored_channel : (cells : List ℕ) → (image : List ℕ) → Stored → Stored
+restored_channel cells image channel = record { sizes = channel.sizes; code = image; cells = cells }
+
 -- the bytes of a region
 abbrev pub region_of : Region → Stored → List ℕ
 region_of Code channel = channel.code

@@ -3,6 +3,7 @@
 //!
 //! - `machine`: the trait of a machine, over which worlds of channels are written.
 //! - `image`: compiled code.
+//! - `frame`: what a channel has whose cells are kept byte by byte.
 //! - `bytes`: bytes at places of a region, and what a progress byte says.
 //! - `calls`: what a call of a block becomes in code, for the channels that look it up in the tables.
 //! - `laws`: what is read after bytes were replaced.
@@ -13,11 +14,13 @@
 
 mod bytes;
 mod calls;
+mod frame;
 mod image;
 pub mod laws;
 mod machine;
 
 pub use bytes::{number_in_four, number_in_two, overwrite, progress_of_byte, replace};
 pub use calls::{call_limit, free_value, kind_by_number};
+pub use frame::Frame;
 pub use image::CodeImage;
 pub use machine::ScanMachine;

@@ -1,10 +1,10 @@
 // The trait of a machine.
 
-ghost use Rattle.std.specs.Prelude.{◌≡◌, ℕ, ◌+◌, ◌<◌, ◌≤◌, false, true, IfOk, Some, None, is_err, length, nat_lt};
+ghost use Rattle.std.specs.Prelude.{◌≡◌, ℕ, List, ◌+◌, ◌*◌, ◌<◌, ◌≤◌, false, true, IfOk, Some, None, is_err, length, nat_lt};
 ghost use Rattle.ps_model.specs.declared.sizes.Sizes.{Sizes};
 ghost use Rattle.ps_machine.specs.Machines.{Workings, turned};
 ghost use Rattle.ps_machine.specs.Progressing.{is_running};
-ghost use Rattle.ps_machine.specs.StoredChannel.{Stored, as_compiled, region_of, spoiled};
+ghost use Rattle.ps_machine.specs.StoredChannel.{Stored, as_compiled, restored_channel, region_of, spoiled};
 
 use crate::image::CodeImage;
 use ps_base::Memory;
@@ -21,6 +21,10 @@ pub trait ScanMachine: Drop {
     /// How the cells change and what they say, for an application of these sizes.
     ghost workings: { Sizes → Workings };
 
+    /// The cells of a channel that is restored, by the limits of the instances and the time of the last scan in ms, from the
+    /// bytes of the signals and instances of another channel.
+    ghost restored: { Sizes → (limits : List ℕ) → (time : ℕ) → (bytes : List ℕ) → List ℕ };
+
     /// A channel with its own copy of the code, for an application of these sizes, with blank cells.
     fn new(alloc: Global, image: &CodeImage, sizes: &Sizes) -> Result<Self, Memory>
         ensures { IfOk result (λ channel. stored channel ≡ as_compiled (workings sizes.now) sizes.now image.now) };
@@ -29,6 +33,15 @@ pub trait ScanMachine: Drop {
     fn renew(&mut self, image: &CodeImage)
         requires { length image.now ≡ length (stored self.old).code }
         ensures { stored self.new ≡ as_compiled (workings (stored self.old).sizes) (stored self.old).sizes image.now };
+
+    /// The channel is restored with the code of this image, which has the length of the channel's code, from the bytes of the
+    /// signals and instances of another channel, which are plain and in which a timer is the time since which the state is
+    /// there. `bytes` is room for work: what it has then is not said.
+    fn restore(&mut self, image: &CodeImage, limits: &[u32], time: u32, bytes: &mut [u8])
+        requires image { length image.now ≡ length (stored self.old).code }
+        requires limits { length limits.now ≡ (stored self.old).sizes.instances }
+        requires bytes { length bytes.old ≡ (stored self.old).sizes.signals + 16 * (stored self.old).sizes.instances }
+        ensures { stored self.new ≡ restored_channel (restored (stored self.old).sizes limits.now time bytes.old) image.now (stored self.old) };
 
     /// The Begin of a scan, which has one value for each input.
     fn begin(&mut self, scan: &Scan)

@@ -1,6 +1,7 @@
 // A machine with the code as compiled, its turn count and its budget.
 
-ghost use Rattle.std.specs.Prelude.{◌≡◌, ◌≤◌, ◌+◌, false, true, IfOk, IfErr, OnOk, OnErr, is_err, length, nat_lt};
+ghost use Rattle.std.specs.Prelude.{◌≡◌, ◌≤◌, ◌+◌, ◌*◌, false, true, IfOk, IfErr, OnOk, OnErr, is_err, length, nat_lt};
+ghost use Rattle.ps_model.specs.Fields.{blank_report};
 ghost use Rattle.ps_machine.specs.Channels.{ended};
 ghost use Rattle.ps_machine.specs.Channels.Own.{begins, makes_turn, struck, restarts, is_remade};
 ghost use Rattle.ps_machine.specs.StoredChannel.{region_of};
@@ -145,22 +146,26 @@ impl<C: ScanMachine> Seat<C> {
     pub fn restart(&mut self)
         ensures { self.new ≡ meeting C.workings restarts self.old }
     {
-        self.remake();
+        self.channel.renew(&self.image);
         self.turns = 0;
     }
 
-    /// Remakes the channel from the code as compiled, with blank cells; the turn count stays.
-    pub fn remake(&mut self)
-        ensures { self.new ≡ meeting C.workings (is_remade (C.workings self.old.sizes).blank) self.old }
+    /// Restores the channel with the code as compiled, by the limits of the instances and at this time of the last scan, all
+    /// in ms, from the bytes of the signals and instances of another channel; the turn count stays. `bytes` is room for work:
+    /// what it has then is not said.
+    pub fn restore(&mut self, limits: &[u32], time: u32, bytes: &mut [u8])
+        requires limits { length limits.now ≡ self.old.sizes.instances }
+        requires bytes { length bytes.old ≡ self.old.sizes.signals + 16 * self.old.sizes.instances }
+        ensures { self.new ≡ meeting C.workings (is_remade (C.restored self.old.sizes limits.now time bytes.old)) self.old }
     {
-        self.channel.renew(&self.image);
+        self.channel.restore(&self.image, limits, time, bytes);
     }
 
-    /// Writes the report of a channel that has ended into one of the application's sizes, or answers why
-    /// there is none, and then `into` is as before.
+    /// Writes the report of a channel that has ended into a blank one of the application's sizes, or answers why there is
+    /// none, and then `into` is still blank. A caller hands over a blank report, every Boolean FALSE and every code 0, so
+    /// that a channel that writes nothing, as by a compiler's or a processor's fault, releases nothing that stood there.
     pub fn outcome_into(&self, into: &mut Report) -> Result<(), Failing>
-        requires outs { length into.old.outs ≡ self.now.sizes.outputs }
-        requires diags { length into.old.diags ≡ self.now.sizes.instances }
+        requires blank { into.old ≡ blank_report self.now.sizes.outputs self.now.sizes.instances }
         ensures gives { OnOk result (outcome (machine_in C.workings self.now) self.now.channel.cells ≡ gives into.new) }
         ensures lacks { IfErr result (λ failing. outcome (machine_in C.workings self.now) self.now.channel.cells ≡ lacks failing) }
         ensures kept { OnErr result (into.new ≡ into.old) }

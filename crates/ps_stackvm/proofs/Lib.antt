@@ -4,3 +4,4 @@ pub mod Instances
 pub mod Calls
 pub mod Gathering
 pub mod Popping
+pub mod Restoring

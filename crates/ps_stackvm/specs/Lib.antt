@@ -8,5 +8,6 @@ pub mod Turn
 pub mod Channel
 pub mod Code
 pub mod Stands
+pub mod Restoring
 -- One step of an instance, in its sixteen bytes and in the cells: what the CALLs of channels A and C share.
 pub mod Stepping

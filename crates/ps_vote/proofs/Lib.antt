@@ -2,9 +2,6 @@ pub mod Voted
 pub mod Seated
 pub mod Standing
 pub mod Mended
-pub mod Chunks
-pub mod Rebuilt
-pub mod Healed
 pub mod Heals
 pub mod Built
 pub mod Paths

@@ -3,7 +3,7 @@
 ghost use Rattle.std.specs.Prelude.{◌≡◌, ◌≤◌, ℕ, List, IsTrue, Some, None, IsSome, Err, IfOk, IsErrOf, refl};
 ghost use Rattle.std.proofs.lemmas.Bool.{false≢true};
 ghost use Rattle.ps_base.specs.declared.failing.Refusal.{Refusal};
-ghost use Rattle.ps_outside.specs.Outside.{Rose};
+ghost use Rattle.ps_outside.specs.Outside.{Rose, CountsStay};
 ghost use Rattle.ps_trace.specs.FaultOrder.{StrikeInOrder, StrikeOne};
 ghost use Rattle.ps_trace.specs.Reading.{IsRead};
 ghost use Rattle.ps_vote.specs.Faults.{heal_faults_of, line_of_fault, seat_fault, seat_length, seat_of, vote_faults_of};
@@ -90,7 +90,7 @@ impl Target for Seat {
 /// A line is `before <scan> <A|B|C> <code|memory> <offset> <bytes>`, or has `turn <turn>` behind the scan. The first
 /// refused line decides: it is line 1,001 (F5); it has over 600 bytes or not this form (F1); its scan or turn is less
 /// than an earlier line's (F2); it passes the region's end (F3); its seat is not that of the first fault (F4). `Fault`
-/// comes only where the files' count of the name rose in this call.
+/// comes only where the files' count of the name rose in this call; every other answer leaves the counts as they were.
 pub fn read_vote_faults<F: Files>(
     alloc: Global,
     files: &mut F,
@@ -103,6 +103,7 @@ pub fn read_vote_faults<F: Files>(
         (refusal : Refusal) → result ≡ Err (TraceFail.Refused refusal) → (vote_faults_of text sizes.now).refusal ≡ Some refusal }
     ensures found { IsTrue (F.tells files.old) → IsRead result → IsSome (F.held files.old name.now) }
     ensures fault { IsErrOf result TraceFail.Fault → Rose (F.faults files.old name.now) (F.faults files.new name.now) }
+    ensures exact { ¬ IsErrOf result TraceFail.Fault → CountsStay (F.faults files.old) (F.faults files.new) }
 
     // Whether or not the files tell.
     ensures ordered { IfOk result (λ faults. StrikeInOrder line_of_fault faults) }
@@ -119,7 +120,8 @@ pub fn read_vote_faults<F: Files>(
 }
 
 /// The faults of a fault file of `heal`: as those of `vote`, but they may strike any seats, so the file is not refused by
-/// F4. `Fault` comes only where the files' count of the name rose in this call.
+/// F4. `Fault` comes only where the files' count of the name rose in this call; every other answer leaves the counts as
+/// they were.
 pub fn read_heal_faults<F: Files>(
     alloc: Global,
     files: &mut F,
@@ -132,6 +134,7 @@ pub fn read_heal_faults<F: Files>(
         (refusal : Refusal) → result ≡ Err (TraceFail.Refused refusal) → (heal_faults_of text sizes.now).refusal ≡ Some refusal }
     ensures found { IsTrue (F.tells files.old) → IsRead result → IsSome (F.held files.old name.now) }
     ensures fault { IsErrOf result TraceFail.Fault → Rose (F.faults files.old name.now) (F.faults files.new name.now) }
+    ensures exact { ¬ IsErrOf result TraceFail.Fault → CountsStay (F.faults files.old) (F.faults files.new) }
 
     // Whether or not the files tell.
     ensures ordered { IfOk result (λ faults. StrikeInOrder line_of_fault faults) }

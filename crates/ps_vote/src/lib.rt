@@ -5,7 +5,7 @@
 //! - `world`: `VoteWorld`, three seats of `ps_seat`. Each call that changes it is its event of `world_step`.
 //! - `scans`: `VoteWorld::make_scan`, the events of one scan in the order of the commands `vote` and `heal`.
 //! - `faults`, `fault_file`: the faults that strike seats, and their files.
-//! - `rebuild`: the cells of a seat that is healed, made from those of another; `limits` has the limits that it needs.
+//! - `limits`: the limits of an application's instances, by which a seat is rebuilt from another.
 //! - `laws`: what holds over every list of events: a spoiled seat is outvoted, and so is each of several that are healed one
 //!   before the other; and over the runs of the program.
 //!
@@ -16,7 +16,6 @@ mod fault_file;
 mod faults;
 pub mod laws;
 mod limits;
-mod rebuild;
 mod scans;
 mod seat;
 mod world;

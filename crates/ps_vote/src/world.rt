@@ -12,6 +12,7 @@ ghost use Rattle.ps_vote.specs.Votes.{vote, vote_of, report_in, report_given, ag
 ghost use Rattle.ps_vote.specs.Whole.{machines_in, happened, after_events, with_rebuilt, IsWorldOf};
 ghost use Rattle.ps_model.specs.Budgets.{turns_a, turns_b};
 ghost use Rattle.ps_model.specs.Network.{instance_count};
+ghost use Rattle.ps_model.specs.Sized.{AreSizesOf};
 ghost use Rattle.ps_stackvm.specs.Channel.{workings_a};
 ghost use Rattle.ps_stackvm.specs.Code.{code_a};
 ghost use Rattle.ps_eqvm.specs.Channel.{workings_b};
@@ -21,16 +22,15 @@ ghost use Rattle.ps_decision.specs.Channel.{workings_c};
 ghost use Rattle.ps_decision.specs.Code.{code_c};
 
 use crate::limits::limits;
-use crate::rebuild::{complement, fill, read, store_counted};
 use crate::seat::{DirtySeats, Seat, Vote, VoteSizes};
 use ps_base::Memory;
-use ps_decision::{DecisionChannel, decision_image, layout as decision, turns_c};
-use ps_eqgen::equation_image;
-use ps_eqvm::{EquationChannel, layout as equation};
+use ps_decision::{DecisionChannel, decision_image, turns_c};
+use ps_eqgen::{equation_image, equation_sizes};
+use ps_eqvm::EquationChannel;
 use ps_machine::ScanMachine;
 use ps_model::{App, OutOfRegion, Region, Report, Scan, Sizes};
 use ps_stackgen::stack_image;
-use ps_stackvm::{StackChannel, layout as stack};
+use ps_stackvm::StackChannel;
 use std::alloc::Global;
 use std::marker::Model;
 
@@ -99,13 +99,15 @@ impl Model for VoteWorld {
         × (length w.limits.items ≡ w.a.sizes.instances) × (length w.room.bytes.items ≡ w.a.sizes.signals + 16 * w.a.sizes.instances) };
 }
 
-// Writes the report of a seat that has ended into one of the application's sizes; false where it has none.
+// Writes the report of a seat that has ended into one of the application's sizes, which is made blank before, so that nothing
+// of an earlier scan takes part in a vote; false where it has none.
 fn report_into<C: ScanMachine>(seat: &ps_seat::Seat<C>, into: &mut Report) -> bool
     requires outs { length into.old.outs ≡ seat.now.sizes.outputs }
     requires diags { length into.old.diags ≡ seat.now.sizes.instances }
     ensures report { report_in (machine_in C.workings seat.now) seat.now.channel.cells ≡ shown result into.new }
     ensures sized { (length into.new.outs ≡ length into.old.outs) × (length into.new.diags ≡ length into.old.diags) }
 {
+    into.clear();
     seat.outcome_into(into).is_ok()
 }
 
@@ -155,16 +157,21 @@ fn stack_seat(
     ps_seat::Seat::build(alloc, stack_image(alloc, app)?, sizes, app.turns_a())
 }
 
-// Seat B of an application, with its equation code.
+// Seat B of an application of these sizes, with its equation code. They are counted for it anew: it does not take those of the
+// other seats.
 fn equation_seat(
     alloc: Global,
     app: &App,
     sizes: &Sizes,
 ) -> Result<ps_seat::Seat<EquationChannel>, Memory>
-    requires { Accepted app.now }
+    requires accepted { Accepted app.now }
+    requires sizes { AreSizesOf app.now sizes.now }
     ensures { IfOk result (λ seat. seat ≡ new_seat workings_b sizes.now (code_b app.now) (turns_b app.now)) }
 {
-    ps_seat::Seat::build(alloc, equation_image(alloc, app)?, sizes, app.turns_b())
+    let own_sizes = equation_sizes(alloc, app)?;
+    let image = equation_image(alloc, app)?;
+    let budget = app.turns_b();
+    ps_seat::Seat::build(alloc, image, &own_sizes, budget)
 }
 
 // Seat C of an application, with its decision code.
@@ -426,46 +433,26 @@ impl VoteWorld {
     fn rebuild_a(&mut self)
         ensures { self.new ≡ with_rebuilt Seat.A self.old }
     {
-        read(self.c.channel(), decision::SIGNALS_AT, &mut self.room.bytes);
-        let time = self.last.to_be_bytes();
-        fill(
-            &mut self.a,
-            stack::TIME_AT as u32,
-            &time,
-            stack::SIGNALS_AT as u32,
-            &self.room.bytes,
-        );
+        self.c.channel().carry_into(&mut self.room.bytes);
+        self.a
+            .restore(&self.limits, self.last, &mut self.room.bytes);
     }
 
     // Rebuilds seat B from seat A.
     fn rebuild_b(&mut self)
         ensures { self.new ≡ with_rebuilt Seat.B self.old }
     {
-        read(self.a.channel(), stack::SIGNALS_AT, &mut self.room.bytes);
-        store_counted(&mut self.room.bytes, &self.limits, self.last);
-        let mut time = self.last.to_be_bytes();
-        complement(&mut time);
-        fill(
-            &mut self.b,
-            equation::LAST_AT as u32,
-            &time,
-            equation::SIGNALS_AT as u32,
-            &self.room.bytes,
-        );
+        self.a.channel().carry_into(&mut self.room.bytes);
+        self.b
+            .restore(&self.limits, self.last, &mut self.room.bytes);
     }
 
     // Rebuilds seat C from seat A.
     fn rebuild_c(&mut self)
         ensures { self.new ≡ with_rebuilt Seat.C self.old }
     {
-        read(self.a.channel(), stack::SIGNALS_AT, &mut self.room.bytes);
-        let time = self.last.to_be_bytes();
-        fill(
-            &mut self.c,
-            decision::TIME_AT as u32,
-            &time,
-            decision::SIGNALS_AT as u32,
-            &self.room.bytes,
-        );
+        self.a.channel().carry_into(&mut self.room.bytes);
+        self.c
+            .restore(&self.limits, self.last, &mut self.room.bytes);
     }
 }

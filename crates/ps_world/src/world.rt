@@ -2,7 +2,12 @@
 
 ghost use Rattle.std.specs.Prelude.{◌≡◌, ◌≤◌, ◌<◌, ◌^◌, ◌&&◌, ◌||◌, ◌+◌, false, true, is_err, length, nat_lt, None, IfSome, IfNone, IfOk, []};
 ghost use Rattle.ps_model.specs.Typing.{Accepted};
+ghost use Rattle.ps_model.specs.Budgets.{turns_b};
+ghost use Rattle.ps_model.specs.Sized.{AreSizesOf};
 ghost use Rattle.ps_machine.specs.Channels.{ended};
+ghost use Rattle.ps_eqvm.specs.Channel.{workings_b};
+ghost use Rattle.ps_eqvm.specs.Code.{code_b};
+ghost use Rattle.ps_seat.specs.Seats.{new_seat};
 ghost use Rattle.ps_world.specs.Worlds.{machine, channel};
 ghost use Rattle.ps_world.specs.Worlds.Event.{Begin, Turn, Spoil, Compare, Restart};
 ghost use Rattle.ps_world.specs.Steps.{both_ended};
@@ -13,7 +18,7 @@ ghost use Rattle.ps_seat.specs.Outcomes.{outcome};
 ghost use Rattle.ps_seat.specs.Outcomes.Outcome.{gives};
 
 use ps_base::Memory;
-use ps_eqgen::equation_image;
+use ps_eqgen::{equation_image, equation_sizes};
 use ps_eqvm::EquationChannel;
 use ps_model::{
     App, Cause, Channel, Fault, ImageSizes, OutOfRegion, Region, Report, Scan, Sizes, Verdict,
@@ -76,6 +81,18 @@ fn cause_of_failing(channel: Channel, failing: Failing) -> Cause
     }
 }
 
+// The seat of channel B of an application of these sizes, which are counted for it anew: it does not take those of channel A.
+fn equation_seat(alloc: Global, app: &App, sizes: &Sizes) -> Result<Seat<EquationChannel>, Memory>
+    requires accepted { Accepted app.now }
+    requires sizes { AreSizesOf app.now sizes.now }
+    ensures { IfOk result (λ seat. seat ≡ new_seat workings_b sizes.now (code_b app.now) (turns_b app.now)) }
+{
+    let own_sizes = equation_sizes(alloc, app)?;
+    let image = equation_image(alloc, app)?;
+    let budget = app.turns_b();
+    Seat::build(alloc, image, &own_sizes, budget)
+}
+
 impl World {
     /// The world of an application at the beginning: both compilers' code, which it keeps outside every region,
     /// blank cells, no scan begun and not tripped.
@@ -86,7 +103,7 @@ impl World {
         app.sound();
         let sizes = Sizes::of(alloc, app)?;
         let a = Seat::build(alloc, stack_image(alloc, app)?, &sizes, app.turns_a())?;
-        let b = Seat::build(alloc, equation_image(alloc, app)?, &sizes, app.turns_b())?;
+        let b = equation_seat(alloc, app, &sizes)?;
         let other = Report::for_app(alloc, app)?;
         Ok(World {
             a,
@@ -202,7 +219,8 @@ impl World {
         verdict
     }
 
-    // Compares the reports of the two channels, of which that of A is left in `into`.
+    // Compares the reports of the two channels, of which that of A is left in `into`. Both are read into blank reports, so that
+    // nothing of an earlier scan is compared or released.
     fn judge(&mut self, into: &mut Report) -> Verdict
         requires outs { length into.old.outs ≡ self.old.setup.sizes.outputs }
         requires diags { length into.old.diags ≡ self.old.setup.sizes.instances }
@@ -212,6 +230,8 @@ impl World {
         ensures outs { length into.new.outs ≡ length into.old.outs }
         ensures diags { length into.new.diags ≡ length into.old.diags }
     {
+        into.clear();
+        self.other.clear();
         if let Err(failing) = self.a.outcome_into(into) {
             return Verdict::Tripped(cause_of_failing(Channel::A, failing));
         }

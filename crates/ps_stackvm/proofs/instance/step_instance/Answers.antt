@@ -3,7 +3,8 @@ use borrow.Rule.Slice.PartMut.{put_mid}
 use Rattle.ps_model.specs.Blocks.{block, output_count}
 use Rattle.ps_model.specs.Stored.{loaded}
 use Rattle.ps_machine.proofs.Places.{length-replaced}
-use Rattle.ps_stackvm.proofs.Instances.{has_stepped, part_is, written_at}
+use Rattle.ps_machine.proofs.Lent.{part_is, written_at}
+use Rattle.ps_stackvm.proofs.Instances.{has_stepped}
 use Rattle.ps_stackvm.proofs.instance.step_instance.Goals as goal
 
 pub put_outputs-requires-clause-room : goal.put_outputs-requires-clause-room

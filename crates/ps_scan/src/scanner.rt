@@ -123,6 +123,20 @@ impl Scanner {
         renew(app, self.instances.as_mut_slice());
     }
 
+    /// Becomes as another scanner of the same application is. It takes no memory.
+    pub fn copy_from(&mut self, other: &Scanner)
+        requires signals { length self.old.signals ≡ length other.now.signals }
+        requires instances { length self.old.instances ≡ length other.now.instances }
+        ensures { self.new ≡ other.now }
+    {
+        self.signals
+            .as_mut_slice()
+            .copy_from_slice(other.signals.as_slice());
+        self.instances
+            .as_mut_slice()
+            .copy_from_slice(other.instances.as_slice());
+    }
+
     /// The value of every signal after the last scan, in the order of their numbers.
     pub fn signals(&self) -> &[bool]
         ensures { result.now ≡ self.now.signals }

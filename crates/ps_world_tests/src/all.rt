@@ -3,7 +3,7 @@
 use crate::application::MOTOR;
 use crate::scripts::scripts;
 use crate::tables::tables;
-use crate::{rows, script};
+use crate::{rows, script, watched};
 use std::test::Fail;
 
 #[test]
@@ -20,4 +20,9 @@ fn single_events(rt: HostRuntime) -> Result<(), Fail> {
         script::hold(&rt, rt.alloc(), MOTOR, text)?;
     }
     Ok(())
+}
+
+#[test]
+fn runs_that_are_watched(rt: HostRuntime) -> Result<(), Fail> {
+    watched::hold(&rt, rt.alloc())
 }

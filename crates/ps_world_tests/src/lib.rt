@@ -6,7 +6,8 @@
 //! - `words`: faults, scans and verdicts in words.
 //! - `rows`: traces with faults, made by `make_scan` or event by event in any order of turns, and what comes of them.
 //! - `script`: single events, a line each, and what is seen after each.
-//! - `tables`, `scripts`: what is tested; `all`: the tests, which are two, since each function of a test is proved over all that
+//! - `watched`: a run with the plain evaluator beside the world, and alone, as whoever takes its scans sees it.
+//! - `tables`, `scripts`: what is tested; `all`: the tests, which are few, since each function of a test is proved over all that
 //!   the world stands on.
 #![tactic(auto)]
 
@@ -24,5 +25,7 @@ mod scripts;
 mod stage;
 #[cfg(test)]
 mod tables;
+#[cfg(test)]
+mod watched;
 #[cfg(test)]
 mod words;

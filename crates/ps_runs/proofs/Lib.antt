@@ -1,0 +1,8 @@
+mod Coming
+pub mod ToCome
+mod Doing
+mod Cutting
+pub mod Standing
+pub mod SeatFaults
+mod SeatScans
+pub mod Courses

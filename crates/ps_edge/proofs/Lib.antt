@@ -1,2 +1,4 @@
--- how a run ends after its flush
+-- how a call ends after its output handed on what it held back
 pub mod Ending
+-- what is told of a refusal
+pub mod Refused

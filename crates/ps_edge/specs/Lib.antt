@@ -1,2 +1,8 @@
--- the numbers of the statuses: what a reader of the clauses has to believe
+-- what a call does, from its words to its exit status, and the numbers of the statuses: what a reader of the clauses
+-- has to believe
+pub mod Doing
 pub mod Exit
+-- what a person is told of a call
+pub mod Telling
+-- which word of a call names the text of a rule
+pub mod Spoken

@@ -1,18 +1,25 @@
-//! The edge of the program: the words that the system gives, the run over a writer of the system, and the number with
-//! which the program exits.
+//! The edge of the program: all that lies between the words that the system gives and the number with which the
+//! program exits.
 //!
-//! `exit` has the numbers, and how a run ends once its output was flushed; `output` is an output that is flushed at its end;
-//! `program` does all that the program does. `telling` tells a person on standard error why a call did not do all, and the notes
-//! on an application; `spoken` says which file a rule speaks of, and `noting` of what kind a failure of the output was.
+//! `call` is one call of the program, over any files, any output and whoever is told: `exit_of_call`. `given` takes
+//! the words that come behind the program's name, and `exit` has the numbers. `listening` is who can be told why a
+//! call did not do all; `telling` what is told, and `spoken` which word of a call names the text that a rule speaks
+//! of. `program` makes the call over the files and the outputs of the system, and is all that `main` calls;
+//! `standing` is who reads the standard error.
 #![tactic(auto)]
 
+mod call;
 mod exit;
-mod noting;
-mod output;
+mod given;
+mod listening;
 mod program;
 mod spoken;
+mod standing;
 mod telling;
 
+pub use call::exit_of_call;
 pub use exit::{NO_WORDS, ended, exit_code, exit_code_without_words};
-pub use output::Output;
-pub use program::{exit_of_program, exit_of_words, run, words_of};
+pub use given::words_given;
+pub use listening::Listener;
+pub use program::{exit_of_program, exit_of_words};
+pub use standing::StandardError;

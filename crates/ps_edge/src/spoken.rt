@@ -1,14 +1,13 @@
-// Which of the files of a call a rule speaks of.
+// Which of the texts of a call a rule speaks of, and which word names it.
 
-ghost use Rattle.std.specs.Prelude.{◌≡◌, Contains, IfSome};
-ghost use Rattle.ps_words.specs.Command as asked;
-ghost use Rattle.ps_words.specs.Seen.{command_seen};
+ghost use Rattle.std.specs.Prelude.{◌≡◌, IfSome};
+ghost use Rattle.ps_edge.specs.Spoken.{IsNamed, place_of, spoken_of};
 
 use ps_base::Rule;
 use ps_base::limits::{
     LARGEST_CERTIFICATE, LARGEST_SOURCE, LARGEST_TRACE, LONGEST_FAULT_LINE, MOST_FAULT_LINES,
 };
-use ps_words::Command;
+use ps_top::Words;
 
 /// The texts that a call is given.
 #[derive(Clone, Copy, PartialEq, Eq)]
@@ -21,7 +20,9 @@ pub(crate) enum Spoken {
 
 impl Spoken {
     /// The text that a rule refuses.
-    pub(crate) fn by_rule(rule: Rule) -> Spoken {
+    pub(crate) fn by_rule(rule: Rule) -> Spoken
+        ensures { result ≡ spoken_of rule }
+    {
         match rule {
             Rule::C1 | Rule::C2 | Rule::O1 | Rule::O2 | Rule::O3 | Rule::O4 | Rule::O5 =>
                 Spoken::Cert,
@@ -49,68 +50,26 @@ impl Spoken {
         }
     }
 
-    /// The name of such a text in a command, if it is given one.
-    pub(crate) fn name_in<'a>(self, command: &Command<'a>) -> Option<&'a str>
-        ensures { IfSome result (λ name. Contains (asked.names_of (command_seen command.now)) name.now) }
+    /// The place of the name of such a text among the words of a call, counted from 0: every command has it there.
+    pub(crate) fn place(self) -> usize
+        ensures { result ≡ place_of self }
     {
         match self {
-            Spoken::App => app_of(command),
-            Spoken::Cert => cert_of(command),
-            Spoken::Faults => faults_of(command),
-            Spoken::Trace => trace_of(command),
+            Spoken::App => 1,
+            Spoken::Cert | Spoken::Trace => 2,
+            Spoken::Faults => 3,
         }
     }
-}
 
-// The name of the application.
-fn app_of<'a>(command: &Command<'a>) -> Option<&'a str>
-    ensures { IfSome result (λ name. Contains (asked.names_of (command_seen command.now)) name.now) }
-{
-    match command {
-        Command::Run { app, .. }
-        | Command::Fault { app, .. }
-        | Command::Check { app }
-        | Command::Cert { app }
-        | Command::Verify { app, .. }
-        | Command::Image { app }
-        | Command::Demand { app }
-        | Command::Vote { app, .. }
-        | Command::Heal { app, .. } => Some(*app),
-        Command::Load { .. } | Command::NotTaken => None,
-    }
-}
-
-// The name of the certificate.
-fn cert_of<'a>(command: &Command<'a>) -> Option<&'a str>
-    ensures { IfSome result (λ name. Contains (asked.names_of (command_seen command.now)) name.now) }
-{
-    match command {
-        Command::Verify { cert, .. } => Some(*cert),
-        _ => None,
-    }
-}
-
-// The name of the fault file.
-fn faults_of<'a>(command: &Command<'a>) -> Option<&'a str>
-    ensures { IfSome result (λ name. Contains (asked.names_of (command_seen command.now)) name.now) }
-{
-    match command {
-        Command::Fault { faults, .. }
-        | Command::Vote { faults, .. }
-        | Command::Heal { faults, .. } => Some(*faults),
-        _ => None,
-    }
-}
-
-// The name of the trace.
-fn trace_of<'a>(command: &Command<'a>) -> Option<&'a str>
-    ensures { IfSome result (λ name. Contains (asked.names_of (command_seen command.now)) name.now) }
-{
-    match command {
-        Command::Run { trace, .. }
-        | Command::Fault { trace, .. }
-        | Command::Vote { trace, .. }
-        | Command::Heal { trace, .. } => Some(*trace),
-        _ => None,
+    /// The word that names such a text, if there is one.
+    pub(crate) fn name_in(self, words: &Words) -> Option<&str>
+        ensures { IfSome result (λ name. IsNamed words.now self name.now) }
+    {
+        let place = self.place();
+        if place < words.len() {
+            Some(words.at(place).as_str())
+        } else {
+            None
+        }
     }
 }

@@ -1,17 +1,20 @@
 -- What calls promise, put together from their parts.
-use Rattle.std.specs.Prelude.{slice_index_or}
-use Rattle.std.proofs.Common.{◌≡◌, ◌⊎◌, ◌<◌, ℕ, zero, suc, Bool, IsTrue, List, [], ◌∷◌, Option, Some, Any, refl, sym, ◌∙◌, subst, inl, inr, ⊎_elim, append-nil, arith}
-use Rattle.ps_outside.specs.Outside.{Rose}
-use Rattle.ps_top.specs.Asking.{Answer, Asking, IsAnswer, AsksFor, IsLeft}
+use Rattle.std.specs.Prelude.{slice_index_or, ◌≢◌, ◌≤◌}
+use Rattle.std.proofs.Common.{◌≡◌, ◌⊎◌, ◌<◌, ℕ, zero, suc, Bool, IsTrue, List, [], ◌∷◌, Option, Some, Result, Err, Any, refl, sym, ◌∙◌, ap, subst, inl, inr, ⊎_elim, append-nil, arith}
+use Rattle.ps_outside.specs.Outside.{CountsStay, Rose}
+use Rattle.ps_runs.specs.declared.items.Cut.{Cut}
+use Rattle.ps_runs.specs.declared.items.Cut.TheVariants.{Unread}
+use Rattle.ps_top.specs.Asking.{Answer, Asking, IsAnswer, AsksFor, IsLeft, Worked, worked}
 use Rattle.ps_top.specs.Asking.Asking.{Says, Asks, Finds, Leaves}
-use Rattle.ps_top.specs.Calls.{FilesSeen, OutputSeen, NameRose, KeepsFiles, KeepsOutput, Causes, Answers, SaysAnswer}
+use Rattle.ps_top.specs.Calls.{OutputSeen, CallSeen, NameRose, KeepsFiles, KeepsOutput, KeepsCall, GoesOn, Passes, ReadsName, Writes, Streams, Causes, Answers, SaysAnswer, LeavesRefusal, with_left}
 use Rattle.ps_top.specs.Meets.{IsCut, Gives, Meets}
 use Rattle.ps_top.specs.declared.Status.{Status}
 use Rattle.ps_top.specs.declared.Status.TheVariants.{ReadFault, WriteFault, Memory}
 use Rattle.ps_top.specs.declared.left.Left.{Left}
 use Rattle.ps_top.proofs.Meeting.{rose_earlier, gives_wider, given_behind, part_given, memory_meets, unread_meets, said_meets}
+use Rattle.ps_top.proofs.Refusals.{memory_refuses, unread_refuses}
 
--- ---- causes
+-- ---- names
 
 any_first : {P : List ℕ → Type 0} (name : List ℕ) (names : List (List ℕ)) → P name → Any P (name ∷ names)
 any_first name names p = (0, name, omega arith, refl, p)
@@ -22,45 +25,6 @@ any_later name names any = (suc any.0, any.1, omega (arith, any.2), any.3, any.4
 any_wider : {P Q : List ℕ → Type 0} (names : List (List ℕ)) → ((name : List ℕ) → P name → Q name) → Any P names → Any Q names
 any_wider names wider any = (any.0, any.1, any.2, any.3, wider any.1 any.4)
 
-pub files_same : (files : FilesSeen) → KeepsFiles files files
-files_same files = record { counts = λ name. omega arith; held = refl; telling = refl }
-
-pub output_same : (out : OutputSeen) → KeepsOutput out out
-output_same out = record { counts = omega arith; telling = refl }
-
--- two calls, one behind the other
-pub keeps_both : {files files1 files' : FilesSeen} → KeepsFiles files files1 → KeepsFiles files1 files' → KeepsFiles files files'
-keeps_both first second = record {
-  counts = λ name. omega (arith, first.counts name, second.counts name);
-  held = second.held ∙ first.held;
-  telling = second.telling ∙ first.telling;
-}
-
-rose_behind : (files files1 files' : FilesSeen) (name : List ℕ) → KeepsFiles files files1 → NameRose files1 files' name → NameRose files files' name
-rose_behind files files1 files' name keeps rose = rose_earlier (files.faults name) (files1.faults name) (files'.faults name) (keeps.counts name) rose
-
--- the causes of a call behind a read of another file
-causes_behind : {names : List (List ℕ)} {files files1 files' : FilesSeen} {out out' : OutputSeen} {status : Status} (name : List ℕ) → KeepsFiles files files1 →
-    Causes names files1 files' out out' status → Causes (name ∷ names) files files' out out' status
-causes_behind {names} {files} {files1} {files'} name keeps rest = record {
-  read_fault = λ is. any_later name names (any_wider names (λ other rose. rose_behind files files1 files' other keeps rose) (rest.read_fault is));
-  write_fault = rest.write_fault;
-  memory = rest.memory;
-  files_stay = keeps_both keeps rest.files_stay;
-  output_stays = rest.output_stays;
-}
-
--- the causes of a call behind a read of one of its own files
-pub causes_later : {names : List (List ℕ)} {files files1 files' : FilesSeen} {out out' : OutputSeen} {status : Status} → KeepsFiles files files1 →
-    Causes names files1 files' out out' status → Causes names files files' out out' status
-causes_later {names} {files} {files1} {files'} keeps rest = record {
-  read_fault = λ is. any_wider names (λ other rose. rose_behind files files1 files' other keeps rose) (rest.read_fault is);
-  write_fault = rest.write_fault;
-  memory = rest.memory;
-  files_stay = keeps_both keeps rest.files_stay;
-  output_stays = rest.output_stays;
-}
-
 only_at : (P : List ℕ → Type 0) (name : List ℕ) (k : ℕ) (other : List ℕ) → k < 1 → slice_index_or (name ∷ []) k other ≡ other → P other → P name
 only_at P name zero other lt is p = subst P (sym is) p
 only_at P name (suc k) other lt is p = absurd (omega (arith, lt))
@@ -69,44 +33,127 @@ only_at P name (suc k) other lt is p = absurd (omega (arith, lt))
 pub any_only : (P : List ℕ → Type 0) (name : List ℕ) → Any P (name ∷ []) → P name
 any_only P name any = only_at P name any.0 any.1 any.2 any.3 any.4
 
-pub memory_causes : (names : List (List ℕ)) {files files' : FilesSeen} (out : OutputSeen) → KeepsFiles files files' → Causes names files files' out out Memory
-memory_causes names out keeps = record {
+-- ---- what stays
+
+output_same : (old new : OutputSeen) → new ≡ old → KeepsOutput old new
+output_same old new is = let count : new.faults ≡ old.faults = ap (λ (o : OutputSeen). o.faults) is in
+    record { counts = omega (arith, count); telling = ap (λ (o : OutputSeen). o.tells) is }
+
+files_both : (old mid new : CallSeen) → KeepsFiles old.files mid.files → KeepsFiles mid.files new.files → KeepsFiles old.files new.files
+files_both old mid new first second = record {
+  counts = λ name. omega (arith, first.counts name, second.counts name);
+  held = second.held ∙ first.held;
+  telling = second.telling ∙ first.telling;
+}
+
+pub keeps_both : {old mid new : CallSeen} → KeepsCall old mid → KeepsCall mid new → KeepsCall old new
+keeps_both {old} {mid} {new} first second = record {
+  files = files_both old mid new first.files second.files;
+  out = record { counts = omega (arith, first.out.counts, second.out.counts); telling = second.out.telling ∙ first.out.telling };
+  loans = second.loans ∙ first.loans;
+}
+
+counts_both : {a b c : List ℕ → ℕ} → CountsStay a b → CountsStay b c → CountsStay a c
+counts_both first second = λ name. second name ∙ first name
+
+pub keeps_of_passes : {old new : CallSeen} → Passes old new → KeepsCall old new
+keeps_of_passes {old} {new} passes = record { files = passes.keeps; out = output_same old.out new.out passes.out; loans = passes.loans }
+
+pub passes_same : (call : CallSeen) → Passes call call
+passes_same call = record { reads = λ name. refl; keeps = record { counts = λ name. omega arith; held = refl; telling = refl }; out = refl; loans = refl }
+
+pub passes_both : {old mid new : CallSeen} → Passes old mid → Passes mid new → Passes old new
+passes_both {old} {mid} {new} first second = record {
+  reads = counts_both first.reads second.reads;
+  keeps = files_both old mid new first.keeps second.keeps;
+  out = second.out ∙ first.out;
+  loans = second.loans ∙ first.loans;
+}
+
+-- something is left
+pub passes_left : {old new : CallSeen} (left : Left) → new ≡ with_left left old → Passes old new
+passes_left {old} left is = subst (λ (c : CallSeen). Passes old c) (sym is) (record { reads = λ name. refl; keeps = record { counts = λ name. omega arith; held = refl; telling = refl }; out = refl; loans = refl })
+
+-- a name was read
+pub passes_read : {name : List ℕ} {failed : Type 0} {old new : CallSeen} → ¬ failed → ReadsName name failed old new → Passes old new
+passes_read not reads = record { reads = reads.exact not; keeps = reads.keeps; out = reads.out; loans = reads.loans }
+
+-- a name was read, and the read failed
+pub surely_read : {name : List ℕ} {failed : Type 0} {old new : CallSeen} → failed → ReadsName name failed old new → ReadsName name (Unit {0}) old new
+surely_read fails reads = record {
+  rose = λ _. reads.rose fails;
+  exact = λ not. absurd (not tt);
+  keeps = reads.keeps;
+  out = reads.out;
+  left = reads.left;
+  loans = reads.loans;
+}
+
+pub goes_of_passes : {old new : CallSeen} → Passes old new → GoesOn old new
+goes_of_passes passes = record { reads = passes.reads; writes = ap (λ (o : OutputSeen). o.faults) passes.out; keeps = keeps_of_passes passes }
+
+keeps_of_read : {name : List ℕ} {failed : Type 0} {old new : CallSeen} → ReadsName name failed old new → KeepsCall old new
+keeps_of_read {old = old} {new = new} reads = record { files = reads.keeps; out = output_same old.out new.out reads.out; loans = reads.loans }
+
+pub keeps_of_writes : {failed : Type 0} {old new : CallSeen} → Writes failed old new → KeepsCall old new
+keeps_of_writes {old = old} {new = new} writes = record {
+  files = record {
+    counts = λ name. let same : new.files.faults name ≡ old.files.faults name = ap (λ f. f.faults name) writes.files in omega (arith, same);
+    held = ap (λ f. f.held) writes.files;
+    telling = ap (λ f. f.tells) writes.files;
+  };
+  out = writes.keeps;
+  loans = writes.loans;
+}
+
+-- ---- causes
+
+rose_behind : (old mid new : CallSeen) (name : List ℕ) → KeepsFiles old.files mid.files → NameRose mid new name → NameRose old new name
+rose_behind old mid new name keeps rose = rose_earlier (old.files.faults name) (mid.files.faults name) (new.files.faults name) (keeps.counts name) rose
+
+still_writes : {old mid : CallSeen} → Passes old mid → IsTrue old.out.tells → IsTrue mid.out.tells
+still_writes passes tells = subst (λ (o : OutputSeen). IsTrue o.tells) (sym passes.out) tells
+
+-- the causes of a call behind a part of it that went on without a failure
+pub causes_behind : {names : List (List ℕ)} {old mid new : CallSeen} {status : Status} → Passes old mid → Causes names mid new status → Causes names old new status
+causes_behind {names} {old} {mid} {new} passes rest = record {
+  read_fault = λ is. any_wider names (λ name rose. rose_behind old mid new name passes.keeps rose) (rest.read_fault is);
+  write_fault = λ is. subst (λ (o : OutputSeen). Rose o.faults new.out.faults) passes.out (rest.write_fault is);
+  reads_exact = λ not. counts_both passes.reads (rest.reads_exact not);
+  writes_exact = λ not. rest.writes_exact not ∙ ap (λ (o : OutputSeen). o.faults) passes.out;
+  memory = λ is on. rest.memory is (still_writes {old = old} {mid = mid} passes on) ∙ ap (λ (o : OutputSeen). o.taken) passes.out;
+  keeps = keeps_both {old = old} {mid = mid} {new = new} (keeps_of_passes passes) rest.keeps;
+}
+
+-- the same of one name more
+causes_wider : {names : List (List ℕ)} {old new : CallSeen} {status : Status} (name : List ℕ) → Causes names old new status → Causes (name ∷ names) old new status
+causes_wider {names} name causes = record {
+  read_fault = λ is. any_later name names (causes.read_fault is);
+  write_fault = causes.write_fault;
+  reads_exact = causes.reads_exact;
+  writes_exact = causes.writes_exact;
+  memory = causes.memory;
+  keeps = causes.keeps;
+}
+
+pub memory_causes : (names : List (List ℕ)) {old new : CallSeen} → Passes old new → Causes names old new Memory
+memory_causes names passes = record {
   read_fault = λ is. cc;
   write_fault = λ is. cc;
-  memory = λ is on. refl;
-  files_stay = keeps;
-  output_stays = output_same out;
+  reads_exact = λ not. passes.reads;
+  writes_exact = λ not. ap (λ (o : OutputSeen). o.faults) passes.out;
+  memory = λ is on. ap (λ (o : OutputSeen). o.taken) passes.out;
+  keeps = keeps_of_passes passes;
 }
 
-pub unread_causes : (name : List ℕ) (names : List (List ℕ)) {files files' : FilesSeen} {out out' : OutputSeen} → KeepsFiles files files' → KeepsOutput out out' →
-    NameRose files files' name → Causes (name ∷ names) files files' out out' ReadFault
-unread_causes name names keeps stays rose = record {
-  read_fault = λ is. any_first name names rose;
+pub unread_causes : (name : List ℕ) (names : List (List ℕ)) {old new : CallSeen} → ReadsName name (Unit {0}) old new → Causes (name ∷ names) old new ReadFault
+unread_causes name names reads = record {
+  read_fault = λ is. any_first name names (reads.rose tt);
   write_fault = λ is. cc;
+  reads_exact = λ not. absurd (not refl);
+  writes_exact = λ not. ap (λ (o : OutputSeen). o.faults) reads.out;
   memory = λ is. cc;
-  files_stay = keeps;
-  output_stays = stays;
-}
-
-pub unwritten_causes : (names : List (List ℕ)) {files files' : FilesSeen} {out out' : OutputSeen} → KeepsFiles files files' → KeepsOutput out out' →
-    Rose out.faults out'.faults → Causes names files files' out out' WriteFault
-unwritten_causes names keeps stays rose = record {
-  read_fault = λ is. cc;
-  write_fault = λ is. rose;
-  memory = λ is. cc;
-  files_stay = keeps;
-  output_stays = stays;
-}
-
--- a call that was not cut short
-pub done_causes : (names : List (List ℕ)) (status : Status) {files files' : FilesSeen} {out out' : OutputSeen} → ¬ IsCut status → KeepsFiles files files' → KeepsOutput out out' →
-    Causes names files files' out out' status
-done_causes names status no_cut keeps stays = record {
-  read_fault = λ is. absurd (no_cut (inl is));
-  write_fault = λ is. absurd (no_cut (inr (inl is)));
-  memory = λ is. absurd (no_cut (inr (inr is)));
-  files_stay = keeps;
-  output_stays = stays;
+  keeps = keeps_of_read reads;
 }
 
 -- an answer that is no cut was said: no read failed, and memory was not wanting
@@ -116,78 +163,84 @@ no_read_said said status no_cut ends is = ⊎_elim (λ e. no_cut (inl (sym e ∙
 pub no_memory_said : (said status : Status) → ¬ IsCut said → (status ≡ said) ⊎ (status ≡ WriteFault) → ¬ (status ≡ Memory)
 no_memory_said said status no_cut ends is = ⊎_elim (λ e. no_cut (inr (inr (sym e ∙ is)))) (λ e. cc) ends
 
--- an answer was said behind what was written before
-pub said_causes : (names : List (List ℕ)) {files files' : FilesSeen} {out out1 out' : OutputSeen} {said : Answer} {status : Status} → ¬ IsCut said.status → KeepsFiles files files' →
-    KeepsOutput out out1 → SaysAnswer said out1 out' status → Causes names files files' out out' status
-said_causes names {out = out} {out1 = out1} {out' = out'} {said = said} {status = status} no_cut keeps stays says = record {
+pub said_causes : (names : List (List ℕ)) {said : Answer} {old new : CallSeen} {status : Status} → ¬ IsCut said.status → SaysAnswer said old new status → Causes names old new status
+said_causes names {said} {old} {new} {status} no_cut says = record {
   read_fault = λ is. absurd (no_read_said said.status status no_cut says.ends is);
-  write_fault = λ is. rose_earlier out.faults out1.faults out'.faults stays.counts (says.write_fault is);
+  write_fault = λ is. says.writes.rose is;
+  reads_exact = λ not name. ap (λ f. f.faults name) says.writes.files;
+  writes_exact = λ not. says.writes.exact not;
   memory = λ is. absurd (no_memory_said said.status status no_cut says.ends is);
-  files_stay = keeps;
-  output_stays = record { counts = omega (arith, stays.counts, says.output_stays.counts); telling = says.output_stays.telling ∙ stays.telling };
+  keeps = keeps_of_writes says.writes;
 }
 
--- an answer was said by a call that wrote nothing before
-pub says_behind : {said : Answer} {out out1 out' : OutputSeen} {status : Status} → ¬ IsCut said.status → KeepsOutput out out1 → (IsTrue out.tells → out1.taken ≡ out.taken) →
-    SaysAnswer said out1 out' status → SaysAnswer said out out' status
-says_behind {said} {out} {out1} {out'} {status} no_cut stays same says = record {
-  gives = given_behind (λ a. a ≡ said) said [] out.tells out.taken out1.taken out'.taken status refl (λ on. same on ∙ sym (append-nil out.taken))
-      (subst (λ (b : Bool). Gives (λ a. a ≡ said) b out1.taken out'.taken status) stays.telling says.gives)
+-- an answer was said behind a part that wrote nothing of what it says
+pub says_behind : {said : Answer} {old mid new : CallSeen} {status : Status} → ¬ IsCut said.status → Writes ⊥ old mid → (IsTrue old.out.tells → mid.out.taken ≡ old.out.taken) →
+    SaysAnswer said mid new status → SaysAnswer said old new status
+says_behind {said} {old} {mid} {new} {status} no_cut first same says = record {
+  gives = given_behind (λ a. a ≡ said) said [] old.out.tells old.out.taken mid.out.taken new.out.taken status refl (λ on. same on ∙ sym (append-nil old.out.taken))
+      (subst (λ (b : Bool). Gives (λ a. a ≡ said) b mid.out.taken new.out.taken status) first.keeps.telling says.gives)
       (no_memory_said said.status status no_cut says.ends) (no_read_said said.status status no_cut says.ends);
   ends = says.ends;
-  write_fault = λ is. rose_earlier out.faults out1.faults out'.faults stays.counts (says.write_fault is);
-  output_stays = record { counts = omega (arith, stays.counts, says.output_stays.counts); telling = says.output_stays.telling ∙ stays.telling };
+  writes = record {
+    rose = λ is. rose_earlier old.out.faults mid.out.faults new.out.faults first.keeps.counts (says.writes.rose is);
+    exact = λ not. says.writes.exact not ∙ first.exact (λ no. no);
+    keeps = record { counts = omega (arith, first.keeps.counts, says.writes.keeps.counts); telling = says.writes.keeps.telling ∙ first.keeps.telling };
+    files = says.writes.files ∙ first.files;
+    loans = says.writes.loans ∙ first.loans;
+  };
 }
 
 -- the answer is to be said, but a write that takes nothing fails
-pub says_nothing : (said : Answer) (out out' : OutputSeen) → KeepsOutput out out' → (IsTrue out.tells → out'.taken ≡ out.taken) → Rose out.faults out'.faults → SaysAnswer said out out' WriteFault
-says_nothing said out out' stays same rose = record {
-  gives = part_given (λ a. a ≡ said) out.tells out.taken out'.taken
-      (record { answer = said; right = refl; written = []; owed = said.bytes; whole = refl; appended = λ on. same on ∙ sym (append-nil out.taken) });
+pub says_nothing : (said : Answer) {old new : CallSeen} {failed : Type 0} → failed → Writes failed old new → (IsTrue old.out.tells → new.out.taken ≡ old.out.taken) → SaysAnswer said old new WriteFault
+says_nothing said {old} {new} fails writes same = record {
+  gives = part_given (λ a. a ≡ said) old.out.tells old.out.taken new.out.taken
+      (record { answer = said; right = refl; written = []; owed = said.bytes; whole = refl; appended = λ on. same on ∙ sym (append-nil old.out.taken) });
   ends = inr refl;
-  write_fault = λ is. rose;
-  output_stays = stays;
+  writes = record { rose = λ is. writes.rose fails; exact = λ not. absurd (not refl); keeps = writes.keeps; files = writes.files; loans = writes.loans };
 }
 
 -- ---- answers
 
 -- memory is wanting before anything was written
-pub memory_answers : (asking : Asking) (names : List (List ℕ)) (files files' : FilesSeen) (out : OutputSeen) (left : Left) → KeepsFiles files files' →
-    Answers asking names files files' out out left Memory
-memory_answers asking names files files' out left keeps = record {
-  meets = λ tells. memory_meets asking files.held (NameRose files files') out.tells out.taken;
+pub memory_answers : (asking : Asking) (names : List (List ℕ)) {old new : CallSeen} → Passes old new → Answers asking names old new Memory
+memory_answers asking names {old} {new} passes = record {
+  meets = λ tells. subst (λ (o : OutputSeen). Meets asking old.files.held (NameRose old new) old.out.tells old.out.taken o.taken Memory) (sym passes.out)
+      (memory_meets asking old.files.held (NameRose old new) old.out.tells old.out.taken);
   leaves = λ tells not_cut. absurd (not_cut (inr (inr refl)));
-  causes = memory_causes names out keeps;
+  refuses = memory_refuses new.left new.out;
+  causes = memory_causes names passes;
 }
 
 -- the read of a file failed before anything was written
-pub unread_answers : (name : List ℕ) (next : List ℕ → Asking) (names : List (List ℕ)) (files files' : FilesSeen) (out : OutputSeen) (left : Left) → KeepsFiles files files' →
-    NameRose files files' name → Answers (Asks name next) (name ∷ names) files files' out out left ReadFault
-unread_answers name next names files files' out left keeps rose = record {
-  meets = λ tells. unread_meets name next files.held (NameRose files files') out.tells out.taken rose;
+pub unread_answers : (name : List ℕ) (next : List ℕ → Asking) (names : List (List ℕ)) {old new : CallSeen} → ReadsName name (Unit {0}) old new →
+    Answers (Asks name next) (name ∷ names) old new ReadFault
+unread_answers name next names {old} {new} reads = record {
+  meets = λ tells. subst (λ (o : OutputSeen). Meets (Asks name next) old.files.held (NameRose old new) old.out.tells old.out.taken o.taken ReadFault) (sym reads.out)
+      (unread_meets name next old.files.held (NameRose old new) old.out.tells old.out.taken (reads.rose tt));
   leaves = λ tells not_cut. absurd (not_cut (inl refl));
-  causes = unread_causes name names keeps (output_same out) rose;
+  refuses = unread_refuses new.left new.out;
+  causes = unread_causes name names reads;
 }
 
 -- a short answer was said
-pub said_answers : (said : Answer) (names : List (List ℕ)) (files files' : FilesSeen) (out out' : OutputSeen) (left : Left) (status : Status) → ¬ IsCut said.status →
-    KeepsFiles files files' → SaysAnswer said out out' status → Answers (Says said) names files files' out out' left status
-said_answers said names files files' out out' left status no_cut keeps says = record {
-  meets = λ tells.
-      said_meets said files.held (NameRose files files') out.tells out.taken out'.taken status (no_read_said said.status status no_cut says.ends) says.gives;
+pub said_answers : (said : Answer) (names : List (List ℕ)) {old new : CallSeen} {status : Status} → ¬ IsCut said.status → SaysAnswer said old new status →
+    LeavesRefusal new.left new.out status → Answers (Says said) names old new status
+said_answers said names {old} {new} {status} no_cut says refuses = record {
+  meets = λ tells. said_meets said old.files.held (NameRose old new) old.out.tells old.out.taken new.out.taken status (no_read_said said.status status no_cut says.ends) says.gives;
   leaves = λ tells not_cut. tt;
-  causes = said_causes names no_cut keeps (output_same out) says;
+  refuses = refuses;
+  causes = said_causes names no_cut says;
 }
 
 -- What is asked goes on as this, where these texts are held.
-pub record GoesOnAs (asking rest : Asking) (held : List ℕ → Option (List ℕ)) (left : Left) (status : Status) : Type 0 where
+pub record GoesOnAs (asking rest : Asking) (held : List ℕ → Option (List ℕ)) (work : Worked) (status : Status) : Type 0 where
   pub right : (answer : Answer) → IsAnswer rest held answer → IsAnswer asking held answer
   pub asks : (name : List ℕ) → AsksFor rest held name → AsksFor asking held name
-  pub leaves : ¬ IsCut status → IsLeft rest held left → IsLeft asking held left
+  pub leaves : ¬ IsCut status → IsLeft rest held work → IsLeft asking held work
 
-module _ (held : List ℕ → Option (List ℕ)) (left : Left) (status : Status) where
+module _ (held : List ℕ → Option (List ℕ)) (work : Worked) (status : Status) where
   -- behind the text that is held
-  pub asks_on : (name text : List ℕ) (next : List ℕ → Asking) → held name ≡ Some text → GoesOnAs (Asks name next) (next text) held left status
+  pub asks_on : (name text : List ℕ) (next : List ℕ → Asking) → held name ≡ Some text → GoesOnAs (Asks name next) (next text) held work status
   asks_on name text next is = record {
     right = λ answer right. (text, is, right);
     asks = λ other asks. inr (text, is, asks);
@@ -195,7 +248,7 @@ module _ (held : List ℕ → Option (List ℕ)) (left : Left) (status : Status)
   }
 
   -- behind what was found
-  pub finds_on : (X : Type 0) (Fits : X → Type 0) (next : X → Asking) (x : X) → Fits x → GoesOnAs (Finds X Fits next) (next x) held left status
+  pub finds_on : (X : Type 0) (Fits : X → Type 0) (next : X → Asking) (x : X) → Fits x → GoesOnAs (Finds X Fits next) (next x) held work status
   finds_on X Fits next x fits = record {
     right = λ answer right. (x, fits, right);
     asks = λ other asks. (x, fits, asks);
@@ -203,56 +256,173 @@ module _ (held : List ℕ → Option (List ℕ)) (left : Left) (status : Status)
   }
 
   -- behind what is left
-  pub leaves_on : (Fact : Left → Type 0) (next : Asking) → (¬ IsCut status → Fact left) → GoesOnAs (Leaves Fact next) next held left status
+  pub leaves_on : (Fact : Worked → Type 0) (next : Asking) → (¬ IsCut status → Fact work) → GoesOnAs (Leaves Fact next) next held work status
   leaves_on Fact next fact = record {
     right = λ answer right. right;
     asks = λ other asks. asks;
     leaves = λ not_cut leaves. (fact not_cut, leaves);
   }
 
-  pub goes_both : (asking mid rest : Asking) → GoesOnAs asking mid held left status → GoesOnAs mid rest held left status → GoesOnAs asking rest held left status
+  pub goes_both : (asking mid rest : Asking) → GoesOnAs asking mid held work status → GoesOnAs mid rest held work status → GoesOnAs asking rest held work status
   goes_both asking mid rest first second = record {
     right = λ answer right. first.right answer (second.right answer right);
     asks = λ other asks. first.asks other (second.asks other asks);
     leaves = λ not_cut leaves. first.leaves not_cut (second.leaves not_cut leaves);
   }
 
+still_tells : {old mid : CallSeen} → Passes old mid → IsTrue old.files.tells → IsTrue mid.files.tells
+still_tells passes tells = subst (λ (b : Bool). IsTrue b) (sym passes.keeps.telling) tells
+
 -- the rest of a call, over files that hold the same texts, meets what the whole call is asked
-later_meets : (asking rest : Asking) (files files1 files' : FilesSeen) (out out' : OutputSeen) (left : Left) (status : Status) → KeepsFiles files files1 →
-    GoesOnAs asking rest files.held left status → Meets rest files1.held (NameRose files1 files') out.tells out.taken out'.taken status →
-    Meets asking files.held (NameRose files files') out.tells out.taken out'.taken status
-later_meets asking rest files files1 files' out out' left status keeps goes meets =
-    let here = subst (λ (h : List ℕ → Option (List ℕ)). Meets rest h (NameRose files1 files') out.tells out.taken out'.taken status) keeps.held meets in
+later_meets : (asking rest : Asking) (old mid new : CallSeen) (status : Status) → Passes old mid → GoesOnAs asking rest old.files.held (worked new.left) status →
+    Meets rest mid.files.held (NameRose mid new) mid.out.tells mid.out.taken new.out.taken status → Meets asking old.files.held (NameRose old new) old.out.tells old.out.taken new.out.taken status
+later_meets asking rest old mid new status passes goes meets =
+    let there = subst (λ (o : OutputSeen). Meets rest mid.files.held (NameRose mid new) o.tells o.taken new.out.taken status) passes.out meets in
+    let here = subst (λ (h : List ℕ → Option (List ℕ)). Meets rest h (NameRose mid new) old.out.tells old.out.taken new.out.taken status) passes.keeps.held there in
     record {
       gives = gives_wider goes.right here.gives;
-      read_fault = λ is. let asked = here.read_fault is in (asked.0, goes.asks asked.0 asked.1, rose_behind files files1 files' asked.0 keeps asked.2);
+      read_fault = λ is. let asked = here.read_fault is in (asked.0, goes.asks asked.0 asked.1, rose_behind old mid new asked.0 passes.keeps asked.2);
     }
 
-still_tells : {files files1 : FilesSeen} → KeepsFiles files files1 → IsTrue files.tells → IsTrue files1.tells
-still_tells keeps tells = subst (λ (b : Bool). IsTrue b) (sym keeps.telling) tells
-
--- a call that read a file and then did what it goes on as
-pub answers_behind : (asking rest : Asking) (name : List ℕ) (names : List (List ℕ)) (files files1 files' : FilesSeen) (out out' : OutputSeen) (left : Left) (status : Status) →
-    KeepsFiles files files1 → (IsTrue files.tells → GoesOnAs asking rest files.held left status) → Answers rest names files1 files' out out' left status →
-    Answers asking (name ∷ names) files files' out out' left status
-answers_behind asking rest name names files files1 files' out out' left status keeps goes answers = record {
-  meets = λ tells. later_meets asking rest files files1 files' out out' left status keeps (goes tells) (answers.meets (still_tells keeps tells));
+-- a call that went on, and then did what it is asked as it goes on
+pub answers_behind : (asking rest : Asking) (names : List (List ℕ)) {old mid new : CallSeen} {status : Status} → Passes old mid →
+    (IsTrue old.files.tells → GoesOnAs asking rest old.files.held (worked new.left) status) → Answers rest names mid new status → Answers asking names old new status
+answers_behind asking rest names {old} {mid} {new} {status} passes goes answers = record {
+  meets = λ tells. later_meets asking rest old mid new status passes (goes tells) (answers.meets (still_tells {old = old} {mid = mid} passes tells));
   leaves = λ tells not_cut.
-      (goes tells).leaves not_cut (subst (λ (h : List ℕ → Option (List ℕ)). IsLeft rest h left) keeps.held (answers.leaves (still_tells keeps tells) not_cut));
-  causes = causes_behind name keeps answers.causes;
+      (goes tells).leaves not_cut (subst (λ (h : List ℕ → Option (List ℕ)). IsLeft rest h (worked new.left)) passes.keeps.held (answers.leaves (still_tells {old = old} {mid = mid} passes tells) not_cut));
+  refuses = answers.refuses;
+  causes = causes_behind {old = old} {mid = mid} {new = new} passes answers.causes;
 }
+
+-- the same of one name more
+pub answers_wider : {asking : Asking} {names : List (List ℕ)} {old new : CallSeen} {status : Status} (name : List ℕ) → Answers asking names old new status →
+    Answers asking (name ∷ names) old new status
+answers_wider name answers = record { meets = answers.meets; leaves = answers.leaves; refuses = answers.refuses; causes = causes_wider name answers.causes }
 
 -- a call that did what is asked of it as it goes on
-pub goes_answers : (asking rest : Asking) (names : List (List ℕ)) (files files' : FilesSeen) (out out' : OutputSeen) (left : Left) (status : Status) →
-    (IsTrue files.tells → GoesOnAs asking rest files.held left status) → Answers rest names files files' out out' left status → Answers asking names files files' out out' left status
-goes_answers asking rest names files files' out out' left status goes answers = record {
-  meets = λ tells. later_meets asking rest files files files' out out' left status (files_same files) (goes tells) (answers.meets tells);
-  leaves = λ tells not_cut. (goes tells).leaves not_cut (answers.leaves tells not_cut);
-  causes = answers.causes;
-}
+pub goes_answers : (asking rest : Asking) (names : List (List ℕ)) {old new : CallSeen} {status : Status} →
+    (IsTrue old.files.tells → GoesOnAs asking rest old.files.held (worked new.left) status) → Answers rest names old new status → Answers asking names old new status
+goes_answers asking rest names {old} {new} goes answers = answers_behind asking rest names {old = old} {mid = old} {new = new} (passes_same old) goes answers
 
 -- a call that found something, and did what it goes on as
-pub found_of_all : (X : Type 0) (Fits : X → Type 0) (next : X → Asking) (names : List (List ℕ)) (files files' : FilesSeen) (out out' : OutputSeen) (left : Left) (status : Status) (x : X) → Fits x →
-    Answers (next x) names files files' out out' left status → Answers (Finds X Fits next) names files files' out out' left status
-found_of_all X Fits next names files files' out out' left status x fits answers =
-    goes_answers (Finds X Fits next) (next x) names files files' out out' left status (λ tells. finds_on files.held left status X Fits next x fits) answers
+pub found_of_all : (X : Type 0) (Fits : X → Type 0) (next : X → Asking) (names : List (List ℕ)) {old new : CallSeen} {status : Status} (x : X) → Fits x →
+    Answers (next x) names old new status → Answers (Finds X Fits next) names old new status
+found_of_all X Fits next names {old} {new} {status} x fits answers =
+    goes_answers (Finds X Fits next) (next x) names {old = old} {new = new} (λ tells. finds_on old.files.held (worked new.left) status X Fits next x fits) answers
+
+-- a call that leaves something of which its answer does not speak
+pub answers_left : {asking : Asking} {names : List (List ℕ)} {old new last : CallSeen} {status : Status} (left : Left) → last ≡ with_left left new → worked left ≡ worked new.left →
+    left.refusal ≡ new.left.refusal → Answers asking names old new status → Answers asking names old last status
+answers_left {asking} {names} {old} {new} {last} {status} left is same refusal answers =
+    subst (λ (c : CallSeen). Answers asking names old c status) (sym is) (record {
+      meets = answers.meets;
+      leaves = λ tells not_cut. subst (λ (w : Worked). IsLeft asking old.files.held w) (sym same) (answers.leaves tells not_cut);
+      refuses = λ refusing. let r = answers.refuses refusing in (r.0, refusal ∙ r.1, r.2);
+      causes = record {
+        read_fault = answers.causes.read_fault;
+        write_fault = answers.causes.write_fault;
+        reads_exact = answers.causes.reads_exact;
+        writes_exact = answers.causes.writes_exact;
+        memory = answers.causes.memory;
+        keeps = record { files = answers.causes.keeps.files; out = answers.causes.keeps.out; loans = answers.causes.keeps.loans };
+      };
+    })
+
+-- a call that was not cut short, and went on to its end
+pub done_causes : (names : List (List ℕ)) (status : Status) {old new : CallSeen} → ¬ IsCut status → GoesOn old new → Causes names old new status
+done_causes names status no_cut goes = record {
+  read_fault = λ is. absurd (no_cut (inl is));
+  write_fault = λ is. absurd (no_cut (inr (inl is)));
+  reads_exact = λ not. goes.reads;
+  writes_exact = λ not. goes.writes;
+  memory = λ is. absurd (no_cut (inr (inr is)));
+  keeps = goes.keeps;
+}
+
+-- the causes of a call that leaves something at its end
+pub causes_left : {names : List (List ℕ)} {old new : CallSeen} {status : Status} (left : Left) → Causes names old new status → Causes names old (with_left left new) status
+causes_left left causes = record {
+  read_fault = causes.read_fault;
+  write_fault = causes.write_fault;
+  reads_exact = causes.reads_exact;
+  writes_exact = causes.writes_exact;
+  memory = causes.memory;
+  keeps = record { files = causes.keeps.files; out = causes.keeps.out; loans = causes.keeps.loans };
+}
+
+-- two writes, one behind the other, of which neither failed
+pub writes_both : {failed : Type 0} {old mid new : CallSeen} → Writes ⊥ old mid → ¬ failed → Writes failed mid new → Writes ⊥ old new
+writes_both {old = old} {mid = mid} {new = new} first not second = record {
+  rose = λ no. absurd no;
+  exact = λ no. second.exact not ∙ first.exact (λ e. e);
+  keeps = record { counts = omega (arith, first.keeps.counts, second.keeps.counts); telling = second.keeps.telling ∙ first.keeps.telling };
+  files = second.files ∙ first.files;
+  loans = second.loans ∙ first.loans;
+}
+
+-- a write that failed behind others that did not
+pub writes_failed : {failed : Type 0} {old mid new : CallSeen} → Writes ⊥ old mid → failed → Writes failed mid new → Writes (WriteFault ≡ WriteFault) old new
+writes_failed {old = old} {mid = mid} {new = new} first fails second = record {
+  rose = λ is. rose_earlier old.out.faults mid.out.faults new.out.faults first.keeps.counts (second.rose fails);
+  exact = λ not. absurd (not refl);
+  keeps = record { counts = omega (arith, first.keeps.counts, second.keeps.counts); telling = second.keeps.telling ∙ first.keeps.telling };
+  files = second.files ∙ first.files;
+  loans = second.loans ∙ first.loans;
+}
+
+-- an answer was said behind something that was left
+pub says_left : {said : Answer} {old mid new : CallSeen} {status : Status} (left : Left) → mid ≡ with_left left old → SaysAnswer said mid new status → SaysAnswer said old new status
+says_left {said} {old} {mid} {new} {status} left is says =
+    let here = subst (λ (c : CallSeen). SaysAnswer said c new status) is says in
+    record {
+      gives = here.gives;
+      ends = here.ends;
+      writes = record { rose = here.writes.rose; exact = here.writes.exact; keeps = here.writes.keeps; files = here.writes.files; loans = here.writes.loans };
+    }
+
+-- the same read, where the failure is said in other words
+pub reads_as : {name : List ℕ} {failed other : Type 0} {old new : CallSeen} → (other → failed) → (failed → other) → ReadsName name failed old new → ReadsName name other old new
+reads_as is_failed is_other reads = record {
+  rose = λ o. reads.rose (is_failed o);
+  exact = λ not. reads.exact (λ f. not (is_other f));
+  keeps = reads.keeps;
+  out = reads.out;
+  left = reads.left;
+  loans = reads.loans;
+}
+
+-- the items of a trace were done as far as they were
+pub keeps_of_streams : {file : List ℕ} {old new : CallSeen} {ended : Result (Unit {0}) Cut} → Streams file old new ended → KeepsCall old new
+keeps_of_streams streams = record {
+  files = record { counts = streams.failures.reads_rise; held = streams.held; telling = streams.reading };
+  out = record { counts = streams.failures.writes_rise; telling = streams.writing };
+  loans = streams.loans;
+}
+
+-- and then a read of the trace failed
+pub unread_items : (file : List ℕ) {old new : CallSeen} {ended : Result (Unit {0}) Cut} → ended ≡ Err Unread → Streams file old new ended → Causes (file ∷ []) old new ReadFault
+unread_items file is streams = record {
+  read_fault = λ fault. any_first file [] (streams.failures.unread is);
+  write_fault = λ fault. cc;
+  reads_exact = λ not. absurd (not refl);
+  writes_exact = λ not. streams.failures.all_written (λ unwritten. let both = sym is ∙ unwritten in cc);
+  memory = λ fault. cc;
+  keeps = keeps_of_streams streams;
+}
+
+-- a write that did not fail
+pub writes_none : {failed : Type 0} {old new : CallSeen} → ¬ failed → Writes failed old new → Writes ⊥ old new
+writes_none not writes = record { rose = λ no. absurd no; exact = λ no. writes.exact not; keeps = writes.keeps; files = writes.files; loans = writes.loans }
+
+-- an answer was said, and then something is left
+pub says_leaving : {said : Answer} {old new : CallSeen} {status : Status} (left : Left) → SaysAnswer said old new status → SaysAnswer said old (with_left left new) status
+says_leaving left says = record {
+  gives = says.gives;
+  ends = says.ends;
+  writes = record { rose = says.writes.rose; exact = says.writes.exact; keeps = says.writes.keeps; files = says.writes.files; loans = says.writes.loans };
+}
+
+-- what is left of a refusal is left still, where its part of what is left stays
+pub refuses_leaving : (left behind : Left) (out' : OutputSeen) (status : Status) → behind.refusal ≡ left.refusal → LeavesRefusal left out' status → LeavesRefusal behind out' status
+refuses_leaving left behind out' status same refuses = λ refusing. let r = refuses refusing in (r.0, same ∙ r.1, r.2)

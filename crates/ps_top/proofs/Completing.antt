@@ -2,18 +2,16 @@
 use Rattle.std.proofs.Common.{◌≡◌, ◌⊎◌, ℕ, Bool, List, Option, refl, subst, inl, inr, ⊎_elim, arith}
 use Rattle.ps_words.specs.Command.{Command, command_of, names_of}
 use Rattle.ps_top.specs.Asking.{Answer, Asking, IsAnswer, AsksFor}
-use Rattle.ps_top.specs.Calls.{FilesSeen, OutputSeen, Answers}
+use Rattle.ps_top.specs.Calls.{CallSeen, Answers}
 use Rattle.ps_top.specs.Meets.{IsCut, AppendsNothing, AppendsAll, Meets}
 use Rattle.ps_top.specs.Program.{said, text}
 use Rattle.ps_top.specs.declared.Status.{Status}
 use Rattle.ps_top.specs.declared.Status.TheVariants.{Done, Refused, Usage, BadInput, Tripped, ReadFault, WriteFault, Memory}
-use Rattle.ps_top.specs.declared.left.Left.{Left}
 
 -- the words ask for a command
-pub words_answer : (words : List (List ℕ)) (command : Command) (files files' : FilesSeen) (out out' : OutputSeen) (left : Left) (status : Status) → command ≡ command_of words →
-    Answers (said command) (names_of command) files files' out out' left status → Answers (text words) (names_of (command_of words)) files files' out out' left status
-words_answer words command files files' out out' left status is answers =
-    subst (λ (c : Command). Answers (said c) (names_of c) files files' out out' left status) is answers
+pub words_answer : (words : List (List ℕ)) (command : Command) {old new : CallSeen} {status : Status} → command ≡ command_of words →
+    Answers (said command) (names_of command) old new status → Answers (text words) (names_of (command_of words)) old new status
+words_answer words command {old} {new} {status} is answers = subst (λ (c : Command). Answers (said c) (names_of c) old new status) is answers
 
 -- a call that ends with Tripped was not cut short
 pub not_cut_tripped : ¬ IsCut Tripped

@@ -1,9 +1,11 @@
 -- What a load counts of its scans is what they mean.
-use Rattle.std.proofs.Common.{◌≡◌, ◌≤◌, ◌+◌, ◌*◌, ◌∙◌, ◌++◌, ℕ, suc, true, cond, List, [], ◌∷◌, Result, Ok, Err, length, map, refl, sym, ap, subst, ⊎_elim, arith}
+use Rattle.std.proofs.Common.{◌≡◌, ◌≤◌, ◌+◌, ◌*◌, ◌∙◌, ◌++◌, ℕ, suc, true, cond, Bool, IsTrue, List, [], ◌∷◌, Result, Ok, Err, length, map, refl, sym, ap, subst, append-nil, ⊎_elim, arith}
 use Rattle.std.specs.Prelude.{fold, flat_map, sum_by, Some, is_some}
 use Rattle.std.proofs.lemmas.Option.{same_Some}
 use Rattle.std.proofs.lemmas.List.Sums.{sum_by-cons, count_by-le-length}
 use Rattle.std.proofs.lemmas.List.FromFn.{length-map-range_with_len}
+use Rattle.ps_base.specs.declared.failing.Fail.{Fail}
+use Rattle.ps_base.specs.declared.failing.Fail.TheVariants.{Memory as NoneForRules, Refused as RefusedByRules}
 use Rattle.ps_model.specs.declared.channel.Verdict.{Verdict}
 use Rattle.ps_model.specs.declared.report.Diag.{Diag}
 use Rattle.ps_model.specs.declared.report.Report.{Report}
@@ -16,11 +18,9 @@ use Rattle.ps_model.specs.Meaning.{Item, Past, Runs, Meaning, report, last, noth
 use Rattle.ps_model.specs.Meaning.Item.{scan, restart}
 use Rattle.ps_report.specs.Short.{refusal_text}
 use Rattle.ps_seat.specs.Items.{AreTimely}
-use Rattle.ps_source.specs.Answering.{Reads, IsFault}
+use Rattle.ps_base.specs.declared.failing.Refusal.{Refusal}
 use Rattle.ps_source.specs.Source.{Reading, IsAcceptedAs}
 use Rattle.ps_source.specs.Source.Reading.{is_refused as is_refused_source}
-use Rattle.ps_source.specs.declared.accepting.NoApplication.{NoApplication}
-use Rattle.ps_source.specs.declared.accepting.NoApplication.TheVariants.{Memory as NoMemory, Fault as FaultSource, Refused as RefusedSource}
 use Rattle.ps_trace.specs.Scans.{Scans, End}
 use Rattle.ps_trace.specs.Scans.End.{whole, refused as is_refused}
 use Rattle.ps_world.specs.Worlds.{Machines, World_state, Restart, world_0}
@@ -31,29 +31,31 @@ use Rattle.ps_world.specs.Answers.{answers, ReleaseAll, QuietRunsRelease}
 use Rattle.ps_load.specs.Holding.{Load, held_of, faults_of}
 use Rattle.ps_load.specs.Texts.{app_text}
 use Rattle.ps_outside.specs.Outside.{Rose, last_count}
-use Rattle.ps_top.specs.Asking.{Answer}
+use Rattle.ps_top.specs.Asking.{Answer, worked}
 use Rattle.ps_top.specs.Asking.Asking.{Says, Finds}
-use Rattle.ps_top.specs.Calls.{FilesSeen, OutputSeen, SaysAnswer, Answers}
+use Rattle.ps_top.specs.Calls.{CallSeen, SaysAnswer, LeavesRefusal, Answers}
+use Rattle.ps_source.specs.Answering.{IsAcceptance}
 use Rattle.ps_top.specs.Meets.{IsCut}
-use Rattle.ps_top.specs.Counting.{none_counted, with_more, counted_report, counted, counted_answer, load_answer}
-use Rattle.ps_top.specs.Doing.{Did}
-use Rattle.ps_top.specs.Outcomes.{Outcome, performed}
-use Rattle.ps_top.specs.Performing.{Performs}
-use Rattle.ps_top.specs.Program.{answer, with_application, true_outputs, true_errors, summary, sum_scans, sum_trace, load, leaves_world, first_world}
-use Rattle.ps_top.specs.Refusing.{SaysNoApplication}
-use Rattle.ps_top.specs.Resting.{answered, outcomes, ran}
-use Rattle.ps_top.specs.declared.counting.Counter.{Counter}
+use Rattle.ps_top.specs.Refusing.{SaysNone}
+use Rattle.ps_runs.specs.Counting.{none_counted, with_more, counted_report, counted}
+use Rattle.ps_top.specs.Resting.{counted_answer, load_answer}
+use Rattle.ps_runs.specs.Doing.{Did, DoesItems}
+use Rattle.ps_runs.specs.Outcomes.{Outcome, performed}
+use Rattle.ps_runs.specs.Performing.{Performs}
+use Rattle.ps_top.specs.Program.{answer, with_application, summary, sum_scans, sum_trace, load, leaves_world, first_world}
+use Rattle.ps_runs.specs.Counting.{true_outputs, true_errors}
+use Rattle.ps_runs.specs.Resting.{answered, outcomes, ran}
+use Rattle.ps_runs.specs.declared.counting.Counter.{Counter}
 use Rattle.ps_top.specs.declared.Status.{Status}
-use Rattle.ps_top.specs.declared.Status.TheVariants.{Refused as RefusedStatus, Memory as MemoryStatus}
-use Rattle.ps_top.specs.declared.items.Cut.{Cut}
-use Rattle.ps_top.specs.declared.items.Cut.TheVariants.{Refused, Unread, Unwritten}
-use Rattle.ps_top.specs.declared.left.Left.{Left}
-use Rattle.ps_top.specs.declared.striking.StruckWorld.{StruckWorld}
-use Rattle.ps_top.proofs.Calling.{files_same, found_of_all, goes_answers, leaves_on, memory_answers, said_answers}
+use Rattle.ps_top.specs.declared.Status.TheVariants.{Refused as RefusedStatus}
+use Rattle.ps_runs.specs.declared.items.Cut.{Cut}
+use Rattle.ps_runs.specs.declared.items.Cut.TheVariants.{Refused, Unread, Unwritten}
+use Rattle.ps_runs.specs.declared.striking.StruckWorld.{StruckWorld}
+use Rattle.ps_top.proofs.Calling.{found_of_all, goes_answers, leaves_on, memory_answers, said_answers}
 use Rattle.ps_top.proofs.Meant.{ran_is}
-use Rattle.ps_top.proofs.OneAnswer.{with_counts}
-use Rattle.ps_top.proofs.Standing.{TakesAll, CameTo, came_to}
-use Rattle.ps_top.proofs.ToCome.{Stands}
+use Rattle.ps_top.proofs.Applied.{with_counts}
+use Rattle.ps_runs.proofs.Standing.{TakesAll, CameTo, came_to}
+use Rattle.ps_runs.proofs.ToCome.{Stands}
 
 -- ---- The loop.
 
@@ -97,10 +99,18 @@ module _ (net : Network) (p after : StruckWorld) (scans : Scans) (c' : Counter) 
 
   -- the items of a load's trace were done from the first one on
   pub items_count : (time : ℕ) (c : Counter) (bytes : List ℕ) (ended : Result (Unit {0}) Cut) → c ≡ none_counted → Stands p.faults 0 p →
-      Did (Performs net) silent counts time p c scans bytes ended after c' → (bytes ≡ []) × CountsAsEnded ended
+      Did (Performs net) (λ t p outcome. silent outcome) (λ t p outcome t'. counts t outcome t') time p c scans bytes ended after c' → (bytes ≡ []) × CountsAsEnded ended
   items_count time c bytes ended none stands did =
       told_counts bytes ended
-      (came_to net p.faults silent counts 0 time p none_counted scans bytes ended after c' stands (subst (λ (d : Counter). Did (Performs net) silent counts time p d scans bytes ended after c') none did))
+      (came_to net p.faults silent counts 0 time p none_counted scans bytes ended after c' stands (subst (λ (d : Counter). Did (Performs net) (λ t p outcome. silent outcome) (λ t p outcome t'. counts t outcome t') time p d scans bytes ended after c') none did))
+
+  -- and nothing was written
+  pub loop_counts : {time : ℕ} {tells : Bool} {before now : List ℕ} (c : Counter) (ended : Result (Unit {0}) Cut) → c ≡ none_counted → Stands p.faults 0 p →
+      DoesItems (Performs net) (λ t q outcome. silent outcome) (λ t q outcome t'. counts t outcome t') time p c scans tells before now ended after c' →
+      (IsTrue tells → now ≡ before) × CountsAsEnded ended
+  loop_counts {time} {tells} {before} c ended none stands does =
+      let came = items_count time c does.bytes ended none stands does.did in
+      (λ on. does.written on ∙ ap (λ (l : List ℕ). before ++ l) came.0 ∙ append-nil before, came.1)
 
 -- reading a text of a load never fails
 pub never_fails : (old new : Load) (name : List ℕ) → is_some (held_of old name) ≡ true → is_some (held_of new name) ≡ true → ¬ (Rose (faults_of old name) (faults_of new name))
@@ -226,24 +236,25 @@ module _ (net : Network) (sound : IsSound net) (n : ℕ) (w : Whole) (built : Is
   said_at (is_refused refusal) = refl
 
   -- what a load says, and what is left, is what its scans mean
-  pub load_answers : (files : FilesSeen) (out out' : OutputSeen) (left : Left) (status : Status) → SaysAnswer (load_answer n net [] w scans) out out' status →
-      (¬ IsCut status → left.world ≡ Some (ran [] 1 scans.items w)) → Answers (sum_scans n net w.setup scans) [] files files out out' left status
-  load_answers files out out' left status says leaves =
+  pub load_answers : {old new : CallSeen} {status : Status} → SaysAnswer (load_answer n net [] w scans) old new status → LeavesRefusal new.left new.out status →
+      (¬ IsCut status → new.left.world ≡ Some (ran [] 1 scans.items w)) → Answers (sum_scans n net w.setup scans) [] old new status
+  load_answers {old} {new} {status} says refuses leaves =
       let asking = Finds (List State) (Meaning net scans.items) (λ us. Says (summary n scans.end (map (report net) us))) in
-      goes_answers (sum_scans n net w.setup scans) asking [] files files out out' left status
-      (λ tells. leaves_on files.held left status (leaves_world w.setup [] scans) asking (λ not_cut. leaves not_cut ∙ ap (λ (x : Whole). Some x) (ran_is net [] w built scans.items)))
-      (found_of_all (List State) (Meaning net scans.items) (λ us. Says (summary n scans.end (map (report net) us))) [] files files out out' left status ws means
-      (said_answers (summary n scans.end (map (report net) ws)) [] files files out out' left status (no_cut_summary n scans.end (map (report net) ws)) (files_same files)
-      (subst (λ (a : Answer). SaysAnswer a out out' status) (said_at scans.end) says)))
+      goes_answers (sum_scans n net w.setup scans) asking [] {old = old} {new = new}
+      (λ tells. leaves_on old.files.held (worked new.left) status (leaves_world w.setup [] scans) asking (λ not_cut. leaves not_cut ∙ ap (λ (x : Whole). Some x) (ran_is net [] w built scans.items)))
+      (found_of_all (List State) (Meaning net scans.items) (λ us. Says (summary n scans.end (map (report net) us))) [] {old = old} {new = new} ws means
+      (said_answers (summary n scans.end (map (report net) ws)) [] (no_cut_summary n scans.end (map (report net) ws))
+      (subst (λ (a : Answer). SaysAnswer a old new status) (said_at scans.end) says) refuses))
 
--- a load whose application is refused, or for which memory is wanting
-pub no_load_answers : (n : ℕ) (A : Type 0) (Fits : List ℕ → A → Type 0) (files : FilesSeen) (out out' : OutputSeen) (left : Left) (status : Status) (why : NoApplication) →
-    Reads {A = A} Fits IsAcceptedAs (Some app_text) (Err why) → ¬ (IsFault {A = A} (Err why)) → SaysNoApplication why out out' status → Answers (load n) [] files files out out' left status
-no_load_answers n A Fits files out out' left status (RefusedSource r) read no_fault says =
-    found_of_all Reading (IsAcceptedAs app_text) (with_application (with_counts (sum_trace n))) [] files files out out' left status (is_refused_source r)
-    (subst (λ (text : List ℕ). IsAcceptedAs text (is_refused_source r)) (same_Some read.0 app_text (sym read.1)) read.2)
-    (said_answers (answer (refusal_text r) RefusedStatus) [] files files out out' left status (λ cut. grind arith) (files_same files) says)
-no_load_answers n A Fits files out out' left status NoMemory read no_fault says =
-    subst (λ (s : Status). Answers (load n) [] files files out out' left s) (sym says.0)
-    (subst (λ (o : OutputSeen). Answers (load n) [] files files out o left MemoryStatus) (sym says.1) (memory_answers (load n) [] files files out left (files_same files)))
-no_load_answers n A Fits files out out' left status FaultSource read no_fault says = absurd (no_fault tt)
+-- a load whose application is refused
+no_load_answers : (n : ℕ) (r : Refusal) {old new : CallSeen} {status : Status} → IsAcceptedAs app_text (is_refused_source r) →
+    SaysAnswer (answer (refusal_text r) RefusedStatus) old new status → LeavesRefusal new.left new.out status → Answers (load n) [] old new status
+no_load_answers n r {old} {new} read says refuses =
+    found_of_all Reading (IsAcceptedAs app_text) (with_application (with_counts (sum_trace n))) [] {old = old} {new = new} (is_refused_source r) read
+    (said_answers (answer (refusal_text r) RefusedStatus) [] (λ cut. grind arith) says refuses)
+
+-- a load whose application is not accepted
+pub none_answers : (n : ℕ) (why : Fail) {old new : CallSeen} {status : Status} → IsAcceptance app_text (Err why) → SaysNone why old new status → LeavesRefusal new.left new.out status →
+    Answers (load n) [] old new status
+none_answers n (RefusedByRules r) read says refuses = no_load_answers n r read says refuses
+none_answers n NoneForRules {old} {new} {status} read says refuses = subst (λ (s : Status). Answers (load n) [] old new s) (sym says.0) (memory_answers (load n) [] says.1)

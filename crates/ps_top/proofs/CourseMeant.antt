@@ -19,11 +19,12 @@ use Rattle.ps_vote.specs.Votes.{vote}
 use Rattle.ps_vote.specs.Orders.{course}
 use Rattle.ps_vote.specs.Answers.{answers, AnswerRight, IsRight, VoteRunsAreRight, HealRunsAreRight}
 use Rattle.ps_vote.specs.Whole.{Whole, machines_in, after_events, IsWorldOf}
-use Rattle.ps_top.specs.Asking.{Answer, IsAnswer, IsLeft}
-use Rattle.ps_top.specs.declared.left.Left.{Left}
-use Rattle.ps_top.specs.Lines.{restart_line, voted_text}
-use Rattle.ps_top.specs.Program.{answer, first_seats, voted_lines, run_end, end_line, end_status, told_votes, vote_scans}
-use Rattle.ps_top.specs.Seats.{course_lines, vote_answer, voted_world}
+use Rattle.ps_top.specs.Asking.{Answer, IsAnswer, IsLeft, Worked}
+use Rattle.ps_runs.specs.Lines.{restart_line, voted_text}
+use Rattle.ps_top.specs.Program.{answer, first_seats, voted_lines, end_line, end_status, told_votes, vote_scans}
+use Rattle.ps_runs.specs.Seats.{run_end}
+use Rattle.ps_runs.specs.Seats.{course_lines, voted_world}
+use Rattle.ps_top.specs.Resting.{vote_answer}
 use Rattle.ps_top.specs.declared.Status.TheVariants.{BadInput}
 
 -- the lines of items by the reports that are given are those by the reports that are meant
@@ -72,14 +73,14 @@ module _ (net : Network) (sound : IsSound net) (heals : Bool) (faults : List Vot
   refusal_answers held scans r said is e = subst (λ (s : Scans). IsAnswer (vote_scans heals net w.setup faults s) held said) (sym is) ([], refl, e)
 
   -- what is left of a run whose world this is
-  pub run_leaves : (scans scans' : Scans) → scans ≡ scans' → (held : List ℕ → Option (List ℕ)) (behind : Whole) (left : Left) → left.votes ≡ Some behind → behind ≡ voted_world heals faults scans.items w →
-      IsLeft (vote_scans heals net w.setup faults scans') held left
-  run_leaves scans scans' same held behind left is_left ends =
+  pub run_leaves : (scans scans' : Scans) → scans ≡ scans' → (held : List ℕ → Option (List ℕ)) (behind : Whole) (work : Worked) → work.votes ≡ Some behind → behind ≡ voted_world heals faults scans.items w →
+      IsLeft (vote_scans heals net w.setup faults scans') held work
+  run_leaves scans scans' same held behind work is_left ends =
       let run = one_run net sound nothing scans'.items in (
         is_left ∙ ap (λ (x : Whole). Some x) (ends ∙ ap (λ (s : Scans). voted_world heals faults s.items w) same ∙ (λ i. voted_world heals faults scans'.items (at_first i))),
         (run.0, run.1, tt),
       )
 
   -- and of one whose trace's header is refused: the world at the beginning
-  pub refusal_leaves : (scans : Scans) (r : Refusal) → scans ≡ only_refused r → (held : List ℕ → Option (List ℕ)) (left : Left) → left.votes ≡ Some w → IsLeft (vote_scans heals net w.setup faults scans) held left
-  refusal_leaves scans r is held left is_left = run_leaves (only_refused r) scans (sym is) held w left is_left refl
+  pub refusal_leaves : (scans : Scans) (r : Refusal) → scans ≡ only_refused r → (held : List ℕ → Option (List ℕ)) (work : Worked) → work.votes ≡ Some w → IsLeft (vote_scans heals net w.setup faults scans) held work
+  refusal_leaves scans r is held work is_left = run_leaves (only_refused r) scans (sym is) held w work is_left refl

@@ -24,11 +24,12 @@ use Rattle.ps_world.specs.Answers.{Answer as Answered, answers, ReleaseRight}
 use Rattle.ps_world.proofs.Ordered.{turns_come}
 use Rattle.ps_world.proofs.Run.{after_scan}
 use Rattle.ps_world.proofs.Turning.{after_append, struck_alike}
-use Rattle.ps_top.specs.Outcomes.{performed, outcome_line}
-use Rattle.ps_top.specs.Lines.{restart_line}
-use Rattle.ps_top.specs.Performing.{trips_with}
+use Rattle.ps_runs.specs.Outcomes.{performed, outcome_line}
+use Rattle.ps_runs.specs.Lines.{restart_line}
+use Rattle.ps_runs.specs.Performing.{trips_with}
 use Rattle.ps_top.specs.Program.{cause_at, scan_line, item_lines, are_some, status_if, end_status}
-use Rattle.ps_top.specs.Resting.{answer_lines, any_trips, status_of}
+use Rattle.ps_runs.specs.Resting.{answer_lines, any_trips}
+use Rattle.ps_top.specs.Resting.{status_of}
 
 -- ---- Verdicts.
 

@@ -20,10 +20,10 @@ use Rattle.ps_world.specs.Lists.{is_same}
 use Rattle.ps_world.specs.Orders.{other, events, run_events}
 use Rattle.ps_world.specs.Answers.{SpareChannel, ReleaseRight, RunsAreRight, answers_of_run}
 use Rattle.ps_world.specs.Whole.{Whole, machines_in, after_events, IsWorldOf}
-use Rattle.ps_top.specs.Asking.{Answer, IsAnswer, IsLeft}
-use Rattle.ps_top.specs.declared.left.Left.{Left}
+use Rattle.ps_top.specs.Asking.{Answer, IsAnswer, IsLeft, Worked}
 use Rattle.ps_top.specs.Program.{answer, end_line, first_world, answer_scans}
-use Rattle.ps_top.specs.Resting.{answered, ran, answer_lines, any_trips, status_of, run_answer}
+use Rattle.ps_runs.specs.Resting.{answered, ran, answer_lines, any_trips}
+use Rattle.ps_top.specs.Resting.{status_of, run_answer}
 use Rattle.ps_top.specs.declared.Status.TheVariants.{BadInput}
 use Rattle.ps_top.proofs.Joined.{lines_are_meant, status_is_meant}
 
@@ -75,12 +75,12 @@ module _ (net : Network) (sound : IsSound net) (faults : List Fault) (one : AreO
   refusal_answers held scans r said is e = subst (λ (s : Scans). IsAnswer (answer_scans net w.setup faults s) held said) (sym is) ([], refl, e)
 
   -- what is left of a run whose world this is
-  pub run_leaves : (scans scans' : Scans) → scans ≡ scans' → (held : List ℕ → Option (List ℕ)) (behind : Whole) (left : Left) → left.world ≡ Some behind → behind ≡ ran faults 1 scans.items w →
-      IsLeft (answer_scans net w.setup faults scans') held left
-  run_leaves scans scans' same held behind left is_left ends =
+  pub run_leaves : (scans scans' : Scans) → scans ≡ scans' → (held : List ℕ → Option (List ℕ)) (behind : Whole) (work : Worked) → work.world ≡ Some behind → behind ≡ ran faults 1 scans.items w →
+      IsLeft (answer_scans net w.setup faults scans') held work
+  run_leaves scans scans' same held behind work is_left ends =
       let run = one_run net sound nothing scans'.items in
       (is_left ∙ ap (λ (x : Whole). Some x) (ends ∙ ap (λ (s : Scans). ran faults 1 s.items w) same ∙ ran_is net faults w built scans'.items), (run.0, run.1, tt))
 
   -- and of one whose trace's header is refused: the world at the beginning
-  pub refusal_leaves : (scans : Scans) (r : Refusal) → scans ≡ only_refused r → (held : List ℕ → Option (List ℕ)) (left : Left) → left.world ≡ Some w → IsLeft (answer_scans net w.setup faults scans) held left
-  refusal_leaves scans r is held left is_left = run_leaves (only_refused r) scans (sym is) held w left is_left refl
+  pub refusal_leaves : (scans : Scans) (r : Refusal) → scans ≡ only_refused r → (held : List ℕ → Option (List ℕ)) (work : Worked) → work.world ≡ Some w → IsLeft (answer_scans net w.setup faults scans) held work
+  refusal_leaves scans r is held work is_left = run_leaves (only_refused r) scans (sym is) held w work is_left refl

@@ -18,19 +18,19 @@ use Rattle.ps_vote.specs.Whole as seats
 use Rattle.ps_world.specs.Whole.{Setup, IsSetupOf}
 use Rattle.ps_words.specs.Command.{Command, command_of}
 use Rattle.ps_words.specs.Command.Command.{Run, Fault as FaultWords, Check, Cert, Verify, Image, Load, Demand, Vote, Heal, NotTaken}
-use Rattle.ps_top.specs.Asking.{Answer, Asking, IsAnswer, AsksFor}
+use Rattle.ps_top.specs.Asking.{Answer, Asking, IsAnswer, AsksFor, Worked}
 use Rattle.ps_top.specs.Asking.Asking.{Says, Asks, Finds, Leaves}
 use Rattle.ps_top.specs.Program.{Ruling, Judges, verdict, leaves_checked, with_application, accepted_source, accepted, summary, sum_scans, sum_trace, load, leaves_world, answer, image_lines, imaged, region_sizes, trips_of, unless_refused, with_faults, run_quietly, run_struck, answer_scans, run_named, verify_named, verify, demanded, demand, seat_faults_of, seat_sizes, told_votes, leaves_votes, vote_scans, vote_named, with_seat_faults, vote_struck, said, told, text}
 use Rattle.ps_top.specs.Program.Ruling.{derives, objects}
 use Rattle.ps_source.specs.Demanding.{IsDemandableAs}
 use Rattle.ps_source.specs.Source.{Reading, Resolves, IsResolvedAs, IsAcceptedAs, counts}
 use Rattle.ps_top.specs.declared.Status.TheVariants.{Done}
-use Rattle.ps_top.specs.declared.left.Left.{Left}
 use Rattle.ps_source.specs.Source.Reading.{stands_for, is_refused}
 use Rattle.ps_source.proofs.Demandable.{one_demanding}
 use Rattle.ps_source.proofs.Keeping.{resolved_sound}
 use Rattle.ps_source.proofs.OneReading.{one_resolution}
 use Rattle.ps_source.proofs.OneBreach.{one_acceptance}
+use Rattle.ps_top.proofs.Applied.{with_counts}
 use Rattle.ps_top.proofs.OneJudgement.{one_judgement}
 use Rattle.ps_top.proofs.Setups.{one_setup, one_seat_setup}
 
@@ -58,12 +58,8 @@ module _ (held : List ℕ → Option (List ℕ)) where
     none = λ other asks missing a x. (each asks.0 asks.1).none other asks.2 missing a (subst (λ (z : X). IsAnswer (next z) held a) (only x.0 asks.0 x.1 asks.1) x.2);
   }
 
-  leaves_determined : (Fact : Left → Type 0) (next : Asking) → IsDetermined next held → IsDetermined (Leaves Fact next) held
+  leaves_determined : (Fact : Worked → Type 0) (next : Asking) → IsDetermined next held → IsDetermined (Leaves Fact next) held
   leaves_determined Fact next d = record { one = d.one; none = d.none }
-
--- what is asked behind an accepted application, whose certificate leaves its counts
-abbrev pub with_counts : (Network → Asking) → Network → Asking
-with_counts next net = Leaves (leaves_checked (counts net (certificate net))) (next net)
 
 module _ (held : List ℕ → Option (List ℕ)) where
   -- what is said of the states that scans mean

@@ -34,10 +34,11 @@ use Rattle.ps_top.specs.Asking.{Answer, IsAnswer}
 use Rattle.ps_vote.specs.declared.faults.VoteFault.{VoteFault}
 use Rattle.ps_vote.specs.Orders.{course}
 use Rattle.ps_vote.specs.Whole as seats
-use Rattle.ps_top.specs.Program.{with_application, run, run_quietly, end_status, trips_of, unless_refused, run_end, seat_faults_of, seat_sizes, vote_named, vote_struck, voted}
+use Rattle.ps_top.specs.Program.{with_application, run, run_quietly, end_status, trips_of, unless_refused, seat_faults_of, seat_sizes, vote_named, vote_struck, voted}
+use Rattle.ps_runs.specs.Seats.{run_end}
 use Rattle.ps_top.specs.declared.Status.TheVariants.{Tripped}
 use Rattle.ps_source.proofs.Keeping.{resolved_sound}
-use Rattle.ps_top.proofs.OneAnswer.{with_counts}
+use Rattle.ps_top.proofs.Applied.{with_counts}
 use Rattle.ps_top.proofs.Timely.{scans_timely}
 
 -- where every scan is released none trips

@@ -3,7 +3,7 @@ use Rattle.std.proofs.Common.{◌≡◌, ◌⊎◌, ◌++◌, ◌∙◌, Bool, I
 use Rattle.ps_base.specs.declared.failing.Refusal.{Refusal}
 use Rattle.ps_report.specs.Short.{refusal_text}
 use Rattle.ps_top.specs.Asking.{Answer}
-use Rattle.ps_top.specs.Calls.{OutputSeen, SaysAnswer, IsRefusing, LeavesRefusal}
+use Rattle.ps_top.specs.Calls.{OutputSeen, CallSeen, SaysAnswer, IsRefusing, LeavesRefusal}
 use Rattle.ps_top.specs.Meets.{IsCut}
 use Rattle.ps_top.specs.Program.{answer}
 use Rattle.ps_top.specs.declared.Status.{Status}
@@ -40,14 +40,14 @@ otherwise_refuses said status left out' not ends = λ refusing.
     absurd (⊎_elim (λ e. not (subst IsRefusing e refusing)) (λ e. cut_refuses_not WriteFault (subst IsRefusing e refusing) (inr (inl refl))) ends)
 
 -- a call that says the line of a refusal, and leaves it
-pub said_refuses : (refusal : Refusal) (said status : Status) (left : Left) (out out' : OutputSeen) → left.refusal ≡ Some refusal →
-    SaysAnswer (answer (refusal_text refusal) said) out out' status → LeavesRefusal left out' status
-said_refuses refusal said status left out out' leaves says = λ refusing.
+pub said_refuses : (refusal : Refusal) (said status : Status) (left : Left) (old new : CallSeen) → left.refusal ≡ Some refusal →
+    SaysAnswer (answer (refusal_text refusal) said) old new status → LeavesRefusal left new.out status
+said_refuses refusal said status left old new leaves says = λ refusing.
     let all = says.gives.whole (cut_refuses_not status refusing) in (
       refusal,
       leaves,
       λ tells. (
-        out.taken,
-        all.appended (subst (λ (b : Bool). IsTrue b) says.output_stays.telling tells) ∙ ap (λ (a : Answer). out.taken ++ a.bytes) all.right,
+        old.out.taken,
+        all.appended (subst (λ (b : Bool). IsTrue b) says.writes.keeps.telling tells) ∙ ap (λ (a : Answer). old.out.taken ++ a.bytes) all.right,
       ),
     )

@@ -27,7 +27,7 @@ use Rattle.ps_top.specs.Program.{Ruling, Judges, verdict, with_application, acce
 use Rattle.ps_top.specs.Program.Ruling.{derives, objects}
 use Rattle.ps_top.specs.declared.Status.TheVariants.{Done}
 use Rattle.ps_source.proofs.Keeping.{resolved_sound}
-use Rattle.ps_top.proofs.OneAnswer.{with_counts}
+use Rattle.ps_top.proofs.Applied.{with_counts}
 use Rattle.ps_top.proofs.Setups.{some_setup, some_seat_setup}
 
 -- where all names that are asked for are held there is an answer

@@ -1,17 +1,16 @@
 -- What the judge of a certificate's text answers.
-use Rattle.std.specs.Prelude.{◌≡◌, ◌⊎◌, ℕ, List}
+use Rattle.std.specs.Prelude.{◌≡◌, ◌⊎◌, ℕ, List, Some}
 use Rattle.ps_flow.specs.declared.certificate.CertLine.{CertLine}
 use Rattle.ps_model.specs.Network.{Network}
 use Rattle.ps_report.specs.Short.{refusal_text}
 use Rattle.ps_top.specs.Lines.{verified_line}
 use Rattle.ps_top.specs.Asking.{Answer}
 use Rattle.ps_source.specs.Source.{counts}
-use Rattle.ps_top.specs.Calls.{OutputSeen, SaysAnswer}
-use Rattle.ps_top.specs.Program.{answer, leaves_checked, Judges}
+use Rattle.ps_top.specs.Calls.{CallSeen, SaysAnswer}
+use Rattle.ps_top.specs.Program.{answer, Judges}
 use Rattle.ps_top.specs.Program.Ruling.{derives, objects}
 use Rattle.ps_top.specs.declared.Status.{Status}
 use Rattle.ps_top.specs.declared.Status.TheVariants.{Done, BadInput, Memory}
-use Rattle.ps_top.specs.declared.left.Left.{Left}
 use Rattle.ps_top.specs.declared.verifying.Judgement.{Judgement}
 use Rattle.ps_top.specs.declared.verifying.Judgement.TheVariants.{Derives, Objects}
 
@@ -25,11 +24,10 @@ abbrev pub told_of : Judgement → Answer
 told_of (Derives c) = answer (verified_line c.lines) Done
 told_of (Objects refusal) = answer (refusal_text refusal) BadInput
 
--- the counts of what was checked are left
-abbrev pub LeavesCounts : Judgement → Left → Type 0
-LeavesCounts (Derives c) left = leaves_checked c left
-LeavesCounts (Objects refusal) left = Unit {0}
-
--- the line of a judgement is said, or memory is wanting and nothing is written
-abbrev pub SaysJudgement : Judgement → (out out' : OutputSeen) → Status → Type 0
-SaysJudgement judgement out out' status = ((status ≡ Memory) × (out' ≡ out)) ⊎ SaysAnswer (told_of judgement) out out' status
+-- The line of a judgement is said, and the counts of what was checked are left. Or memory was wanting, and nothing was
+-- done.
+abbrev pub SaysJudgement : Judgement → (old new : CallSeen) → Status → Type 0
+SaysJudgement (Derives c) old new status =
+    ((status ≡ Memory) × (new ≡ old))
+    ⊎ (SaysAnswer (told_of (Derives c)) old new status × (new.left.checked ≡ Some c))
+SaysJudgement (Objects refusal) old new status = SaysAnswer (told_of (Objects refusal)) old new status

@@ -9,7 +9,8 @@ abbrev pub IsCut : Status → Type 0
 IsCut status = (status ≡ ReadFault) ⊎ (status ≡ WriteFault) ⊎ (status ≡ Memory)
 
 -- an answer was given: its status, and all of its bytes
-pub record AppendsAll (IsRight : Answer → Type 0) (tells : Bool) (before after : List ℕ) (status : Status) : Type 0 where
+pub record AppendsAll (IsRight : Answer → Type 0) (tells : Bool) (before after : List ℕ)
+    (status : Status) : Type 0 where
   pub answer : Answer
   pub right : IsRight answer
   pub ended : status ≡ answer.status
@@ -37,6 +38,7 @@ pub record Gives (IsRight : Answer → Type 0) (tells : Bool) (before after : Li
   pub memory : status ≡ Memory → AppendsNothing tells before after
 
 -- What a call does that is asked to say this. `rose` says of which names the count of faults rose.
-pub record Meets (asking : Asking) (held : List ℕ → Option (List ℕ)) (rose : List ℕ → Type 0) (tells : Bool) (before after : List ℕ) (status : Status) : Type 0 where
+pub record Meets (asking : Asking) (held : List ℕ → Option (List ℕ)) (rose : List ℕ →
+    Type 0) (tells : Bool) (before after : List ℕ) (status : Status) : Type 0 where
   pub gives : Gives (IsAnswer asking held) tells before after status
   pub read_fault : status ≡ ReadFault → (name : List ℕ) × AsksFor asking held name × rose name

@@ -1,12 +1,10 @@
 -- What the program writes, for its words and the texts that are held.
 use Rattle.std.specs.Prelude.{◌≡◌, ◌⊎◌, ℕ, suc, Bool, true, false, ◌==◌, ◌||◌, if◌then◌else◌, List, [], ◌∷◌, ◌++◌, Option, Some, None, is_some, length, map, count_by, sum_by}
 use Rattle.ps_base.specs.declared.failing.Refusal.{Refusal}
-use Rattle.ps_base.specs.declared.failing.Rule.TheVariants.{F4}
 use Rattle.ps_model.specs.declared.channel.Cause.{Cause}
 use Rattle.ps_model.specs.declared.channel.Channel.TheVariants.{A, B}
 use Rattle.ps_model.specs.declared.channel.Fault.{Fault}
 use Rattle.ps_model.specs.declared.channel.ImageSizes.{ImageSizes}
-use Rattle.ps_model.specs.declared.report.Diag.{Diag}
 use Rattle.ps_model.specs.declared.report.Report.{Report}
 use Rattle.ps_model.specs.Network.{Network}
 use Rattle.ps_model.specs.Scanning.{State}
@@ -39,13 +37,15 @@ use Rattle.ps_report.specs.Lines.{report_text, trip_text}
 use Rattle.ps_report.specs.Short.{refusal_text, check_text, load_text}
 use Rattle.ps_words.specs.Command.{Command, command_of, usage_line}
 use Rattle.ps_words.specs.Command.Command.{Run, Fault as FaultWords, Check, Cert, Verify, Image, Load, Demand, Vote as VoteWords, Heal as HealWords, NotTaken}
-use Rattle.ps_top.specs.Asking.{Answer, Asking}
+use Rattle.ps_top.specs.Asking.{Answer, Asking, Worked}
 use Rattle.ps_top.specs.Asking.Asking.{Says, Asks, Finds, Leaves}
-use Rattle.ps_top.specs.Lines.{restart_line, verified_line, voted_text}
+use Rattle.ps_runs.specs.Counting.{true_outputs, true_errors}
+use Rattle.ps_runs.specs.Lines.{restart_line, voted_text}
+use Rattle.ps_runs.specs.Seats.{run_end}
+use Rattle.ps_top.specs.Lines.{verified_line}
 use Rattle.ps_source.specs.Demanding.{IsDemandableAs}
 use Rattle.ps_source.specs.Source.{Reading, IsResolvedAs, IsAcceptedAs, counts}
 use Rattle.ps_source.specs.Source.Reading.{stands_for, is_refused}
-use Rattle.ps_top.specs.declared.left.Left.{Left}
 use Rattle.ps_top.specs.declared.Status.{Status}
 use Rattle.ps_top.specs.declared.Status.TheVariants.{Done, Refused, Usage, BadInput, Tripped}
 
@@ -56,8 +56,8 @@ answer bytes status = record { bytes = bytes; status = status }
 -- ---- the source
 
 -- the counts of a certificate that was checked are left
-abbrev pub leaves_checked : Counts → Left → Type 0
-leaves_checked counts left = left.checked ≡ Some counts
+abbrev pub leaves_checked : Counts → Worked → Type 0
+leaves_checked counts work = work.checked ≡ Some counts
 
 -- with an application the program goes on; a source that is refused has its line
 abbrev pub with_application : (Network → Asking) → Reading → Asking
@@ -66,7 +66,9 @@ with_application next (is_refused refusal) = Says (answer (refusal_text refusal)
 
 -- the application of this source, which is accepted and whose certificate was checked
 abbrev pub accepted_source : List ℕ → (Network → Asking) → Asking
-accepted_source source next = Finds Reading (IsAcceptedAs source) (with_application (λ net. Leaves (leaves_checked (counts net (certificate net))) (next net)))
+accepted_source source next =
+    Finds Reading (IsAcceptedAs source)
+    (with_application (λ net. Leaves (leaves_checked (counts net (certificate net))) (next net)))
 
 -- the application of the source of this name
 abbrev pub accepted : List ℕ → (Network → Asking) → Asking
@@ -84,9 +86,12 @@ cert app = accepted app (λ net. Says (answer (written (certificate net)) Done))
 
 -- ---- demand
 
--- The application of an accepted source whose certificate was checked, where no SAFEBOOL output has a demand that is too large.
+-- The application of an accepted source whose certificate was checked, where no SAFEBOOL output has a demand that is
+-- too large.
 abbrev pub demandable : List ℕ → (Network → Asking) → Asking
-demandable app next = Asks app (λ source. Finds Reading (IsDemandableAs source) (with_application (λ net. Leaves (leaves_checked (counts net (certificate net))) (next net))))
+demandable app next =
+    Asks app (λ source. Finds Reading (IsDemandableAs source)
+    (with_application (λ net. Leaves (leaves_checked (counts net (certificate net))) (next net))))
 
 -- what each SAFEBOOL output demands, a line for each
 abbrev pub demanded : Network → Asking
@@ -108,13 +113,21 @@ first_world setup = record { setup = setup; state = world_0 (machines_in setup) 
 
 -- the lengths of the regions of both channels, in bytes
 abbrev pub region_sizes : Setup → ImageSizes
-region_sizes setup = let x = world_0 (machines_in setup) in record { a_code = length x.a.code; a_cells = length x.a.cells; b_code = length x.b.code; b_cells = length x.b.cells }
+region_sizes setup =
+    let x = world_0 (machines_in setup) in record {
+      a_code = length x.a.code;
+      a_cells = length x.a.cells;
+      b_code = length x.b.code;
+      b_cells = length x.b.cells;
+    }
 
 -- ---- image
 
 -- the text of an application's images: channel A's part, and then channel B's
 abbrev pub image_lines : Setup → List ℕ
-image_lines setup = image_part A setup.image_a (region_sizes setup).a_cells setup.budget_a ++ image_part B setup.image_b (region_sizes setup).b_cells setup.budget_b
+image_lines setup =
+    image_part A setup.image_a (region_sizes setup).a_cells setup.budget_a ++
+    image_part B setup.image_b (region_sizes setup).b_cells setup.budget_b
 
 -- the images of an application are said
 abbrev pub imaged : Network → Asking
@@ -135,21 +148,22 @@ abbrev pub cause_at : ℕ → List (ℕ × Cause) → Option Cause
 cause_at number [] = None
 cause_at number (trip ∷ tripped) = if trip.0 == number then Some trip.1 else cause_at number tripped
 
--- the line of a scan with this state: where it trips, its TRIP line with the cause; after a trip, up to the next restart, the later
--- TRIP line; and else the report line
+-- the line of a scan with this state: where it trips, its TRIP line with the cause; after a trip, up to the next
+-- restart, the later TRIP line; and else the report line
 abbrev pub scan_line : Network → (now : ℕ) → State → Option Cause → (down : Bool) → List ℕ
 scan_line net now w (Some cause) down = trip_text net now (Some cause)
 scan_line net now w None true = trip_text net now None
 scan_line net now w None false = report_text net now (report net w)
 
--- the lines of items, of which the first scan has this number, and whose scans have these states, where these scans trip; `down` says
--- whether a scan tripped since the last restart
+-- the lines of items, of which the first scan has this number, and whose scans have these states, where these scans
+-- trip; `down` says whether a scan tripped since the last restart
 abbrev pub item_lines : Network → List (ℕ × Cause) → (number : ℕ) → (down : Bool) → List Item → List State → List ℕ
 item_lines net tripped number down [] ws = []
 item_lines net tripped number down (restart ∷ items) ws = restart_line ++ item_lines net tripped number false items ws
 item_lines net tripped number down (scan now ins ∷ items) [] = []
 item_lines net tripped number down (scan now ins ∷ items) (w ∷ ws) =
-    scan_line net now w (cause_at number tripped) down ++ item_lines net tripped (suc number) (down || is_some (cause_at number tripped)) items ws
+    scan_line net now w (cause_at number tripped) down
+    ++ item_lines net tripped (suc number) (down || is_some (cause_at number tripped)) items ws
 
 -- the line of the end of a trace: none, or its refusal
 abbrev pub end_line : End → List ℕ
@@ -173,16 +187,19 @@ end_status (refused refusal) tripped = BadInput
 
 -- a line for each item, and one for a refusal
 abbrev pub told : Network → List (ℕ × Cause) → Scans → List State → Answer
-told net tripped scans ws = answer (item_lines net tripped 1 false scans.items ws ++ end_line scans.end) (end_status scans.end tripped)
+told net tripped scans ws =
+    answer (item_lines net tripped 1 false scans.items ws ++ end_line scans.end) (end_status scans.end tripped)
 
 -- the world after all events of the run is left
-abbrev pub leaves_world : Setup → List Fault → Scans → Left → Type 0
-leaves_world setup faults scans left = left.world ≡ Some (after_events (events (machines_in setup) scans.items faults) (first_world setup))
+abbrev pub leaves_world : Setup → List Fault → Scans → Worked → Type 0
+leaves_world setup faults scans work =
+    work.world ≡ Some (after_events (events (machines_in setup) scans.items faults) (first_world setup))
 
 -- the scans of a trace have the lines of what they mean, up to where the channels trip
 abbrev pub answer_scans : Network → Setup → List Fault → Scans → Asking
 answer_scans net setup faults scans =
-    Leaves (leaves_world setup faults scans) (Finds (List State) (Meaning net scans.items) (λ ws. Says (told net (trips_of setup faults scans) scans ws)))
+    Leaves (leaves_world setup faults scans)
+    (Finds (List State) (Meaning net scans.items) (λ ws. Says (told net (trips_of setup faults scans) scans ws)))
 
 -- the trace of this name is run, where these faults strike
 abbrev pub run_named : Network → Setup → List Fault → List ℕ → Asking
@@ -195,7 +212,8 @@ unless_refused next faults (Some refusal) = Says (answer (refusal_text refusal) 
 
 -- the faults of the file of this name, by what a text gives
 abbrev pub with_file : {F : Type 0} → (List ℕ → FaultList F) → List ℕ → (List F → Asking) → Asking
-with_file faults_in faults next = Asks faults (λ text. unless_refused next (faults_in text).faults (faults_in text).refusal)
+with_file faults_in faults next =
+    Asks faults (λ text. unless_refused next (faults_in text).faults (faults_in text).refusal)
 
 -- the faults of two channels in the file of this name
 abbrev pub with_faults : Setup → List ℕ → (List Fault → Asking) → Asking
@@ -207,7 +225,8 @@ run_quietly trace net = with_setup net (λ setup. run_named net setup [] trace)
 
 -- an application's trace is run, where the faults of a file strike
 abbrev pub run_struck : (trace faults : List ℕ) → Network → Asking
-run_struck trace faults net = with_setup net (λ setup. with_faults setup faults (λ list. run_named net setup list trace))
+run_struck trace faults net =
+    with_setup net (λ setup. with_faults setup faults (λ list. run_named net setup list trace))
 
 -- `run APP TRACE`: the application is accepted, and then its trace is run
 abbrev pub run : List ℕ → List ℕ → Asking
@@ -227,45 +246,44 @@ first_seats setup = record { setup = setup; state = seats_0 (seats_in setup) }
 abbrev pub seat_sizes : SeatSetup → VoteSizes
 seat_sizes setup =
     let x = seats_0 (seats_in setup) in
-    record { code = length x.a.code ∷ length x.b.code ∷ length x.c.code ∷ []; cells = length x.a.cells ∷ length x.b.cells ∷ length x.c.cells ∷ [] }
+    record {
+      code = length x.a.code ∷ length x.b.code ∷ length x.c.code ∷ [];
+      cells = length x.a.cells ∷ length x.b.cells ∷ length x.c.cells ∷ [];
+    }
 
--- the faults that the text of a fault file gives: those of `vote` strike one seat alone, and those of `heal`, which heals, any seats
+-- the faults that the text of a fault file gives: those of `vote` strike one seat alone, and those of `heal`, which
+-- heals, any seats
 abbrev pub seat_faults_of : (heals : Bool) → List ℕ → VoteSizes → FaultList VoteFault
 seat_faults_of false text sizes = vote_faults_of text sizes
 seat_faults_of true text sizes = heal_faults_of text sizes
 
--- the lines of items with these votes, whose scans have these states: the report line of each scan, and behind it that of the seat that
--- its vote outvotes
+-- the lines of items with these votes, whose scans have these states: the report line of each scan, and behind it that
+-- of the seat that its vote outvotes
 abbrev pub voted_lines : Network → List Item → List Vote → List State → List ℕ
 voted_lines net [] votes ws = []
 voted_lines net (restart ∷ items) votes ws = restart_line ++ voted_lines net items votes ws
 voted_lines net (scan now ins ∷ items) [] ws = []
 voted_lines net (scan now ins ∷ items) (v ∷ votes) [] = []
-voted_lines net (scan now ins ∷ items) (v ∷ votes) (w ∷ ws) = voted_text net now (report net w) v ++ voted_lines net items votes ws
-
--- the refusal of a fault that is reached while another seat is dirty: F4 at its line
-abbrev pub fault_refusal : VoteFault → Refusal
-fault_refusal f = record { rule = F4; place = record { line = f.line; column = 0 } }
-
--- how a run ends: at a fault that is refused, and else at the end of its trace
-abbrev pub run_end : Option VoteFault → End → End
-run_end None end = end
-run_end (Some f) end = refused (fault_refusal f)
+voted_lines net (scan now ins ∷ items) (v ∷ votes) (w ∷ ws) =
+    voted_text net now (report net w) v ++ voted_lines net items votes ws
 
 -- the lines of the items that a run did, and one for a refusal
 abbrev pub told_votes : Network → SeatSetup → Course → End → List State → Answer
 told_votes net setup run end ws =
-    answer (voted_lines net run.done (map (vote_in (seats_in setup)) run.votes) ws ++ end_line (run_end run.refused end)) (end_status (run_end run.refused end) [])
+    answer
+    (voted_lines net run.done (map (vote_in (seats_in setup)) run.votes) ws ++ end_line (run_end run.refused end))
+    (end_status (run_end run.refused end) [])
 
 -- the world of three seats after all events of the run is left
-abbrev pub leaves_votes : SeatSetup → Course → Left → Type 0
-leaves_votes setup run left = left.votes ≡ Some (seats_after run.events (first_seats setup))
+abbrev pub leaves_votes : SeatSetup → Course → Worked → Type 0
+leaves_votes setup run work = work.votes ≡ Some (seats_after run.events (first_seats setup))
 
 -- the scans of a trace have the lines of what they mean, up to a fault that is refused
 abbrev pub vote_scans : (heals : Bool) → Network → SeatSetup → List VoteFault → Scans → Asking
 vote_scans heals net setup faults scans =
     let run = course heals (seats_in setup) scans.items faults in
-    Leaves (leaves_votes setup run) (Finds (List State) (Meaning net scans.items) (λ ws. Says (told_votes net setup run scans.end ws)))
+    Leaves (leaves_votes setup run)
+    (Finds (List State) (Meaning net scans.items) (λ ws. Says (told_votes net setup run scans.end ws)))
 
 -- the trace of this name is run in three seats, where these faults strike
 abbrev pub vote_named : (heals : Bool) → Network → SeatSetup → List VoteFault → List ℕ → Asking
@@ -277,7 +295,9 @@ with_seat_faults heals setup faults next = with_file (λ text. seat_faults_of he
 
 -- an application's trace is run in three seats, where the faults of a file strike
 abbrev pub vote_struck : (heals : Bool) → (trace faults : List ℕ) → Network → Asking
-vote_struck heals trace faults net = Finds SeatSetup (IsSeatSetupOf net) (λ setup. with_seat_faults heals setup faults (λ list. vote_named heals net setup list trace))
+vote_struck heals trace faults net =
+    Finds SeatSetup (IsSeatSetupOf net)
+    (λ setup. with_seat_faults heals setup faults (λ list. vote_named heals net setup list trace))
 
 -- the application is accepted, and then its trace is run in three seats, with the seats healed that are outvoted or not
 abbrev pub voted : (heals : Bool) → (app trace faults : List ℕ) → Asking
@@ -293,23 +313,17 @@ heal app trace faults = voted true app trace faults
 
 -- ---- load
 
--- how many outputs of a report are TRUE
-abbrev pub true_outputs : Report → ℕ
-true_outputs r = count_by (λ out. out) r.outs
-
--- how many instances of a report have Error
-abbrev pub true_errors : Report → ℕ
-true_errors r = count_by (λ (d : Diag). d.error) r.diags
-
 -- the summary of a load whose scans have these reports; a trace that is refused has its line in place of it
 abbrev pub summary : (n : ℕ) → End → List Report → Answer
-summary n whole reports = answer (load_text n (length reports) (sum_by true_outputs reports) (sum_by true_errors reports)) Done
+summary n whole reports =
+    answer (load_text n (length reports) (sum_by true_outputs reports) (sum_by true_errors reports)) Done
 summary n (refused refusal) reports = answer (refusal_text refusal) BadInput
 
 -- the scans of a load's trace are summed up by what they mean
 abbrev pub sum_scans : (n : ℕ) → Network → Setup → Scans → Asking
 sum_scans n net setup scans =
-    Leaves (leaves_world setup [] scans) (Finds (List State) (Meaning net scans.items) (λ ws. Says (summary n scans.end (map (report net) ws))))
+    Leaves (leaves_world setup [] scans)
+    (Finds (List State) (Meaning net scans.items) (λ ws. Says (summary n scans.end (map (report net) ws))))
 
 -- the trace of a load is run without faults
 abbrev pub sum_trace : (n : ℕ) → Network → Asking
@@ -340,7 +354,8 @@ Judges net text (objects r) = RefusesText text r.rule r.place ⊎ HasObjection n
 
 -- what is said of a certificate that was judged
 abbrev pub verdict : Network → Ruling → Asking
-verdict net (derives lines) = Leaves (leaves_checked (counts net lines)) (Says (answer (verified_line (length lines)) Done))
+verdict net (derives lines) =
+    Leaves (leaves_checked (counts net lines)) (Says (answer (verified_line (length lines)) Done))
 verdict net (objects refusal) = Says (answer (refusal_text refusal) BadInput)
 
 -- the certificate of this name is judged
@@ -349,7 +364,8 @@ verify_named net cert = Asks cert (λ text. Finds Ruling (Judges net text) (verd
 
 -- `verify APP CERT`: no rule S is tried, and nothing is derived
 abbrev pub verify : List ℕ → List ℕ → Asking
-verify app cert = Asks app (λ source. Finds Reading (IsResolvedAs source) (with_application (λ net. verify_named net cert)))
+verify app cert =
+    Asks app (λ source. Finds Reading (IsResolvedAs source) (with_application (λ net. verify_named net cert)))
 
 -- ---- the words
 

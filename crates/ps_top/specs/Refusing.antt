@@ -1,23 +1,43 @@
--- What is said of a source that gives no application, and of a fault file that gives no faults.
-use Rattle.std.specs.Prelude.{◌≡◌}
+-- How a call ends that gets no text, or no application of one.
+use Rattle.std.specs.Prelude.{◌≡◌, ◌⊎◌, ℕ, List, Some, IsTrue}
+use Rattle.ps_base.specs.declared.failing.Fail.{Fail}
+use Rattle.ps_base.specs.declared.failing.Fail.TheVariants.{Memory as NoneForRules, Refused as RefusedByRules}
+use Rattle.ps_base.specs.declared.failing.Refusal.{Refusal}
 use Rattle.ps_report.specs.Short.{refusal_text}
-use Rattle.ps_source.specs.declared.accepting.NoApplication.{NoApplication}
-use Rattle.ps_source.specs.declared.accepting.NoApplication.TheVariants.{Memory, Fault, Refused}
-use Rattle.ps_trace.specs.declared.trace.TraceFail.{TraceFail}
-use Rattle.ps_trace.specs.declared.trace.TraceFail.TheVariants.{Memory as NoMemoryLeft, Fault as IsFault, Refused as IsRefusedFile}
-use Rattle.ps_top.specs.Calls.{OutputSeen, SaysAnswer}
+use Rattle.ps_source.specs.Source.{Reading}
+use Rattle.ps_source.specs.Source.Reading.{is_refused}
+use Rattle.ps_outside.specs.declared.text_fail.TextFail.{TextFail}
+use Rattle.ps_outside.specs.declared.text_fail.TextFail.TheVariants.{Memory as NoMemory, Fault as IsFault, Refused as IsRefused}
+use Rattle.ps_top.specs.Calls.{CallSeen, LeavesRefusal, Passes, ReadsName, SaysAnswer}
 use Rattle.ps_top.specs.Program.{answer}
 use Rattle.ps_top.specs.declared.Status.{Status}
-use Rattle.ps_top.specs.declared.Status.TheVariants.{Refused as IsRefused, BadInput, ReadFault, Memory as NoMemory}
+use Rattle.ps_top.specs.declared.Status.TheVariants.{Refused, ReadFault, Memory}
 
--- a refusal has its line; of want of memory and of a failed read nothing is written, and the status tells of it
-abbrev pub SaysNoApplication : NoApplication → (out out' : OutputSeen) → Status → Type 0
-SaysNoApplication (Refused refusal) out out' status = SaysAnswer (answer (refusal_text refusal) IsRefused) out out' status
-SaysNoApplication Memory out out' status = (status ≡ NoMemory) × (out' ≡ out)
-SaysNoApplication Fault out out' status = (status ≡ ReadFault) × (out' ≡ out)
+-- a refusal has its line, with this status; of want of memory and of a failed read nothing is written, and the status
+-- tells of it
+abbrev pub Fails : Status → TextFail → (old new : CallSeen) → Status → Type 0
+Fails said (IsRefused refusal) old new status = SaysAnswer (answer (refusal_text refusal) said) old new status
+Fails said NoMemory old new status = (status ≡ Memory) × (new ≡ old)
+Fails said IsFault old new status = (status ≡ ReadFault) × (new ≡ old)
 
--- the same of a fault file
-abbrev pub SaysNoFaults : TraceFail → (out out' : OutputSeen) → Status → Type 0
-SaysNoFaults (IsRefusedFile refusal) out out' status = SaysAnswer (answer (refusal_text refusal) BadInput) out out' status
-SaysNoFaults NoMemoryLeft out out' status = (status ≡ NoMemory) × (out' ≡ out)
-SaysNoFaults IsFault out out' status = (status ≡ ReadFault) × (out' ≡ out)
+-- a source gives nothing: its refusal has its line, and of want of memory the status tells
+abbrev pub SaysNone : Fail → (old new : CallSeen) → Status → Type 0
+SaysNone (RefusedByRules refusal) old new status = SaysAnswer (answer (refusal_text refusal) Refused) old new status
+SaysNone NoneForRules old new status = (status ≡ Memory) × Passes old new
+
+-- a call that could not read its source ends so
+abbrev pub IsUnread : Status → Type 0
+IsUnread status = (status ≡ Memory) ⊎ (status ≡ ReadFault)
+
+-- A name gave no application, by the readings that a source has: memory was wanting, or the name could not be read, or
+-- the source is refused, and its refusal was said and left.
+pub data GivesNone (Readings : List ℕ → Reading → Type 0) (name : List ℕ) (old new : CallSeen)
+    (status : Status) : Type 0 where
+  short : status ≡ Memory → Passes old new → GivesNone Readings name old new status
+  unread : status ≡ ReadFault → ReadsName name (Unit {0}) old new → GivesNone Readings name old new status
+  refuses : (mid : CallSeen) (refusal : Refusal) →
+      (IsTrue old.files.tells →
+      (text : List ℕ) × (old.files.held name ≡ Some text) × Readings text (is_refused refusal)) →
+      Passes old mid → SaysAnswer (answer (refusal_text refusal) Refused) mid new status →
+      LeavesRefusal new.left new.out status →
+      GivesNone Readings name old new status

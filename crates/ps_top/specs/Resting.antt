@@ -1,56 +1,50 @@
--- What a run writes, by what the world of two channels answers scan by scan: the recursion of the loop. That it is what the
--- scans mean, up to where the channels trip, is a law.
-use Rattle.std.specs.Prelude.{ℕ, Bool, false, ◌||◌, List, [], ◌∷◌, ◌++◌, flat_map, length}
+-- What runs answer, by what their worlds come to scan by scan. That this is what the scans mean, up to where the
+-- channels trip or a fault is refused, are laws.
+use Rattle.std.specs.Prelude.{ℕ, Bool, List, [], ◌++◌, fold}
 use Rattle.ps_model.specs.declared.channel.Fault.{Fault}
-use Rattle.ps_model.specs.declared.channel.Verdict.{Verdict}
-use Rattle.ps_model.specs.Network.{Network, instance_count}
-use Rattle.ps_model.specs.Meaning.{Item, scan, restart}
-use Rattle.ps_world.specs.Answers.{Answer as Answered, answers}
-use Rattle.ps_world.specs.Orders.{run_events}
-use Rattle.ps_world.specs.Whole.{Whole, machines_in, after_events}
+use Rattle.ps_model.specs.Network.{Network}
+use Rattle.ps_report.specs.Short.{load_text, refusal_text}
+use Rattle.ps_runs.specs.Counting.{none_counted, counted}
+use Rattle.ps_runs.specs.declared.counting.Counter.{Counter}
+use Rattle.ps_runs.specs.Resting.{answered, outcomes, answer_lines, any_trips}
+use Rattle.ps_runs.specs.Seats.{coming, course_lines, run_end}
 use Rattle.ps_trace.specs.Scans.{Scans, End}
 use Rattle.ps_trace.specs.Scans.End.{whole, refused}
+use Rattle.ps_vote.specs.declared.faults.VoteFault.{VoteFault}
+use Rattle.ps_vote.specs.Whole.{Whole as WholeSeats, machines_in}
+use Rattle.ps_world.specs.Whole.{Whole}
 use Rattle.ps_top.specs.Asking.{Answer}
-use Rattle.ps_top.specs.Outcomes.{Outcome, performed, anew, outcome_line}
-use Rattle.ps_top.specs.Performing.{trips_with}
-use Rattle.ps_top.specs.Program.{answer, end_line, status_if}
+use Rattle.ps_top.specs.Program.{answer, end_line, end_status, status_if}
 use Rattle.ps_top.specs.declared.Status.{Status}
-use Rattle.ps_top.specs.declared.Status.TheVariants.{BadInput}
-
--- the answers of the scans among these items, of which the first has this number, from where a world stands
-abbrev pub answered : Network → List Fault → (number : ℕ) → List Item → Whole → List Answered
-answered net faults number items w = answers (machines_in w.setup) (length net.outputs) (instance_count net) faults number items w.state
-
--- the world after the events of these items
-abbrev pub ran : List Fault → (number : ℕ) → List Item → Whole → Whole
-ran faults number items w = after_events (run_events (machines_in w.setup) faults number items w.state) w
-
--- what comes of items whose scans have these answers
-abbrev pub outcomes : List Item → List Answered → List (Outcome Verdict)
-outcomes [] given = []
-outcomes (restart ∷ items) given = anew ∷ outcomes items given
-outcomes (scan now ins ∷ items) [] = []
-outcomes (scan now ins ∷ items) (a ∷ given) = performed now a.verdict a.report ∷ outcomes items given
-
--- their lines
-abbrev pub answer_lines : Network → List Item → List Answered → List ℕ
-answer_lines net items given = flat_map (outcome_line net) (outcomes items given)
-
--- whether one of these answers trips
-abbrev pub any_trips : List Answered → Bool
-any_trips [] = false
-any_trips (a ∷ given) = trips_with a.verdict || any_trips given
+use Rattle.ps_top.specs.declared.Status.TheVariants.{Done, BadInput}
 
 -- the status of a run at the end of its trace
 abbrev pub status_of : End → (tripped : Bool) → Status
 status_of whole tripped = status_if tripped
 status_of (refused refusal) tripped = BadInput
 
--- what is written of a whole trace, and the status
+-- what is written of a whole trace in two channels, and the status
 abbrev pub run_answer : Network → List Fault → Whole → Scans → Answer
 run_answer net faults w scans =
     let given = answered net faults 1 scans.items w in
     answer (answer_lines net scans.items given ++ end_line scans.end) (status_of scans.end (any_trips given))
+
+-- what is written of a whole trace in three seats, and the status
+abbrev pub vote_answer : (heals : Bool) → Network → List VoteFault → WholeSeats → Scans → Answer
+vote_answer heals net faults w scans =
+    let run = coming heals faults 1 scans.items w in
+    answer (course_lines net (machines_in w.setup) run.done run.votes ++ end_line (run_end run.refused scans.end))
+    (end_status (run_end run.refused scans.end) [])
+
+-- what is said at the end of a load's trace, where this was counted
+abbrev pub counted_answer : (n : ℕ) → End → Counter → Answer
+counted_answer n whole c = answer (load_text n c.scans c.trues c.errors) Done
+counted_answer n (refused refusal) c = answer (refusal_text refusal) BadInput
+
+-- what is said of a whole trace of a load
+abbrev pub load_answer : (n : ℕ) → Network → List Fault → Whole → Scans → Answer
+load_answer n net faults w scans =
+    counted_answer n scans.end (fold counted none_counted (outcomes scans.items (answered net faults 1 scans.items w)))
 
 -- an answer behind a line
 abbrev pub behind : List ℕ → Answer → Answer

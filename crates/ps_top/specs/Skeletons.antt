@@ -8,9 +8,11 @@ use Rattle.ps_model.specs.Skeleton.{skeleton, holds}
 use Rattle.ps_model.specs.Typing.{is_safe_signal}
 use Rattle.ps_model.specs.Meaning.{Item, scan, restart, Past, nothing, last, old_state}
 
--- in the scan from the old state to the new one every SAFEBOOL signal that is assigned is TRUE only where its skeleton is
+-- in the scan from the old state to the new one every SAFEBOOL signal that is assigned is TRUE only where its skeleton
+-- is
 abbrev pub IsSafeScan : Network → State → State → Type 0
-IsSafeScan net old new = (k t : ℕ) (e : Formula) → slice_get net.steps k ≡ Some (assigns t e) → is_safe_signal net t ≡ true →
+IsSafeScan net old new =
+    (k t : ℕ) (e : Formula) → slice_get net.steps k ≡ Some (assigns t e) → is_safe_signal net t ≡ true →
     signal_in new t ≡ true → holds old new (skeleton net k e) ≡ true
 
 -- it is so in each scan of these items, whose states these are, anew after each restart
@@ -18,4 +20,5 @@ abbrev pub AreSafeScans : Network → Past → List Item → List State → Type
 AreSafeScans net past [] ws = Unit {0}
 AreSafeScans net past (restart ∷ items) ws = AreSafeScans net nothing items ws
 AreSafeScans net past (scan now ins ∷ items) [] = Unit {0}
-AreSafeScans net past (scan now ins ∷ items) (w ∷ ws) = IsSafeScan net (old_state net past) w × AreSafeScans net (last now w) items ws
+AreSafeScans net past (scan now ins ∷ items) (w ∷ ws) =
+    IsSafeScan net (old_state net past) w × AreSafeScans net (last now w) items ws

@@ -1,37 +1,26 @@
 // `demand APP`.
 
 ghost use Rattle.std.specs.Prelude.{◌≡◌, ◌≢◌, ◌∷◌, []};
-ghost use Rattle.ps_top.specs.Calls.{Answers, LeavesRefusal, files_seen, output_seen};
+ghost use Rattle.ps_top.specs.Calls.{Answers};
 ghost use Rattle.ps_top.specs.Program as program;
 
 use crate::Status;
-use crate::checking::refuse;
-use crate::left::Left;
+use crate::accepting::accept_demands;
+use crate::call::Call;
+use crate::left::Leaving;
 use crate::saying::say_lines;
-use ps_outside::{Files, Sink};
-use ps_source::read_demanded;
-use std::alloc::Global;
 
 // `demand APP`: what each SAFEBOOL output of an accepted application demands, line by line.
-pub(crate) fn demand<F: Files, S: Sink>(
-    alloc: Global,
-    app: &str,
-    files: &mut F,
-    out: &mut S,
-    left: &mut Left,
-) -> Status
-    ensures answers { Answers (program.demand app.now) (app.now ∷ [])
-        (files_seen F.tells F.held F.faults files.old) (files_seen F.tells F.held F.faults files.new)
-        (output_seen S.tells S.taken S.faults out.old) (output_seen S.tells S.taken S.faults out.new) left.new result }
-    ensures refuses { LeavesRefusal left.new (output_seen S.tells S.taken S.faults out.new) result }
+pub(crate) fn demand<C: Call>(call: &mut C, app: &str) -> Status
+    ensures answers { Answers (program.demand app.now) (app.now ∷ []) (C.seen call.old) (C.seen call.new) result }
     ensures no_usage { result ≢ Status.Usage }
 {
-    match read_demanded(alloc, app, files) {
+    match accept_demands(call, app) {
         Ok(demanded) => {
             let (lines, checked) = demanded.into_parts();
-            left.checked = Some(checked);
-            say_lines(out, lines.as_slice(), Status::Done)
+            call.leave(Leaving::Checked(checked));
+            say_lines(call, lines.as_slice(), Status::Done)
         }
-        Err(why) => refuse(out, why, left),
+        Err(status) => status,
     }
 }

@@ -9,20 +9,18 @@ ghost use Rattle.ps_report.specs.Image.{image_part};
 ghost use Rattle.ps_stackvm.specs.Channel.{blank_a};
 ghost use Rattle.ps_stackvm.specs.Code.{code_a};
 ghost use Rattle.ps_world.specs.Whole.{Setup, IsSetupOf};
-ghost use Rattle.ps_top.specs.Calls.{Answers, LeavesRefusal, files_seen, output_seen};
+ghost use Rattle.ps_top.specs.Calls.{Answers};
 ghost use Rattle.ps_top.specs.Program as program;
 
 use crate::Status;
-use crate::checking::refuse;
-use crate::left::Left;
+use crate::accepting::accept_app;
+use crate::call::Call;
 use crate::saying::say_lines;
 use ps_base::{Bytes, Memory};
 use ps_eqgen::equation_image;
 use ps_eqvm::EquationChannel;
 use ps_model::{App, Channel, Region, Sizes};
-use ps_outside::{Files, Sink};
 use ps_report::image_text;
-use ps_source::read_accepted;
 use ps_stackgen::stack_image;
 use ps_stackvm::StackChannel;
 use std::alloc::Global;
@@ -30,7 +28,8 @@ use std::alloc::Global;
 // Channel A's part of the text of an application's images.
 fn stack_part(alloc: Global, app: &App, sizes: &Sizes) -> Result<Bytes, Memory>
     requires { Accepted app.now }
-    ensures { IfOk result (λ text. text ≡ image_part Channel.A (code_a app.now) (length (blank_a sizes.now)) (turns_a app.now)) }
+    ensures { IfOk result (λ text. text ≡ image_part Channel.A (code_a app.now) (length (blank_a sizes.now))
+        (turns_a app.now)) }
 {
     let image = stack_image(alloc, app)?;
     let channel = StackChannel::new(alloc, &image, sizes)?;
@@ -41,7 +40,8 @@ fn stack_part(alloc: Global, app: &App, sizes: &Sizes) -> Result<Bytes, Memory>
 // Channel B's part.
 fn equation_part(alloc: Global, app: &App, sizes: &Sizes) -> Result<Bytes, Memory>
     requires { Accepted app.now }
-    ensures { IfOk result (λ text. text ≡ image_part Channel.B (code_b app.now) (length (blank_b sizes.now)) (turns_b app.now)) }
+    ensures { IfOk result (λ text. text ≡ image_part Channel.B (code_b app.now) (length (blank_b sizes.now))
+        (turns_b app.now)) }
 {
     let image = equation_image(alloc, app)?;
     let channel = EquationChannel::new(alloc, &image, sizes)?;
@@ -62,28 +62,17 @@ fn both_parts(alloc: Global, app: &App) -> Result<Bytes, Memory>
 }
 
 // `image APP`: the code of both channels of an accepted application, line by line.
-pub(crate) fn image<F: Files, S: Sink>(
-    alloc: Global,
-    app: &str,
-    files: &mut F,
-    out: &mut S,
-    left: &mut Left,
-) -> Status
-    ensures answers { Answers (program.image app.now) (app.now ∷ [])
-        (files_seen F.tells F.held F.faults files.old) (files_seen F.tells F.held F.faults files.new)
-        (output_seen S.tells S.taken S.faults out.old) (output_seen S.tells S.taken S.faults out.new) left.new result }
-    ensures refuses { LeavesRefusal left.new (output_seen S.tells S.taken S.faults out.new) result }
+pub(crate) fn image<C: Call>(call: &mut C, app: &str) -> Status
+    ensures answers { Answers (program.image app.now) (app.now ∷ []) (C.seen call.old) (C.seen call.new) result }
     ensures no_usage { result ≢ Status.Usage }
 {
-    match read_accepted(alloc, app, files) {
-        Ok(accepted) => {
-            let (app, checked) = accepted.into_parts();
-            left.checked = Some(checked);
-            match both_parts(alloc, &app) {
-                Ok(text) => say_lines(out, text.as_slice(), Status::Done),
+    match accept_app(call, app) {
+        Ok(app) => {
+            match both_parts(call.alloc(), &app) {
+                Ok(text) => say_lines(call, text.as_slice(), Status::Done),
                 Err(Memory) => Status::Memory,
             }
         }
-        Err(why) => refuse(out, why, left),
+        Err(status) => status,
     }
 }

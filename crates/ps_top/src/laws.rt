@@ -14,15 +14,16 @@ ghost use Rattle.ps_source.specs.Source.Reading.{stands_for};
 
 use ps_model::block_laws::each_demands;
 
-/// In each report line of a run a SAFEBOOL output is TRUE only where its skeleton is: the lines are those of the states of
-/// `Meaning`, and these keep it for every application that a source is accepted for.
+/// In each report line of a run a SAFEBOOL output is TRUE only where its skeleton is: the lines are those of the states
+/// of `Meaning`, and these keep it for every application that a source is accepted for.
 pub fn lines_keep_skeletons()
     ensures { (source : List ℕ) (net : Network) (items : List Item) (ws : List State) →
         IsAcceptedAs source (stands_for net) → Meaning net items ws → AreSafeScans net nothing items ws }
 {}
 
-/// In each report line of a run a SAFEBOOL output is TRUE only where its demand holds of the inputs of the scan and the signals of the scan
-/// before: the lines are those of the states of `Meaning`, and these keep it for every application that a source is accepted for.
+/// In each report line of a run a SAFEBOOL output is TRUE only where its demand holds of the inputs of the scan and the
+/// signals of the scan before: the lines are those of the states of `Meaning`, and these keep it for every application
+/// that a source is accepted for.
 pub fn lines_meet_demands()
     ensures { (source : List ℕ) (net : Network) (items : List Item) (ws : List State) →
         IsAcceptedAs source (stands_for net) → Meaning net items ws → EachHasDemands net nothing items ws }
@@ -36,8 +37,8 @@ pub fn one_answer()
         IsAnswer (program.text words) held a → IsAnswer (program.text words) held b → a ≡ b }
 {}
 
-/// Where all names that the text asks for are held there is an answer, if each source has a reading by its rules and each
-/// certificate a judgement.
+/// Where all names that the text asks for are held there is an answer, if each source has a reading by its rules and
+/// each certificate a judgement.
 pub fn an_answer_exists()
     ensures { (words : List (List ℕ)) (held : List ℕ → Option (List ℕ)) →
         ((source : List ℕ) → (reading : Reading) × IsAcceptedAs source reading) →

@@ -1,19 +1,11 @@
 // What a call leaves behind.
 
-use ps_base::Refusal;
+use ps_base::{Bytes, Refusal};
 use ps_checker::Checked;
-use ps_model::Cause;
+use ps_model::App;
+use ps_runs::Trip;
 use ps_vote::VoteWorld;
 use ps_world::World;
-
-/// A scan that tripped.
-#[derive(Clone, Copy, Debug, PartialEq, Eq)]
-pub struct Trip {
-    /// Its time in ms.
-    pub now: u32,
-    /// Why it tripped.
-    pub cause: Cause,
-}
 
 /// What a call of the program worked with, for the caller to look at.
 pub struct Left {
@@ -27,6 +19,10 @@ pub struct Left {
     pub refusal: Option<Refusal>,
     /// The first scan that tripped, where one did.
     pub trip: Option<Trip>,
+    /// The text of the application, where it was read: up to one byte more than the largest.
+    pub text: Option<Bytes>,
+    /// The application of that text, where `check` accepts it.
+    pub app: Option<App>,
 }
 
 impl Drop for Left {
@@ -38,6 +34,8 @@ impl Drop for Left {
             votes: _,
             refusal: _,
             trip: _,
+            text: _,
+            app: _,
         } = self;
     }
 }
@@ -52,6 +50,8 @@ impl Left {
         ensures votes { result.votes ≡ None }
         ensures refusal { result.refusal ≡ None }
         ensures trip { result.trip ≡ None }
+        ensures text { result.text ≡ None }
+        ensures app { result.app ≡ None }
     {
         Left {
             checked: None,
@@ -59,6 +59,47 @@ impl Left {
             votes: None,
             refusal: None,
             trip: None,
+            text: None,
+            app: None,
+        }
+    }
+}
+
+/// Something that a call leaves behind.
+#[derive(Drop)]
+pub enum Leaving {
+    /// The certificate that was checked.
+    Checked(Checked),
+    /// The world of two channels that a run ended with, and its first trip.
+    World(World, Option<Trip>),
+    /// The world of three seats that a run ended with.
+    Votes(VoteWorld),
+    /// The refusal that is said.
+    Refusal(Refusal),
+    /// The text of the application.
+    Text(Bytes),
+    /// The application.
+    App(App),
+}
+
+impl Left {
+    ghost use Rattle.std.specs.Prelude.{◌≡◌};
+    ghost use Rattle.ps_top.specs.Leaving.{left_with};
+
+    /// Leaves something, in the place of what was left of its kind.
+    pub fn leave(&mut self, what: Leaving)
+        ensures { self.new ≡ left_with what self.old }
+    {
+        match what {
+            Leaving::Checked(checked) => self.checked = Some(checked),
+            Leaving::World(world, trip) => {
+                self.world = Some(world);
+                self.trip = trip;
+            }
+            Leaving::Votes(world) => self.votes = Some(world),
+            Leaving::Refusal(refusal) => self.refusal = Some(refusal),
+            Leaving::Text(text) => self.text = Some(text),
+            Leaving::App(app) => self.app = Some(app),
         }
     }
 }

@@ -1,33 +1,31 @@
 //! The program `plcsafe`, over any files and any output.
 //!
-//! `program` has the call that does all that the program does, by the definition `text`. One room for each command:
-//! `checking`, `certifying`, `verifying`, `imaging`, `loading`, `demanding`, `running`, `voting`; `saying` writes short answers. The
-//! loop over a trace is in `items`, over what performs a scan (`performing`, which is a world of two channels that faults strike,
-//! `striking`, or one of three seats, `seats`) and what takes what comes of it (`taking`, which writes lines, or `counting`). `left` is
-//! what a call leaves behind.
+//! `program` has the call that does all that the program does, by the definition `text`. A command works on a `Call`:
+//! the files, the output and what is left behind (`left`), as one value. One room for each command: `checking`,
+//! `certifying`, `verifying`, `imaging`, `loading`, `demanding`, `running`, `voting`. `accepting` is how they come to
+//! an application; `running` has the body of all that run a trace, whoever performs its scans and takes what comes of
+//! them; `saying` writes answers.
 #![tactic(auto)]
 
+mod accepting;
+mod call;
 mod certifying;
 mod checking;
-mod counting;
 mod demanding;
 mod imaging;
-mod items;
 pub mod laws;
 mod left;
 mod loading;
-mod performing;
 mod program;
 mod running;
 mod saying;
-mod seats;
-mod striking;
-mod taking;
 mod verifying;
 mod voting;
 
-pub use left::{Left, Trip};
+pub use call::Call;
+pub use left::{Leaving, Left};
 pub use program::top;
+pub use ps_runs::Trip;
 pub use ps_words::Words;
 
 /// How a call of the program ended.

@@ -1,55 +1,84 @@
-// Short answers, and answers of several lines.
+// Short answers, answers of several lines, and how a call ends that gets no text.
 
-ghost use Rattle.std.specs.Prelude.{◌≡◌, ◌<◌, ◌≤◌, ◌-◌, ◌++◌, IsTrue, IfErr, OnOk, OnErr, Some, drop, length, slice_index, take};
-ghost use Rattle.ps_outside.specs.Outside.{Rose};
+ghost use Rattle.std.specs.Prelude.{◌≡◌, ◌≢◌, ◌<◌, ◌≤◌, ◌-◌, ◌++◌, IsTrue, IsErr, IfErr, OnOk, drop, length, slice_index, take};
 ghost use Rattle.ps_report.specs.Short.{refusal_text};
-ghost use Rattle.ps_top.specs.Calls.{LeavesRefusal, SaysAnswer, output_seen};
+ghost use Rattle.ps_top.specs.Asking.{worked};
+ghost use Rattle.ps_top.specs.Calls.{LeavesRefusal, SaysAnswer, Writes};
 ghost use Rattle.ps_top.specs.Lines.{IsLineOf};
 ghost use Rattle.ps_top.specs.Meets.{IsCut};
 ghost use Rattle.ps_top.specs.Program.{answer};
+ghost use Rattle.ps_top.specs.Refusing.{Fails, SaysNone};
 
 use crate::Status;
-use crate::left::Left;
-use ps_base::Refusal;
-use ps_outside::{Sink, Stopped, write_all};
+use crate::call::Call;
+use crate::left::Leaving;
+use ps_base::{Fail, Refusal};
+use ps_outside::{Stopped, TextFail};
 use ps_report::refusal_line;
 
 // Gives one line as the whole answer, with this status.
-pub(crate) fn say<S: Sink>(out: &mut S, line: &[u8], status: Status) -> Status
+pub(crate) fn say<C: Call>(call: &mut C, line: &[u8], status: Status) -> Status
     requires { ¬ IsCut status }
-    ensures { SaysAnswer (answer line.now status) (output_seen S.tells S.taken S.faults out.old) (output_seen S.tells S.taken S.faults out.new) result }
+    ensures says { SaysAnswer (answer line.now status) (C.seen call.old) (C.seen call.new) result }
+    ensures left { (C.seen call.new).left ≡ (C.seen call.old).left }
 {
-    match write_all(out, line) {
+    match call.write(line) {
         Ok(()) => status,
         Err(_) => Status::WriteFault,
     }
 }
 
 // Gives the line of a refusal as the whole answer, with this status, and leaves the refusal.
-pub(crate) fn say_refused<S: Sink>(
-    out: &mut S,
-    refusal: &Refusal,
-    status: Status,
-    left: &mut Left,
-) -> Status
+pub(crate) fn say_refused<C: Call>(call: &mut C, refusal: &Refusal, status: Status) -> Status
     requires { ¬ IsCut status }
-    ensures says { SaysAnswer (answer (refusal_text refusal.now) status) (output_seen S.tells S.taken S.faults out.old) (output_seen S.tells S.taken S.faults out.new) result }
-    ensures leaves { left.new ≡ record (left.old) { refusal = Some refusal.now } }
-    ensures refuses { LeavesRefusal left.new (output_seen S.tells S.taken S.faults out.new) result }
+    ensures says { SaysAnswer (answer (refusal_text refusal.now) status) (C.seen call.old) (C.seen call.new) result }
+    ensures worked { worked (C.seen call.new).left ≡ worked (C.seen call.old).left }
+    ensures refuses { LeavesRefusal (C.seen call.new).left (C.seen call.new).out result }
 {
-    left.refusal = Some(*refusal);
-    say(out, refusal_line(refusal).as_slice(), status)
+    call.leave(Leaving::Refusal(*refusal));
+    say(call, refusal_line(refusal).as_slice(), status)
+}
+
+// Ends a call that gets no text: its refusal is said, with this status, and left; a failed read and want of memory are
+// told by the status alone.
+pub(crate) fn fail<C: Call>(call: &mut C, why: TextFail, status: Status) -> Status
+    requires no_cut { ¬ IsCut status }
+    requires no_usage { status ≢ Status.Usage }
+    ensures fails { Fails status why (C.seen call.old) (C.seen call.new) result }
+    ensures worked { worked (C.seen call.new).left ≡ worked (C.seen call.old).left }
+    ensures refuses { LeavesRefusal (C.seen call.new).left (C.seen call.new).out result }
+    ensures no_usage { result ≢ Status.Usage }
+{
+    match why {
+        TextFail::Refused(refusal) => say_refused(call, &refusal, status),
+        TextFail::Memory => Status::Memory,
+        TextFail::Fault => Status::ReadFault,
+    }
+}
+
+// Ends a call whose source gives nothing by the rules: its refusal is said and left, and of want of memory the status
+// tells.
+pub(crate) fn say_none<C: Call>(call: &mut C, why: Fail) -> Status
+    ensures says { SaysNone why (C.seen call.old) (C.seen call.new) result }
+    ensures refuses { LeavesRefusal (C.seen call.new).left (C.seen call.new).out result }
+    ensures no_usage { result ≢ Status.Usage }
+{
+    match why {
+        Fail::Refused(refusal) => say_refused(call, &refusal, Status::Refused),
+        Fail::Memory => Status::Memory,
+    }
 }
 
 // Gives a text of lines as the whole answer, with this status. Each line is written by itself.
-pub(crate) fn say_lines<S: Sink>(out: &mut S, text: &[u8], status: Status) -> Status
+pub(crate) fn say_lines<C: Call>(call: &mut C, text: &[u8], status: Status) -> Status
     requires { ¬ IsCut status }
-    ensures { SaysAnswer (answer text.now status) (output_seen S.tells S.taken S.faults out.old) (output_seen S.tells S.taken S.faults out.new) result }
+    ensures says { SaysAnswer (answer text.now status) (C.seen call.old) (C.seen call.new) result }
+    ensures left { (C.seen call.new).left ≡ (C.seen call.old).left }
 {
     let mut done = 0;
     'lines: while done < text.len() {
         let end = line_end(text, done);
-        match write_line(out, text, done, end) {
+        match write_line(call, text, done, end) {
             Ok(()) => done = end,
             Err(_) => return Status::WriteFault,
         }
@@ -58,17 +87,19 @@ pub(crate) fn say_lines<S: Sink>(out: &mut S, text: &[u8], status: Status) -> St
 }
 
 // Writes one whole line of a text, by one write.
-fn write_line<S: Sink>(out: &mut S, text: &[u8], from: usize, upto: usize) -> Result<(), Stopped>
+fn write_line<C: Call>(call: &mut C, text: &[u8], from: usize, upto: usize) -> Result<(), Stopped>
     requires { IsLineOf text.now from upto }
-    ensures whole { IsTrue (S.tells out.old) → OnOk result (S.taken out.new ≡ S.taken out.old ++ take (upto - from) (drop from text.now)) }
-    ensures part { IsTrue (S.tells out.old) →
-        IfErr result (λ stop. S.taken out.new ≡ S.taken out.old ++ take stop.taken (take (upto - from) (drop from text.now))) }
+    ensures whole { IsTrue (C.seen call.old).out.tells →
+        OnOk result ((C.seen call.new).out.taken ≡ (C.seen call.old).out.taken ++
+        take (upto - from) (drop from text.now)) }
+    ensures part { IsTrue (C.seen call.old).out.tells → IfErr result (λ stop.
+        (C.seen call.new).out.taken ≡ (C.seen call.old).out.taken ++
+        take stop.taken (take (upto - from) (drop from text.now))) }
     ensures within { IfErr result (λ stop. stop.taken ≤ upto - from) }
-    ensures stopped { OnErr result (Rose (S.faults out.old) (S.faults out.new)) }
-    ensures counts { S.faults out.old ≤ S.faults out.new }
-    ensures telling { S.tells out.new ≡ S.tells out.old }
+    ensures writes { Writes (IsErr result) (C.seen call.old) (C.seen call.new) }
+    ensures left { (C.seen call.new).left ≡ (C.seen call.old).left }
 {
-    write_all(out, &text[from..upto])
+    call.write(&text[from..upto])
 }
 
 // The place behind the line that begins at a place: behind its line feed, or the end of the text.

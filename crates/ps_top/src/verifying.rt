@@ -1,23 +1,22 @@
 // `verify APP CERT`.
 
 ghost use Rattle.std.specs.Prelude.{◌≡◌, ◌≢◌, ◌+◌, List, ℕ, IfOk, ◌∷◌, [], take};
-ghost use Rattle.ps_top.specs.Calls.{Answers, LeavesRefusal, files_seen, output_seen};
-ghost use Rattle.ps_top.specs.Judging.{IsJudged, LeavesCounts, SaysJudgement};
-ghost use Rattle.ps_top.specs.Meets.{IsCut};
+ghost use Rattle.ps_top.specs.Calls.{Answers, LeavesRefusal};
+ghost use Rattle.ps_top.specs.Judging.{IsJudged, SaysJudgement};
 ghost use Rattle.ps_top.specs.Program as program;
 ghost use Rattle.ps_flow.specs.Read.{IsCertificate};
 
 use crate::Status;
-use crate::checking::refuse;
-use crate::left::Left;
+use crate::accepting::resolve;
+use crate::call::Call;
+use crate::left::Leaving;
 use crate::saying::{say, say_refused};
 use ps_base::limits::LARGEST_CERTIFICATE;
 use ps_base::{Fail, Memory, Place, Refusal, Rule};
 use ps_checker::{Checked, check};
 use ps_flow::{Certificate, read_certificate};
 use ps_model::App;
-use ps_outside::{Files, ReadFail, Sink, read_upto};
-use ps_source::read_resolved;
+use ps_outside::ReadFail;
 use std::alloc::Global;
 
 // What the text of a certificate comes to.
@@ -30,7 +29,7 @@ pub(crate) enum Judgement {
 }
 
 // A refusal by a rule at a line.
-pub(crate) fn at_line(rule: Rule, line: u32) -> Refusal
+fn at_line(rule: Rule, line: u32) -> Refusal
     ensures { result ≡ record { rule = rule; place = record { line = line; column = 0 } } }
 {
     Refusal {
@@ -62,7 +61,8 @@ fn judge(alloc: Global, app: &App, text: &[u8]) -> Result<Judgement, Memory>
 
 // Judges the text of a certificate, which was read up to one byte more than the largest.
 fn judge_read(alloc: Global, app: &App, text: &[u8]) -> Result<Judgement, Memory>
-    ensures { (whole : List ℕ) → text.now ≡ take (LARGEST_CERTIFICATE + 1) whole → IfOk result (IsJudged app.now whole) }
+    ensures { (whole : List ℕ) → text.now ≡ take (LARGEST_CERTIFICATE + 1) whole →
+        IfOk result (IsJudged app.now whole) }
 {
     if text.len() > LARGEST_CERTIFICATE as usize {
         return Ok(Judgement::Objects(at_line(Rule::C2, 1)));
@@ -71,21 +71,19 @@ fn judge_read(alloc: Global, app: &App, text: &[u8]) -> Result<Judgement, Memory
 }
 
 // Says what a certificate comes to.
-fn tell<S: Sink>(alloc: Global, judgement: Judgement, out: &mut S, left: &mut Left) -> Status
-    ensures says { SaysJudgement judgement (output_seen S.tells S.taken S.faults out.old) (output_seen S.tells S.taken S.faults out.new) result }
-    ensures leaves { ¬ IsCut result → LeavesCounts judgement left.new }
-    ensures refuses { LeavesRefusal left.new (output_seen S.tells S.taken S.faults out.new) result }
-    ensures no_read { result ≢ Status.ReadFault }
+fn tell<C: Call>(call: &mut C, judgement: Judgement) -> Status
+    ensures says { SaysJudgement judgement (C.seen call.old) (C.seen call.new) result }
+    ensures refuses { LeavesRefusal (C.seen call.new).left (C.seen call.new).out result }
     ensures no_usage { result ≢ Status.Usage }
 {
     match judgement {
-        Judgement::Objects(refusal) => say_refused(out, &refusal, Status::BadInput, left),
+        Judgement::Objects(refusal) => say_refused(call, &refusal, Status::BadInput),
         Judgement::Derives(checked) => {
             let lines = checked.lines();
-            match format!(in alloc; "verified {lines} lines\n") {
+            match format!(in call.alloc(); "verified {lines} lines\n") {
                 Ok(line) => {
-                    left.checked = Some(checked);
-                    say(out, line.as_bytes(), Status::Done)
+                    call.leave(Leaving::Checked(checked));
+                    say(call, line.as_bytes(), Status::Done)
                 }
                 Err(_) => Status::Memory,
             }
@@ -94,23 +92,14 @@ fn tell<S: Sink>(alloc: Global, judgement: Judgement, out: &mut S, left: &mut Le
 }
 
 // Verifies the certificate of this name.
-fn verify_named<F: Files, S: Sink>(
-    alloc: Global,
-    app: &App,
-    cert: &str,
-    files: &mut F,
-    out: &mut S,
-    left: &mut Left,
-) -> Status
-    ensures answers { Answers (program.verify_named app.now cert.now) (cert.now ∷ [])
-        (files_seen F.tells F.held F.faults files.old) (files_seen F.tells F.held F.faults files.new)
-        (output_seen S.tells S.taken S.faults out.old) (output_seen S.tells S.taken S.faults out.new) left.new result }
-    ensures refuses { LeavesRefusal left.new (output_seen S.tells S.taken S.faults out.new) result }
+fn verify_named<C: Call>(call: &mut C, app: &App, cert: &str) -> Status
+    ensures answers { Answers (program.verify_named app.now cert.now) (cert.now ∷ []) (C.seen call.old)
+        (C.seen call.new) result }
     ensures no_usage { result ≢ Status.Usage }
 {
-    match read_upto(alloc, files, cert, LARGEST_CERTIFICATE + 1) {
-        Ok(text) => match judge_read(alloc, app, text.as_slice()) {
-            Ok(judgement) => tell(alloc, judgement, out, left),
+    match call.read(cert, LARGEST_CERTIFICATE + 1) {
+        Ok(text) => match judge_read(call.alloc(), app, text.as_slice()) {
+            Ok(judgement) => tell(call, judgement),
             Err(Memory) => Status::Memory,
         },
         Err(ReadFail::Memory) => Status::Memory,
@@ -119,22 +108,13 @@ fn verify_named<F: Files, S: Sink>(
 }
 
 // `verify APP CERT`: whether a certificate derives an application. Nothing is derived, and no rule S is tried.
-pub(crate) fn verify<F: Files, S: Sink>(
-    alloc: Global,
-    app: &str,
-    cert: &str,
-    files: &mut F,
-    out: &mut S,
-    left: &mut Left,
-) -> Status
-    ensures answers { Answers (program.verify app.now cert.now) (app.now ∷ cert.now ∷ [])
-        (files_seen F.tells F.held F.faults files.old) (files_seen F.tells F.held F.faults files.new)
-        (output_seen S.tells S.taken S.faults out.old) (output_seen S.tells S.taken S.faults out.new) left.new result }
-    ensures refuses { LeavesRefusal left.new (output_seen S.tells S.taken S.faults out.new) result }
+pub(crate) fn verify<C: Call>(call: &mut C, app: &str, cert: &str) -> Status
+    ensures answers { Answers (program.verify app.now cert.now) (app.now ∷ cert.now ∷ []) (C.seen call.old)
+        (C.seen call.new) result }
     ensures no_usage { result ≢ Status.Usage }
 {
-    match read_resolved(alloc, app, files) {
-        Ok(app) => verify_named(alloc, &app, cert, files, out, left),
-        Err(why) => refuse(out, why, left),
+    match resolve(call, app) {
+        Ok(app) => verify_named(call, &app, cert),
+        Err(status) => status,
     }
 }

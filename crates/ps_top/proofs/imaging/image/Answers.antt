@@ -1,49 +1,30 @@
-use Rattle.std.proofs.Common.{◌∙◌, ℕ, List, [], Some, ap, sym, subst, arith}
-use Rattle.ps_checker.specs.Counts.{Counts}
-use Rattle.ps_flow.specs.Derivation.{certificate}
-use Rattle.ps_flow.specs.declared.certificate.CertLine.{CertLine}
+use Rattle.std.proofs.Common.{◌∙◌, ℕ, List, [], ap, subst, arith}
 use Rattle.ps_model.specs.Network.{Network}
-use Rattle.ps_source.specs.Answering.{IsChecked, app_of}
-use Rattle.ps_source.specs.Source.{IsAcceptedAs, counts}
-use Rattle.ps_source.specs.Source.Reading.{stands_for}
-use Rattle.ps_source.specs.declared.accepting.Accepted.{Accepted}
+use Rattle.ps_source.specs.Source.{IsAcceptedAs}
 use Rattle.ps_world.specs.Whole.{Setup, IsSetupOf}
-use Rattle.ps_top.specs.Asking.Asking.{Says, Leaves}
-use Rattle.ps_top.specs.Calls.{KeepsFiles, SaysAnswer, files_seen, output_seen}
-use Rattle.ps_top.specs.Program.{answer, leaves_checked, image_lines, imaged}
+use Rattle.ps_top.specs.Asking.Asking.{Says}
+use Rattle.ps_top.specs.Calls.{SaysAnswer}
+use Rattle.ps_top.specs.Program.{answer, image_lines, imaged}
 use Rattle.ps_top.specs.declared.Status.TheVariants.{Done}
-use Rattle.ps_top.proofs.Applied.{no_application_answers, accepted_answers}
-use Rattle.ps_top.proofs.Calling.{files_same, found_of_all, said_answers}
+use Rattle.ps_top.specs.declared.left.Left.{Left}
+use Rattle.ps_top.proofs.Applied.{accepted_answers, checked_none}
+use Rattle.ps_top.proofs.Calling.{found_of_all, memory_answers, said_answers}
+use Rattle.ps_top.proofs.Refusals.{otherwise_refuses}
 use Rattle.ps_top.proofs.imaging.image.Goals as goal
 
 pub returns-in-Ok-both_parts-clause-answers : goal.returns-in-Ok-both_parts-clause-answers
 returns-in-Ok-both_parts-clause-answers g c =
-    let read = c.in-Ok.ensures.read in
-    let net : Network = c.into_parts-app.result.0 in
-    let is = c.into_parts-app.ensures.app in
-    let first = files_seen g.F.Files.tells g.F.Files.held g.F.Files.faults c.args.files.now in
-    let last = files_seen g.F.Files.tells g.F.Files.held g.F.Files.faults c.read_accepted.new.files in
-    let before = output_seen g.S.Sink.tells g.S.Sink.taken g.S.Sink.faults c.args.out.now in
-    let after = output_seen g.S.Sink.tells g.S.Sink.taken g.S.Sink.faults c.say_lines.new.out in
-    let keeps : KeepsFiles first last = record { counts = c.in-Ok.ensures.counts; held = c.in-Ok.ensures.kept; telling = c.in-Ok.ensures.telling } in
-    accepted_answers c.args.app.now imaged [] net first last last before after _ c.say_lines.result keeps
-    (λ tells. let r = read tells in (r.0, r.1, subst (λ (n : Network). IsAcceptedAs r.0 (stands_for n)) (sym is) r.2.0))
-    (λ tells not_cut. let r = read tells in
-    ap (λ (x : Counts). Some x)
-    (c.into_parts-app.ensures.checked ∙ r.2.1.counts_are ∙ ap (λ (ls : List CertLine). counts (app_of c.in-Ok.accepted) ls) r.2.1.derivation
-    ∙ ap (λ (n : Network). counts n (certificate n)) (sym is)))
-    (let text = c.as_slice.ensures ∙ c.in-Ok-both_parts.ensures.2 in
-    found_of_all Setup (IsSetupOf net) (λ setup. Says (answer (image_lines setup) Done)) [] last last before after _ c.say_lines.result c.in-Ok-both_parts.ensures.0 c.in-Ok-both_parts.ensures.1
-    (said_answers (answer (image_lines c.in-Ok-both_parts.ensures.0) Done) [] last last before after _ c.say_lines.result (λ cut. grind arith) (files_same last)
-    (subst (λ (bytes : List ℕ). SaysAnswer (answer bytes Done) before after c.say_lines.result) text c.say_lines.ensures)))
+    let net : Network = c.in-Ok.app in
+    let setup : Setup = c.in-Ok-both_parts.ensures.0 in
+    let mid = g.C.Call.seen c.accept_app.new.call in
+    let new = g.C.Call.seen c.say_lines.new.call in
+    let text = c.as_slice.ensures ∙ c.in-Ok-both_parts.ensures.2 in
+    let said = subst (λ (bytes : List ℕ). SaysAnswer (answer bytes Done) mid new c.say_lines.result) text c.say_lines.ensures.says in
+    accepted_answers c.args.app.now imaged [] net c.in-Ok.ensures.finds.passes c.in-Ok.ensures.finds.gives
+    (ap (λ (l : Left). l.checked) c.say_lines.ensures.left ∙ c.in-Ok.ensures.checked)
+    (found_of_all Setup (IsSetupOf net) (λ s. Says (answer (image_lines s) Done)) [] {old = mid} {new = new} setup c.in-Ok-both_parts.ensures.1
+    (said_answers (answer (image_lines setup) Done) [] {old = mid} {new = new} (λ cut. grind arith) said
+    (otherwise_refuses Done c.say_lines.result new.left new.out (λ refusing. grind arith) said.ends)))
 
 pub returns-clause-answers : goal.returns-clause-answers
-returns-clause-answers g c =
-    let first = files_seen g.F.Files.tells g.F.Files.held g.F.Files.faults c.args.files.now in
-    let last = files_seen g.F.Files.tells g.F.Files.held g.F.Files.faults c.read_accepted.new.files in
-    let before = output_seen g.S.Sink.tells g.S.Sink.taken g.S.Sink.faults c.args.out.now in
-    let after = output_seen g.S.Sink.tells g.S.Sink.taken g.S.Sink.faults c.refuse.new.out in
-    let keeps : KeepsFiles first last = record { counts = c.in-Err.ensures.counts; held = c.in-Err.ensures.kept; telling = c.in-Err.ensures.telling } in
-    no_application_answers c.args.app.now IsAcceptedAs (λ net. Leaves (leaves_checked (counts net (certificate net))) (imaged net)) [] Accepted
-    (λ text a. IsAcceptedAs text (stands_for (app_of a)) × IsChecked a) first last before after _ c.refuse.result c.in-Err.why keeps
-    c.in-Err.ensures.read c.in-Err.ensures.fault c.refuse.ensures.says
+returns-clause-answers g c = checked_none c.args.app.now IsAcceptedAs imaged [] c.in-Err.ensures.none

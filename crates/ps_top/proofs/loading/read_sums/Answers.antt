@@ -4,59 +4,59 @@ use Rattle.ps_load.proofs.Parts.{trace_length}
 use Rattle.ps_load.specs.Holding.{held_of}
 use Rattle.ps_load.specs.Texts.{trace_text}
 use Rattle.ps_model.specs.declared.channel.Fault.{Fault}
+use Rattle.ps_runs.specs.Resting.{ran}
 use Rattle.ps_trace.specs.Reading.{items_left, only_refused}
 use Rattle.ps_trace.specs.Scans.{Scans, scans_behind, scans_of}
 use Rattle.ps_world.specs.Whole.{Whole}
-use Rattle.ps_top.specs.Calls.{SaysAnswer, output_seen}
-use Rattle.ps_top.specs.Counting.{load_answer}
+use Rattle.ps_top.specs.Calls.{SaysAnswer, with_left}
 use Rattle.ps_top.specs.Program.{sum_scans}
-use Rattle.ps_top.specs.Resting.{ran}
-use Rattle.ps_top.proofs.Calling.{files_same, memory_answers}
+use Rattle.ps_top.specs.Resting.{load_answer}
+use Rattle.ps_top.proofs.Calling.{memory_answers, passes_left, refuses_leaving, says_leaving}
 use Rattle.ps_top.proofs.Counted.{load_answers, never_fails}
 use Rattle.ps_top.proofs.Few.{items_few}
 use Rattle.ps_top.proofs.Timely.{scans_timely}
 use Rattle.ps_top.proofs.loading.read_sums.Goals as goal
 
 pub returns-in-Ok-clause-answers : goal.returns-in-Ok-clause-answers
-returns-in-Ok-clause-answers g c = λ files left is_left.
-    let net = c.args.app.now in
-    let n = c.args.number in
-    let text = trace_text n in
-    let p = c.args.runner.now.performer in
-    let w = p.world in
-    let scans = scans_of text net in
-    let before = output_seen g.S.Sink.tells g.S.Sink.taken g.S.Sink.faults c.args.out.now in
-    let after = output_seen g.S.Sink.tells g.S.Sink.taken g.S.Sink.faults c.sum_scans.new.out in
-    let few : length scans.items ≤ 27000041 = omega (arith, items_few text net, trace_length n, c.requires.last) in
-    let same : items_left c.in-Ok.reader text ≡ scans = c.in-Ok.ensures.begins refl text c.requires.held in
-    let says : SaysAnswer (load_answer n net [] w scans) before after c.sum_scans.result =
-    subst (λ (s : Scans). SaysAnswer (load_answer n net [] w s) before after c.sum_scans.result) same
-    (subst (λ (fs : List Fault). SaysAnswer (load_answer n net fs w (items_left c.in-Ok.reader text)) before after c.sum_scans.result) c.requires.quiet c.sum_scans.ensures.says) in
-    load_answers net c.sound.ensures n w c.requires.first.world (c.quiet_runs_release.ensures c.requires.accepted w.setup c.requires.first.world.setup) scans (scans_timely text net) few
-    files before after left c.sum_scans.result says
-    (λ not_cut. is_left ∙ ap (λ (x : Whole). Some x) (c.sum_scans.ensures.world not_cut ∙ ap (λ (fs : List Fault). ran fs 1 (items_left c.in-Ok.reader text).items w) c.requires.quiet
-    ∙ ap (λ (s : Scans). ran [] 1 s.items w) same))
-
-pub returns-in-Err-Refused-clause-answers : goal.returns-in-Err-Refused-clause-answers
-returns-in-Err-Refused-clause-answers g c = λ files left is_left.
+returns-in-Ok-clause-answers g c = λ behind world refusal.
     let net = c.args.app.now in
     let n = c.args.number in
     let text = trace_text n in
     let w = c.args.runner.now.performer.world in
     let scans = scans_of text net in
-    let before = output_seen g.S.Sink.tells g.S.Sink.taken g.S.Sink.faults c.args.out.now in
-    let after = output_seen g.S.Sink.tells g.S.Sink.taken g.S.Sink.faults c.say_refused.new.out in
+    let old = g.C.Call.seen c.args.call.now in
+    let new = g.C.Call.seen c.sum_scans.new.call in
+    let few : length scans.items ≤ 27000041 = omega (arith, items_few text net, trace_length n, c.requires.last) in
+    let same : items_left c.in-Ok.reader text ≡ scans = c.in-Ok.ensures.begins refl text c.requires.held in
+    let says : SaysAnswer (load_answer n net [] w scans) old new c.sum_scans.result =
+    subst (λ (s : Scans). SaysAnswer (load_answer n net [] w s) old new c.sum_scans.result) same
+    (subst (λ (fs : List Fault). SaysAnswer (load_answer n net fs w (items_left c.in-Ok.reader text)) old new c.sum_scans.result) c.requires.quiet c.sum_scans.ensures.says) in
+    load_answers net c.sound.ensures n w c.requires.first.world (c.quiet_runs_release.ensures c.requires.accepted w.setup c.requires.first.world.setup) scans (scans_timely text net) few
+    {old = old} {new = with_left behind new} (says_leaving behind says) (refuses_leaving new.left behind new.out c.sum_scans.result refusal c.sum_scans.ensures.refuses)
+    (λ not_cut. world ∙ ap (λ (x : Whole). Some x) (c.sum_scans.ensures.world not_cut ∙ ap (λ (fs : List Fault). ran fs 1 (items_left c.in-Ok.reader text).items w) c.requires.quiet
+    ∙ ap (λ (s : Scans). ran [] 1 s.items w) same))
+
+pub returns-in-Err-Refused-clause-answers : goal.returns-in-Err-Refused-clause-answers
+returns-in-Err-Refused-clause-answers g c = λ behind world refusal.
+    let net = c.args.app.now in
+    let n = c.args.number in
+    let text = trace_text n in
+    let w = c.args.runner.now.performer.world in
+    let scans = scans_of text net in
+    let old = g.C.Call.seen c.args.call.now in
+    let new = g.C.Call.seen c.say_refused.new.call in
     let few : length scans.items ≤ 27000041 = omega (arith, items_few text net, trace_length n, c.requires.last) in
     let is : scans ≡ only_refused c.in-Err-Refused.refusal =
     ap scans_behind (c.start.ensures.refuses refl text c.requires.held c.in-Err-Refused.refusal (c.in-Err-Refused.is ∙ ap Err c.in-Err-Refused.field-0-is)) in
-    let says : SaysAnswer (load_answer n net [] w scans) before after c.say_refused.result =
-    subst (λ (s : Scans). SaysAnswer (load_answer n net [] w s) before after c.say_refused.result) (sym is) c.say_refused.ensures.says in
+    let says : SaysAnswer (load_answer n net [] w scans) old new c.say_refused.result =
+    subst (λ (s : Scans). SaysAnswer (load_answer n net [] w s) old new c.say_refused.result) (sym is) c.say_refused.ensures.says in
     load_answers net c.sound.ensures n w c.requires.first.world (c.quiet_runs_release.ensures c.requires.accepted w.setup c.requires.first.world.setup) scans (scans_timely text net) few
-    files before after left c.say_refused.result says (λ not_cut. is_left ∙ ap (λ (s : Scans). Some (ran [] 1 s.items w)) (sym is))
+    {old = old} {new = with_left behind new} (says_leaving behind says) (refuses_leaving new.left behind new.out c.say_refused.result refusal c.say_refused.ensures.refuses)
+    (λ not_cut. world ∙ ap (λ (s : Scans). Some (ran [] 1 s.items w)) (sym is))
 
 pub returns-in-Err-Memory-clause-answers : goal.returns-in-Err-Memory-clause-answers
-returns-in-Err-Memory-clause-answers g c = λ files left is_left.
-    memory_answers (sum_scans c.args.number c.args.app.now c.args.runner.now.performer.world.setup (scans_of (trace_text c.args.number) c.args.app.now)) [] files files _ left (files_same files)
+returns-in-Err-Memory-clause-answers g c = λ behind world refusal.
+    memory_answers (sum_scans c.args.number c.args.app.now c.args.runner.now.performer.world.setup (scans_of (trace_text c.args.number) c.args.app.now)) [] (passes_left behind refl)
 
 pub sum_scans-requires-clause-held : goal.sum_scans-requires-clause-held
 sum_scans-requires-clause-held g c = ap (λ held. held (codes "trace")) c.in-Ok.ensures.kept ∙ c.requires.held

@@ -1,20 +1,13 @@
 use Rattle.std.proofs.Common.{◌∷◌, []}
-use Rattle.ps_world.specs.Whole.{Setup, Whole, IsSetupOf}
-use Rattle.ps_top.specs.Calls.{files_seen, output_seen}
-use Rattle.ps_top.specs.Program.{run_named, run_struck, with_faults}
-use Rattle.ps_top.proofs.Calling.{files_same, memory_answers, found_of_all}
+use Rattle.ps_world.specs.Whole.{Setup, IsSetupOf}
+use Rattle.ps_top.specs.Program.{run_named, with_faults}
+use Rattle.ps_top.proofs.Calling.{found_of_all}
 use Rattle.ps_top.proofs.running.run_struck.Goals as goal
-
-pub returns-in-Err-clause-answers : goal.returns-in-Err-clause-answers
-returns-in-Err-clause-answers g c =
-    let files = files_seen g.F.Files.tells g.F.Files.held g.F.Files.faults c.args.files.now in
-    memory_answers (run_struck c.args.trace.now c.args.faults.now c.args.app.now) (c.args.faults.now ∷ c.args.trace.now ∷ []) files files _ c.args.left.now (files_same _)
 
 pub returns-in-Ok-clause-answers : goal.returns-in-Ok-clause-answers
 returns-in-Ok-clause-answers g c =
     let net = c.args.app.now in
-    let w : Whole = c.in-Ok.world in
-    found_of_all Setup (IsSetupOf net) (λ setup. with_faults setup c.args.faults.now (λ list. run_named net setup list c.args.trace.now)) (c.args.faults.now ∷ c.args.trace.now ∷ [])
-    (files_seen g.F.Files.tells g.F.Files.held g.F.Files.faults c.args.files.now) (files_seen g.F.Files.tells g.F.Files.held g.F.Files.faults c.run_faults.new.files)
-    (output_seen g.S.Sink.tells g.S.Sink.taken g.S.Sink.faults c.args.out.now) (output_seen g.S.Sink.tells g.S.Sink.taken g.S.Sink.faults c.run_faults.new.out)
-    c.run_faults.new.left c.run_faults.result w.setup c.in-Ok.ensures.setup c.run_faults.ensures.answers
+    let trace = c.args.trace.now in
+    let faults = c.args.faults.now in
+    found_of_all Setup (IsSetupOf net) (λ setup. with_faults setup faults (λ list. run_named net setup list trace)) (faults ∷ trace ∷ [])
+    c.in-Ok.world.setup c.in-Ok.ensures.setup c.run_faults.ensures.answers

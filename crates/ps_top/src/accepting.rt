@@ -1,0 +1,109 @@
+// How a command comes to the application of a source.
+
+ghost use Rattle.std.specs.Prelude.{◌≡◌, ◌≢◌, Some, IfOk, IfErr, IsErrOf};
+ghost use Rattle.ps_flow.specs.Derivation.{certificate};
+ghost use Rattle.ps_model.specs.Typing.{Accepted as IsAccepted};
+ghost use Rattle.ps_source.specs.Answering.{IsChecked, app_of};
+ghost use Rattle.ps_source.specs.Demanding.{IsDemandableAs, IsLined, app_demanded};
+ghost use Rattle.ps_source.specs.Source.{IsAcceptedAs, IsResolvedAs, counts};
+ghost use Rattle.ps_source.specs.Source.Reading.{stands_for};
+ghost use Rattle.ps_top.specs.Calls.{LeavesRefusal, ReadsName};
+ghost use Rattle.ps_top.specs.Refusing.{GivesNone, IsUnread, SaysNone};
+ghost use Rattle.ps_top.specs.Sourcing.{AreOfSource, Finds};
+
+use crate::Status;
+use crate::call::Call;
+use crate::left::Leaving;
+use crate::saying::say_none;
+use ps_base::limits::LARGEST_SOURCE;
+use ps_base::{Bytes, Fail};
+use ps_model::App;
+use ps_outside::ReadFail;
+use ps_source::{Accepted, Demanded, accept_text, demand_text, resolve_text};
+
+// Reads the source of a name: all of it, or one byte more than the largest source has.
+fn read_source<C: Call>(call: &mut C, name: &str) -> Result<Bytes, Status>
+    ensures bytes { IfOk result (AreOfSource name.now (C.seen call.old)) }
+    ensures reads { ReadsName name.now (IsErrOf result Status.ReadFault) (C.seen call.old) (C.seen call.new) }
+    ensures fails { IfErr result IsUnread }
+{
+    match call.read(name, LARGEST_SOURCE + 1) {
+        Ok(bytes) => Ok(bytes),
+        Err(ReadFail::Memory) => Err(Status::Memory),
+        Err(ReadFail::Fault) => Err(Status::ReadFault),
+    }
+}
+
+// Ends a call whose source gives nothing, and leaves the bytes that were read of it.
+fn refuse_source<C: Call>(call: &mut C, bytes: Bytes, why: Fail) -> Status
+    ensures says { SaysNone why (C.seen call.old) (C.seen call.new) result }
+    ensures refuses { LeavesRefusal (C.seen call.new).left (C.seen call.new).out result }
+    ensures no_usage { result ≢ Status.Usage }
+{
+    call.leave(Leaving::Text(bytes));
+    say_none(call, why)
+}
+
+// The accepted application of a name, by the rules L, P, B, N and S; or the status of a call that gets none.
+pub(crate) fn accept<C: Call>(call: &mut C, name: &str) -> Result<Accepted, Status>
+    ensures finds { IfOk result (Finds (λ text a. IsAcceptedAs text (stands_for (app_of a))) name.now (C.seen call.old)
+        (C.seen call.new)) }
+    ensures checked { IfOk result IsChecked }
+    ensures none { IfErr result (GivesNone IsAcceptedAs name.now (C.seen call.old) (C.seen call.new)) }
+{
+    let bytes = read_source(call, name)?;
+    match accept_text(call.alloc(), bytes.as_slice()) {
+        Ok(accepted) => {
+            call.leave(Leaving::Text(bytes));
+            Ok(accepted)
+        }
+        Err(why) => Err(refuse_source(call, bytes, why)),
+    }
+}
+
+// The same, where the certificate is no longer wanted: what was checked is left.
+pub(crate) fn accept_app<C: Call>(call: &mut C, name: &str) -> Result<App, Status>
+    ensures finds { IfOk result (Finds (λ text net. IsAcceptedAs text (stands_for net)) name.now (C.seen call.old)
+        (C.seen call.new)) }
+    ensures accepted { IfOk result IsAccepted }
+    ensures checked { IfOk result (λ net. (C.seen call.new).left.checked ≡ Some (counts net (certificate net))) }
+    ensures none { IfErr result (GivesNone IsAcceptedAs name.now (C.seen call.old) (C.seen call.new)) }
+{
+    let (app, checked) = accept(call, name)?.into_parts();
+    call.leave(Leaving::Checked(checked));
+    Ok(app)
+}
+
+// The application of a name, by the rules L, P, B and N alone; or the status of a call that gets none.
+pub(crate) fn resolve<C: Call>(call: &mut C, name: &str) -> Result<App, Status>
+    ensures finds { IfOk result (Finds (λ text net. IsResolvedAs text (stands_for net)) name.now (C.seen call.old)
+        (C.seen call.new)) }
+    ensures none { IfErr result (GivesNone IsResolvedAs name.now (C.seen call.old) (C.seen call.new)) }
+{
+    let bytes = read_source(call, name)?;
+    match resolve_text(call.alloc(), bytes.as_slice()) {
+        Ok(app) => {
+            call.leave(Leaving::Text(bytes));
+            Ok(app)
+        }
+        Err(why) => Err(refuse_source(call, bytes, why)),
+    }
+}
+
+// The accepted application of a name with the lines of what its outputs demand, by the rules L, P, B, N, S and M1; or
+// the status of a call that gets none.
+pub(crate) fn accept_demands<C: Call>(call: &mut C, name: &str) -> Result<Demanded, Status>
+    ensures finds { IfOk result (Finds (λ text d. IsDemandableAs text (stands_for (app_demanded d))) name.now
+        (C.seen call.old) (C.seen call.new)) }
+    ensures lined { IfOk result IsLined }
+    ensures none { IfErr result (GivesNone IsDemandableAs name.now (C.seen call.old) (C.seen call.new)) }
+{
+    let bytes = read_source(call, name)?;
+    match demand_text(call.alloc(), bytes.as_slice()) {
+        Ok(demanded) => {
+            call.leave(Leaving::Text(bytes));
+            Ok(demanded)
+        }
+        Err(why) => Err(refuse_source(call, bytes, why)),
+    }
+}

@@ -1,35 +1,76 @@
 // What is told of a refusal besides its rule.
 
-use crate::inputs::inputs_of;
+use crate::blocks::{literal_told, pins_told};
+use crate::bytes::byte_told;
+use crate::faults::{fault_before, fault_told};
+use crate::grammar::grammar_told;
+use crate::inputs::{inputs_of, missing_in};
+use crate::lines::line_at;
 use crate::pins::pins_at;
 use crate::reading::token_at;
+use crate::times::time_told;
+use crate::traces::{header_of, time_before, wrong_count, wrong_value};
 use crate::values::bools_behind;
 use ps_base::{Bytes, Fail, Memory, Refusal, Rule};
 use ps_lexer::{Token, lex};
 use std::alloc::Global;
 
+// The pins at a token: those of a kind of the profile, or else those of a function block of the text.
+fn any_pins(alloc: Global, tokens: &[Token], at: usize) -> Result<Bytes, Memory> {
+    let pins = pins_at(alloc, tokens, at)?;
+    if pins.len() > 0 {
+        return Ok(pins);
+    }
+    pins_told(alloc, tokens, at)
+}
+
 // What the tokens of an application tell of its refusal.
-fn detail_in(alloc: Global, tokens: &[Token], refusal: &Refusal) -> Result<Bytes, Memory> {
+fn detail_in(
+    alloc: Global,
+    text: &[u8],
+    tokens: &[Token],
+    refusal: &Refusal,
+) -> Result<Bytes, Memory> {
     match token_at(tokens, refusal.place) {
         Some(at) => match refusal.rule {
-            Rule::N4 => pins_at(alloc, tokens, at),
+            Rule::P1 => grammar_told(alloc, text, tokens, at),
+            Rule::N4 | Rule::B3 => any_pins(alloc, tokens, at),
+            Rule::N12 => literal_told(alloc, tokens, at),
             Rule::S1 | Rule::S2 => bools_behind(alloc, tokens, at),
             _ => Ok(Bytes::new(alloc)),
         },
+        None if refusal.rule == Rule::P1 => grammar_told(alloc, text, tokens, tokens.len()),
         None => Ok(Bytes::new(alloc)),
     }
 }
 
-/// What the text of an application tells of its refusal besides the rule: at N4 the pins of the kind, at S1 and S2 the BOOL
-/// values that stand where a SAFEBOOL is asked. It is empty where it tells nothing.
+// What the bytes of a text tell of its refusal: of a byte, a TIME literal, or a line of a trace or fault file.
+fn detail_of_line(alloc: Global, text: &[u8], refusal: &Refusal) -> Result<Bytes, Memory> {
+    let line = refusal.place.line;
+    match refusal.rule {
+        Rule::L1 => byte_told(alloc, text, &refusal.place),
+        Rule::L3 => time_told(alloc, text, &refusal.place),
+        Rule::T4 => wrong_count(alloc, text, line),
+        Rule::T5 => wrong_value(alloc, text, line),
+        Rule::T7 => time_before(alloc, text, line),
+        Rule::F1 => fault_told(alloc, line_at(text, line)),
+        Rule::F2 | Rule::F4 => fault_before(alloc, text, line),
+        _ => Ok(Bytes::new(alloc)),
+    }
+}
+
+/// What a text tells of its refusal besides the rule. Of an application: at P1 what stands at the place and what may, at N4 and B3 the
+/// pins of the block, at N12 where a literal may stand, at S1 and S2 the BOOL values that stand where a SAFEBOOL is asked. Of a byte or
+/// a TIME literal what it is. Of a line of a trace or fault file the word that is wrong, or the line before it that it is wrong beside.
+/// It is empty where it tells nothing.
 pub fn detail_on(alloc: Global, text: &[u8], refusal: &Refusal) -> Result<Bytes, Memory> {
     match refusal.rule {
-        Rule::N4 | Rule::S1 | Rule::S2 => match lex(alloc, text) {
-            Ok(tokens) => detail_in(alloc, tokens.list.as_slice(), refusal),
+        Rule::P1 | Rule::N4 | Rule::B3 | Rule::N12 | Rule::S1 | Rule::S2 => match lex(alloc, text) {
+            Ok(tokens) => detail_in(alloc, text, tokens.list.as_slice(), refusal),
             Err(Fail::Memory) => Err(Memory),
             Err(Fail::Refused(_)) => Ok(Bytes::new(alloc)),
         },
-        _ => Ok(Bytes::new(alloc)),
+        _ => detail_of_line(alloc, text, refusal),
     }
 }
 
@@ -37,6 +78,16 @@ pub fn detail_on(alloc: Global, text: &[u8], refusal: &Refusal) -> Result<Bytes,
 pub fn inputs_told(alloc: Global, text: &[u8]) -> Result<Bytes, Memory> {
     match lex(alloc, text) {
         Ok(tokens) => inputs_of(alloc, tokens.list.as_slice()),
+        Err(Fail::Memory) => Err(Memory),
+        Err(Fail::Refused(_)) => Ok(Bytes::new(alloc)),
+    }
+}
+
+/// The inputs of the program of this text that the header of a trace has not, or else the names that it has twice; empty where there
+/// is none, or the text has no tokens.
+pub fn header_told(alloc: Global, text: &[u8], trace: &[u8]) -> Result<Bytes, Memory> {
+    match lex(alloc, text) {
+        Ok(tokens) => missing_in(alloc, tokens.list.as_slice(), header_of(trace)),
         Err(Fail::Memory) => Err(Memory),
         Err(Fail::Refused(_)) => Ok(Bytes::new(alloc)),
     }

@@ -7,8 +7,8 @@ use ps_lexer::{Form, Token};
 use ps_model::{Kind, input_count, kind_named, pin_count, pin_name};
 use std::alloc::Global;
 
-// The bracket that is open at a token.
-fn bracket_before(tokens: &[Token], at: usize) -> Option<usize> {
+/// The bracket that is open at a token.
+pub(crate) fn bracket_before(tokens: &[Token], at: usize) -> Option<usize> {
     let mut depth = 0usize;
     for i in (0..at).rev() {
         match form_at(tokens, i) {
@@ -44,8 +44,8 @@ fn pins_of(alloc: Global, head: &[u8], kind: Kind, from: u8, upto: u8) -> Result
     Ok(list)
 }
 
-/// The pins that could stand at a token: the outputs of an instance behind its dot, and its inputs in its call. Empty where the
-/// token stands at neither.
+/// The pins that could stand at a token: the outputs of an instance behind its dot or at its name, and its inputs in its call. Empty
+/// where the token stands at none.
 pub(crate) fn pins_at(alloc: Global, tokens: &[Token], at: usize) -> Result<Bytes, Memory> {
     if at >= 2 && is_dot(tokens, at - 1) {
         if let Some(kind) = kind_at(tokens, at - 2) {
@@ -53,6 +53,16 @@ pub(crate) fn pins_at(alloc: Global, tokens: &[Token], at: usize) -> Result<Byte
             return pins_of(alloc, b"its outputs are: ", kind, inputs, pin_count(kind));
         }
         return Ok(Bytes::new(alloc));
+    }
+    if let Some(kind) = kind_at(tokens, at) {
+        let inputs = input_count(kind);
+        return pins_of(
+            alloc,
+            b"an instance is no value; its outputs are: ",
+            kind,
+            inputs,
+            pin_count(kind),
+        );
     }
     match bracket_before(tokens, at) {
         Some(bracket) if bracket >= 1 => match kind_at(tokens, bracket - 1) {

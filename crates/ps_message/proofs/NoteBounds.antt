@@ -13,7 +13,7 @@ use Rattle.ps_model.specs.Drivers.{driver}
 use Rattle.ps_model.specs.Network.{Network, declared_count, instance_count, instance_name, kind_at, signal_count, signal_name}
 use Rattle.ps_model.specs.Pins.{pin_count, pin_names}
 use Rattle.ps_notes.specs.declared.note.Note.{Note}
-use Rattle.ps_notes.specs.declared.note.Note.TheVariants.{Idle, NoTime, Early, Unread, Unused, Restarts}
+use Rattle.ps_notes.specs.declared.note.Note.TheVariants.{Idle, NoTime, Early, Unread, Unused, Restarts, Off, Zero, Static, Joined, Never, Inverted, Loose}
 use Rattle.ps_message.specs.Message.{IsEnded}
 use Rattle.ps_message.specs.NoteLine.{instance_shown, pin_named, pin_shown, output_shown, signal_shown, step_shown, subject, said, note_text}
 use Rattle.ps_message.specs.Shown.{last_shown}
@@ -93,6 +93,13 @@ module _ (net : Network) where
   length-subject (Unread s) = omega (arith, length-signal s)
   length-subject (Unused i) = omega (arith, length-instance i)
   length-subject (Restarts i j) = omega (arith, length-pin i j)
+  length-subject (Off i) = omega (arith, length-pin i 0)
+  length-subject (Zero i j) = omega (arith, length-pin i j)
+  length-subject (Static i j) = omega (arith, length-pin i j)
+  length-subject (Joined i j) = omega (arith, length-pin i j)
+  length-subject (Never i) = omega (arith, length-instance i)
+  length-subject (Inverted i j) = omega (arith, length-pin i j)
+  length-subject (Loose s) = omega (arith, length-signal s)
 
 length-said : (note : Note) → length (said note) ≤ 200
 length-said (Idle i) = lit≤ tt
@@ -101,6 +108,13 @@ length-said (Early s k) = lit≤ tt
 length-said (Unread s) = lit≤ tt
 length-said (Unused i) = lit≤ tt
 length-said (Restarts i j) = lit≤ tt
+length-said (Off i) = lit≤ tt
+length-said (Zero i j) = lit≤ tt
+length-said (Static i j) = lit≤ tt
+length-said (Joined i j) = lit≤ tt
+length-said (Never i) = lit≤ tt
+length-said (Inverted i j) = lit≤ tt
+length-said (Loose s) = lit≤ tt
 
 note-size : (file about words : List ℕ) → length file ≤ 1023 → length about ≤ 2200 → length words ≤ 200 → length (file ++ codes ": note: " ++ about ++ words) ≤ 4000
 note-size file about words f a w = simp length-append (omega arith)
@@ -119,6 +133,13 @@ said-ended (Early s k) = (
 said-ended (Unread s) = (codes " is an input that no step reads; give it to a block, or leave it out (docs/notes.md, 4)", refl)
 said-ended (Unused i) = (codes " has no output that another step reads; read one, or leave the block out (docs/notes.md, 5)", refl)
 said-ended (Restarts i j) = (codes " is TRUE, so the block restarts by itself; leave it free where a person has to reset it (docs/notes.md, 6)", refl)
+said-ended (Off i) = (codes " is FALSE, so the block stays Idle; give it TRUE or a signal (docs/notes.md, 7)", refl)
+said-ended (Zero i j) = (codes " is 0 ms, so what is to follow is late at once; give it the time that is allowed (docs/notes.md, 8)", refl)
+said-ended (Static i j) = (codes " is TRUE and never rises, so it acknowledges nothing; give it a button (docs/notes.md, 9)", refl)
+said-ended (Joined i j) = (codes " and the pin after it have one signal, so the block finds no fault of a channel; give each its own (docs/notes.md, 10)", refl)
+said-ended (Never i) = (codes " can never be enabled, since nothing resets it and S_StartReset is not TRUE; give Reset a button (docs/notes.md, 11)", refl)
+said-ended (Inverted i j) = (codes " has no input of the program itself, so demands leave its NOT out; give it the input, where the demand is to have it (docs/notes.md, 12)", refl)
+said-ended (Loose s) = (codes " is a local that no step reads; read it, or leave it out (docs/notes.md, 13)", refl)
 
 -- the line of a note ends with a line feed
 pub note-ended : (file : List ℕ) (net : Network) (note : Note) → IsEnded (note_text file net note)

@@ -8,7 +8,7 @@ use Rattle.ps_model.specs.Drivers.{driver}
 use Rattle.ps_model.specs.Network.{Network, declared_count, instance_count, instance_name, kind_at, signal_count, signal_name}
 use Rattle.ps_model.specs.Pins.{pin_count, pin_names}
 use Rattle.ps_notes.specs.declared.note.Note.{Note}
-use Rattle.ps_notes.specs.declared.note.Note.TheVariants.{Idle, NoTime, Early, Unread, Unused, Restarts}
+use Rattle.ps_notes.specs.declared.note.Note.TheVariants.{Idle, NoTime, Early, Unread, Unused, Restarts, Off, Zero, Static, Joined, Never, Inverted, Loose}
 use Rattle.ps_message.specs.Shown.{last_shown}
 
 -- Names stand as they are declared; of a longer one, as within many function blocks, the last 255 bytes.
@@ -51,6 +51,13 @@ module _ (net : Network) where
   subject (Unread s) = signal_shown s
   subject (Unused i) = instance_shown i
   subject (Restarts i j) = pin_shown i j
+  subject (Off i) = pin_shown i 0
+  subject (Zero i j) = pin_shown i j
+  subject (Static i j) = pin_shown i j
+  subject (Joined i j) = pin_shown i j
+  subject (Never i) = instance_shown i
+  subject (Inverted i j) = pin_shown i j
+  subject (Loose s) = signal_shown s
 
 -- what is said of it, what helps, and where more is said
 abbrev pub said : Note → List ℕ
@@ -61,6 +68,20 @@ said (Early s k) =
 said (Unread s) = codes " is an input that no step reads; give it to a block, or leave it out (docs/notes.md, 4)\n"
 said (Unused i) = codes " has no output that another step reads; read one, or leave the block out (docs/notes.md, 5)\n"
 said (Restarts i j) = codes " is TRUE, so the block restarts by itself; leave it free where a person has to reset it (docs/notes.md, 6)\n"
+said (Off i) = codes " is FALSE, so the block stays Idle; give it TRUE or a signal (docs/notes.md, 7)\n"
+said (Zero i j) =
+    codes " is 0 ms, so what is to follow is late at once; give it the time that is allowed (docs/notes.md, 8)\n"
+said (Static i j) = codes " is TRUE and never rises, so it acknowledges nothing; give it a button (docs/notes.md, 9)\n"
+said (Joined i j) =
+    codes " and the pin after it have one signal, so the block finds no fault of a channel;"
+    ++ codes " give each its own (docs/notes.md, 10)\n"
+said (Never i) =
+    codes " can never be enabled, since nothing resets it and S_StartReset is not TRUE;"
+    ++ codes " give Reset a button (docs/notes.md, 11)\n"
+said (Inverted i j) =
+    codes " has no input of the program itself, so demands leave its NOT out;"
+    ++ codes " give it the input, where the demand is to have it (docs/notes.md, 12)\n"
+said (Loose s) = codes " is a local that no step reads; read it, or leave it out (docs/notes.md, 13)\n"
 
 -- the line of a note: the name of the file, of a longer one the last 255 bytes, what the note is about, and what is said of it
 abbrev pub note_text : (file : List ℕ) → Network → Note → List ℕ

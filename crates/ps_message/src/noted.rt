@@ -128,13 +128,16 @@ fn add_subject(message: &mut Bytes, app: &App, note: Note) -> Result<(), Memory>
     ensures { OnOk result (message.new ≡ message.old ++ subject app.now note) }
 {
     match note {
-        Note::Idle { instance } => add_pin(message, app, instance, 0),
-        Note::NoTime { instance, pin } | Note::Restarts { instance, pin } => add_pin(
-            message,
-            app,
-            instance,
-            u32::from(pin),
-        ),
+        Note::Idle { instance } | Note::Off { instance } => add_pin(message, app, instance, 0),
+        Note::NoTime { instance, pin } | Note::Restarts { instance, pin } => {
+            add_pin(message, app, instance, u32::from(pin))
+        }
+        Note::Zero { instance, pin } | Note::Static { instance, pin } => {
+            add_pin(message, app, instance, u32::from(pin))
+        }
+        Note::Joined { instance, pin } | Note::Inverted { instance, pin } => {
+            add_pin(message, app, instance, u32::from(pin))
+        }
         Note::Early { signal, step } => {
             add_signal(message, app, signal)?;
             message.extend_from_slice(b" is read in ")?;
@@ -142,7 +145,10 @@ fn add_subject(message: &mut Bytes, app: &App, note: Note) -> Result<(), Memory>
             Ok(())
         }
         Note::Unread { signal } => add_signal(message, app, signal),
-        Note::Unused { instance } => add_instance(message, app, instance),
+        Note::Loose { signal } => add_signal(message, app, signal),
+        Note::Unused { instance } | Note::Never { instance } => add_instance(
+            message, app, instance,
+        ),
     }
 }
 
@@ -163,6 +169,23 @@ fn said(note: Note) -> &'static [u8]
             b" has no output that another step reads; read one, or leave the block out (docs/notes.md, 5)\n",
         Note::Restarts { .. } =>
             b" is TRUE, so the block restarts by itself; leave it free where a person has to reset it (docs/notes.md, 6)\n",
+        Note::Off { .. } =>
+            b" is FALSE, so the block stays Idle; give it TRUE or a signal (docs/notes.md, 7)\n",
+        Note::Zero { .. } =>
+            b" is 0 ms, so what is to follow is late at once; give it the time that is allowed (docs/notes.md, 8)\n",
+        Note::Static { .. } =>
+            b" is TRUE and never rises, so it acknowledges nothing; give it a button (docs/notes.md, 9)\n",
+        Note::Joined { .. } =>
+            b" and the pin after it have one signal, so the block finds no fault of a channel;\
+            \x20give each its own (docs/notes.md, 10)\n",
+        Note::Never { .. } =>
+            b" can never be enabled, since nothing resets it and S_StartReset is not TRUE;\
+            \x20give Reset a button (docs/notes.md, 11)\n",
+        Note::Inverted { .. } =>
+            b" has no input of the program itself, so demands leave its NOT out;\
+            \x20give it the input, where the demand is to have it (docs/notes.md, 12)\n",
+        Note::Loose { .. } =>
+            b" is a local that no step reads; read it, or leave it out (docs/notes.md, 13)\n",
     }
 }
 

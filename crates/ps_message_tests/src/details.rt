@@ -1,7 +1,7 @@
 // What the tokens of an application tell of a refusal, and what they tell of its inputs.
 
 use ps_base::{Place, Refusal, Rule};
-use ps_detail::{detail_on, inputs_told};
+use ps_detail::{detail_on, header_told, inputs_told, usage_told};
 use ps_message::message;
 use std::test::Fail;
 
@@ -87,5 +87,260 @@ the inputs are: S_1, S_2\n\
 give each input once (docs/refusals.md, T3)\n\
 ";
     assert_eq!(rt; said.as_slice(), text.as_bytes());
+    Ok(())
+}
+
+/// A rule, a text, a line and a column of it, and what is told.
+const TEXTS: &[(Rule, &str, u32, u32, &str)] = &[
+    (
+        Rule::P1,
+        "PROGRAM P;",
+        1,
+        10,
+        "found \";\" behind \"P\"; here may stand: VAR_INPUT, VAR_OUTPUT, VAR, a name that begins a statement, or the END_ of the text",
+    ),
+    (
+        Rule::P1,
+        "PROGRAM P VAR S_A, S_B; END_VAR",
+        1,
+        23,
+        "found \";\" behind \"S_B\"; here may stand: a comma and a further name, or a colon and the type",
+    ),
+    (
+        Rule::P1,
+        "PROGRAM P VAR_GLOBAL S_A",
+        1,
+        22,
+        "found \"S_A\" behind \"VAR_GLOBAL\"; the sections are VAR_INPUT, VAR_OUTPUT and VAR",
+    ),
+    (
+        Rule::P1,
+        "PROGRAM P VAR_INPUT VAR : BOOL",
+        1,
+        25,
+        "found \":\" behind \"VAR\"; a keyword is no name",
+    ),
+    (
+        Rule::P1,
+        "PROGRAM P S_O := S_A && S_B",
+        1,
+        23,
+        "found \"&\" behind \"&\"; AND is written once, as & or AND",
+    ),
+    (
+        Rule::P1,
+        "PROGRAM P E(S_A)",
+        1,
+        16,
+        "found \")\" behind \"S_A\"; here may stand: := and what is at this pin; each pin of a call is named",
+    ),
+    (
+        Rule::P1,
+        "FUNCTION_BLOCK F PROGRAM P",
+        1,
+        18,
+        "found \"PROGRAM\" behind \"F\"; the function block or program before it has no END_FUNCTION_BLOCK or END_PROGRAM",
+    ),
+    (
+        Rule::P1,
+        "PROGRAM P S_O := (S_A OR",
+        1,
+        25,
+        "the text ends behind \"OR\"; here may stand: a signal, an output behind a dot, or a group in brackets",
+    ),
+    (
+        Rule::P1,
+        "",
+        1,
+        1,
+        "the text is empty, or has comments alone",
+    ),
+    (
+        Rule::L1,
+        "P\u{200b}",
+        1,
+        2,
+        "a character that is not seen: it has no width, or turns the direction of what is shown; delete it",
+    ),
+    (Rule::L1, "P-", 1, 2, ""),
+    (
+        Rule::L3,
+        "E(T := T#100)",
+        1,
+        8,
+        "a unit is missing at the end: \"100\"; the units are d, h, m, s and ms",
+    ),
+    (
+        Rule::L3,
+        "T#100us",
+        1,
+        1,
+        "no unit: \"us\"; the units are d, h, m, s and ms",
+    ),
+    (
+        Rule::L3,
+        "T#1s1m",
+        1,
+        1,
+        "out of order: \"m\"; each unit stands once, the larger before the smaller",
+    ),
+    (
+        Rule::L3,
+        "TIME#50d",
+        1,
+        1,
+        "too long: \"50d\"; a time has at most 4294967295 ms, which is 49 days and 17 hours",
+    ),
+    (
+        Rule::L3,
+        "T#1.5s",
+        1,
+        1,
+        "a fraction: \"1.5s\"; write the next smaller unit, as T#1s500ms for 1.5 s",
+    ),
+    (
+        Rule::T4,
+        "# a\ntime A B\n0 1\n",
+        3,
+        0,
+        "the first input without a value is \"B\"",
+    ),
+    (
+        Rule::T4,
+        "time A\n0 1 1\n",
+        2,
+        0,
+        "the first value without an input is \"1\"; a comment has # as the first byte of its line",
+    ),
+    (
+        Rule::T4,
+        "time A\nRestart\n",
+        2,
+        0,
+        "\"Restart\" is spelt restart, in small letters, and stands alone in its line",
+    ),
+    (
+        Rule::T5,
+        "time A B\n0 1 x\n",
+        2,
+        0,
+        "\"x\" stands at B; 0 or 1 is wanted",
+    ),
+    (
+        Rule::T7,
+        "time A\n10 1\nrestart\n5 1\n",
+        4,
+        0,
+        "the time of the scan before is \"10\"",
+    ),
+    (
+        Rule::F1,
+        "before 1 a code 0 00",
+        1,
+        0,
+        "\"a\" stands where this is wanted: a channel in a capital letter: A or B, and C with vote and heal alone",
+    ),
+    (
+        Rule::F1,
+        "before 1 turn A code 0 00",
+        1,
+        0,
+        "\"A\" stands where this is wanted: the number of a turn, from 1",
+    ),
+    (
+        Rule::F1,
+        "before 1 A code 0 0",
+        1,
+        0,
+        "\"0\" stands where this is wanted: an even number of hexadecimal digits, 2 to 512, without 0x",
+    ),
+    (
+        Rule::F1,
+        "before 1 A code 0",
+        1,
+        0,
+        "the line ends where this is wanted: an even number of hexadecimal digits, 2 to 512, without 0x",
+    ),
+    (
+        Rule::F1,
+        "before 1 A code 0 00 # a",
+        1,
+        0,
+        "\"#\" stands where the line is to end; a comment has # as the first byte of its line",
+    ),
+    (
+        Rule::F1,
+        "before 1 C code 0 00",
+        1,
+        0,
+        "C is a seat of vote and heal alone; A or B is wanted",
+    ),
+    (
+        Rule::F2,
+        "before 2 A code 0 00\n# a\nbefore 1 A code 0 00\n",
+        3,
+        0,
+        "the fault before it: before 2 A code 0 00",
+    ),
+];
+
+#[test]
+fn each_text_is_told(rt: HostRuntime) -> Result<(), Fail> {
+    for (rule, text, line, column, words) in TEXTS {
+        let refusal = Refusal {
+            rule: *rule,
+            place: Place {
+                line: *line,
+                column: *column,
+            },
+        };
+        let told = detail_on(rt.alloc(), text.as_bytes(), &refusal)?;
+        assert_eq!(rt; told.as_slice(), words.as_bytes(), "{rule:?} {text}");
+    }
+    Ok(())
+}
+
+/// A first word of a call, and what is told of it.
+const USAGES: &[(&str, &str)] = &[
+    (
+        "RUN",
+        "plcsafe: \"RUN\" is no command; the nearest is run\nrun takes APP TRACE, as: plcsafe run press.st strokes.trace\n",
+    ),
+    (
+        "chek",
+        "plcsafe: \"chek\" is no command; the nearest is check\ncheck takes APP, as: plcsafe check press.st\n",
+    ),
+    (
+        "other",
+        "plcsafe: \"other\" is no command\nplcsafe --help has the commands with an example each\n",
+    ),
+    (
+        "load",
+        "plcsafe: other words than these; load takes a number from 1 to 1000, as: plcsafe load 10\nno name of a file is empty or begins with a hyphen\n",
+    ),
+];
+
+#[test]
+fn usage_is_told(rt: HostRuntime) -> Result<(), Fail> {
+    for (word, words) in USAGES {
+        let told = usage_told(rt.alloc(), word.as_bytes())?;
+        assert_eq!(rt; told.as_slice(), words.as_bytes(), "{word}");
+    }
+    Ok(())
+}
+
+#[test]
+fn headers_are_told(rt: HostRuntime) -> Result<(), Fail> {
+    let missing = header_told(rt.alloc(), APP.as_bytes(), b"# a\ntime s_1 Run\n0 1 1\n")?;
+    assert_eq!(rt;
+        missing.as_slice(),
+        b"missing in the header: S_2, Ack, Last".as_slice()
+    );
+    let twice = header_told(
+        rt.alloc(),
+        APP.as_bytes(),
+        b"time S_1 S_2 Ack run Last RUN\n",
+    )?;
+    assert_eq!(rt; twice.as_slice(), b"twice in the header: run".as_slice());
     Ok(())
 }

@@ -17,7 +17,7 @@ struct Row {
 
 /// One row a note, where it is the only one, and rows in which something comes close to a note.
 const ROWS: &[Row] = &[
-    // 1: nothing at Activate; FALSE, and a signal, are something
+    // 1 and 7: nothing and FALSE at Activate; a signal is something
     Row {
         text: "\
 PROGRAM P VAR_INPUT S_A, S_B : SAFEBOOL; On : BOOL; END_VAR VAR_OUTPUT S_O, S_P, S_Q : SAFEBOOL; END_VAR
@@ -27,9 +27,11 @@ Two(Activate := FALSE, S_Button1 := S_A, S_Button2 := S_B);
 Three(Activate := On, S_Button1 := S_A, S_Button2 := S_B);
 S_O := One.S_TwoHandOut; S_P := Two.S_TwoHandOut; S_Q := Three.S_TwoHandOut;
 END_PROGRAM",
-        lines: "a.st: note: One.Activate is left free, so the block stays Idle; give it TRUE or a signal (docs/notes.md, 1)\n",
+        lines: "\
+a.st: note: One.Activate is left free, so the block stays Idle; give it TRUE or a signal (docs/notes.md, 1)\n\
+a.st: note: Two.Activate is FALSE, so the block stays Idle; give it TRUE or a signal (docs/notes.md, 7)\n",
     },
-    // 2: nothing at a TIME pin; a time of 0 ms is something
+    // 2 and 8: nothing and 0 ms at a TIME pin
     Row {
         text: "\
 PROGRAM P VAR_INPUT S_A, S_B : SAFEBOOL; END_VAR VAR_OUTPUT S_O, S_P : SAFEBOOL; END_VAR
@@ -38,7 +40,9 @@ One(Activate := TRUE, S_ChannelA := S_A, S_ChannelB := S_B);
 Two(Activate := TRUE, S_ChannelA := S_A, S_ChannelB := S_B, DiscrepancyTime := T#0ms);
 S_O := One.S_EquivalentOut; S_P := Two.S_EquivalentOut;
 END_PROGRAM",
-        lines: "a.st: note: One.DiscrepancyTime is left free, so the time is 0 ms; give it a TIME literal (docs/notes.md, 2)\n",
+        lines: "\
+a.st: note: One.DiscrepancyTime is left free, so the time is 0 ms; give it a TIME literal (docs/notes.md, 2)\n\
+a.st: note: Two.DiscrepancyTime is 0 ms, so what is to follow is late at once; give it the time that is allowed (docs/notes.md, 8)\n",
     },
     // 3: an output of an instance, a local and an output that a step reads before they are driven; the first of the steps is named
     Row {
@@ -102,7 +106,55 @@ a.st: note: One.S_StartReset is TRUE, so the block restarts by itself; leave it 
 a.st: note: One.S_AutoReset is TRUE, so the block restarts by itself; leave it free where a person has to reset it (docs/notes.md, 6)
 ",
     },
-    // all six: those of calls in the order of the text, and then those of signals
+    // 6: a block that hands on is not noted behind one that asks for a reset, and before it it is
+    Row {
+        text: "\
+PROGRAM P VAR_INPUT S_A, S_B : SAFEBOOL; Ack, Run : BOOL; END_VAR VAR_OUTPUT S_O : SAFEBOOL; END_VAR
+VAR One, Two : SF_OutControl; Stop : SF_EmergencyStop; END_VAR
+One(Activate := TRUE, S_SafeControl := S_A, ProcessControl := Run, S_StartReset := TRUE, S_AutoReset := TRUE);
+Stop(Activate := TRUE, S_EStopIn := S_B, Reset := Ack);
+Two(Activate := TRUE, S_SafeControl := Stop.S_EStopOut, ProcessControl := Run, S_StartReset := TRUE, S_AutoReset := TRUE);
+S_O := One.S_OutControl AND Two.S_OutControl;
+END_PROGRAM",
+        lines: "\
+a.st: note: One.S_StartReset is TRUE, so the block restarts by itself; leave it free where a person has to reset it (docs/notes.md, 6)
+a.st: note: One.S_AutoReset is TRUE, so the block restarts by itself; leave it free where a person has to reset it (docs/notes.md, 6)
+",
+    },
+    // 9 to 11: TRUE at Reset, one signal at both channels, and nothing that ever enables; feedbacks may be joined
+    Row {
+        text: "\
+PROGRAM P VAR_INPUT S_A, S_B : SAFEBOOL; Ack : BOOL; END_VAR VAR_OUTPUT S_O : SAFEBOOL; END_VAR
+VAR Stop, Free : SF_EmergencyStop; Pair : SF_Equivalent; Edm : SF_EDM; END_VAR
+Stop(Activate := TRUE, S_EStopIn := S_A, Reset := TRUE);
+Free(Activate := TRUE, S_EStopIn := S_A);
+Pair(Activate := TRUE, S_ChannelA := S_B, S_ChannelB := S_B, DiscrepancyTime := T#10ms);
+Edm(Activate := TRUE, S_OutControl := Pair.S_EquivalentOut, S_EDM1 := S_A, S_EDM2 := S_A, MonitoringTime := T#10ms, Reset := Ack);
+S_O := Stop.S_EStopOut AND Free.S_EStopOut AND Edm.S_EDM_Out;
+END_PROGRAM",
+        lines: "\
+a.st: note: Stop.Reset is TRUE and never rises, so it acknowledges nothing; give it a button (docs/notes.md, 9)
+a.st: note: Free can never be enabled, since nothing resets it and S_StartReset is not TRUE; give Reset a button (docs/notes.md, 11)
+a.st: note: Pair.S_ChannelA and the pin after it have one signal, so the block finds no fault of a channel; give each its own (docs/notes.md, 10)
+",
+    },
+    // 12 and 13: a NOT that a local loses, and the local itself is read; a local that nothing reads
+    Row {
+        text: "\
+PROGRAM P VAR_INPUT S_A, S_B : SAFEBOOL; END_VAR VAR_OUTPUT S_O : SAFEBOOL; END_VAR
+VAR S_L, S_M : SAFEBOOL; One, Two : SF_Antivalent; END_VAR
+S_L := S_B;
+S_M := S_B;
+One(Activate := TRUE, S_ChannelNC := S_A, S_ChannelNO := S_L, DiscrepancyTime := T#10ms);
+Two(Activate := TRUE, S_ChannelNC := S_A, S_ChannelNO := S_B, DiscrepancyTime := T#10ms);
+S_O := One.S_AntivalentOut AND Two.S_AntivalentOut;
+END_PROGRAM",
+        lines: "\
+a.st: note: One.S_ChannelNO has no input of the program itself, so demands leave its NOT out; give it the input, where the demand is to have it (docs/notes.md, 12)
+a.st: note: S_M is a local that no step reads; read it, or leave it out (docs/notes.md, 13)
+",
+    },
+    // several: those of calls in the order of the text, and then those of signals
     Row {
         text: "\
 PROGRAM P VAR_INPUT S_A, S_B : SAFEBOOL; Ack : BOOL; END_VAR VAR_OUTPUT S_O : SAFEBOOL; END_VAR
@@ -136,6 +188,7 @@ S_L := S_A;
 S_O := Left.S_O;
 END_PROGRAM",
         lines: "\
+a.st: note: Stop can never be enabled, since nothing resets it and S_StartReset is not TRUE; give Reset a button (docs/notes.md, 11)
 a.st: note: Left.Hands.Activate is left free, so the block stays Idle; give it TRUE or a signal (docs/notes.md, 1)
 a.st: note: S_L is read in the call of Stop before the step that drives it, so its value there is that of the scan before; move that step up, if the value of this scan is meant (docs/notes.md, 3)
 ",

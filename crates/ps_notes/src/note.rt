@@ -40,4 +40,49 @@ pub enum Note {
         /// The number of the pin.
         pin: u8,
     },
+    /// FALSE stands at the pin Activate of an instance, so the block stays Idle.
+    Off {
+        /// The number of the instance.
+        instance: u16,
+    },
+    /// The TIME pin of an instance has the literal of 0 ms.
+    Zero {
+        /// The number of the instance.
+        instance: u16,
+        /// The number of the pin.
+        pin: u8,
+    },
+    /// TRUE stands at the pin Reset of an instance, where it never rises.
+    Static {
+        /// The number of the instance.
+        instance: u16,
+        /// The number of the pin.
+        pin: u8,
+    },
+    /// Both channels of an instance have the same signal.
+    Joined {
+        /// The number of the instance.
+        instance: u16,
+        /// The number of the first channel's pin; the second channel's is the next one.
+        pin: u8,
+    },
+    /// Nothing or FALSE stands at each pin by which an instance comes to be enabled: Reset, S_StartReset, and
+    /// S_AutoReset where that helps at the start.
+    Never {
+        /// The number of the instance.
+        instance: u16,
+    },
+    /// A "not" of a pin of an instance is left out of demands, since what stands at the pin is no input, and no signal
+    /// that is read before its step.
+    Inverted {
+        /// The number of the instance.
+        instance: u16,
+        /// The number of the pin.
+        pin: u8,
+    },
+    /// No step reads a local.
+    Loose {
+        /// The number of the local.
+        signal: u16,
+    },
 }

@@ -1,12 +1,12 @@
-use Rattle.std.proofs.Common.{◌≡◌, ◌++◌, ◌-◌, drop}
+use Rattle.std.proofs.Common.{◌≡◌, ◌++◌, ◌-◌, false, drop}
 use Rattle.std.specs.List.{flat_map, range_with_len}
 use Rattle.ps_model.specs.Network.{signal_count}
-use Rattle.ps_notes.specs.Notes.{listed, of_step, of_signal, notes}
+use Rattle.ps_notes.specs.Notes.{listed, of_steps, of_signal, notes}
 use Rattle.ps_notes.proofs.noting.notes.Given as goal
 
 -- what is listed, and what is noted of the steps that are left
 abbrev pub invariant-loop-k : goal.invariant-loop-k
-invariant-loop-k l = l.list.items ++ flat_map (of_step l.app) (drop l.k l.app.steps) ≡ flat_map (of_step l.app) l.app.steps
+invariant-loop-k l = l.list.items ++ of_steps l.app l.asked (drop l.k l.app.steps) ≡ of_steps l.app false l.app.steps
 
 -- what is listed, and what is noted of the signals that are left
 abbrev pub invariant-loop-s : goal.invariant-loop-s

@@ -1,11 +1,12 @@
 """Refuses each allocation of the program in turn, and looks for an answer that changes in place of the error.
 
-python3 allocations.py [PROGRAM]     PROGRAM is by default the one that ./plcsafe builds; the C compiler `cc` has to be there
+python3 allocations.py [PROGRAM]           PROGRAM is by default the one that ./plcsafe builds; the C compiler `cc` has to be there
+python3 allocations.py --few PROGRAM       some of the commands alone, each allocation of them
 
 For each command on a motor, for a long trace and for calls that are refused, the k-th allocation is refused, for k from 1 up to the
-first run that asks for fewer. Each such run has to write nothing and end with status 7, or 8 where the system could not give the
-words, or to write all of its text with the status of a run of which nothing is refused. That status stands in the table below, and
-is compared too. The script prints how many runs ended how, and ends with 1 where one ended otherwise.
+first run that asks for fewer. Each such run has to write nothing and end with status 7, or to write all of its text with the status
+of a run of which nothing is refused. That status stands in the table below, and is compared too. The script prints how many runs
+ended how, and ends with 1 where one ended otherwise.
 """
 import os
 import subprocess
@@ -15,7 +16,7 @@ import tempfile
 from generate import MOTOR
 
 HERE = os.path.dirname(os.path.abspath(__file__))
-BUILT = os.path.join(HERE, "..", "crates", "ps_main", "out", "ps_main")
+BUILT = os.path.join(HERE, "..", "built", "ps_main", "program")
 TRACE = "time S_In Ack Run\n0 1 0 1\n10 1 0 1\n20 1 0 1\n30 1 1 1\n40 1 0 0\n50 0 0 1\n"
 CERTIFICATE = "0 SRC\n3 SRC\n2 AND 2\n"
 # A fault that trips the motor in its third scan, and outvotes one seat of three there; and two that strike one seat after the other.
@@ -81,7 +82,7 @@ def tried(program, folder, words, done):
     wrong = 0 if run.returncode == done and whole else 1
     while comes:
         status, text, comes = ended(program, folder, words, k)
-        right = (status in (7, 8) and not text) or (status == done and text == whole)
+        right = (status == 7 and not text) or (status == done and text == whole)
         if not right:
             wrong += 1
             print(f"{' '.join(words)}: the allocation {k} refused gives status {status} and {len(text)} bytes")
@@ -92,15 +93,20 @@ def tried(program, folder, words, done):
     return wrong
 
 
-def main(program):
+FEW = ("fault", "verify", "heal")
+
+
+def main(program, commands):
     with tempfile.TemporaryDirectory() as folder:
         texts = {"M": MOTOR, "U": TRACE, "C": CERTIFICATE, "F": FAULT, "G": TWO_FAULTS, "V": LONG_TRACE, "shim.c": SHIM}
         for name, text in texts.items():
             with open(os.path.join(folder, name), "w", encoding="ascii") as out:
                 out.write(text)
         subprocess.run(["cc", "-shared", "-fPIC", "-o", "shim.so", "shim.c"], cwd=folder, check=True)
-        sys.exit(1 if sum(tried(program, folder, words, done) for words, done in COMMANDS) else 0)
+        sys.exit(1 if sum(tried(program, folder, words, done) for words, done in commands) else 0)
 
 
 if __name__ == "__main__":
-    main(os.path.abspath(sys.argv[1] if len(sys.argv) > 1 else BUILT))
+    given = [word for word in sys.argv[1:] if word != "--few"]
+    chosen = [row for row in COMMANDS if row[0][0] in FEW] if "--few" in sys.argv else COMMANDS
+    main(os.path.abspath(given[0] if given else BUILT), chosen)

@@ -18,7 +18,7 @@ from changing import changing_files
 from generate import MOTOR
 
 HERE = os.path.dirname(os.path.abspath(__file__))
-BUILT = os.path.join(HERE, "..", "crates", "ps_main", "out", "ps_main")
+BUILT = os.path.join(HERE, "..", "built", "ps_main", "program")
 MIB = 1 << 20
 SOURCE = 1_048_576  # the most bytes of a source and of a certificate
 TRACE = 67_108_864  # the most bytes of a trace

@@ -15,7 +15,7 @@ import subprocess
 import sys
 
 HERE = os.path.dirname(os.path.abspath(__file__))
-BUILT = os.path.join(HERE, "..", "crates", "ps_main", "out", "ps_main")
+BUILT = os.path.join(HERE, "..", "built", "ps_main", "program")
 PROGRAM = os.path.abspath(sys.argv[2] if len(sys.argv) > 2 else BUILT)
 MIB = 1 << 20
 RUNS = 9

@@ -1,18 +1,21 @@
 #!/usr/bin/env python3
-"""Proves and builds the program.
+"""Proves and builds a program of this repository.
 
-build.py             builds the program where it is not built, or where a source below it or the kit has changed
-build.py --check     only says by its status whether the program is built (0) or not (1)
-build.py CRATE       proves this crate and those below it (to try the launcher on something small)
+build.py [CRATE]                        builds the program where it is not built of the sources as they are; CRATE is ps_main
+                                        where it is left out
+build.py --check [CRATE]                only says by its status whether it is built (0) or not (1)
+build.py --fingerprints                 writes for each program that has a launcher its crate and the fingerprint of its sources
+build.py --take FINGERPRINTS            takes the programs that `rt ci` has built in this repository, where their sources have these
+                                        fingerprints now: those that they had before `rt ci` began
 
 The crates that the program stands on are laid into a folder of their own, without tests and wrong bodies, and `rt ci` proves them
-there: each from nothing, side by side, as many as there are processors and memory allows, those with the most crates above them
-first. On a terminal one line tells how far it is; elsewhere it is a plain line now and then. What `rt ci` says of a crate goes to
-crates/ps_main/out/build.log. The status is 0 where the program is built, and 9 where it could not be.
+there side by side, as many as there are processors and memory allows; what this machine has proved before of the same files it takes
+as it is kept. On a terminal one line tells how far it is; elsewhere it is a plain line now and then. What `rt ci` says of a crate goes
+to built/CRATE/build.log. The program and its record stand in built/CRATE (`sources.py`). The status is 0 where the program is built,
+and 9 where it could not be.
 """
 import contextlib
 import fcntl
-import hashlib
 import os
 import pathlib
 import re
@@ -24,36 +27,15 @@ import tempfile
 import threading
 import time
 
+sys.path.insert(0, os.path.dirname(os.path.realpath(__file__)))
+from sources import BUILT, FOLDERS, NotComparable, Store, below, crates, fingerprint, rows_of
+
 ROOT = pathlib.Path(__file__).resolve().parent.parent
 PROGRAM = "ps_main"
-FOLDERS = ("src", "specs", "proofs")
-LEFT_OUT = ("out", "must-fail")  # what no proof of a crate reads
-CRATE_ENDED = re.compile(r"^rt: (\w+) (proved|NOT PROVED)$")
+NOT_BUILT = 9
+STORED_RUN = ("args", "stdin", "stdout", "status", "data")  # what `rt ci` runs the program on, and what it has to write
+CRATE_ENDED = re.compile(r"^rt: (\w+) (proved|NOT PROVED|is kept)\b")
 FUNCTIONS = re.compile(r"^logic=proved functions=(\d+)")
-
-
-def crates():
-    """Each crate of the repository with the crates of the repository that it stands on."""
-    stands_on = {}
-    for line in (ROOT / "crates.txt").read_text().splitlines():
-        head, colon, rest = line.partition("#")[0].partition(":")
-        if colon:
-            stands_on[head.split()[0]] = rest.split()
-    return {name: [low for low in lows if low in stands_on] for name, lows in stands_on.items()}
-
-
-def below(stands_on, top):
-    """The crates that a crate needs, itself among them, each behind those that it stands on."""
-    order = []
-
-    def visit(name):
-        if name not in order:
-            for low in stands_on[name]:
-                visit(low)
-            order.append(name)
-
-    visit(top)
-    return order
 
 
 def measured_costs():
@@ -71,30 +53,13 @@ def measured_costs():
 def guessed_cost(name):
     """The same of a crate that was never measured, by the length of its sources."""
     texts = [path.read_text() for path in sorted((ROOT / "crates" / name / "src").glob("**/*.rt"))]
-    return sum(text.count("fn ") for text in texts), 0.1 * sum(text.count("\n") for text in texts)
-
-
-def kit():
-    """The kit's one line, as `rt version` prints it."""
-    return subprocess.run(["rt", "version"], stdout=subprocess.PIPE, text=True, check=True).stdout.strip()
-
-
-def fingerprint(names):
-    """One number of all that the program is built from: the kit, the crates and what each stands on."""
-    whole = hashlib.sha256(kit().encode())
-    for name in names:
-        for folder in FOLDERS:
-            for path in sorted((ROOT / "crates" / name / folder).glob("**/*")):
-                if path.is_file():
-                    whole.update(str(path.relative_to(ROOT)).encode() + b"\0" + path.read_bytes() + b"\0")
-    stands_on = crates()
-    whole.update("".join(f"{name}: {' '.join(stands_on[name])}\n" for name in names).encode())
-    return whole.hexdigest()
+    return sum(text.count("fn ") for text in texts), 0.1 * sum(text.count("\n") for text in texts) + 1
 
 
 @contextlib.contextmanager
 def alone_in(folder):
     """Waits until no other launcher works in a folder, and keeps them out meanwhile."""
+    os.makedirs(folder, exist_ok=True)
     held = os.open(folder, os.O_RDONLY)
     try:
         fcntl.flock(held, fcntl.LOCK_EX)
@@ -107,16 +72,21 @@ def lay(stage, names):
     """Lays these crates, and nothing else, into a folder that `rt ci` takes for the top of a repository."""
     (stage / ".git").mkdir()
     shutil.copy2(ROOT / "HANDLES", stage / "HANDLES")
-    lines = [line for line in (ROOT / "crates.txt").read_text().splitlines() if line.partition(":")[0].strip() in names]
-    (stage / "crates.txt").write_text("\n".join(lines) + "\n")
+    (stage / "crates.txt").write_text("".join(row + "\n" for row in rows_of(names)))
     for name in names:
-        shutil.copytree(ROOT / "crates" / name, stage / "crates" / name, ignore=shutil.ignore_patterns(*LEFT_OUT))
+        for part in (*FOLDERS, *STORED_RUN):
+            held = ROOT / "crates" / name / part
+            if held.is_dir():
+                shutil.copytree(held, stage / "crates" / name / part, symlinks=True)
+            elif held.is_file():
+                shutil.copy2(held, stage / "crates" / name / part)
 
 
 class Progress:
     """What is said while crates are proved: one line that changes on a terminal, and else a plain line a minute."""
 
-    def __init__(self):
+    def __init__(self, name):
+        self.name = name
         self.on_terminal = sys.stderr.isatty()
         self.said_at = 0.0
         self.shown = False
@@ -124,12 +94,12 @@ class Progress:
     def show(self, text, now):
         if self.on_terminal:
             width = shutil.get_terminal_size().columns - 1
-            sys.stderr.write("\r\033[K" + f"plcsafe: {text}"[:width])
+            sys.stderr.write("\r\033[K" + f"{self.name}: {text}"[:width])
             sys.stderr.flush()
             self.shown = True
         elif now - self.said_at >= 60:
             self.said_at = now
-            print(f"plcsafe: {text}", file=sys.stderr, flush=True)
+            print(f"{self.name}: {text}", file=sys.stderr, flush=True)
 
     def end(self):
         if self.shown:
@@ -138,53 +108,59 @@ class Progress:
 
 
 class Build:
-    """One `rt ci` run over a crate and those below it, and how far it is."""
+    """One `rt ci` run over a program crate and those below it, and how far it is."""
 
-    def __init__(self, top, log):
+    def __init__(self, crate, name):
+        self.crate, self.name = crate, name
         self.stands_on = crates()
-        self.names = below(self.stands_on, top)
-        self.log = log
+        self.names = below(self.stands_on, crate)
+        self.store = Store(crate)
+        self.log = os.path.join(self.store.folder, "build.log")
         measured = measured_costs()
-        self.costs = {name: measured.get(name) or guessed_cost(name) for name in self.names}
-        self.chain = {name: self.chain_above(name) for name in reversed(self.names)}
+        self.costs = {low: measured.get(low) or guessed_cost(low) for low in self.names}
+        self.chain = {low: self.chain_above(low) for low in reversed(self.names)}
         self.proved, self.failed = [], []
         self.started = time.monotonic()
-        self.progress = Progress()
+        self.progress = Progress(name)
 
-    def chain_above(self, name):
+    def say(self, text):
+        print(f"{self.name}: {text}", file=sys.stderr, flush=True)
+
+    def chain_above(self, low):
         """The processor seconds of the longest chain of crates that begins with this one and goes up."""
-        users = [user for user in self.names if name in self.stands_on[user]]
-        return self.costs[name][1] + max((self.chain_above(user) for user in users), default=0)
+        users = [user for user in self.names if low in self.stands_on[user]]
+        return self.costs[low][1] + max((self.chain_above(user) for user in users), default=0)
 
     def read(self, said):
         """Writes what `rt ci` says to the log, and takes from it which crates have ended."""
         functions = 0
-        with open(self.log, "w") as log:
+        with open(self.log, "w", encoding="utf-8") as log:
             for line in said:
                 log.write(line)
                 log.flush()
                 if found := FUNCTIONS.match(line):
                     functions = int(found[1])
                 elif (ended := CRATE_ENDED.match(line)) and ended[1] in self.names:
-                    (self.proved if ended[2] == "proved" else self.failed).append(ended[1])
-                    self.costs[ended[1]] = (functions, self.costs[ended[1]][1])
+                    (self.failed if ended[2] == "NOT PROVED" else self.proved).append(ended[1])
+                    self.costs[ended[1]] = (functions or self.costs[ended[1]][0], self.costs[ended[1]][1])
+                    functions = 0
 
     def left(self):
         """The part of all work that is done, and the seconds that are left by the speed so far, where that is known."""
         whole = sum(cost for _, cost in self.costs.values())
-        waiting = [name for name in self.names if name not in self.proved]
-        work = sum(self.costs[name][1] for name in waiting)
+        waiting = [low for low in self.names if low not in self.proved]
+        work = sum(self.costs[low][1] for low in waiting)
         share = 1 - work / max(whole, 1)
         if share < 0.05:
             return share, None
         processors = os.cpu_count() or 1
         at_once = min(processors, max(1, whole / max(self.chain.values())))
         slowness = (time.monotonic() - self.started) * at_once / (share * whole)
-        return share, slowness * max(max(self.chain[name] for name in waiting) / 2, work / processors) if waiting else 0
+        return share, slowness * max(max(self.chain[low] for low in waiting) / 2, work / processors) if waiting else 0
 
     def tell(self):
         share, seconds = self.left()
-        functions = sum(self.costs[name][0] for name in self.proved)
+        functions = sum(self.costs[low][0] for low in self.proved)
         every = sum(count for count, _ in self.costs.values())
         minutes = "" if seconds is None else f", about {max(1, round(seconds / 60))} min left"
         text = f"proved {len(self.proved)} of {len(self.names)} crates, {functions} of {every} functions, {share:.0%}{minutes}"
@@ -199,66 +175,102 @@ class Build:
         try:
             while run.poll() is None:
                 self.tell()
-                time.sleep(0.5)
+                time.sleep(0.2)
         except KeyboardInterrupt:
             os.killpg(run.pid, signal.SIGKILL)
             self.progress.end()
-            print("plcsafe: interrupted", file=sys.stderr)
+            self.say("interrupted")
             return False
         reader.join()
         self.progress.end()
         if run.returncode != 0:
             what = f"crate {self.failed[0]} could not be proved" if self.failed else "the program could not be built"
-            print(f"plcsafe: {what}: read {os.path.relpath(self.log)}", file=sys.stderr)
+            self.say(f"{what}: read {os.path.relpath(self.log)}")
         return run.returncode == 0
 
     def run(self):
-        """Proves and builds all, and takes the program. Whether that went well."""
-        print(f"plcsafe: proving {len(self.names)} crates from nothing, side by side", file=sys.stderr, flush=True)
+        """Proves and builds all, and keeps the program. Whether that went well."""
+        self.say(f"proving {len(self.names)} crates side by side; what this machine has proved before is taken as it is kept")
         with tempfile.TemporaryDirectory(prefix="plcsafe-") as folder:
             stage = pathlib.Path(folder)
             lay(stage, self.names)
+            sources = fingerprint(self.names, root=folder)
             if not self.run_in(stage):
                 return False
-            program = stage / "crates" / PROGRAM / "out" / PROGRAM
-            if program.is_file():
-                shutil.copy2(program, ROOT / "crates" / PROGRAM / "out" / PROGRAM)
-        minutes = (time.monotonic() - self.started) / 60
-        print(f"plcsafe: proved and built in {minutes:.1f} min", file=sys.stderr, flush=True)
+            program = stage / "crates" / self.crate / "out" / self.crate
+            if not program.is_file():
+                self.say(f"rt ci passed, and left no program: read {os.path.relpath(self.log)}")
+                return False
+            if fingerprint(self.names, root=folder) != sources:
+                self.say("what was proved, or the kit, changed meanwhile: call it again")
+                return False
+            self.store.keep(program, sources, self.names)
+        self.say(f"proved and built in {(time.monotonic() - self.started) / 60:.1f} min")
+        if not self.store.is_current():
+            self.say("the sources changed while they were proved: call it again")
+            return False
         return True
 
 
-def main(words):
+def build(crate=PROGRAM, name="plcsafe"):
+    """Proves and builds a program where it is not built of the sources as they are. Whether it is."""
     if not shutil.which("rt"):
-        print("plcsafe: the command rt of the Rattle kit is not on the path", file=sys.stderr)
-        return 9
+        print(f"{name}: the command rt of the Rattle kit is not on the path", file=sys.stderr)
+        return False
     for ending in (signal.SIGTERM, signal.SIGHUP):
         signal.signal(ending, signal.default_int_handler)
-    out = ROOT / "crates" / PROGRAM / "out"
-    out.mkdir(exist_ok=True)
-    with alone_in(out):
-        return build(words, out)
+    try:
+        with alone_in(os.path.join(BUILT, crate)):
+            return Store(crate).is_current() or Build(crate, name).run()
+    except (OSError, ValueError, NotComparable, shutil.Error) as error:
+        print(f"{name}: the program cannot be built: {error}", file=sys.stderr)
+        return False
 
 
-def build(words, out):
-    """Builds the library that the words name, or else the program, where that is not built."""
-    if words and words[0] != "--check":
-        return 0 if Build(words[0], out / "build.log").run() else 9
-    built = out / "built"
-    names = below(crates(), PROGRAM)
-    print_now = fingerprint(names)
-    record = "\n".join([print_now, *names]) + "\n"
-    if (out / PROGRAM).exists() and built.exists() and built.read_text() == record:
-        os.utime(built)
-        return 0
-    if words:
+def programs():
+    """The crates of the programs that have a launcher at the top of the repository."""
+    found = []
+    for path in sorted(ROOT.iterdir()):
+        if path.is_file() and os.access(path, os.X_OK):
+            found += re.findall(r'tools/launch\.py" (\w+) ', path.read_text(errors="replace"))
+    return found
+
+
+def fingerprints():
+    """The fingerprint of the sources of each program, a line for each."""
+    stands_on = crates()
+    return "".join(f"{crate} {fingerprint(below(stands_on, crate))}\n" for crate in programs())
+
+
+def take(before):
+    """Takes the programs that `rt ci` has built here of sources with these fingerprints. Whether all could be taken."""
+    taken = True
+    for crate, sources in (line.split() for line in before.splitlines()):
+        program, names = ROOT / "crates" / crate / "out" / crate, below(crates(), crate)
+        if program.is_file() and fingerprint(names) == sources:
+            with alone_in(os.path.join(BUILT, crate)):
+                Store(crate).keep(program, sources, names)
+        else:
+            print(f"plcsafe: the program of {crate} is not taken: there is none, or its sources changed", file=sys.stderr)
+            taken = False
+    return taken
+
+
+def main(words):
+    try:
+        if words == ["--fingerprints"]:
+            print(fingerprints(), end="")
+            return 0
+        if words[:1] == ["--take"] and len(words) == 2:
+            return 0 if take(words[1]) else 1
+    except (OSError, ValueError, NotComparable) as error:
+        print(f"plcsafe: {error}", file=sys.stderr)
         return 1
-    started = time.time()
-    if not Build(PROGRAM, out / "build.log").run():
-        return 9
-    built.write_text(record)
-    os.utime(built, (started, started))  # a source that changed meanwhile is newer
-    return 0
+    is_asked = words[:1] == ["--check"]
+    crate = words[is_asked] if len(words) > is_asked else PROGRAM
+    if is_asked:
+        return 0 if Store(crate).is_current() else 1
+    return 0 if build(crate) else NOT_BUILT
 
 
 if __name__ == "__main__":

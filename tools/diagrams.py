@@ -38,7 +38,7 @@ def condition(row, says):
             parts.append(f"{now} rises")
         elif name in on and last in on:
             on.remove(name), on.remove(last)
-            parts.append(f"{now} is held")
+            parts.append(f"{now} is static")
     parts = [phrase(name, says, True) for name in on] + [phrase(name, says, False) for name in off] + parts
     return " and ".join(parts) or "else"
 

@@ -78,6 +78,7 @@ impl InstanceBytes {
     }
 
     /// Instance i keeps this.
+    #[inline(always)]
     pub fn put(&mut self, i: usize, block: CountedBlock)
         requires { INSTANCE_SIZE * i + INSTANCE_SIZE ≤ length self.old }
         ensures { self.new ≡ replaced self.old (INSTANCE_SIZE * i) (stored (kept_of block)) }

@@ -89,6 +89,7 @@ impl CountedBlock {
     }
 
     // Whether the last inputs and the mode are what a kind can keep in this state.
+    #[inline(always)]
     fn fits(self, kind: Kind) -> bool
         ensures { result ≡ (is_last (block kind).reset (bit self.last_reset) && is_last (block kind).auxiliary (bit self.last_auxiliary) && is_mode kind self.code self.mode) }
     {
@@ -116,6 +117,7 @@ impl CountedBlock {
     }
 
     // The block after the step that the rows have decided.
+    #[inline(always)]
     fn after(
         self,
         kind: Kind,

@@ -17,11 +17,15 @@ use Rattle.ps_parser.specs.Tree.{ArgumentTree, StatementTree, Assign, Call, Sour
 use Rattle.ps_derived.specs.declared.declared.Declared.{Declared}
 use Rattle.ps_derived.specs.declared.sizes.BlockSize.{BlockSize}
 use Rattle.ps_derived.specs.declared.limits.TheConstants.{MOST_FLAT_NAMES, MOST_FLAT_STATEMENTS}
-use Rattle.ps_derived.specs.Bodies.{same, is_input, is_output, is_local, declared_as, declares, section_declares, declared_names, first_declared, inputs}
+use Rattle.ps_derived.specs.Bodies.{same, type_in, is_input, is_output, is_local, declared_as, declares, section_declares, declared_names, first_declared, inputs}
+use Rattle.ps_derived.specs.Renaming.{statement_renamed}
 use Rattle.ps_derived.specs.Dotted.{inside, statement_inside, declaration_inside}
+use Rattle.ps_derived.specs.Spelling.{as_declared, spelt_as_declared}
+use Rattle.ps_derived.proofs.Lookups.{type_map}
+use Rattle.ps_derived.proofs.Spelt.{instance_same}
 use Rattle.ps_derived.specs.Flat.{FlatBlock, DerivedInstance, block_named, block_in, instance_by, instance_if, instance_of, declarations_in, copy_declares, declaration_flat, section_flat, input_assigned, call_flat, statement_flat, body_flat, block_flat, blocks_flat}
 use Rattle.ps_derived.specs.Limits.{name_count, counted_to, size_of}
-use Rattle.ps_derived.specs.Counting.{item_at, names_weight, declared_weight, call_weight, size_by, statement_weight}
+use Rattle.ps_derived.specs.Counting.{item_at, names_weight, declared_weight, call_weight, size_made, statement_weight}
 
 -- ---- counts up to a limit
 
@@ -38,34 +42,12 @@ sums_count_alike limit f g (x ∷ xs) h =
 pub count_more : (limit result count more n m : ℕ) → result ≡ counted_to limit (count + more) → count ≡ counted_to limit n → more ≡ m → result ≡ counted_to limit (n + m)
 count_more limit result count more n m r c e = omega arith
 
--- ---- the first item that has a name
-
-item_passed : {X : Type 0} (xs : List X) (k : ℕ) (b : Bool) → b ≡ nat_lt k (length xs) → slice_get xs k ≡ item_at xs (cond b (Some k) None)
-item_passed xs k true e = refl
-item_passed xs k false e = slice_get_past xs k (grind (arith, nat_tests))
-
-pub found_item : {X : Type 0} (p : X → Bool) (xs : List X) → find p xs ≡ item_at xs (position p xs)
-found_item p xs = find_at p xs ∙ item_passed xs (position_or_len p xs) (nat_lt (position_or_len p xs) (length xs)) refl
-
-found_map : {X Y : Type 0} (f : X → Y) (p : Y → Bool) (xs : List X) → find p (map f xs) ≡ option_map f (find (λ x. p (f x)) xs)
-found_map f p [] = refl
-found_map f p (x ∷ xs) = by (p (f x)) (found_map f p xs)
-  where
-    by : (b : Bool) → find p (map f xs) ≡ option_map f (find (λ x. p (f x)) xs) → cond b (Some (f x)) (find p (map f xs)) ≡ option_map f (cond b (Some x) (find (λ x. p (f x)) xs))
-    by true h = refl
-    by false h = h
-
 module _ (blocks : List FlatBlock) where
   abbrev sizes : List BlockSize
   sizes = map size_of blocks
 
-  size_named : (n : Name) → item_at sizes (position (λ s. same n s.name) sizes) ≡ option_map size_of (block_named blocks n)
-  size_named n = sym (found_item (λ s. same n s.name) sizes) ∙ found_map size_of (λ s. same n s.name) blocks
-
-  size_in : (part : Part) (ty : Name) → item_at sizes (if is_local part then position (λ s. same ty s.name) sizes else None) ≡ option_map size_of (block_in blocks part ty)
-  size_in Input ty = refl
-  size_in Output ty = refl
-  size_in Local ty = size_named ty
+  size_in : (part : Part) (ty : Name) → type_in (λ (s : BlockSize). s.name) sizes part ty ≡ option_map size_of (block_in blocks part ty)
+  size_in part ty = type_map size_of (λ (s : BlockSize). s.name) blocks part ty
 
   -- ---- declared names
 
@@ -178,14 +160,13 @@ module _ (blocks : List FlatBlock) where
   block_alike d None = refl
   block_alike d (Some b) = omega arith
 
-  call_alike : (o : Option Declared) → counted_to MOST_FLAT_STATEMENTS (call_weight (size_by sizes o)) ≡ counted_to MOST_FLAT_STATEMENTS (calls_of (instance_if blocks o))
+  call_alike : (o : Option Declared) → counted_to MOST_FLAT_STATEMENTS (call_weight (size_made sizes o)) ≡ counted_to MOST_FLAT_STATEMENTS (calls_of (instance_if blocks o))
   call_alike None = refl
   call_alike (Some d) = ap (λ o. counted_to MOST_FLAT_STATEMENTS (call_weight o)) (size_in d.part d.ty) ∙ block_alike d (block_in blocks d.part d.ty)
 
   statement_alike : (ds : List Declared) (s : StatementTree) → counted_to MOST_FLAT_STATEMENTS (statement_weight sizes ds s) ≡ counted_to MOST_FLAT_STATEMENTS (statements_by ds s)
   statement_alike ds (Assign t s) = refl
-  statement_alike ds (Call n args) =
-      ap (λ o. counted_to MOST_FLAT_STATEMENTS (call_weight (size_by sizes o))) (sym (found_item (λ d. same n d.name) ds)) ∙ call_alike (first_declared ds n)
+  statement_alike ds (Call n args) = call_alike (first_declared ds n)
 
   call_length : (ds : List Declared) (n : Name) (args : List ArgumentTree) (o : Option DerivedInstance) → length (call_flat blocks ds n args o) ≡ calls_of o
   call_length ds n args None = refl
@@ -206,6 +187,31 @@ module _ (blocks : List FlatBlock) where
   statements_counted s =
       sums_count_alike MOST_FLAT_STATEMENTS (statement_weight sizes (declared_names s.sections)) (statements_by (declared_names s.sections)) s.statements (statement_alike (declared_names s.sections))
       ∙ ap (counted_to MOST_FLAT_STATEMENTS) (sym (statements_length (declared_names s.sections) s.statements))
+
+  -- a body that spells its names as it declares them counts as it is
+  spelt_by : (ds : List Declared) (s : StatementTree) → statements_by ds (statement_renamed (as_declared ds) s) ≡ statements_by ds s
+  spelt_by ds (Assign t s) = refl
+  spelt_by ds (Call n args) = ap calls_of (instance_same blocks ds ds n)
+
+  spelt_sum : (ds : List Declared) (ss : List StatementTree) → sum_by (statements_by ds) (map (statement_renamed (as_declared ds)) ss) ≡ sum_by (statements_by ds) ss
+  spelt_sum ds [] = refl
+  spelt_sum ds (s ∷ ss) =
+      let spelt = statement_renamed (as_declared ds) in
+      sum_by-cons (statements_by ds) (spelt s) (map spelt ss) ∙ (λ i. spelt_by ds s i + spelt_sum ds ss i) ∙ sym (sum_by-cons (statements_by ds) s ss)
+
+  spelt_length : (s : SourceTree) → length (body_flat blocks s).statements ≡ length (body_flat blocks (spelt_as_declared s)).statements
+  spelt_length s =
+      let ds = declared_names s.sections in
+      statements_length ds s.statements ∙ sym (spelt_sum ds s.statements) ∙ sym (statements_length ds (map (statement_renamed (as_declared ds)) s.statements))
+
+  pub spelt_size : (s : SourceTree) → size_of (block_flat blocks s) ≡ size_of (block_flat blocks (spelt_as_declared s))
+  spelt_size s =
+      (λ i. record {
+        name = s.name;
+        inputs = counted_to MOST_FLAT_STATEMENTS (length (inputs (declared_names s.sections)));
+        names = counted_to MOST_FLAT_NAMES (name_count (body_flat blocks s));
+        statements = counted_to MOST_FLAT_STATEMENTS (spelt_length s i);
+      })
 
 -- the size of a body, by its counts
 pub size_is : (before : List FlatBlock) (t source : SourceTree) (name : Name) (input_count names statements : ℕ) → t ≡ source

@@ -1,5 +1,5 @@
 -- A text with a function block in a function block, and its flat source, closed by computing:
---   FUNCTION_BLOCK Gate VAR_INPUT I : BOOL; END_VAR VAR_OUTPUT Q : BOOL; END_VAR Q := I; END_FUNCTION_BLOCK
+--   FUNCTION_BLOCK Gate VAR_INPUT I : BOOL; END_VAR VAR_OUTPUT Q : BOOL; END_VAR q := i; END_FUNCTION_BLOCK
 --   FUNCTION_BLOCK Pair VAR H : gate; END_VAR VAR_INPUT X : BOOL; END_VAR VAR_OUTPUT Y : BOOL; END_VAR
 --   h(i := X); Y := h.q; END_FUNCTION_BLOCK
 --   PROGRAM P VAR_INPUT A : BOOL; END_VAR VAR_OUTPUT B : BOOL; END_VAR VAR G : Pair; END_VAR
@@ -32,7 +32,7 @@ abbrev gate : SourceTree
 gate = record {
   name = name (codes "Gate") 1 16;
   sections = declares Input (name (codes "I") 1 31) (name (codes "BOOL") 1 35) ∷ declares Output (name (codes "Q") 1 60) (name (codes "BOOL") 1 64) ∷ [];
-  statements = assigns (name (codes "Q") 1 78) (Signal (name (codes "I") 1 83)) ∷ [];
+  statements = assigns (name (codes "q") 1 78) (Signal (name (codes "i") 1 83)) ∷ [];
 }
 
 abbrev pair : SourceTree
@@ -53,7 +53,8 @@ program = record {
       ∷ assigns (name (codes "B") 5 12) (Pin (name (codes "g") 5 17) (name (codes "y") 5 19)) ∷ [];
 }
 
--- the inputs of a copy come first, then its outputs, then its own names; each has the place in its block's text
+-- the inputs of a copy come first, then its outputs, then its own names; each has the place in its block's text, and is
+-- spelt as it is declared
 laid_flat : flat (record { blocks = gate ∷ pair ∷ []; program = program }) ≡ record {
   name = name (codes "P") 4 9;
   sections = declares Input (name (codes "A") 4 21) (name (codes "BOOL") 4 25) ∷ declares Output (name (codes "B") 4 50) (name (codes "BOOL") 4 54)

@@ -2,7 +2,10 @@ pub mod Fronts
 pub mod Refusing
 pub mod Reading
 pub mod OneText
+pub mod Lookups
+pub mod Spelt
 pub mod Counts
 pub mod Inputs
+pub mod Trees
 pub mod Alone
 pub mod Examples

@@ -1,5 +1,5 @@
 -- What a body declares: a function block, or the program.
-use Rattle.std.specs.Prelude.{Bool, true, false, List, [], ◌∷◌, ◌++◌, Option, map, if◌then◌else◌}
+use Rattle.std.specs.Prelude.{Bool, true, false, List, [], ◌∷◌, ◌++◌, Option, None, Some, map, if◌then◌else◌}
 use Rattle.std.specs.List.{flat_map, find, list_any}
 use Rattle.ps_base.specs.LetterCase.{is_same_name}
 use Rattle.ps_parser.specs.declared.name.Name.{Name}
@@ -47,6 +47,30 @@ is_output _ = false
 abbrev pub is_local : Part → Bool
 is_local Local = true
 is_local _ = false
+
+-- ---- function blocks, by the names of types
+
+-- Function blocks, or what stands for them: each has the name of its function block.
+module _ {X : Type 0} (name_of : X → Name) where
+  -- the first with this name
+  abbrev pub first_named : List X → Name → Option X
+  first_named xs n = find (λ x. same n (name_of x)) xs
+
+  -- what a type is in a part: function blocks are types in VAR alone
+  abbrev pub type_in : List X → Part → Name → Option X
+  type_in xs Local ty = first_named xs ty
+  type_in xs _ ty = None
+
+  -- what a declaration makes its name an instance of, if there is one and it does
+  abbrev pub made_by : List X → Option Declared → Option X
+  made_by xs None = None
+  made_by xs (Some d) = type_in xs d.part d.ty
+
+  -- what a name of a body is an instance of, by its first declaration
+  abbrev pub made_of : List X → List Declared → Name → Option X
+  made_of xs ds n = made_by xs (first_declared ds n)
+
+-- ---- inputs
 
 -- whether the name of this declaration is one of these names
 abbrev pub is_among : List Name → Declared → Bool

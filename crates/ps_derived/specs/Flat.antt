@@ -10,8 +10,9 @@ use Rattle.ps_parser.specs.declared.statement.Target.TheVariants as target
 use Rattle.ps_parser.specs.Tree.{FactorTree, Signal, Pin, Literal, Time, Group, ProductTree, no_factor, factor, SumTree, no_product, product, ArgumentTree, StatementTree, Assign, Call, SourceTree}
 use Rattle.ps_derived.specs.declared.declared.Declared.{Declared}
 use Rattle.ps_derived.specs.declared.library.Library.{Library}
-use Rattle.ps_derived.specs.Bodies.{same, is_input, is_output, is_local, declared_names, first_declared, inputs}
+use Rattle.ps_derived.specs.Bodies.{same, is_input, is_output, is_local, declared_names, first_declared, first_named, type_in, inputs}
 use Rattle.ps_derived.specs.Dotted.{inside, statement_inside, declaration_inside}
+use Rattle.ps_derived.specs.Spelling.{spelling, spelt_as_declared}
 
 -- A function block that is laid flat: its name, what it declares in the text, and its flat source.
 pub record FlatBlock : Type 0 where
@@ -26,12 +27,11 @@ pub record DerivedInstance : Type 0 where
 
 -- the first of these blocks with this name
 abbrev pub block_named : List FlatBlock → Name → Option FlatBlock
-block_named blocks n = find (λ b. same n b.name) blocks
+block_named blocks n = first_named (λ (b : FlatBlock). b.name) blocks n
 
--- the block that a type is in a part: blocks are types in VAR alone
+-- the block that a type is in a part
 abbrev pub block_in : List FlatBlock → Part → Name → Option FlatBlock
-block_in blocks Local ty = block_named blocks ty
-block_in blocks _ ty = None
+block_in blocks part ty = type_in (λ (b : FlatBlock). b.name) blocks part ty
 
 -- the instance that a declaration makes, where its type is a block
 abbrev pub instance_by : Declared → Option FlatBlock → Option DerivedInstance
@@ -71,15 +71,10 @@ section_flat blocks s = record { part = s.part; declarations = flat_map (λ d. d
 
 -- ---- statements
 
--- an output of a block, spelt as it is declared
-abbrev pub output_spelt : Name → Option Declared → List ℕ
-output_spelt q None = q.text
-output_spelt q (Some d) = d.name.text
-
--- an output of a derived instance is a name with a dot, at the place of the instance's name
+-- an output of a derived instance is a name with a dot, spelt as both are declared, at the place of the instance's name
 abbrev pub output_read : Name → Name → Option DerivedInstance → FactorTree
 output_read n q None = Pin n q
-output_read n q (Some i) = Signal (record { text = i.name.text ++ 46 ∷ output_spelt q (first_declared i.block.declared q); place = n.place })
+output_read n q (Some i) = Signal (record { text = i.name.text ++ 46 ∷ spelling q (first_declared i.block.declared q); place = n.place })
 
 module _ (blocks : List FlatBlock) (ds : List Declared) where
   abbrev mutual
@@ -142,6 +137,7 @@ abbrev pub blocks_flat : List FlatBlock → List SourceTree → List FlatBlock
 blocks_flat before [] = before
 blocks_flat before (b ∷ bs) = blocks_flat (before ++ block_flat before b ∷ []) bs
 
--- the flat source of a whole text
+-- The flat source of a whole text. So each part of a dotted name is spelt as at its own declaration: an instance's name and
+-- an output behind its dot in each body, and each other name of a function block before its copies are made.
 abbrev pub flat : Library → SourceTree
-flat l = body_flat (blocks_flat [] l.blocks) l.program
+flat l = body_flat (blocks_flat [] (map spelt_as_declared l.blocks)) l.program

@@ -29,6 +29,16 @@ impl Drop for Library {
     }
 }
 
+impl Library {
+    /// The program, without the function blocks. It takes no memory.
+    pub fn into_program(self) -> Source
+        ensures { result ≡ self.program }
+    {
+        let Library { blocks: _, program } = self;
+        program
+    }
+}
+
 impl Model for Sources {
     ghost use Rattle.std.specs.Prelude.{List};
     ghost use Rattle.std.specs.Coded.{codes};

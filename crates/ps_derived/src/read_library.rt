@@ -16,7 +16,7 @@ use std::alloc::Global;
 /// where the tokens end before the program does; P2 at the bracket of a group that is nested too deep. The place is that
 /// of the token, or the end of the text. The grammar is a profile of structured text of IEC 61131-3.
 pub fn parse_library(alloc: Global, tokens: &Tokens) -> Result<Library, Fail>
-    ensures { Answers libraries tokens.now result }
+    ensures parses { Answers libraries tokens.now result }
 {
     let mut blocks = Sources::new(alloc);
     let mut at = 0;

@@ -1,17 +1,19 @@
 // How large the flat source of a text is, by counts for each function block: no copy is walked.
 
-ghost use Rattle.std.specs.Prelude.{◌≡◌, ◌<◌, ◌≤◌, ◌+◌, ◌^◌, ◌↔◌, List, IfOk, IsTrue, map, length};
+ghost use Rattle.std.specs.Prelude.{◌≡◌, ◌<◌, ◌≤◌, ◌+◌, ◌^◌, ◌↔◌, List, IfOk, IsTrue, Some, map};
 ghost use Rattle.std.specs.List.{sum_by};
 ghost use Rattle.ps_table.specs.Tables.{Indexes};
 ghost use Rattle.ps_parser.specs.StatementView.{statement_tree};
-ghost use Rattle.ps_derived.specs.Bodies.{inputs};
+ghost use Rattle.ps_derived.specs.Bodies.{first_declared};
 ghost use Rattle.ps_derived.specs.Flat.{FlatBlock, block_flat};
 ghost use Rattle.ps_derived.specs.Limits.{IsWithinLimits, counted_to, size_of};
-ghost use Rattle.ps_derived.specs.Counting.{input_weight, item_at, block_at, names_weight, declared_weight, call_weight, size_called, statement_weight};
+ghost use Rattle.ps_derived.specs.Counting.{item_at, size_made, names_weight, declared_weight, call_weight, statement_weight};
 
-use crate::declared::{Declared, copy_of, declared_names, index};
+use crate::declared::{Declared, copy_of};
+use crate::interface::Interface;
 use crate::library::Library;
 use crate::limits::{MOST_BLOCKS, MOST_FLAT_NAMES, MOST_FLAT_STATEMENTS};
+use crate::scope::Scope;
 use ps_base::Memory;
 use ps_parser::{Name, Part, Source, Statement};
 use ps_table::Table;
@@ -40,17 +42,15 @@ fn sum_to(limit: u32, a: u32, b: u32) -> u32
     }
 }
 
-// One where a name is declared in VAR_INPUT and was not declared before, and else none.
-fn input_weight(again: bool, part: Part) -> u32
-    ensures { result ≡ input_weight again part }
+// A number of items, or one more than the limit where it is over it.
+fn counted_to(limit: u32, count: usize) -> u32
+    requires { limit + 1 < 2 ^ 32 }
+    ensures { result ≡ counted_to limit count }
 {
-    if again {
-        return 0;
-    }
-    match part {
-        Part::Input => 1,
-        Part::Output => 0,
-        Part::Local => 0,
+    if count > limit as usize {
+        limit + 1
+    } else {
+        count as u32
     }
 }
 
@@ -62,7 +62,7 @@ fn block_at(
     declared: &Declared,
 ) -> Result<Option<usize>, Memory>
     requires { Indexes (λ s. s.name) table.now sizes.now }
-    ensures { IfOk result (λ k. k ≡ block_at sizes.now declared.now) }
+    ensures { IfOk result (λ k. item_at sizes.now k ≡ size_made sizes.now (Some declared.now)) }
 {
     match declared.part {
         Part::Input => Ok(None),
@@ -99,21 +99,6 @@ fn count_names(
     Ok(count)
 }
 
-// How many inputs a body with these declarations has.
-fn count_inputs(alloc: Global, declared: &[Declared]) -> Result<u32, Memory>
-    ensures { IfOk result (λ n. n ≡ counted_to MOST_FLAT_STATEMENTS (length (inputs declared.now))) }
-{
-    let mut names = Table::new(alloc);
-    let mut count = 0;
-    for i in 0..declared.len() {
-        let one = &declared[i];
-        let again = names.enter(alloc, &one.name, i)?;
-        let more = input_weight(again, one.part);
-        count = sum_to(MOST_FLAT_STATEMENTS, count, more);
-    }
-    Ok(count)
-}
-
 // How many statements stand in the place of a call of an instance of the block at a place, or of another call, and this
 // many before.
 fn count_call(sizes: &[BlockSize], at: Option<usize>, before: u32) -> u32
@@ -132,13 +117,6 @@ fn count_call(sizes: &[BlockSize], at: Option<usize>, before: u32) -> u32
     }
 }
 
-// The declared names of a body, with their table.
-#[derive(Clone, Copy)]
-struct Scope<'a> {
-    declared: &'a [Declared],
-    table: &'a Table,
-}
-
 // The function blocks that stand before a body, by their sizes, with their table.
 #[derive(Clone, Copy)]
 struct Blocks<'a> {
@@ -153,19 +131,12 @@ fn block_called(
     scope: &Scope,
     name: &Name,
 ) -> Result<Option<usize>, Memory>
-    requires blocks { Indexes (λ s. s.name) blocks.now.table.now blocks.now.sizes.now }
-    requires scope { Indexes (λ d. d.name) scope.now.table.now scope.now.declared.now }
-    ensures { IfOk result (λ k. item_at blocks.now.sizes.now k ≡ size_called blocks.now.sizes.now scope.now.declared.now name.now) }
+    requires { Indexes (λ s. s.name) blocks.now.table.now blocks.now.sizes.now }
+    ensures { IfOk result (λ k. item_at blocks.now.sizes.now k ≡ size_made blocks.now.sizes.now (first_declared scope.now name.now)) }
 {
-    match scope.table.place_of(alloc, name)? {
+    match scope.first(alloc, name)? {
         None => Ok(None),
-        Some(k) => {
-            if k < scope.declared.len() {
-                block_at(alloc, blocks.sizes, blocks.table, &scope.declared[k])
-            } else {
-                Ok(None)
-            }
-        }
+        Some(declared) => block_at(alloc, blocks.sizes, blocks.table, declared),
     }
 }
 
@@ -177,9 +148,8 @@ fn count_statement(
     statement: &Statement,
     before: u32,
 ) -> Result<u32, Memory>
-    requires blocks { Indexes (λ s. s.name) blocks.now.table.now blocks.now.sizes.now }
-    requires scope { Indexes (λ d. d.name) scope.now.table.now scope.now.declared.now }
-    ensures { IfOk result (λ n. n ≡ counted_to MOST_FLAT_STATEMENTS (before + statement_weight blocks.now.sizes.now scope.now.declared.now (statement_tree statement.now))) }
+    requires { Indexes (λ s. s.name) blocks.now.table.now blocks.now.sizes.now }
+    ensures { IfOk result (λ n. n ≡ counted_to MOST_FLAT_STATEMENTS (before + statement_weight blocks.now.sizes.now scope.now (statement_tree statement.now))) }
 {
     match statement {
         Statement::Assign(_, _) => Ok(sum_to(MOST_FLAT_STATEMENTS, before, 1)),
@@ -197,9 +167,8 @@ fn count_statements(
     scope: &Scope,
     statements: &[Statement],
 ) -> Result<u32, Memory>
-    requires blocks { Indexes (λ s. s.name) blocks.now.table.now blocks.now.sizes.now }
-    requires scope { Indexes (λ d. d.name) scope.now.table.now scope.now.declared.now }
-    ensures { IfOk result (λ n. n ≡ counted_to MOST_FLAT_STATEMENTS (sum_by (statement_weight blocks.now.sizes.now scope.now.declared.now) (map statement_tree statements.now))) }
+    requires { Indexes (λ s. s.name) blocks.now.table.now blocks.now.sizes.now }
+    ensures { IfOk result (λ n. n ≡ counted_to MOST_FLAT_STATEMENTS (sum_by (statement_weight blocks.now.sizes.now scope.now) (map statement_tree statements.now))) }
 {
     let mut count = 0;
     for statement in statements {
@@ -213,17 +182,13 @@ fn size_of(alloc: Global, blocks: &Blocks, source: &Source) -> Result<BlockSize,
     requires { Indexes (λ s. s.name) blocks.now.table.now blocks.now.sizes.now }
     ensures { IfOk result (λ size. (before : List FlatBlock) → blocks.now.sizes.now ≡ map size_of before → size ≡ size_of (block_flat before source.now)) }
 {
-    let declared = declared_names(alloc, source.sections.as_slice())?;
-    let table = index(alloc, &declared)?;
-    let scope = Scope {
-        declared: &declared,
-        table: &table,
-    };
+    let interface = Interface::of(alloc, source)?;
+    let scope = &interface.scope;
     Ok(BlockSize {
         name: copy_of(alloc, &source.name)?,
-        inputs: count_inputs(alloc, &declared)?,
-        names: count_names(alloc, blocks.sizes, blocks.table, &declared)?,
-        statements: count_statements(alloc, blocks, &scope, source.statements.as_slice())?,
+        inputs: counted_to(MOST_FLAT_STATEMENTS, interface.inputs.len()),
+        names: count_names(alloc, blocks.sizes, blocks.table, scope.as_slice())?,
+        statements: count_statements(alloc, blocks, scope, source.statements.as_slice())?,
     })
 }
 

@@ -13,9 +13,9 @@ use Rattle.ps_names.proofs.NamesAgain.{noted_two}
 use Rattle.ps_derived.specs.declared.declared.Declared.{Declared}
 use Rattle.ps_derived.specs.declared.library.Library.{Library}
 use Rattle.ps_derived.specs.Bodies.{declared_names}
-use Rattle.ps_derived_rules.specs.declared.interface.Interface.{Interface}
-use Rattle.ps_derived_rules.specs.Interfaces.{interface_of}
-use Rattle.ps_derived_rules.specs.BlockRules.{named_wrongly, typed_wrongly, misused, miscalled_by, called_wrongly, too_large, body_breaks, blocks_break, block_names, offences}
+use Rattle.ps_derived.specs.declared.interface.Interface.{Interface}
+use Rattle.ps_derived.specs.Interfaces.{interface_of}
+use Rattle.ps_derived_rules.specs.BlockRules.{named_wrongly, typed_wrongly, misused, miscalled_by, called_wrongly, text_too_large, body_breaks, blocks_break, block_names, block_offences}
 
 -- one more function block at the end
 pub blocks_break_push : (names : List Name) (before : List Interface) (bs : List SourceTree) (b : SourceTree) →
@@ -64,13 +64,13 @@ pub text_noted : (l : Library) (bs : List SourceTree) (before : List Interface) 
     f1 ≡ refused (named_wrongly (block_names bs)) →
     f2 ≡ noted f1 (blocks_break (block_names bs) [] bs) →
     f3 ≡ noted f2 (body_breaks (block_names bs) before Program l.program) →
-    f4 ≡ noted f3 (too_large l) →
-    f4 ≡ refused (offences l)
+    f4 ≡ noted f3 (text_too_large l) →
+    f4 ≡ refused (block_offences l)
 text_noted l bs before f1 f2 f3 f4 same known a b c d =
     let names = named_wrongly (block_names bs) in
     let blocks = blocks_break (block_names bs) [] bs in
     let program = body_breaks (block_names bs) (map interface_of bs) Program l.program in
     let two = noted_two None f1 f2 names blocks a b in
     let three = noted_two None f2 f3 (names ++ blocks) program two (c ∙ ap (λ i. noted f2 (body_breaks (block_names bs) i Program l.program)) known) in
-    noted_two None f3 f4 (names ++ blocks ++ program) (too_large l) three d
-    ∙ ap (λ x. refused (named_wrongly (block_names x) ++ blocks_break (block_names x) [] x ++ body_breaks (block_names x) (map interface_of x) Program l.program ++ too_large l)) same
+    noted_two None f3 f4 (names ++ blocks ++ program) (text_too_large l) three d
+    ∙ ap (λ x. refused (named_wrongly (block_names x) ++ blocks_break (block_names x) [] x ++ body_breaks (block_names x) (map interface_of x) Program l.program ++ text_too_large l)) same

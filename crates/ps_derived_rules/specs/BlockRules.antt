@@ -21,8 +21,8 @@ use Rattle.ps_derived.specs.declared.limits.TheConstants.{MOST_BLOCKS, MOST_FLAT
 use Rattle.ps_derived.specs.Bodies.{same, declared_names}
 use Rattle.ps_derived.specs.Flat.{flat}
 use Rattle.ps_derived.specs.Limits.{name_count}
-use Rattle.ps_derived_rules.specs.declared.interface.Interface.{Interface}
-use Rattle.ps_derived_rules.specs.Interfaces.{interface_of, interface_named, derived_by, derived_of, has_input, has_output}
+use Rattle.ps_derived.specs.declared.interface.Interface.{Interface}
+use Rattle.ps_derived.specs.Interfaces.{interface_of, interface_named, derived_by, derived_of, declares_input, declares_output}
 
 -- ---- B1: a function block has the name of an earlier one, of a kind, SAFEBOOL or BOOL
 
@@ -76,7 +76,7 @@ typed_wrongly heads names before d = unless (fits_in heads names before d) (offe
 -- what is read behind the dot of a name that is an instance of this function block, if it is one, is an output of it
 abbrev pub misread : Name → Option Interface → List Refusal
 misread q None = []
-misread q (Some b) = unless (has_output b q) (offence B3 q.place ∷ [])
+misread q (Some b) = unless (declares_output b q) (offence B3 q.place ∷ [])
 
 -- nothing behind the dot of a derived instance is a target
 abbrev pub misdriven : Name → Option Interface → List Refusal
@@ -95,7 +95,7 @@ misused before ds (strays place) = []
 
 -- an argument whose pin is no input of the function block
 abbrev pub misgiven : Interface → ArgumentTree → List Refusal
-misgiven b a = unless (has_input b a.pin) (offence B3 a.pin.place ∷ [])
+misgiven b a = unless (declares_input b a.pin) (offence B3 a.pin.place ∷ [])
 
 -- some of these inputs is none of these pins
 abbrev pub leaves_out : List Name → List Name → Bool
@@ -128,12 +128,12 @@ called_wrongly before calls declared d =
 -- ---- B4: the text is too large
 
 -- it has at most 64 function blocks, and its flat source at most 4,000 declared names and 20,000 statements
-abbrev pub is_within : Library → Bool
-is_within l = nat_le (length l.blocks) MOST_BLOCKS && (nat_le (name_count (flat l)) MOST_FLAT_NAMES && nat_le (length (flat l).statements) MOST_FLAT_STATEMENTS)
+abbrev pub is_text_within : Library → Bool
+is_text_within l = nat_le (length l.blocks) MOST_BLOCKS && (nat_le (name_count (flat l)) MOST_FLAT_NAMES && nat_le (length (flat l).statements) MOST_FLAT_STATEMENTS)
 
 -- of a text, at the program's name
-abbrev pub too_large : Library → List Refusal
-too_large l = unless (is_within l) (offence B4 l.program.name.place ∷ [])
+abbrev pub text_too_large : Library → List Refusal
+text_too_large l = unless (is_text_within l) (offence B4 l.program.name.place ∷ [])
 
 -- ---- all rules
 
@@ -156,9 +156,9 @@ abbrev pub block_names : List SourceTree → List Name
 block_names blocks = map (λ (b : SourceTree). b.name) blocks
 
 -- every offence of a text against the rules B
-abbrev pub offences : Library → List Refusal
-offences l =
+abbrev pub block_offences : Library → List Refusal
+block_offences l =
     named_wrongly (block_names l.blocks)
     ++ blocks_break (block_names l.blocks) [] l.blocks
     ++ body_breaks (block_names l.blocks) (map interface_of l.blocks) Program l.program
-    ++ too_large l
+    ++ text_too_large l

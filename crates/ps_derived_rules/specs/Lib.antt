@@ -1,5 +1,4 @@
--- What a reader believes: what bodies see of function blocks, and the rules B on them.
-pub mod Interfaces
+-- What a reader believes: the rules B on function blocks.
 pub mod BlockRules
 -- Apparatus: what a tally of names has counted.
 pub mod Tallies

@@ -13,9 +13,9 @@ ghost use Rattle.ps_names.specs.Rules.{repeated};
 ghost use Rattle.ps_names.specs.Tables.{Has};
 ghost use Rattle.ps_derived_rules.specs.BlockRules.{misgiven, leaves_out, miscalled, miscalled_by};
 
-use crate::interface::Interface;
 use crate::uses::Body;
 use ps_base::{Memory, Refusal, Rule};
+use ps_derived::Interface;
 use ps_names::{note_again, note_if};
 use ps_parser::{Argument, Name, Statement};
 use ps_table::Table;
@@ -49,7 +49,7 @@ fn check_inputs(
 {
     let mut found = found;
     for argument in arguments {
-        let is_input = block.has_input(alloc, &argument.pin)?;
+        let is_input = block.declares_input(alloc, &argument.pin)?;
         found = note_if(found, !is_input, Rule::B3, argument.pin.place);
     }
     Ok(found)

@@ -10,11 +10,10 @@ ghost use Rattle.ps_derived.specs.declared.declared.Declared.{Declared};
 ghost use Rattle.ps_derived_rules.specs.BlockRules.{is_once, called_wrongly};
 ghost use Rattle.ps_derived_rules.specs.Tallies.{Counts};
 
-use crate::interface::Interfaces;
 use crate::tally::Tally;
 use crate::uses::Body;
 use ps_base::{Memory, Refusal, Rule};
-use ps_derived::Declared;
+use ps_derived::{Declared, Interfaces};
 use ps_names::note_if;
 use ps_parser::{Name, Statement};
 use std::alloc::Global;

@@ -5,18 +5,16 @@ ghost use Rattle.ps_parser.specs.declared.heads.Heads.TheVariants.{Block};
 ghost use Rattle.ps_parser.specs.declared.name.Name.{Name};
 ghost use Rattle.ps_names.specs.Offences.{noted, refused};
 ghost use Rattle.ps_names.specs.Tables.{Has};
-ghost use Rattle.ps_derived_rules.specs.Interfaces.{interface_of};
-ghost use Rattle.ps_derived_rules.specs.BlockRules.{body_breaks, blocks_break, too_large, offences};
+ghost use Rattle.ps_derived.specs.Interfaces.{interface_of};
+ghost use Rattle.ps_derived_rules.specs.BlockRules.{body_breaks, blocks_break, text_too_large, block_offences};
 
 use crate::calls::check_calls;
 use crate::counts::check_counts;
-use crate::interface::{Interface, Interfaces};
 use crate::naming::check_names;
-use crate::scope::Scope;
 use crate::types::check_types;
 use crate::uses::{Body, check_uses};
 use ps_base::{Memory, Refusal, Rule};
-use ps_derived::{Library, is_within_limits};
+use ps_derived::{Interface, Interfaces, Library, Scope, is_within_limits};
 use ps_names::note_if;
 use ps_parser::{Heads, Source};
 use ps_table::Table;
@@ -71,7 +69,7 @@ fn check_size(
     library: &Library,
     found: Option<Refusal>,
 ) -> Result<Option<Refusal>, Memory>
-    ensures { IfOk result (λ r. r ≡ noted found (too_large library.now)) }
+    ensures { IfOk result (λ r. r ≡ noted found (text_too_large library.now)) }
 {
     let is_within = is_within_limits(alloc, library)?;
     Ok(note_if(found, !is_within, Rule::B4, library.program.name.place))
@@ -92,7 +90,7 @@ fn check_size(
 ///
 /// Names are compared without letter case. Time is linear in the text, however many copies the flat source has.
 pub fn first_offence(alloc: Global, library: &Library) -> Result<Option<Refusal>, Memory>
-    ensures { IfOk result (λ r. r ≡ refused (offences library.now)) }
+    ensures { IfOk result (λ r. r ≡ refused (block_offences library.now)) }
 {
     let (names, named) = check_names(alloc, library.blocks.as_slice())?;
     let (before, blocks) = check_blocks(alloc, &names, library.blocks.as_slice(), named)?;

@@ -7,10 +7,9 @@ ghost use Rattle.ps_names.specs.Offences.{noted};
 ghost use Rattle.ps_names.specs.Tables.{Has};
 ghost use Rattle.ps_derived_rules.specs.BlockRules.{fits_pin, fits_in, typed_wrongly, is_one_of};
 
-use crate::interface::Interfaces;
 use crate::naming::names_signal;
 use ps_base::{Memory, Refusal, Rule};
-use ps_derived::Declared;
+use ps_derived::{Declared, Interfaces};
 use ps_names::note_if;
 use ps_parser::{Heads, Name, Part};
 use ps_table::Table;

@@ -10,9 +10,8 @@ ghost use Rattle.ps_names.specs.Offences.{noted};
 ghost use Rattle.ps_names.specs.Uses.{factor_uses, product_uses, sum_uses, argument_uses, statement_uses, target_use};
 ghost use Rattle.ps_derived_rules.specs.BlockRules.{misread, misdriven, misused};
 
-use crate::interface::{Interface, Interfaces};
-use crate::scope::Scope;
 use ps_base::{Memory, Refusal, Rule};
+use ps_derived::{Interface, Interfaces, Scope};
 use ps_names::{note, note_if};
 use ps_parser::{Argument, Factor, Name, Product, Statement, Sum, Target};
 use std::alloc::Global;
@@ -36,7 +35,7 @@ fn note_read(
     match block {
         None => Ok(found),
         Some(block) => {
-            let is_output = block.has_output(alloc, pin)?;
+            let is_output = block.declares_output(alloc, pin)?;
             Ok(note_if(found, !is_output, Rule::B3, pin.place))
         }
     }

@@ -2,11 +2,11 @@
 
 use ps_base::{Fail, Memory};
 use ps_derived::parse_library;
-use ps_flatten::flatten;
 use ps_lexer::lex;
 use ps_model::App;
 use ps_parser::Source;
 use ps_resolve::resolve;
+use ps_source::flat_source;
 use std::alloc::Global;
 use std::process::Abort;
 
@@ -14,7 +14,7 @@ use std::process::Abort;
 pub fn flat(alloc: Global, text: &str) -> Result<Source, Fail> {
     let tokens = lex(alloc, text.as_bytes())?;
     let library = parse_library(alloc, &tokens)?;
-    flatten(alloc, &library)
+    flat_source(alloc, library)
 }
 
 // The application that stands for a text.

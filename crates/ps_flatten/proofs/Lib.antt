@@ -1,5 +1,4 @@
 pub mod Mapping
-pub mod Lookups
 pub mod Pieces
 pub mod Seen
 pub mod Nesting
@@ -9,4 +8,3 @@ pub mod Making
 pub mod Given
 pub mod Wholes
 pub mod Whole
-pub mod Unbroken

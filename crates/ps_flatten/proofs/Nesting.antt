@@ -6,7 +6,8 @@ use Rattle.ps_parser.specs.declared.statement.Target.{Target}
 use Rattle.ps_parser.specs.declared.statement.Target.TheVariants as target
 use Rattle.ps_parser.specs.Tree.{FactorTree, Signal, Pin, Literal, Time, Group, ProductTree, no_factor, factor, SumTree, no_product, product, ArgumentTree, StatementTree, Assign, Call}
 use Rattle.ps_derived.specs.Bodies.{is_input, is_output, is_local}
-use Rattle.ps_derived.specs.Dotted.{inside, factor_inside, product_inside, sum_inside, target_inside, argument_inside, statement_inside, declaration_inside}
+use Rattle.ps_derived.specs.Renaming.{factor_renamed, product_renamed, sum_renamed, target_renamed, argument_renamed}
+use Rattle.ps_derived.specs.Dotted.{inside, statement_inside, declaration_inside}
 use Rattle.ps_derived.specs.Flat.{FlatBlock, declarations_in, copy_declares}
 use Rattle.ps_flatten.specs.Laying.{copied, copy_declared, copy_stated}
 
@@ -15,26 +16,26 @@ module _ (g h : Name) where
   name_nested n = (λ i. record { text = append_assoc g.text (46 ∷ h.text) (46 ∷ n.text) i; place = n.place })
 
   mutual
-    factor_nested : (f : FactorTree) → factor_inside (inside g h) f ≡ factor_inside g (factor_inside h f)
+    factor_nested : (f : FactorTree) → factor_renamed (inside (inside g h)) f ≡ factor_renamed (inside g) (factor_renamed (inside h) f)
     factor_nested (Signal n) = ap Signal (name_nested n)
     factor_nested (Pin n q) = ap (λ m. Pin m q) (name_nested n)
     factor_nested (Literal b p) = refl
     factor_nested (Time t p) = refl
     factor_nested (Group s) = ap Group (sum_nested s)
 
-    product_nested : (p : ProductTree) → product_inside (inside g h) p ≡ product_inside g (product_inside h p)
+    product_nested : (p : ProductTree) → product_renamed (inside (inside g h)) p ≡ product_renamed (inside g) (product_renamed (inside h) p)
     product_nested no_factor = refl
     product_nested (factor f fs) = (λ i. factor (factor_nested f i) (product_nested fs i))
 
-    sum_nested : (s : SumTree) → sum_inside (inside g h) s ≡ sum_inside g (sum_inside h s)
+    sum_nested : (s : SumTree) → sum_renamed (inside (inside g h)) s ≡ sum_renamed (inside g) (sum_renamed (inside h) s)
     sum_nested no_product = refl
     sum_nested (product p ps) = (λ i. product (product_nested p i) (sum_nested ps i))
 
-  target_nested : (t : Target) → target_inside (inside g h) t ≡ target_inside g (target_inside h t)
+  target_nested : (t : Target) → target_renamed (inside (inside g h)) t ≡ target_renamed (inside g) (target_renamed (inside h) t)
   target_nested (target.Name n) = ap target.Name (name_nested n)
   target_nested (target.Pin n q) = ap (λ m. target.Pin m q) (name_nested n)
 
-  arguments_nested : (args : List ArgumentTree) → map (argument_inside (inside g h)) args ≡ map (argument_inside g) (map (argument_inside h) args)
+  arguments_nested : (args : List ArgumentTree) → map (argument_renamed (inside (inside g h))) args ≡ map (argument_renamed (inside g)) (map (argument_renamed (inside h)) args)
   arguments_nested [] = refl
   arguments_nested (a ∷ args) = (λ i. (record { pin = a.pin; value = sum_nested a.value i }) ∷ arguments_nested args i)
 

@@ -10,7 +10,7 @@ use Rattle.ps_parser.specs.declared.name.Name.{Name}
 use Rattle.ps_derived.specs.Bodies.{same}
 use Rattle.ps_derived.specs.Counting.{item_at}
 use Rattle.ps_derived.specs.Flat.{FlatBlock, block_named}
-use Rattle.ps_derived.proofs.Counts.{found_item}
+use Rattle.ps_derived.proofs.Lookups.{found_item}
 use Rattle.ps_flatten.specs.declared.laid.Laid.{Laid}
 use Rattle.ps_flatten.specs.Laying.{block_seen, seen_after, blocks_seen, KnowsInputs, KnowInputs}
 

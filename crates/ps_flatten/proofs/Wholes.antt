@@ -16,9 +16,12 @@ use Rattle.ps_parser.specs.Names.{IsDottedName, single, joined}
 use Rattle.ps_parser.specs.Whole.{FactorWhole, ProductWhole, MoreFactorsWhole, SumWhole, MoreProductsWhole, TargetWhole, ArgumentWhole, StatementWhole, NamesWhole, DeclarationWhole, SectionWhole, factor_nesting, product_nesting, sum_nesting, arguments_nesting, statement_nesting, statements_nesting, IsSource}
 use Rattle.ps_derived.specs.declared.declared.Declared.{Declared}
 use Rattle.ps_derived.specs.Bodies.{same, is_input, is_output, is_local, is_among, declared_as, declares, section_declares, declared_names, first_declared, inputs_after, inputs}
-use Rattle.ps_derived.specs.Dotted.{inside, factor_inside, product_inside, sum_inside, target_inside, argument_inside, statement_inside, declaration_inside}
-use Rattle.ps_derived.specs.Flat.{FlatBlock, DerivedInstance, block_in, instance_by, instance_if, instance_of, declarations_in, copy_declares, declaration_flat, section_flat, output_spelt, output_read, factor_flat, product_flat, sum_flat, argument_flat, input_assigned, call_flat, statement_flat, block_flat}
-use Rattle.ps_flatten.proofs.Given.{HasArgument, GivesAll, Gives}
+use Rattle.ps_derived.specs.Renaming.{factor_renamed, product_renamed, sum_renamed, target_renamed, argument_renamed, statement_renamed}
+use Rattle.ps_derived.specs.Dotted.{inside, statement_inside, declaration_inside}
+use Rattle.ps_derived.specs.Spelling.{spelling, as_declared, spelt_as_declared}
+use Rattle.ps_derived.specs.Flat.{FlatBlock, DerivedInstance, block_in, instance_by, instance_if, instance_of, declarations_in, copy_declares, declaration_flat, section_flat, output_read, factor_flat, product_flat, sum_flat, argument_flat, input_assigned, call_flat, statement_flat, block_flat}
+use Rattle.ps_derived.specs.Giving.{HasArgument}
+use Rattle.ps_flatten.proofs.Given.{GivesAll, Gives}
 
 -- ---- lists
 
@@ -65,67 +68,70 @@ Named n = IsDottedName n.text
 named_inside : (g n : Name) → Named g → Named n → Named (inside g n)
 named_inside g n h k = dotted_joined g.text n.text h k
 
--- ---- inside an instance
+-- ---- under other names
 
-module _ (g : Name) (named : Named g) where
+module _ (rename : Name → Name) (named : (n : Name) → Named n → Named (rename n)) where
   mutual
-    factor_in : (f : FactorTree) → FactorWhole IsDottedName f → FactorWhole IsDottedName (factor_inside g f)
-    factor_in (Signal n) h = named_inside g n named h
-    factor_in (Pin n q) h = (named_inside g n named h.0, h.1)
+    factor_in : (f : FactorTree) → FactorWhole IsDottedName f → FactorWhole IsDottedName (factor_renamed rename f)
+    factor_in (Signal n) h = named n h
+    factor_in (Pin n q) h = (named n h.0, h.1)
     factor_in (Literal b p) h = tt
     factor_in (Time t p) h = h
     factor_in (Group s) h = sum_in s h
 
-    product_in : (p : ProductTree) → ProductWhole IsDottedName p → ProductWhole IsDottedName (product_inside g p)
+    product_in : (p : ProductTree) → ProductWhole IsDottedName p → ProductWhole IsDottedName (product_renamed rename p)
     product_in no_factor h = h
     product_in (factor f fs) h = (factor_in f h.0, factors_in fs h.1)
 
-    factors_in : (p : ProductTree) → MoreFactorsWhole IsDottedName p → MoreFactorsWhole IsDottedName (product_inside g p)
+    factors_in : (p : ProductTree) → MoreFactorsWhole IsDottedName p → MoreFactorsWhole IsDottedName (product_renamed rename p)
     factors_in no_factor h = tt
     factors_in (factor f fs) h = (factor_in f h.0, factors_in fs h.1)
 
-    sum_in : (s : SumTree) → SumWhole IsDottedName s → SumWhole IsDottedName (sum_inside g s)
+    sum_in : (s : SumTree) → SumWhole IsDottedName s → SumWhole IsDottedName (sum_renamed rename s)
     sum_in no_product h = h
     sum_in (product p ps) h = (product_in p h.0, products_in ps h.1)
 
-    products_in : (s : SumTree) → MoreProductsWhole IsDottedName s → MoreProductsWhole IsDottedName (sum_inside g s)
+    products_in : (s : SumTree) → MoreProductsWhole IsDottedName s → MoreProductsWhole IsDottedName (sum_renamed rename s)
     products_in no_product h = tt
     products_in (product p ps) h = (product_in p h.0, products_in ps h.1)
 
   mutual
-    factor_deep : (f : FactorTree) → factor_nesting (factor_inside g f) ≡ factor_nesting f
+    factor_deep : (f : FactorTree) → factor_nesting (factor_renamed rename f) ≡ factor_nesting f
     factor_deep (Signal n) = refl
     factor_deep (Pin n q) = refl
     factor_deep (Literal b p) = refl
     factor_deep (Time t p) = refl
     factor_deep (Group s) = ap suc (sum_deep s)
 
-    product_deep : (p : ProductTree) → product_nesting (product_inside g p) ≡ product_nesting p
+    product_deep : (p : ProductTree) → product_nesting (product_renamed rename p) ≡ product_nesting p
     product_deep no_factor = refl
     product_deep (factor f fs) = (λ i. max (factor_deep f i) (product_deep fs i))
 
-    sum_deep : (s : SumTree) → sum_nesting (sum_inside g s) ≡ sum_nesting s
+    sum_deep : (s : SumTree) → sum_nesting (sum_renamed rename s) ≡ sum_nesting s
     sum_deep no_product = refl
     sum_deep (product p ps) = (λ i. max (product_deep p i) (sum_deep ps i))
 
-  arguments_deep : (args : List ArgumentTree) → arguments_nesting (map (argument_inside g) args) ≡ arguments_nesting args
+  arguments_deep : (args : List ArgumentTree) → arguments_nesting (map (argument_renamed rename) args) ≡ arguments_nesting args
   arguments_deep [] = refl
   arguments_deep (a ∷ args) = (λ i. max (sum_deep a.value i) (arguments_deep args i))
 
-  target_in : (t : Target) → TargetWhole IsDottedName t → TargetWhole IsDottedName (target_inside g t)
-  target_in (target.Name n) h = named_inside g n named h
-  target_in (target.Pin n q) h = (named_inside g n named h.0, h.1)
+  target_in : (t : Target) → TargetWhole IsDottedName t → TargetWhole IsDottedName (target_renamed rename t)
+  target_in (target.Name n) h = named n h
+  target_in (target.Pin n q) h = (named n h.0, h.1)
 
 -- a statement is whole, and nested no deeper than a source may be
 abbrev pub Fine : StatementTree → Type 0
 Fine s = StatementWhole IsDottedName s × (statement_nesting s ≤ MOST_GROUPS)
 
-fine_inside : (g : Name) → Named g → (s : StatementTree) → Fine s → Fine (statement_inside g s)
-fine_inside g named (Assign t s) h = ((target_in g named t h.0.0, sum_in g named s h.0.1), subst (λ n. n ≤ MOST_GROUPS) (sym (sum_deep g named s)) h.1)
-fine_inside g named (Call n args) h = (
-  (named_inside g n named h.0.0, all_map (ArgumentWhole IsDottedName) (ArgumentWhole IsDottedName) (argument_inside g) args (λ a w. (w.0, sum_in g named a.value w.1)) h.0.1),
-  subst (λ n. n ≤ MOST_GROUPS) (sym (arguments_deep g named args)) h.1,
+fine_renamed : (rename : Name → Name) → ((n : Name) → Named n → Named (rename n)) → (s : StatementTree) → Fine s → Fine (statement_renamed rename s)
+fine_renamed rename named (Assign t s) h = ((target_in rename named t h.0.0, sum_in rename named s h.0.1), subst (λ n. n ≤ MOST_GROUPS) (sym (sum_deep rename named s)) h.1)
+fine_renamed rename named (Call n args) h = (
+  (named n h.0.0, all_map (ArgumentWhole IsDottedName) (ArgumentWhole IsDottedName) (argument_renamed rename) args (λ a w. (w.0, sum_in rename named a.value w.1)) h.0.1),
+  subst (λ n. n ≤ MOST_GROUPS) (sym (arguments_deep rename named args)) h.1,
 )
+
+fine_inside : (g : Name) → Named g → (s : StatementTree) → Fine s → Fine (statement_inside g s)
+fine_inside g named = fine_renamed (inside g) (λ n. named_inside g n named)
 
 names_inside : (g : Name) → Named g → (ns : List Name) → NamesWhole IsDottedName ns → NamesWhole IsDottedName (map (inside g) ns)
 names_inside g named [] h = h
@@ -150,6 +156,37 @@ declared_named ss h =
     (λ s w. all_flat (DeclarationWhole IsDottedName) DeclaredNamed (declares s.part) s.declarations
     (λ d v. all_map Named DeclaredNamed (declared_as s.part d.ty) d.names (λ n x. x) (all_names d.names v.0)) w)
     h
+
+-- a name is dotted, however it is spelt
+spelt_named : (q : Name) (o : Option Declared) → Named q → Keeps DeclaredNamed o → IsDottedName (spelling q o)
+spelt_named q None h k = h
+spelt_named q (Some d) h k = k
+
+fine_of : (ss : List StatementTree) → AllByRecursion (StatementWhole IsDottedName) ss → statements_nesting ss ≤ MOST_GROUPS → AllByRecursion Fine ss
+fine_of [] h le = tt
+fine_of (s ∷ ss) h le = ((h.0, grind arith), fine_of ss h.1 (grind arith))
+
+fine_whole : (ss : List StatementTree) → AllByRecursion Fine ss → AllByRecursion (StatementWhole IsDottedName) ss
+fine_whole [] h = tt
+fine_whole (s ∷ ss) h = (h.0.0, fine_whole ss h.1)
+
+max_within : (a b n : ℕ) → a ≤ n → b ≤ n → max a b ≤ n
+max_within a b n h k = grind arith
+
+fine_shallow : (ss : List StatementTree) → AllByRecursion Fine ss → statements_nesting ss ≤ MOST_GROUPS
+fine_shallow [] h = omega arith
+fine_shallow (s ∷ ss) h = max_within (statement_nesting s) (statements_nesting ss) MOST_GROUPS h.0.1 (fine_shallow ss h.1)
+
+-- a whole source is whole with its names spelt as they are declared
+pub spelt_source : (s : SourceTree) → IsSource s → IsSource (spelt_as_declared s)
+spelt_source s h =
+    let ds = declared_names s.sections in
+    let named = declared_named s.sections h.whole.1 in
+    let spelt = statement_renamed (as_declared ds) in
+    let fine = all_map Fine Fine spelt s.statements
+    (fine_renamed (as_declared ds) (λ n k. spelt_named n (first_declared ds n) k (found DeclaredNamed (λ d. same n d.name) ds named)))
+    (fine_of s.statements h.whole.2 h.shallow) in
+    record { whole = (h.whole.0, h.whole.1, fine_whole (map spelt s.statements) fine); shallow = fine_shallow (map spelt s.statements) fine }
 
 inputs_named : (before : List Name) (ds : List Declared) → AllByRecursion DeclaredNamed ds → AllByRecursion Named (inputs_after before ds)
 inputs_named before [] h = tt
@@ -214,14 +251,10 @@ module _ (bs : List FlatBlock) (fine : AllByRecursion BlockFine bs) where
   if_fine None h = tt
   if_fine (Some d) h = made_fine d (block_in bs d.part d.ty) h (block_fine d.part d.ty)
 
-  spelt_named : (q : Name) (o : Option Declared) → Named q → Keeps DeclaredNamed o → IsDottedName (output_spelt q o)
-  spelt_named q None h k = h
-  spelt_named q (Some d) h k = k
-
   read_whole : (n q : Name) (o : Option DerivedInstance) → Named n → Named q → Keeps InstanceFine o → FactorWhole IsDottedName (output_read n q o)
   read_whole n q None h k i = (h, k)
   read_whole n q (Some i) h k w =
-      dotted_joined i.name.text (output_spelt q (first_declared i.block.declared q)) w.0
+      dotted_joined i.name.text (spelling q (first_declared i.block.declared q)) w.0
       (spelt_named q (first_declared i.block.declared q) k (found DeclaredNamed (λ d. same q d.name) i.block.declared w.1.declared))
 
   read_deep : (n q : Name) (o : Option DerivedInstance) → factor_nesting (output_read n q o) ≡ 0
@@ -310,10 +343,6 @@ module _ (bs : List FlatBlock) (fine : AllByRecursion BlockFine bs) where
 
   -- ---- bodies
 
-  fine_of : (ss : List StatementTree) → AllByRecursion (StatementWhole IsDottedName) ss → statements_nesting ss ≤ MOST_GROUPS → AllByRecursion Fine ss
-  fine_of [] h le = tt
-  fine_of (s ∷ ss) h le = ((h.0, grind arith), fine_of ss h.1 (grind arith))
-
   pub body_fine : (s : SourceTree) → IsSource s → AllByRecursion (Gives bs (declared_names s.sections)) s.statements → BlockFine (block_flat bs s)
   body_fine s h given =
       let ds = declared_names s.sections in
@@ -324,17 +353,6 @@ module _ (bs : List FlatBlock) (fine : AllByRecursion BlockFine bs) where
         statements = all_flat (λ x. Fine x × Gives bs ds x) Fine (statement_flat bs ds) s.statements (λ x w. statement_fine ds named x w.0 w.1)
             (both Fine (Gives bs ds) s.statements (fine_of s.statements h.whole.2 h.shallow) given);
       }
-
-fine_whole : (ss : List StatementTree) → AllByRecursion Fine ss → AllByRecursion (StatementWhole IsDottedName) ss
-fine_whole [] h = tt
-fine_whole (s ∷ ss) h = (h.0.0, fine_whole ss h.1)
-
-max_within : (a b n : ℕ) → a ≤ n → b ≤ n → max a b ≤ n
-max_within a b n h k = grind arith
-
-fine_shallow : (ss : List StatementTree) → AllByRecursion Fine ss → statements_nesting ss ≤ MOST_GROUPS
-fine_shallow [] h = omega arith
-fine_shallow (s ∷ ss) h = max_within (statement_nesting s) (statements_nesting ss) MOST_GROUPS h.0.1 (fine_shallow ss h.1)
 
 -- a whole source without derived instances
 pub fine_source : (b : FlatBlock) → BlockFine b → Named b.flat.name → IsSource b.flat

@@ -10,15 +10,23 @@ use Rattle.ps_parser.specs.declared.section.Declaration.{Declaration}
 use Rattle.ps_parser.specs.StatementView.{statement_tree}
 use Rattle.ps_parser.specs.Tree.{StatementTree}
 use Rattle.ps_derived.specs.Bodies.{is_input, is_output, is_local, inputs}
-use Rattle.ps_derived.specs.Dotted.{statement_inside}
+use Rattle.ps_derived.specs.Dotted.{inside, statement_inside}
+use Rattle.ps_derived.specs.Spelling.{as_declared}
 use Rattle.ps_derived.specs.Flat.{FlatBlock, DerivedInstance, declarations_in, copy_declares}
 use Rattle.ps_flatten.specs.declared.laid.DeclarationPiece.{DeclarationPiece}
 use Rattle.ps_flatten.specs.declared.laid.DeclarationPiece.TheVariants as declaration
 use Rattle.ps_flatten.specs.declared.laid.StatementPiece.{StatementPiece}
 use Rattle.ps_flatten.specs.declared.laid.StatementPiece.TheVariants as statement
+use Rattle.ps_flatten.specs.declared.renaming.Renaming.{Renaming}
+use Rattle.ps_flatten.specs.declared.renaming.Renaming.TheVariants.{Inside, AsDeclared}
 use Rattle.ps_flatten.specs.declared.laid.Laid.{Laid}
 use Rattle.ps_flatten.specs.declared.laid.Kept.{Kept}
 use Rattle.ps_flatten.specs.declared.laid.Instance.{Instance}
+
+-- what a name becomes
+abbrev pub renamed : Renaming → Name → Name
+renamed (Inside g) = inside g.now
+renamed (AsDeclared scope) = as_declared scope.now
 
 -- declarations in the order in which a copy has them: those of inputs, of outputs, and the block's own
 abbrev pub copied : List Section → List Declaration

@@ -1,4 +1,2 @@
--- What a reader believes: what `flatten` answers.
-pub mod Flattening
 -- Apparatus: function blocks that are laid flat, as the program keeps them.
 pub mod Laying

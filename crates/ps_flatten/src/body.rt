@@ -2,22 +2,24 @@
 
 ghost use Rattle.std.specs.Prelude.{◌≡◌, [], IfOk, map};
 ghost use Rattle.ps_derived.specs.Bodies.{declared_names};
+ghost use Rattle.ps_derived.specs.Spelling.{spelt_as_declared};
 ghost use Rattle.ps_derived.specs.Flat.{body_flat, block_flat, blocks_flat, section_flat};
 ghost use Rattle.ps_flatten.specs.Laying.{AreLaid, IsLaid, KnowsInputs, block_seen, blocks_seen};
 
 use crate::copies::{declared, stated};
 use crate::declarations::{add_section, declaration_pieces};
 use crate::laid::{Body, Laid, Laids};
+use crate::renaming::statements_as_declared;
 use crate::statements::statement_pieces;
 use ps_base::Memory;
-use ps_derived_rules::{Interface, Scope};
+use ps_derived::{Interface, Scope};
 use ps_parser::{Section, Sections, Source, Statements};
 use std::alloc::Global;
 
-// A function block that is laid flat, where these stand before it.
+// A function block that is laid flat with its names spelt as it declares them, where these stand before it.
 fn lay_block(alloc: Global, blocks: &Laids, source: &Source) -> Result<Laid, Memory>
     ensures inputs { IfOk result KnowsInputs }
-    ensures laid { IfOk result (λ l. IsLaid (block_seen (blocks_seen blocks.now) l) (block_flat (blocks_seen blocks.now) source.now)) }
+    ensures laid { IfOk result (λ l. IsLaid (block_seen (blocks_seen blocks.now) l) (block_flat (blocks_seen blocks.now) (spelt_as_declared source.now))) }
 {
     let interface = Interface::of(alloc, source)?;
     let body = Body {
@@ -25,7 +27,8 @@ fn lay_block(alloc: Global, blocks: &Laids, source: &Source) -> Result<Laid, Mem
         blocks,
     };
     let declarations = declaration_pieces(alloc, blocks, source.sections.as_slice())?;
-    let statements = statement_pieces(alloc, &body, source.statements.as_slice())?;
+    let spelt = statements_as_declared(alloc, &interface.scope, source.statements.as_slice())?;
+    let statements = statement_pieces(alloc, &body, spelt.as_slice())?;
     Ok(Laid {
         interface,
         declarations,
@@ -33,9 +36,10 @@ fn lay_block(alloc: Global, blocks: &Laids, source: &Source) -> Result<Laid, Mem
     })
 }
 
-/// These function blocks laid flat, each over those that stand before it. Time and memory are linear in the text.
+/// These function blocks laid flat with their names spelt as they declare them, each over those that stand before it. Time
+/// and memory are linear in the text.
 pub fn lay_blocks(alloc: Global, sources: &[Source]) -> Result<Laids, Memory>
-    ensures { IfOk result (λ laid. AreLaid (blocks_seen laid) (blocks_flat [] sources.now)) }
+    ensures { IfOk result (λ laid. AreLaid (blocks_seen laid) (blocks_flat [] (map spelt_as_declared sources.now))) }
 {
     let mut blocks = Laids::new(alloc);
     for i in 0..sources.len() {

@@ -5,8 +5,9 @@ ghost use Rattle.std.specs.List.{flat_map};
 ghost use Rattle.ps_derived.specs.Dotted.{declaration_inside, statement_inside};
 ghost use Rattle.ps_flatten.specs.Laying.{blocks_seen, declares, states};
 
-use crate::inside::{declaration_inside, inside, statement_inside};
+use crate::inside::{declaration_inside, inside};
 use crate::laid::{DeclarationPiece, Laids, StatementPiece};
+use crate::renaming::statement_inside;
 use ps_base::Memory;
 use ps_parser::{Declarations, Name, Statements};
 use std::alloc::Global;

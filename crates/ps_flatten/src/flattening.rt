@@ -4,13 +4,11 @@ ghost use Rattle.std.specs.Prelude.{◌≡◌, [], IfOk};
 ghost use Rattle.std.specs.List.{AllByRecursion};
 ghost use Rattle.ps_parser.specs.Whole.{IsSource};
 ghost use Rattle.ps_derived.specs.Flat.{flat};
-ghost use Rattle.ps_derived_rules.specs.BlockRules.{offences};
-ghost use Rattle.ps_flatten.specs.Flattening.{Flattens};
+ghost use Rattle.ps_derived.specs.Giving.{EachCallGives};
 
 use crate::body::{lay_blocks, sections_flat, statements_flat};
-use ps_base::{Fail, Memory};
+use ps_base::Memory;
 use ps_derived::{Library, copy_of};
-use ps_derived_rules::first_offence;
 use ps_parser::Source;
 use std::alloc::Global;
 
@@ -23,9 +21,9 @@ fn all_kept(sources: &[Source])
     }
 }
 
-// The flat source of a text that breaks no rule B.
+// The flat source of a text each of whose calls of derived instances has an argument for each input.
 fn build(alloc: Global, library: &Library) -> Result<Source, Memory>
-    requires { offences library.now ≡ [] }
+    requires { EachCallGives library.now }
     ensures { IfOk result (λ s. s ≡ flat library.now) }
 {
     all_kept(library.blocks.as_slice());
@@ -42,17 +40,18 @@ fn build(alloc: Global, library: &Library) -> Result<Source, Memory>
 }
 
 /// The flat source of a text with function blocks: its program, in which copies stand in the place of derived instances.
+/// A program without function blocks is its own flat source, and is handed on as it is.
 ///
-/// It is Ok exactly where none of the rules B1 to B5 refuses the text, as `first_offence` says. Otherwise the answer is
-/// the lowest rule that does, at the earliest of its places. A program without function blocks is its own flat source.
+/// A call that leaves an input of a derived instance out has no copy; rule B3 refuses such a text.
 ///
 /// Time and memory are in proportion to the text and to the flat source: function blocks are not copied into one another, and each
 /// copy is written once, into the flat source.
-pub fn flatten(alloc: Global, library: &Library) -> Result<Source, Fail>
-    ensures { Flattens library.now result }
+pub fn flatten(alloc: Global, library: Library) -> Result<Source, Memory>
+    requires { EachCallGives library }
+    ensures flattens { IfOk result (λ s. s ≡ flat library) }
 {
-    match first_offence(alloc, library)? {
-        Some(refusal) => Err(Fail::Refused(refusal)),
-        None => Ok(build(alloc, library)?),
+    if library.blocks.len() == 0 {
+        return Ok(library.into_program());
     }
+    build(alloc, &library)
 }

@@ -7,7 +7,7 @@ ghost use Rattle.ps_derived.specs.Flat.{block_named, instance_of};
 ghost use Rattle.ps_flatten.specs.Laying.{block_seen, blocks_seen, kept_seen, instance_seen, IsKept};
 
 use ps_base::Memory;
-use ps_derived_rules::{Interface, Scope};
+use ps_derived::{Interface, Scope};
 use ps_parser::{Declaration, Name, Part, Statement};
 use ps_table::Table;
 use std::alloc::Global;

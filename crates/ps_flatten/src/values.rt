@@ -5,7 +5,8 @@ ghost use Rattle.std.specs.Option.{option_copied};
 ghost use Rattle.ps_parser.specs.SumView.{factor_tree, product_tree, sum_tree};
 ghost use Rattle.ps_parser.specs.ArgumentView.{argument_tree};
 ghost use Rattle.ps_derived.specs.Bodies.{first_declared};
-ghost use Rattle.ps_derived.specs.Flat.{instance_of, output_spelt, output_read, factor_flat, product_flat, sum_flat, argument_flat};
+ghost use Rattle.ps_derived.specs.Spelling.{spelling};
+ghost use Rattle.ps_derived.specs.Flat.{instance_of, output_read, factor_flat, product_flat, sum_flat, argument_flat};
 ghost use Rattle.ps_flatten.specs.Laying.{blocks_seen, instance_seen};
 
 use crate::inside::dotted;
@@ -17,7 +18,7 @@ use std::alloc::Global;
 
 // The text of an output of a derived instance, spelt as both are declared.
 fn output_text(alloc: Global, instance: &Instance, pin: &Name) -> Result<Bytes, Memory>
-    ensures { IfOk result (λ t. t ≡ instance.now.name.now.text ++ 46 ∷ output_spelt pin.now (first_declared instance.now.block.laid.now.interface.scope pin.now)) }
+    ensures { IfOk result (λ t. t ≡ instance.now.name.now.text ++ 46 ∷ spelling pin.now (first_declared instance.now.block.laid.now.interface.scope pin.now)) }
 {
     match instance.block.laid.interface.scope.first(alloc, pin)? {
         None => dotted(alloc, &instance.name.text, &pin.text),

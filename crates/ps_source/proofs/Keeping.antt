@@ -11,6 +11,7 @@ use Rattle.ps_parser.specs.Names.{IsPlainName, IsDottedName, single}
 use Rattle.ps_parser.specs.Parsing.{IsSourceWithin}
 use Rattle.ps_parser.specs.Tree.{FactorTree, Signal, Pin, Literal, Time, Group, ProductTree, no_factor, factor, SumTree, no_product, product, ArgumentTree, StatementTree, Assign, Call, SourceTree}
 use Rattle.ps_parser.specs.Whole.{FactorWhole, ProductWhole, MoreFactorsWhole, SumWhole, MoreProductsWhole, TargetWhole, ArgumentWhole, StatementWhole, NamesWhole, DeclarationWhole, SectionWhole, IsSource}
+use Rattle.ps_derived_rules.proofs.Giving.{each_call_gives}
 use Rattle.ps_flatten.proofs.Whole.{flat_whole}
 use Rattle.ps_names.proofs.Whole.{network_is_sound}
 use Rattle.ps_model.specs.Network.{Network}
@@ -89,7 +90,7 @@ program_kept s p h =
     let l = h.library in
     let within = h.text.spelt.within in
     subst IsSource (sym h.is)
-    (flat_whole l h.unbroken (all_dotted (IsSourceWithin MOST_GROUPS) IsSource l.blocks source_kept within.blocks) (source_kept l.program within.program))
+    (flat_whole l (each_call_gives l h.unbroken) (all_dotted (IsSourceWithin MOST_GROUPS) IsSource l.blocks source_kept within.blocks) (source_kept l.program within.program))
 
 -- what stands for a text keeps the whole invariant
 pub resolved_sound : (s : List ℕ) (net : Network) → Resolves s net → IsSound net

@@ -1,3 +1,4 @@
+pub mod Unbroken
 pub mod Sourced
 pub mod Keeping
 pub mod Placing

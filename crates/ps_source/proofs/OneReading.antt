@@ -13,7 +13,7 @@ use Rattle.ps_derived.specs.declared.library.Library.{Library}
 use Rattle.ps_derived.specs.Flat.{flat}
 use Rattle.ps_derived.specs.Texts.{libraries}
 use Rattle.ps_derived.proofs.Fronts.{one_spelling}
-use Rattle.ps_derived_rules.specs.BlockRules.{offences as block_offences}
+use Rattle.ps_derived_rules.specs.BlockRules.{block_offences}
 use Rattle.ps_names.specs.Offences.{refused}
 use Rattle.ps_names.specs.Rules.{offences}
 use Rattle.ps_names.specs.Stands.{network}

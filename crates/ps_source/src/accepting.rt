@@ -11,11 +11,11 @@ ghost use Rattle.ps_parser.specs.Places.{step_place};
 ghost use Rattle.ps_source.specs.Source.{pin_name};
 ghost use Rattle.ps_source.specs.Answering.{IsResolution, IsChecked, IsSourcedAcceptance, app_of, certificate_of, checked_of};
 
+use crate::flattening::flat_source;
 use ps_base::{Bytes, Fail, Memory, Place, Refusal};
 use ps_checker::laws::derived_passes;
 use ps_checker::{Checked, check};
 use ps_derived::parse_library;
-use ps_flatten::flatten;
 use ps_flow::{Certificate, FlowFail, FlowRefusal, derive, write_certificate};
 use ps_lexer::lex;
 use ps_model::{App, Step, pin_name};
@@ -69,7 +69,7 @@ pub(crate) fn resolve_source(alloc: Global, text: &[u8]) -> Result<(Source, App)
 {
     let tokens = lex(alloc, text)?;
     let library = parse_library(alloc, &tokens)?;
-    let source = flatten(alloc, &library)?;
+    let source = flat_source(alloc, library)?;
     let app = resolve(alloc, &source)?;
     Ok((source, app))
 }

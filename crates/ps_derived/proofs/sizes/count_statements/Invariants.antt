@@ -7,4 +7,4 @@ use Rattle.ps_derived.specs.Counting.{statement_weight}
 use Rattle.ps_derived.proofs.sizes.count_statements.Given as goal
 
 abbrev pub invariant-loop-statement : goal.invariant-loop-statement
-invariant-loop-statement l = l.count ≡ counted_to MOST_FLAT_STATEMENTS (sum_by (statement_weight l.blocks.sizes.now l.scope.declared.now) (map statement_tree (take l.statement-index l.statements)))
+invariant-loop-statement l = l.count ≡ counted_to MOST_FLAT_STATEMENTS (sum_by (statement_weight l.blocks.sizes.now l.scope) (map statement_tree (take l.statement-index l.statements)))

@@ -3,7 +3,7 @@ use Rattle.std.proofs.lemmas.List.{map_more, take_more}
 use Rattle.ps_parser.specs.declared.heads.Heads.TheVariants.{Block}
 use Rattle.ps_names.specs.Offences.{noted}
 use Rattle.ps_names.proofs.NamesAgain.{noted_two}
-use Rattle.ps_derived_rules.specs.Interfaces.{interface_of}
+use Rattle.ps_derived.specs.Interfaces.{interface_of}
 use Rattle.ps_derived_rules.specs.BlockRules.{body_breaks, blocks_break}
 use Rattle.ps_derived_rules.proofs.Breaking.{blocks_break_push}
 use Rattle.ps_derived_rules.proofs.rules.check_blocks.Goals as goal

@@ -2,7 +2,7 @@ use Rattle.std.proofs.Common.{◌≡◌, map, take, [], List}
 use Rattle.ps_parser.specs.declared.name.Name.{Name}
 use Rattle.ps_names.specs.Offences.{noted}
 use Rattle.ps_names.specs.Tables.{Has}
-use Rattle.ps_derived_rules.specs.Interfaces.{interface_of}
+use Rattle.ps_derived.specs.Interfaces.{interface_of}
 use Rattle.ps_derived_rules.specs.BlockRules.{blocks_break}
 use Rattle.ps_derived_rules.proofs.rules.check_blocks.Given as goal
 

@@ -1,6 +1,6 @@
 use Rattle.std.proofs.Common.{[], map, ap, ◌∙◌, sym}
 use Rattle.ps_names.specs.Offences.{noted}
-use Rattle.ps_derived_rules.specs.Interfaces.{interface_of}
+use Rattle.ps_derived.specs.Interfaces.{interface_of}
 use Rattle.ps_derived_rules.specs.BlockRules.{block_names, blocks_break}
 use Rattle.ps_derived_rules.proofs.Breaking.{ok_then, text_noted}
 use Rattle.ps_derived_rules.proofs.rules.first_offence.Goals as goal

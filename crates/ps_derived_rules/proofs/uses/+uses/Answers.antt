@@ -1,7 +1,7 @@
 use Rattle.std.proofs.Common.{map, ap, ◌∙◌, sym, arith}
 use Rattle.std.specs.List.{flat_map}
 use Rattle.std.proofs.lemmas.List.{take_all}
-use Rattle.ps_derived_rules.proofs.Trees.{product_tree-items, sum_tree-items}
+use Rattle.ps_derived.proofs.Trees.{product_tree-items, sum_tree-items}
 use Rattle.ps_derived_rules.proofs.Walks.{factors_break, products_break}
 use Rattle.ps_derived_rules.proofs.uses.+uses.Goals as goal
 use Rattle.ps_names.specs.Offences.{noted}

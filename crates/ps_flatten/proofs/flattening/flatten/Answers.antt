@@ -1,9 +1,15 @@
-use Rattle.std.proofs.Common.{sym, ◌∙◌}
-use Rattle.ps_flatten.proofs.Unbroken.{none_refused}
+use Rattle.std.proofs.Common.{◌≡◌, ℕ, List, [], ◌∷◌, length, refl, sym, ap, ◌∙◌, arith}
+use Rattle.ps_parser.specs.Tree.{SourceTree}
+use Rattle.ps_derived.specs.Flat.{flat}
+use Rattle.ps_derived.proofs.Alone.{own_flat_source}
 use Rattle.ps_flatten.proofs.flattening.flatten.Goals as goal
 
-pub build-requires : goal.build-requires
-build-requires c = none_refused c.args.library.now (sym c.in-None.is ∙ c.in_ok-refusal.ensures)
+none_there : (bs : List SourceTree) (n : ℕ) → n ≡ length bs → n ≡ 0 → bs ≡ []
+none_there [] n long none_ = refl
+none_there (b ∷ bs) n long none_ = absurd (omega (arith, long, none_))
 
-pub returns-in_ok-build-in-None : goal.returns-in_ok-build-in-None
-returns-in_ok-build-in-None c = record { unbroken = none_refused c.args.library.now (sym c.in-None.is ∙ c.in_ok-refusal.ensures); is = c.in_ok-build-in-None.ensures }
+pub returns-then-len-eq0 : goal.returns-then-len-eq0
+returns-then-len-eq0 c =
+    let l = c.args.library in
+    let alone : l.blocks ≡ [] = none_there l.blocks c.len.result c.len.ensures c.if-len-eq0.true in
+    record { flattens = c.into_program.ensures ∙ sym (own_flat_source l.program) ∙ ap (λ bs. flat (record { blocks = bs; program = l.program })) (sym alone) }

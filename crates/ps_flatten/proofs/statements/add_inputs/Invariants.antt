@@ -1,10 +1,10 @@
 use Rattle.std.proofs.Common.{◌≡◌, ◌++◌, map, take}
 use Rattle.std.specs.List.{flat_map, find}
 use Rattle.ps_flatten.specs.Laying.{blocks_seen, states}
+use Rattle.ps_derived.specs.Bodies.{same}
 use Rattle.ps_derived.specs.Flat.{input_assigned}
 use Rattle.ps_derived.specs.Dotted.{inside}
 use Rattle.ps_parser.specs.ArgumentView.{argument_tree}
-use Rattle.ps_derived.specs.Bodies.{same}
 use Rattle.ps_flatten.proofs.statements.add_inputs.Given as goal
 
 abbrev pub invariant-loop-input : goal.invariant-loop-input

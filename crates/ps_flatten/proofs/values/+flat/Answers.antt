@@ -4,7 +4,7 @@ use Rattle.ps_parser.specs.SumView.{factor_tree, product_tree}
 use Rattle.ps_parser.specs.Tree.{product_of, sum_of}
 use Rattle.ps_parser.proofs.Views.{product_tree-roll, sum_tree-roll}
 use Rattle.ps_derived.specs.Flat.{factor_flat, product_flat, sum_flat}
-use Rattle.ps_derived_rules.proofs.Trees.{product_tree-items, sum_tree-items}
+use Rattle.ps_derived.proofs.Trees.{product_tree-items, sum_tree-items}
 use Rattle.ps_flatten.specs.Laying.{blocks_seen}
 use Rattle.ps_flatten.proofs.Mapping.{product_made, sum_made}
 use Rattle.ps_flatten.proofs.values.+flat.Goals as goal

@@ -5,9 +5,15 @@ python3 generate.py FOLDER writes into FOLDER
   motor-32.trace       32 MiB of scans of it, motor-64.trace 64 MiB, and motor-2k.trace and motor-4k.trace so many thousand scans
   limits-half.st       an application of half the size of limits.st
   limits.st            1 MiB of text, 512 inputs, 512 outputs, 400 instances, 4,000 signals, 20,000 nodes
+  wide.st              2,400 signals that are assigned, each of which demands 980 names; wide-signals.st has half as many signals, and
+                       wide-parts.st half as many names
+  wide-groups.st       the same where they demand 490 pairs joined by OR; wide-groups-half.st has half as many signals
 """
 import os
 import sys
+
+sys.path.append(os.path.join(os.path.dirname(os.path.abspath(__file__)), "..", "tools"))
+from plainly import plainly
 
 MOTOR = """PROGRAM M
 VAR_INPUT
@@ -74,6 +80,25 @@ def write_limits(path, inputs, outputs, instances, locals_, nodes, size):
         out.write(text + "//" + "-" * (fill - 3) + "\n")
 
 
+def write_wide(path, outputs, parts, width):
+    """An application with five signals for each output, each the AND of the one before and an input. The first signal of each five
+    reads a signal that demands so many parts: names, or, where the width is 2, pairs of names joined by OR."""
+    inputs = [f"S_i{k:03d}" for k in range(512)]
+    chains = [[*(f"x{k:03d}_{j}" for j in range(4)), f"S_o{k:03d}"] for k in range(outputs)]
+    # the inputs, and signals that are read before they are assigned
+    names = [*inputs, *(chain[j] for j in range(4) for chain in chains)]
+    groups = [" OR ".join(names[k * width : (k + 1) * width]) for k in range(parts)]
+    lines = ["PROGRAM Wide", "VAR_INPUT", *(f"  {name} : SAFEBOOL;" for name in inputs), "END_VAR", "VAR_OUTPUT"]
+    lines += [*(f"  {chain[-1]} : SAFEBOOL;" for chain in chains), "END_VAR", "VAR", "  all : SAFEBOOL;"]
+    lines += [*(f"  {name} : SAFEBOOL;" for chain in chains for name in chain[:-1]), "END_VAR"]
+    lines.append("all := " + " AND ".join(f"({group})" for group in groups) + ";")
+    for k, chain in enumerate(chains):
+        for before, name in zip(["all", *chain], chain):
+            lines.append(f"{name} := {before} AND {inputs[k % 512]};")
+    with open(path, "w", encoding="ascii") as out:
+        out.write("\n".join([*lines, "END_PROGRAM", ""]))
+
+
 def main(folder):
     os.makedirs(folder, exist_ok=True)
     at = lambda file: os.path.join(folder, file)
@@ -86,9 +111,12 @@ def main(folder):
     # 512 + 512 + locals + 3 * 400 signals
     write_limits(at("limits.st"), 512, 512, 400, 4_000 - 1_024 - 1_200, 20_000, MIB)
     write_limits(at("limits-half.st"), 256, 256, 200, 2_000 - 512 - 600, 10_000, MIB // 2)
+    write_wide(at("wide.st"), 480, 980, 1)
+    write_wide(at("wide-signals.st"), 240, 980, 1)
+    write_wide(at("wide-parts.st"), 480, 490, 1)
+    write_wide(at("wide-groups.st"), 480, 490, 2)
+    write_wide(at("wide-groups-half.st"), 240, 490, 2)
 
 
 if __name__ == "__main__":
-    if len(sys.argv) != 2:
-        sys.exit(__doc__)
-    main(sys.argv[1])
+    plainly(lambda words: None if len(words) != 1 or words[0].startswith("-") else main(words[0]) or 0, "bench/generate.py FOLDER")

@@ -4,17 +4,17 @@ python3 measure.py [FOLDER [PROGRAM]]     FOLDER keeps the files that generate.p
 
 Run ./plcsafe once before, so that the program is built. Times are processor times on this machine, the least of nine
 runs. The peak is the most memory that the process held, as GNU time says it. At the end the same stands as one table for a page.
-`valgrind`, where it is installed, counts instructions: those of the commands over sources; by the difference of two runs over traces
-of two and four thousand scans those of a scan with its line, without the start of the program, whole and function by function; and
-those of `load 10` and of a run over 20,000 scans, whole.
+Instructions, which no other work on the machine touches, are counted by instructions.py.
 """
 import os
-import re
 import shutil
 import subprocess
 import sys
 
 HERE = os.path.dirname(os.path.abspath(__file__))
+sys.path.append(os.path.join(HERE, "..", "tools"))
+from plainly import plainly
+
 BUILT = os.path.join(HERE, "..", "built", "ps_main", "program")
 PROGRAM = os.path.abspath(sys.argv[2] if len(sys.argv) > 2 else BUILT)
 MIB = 1 << 20
@@ -57,24 +57,6 @@ def said(seconds):
     return f"{seconds:.2f} s" if seconds >= 1 else f"{seconds * 1000:.1f} ms"
 
 
-def counted(words, folder, out="/dev/null"):
-    """The instructions of a run, as callgrind counts them, which writes those of each function to a file."""
-    command = ["valgrind", "--tool=callgrind", f"--callgrind-out-file={out}", PROGRAM, *words]
-    said_by_it = subprocess.run(command, cwd=folder, stdout=subprocess.DEVNULL, stderr=subprocess.PIPE, text=True, check=False).stderr
-    return int(re.search(r"Collected : (\d+)", said_by_it).group(1))
-
-
-def of_functions(file):
-    """The instructions of each function in a file of callgrind, without those of the functions that it calls."""
-    command = ["callgrind_annotate", "--threshold=100", "--show-percs=no", file]
-    counts = {}
-    for line in subprocess.run(command, stdout=subprocess.PIPE, text=True, check=True).stdout.splitlines():
-        row = re.match(r"\s*([\d,]+)\s+[^:\s]+:(\S.*?)(?: \[.*\])?$", line)
-        if row:
-            counts[row.group(2)] = counts.get(row.group(2), 0) + int(row.group(1).replace(",", ""))
-    return counts
-
-
 def size(folder, file):
     return os.path.getsize(os.path.join(folder, file))
 
@@ -91,6 +73,15 @@ def sources(folder):
             words = [PROGRAM, command, f"{file}.st", *([f"{file}.cert"] if command == "verify" else [])]
             both.append((f"{command}, {size(folder, f'{file}.st') / MIB:.1f} MiB", words, os.devnull))
         rows.append(grows(command, folder, *both))
+    return rows
+
+
+def wide(folder):
+    """The rows of `demand` where many signals demand many parts."""
+    rows = []
+    for of, half, whole in (("signals", "wide-signals", "wide"), ("parts", "wide-parts", "wide"), ("signals, of pairs", "wide-groups-half", "wide-groups")):
+        both = [(f"demand, {part} the {of}", [PROGRAM, "demand", f"{file}.st"], os.devnull) for part, file in (("half", half), ("all", whole))]
+        rows.append(grows(f"demand, by its {of}", folder, *both))
     return rows
 
 
@@ -118,47 +109,24 @@ def tools(folder):
     return rows
 
 
-def sources_counted(folder):
-    """Prints the instructions of the commands over sources, and how many times more twice the source takes: no other work is in them."""
-    for command in ("check", "cert", "verify", "image", "demand"):
-        both = [counted([command, f"{file}.st", *([f"{file}.cert"] if command == "verify" else [])], folder) for file in ("limits-half", "limits")]
-        print(f"{command:42} {both[0] / 1e6:.0f} and {both[1] / 1e6:.0f} million instructions, {both[1] / both[0]:.2f} times", flush=True)
-
-
-def scans(folder):
-    """Prints the instructions of a scan, whole and of each function that has 5 of them or more, of a load and of a run."""
-    files = [os.path.join(folder, f"callgrind-{number}k") for number in (2, 4)]
-    less = counted(["run", "motor.st", "motor-2k.trace"], folder, files[0])
-    more = counted(["run", "motor.st", "motor-4k.trace"], folder, files[1])
-    print(f"{'a scan of the motor with its line':42} {(more - less) / 2000:.0f} instructions")
-    before, after = map(of_functions, files)
-    shares = {name: (count - before.get(name, 0)) / 2000 for name, count in after.items()}
-    for name, share in sorted(shares.items(), key=lambda it: -it[1]):
-        if share >= 5 and name != "PROGRAM TOTALS":
-            print(f"  {share:6.0f} {name}")
-    print(f"{'load 10':42} {counted(['load', '10'], folder) / 1e6:.1f} million instructions")
-    with open(os.path.join(folder, "motor-64.trace"), "rb") as text:
-        first = [next(text) for _ in range(20001)]
-    with open(os.path.join(folder, "motor-20k.trace"), "wb") as out:
-        out.writelines(first)
-    whole = counted(["run", "motor.st", "motor-20k.trace"], folder)
-    print(f"{'run, 20,000 scans of the motor':42} {whole / 1e6:.1f} million instructions")
-
-
 def main(folder):
     if not os.path.isfile(PROGRAM):
         sys.exit("the program is not built: run ./plcsafe once")
-    if not os.path.isfile(os.path.join(folder, "limits-half.st")):
+    if not os.path.isfile(os.path.join(folder, "wide.st")):
         subprocess.run([sys.executable, os.path.join(HERE, "generate.py"), folder], check=True)
-    rows = [*sources(folder), *traces(folder), *tools(folder)]
+    rows = [*sources(folder), *wide(folder), *traces(folder), *tools(folder)]
     if shutil.which("valgrind") is None:
-        print("valgrind is not installed: no instructions are counted")
-    else:
-        sources_counted(folder)
-        scans(folder)
+        print("valgrind is not installed, and instructions.py needs it to count instructions")
     print("| | time at half | time at the limits | twice the input takes | MiB at half | MiB at the limits |")
     print("|---|---|---|---|---|---|", *rows, sep="\n")
+    return 0
+
+
+def called(words):
+    """The status of a call with these words."""
+    is_taken = len(words) <= 2 and not any(word.startswith("-") for word in words)
+    return main(words[0] if words else "/tmp/plcsafe-bench") if is_taken else None
 
 
 if __name__ == "__main__":
-    main(sys.argv[1] if len(sys.argv) > 1 else "/tmp/plcsafe-bench")
+    plainly(called, "bench/measure.py [FOLDER [PROGRAM]]")

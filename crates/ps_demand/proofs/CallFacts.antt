@@ -1,16 +1,18 @@
 -- What stands at the pins of a call, and which values are below the signals.
-use Rattle.std.proofs.Common.{◌≡◌, ℕ, List, [], ◌∷◌, length, Some, sym, subst, inl, inr, arith}
+use Rattle.std.proofs.Common.{◌≡◌, ℕ, zero, suc, true, List, [], ◌∷◌, length, Some, sym, ◌∙◌, subst, inl, inr, arith}
 use Rattle.std.specs.Prelude.{slice_get, slice_index_or, All, flat_map}
-use Rattle.std.proofs.lemmas.Bool.{cases_lt}
+use Rattle.std.specs.List.{list_any}
+use Rattle.std.proofs.lemmas.Bool.{cases_lt, false≢true, or_left, or_right}
 use Rattle.std.proofs.lemmas.List.{get_or_past}
 use Rattle.std.proofs.lemmas.List.Elements.{All-nil}
+use Rattle.std.proofs.lemmas.List.Folds.{list_any-append}
 use Rattle.ps_model.specs.Formula.{Formula}
 use Rattle.ps_model.specs.Action.{Actual, free, assigns, calls}
 use Rattle.ps_model.specs.Network.{Network, kind_at, signal_count}
 use Rattle.ps_model.specs.Scanning.{pin_at}
 use Rattle.ps_model.specs.Sound.{IsSound}
 use Rattle.ps_model.specs.Typing.{Accepted, MayStand}
-use Rattle.ps_model.specs.Values.{IsBelow, values_at_pin, values_of_step}
+use Rattle.ps_model.specs.Values.{IsBelow, reads, values_at_pin, values_of_step}
 use Rattle.ps_model.proofs.Once.{element_at}
 use Rattle.ps_flow.proofs.Walk.{part_of, found_or}
 
@@ -48,3 +50,14 @@ pin_below net args all p =
           subst Q (sym (found_or args p here.0 free here.1)) (part_of P values_at_pin args p here.0 all here.1)
       | inr past ↦ subst Q (sym (get_or_past args p free past)) (All-nil P)
     ]
+
+-- what one pin reads the call reads
+pub pin_reads : (args : List Actual) (p s : ℕ) → list_any (reads s) (values_at_pin (slice_index_or args p free)) ≡ true →
+    list_any (reads s) (flat_map values_at_pin args) ≡ true
+pin_reads [] p s h = absurd (false≢true h)
+pin_reads (a ∷ args) zero s h =
+    list_any-append (reads s) (values_at_pin a) (flat_map values_at_pin args)
+    ∙ or_left (list_any (reads s) (values_at_pin a)) (list_any (reads s) (flat_map values_at_pin args)) h
+pin_reads (a ∷ args) (suc p) s h =
+    list_any-append (reads s) (values_at_pin a) (flat_map values_at_pin args)
+    ∙ or_right (list_any (reads s) (values_at_pin a)) (list_any (reads s) (flat_map values_at_pin args)) (pin_reads args p s h)

@@ -1,11 +1,10 @@
 -- AND and OR as one operation, and what a list of parts says under it.
 use Rattle.std.proofs.Common.{◌≡◌, Bool, true, false, List, [], ◌∷◌, ◌++◌, ap, sym, ◌∙◌, refl}
 use Rattle.std.specs.Prelude.{not, ◌&&◌, ◌||◌, flat_map}
-use Rattle.std.proofs.lemmas.Bool.{false≢true, and_parts, eqb-true}
 use Rattle.ps_model.specs.Scanning.{State}
 use Rattle.ps_demand.specs.declared.join.Join.{Join}
 use Rattle.ps_demand.specs.declared.join.Join.TheVariants.{And, Or}
-use Rattle.ps_demand.specs.Requirement.{Requirement, Requirements, always, never, now, before, not_now, not_before, group, no_part, part, requirements, parts, holds, same, same_parts}
+use Rattle.ps_demand.specs.Requirement.{Requirement, Requirements, always, never, now, before, not_now, not_before, group, no_part, part, requirements, parts, holds}
 use Rattle.ps_demand.specs.Slim.{neutral, deciding, parts_within}
 
 abbrev pub op : Join → Bool → Bool → Bool
@@ -51,26 +50,6 @@ decides_right And true = refl
 decides_right And false = refl
 decides_right Or true = refl
 decides_right Or false = refl
-
--- requirements that are the same are equal
-mutual
-  pub same_equal : (a b : Requirement) → same a b ≡ true → a ≡ b
-  same_equal always always h = refl
-  same_equal never never h = refl
-  same_equal (now s) (now t) h = ap now (eqb-true s t h)
-  same_equal (before s) (before t) h = ap before (eqb-true s t h)
-  same_equal (not_now s) (not_now t) h = ap not_now (eqb-true s t h)
-  same_equal (not_before s) (not_before t) h = ap not_before (eqb-true s t h)
-  same_equal (group And ds) (group And es) h = ap (group And) (same_parts_equal ds es h)
-  same_equal (group Or ds) (group Or es) h = ap (group Or) (same_parts_equal ds es h)
-  same_equal _ _ h = absurd (false≢true h)
-
-  pub same_parts_equal : (ds es : Requirements) → same_parts ds es ≡ true → ds ≡ es
-  same_parts_equal no_part no_part h = refl
-  same_parts_equal (part d ds) (part e es) h =
-      let both = and_parts (same d e) (same_parts ds es) h in
-      ap (λ x. part x ds) (same_equal d e both.0) ∙ ap (part e) (same_parts_equal ds es both.1)
-  same_parts_equal _ _ h = absurd (false≢true h)
 
 module _ (ins : List Bool) (old : State) where
   abbrev holding : Requirement → Bool

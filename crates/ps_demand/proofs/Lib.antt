@@ -12,6 +12,7 @@ pub mod Counted
 pub mod CallFacts
 pub mod DriverStands
 pub mod Kept
+pub mod Lasting
 pub mod Slimmed
 pub mod PinPlaces
 pub mod Writing

@@ -1,8 +1,8 @@
 -- No leaf of a demand is BOOL.
-use Rattle.std.proofs.Common.{◌≡◌, ◌≢◌, ℕ, zero, suc, ◌<◌, ◌≤◌, ◌-◌, Bool, true, false, not, ◌==◌, List, [], ◌∷◌, ◌++◌, Option, None, Some, map, length, nat_lt, slice_get, cond, if◌then◌else◌, refl, sym, ap, subst, ◌∙◌, inl, inr, ⊎_elim, arith}
+use Rattle.std.proofs.Common.{◌≡◌, ℕ, zero, suc, ◌≤◌, ◌-◌, Bool, true, false, not, ◌==◌, List, [], ◌∷◌, ◌++◌, Option, None, Some, map, length, nat_lt, slice_get, cond, if◌then◌else◌, refl, sym, ap, subst, ◌∙◌, inl, inr, arith}
 use Rattle.std.specs.Prelude.{◌||◌, slice_index_or, flat_map}
 use Rattle.std.specs.List.{AllByRecursion, list_any}
-use Rattle.std.proofs.lemmas.Bool.{cases_Bool, and_parts, cond-true, cond-false, cases_lt, eqb-true, false≢true}
+use Rattle.std.proofs.lemmas.Bool.{and_parts, cases_lt, eqb-true, false≢true}
 use Rattle.ps_model.specs.declared.kind.Kind.{Kind}
 use Rattle.ps_model.specs.declared.kind.Kind.TheVariants.{Equivalent, Antivalent, EmergencyStop, Espe, ModeSelector, TwoHandTwo, TwoHandThree, GuardMonitoring, GuardLocking, EnableSwitch, SafetyRequest, OutControl, Edm}
 use Rattle.ps_model.specs.declared.kind.Ty.{Ty}
@@ -15,12 +15,12 @@ use Rattle.ps_model.specs.Blocks.{block}
 use Rattle.ps_model.specs.Demand.{demand as pin_formula}
 use Rattle.ps_model.specs.Network.{Network, input_count, kind_at, first_pin, drives, is_new}
 use Rattle.ps_model.specs.Scanning.{pin_at}
-use Rattle.ps_model.specs.Typing.{Accepted, MayStand, safe, is_safe_signal, is_safe_type, some_safe, each_safe}
+use Rattle.ps_model.specs.Typing.{Accepted, MayStand, safe, is_safe_signal, is_safe_type, each_safe}
 use Rattle.ps_demand.specs.declared.join.Join.{Join}
 use Rattle.ps_demand.specs.declared.join.Join.TheVariants.{And, Or}
 use Rattle.ps_demand.specs.Requirement.{Requirement, Requirements, always, never, now, before, not_now, not_before, group, no_part, part, requirements, parts, same}
 use Rattle.ps_demand.specs.Demand.{constant, conjunction, demand_over, safe_demands, all_demands, demand_at_pin, negated_signal, negated_at_pin, demand_of_need, output_demand, after_step, demand_read, demand_at, demand}
-use Rattle.ps_demand.specs.Slim.{neutral, deciding, parts_within, telling, gathered, slim_of_parts, joined, slim, slim_parts}
+use Rattle.ps_demand.specs.Slim.{neutral, deciding, parts_within, telling, gathered, joined, slim, slim_parts}
 use Rattle.ps_demand.specs.Leaves.{leaf_signals, leaf_signals_of, HasSafeLeaves, LeavesAreSafe}
 
 -- ---- lists

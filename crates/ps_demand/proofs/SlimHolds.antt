@@ -5,9 +5,10 @@ use Rattle.std.specs.List.{list_any}
 use Rattle.std.proofs.lemmas.Bool.{cases_Bool, or_cases, cond-true, cond-false}
 use Rattle.ps_model.specs.Scanning.{State}
 use Rattle.ps_demand.specs.declared.join.Join.{Join}
+use Rattle.ps_demand.specs.Hashing.{same_equal}
 use Rattle.ps_demand.specs.Requirement.{Requirement, Requirements, always, never, now, before, not_now, not_before, group, no_part, part, parts, holds, same}
 use Rattle.ps_demand.specs.Slim.{neutral, deciding, parts_within, telling, gathered, slim_of_parts, slim, slim_parts}
-use Rattle.ps_demand.proofs.Joined.{op, unit, op_assoc, op_unit, unit_op, op_again, decides_left, decides_right, same_equal, held, group_holds, listed_holds, held-append, held_flat, neutral_holds, deciding_holds}
+use Rattle.ps_demand.proofs.Joined.{op, unit, op_assoc, op_unit, unit_op, op_again, decides_left, decides_right, held, group_holds, listed_holds, held-append, held_flat, neutral_holds, deciding_holds}
 
 module _ (ins : List Bool) (old : State) where
   abbrev holding : Requirement → Bool

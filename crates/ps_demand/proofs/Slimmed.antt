@@ -1,7 +1,8 @@
 -- What is slim of slim parts is slim of the demand.
 use Rattle.std.proofs.Common.{◌≡◌, ℕ, ◌+◌, ◌≤◌, ◌<◌, Bool, true, false, cond, List, [], ◌∷◌, map, sym, ap, ◌∙◌, refl, subst, ⊎_elim, arith}
 use Rattle.std.specs.Prelude.{slice_index_or, nat_lt, All}
-use Rattle.std.proofs.lemmas.Bool.{cases_Bool, and_parts, cond-true, cond-false, false≢true}
+use Rattle.std.specs.List.{list_any}
+use Rattle.std.proofs.lemmas.Bool.{cases_Bool, and_parts, or_left, or_right, cond-true, cond-false, false≢true, eq-eqb}
 use Rattle.ps_model.specs.declared.kind.Kind.{Kind}
 use Rattle.ps_model.specs.declared.kind.Ty.{Ty}
 use Rattle.ps_model.specs.declared.kind.Ty.TheVariants.{Safe, Bool as Plain, Time}
@@ -13,7 +14,7 @@ use Rattle.ps_model.specs.Demand.{demand as pin_formula}
 use Rattle.ps_model.specs.Network.{Network, input_count, signal_count, is_new}
 use Rattle.ps_model.specs.Scanning.{pin_at}
 use Rattle.ps_model.specs.Typing.{safe, each_safe, is_safe_signal, is_safe_type, MayStand}
-use Rattle.ps_model.specs.Values.{IsBelow, AreBelow, values_at_pin}
+use Rattle.ps_model.specs.Values.{IsBelow, AreBelow, reads, some_reads, values_at_pin}
 use Rattle.ps_demand.specs.declared.demand.TheConstants.{MOST_LEAVES}
 use Rattle.ps_demand.specs.declared.join.Join.TheVariants.{And, Or}
 use Rattle.ps_demand.specs.Requirement.{Requirement, always, not_now, not_before, part, requirements, leaf_count, leaf_counts}
@@ -49,53 +50,60 @@ negated_pin_slim net k default (wired (signal s)) = negated_slim net k s
 negated_pin_slim net k default (wired (all_of es)) = refl
 negated_pin_slim net k default (wired (any_of es)) = refl
 
-module _ (net : Network) (k : ℕ) (kept leaves : ℕ → Requirement)
-    (right : (s : ℕ) → s < signal_count net → is_safe_signal net s ≡ true → leaf_count (leaves s) ≤ MOST_LEAVES → kept s ≡ slim (leaves s)) where
+-- W says of which signals a slim demand is kept
+module _ (net : Network) (k : ℕ) (kept leaves : ℕ → Requirement) (W : ℕ → Type 0)
+    (right : (s : ℕ) → s < signal_count net → is_safe_signal net s ≡ true → W s → leaf_count (leaves s) ≤ MOST_LEAVES → kept s ≡ slim (leaves s)) where
   mutual
-    pub slim_is : (e : Formula) → IsBelow (signal_count net) e → safe net e ≡ true → leaf_count (demand_over net leaves e) ≤ MOST_LEAVES →
-        slim_over net kept e ≡ slim (demand_over net leaves e)
-    slim_is (signal s) below is few = right s below is few
-    slim_is (all_of es) below is few = ap (joined And) (safe_slims_are es below few)
-    slim_is (any_of es) below is few = ap (joined Or) (all_slims_are es below is few)
+    pub slim_is : (e : Formula) → IsBelow (signal_count net) e → ((s : ℕ) → s < signal_count net → reads s e ≡ true → W s) → safe net e ≡ true →
+        leaf_count (demand_over net leaves e) ≤ MOST_LEAVES → slim_over net kept e ≡ slim (demand_over net leaves e)
+    slim_is (signal s) below read is few = right s below is (read s below (eq-eqb s s refl)) few
+    slim_is (all_of es) below read is few = ap (joined And) (safe_slims_are es below read few)
+    slim_is (any_of es) below read is few = ap (joined Or) (all_slims_are es below read is few)
 
-    safe_slims_are : (es : Formulas) → AreBelow (signal_count net) es → leaf_counts (safe_demands net leaves es) ≤ MOST_LEAVES →
-        safe_slims net kept es ≡ slim_parts (safe_demands net leaves es)
-    safe_slims_are no_operand below few = refl
-    safe_slims_are (operand e es) below few =
+    safe_slims_are : (es : Formulas) → AreBelow (signal_count net) es → ((s : ℕ) → s < signal_count net → some_reads s es ≡ true → W s) →
+        leaf_counts (safe_demands net leaves es) ≤ MOST_LEAVES → safe_slims net kept es ≡ slim_parts (safe_demands net leaves es)
+    safe_slims_are no_operand below read few = refl
+    safe_slims_are (operand e es) below read few =
         let it = demand_over net leaves e in
         let rest = safe_demands net leaves es in
+        let read_rest = λ (s : ℕ) (inside : s < signal_count net) (h : some_reads s es ≡ true). read s inside (or_right (reads s e) (some_reads s es) h) in
         ⊎_elim
         (λ is.
         let whole = cond-true (safe net e) (part it rest) rest is in
         let both : leaf_count it + leaf_counts rest ≤ MOST_LEAVES = subst (λ ds. leaf_counts ds ≤ MOST_LEAVES) whole few in
         cond-true (safe net e) (slim_over net kept e ∷ safe_slims net kept es) (safe_slims net kept es) is
-        ∙ ap (λ d. d ∷ safe_slims net kept es) (slim_is e below.0 is (omega arith))
-        ∙ ap (λ ds. slim it ∷ ds) (safe_slims_are es below.1 (omega arith))
+        ∙ ap (λ d. d ∷ safe_slims net kept es) (slim_is e below.0 (λ s inside h. read s inside (or_left (reads s e) (some_reads s es) h)) is (omega arith))
+        ∙ ap (λ ds. slim it ∷ ds) (safe_slims_are es below.1 read_rest (omega arith))
         ∙ ap slim_parts (sym whole))
         (λ plain.
         let whole = cond-false (safe net e) (part it rest) rest plain in
         cond-false (safe net e) (slim_over net kept e ∷ safe_slims net kept es) (safe_slims net kept es) plain
-        ∙ safe_slims_are es below.1 (subst (λ ds. leaf_counts ds ≤ MOST_LEAVES) whole few)
+        ∙ safe_slims_are es below.1 read_rest (subst (λ ds. leaf_counts ds ≤ MOST_LEAVES) whole few)
         ∙ ap slim_parts (sym whole))
         (cases_Bool (safe net e))
 
-    all_slims_are : (es : Formulas) → AreBelow (signal_count net) es → each_safe net es ≡ true → leaf_counts (all_demands net leaves es) ≤ MOST_LEAVES →
-        all_slims net kept es ≡ slim_parts (all_demands net leaves es)
-    all_slims_are no_operand below is few = refl
-    all_slims_are (operand e es) below is few =
+    all_slims_are : (es : Formulas) → AreBelow (signal_count net) es → ((s : ℕ) → s < signal_count net → some_reads s es ≡ true → W s) →
+        each_safe net es ≡ true → leaf_counts (all_demands net leaves es) ≤ MOST_LEAVES → all_slims net kept es ≡ slim_parts (all_demands net leaves es)
+    all_slims_are no_operand below read is few = refl
+    all_slims_are (operand e es) below read is few =
         let both = and_parts (safe net e) (each_safe net es) is in
-        ap (λ d. d ∷ all_slims net kept es) (slim_is e below.0 both.0 (omega arith))
-        ∙ ap (λ ds. slim (demand_over net leaves e) ∷ ds) (all_slims_are es below.1 both.1 (omega arith))
+        ap (λ d. d ∷ all_slims net kept es)
+        (slim_is e below.0 (λ s inside h. read s inside (or_left (reads s e) (some_reads s es) h)) both.0 (omega arith))
+        ∙ ap (λ ds. slim (demand_over net leaves e) ∷ ds)
+        (all_slims_are es below.1 (λ s inside h. read s inside (or_right (reads s e) (some_reads s es) h)) both.1 (omega arith))
 
-  pin_slim_is : (default : Bool) (a : Actual) → All (IsBelow (signal_count net)) (values_at_pin a) → MayStand net Safe a →
+  pin_slim_is : (default : Bool) (a : Actual) → All (IsBelow (signal_count net)) (values_at_pin a) →
+      ((s : ℕ) → s < signal_count net → list_any (reads s) (values_at_pin a) ≡ true → W s) → MayStand net Safe a →
       leaf_count (demand_at_pin net leaves default a) ≤ MOST_LEAVES → slim_at_pin net kept default a ≡ slim (demand_at_pin net leaves default a)
-  pin_slim_is default free below may few = sym (constant_slim default)
-  pin_slim_is default (literal b) below may few = sym (constant_slim b)
-  pin_slim_is default (time t) below may few = refl
-  pin_slim_is default (wired e) below may few = slim_is e (below 0 e (omega arith)) (may.1 refl) few
+  pin_slim_is default free below read may few = sym (constant_slim default)
+  pin_slim_is default (literal b) below read may few = sym (constant_slim b)
+  pin_slim_is default (time t) below read may few = refl
+  pin_slim_is default (wired e) below read may few =
+      slim_is e (below 0 e (omega arith)) (λ s inside h. read s inside (or_left (reads s e) false h)) (may.1 refl) few
 
   module _ (kind : Kind) (args : List Actual)
       (below : (p : ℕ) → All (IsBelow (signal_count net)) (values_at_pin (slice_index_or args p free)))
+      (read : (p s : ℕ) → s < signal_count net → list_any (reads s) (values_at_pin (slice_index_or args p free)) ≡ true → W s)
       (may : (p : ℕ) → MayStand net (pin_at kind p).ty (slice_index_or args p free)) where
     safe_type : (ty : Ty) → is_safe_type ty ≡ true → ty ≡ Safe
     safe_type Safe h = refl
@@ -112,7 +120,7 @@ module _ (net : Network) (k : ℕ) (kept leaves : ℕ → Requirement)
         (λ is.
         let whole = cond-true (is_safe_type pin.ty) it always is in
         cond-true (is_safe_type pin.ty) (slim_at_pin net kept pin.free there) always is
-        ∙ pin_slim_is pin.free there (below p) (let M : Ty → Type 0 = λ ty. MayStand net ty there in subst M (safe_type pin.ty is) (may p))
+        ∙ pin_slim_is pin.free there (below p) (read p) (let M : Ty → Type 0 = λ ty. MayStand net ty there in subst M (safe_type pin.ty is) (may p))
         (subst (λ d. leaf_count d ≤ MOST_LEAVES) whole few)
         ∙ ap slim (sym whole))
         (λ plain.

@@ -54,31 +54,32 @@ module _ {X : Type 0} (first : ℕ) (values rows : List X) (d : X) (room : first
   )
 
 -- ---- R says what is right to keep for a signal of which this is demanded
-module _ {X : Type 0} (R : Requirement → X → Type 0) (d : X) (net : Network) where
+module _ {X : Type 0} (R : ℕ → Requirement → X → Type 0) (d : X) (net : Network) where
   -- for each safe signal what is kept is right, as step k reads it
   abbrev pub AreRight : ℕ → List X → Type 0
-  AreRight k rows = (s : ℕ) → s < signal_count net → is_safe_signal net s ≡ true → R (demand_read net k s) (slice_index_or rows s d)
+  AreRight k rows = (s : ℕ) → s < signal_count net → is_safe_signal net s ≡ true → R s (demand_read net k s) (slice_index_or rows s d)
 
-  after : (k s : ℕ) (a : Action) (x : X) → slice_get net.steps k ≡ Some a → R (after_step net k (Some a) (demand_read net k) s) x → R (demand_read net (k + 1) s) x
+  after : (k s : ℕ) (a : Action) (x : X) → slice_get net.steps k ≡ Some a → R s (after_step net k (Some a) (demand_read net k) s) x → R s (demand_read net (k + 1) s) x
   after k s a x at h =
       let next : k + 1 ≡ suc k = omega arith in
-      subst (λ n. R (demand_read net n s) x) (sym next)
-      (subst (λ o. R (after_step net k o (demand_read net k) s) x) (sym at) h)
+      subst (λ n. R s (demand_read net n s) x) (sym next)
+      (subst (λ o. R s (after_step net k o (demand_read net k) s) x) (sym at) h)
 
   -- a safe signal is assigned
   pub assigned_right : (k t : ℕ) (e : Formula) (x : X) (rows : List X) → slice_get net.steps k ≡ Some (assigns t e) → t < length rows →
-      AreRight k rows → R (demand_over net (demand_read net k) e) x → AreRight (k + 1) (slice_set rows t x)
+      AreRight k rows → R t (demand_over net (demand_read net k) e) x → AreRight (k + 1) (slice_set rows t x)
   assigned_right k t e x rows at inside right new s below is =
       let it = demand_over net (demand_read net k) e in
       after k s (assigns t e) (slice_index_or (slice_set rows t x) s d) at
       (⊎_elim
       (λ here.
       let same : t ≡ s = eqb-true t s here in
-      subst (λ q. R q (slice_index_or (slice_set rows t x) s d)) (sym (cond-true (t == s) it (demand_read net k s) here))
-      (subst (λ y. R it y) (sym (ap (λ n. slice_index_or (slice_set rows t x) n d) (sym same) ∙ get_or-set_same rows t x d inside)) new))
+      subst (λ q. R s q (slice_index_or (slice_set rows t x) s d)) (sym (cond-true (t == s) it (demand_read net k s) here))
+      (subst (λ y. R s it y) (sym (ap (λ n. slice_index_or (slice_set rows t x) n d) (sym same) ∙ get_or-set_same rows t x d inside))
+      (subst (λ n. R n it x) same new)))
       (λ other.
-      subst (λ q. R q (slice_index_or (slice_set rows t x) s d)) (sym (cond-false (t == s) it (demand_read net k s) other))
-      (subst (λ y. R (demand_read net k s) y) (sym (get_or-set_other rows t s x d (λ same. true≢false (sym (eq-eqb t s (sym same)) ∙ other)))) (right s below is)))
+      subst (λ q. R s q (slice_index_or (slice_set rows t x) s d)) (sym (cond-false (t == s) it (demand_read net k s) other))
+      (subst (λ y. R s (demand_read net k s) y) (sym (get_or-set_other rows t s x d (λ same. true≢false (sym (eq-eqb t s (sym same)) ∙ other)))) (right s below is)))
       (cases_Bool (t == s)))
 
   -- a BOOL signal is assigned
@@ -89,7 +90,7 @@ module _ {X : Type 0} (R : Requirement → X → Type 0) (d : X) (net : Network)
       let other : (t == s) ≡ false =
       ⊎_elim (λ here. absurd (true≢false (sym is ∙ ap (is_safe_signal net) (sym (eqb-true t s here)) ∙ plain))) (λ other. other) (cases_Bool (t == s)) in
       after k s (assigns t e) (slice_index_or rows s d) at
-      (subst (λ q. R q (slice_index_or rows s d)) (sym (cond-false (t == s) it (demand_read net k s) other)) (right s below is))
+      (subst (λ q. R s q (slice_index_or rows s d)) (sym (cond-false (t == s) it (demand_read net k s) other)) (right s below is))
 
   -- an instance is called
   module _ (sound : IsSound net) (k i : ℕ) (args : List Actual) (at : slice_get net.steps k ≡ Some (calls i args)) where
@@ -101,7 +102,8 @@ module _ {X : Type 0} (R : Requirement → X → Type 0) (d : X) (net : Network)
 
     pub called_right : (rows values : List X) → length rows ≡ signal_count net → length values ≡ length (block (kind_at net i)).outputs →
         AreRight k rows →
-        ((j : ℕ) → j < length (block (kind_at net i)).outputs → R (output_demand net k (demand_read net k) (kind_at net i) args j) (slice_index_or values j d)) →
+        ((j : ℕ) → j < length (block (kind_at net i)).outputs →
+        R (first_pin net i + j) (output_demand net k (demand_read net k) (kind_at net i) args j) (slice_index_or values j d)) →
         AreRight (k + 1) (take (first_pin net i) rows ++ (values ++ drop (first_pin net i + length values) rows))
     called_right rows values long count right new s below is =
         let kind = kind_at net i in
@@ -120,10 +122,10 @@ module _ {X : Type 0} (R : Requirement → X → Type 0) (d : X) (net : Network)
         let place : s ≡ first + (s - first) = omega arith in
         let small = safe_below net sound i (s - first) inside (omega arith) (ap (is_safe_signal net) (sym place) ∙ is) in
         let within : s - first < length values = omega arith in
-        subst (λ q. R q (slice_index_or whole s d)) (sym (cond-true driven its_own (demand_read net k s) here))
-        (subst (λ y. R its_own y)
+        subst (λ q. R s q (slice_index_or whole s d)) (sym (cond-true driven its_own (demand_read net k s) here))
+        (subst (λ y. R s its_own y)
         (sym (ap (λ n. slice_index_or whole n d) place ∙ read_written first values rows d room (s - first) within))
-        (new (s - first) small)))
+        (subst (λ n. R n its_own (slice_index_or values (s - first) d)) (sym place) (new (s - first) small))))
         (λ other.
         let beside : slice_index_or whole s d ≡ slice_index_or rows s d =
         elim (cases_lt s first) [
@@ -135,13 +137,13 @@ module _ {X : Type 0} (R : Requirement → X → Type 0) (d : X) (net : Network)
                 | inr past ↦ read_behind first values rows d room s (omega (arith, output_count_is kind))
               ]
         ] in
-        subst (λ q. R q (slice_index_or whole s d)) (sym (cond-false driven its_own (demand_read net k s) other))
-        (subst (λ y. R (demand_read net k s) y) (sym beside) (right s below is)))
+        subst (λ q. R s q (slice_index_or whole s d)) (sym (cond-false driven its_own (demand_read net k s) other))
+        (subst (λ y. R s (demand_read net k s) y) (sym beside) (right s below is)))
         (cases_Bool driven))
 
 -- a signal is assigned whose row is right as it is
-module _ {X : Type 0} (R : Requirement → X → Type 0) (d : X) (net : Network) where
+module _ {X : Type 0} (R : ℕ → Requirement → X → Type 0) (d : X) (net : Network) where
   pub unwritten_right : (k t : ℕ) (e : Formula) (rows : List X) → slice_get net.steps k ≡ Some (assigns t e) → t < length rows →
-      AreRight R d net k rows → R (demand_over net (demand_read net k) e) (slice_index_or rows t d) → AreRight R d net (k + 1) rows
+      AreRight R d net k rows → R t (demand_over net (demand_read net k) e) (slice_index_or rows t d) → AreRight R d net (k + 1) rows
   unwritten_right k t e rows at inside right h =
       subst (AreRight R d net (k + 1)) (set-get_or rows t d) (assigned_right R d net k t e (slice_index_or rows t d) rows at inside right h)

@@ -6,7 +6,9 @@ pub mod Texts
 pub mod Lines
 pub mod Laws
 pub mod Leaves
--- Apparatus: how the program's formulas are seen, and what its passes keep for each signal.
+-- Apparatus: how the program's formulas are seen and hashed, how long each is wanted, and what its passes keep for each signal.
 pub mod Answering
 pub mod Views
+pub mod Hashing
+pub mod Wanted
 pub mod Passes

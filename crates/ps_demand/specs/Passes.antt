@@ -16,9 +16,10 @@ use Rattle.ps_demand.specs.declared.demand.Demand.{Demand}
 use Rattle.ps_demand.specs.declared.demand.TheConstants.{MOST_LEAVES}
 use Rattle.ps_demand.specs.declared.join.Join.TheVariants.{And, Or}
 use Rattle.ps_demand.specs.Requirement.{Requirement, always, never, leaf_count}
-use Rattle.ps_demand.specs.Demand.{constant, negated_at_pin, demand_read}
+use Rattle.ps_demand.specs.Demand.{constant, negated_at_pin, demand_read, demand}
 use Rattle.ps_demand.specs.Slim.{joined, slim}
 use Rattle.ps_demand.specs.Views.{requirement}
+use Rattle.ps_demand.specs.Wanted.{is_wanted}
 
 -- the number of the step that a driver is
 abbrev pub step_of : Driver → ℕ
@@ -135,11 +136,21 @@ pub record AreCounts (net : Network) (k : ℕ) (counts : List ℕ) : Type 0 wher
 abbrev pub kept_for : List Demand → ℕ → Requirement
 kept_for rows s = slice_index_or (map requirement rows) s never
 
--- for each safe signal whose demand is not Large that demand is kept, made slim, as step k reads it
-pub record AreSlim (net : Network) (k : ℕ) (rows : List Demand) : Type 0 where
+-- for each safe signal whose demand is wanted and not Large that demand is kept, made slim, as step k reads it
+pub record AreSlim (net : Network) (k : ℕ) (last : List (Option ℕ)) (rows : List Demand) : Type 0 where
   pub long : length rows ≡ signal_count net
-  pub each : (s : ℕ) → s < signal_count net → is_safe_signal net s ≡ true → leaf_count (demand_read net k s) ≤ MOST_LEAVES →
+  pub each : (s : ℕ) → s < signal_count net → is_safe_signal net s ≡ true → is_wanted last k s ≡ true → leaf_count (demand_read net k s) ≤ MOST_LEAVES →
       kept_for rows s ≡ slim (demand_read net k s)
+
+-- after all steps, for each safe signal from one on to another whose demand is not Large, that demand is kept, made slim
+pub record HasSlim (net : Network) (first end : ℕ) (rows : List Demand) : Type 0 where
+  pub long : length rows ≡ signal_count net
+  pub each : (s : ℕ) → first ≤ s → s < end → is_safe_signal net s ≡ true → leaf_count (demand net s) ≤ MOST_LEAVES → kept_for rows s ≡ slim (demand net s)
+
+-- what is kept for each signal that a step from k on wants stays
+pub record KeepsWanted (last : List (Option ℕ)) (k : ℕ) (old new : List Demand) : Type 0 where
+  pub long : length new ≡ length old
+  pub each : (s : ℕ) → is_wanted last k s ≡ true → kept_for new s ≡ kept_for old s
 
 -- for each of the first n safe outputs of a call of step k whose demand is not Large that demand is built, made slim
 pub record AreOutputs (net : Network) (k : ℕ) (counts : List ℕ) (rows : List Demand) (kind : Kind) (args : List Actual) (n : ℕ) (outputs : List Demand) : Type 0 where

@@ -1,12 +1,14 @@
 // What a safe output demands, as a formula.
 
-ghost use Rattle.std.specs.Prelude.{◌≡◌, ◌≢◌, IfOk, map, length};
+ghost use Rattle.std.specs.Prelude.{◌≡◌, ◌≢◌, IfOk, map, length, fold};
 ghost use Rattle.std.specs.List.{list_any};
+ghost use Rattle.ps_demand.specs.Hashing.{hashed, hashed_parts};
 ghost use Rattle.ps_demand.specs.Requirement.{requirements, same, same_parts};
 ghost use Rattle.ps_demand.specs.Views.{requirement};
 
 use ps_base::Memory;
 use std::alloc::Global;
+use std::hash::{Hash, Hasher};
 use thiserror::Error;
 
 /// What a safe output demands: a formula over the inputs of the same scan and the signals of the scan before, which stand by
@@ -125,6 +127,83 @@ fn are_same(parts: &Demands, others: &Demands) -> bool
         }
     }
     true
+}
+
+impl PartialEq for Demand {
+    ghost use Rattle.std.specs.Cmp.{on_per, partial_equiv_from_equiv};
+    ghost use Rattle.ps_demand.specs.Hashing.{same_equivalence};
+
+    ghost eq = { λ a b. same (requirement a) (requirement b) };
+
+    ghost laws = { on_per requirement (partial_equiv_from_equiv same_equivalence) };
+
+    fn eq(&self, other: &Demand) -> bool {
+        is_same(self, other)
+    }
+}
+
+impl Eq for Demand {
+    ghost use Rattle.std.specs.Cmp.{on_equiv};
+    ghost use Rattle.ps_demand.specs.Hashing.{same_equivalence};
+
+    ghost laws = { on_equiv requirement same_equivalence };
+}
+
+// Gives what a demand is made of to a hasher.
+#[cycle(give)]
+fn give<H: Hasher>(demand: &Demand, state: &mut H)
+    ensures { state.new ≡ fold H.write state.old (hashed (requirement demand.now)) }
+{
+    match demand {
+        Demand::True => state.write_u8(0),
+        Demand::False => state.write_u8(1),
+        Demand::Now(s) => {
+            state.write_u8(2);
+            state.write_u16(*s);
+        }
+        Demand::Before(s) => {
+            state.write_u8(3);
+            state.write_u16(*s);
+        }
+        Demand::NotNow(s) => {
+            state.write_u8(4);
+            state.write_u16(*s);
+        }
+        Demand::NotBefore(s) => {
+            state.write_u8(5);
+            state.write_u16(*s);
+        }
+        Demand::All(parts) => {
+            state.write_u8(6);
+            give_parts(parts, state);
+        }
+        Demand::Any(parts) => {
+            state.write_u8(7);
+            give_parts(parts, state);
+        }
+    }
+}
+
+// Gives what each part is made of to a hasher.
+#[cycle(give)]
+fn give_parts<H: Hasher>(parts: &Demands, state: &mut H)
+    ensures { state.new ≡ fold H.write state.old (hashed_parts (requirements (map requirement parts.now.items.items))) }
+{
+    for part in &parts.items {
+        give(part, state);
+    }
+}
+
+impl Hash for Demand {
+    ghost use Rattle.ps_demand.specs.Hashing.{same_hashed};
+
+    ghost hash_input = { λ d. hashed (requirement d) };
+
+    ghost respects_eq = { λ a b equal. same_hashed (requirement a) (requirement b) equal };
+
+    fn hash<H: Hasher>(&self, state: &mut H) {
+        give(self, state);
+    }
 }
 
 // Whether a demand is the same as one of these.

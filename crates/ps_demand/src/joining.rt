@@ -1,13 +1,14 @@
 // Parts joined by AND or OR, made slim.
 
-ghost use Rattle.std.specs.Prelude.{◌≡◌, [], ◌∷◌, ◌++◌, ◌||◌, not, IfOk, OnOk, map};
+ghost use Rattle.std.specs.Prelude.{◌≡◌, [], ◌∷◌, ◌++◌, IfOk, OnOk, map};
 ghost use Rattle.std.specs.List.{list_any};
 ghost use Rattle.ps_demand.specs.Requirement.{same};
-ghost use Rattle.ps_demand.specs.Slim.{neutral, deciding, parts_within, gathered, slim_of_parts};
+ghost use Rattle.ps_demand.specs.Slim.{neutral, deciding, parts_within, telling, gathered, slim_of_parts};
 ghost use Rattle.ps_demand.specs.Views.{requirement};
 
 use crate::demand::{Demand, Demands, is_among, is_same};
 use crate::join::Join;
+use indexmap::IndexSet;
 use ps_base::Memory;
 use std::alloc::Global;
 
@@ -90,25 +91,44 @@ fn is_decided(join: Join, parts: &[Demand]) -> bool
     is_among(&deciding(join), parts)
 }
 
-// Whether a part says something and equals no earlier one.
-fn tells(join: Join, part: &Demand, earlier: &[Demand]) -> bool
-    ensures { result ≡ not (same (requirement part.now) (neutral join) || list_any (same (requirement part.now)) (map requirement earlier.now)) }
+// Whether a part says nothing.
+fn is_silent(join: Join, part: &Demand) -> bool
+    ensures { result ≡ same (requirement part.now) (neutral join) }
 {
-    !(is_same(part, &neutral(join)) || is_among(part, earlier))
+    is_same(part, &neutral(join))
 }
 
-// Parts none of which is of the same sort, made slim. It compares each part with those before it.
+// The parts of a set, in its order.
+fn parts_of_set(alloc: Global, set: IndexSet<Demand>) -> Result<Vec<Demand>, Memory>
+    ensures { IfOk result (λ parts. parts.items ≡ set.keys) }
+{
+    let mut parts = Vec::new(alloc);
+    for part in set {
+        parts.push(part)?;
+    }
+    Ok(parts)
+}
+
+// The parts that say something, without those that equal an earlier one, which their hashes find.
+fn telling_parts(alloc: Global, join: Join, parts: Vec<Demand>) -> Result<Vec<Demand>, Memory>
+    ensures { IfOk result (λ told. map requirement told.items ≡ telling join [] (map requirement parts.items)) }
+{
+    let mut set = IndexSet::with_capacity(alloc, parts.len())?;
+    for part in parts {
+        if !is_silent(join, &part) {
+            set.insert(part)?;
+        }
+    }
+    parts_of_set(alloc, set)
+}
+
+// Parts none of which is of the same sort, made slim. It takes the time of a few looks at each part.
 pub(crate) fn slim_of_parts(alloc: Global, join: Join, parts: Vec<Demand>) -> Result<Demand, Memory>
     ensures { IfOk result (λ d. requirement d ≡ slim_of_parts join (map requirement parts.items)) }
 {
     if is_decided(join, parts.as_slice()) {
         return Ok(deciding(join));
     }
-    let mut telling = Vec::new(alloc);
-    for part in parts {
-        if tells(join, &part, telling.as_slice()) {
-            telling.push(part)?;
-        }
-    }
-    Ok(gather(join, telling))
+    let told = telling_parts(alloc, join, parts)?;
+    Ok(gather(join, told))
 }

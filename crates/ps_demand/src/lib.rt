@@ -5,8 +5,9 @@
 //! Its rooms:
 //!
 //! - `demand` has the formulas, `answer` is where one is asked for, `text` writes one; `lines` writes those of all safe outputs.
-//! - `counting` decides by counting leaves whether a formula is Large, before anything is built; `slimming` builds the formulas of all
-//!   signals step by step and makes each slim as it goes; `joining` joins slim parts; `table` is what both passes keep.
+//! - `counting` decides by counting leaves whether a formula is Large, before anything is built; `wanted` says how long the formula of
+//!   each signal is wanted; `slimming` builds those that are, step by step, and makes each slim as it goes; `releasing` lets go what is
+//!   wanted no more; `joining` joins slim parts; `table` is what the passes keep.
 //! - `laws` has the laws: a safe signal is TRUE only where its demand holds, in each scan of each run, and to make a formula slim
 //!   changes nothing.
 #![tactic(auto)]
@@ -18,9 +19,11 @@ mod join;
 mod joining;
 pub mod laws;
 mod lines;
+mod releasing;
 mod slimming;
 mod table;
 mod text;
+mod wanted;
 
 pub use answer::demand_of;
 pub use demand::{Demand, DemandFail, Demands, MOST_LEAVES};

@@ -1,11 +1,11 @@
 // The lines of what all safe outputs demand.
 
-ghost use Rattle.std.specs.Prelude.{◌≡◌, ◌<◌, ◌≤◌, ◌++◌, true, IfOk, IfNone, IfSome, OnOk, length};
-ghost use Rattle.ps_model.specs.Network.{signal_count, declared_count};
+ghost use Rattle.std.specs.Prelude.{◌≡◌, ◌<◌, ◌≤◌, ◌+◌, ◌++◌, true, IfOk, IfNone, IfSome, OnOk, length};
+ghost use Rattle.ps_model.specs.Network.{input_count, signal_count, declared_count};
 ghost use Rattle.ps_model.specs.Typing.{Accepted, is_safe_signal};
 ghost use Rattle.ps_demand.specs.Demand.{demand as demanded};
 ghost use Rattle.ps_demand.specs.Lines.{AreDemandLines, IsFirstLarge, NoneIsLarge, demand_line, demand_lines};
-ghost use Rattle.ps_demand.specs.Passes.{AreCounts, AreSlim};
+ghost use Rattle.ps_demand.specs.Passes.{AreCounts, HasSlim};
 ghost use Rattle.ps_demand.specs.Slim.{slim};
 ghost use Rattle.ps_demand.specs.Views.{requirement};
 
@@ -71,7 +71,7 @@ fn write_line(app: &App, output: u16, demand: &Demand, bytes: &mut Bytes) -> Res
 // The lines of the SAFEBOOL outputs, in order of declaration, by the demands of all signals.
 fn write_lines(alloc: Global, app: &App, rows: &[Demand]) -> Result<Bytes, Memory>
     requires none { NoneIsLarge app.now }
-    requires slim { AreSlim app.now (length app.now.steps) rows.now }
+    requires slim { HasSlim app.now (input_count app.now) (input_count app.now + length app.now.outputs) rows.now }
     ensures { IfOk result (λ bytes. bytes ≡ demand_lines app.now) }
 {
     app.sound();
@@ -89,16 +89,19 @@ fn write_lines(alloc: Global, app: &App, rows: &[Demand]) -> Result<Bytes, Memor
 /// the text of its demand made slim, and a line feed.
 ///
 /// `Large` comes exactly where an output's demand has over 1,000 leaves before it is made slim, with the first such output; that is
-/// decided by counting, before anything is built. Each step is gone through once for all outputs together. `Memory` comes only where
-/// memory is wanting.
+/// decided by counting, before anything is built. Each step is gone through a fixed number of times for all outputs together, and the
+/// work on a demand grows with its leaves. What no output comes to is not built, and what no later step reads is not kept. `Memory`
+/// comes only where memory is wanting.
 pub fn demand_lines(alloc: Global, app: &App) -> Result<Bytes, NoLines>
     requires { Accepted app.now }
-    ensures { AreDemandLines app.now result }
+    ensures lines { AreDemandLines app.now result }
 {
     let counts = count_signals(alloc, app)?;
     if let Some(output) = first_large(app, counts.as_slice()) {
         return Err(NoLines::Large(output));
     }
-    let rows = slim_signals(alloc, app)?;
+    app.sound();
+    let first = app.input_count();
+    let rows = slim_signals(alloc, app, first, first + app.output_count())?;
     Ok(write_lines(alloc, app, rows.as_slice())?)
 }

@@ -1,6 +1,6 @@
 // The demands of signals, made slim as they are built, step by step.
 
-ghost use Rattle.std.specs.Prelude.{◌≡◌, ◌<◌, ◌≤◌, ◌+◌, true, All, IfOk, OnOk, flat_map, length, map};
+ghost use Rattle.std.specs.Prelude.{◌≡◌, ◌<◌, ◌≤◌, ◌+◌, ℕ, true, All, IfOk, List, OnOk, Option, flat_map, length, map};
 ghost use Rattle.ps_model.specs.Args.{actual};
 ghost use Rattle.ps_model.specs.Blocks.{block};
 ghost use Rattle.ps_model.specs.Drivers.{driver};
@@ -10,17 +10,20 @@ ghost use Rattle.ps_model.specs.Scanning.{pin_at};
 ghost use Rattle.ps_model.specs.Typing.{Accepted, is_safe_signal};
 ghost use Rattle.ps_model.specs.Values.{IsBelow, AreBelow, values_at_pin};
 ghost use Rattle.ps_demand.specs.Demand.{constant, negated_signal, negated_at_pin, demand};
-ghost use Rattle.ps_demand.specs.Passes.{stands_before, slim_over, safe_slims, all_slims, slim_at_pin, slim_of_need, slim_output, kept_for, saturated, count_in, output_weight, IsNeedOf, AreCounts, AreSlim, AreOutputs};
+ghost use Rattle.ps_demand.specs.Passes.{stands_before, slim_over, safe_slims, all_slims, slim_at_pin, slim_of_need, slim_output, kept_for, saturated, count_in, output_weight, IsNeedOf, AreCounts, AreSlim, AreOutputs, HasSlim};
 ghost use Rattle.ps_demand.specs.Requirement.{leaf_count};
 ghost use Rattle.ps_demand.specs.Slim.{joined, slim};
 ghost use Rattle.ps_demand.specs.Views.{requirement};
+ghost use Rattle.ps_demand.specs.Wanted.{WantsReads};
 ghost use Rattle.ps_demand.specs.declared.join.Join.TheVariants.{And, Or};
 
 use crate::counting::{count_output, count_step, count_value, first_counts, is_safe_value};
 use crate::demand::{Demand, MOST_LEAVES, copy};
 use crate::join::Join;
 use crate::joining::{add_part, slim_of_parts};
+use crate::releasing::release_step;
 use crate::table::write_over;
+use crate::wanted::{is_wanted_behind, last_readers};
 use ps_base::Memory;
 use ps_model::{
     App, Arg, Args, Driver, Expr, Kind, Need, Step, Ty, demand, input_type, is_safe, pin_row,
@@ -263,24 +266,29 @@ fn slim_outputs(
     Ok(outputs)
 }
 
-// Goes on by a step with the slim demands of all signals.
+// Goes on by a step with the slim demands of all signals that are wanted.
 fn slim_step(
     alloc: Global,
     app: &App,
     k: u16,
     counts: &[u32],
+    last: &[Option<u16>],
     rows: &mut Vec<Demand>,
 ) -> Result<(), Memory>
     requires step { k < length app.now.steps }
     requires accepted { Accepted app.now }
     requires counted { AreCounts app.now k counts.now }
-    requires slim { AreSlim app.now k rows.old.items }
-    ensures { OnOk result (AreSlim app.now (k + 1) rows.new.items) }
+    requires wanted { WantsReads app.now k last.now }
+    requires slim { AreSlim app.now k last.now rows.old.items }
+    ensures { OnOk result (AreSlim app.now (k + 1) last.now rows.new.items) }
 {
     app.sound();
     match app.step(k) {
         Step::Assign { target, value } => {
-            if is_safe(app, *target) && count_value(app, counts, value) <= MOST_LEAVES {
+            if is_safe(app, *target)
+                && is_wanted_behind(last, k, *target)
+                && count_value(app, counts, value) <= MOST_LEAVES
+            {
                 let demand = slim_value(alloc, app, rows.as_slice(), value)?;
                 rows[*target as usize] = demand;
             }
@@ -296,7 +304,7 @@ fn slim_step(
 
 // The demands of the signals as the first step reads them: an input is itself, and all else is of the scan before.
 fn first_demands(alloc: Global, app: &App) -> Result<Vec<Demand>, Memory>
-    ensures { IfOk result (λ rows. AreSlim app.now 0 rows.items) }
+    ensures { (last : List (Option ℕ)) → IfOk result (λ rows. AreSlim app.now 0 last rows.items) }
 {
     let inputs = app.input_count();
     let mut rows = Vec::new(alloc);
@@ -310,16 +318,25 @@ fn first_demands(alloc: Global, app: &App) -> Result<Vec<Demand>, Memory>
     Ok(rows)
 }
 
-// The slim demands of all signals after all steps, where they are not Large. Each step is gone through once.
-pub(crate) fn slim_signals(alloc: Global, app: &App) -> Result<Vec<Demand>, Memory>
-    requires { Accepted app.now }
-    ensures { IfOk result (λ rows. AreSlim app.now (length app.now.steps) rows.items) }
+// The slim demands of the signals from `first` on to `end` after all steps, where they are not Large. Each step is gone through once,
+// and the demand of a signal is built where one of these comes to it, and kept up to the last step that reads it.
+pub(crate) fn slim_signals(
+    alloc: Global,
+    app: &App,
+    first: u16,
+    end: u16,
+) -> Result<Vec<Demand>, Memory>
+    requires accepted { Accepted app.now }
+    requires within { end ≤ signal_count app.now }
+    ensures { IfOk result (λ rows. HasSlim app.now first end rows.items) }
 {
+    let last = last_readers(alloc, app, first, end)?;
     let mut counts = first_counts(alloc, app)?;
     let mut rows = first_demands(alloc, app)?;
     for k in 0..app.step_count() {
-        slim_step(alloc, app, k, counts.as_slice(), &mut rows)?;
+        slim_step(alloc, app, k, counts.as_slice(), last.as_slice(), &mut rows)?;
         count_step(alloc, app, k, &mut counts)?;
+        release_step(app, k, last.as_slice(), &mut rows);
     }
     Ok(rows)
 }
@@ -332,6 +349,7 @@ pub(crate) fn slim_demand(alloc: Global, app: &App, signal: u16) -> Result<Deman
     requires small { leaf_count (demand app.now signal) ≤ MOST_LEAVES }
     ensures { IfOk result (λ d. requirement d ≡ slim (demand app.now signal)) }
 {
-    let rows = slim_signals(alloc, app)?;
+    app.sound();
+    let rows = slim_signals(alloc, app, signal, signal + 1)?;
     copy(alloc, &rows[signal as usize])
 }

@@ -14,7 +14,8 @@ VAR x, y, z : SAFEBOOL; END_VAR ";
 
 const END: &str = " END_PROGRAM";
 
-// AND and OR, BOOL operands, parts of the same sort, repeated parts, brackets, and signals that are read before they are assigned.
+// AND and OR, BOOL operands, parts of the same sort, repeated parts, brackets, signals that are read before they are assigned, and
+// signals that nothing reads, or that are read again later.
 const FORMULAS: &str = "\
 S_o := S_a; => S_o needs S_a
 S_o := S_a AND b; => S_o needs S_a
@@ -30,6 +31,14 @@ x := S_a OR S_b; S_o := x OR S_c; => S_o needs S_a OR S_b OR S_c
 x := y AND S_a; y := S_a; S_o := x; => S_o needs y@before AND S_a
 S_o := x; x := S_a; => S_o needs x@before
 S_o := S_a AND S_o; => S_o needs S_a AND S_o@before
+S_o := (S_a OR S_b OR S_a) AND (S_b OR S_b) AND (S_a OR S_b); => S_o needs (S_a OR S_b) AND S_b
+S_o := (S_a AND S_b OR S_c) AND (S_a AND S_b OR S_c) AND (S_c OR S_a AND S_b); => S_o needs ((S_a AND S_b) OR S_c) AND (S_c OR (S_a AND S_b))
+x := (S_a OR S_b) AND (S_a OR S_c); S_o := x AND (S_a OR S_c) AND (S_b OR S_a) AND x; => S_o needs (S_a OR S_b) AND (S_a OR S_c) AND (S_b OR S_a)
+S_o := S_o AND y AND (y AND S_o) AND S_a; y := S_a; => S_o needs S_o@before AND y@before AND S_a
+x := y AND S_a; y := S_a AND S_b; S_o := x AND y; => S_o needs y@before AND S_a AND S_b
+x := S_a AND S_b; y := x OR S_c; S_o := S_c; => S_o needs S_c
+x := S_a OR S_b; y := x AND S_c; z := y AND x; S_o := z AND x; => S_o needs (S_a OR S_b) AND S_c
+x := S_a OR S_b; y := x; z := x OR y; S_o := y OR S_c; => S_o needs S_a OR S_b OR S_c
 ";
 
 // The same with contacts that change together.
@@ -53,6 +62,9 @@ Ee(S_ChannelNC := TRUE, S_ChannelNO := FALSE); S_o := Ee.S_AntivalentOut; => S_o
 Ee(S_ChannelNO := S_b); S_o := Ee.S_AntivalentOut; => S_o needs FALSE
 S_o := eE.s_antivalentout OR S_c; Ee(S_ChannelNC := S_a); => S_o needs Ee.S_AntivalentOut@before OR S_c
 Ee(S_ChannelNC := S_a, S_ChannelNO := Ee.S_AntivalentOut); S_o := Ee.S_AntivalentOut; => S_o needs S_a AND NOT Ee.S_AntivalentOut@before
+Ee(S_ChannelNC := S_b, S_ChannelNO := S_b); S_o := Ee.S_AntivalentOut AND S_b; => S_o needs S_b AND NOT S_b
+x := S_a OR S_b; Ee(S_ChannelNC := x, S_ChannelNO := FALSE); S_o := Ee.S_AntivalentOut AND x AND S_c; => S_o needs (S_a OR S_b) AND S_c
+x := S_a OR S_b; Ee(S_ChannelNC := x); S_o := S_c; => S_o needs S_c
 ";
 
 // Three inputs and an output.

@@ -81,6 +81,38 @@ fn deep_text(alloc: Global) -> Result<String, Memory> {
     Ok(text)
 }
 
+// Adds this many names, from 0 on, with a text between any two.
+fn push_names(alloc: Global, text: &mut String, count: u32, between: &str) -> Result<(), Memory> {
+    text.push_str("S_0")?;
+    for name in 1..count {
+        text.push_str(between)?;
+        push_numbered(alloc, text, "S_#", name)?;
+    }
+    Ok(())
+}
+
+// An application whose local demands 500 names, and whose outputs repeat one of them.
+fn wide_text(alloc: Global) -> Result<String, Memory> {
+    let mut text = String::from_str(alloc, "PROGRAM P VAR_INPUT ")?;
+    push_names(alloc, &mut text, 500, ", ")?;
+    text.push_str(
+        " : SAFEBOOL; END_VAR VAR_OUTPUT S_o, S_p : SAFEBOOL; END_VAR VAR all : SAFEBOOL; END_VAR all := ",
+    )?;
+    push_names(alloc, &mut text, 500, " AND ")?;
+    text.push_str("; S_o := all AND S_499 AND S_0; S_p := S_0 OR all OR S_0; END_PROGRAM")?;
+    Ok(text)
+}
+
+// Its lines.
+fn wide_lines(alloc: Global) -> Result<String, Memory> {
+    let mut lines = String::from_str(alloc, "S_o needs ")?;
+    push_names(alloc, &mut lines, 500, " AND ")?;
+    lines.push_str("\nS_p needs S_0 OR (")?;
+    push_names(alloc, &mut lines, 500, " AND ")?;
+    lines.push_str(")\n")?;
+    Ok(lines)
+}
+
 // Asserts what comes of each application.
 fn each_is_met(rt: &impl Abort, alloc: Global) -> Result<(), Memory> {
     for (body, wanted) in BODIES {
@@ -96,5 +128,14 @@ fn sizes(rt: HostRuntime) -> Result<(), Fail> {
     // It is refused by counting, at once.
     let text = deep_text(rt.alloc())?;
     hold(&rt, rt.alloc(), "deep", text.as_str(), Wanted::Large(1));
+    let lines = wide_lines(rt.alloc())?;
+    let text = wide_text(rt.alloc())?;
+    hold(
+        &rt,
+        rt.alloc(),
+        "wide",
+        text.as_str(),
+        Wanted::Lines(lines.as_str()),
+    );
     Ok(())
 }

@@ -17,8 +17,8 @@ use Rattle.ps_demand.proofs.Counted.{weight_is, output_weight_is}
 use Rattle.ps_demand.proofs.Tables.{assigned_right, skipped_right, called_right, values_fit, length-over}
 use Rattle.ps_demand.proofs.counting.count_step.Goals as goal
 
-abbrev Counts : Requirement → ℕ → Type 0
-Counts q n = n ≡ saturated (leaf_count q)
+abbrev Counts : ℕ → Requirement → ℕ → Type 0
+Counts s q n = n ≡ saturated (leaf_count q)
 
 pub count_value-requires-clause-below : goal.count_value-requires-clause-below
 count_value-requires-clause-below c =

@@ -6,6 +6,9 @@ use Rattle.ps_demand.specs.Views.{requirement}
 use Rattle.ps_demand.proofs.Kept.{kept_at}
 use Rattle.ps_demand.proofs.slimming.slim_demand.Goals as goal
 
+pub overflow_add-signal : goal.overflow_add-signal
+overflow_add-signal c = omega (arith, c.requires.below, c.sound.ensures.few_signals)
+
 pub returns : goal.returns
 returns c =
     let net = c.args.app.now in
@@ -14,5 +17,5 @@ returns c =
     let inside : s < length rows = omega (arith, c.in_ok-rows.ensures.long, c.requires.below) in
     let same : requirement c.index.result.now ≡ slim (demand net s) =
     kept_at rows s c.index.result.now inside c.index.ensures
-    ∙ c.in_ok-rows.ensures.each s c.requires.below c.requires.safe c.requires.small in
+    ∙ c.in_ok-rows.ensures.each s (omega arith) (omega arith) c.requires.safe c.requires.small in
     subst (λ (z : Requirement). IfOk c.copy.result (λ d. requirement d ≡ z)) same c.copy.ensures

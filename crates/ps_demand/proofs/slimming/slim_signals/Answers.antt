@@ -5,5 +5,10 @@ use Rattle.ps_demand.proofs.slimming.slim_signals.Goals as goal
 pub returns : goal.returns
 returns c =
     let net = c.args.app.now in
+    let last = c.in_ok-last.last.items in
     let whole : c.loop-k.k ≡ length net.steps = omega (arith, c.step_count-k-end.ensures, c.loop-k.auto.k-end, c.loop-k-test.false) in
-    subst (λ (k : ℕ). AreSlim net k c.loop-k.rows.items) whole c.loop-k.invariant.small
+    let all : AreSlim net (length net.steps) last c.loop-k.rows.items = subst (λ (k : ℕ). AreSlim net k last c.loop-k.rows.items) whole c.loop-k.invariant.small in
+    record {
+      long = all.long;
+      each = λ s low high is few. all.each s (omega (arith, high, c.requires.within)) is (c.in_ok-last.ensures.after_all s low high) few;
+    }

@@ -14,10 +14,10 @@ use Rattle.ps_names.specs.Offences.{unless}
 use Rattle.ps_names.specs.Uses.{Use, runs, gives, factor_uses, product_uses, sum_uses, value_uses, argument_uses, statement_uses}
 use Rattle.ps_names.proofs.Distinct.{none_left, none_right}
 use Rattle.ps_derived.specs.declared.declared.Declared.{Declared}
-use Rattle.ps_derived.specs.Bodies.{same, is_local, is_output, first_declared, inputs}
+use Rattle.ps_derived.specs.Bodies.{same, type_in, is_output, first_declared, inputs}
 use Rattle.ps_derived.specs.Flat.{FlatBlock, DerivedInstance, block_named, block_in, instance_by, instance_if, instance_of}
-use Rattle.ps_derived_rules.specs.declared.interface.Interface.{Interface}
-use Rattle.ps_derived_rules.specs.Interfaces.{interface_named, derived_if, is_in}
+use Rattle.ps_derived.specs.declared.interface.Interface.{Interface}
+use Rattle.ps_derived.specs.Interfaces.{interface_named, derived_if, is_in}
 use Rattle.ps_derived_rules.specs.BlockRules.{misread, misused}
 use Rattle.ps_nested.proofs.Plainly.{HasNoDot, plain_name}
 
@@ -69,7 +69,7 @@ module _ (blocks : List FlatBlock) (ds : List Declared) where
       by true rest e = output (is_in is_output (first_declared b.declared q)) _ e
       by false rest e = rest e
 
-  declared_face : (d : Declared) (part : Part) (q : Name) → misread q (if is_local part then interface_named (faces blocks) d.ty else None) ≡ [] → OutputRead q (instance_by d (block_in blocks part d.ty))
+  declared_face : (d : Declared) (part : Part) (q : Name) → misread q (type_in (λ (b : Interface). b.name) (faces blocks) part d.ty) ≡ [] → OutputRead q (instance_by d (block_in blocks part d.ty))
   declared_face d Input q h = tt
   declared_face d Output q h = tt
   declared_face d Local q h = named_face blocks d q h

@@ -12,7 +12,7 @@ use Rattle.ps_parser.specs.declared.section.Part.TheVariants.{Input, Output, Loc
 use Rattle.ps_names.proofs.Lists.{any_map}
 use Rattle.ps_derived.specs.declared.declared.Declared.{Declared}
 use Rattle.ps_derived.specs.Bodies.{same, is_input, is_output, is_among, first_declared, inputs_after, inputs}
-use Rattle.ps_derived_rules.specs.Interfaces.{is_in}
+use Rattle.ps_derived.specs.Interfaces.{is_in}
 
 find_past : {X : Type 0} (p : X → Bool) (xs ys : List X) → list_any p xs ≡ false → find p (xs ++ ys) ≡ find p ys
 find_past p [] ys h = refl

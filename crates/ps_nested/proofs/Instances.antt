@@ -25,14 +25,14 @@ use Rattle.ps_names.specs.Names.{entry_of, sort_in, type_named, section_entries,
 use Rattle.ps_names.specs.Offences.{unless}
 use Rattle.ps_names.proofs.Distinct.{none_left, none_right}
 use Rattle.ps_derived.specs.declared.declared.Declared.{Declared}
-use Rattle.ps_derived.specs.Bodies.{is_input, is_output, is_local, declared_as, declares, section_declares, declared_names}
+use Rattle.ps_derived.specs.Bodies.{same, is_input, is_output, is_local, declared_as, declares, section_declares, declared_names}
 use Rattle.ps_derived.specs.Dotted.{inside, declaration_inside}
 use Rattle.ps_derived.specs.Flat.{FlatBlock, block_in, declarations_in, copy_declares, declaration_flat, section_flat, block_flat}
-use Rattle.ps_derived_rules.specs.declared.interface.Interface.{Interface}
+use Rattle.ps_derived.specs.declared.interface.Interface.{Interface}
 use Rattle.ps_derived_rules.specs.BlockRules.{names_signal, typed_wrongly}
-use Rattle.ps_by_name.specs.Paths.{at, copy_at}
-use Rattle.ps_by_name.specs.Equations.{standard, derived}
-use Rattle.ps_by_name.specs.Texts.{instance_at, instances_in}
+use Rattle.ps_nested.specs.Paths.{at, copy_at}
+use Rattle.ps_nested.specs.Equations.{standard, derived}
+use Rattle.ps_nested.specs.Texts.{instance_at, instances_in}
 use Rattle.ps_nested.specs.Nested.{callee_in, instances_by, instances_of}
 use Rattle.ps_nested.proofs.PathNames.{at_inside}
 use Rattle.ps_nested.proofs.Pairs.{Pair, laid_of, bodies, Looked, nothing, found, laid_there, callee_there, either, look_named, laid_in, callee_is}
@@ -67,7 +67,7 @@ FoundHas (found p) = HasInstances p
 
 found_has : (ps : List Pair) (ty : Name) → AllHave ps → FoundHas (look_named ps ty)
 found_has [] ty h = tt
-found_has (p ∷ ps) ty h = by (names.same ty p.laid.name) (found_has ps ty h.1)
+found_has (p ∷ ps) ty h = by (same ty p.laid.name) (found_has ps ty h.1)
   where
     by : (b : Bool) → FoundHas (look_named ps ty) → FoundHas (either b (found p) (look_named ps ty))
     by true rest = h.0

@@ -7,11 +7,11 @@ use Rattle.ps_parser.specs.declared.section.Part.{Part}
 use Rattle.ps_parser.specs.declared.section.Part.TheVariants.{Input, Output, Local}
 use Rattle.ps_derived.specs.declared.declared.Declared.{Declared}
 use Rattle.ps_derived.specs.Bodies.{same, first_declared, inputs}
-use Rattle.ps_derived.specs.Flat.{FlatBlock, DerivedInstance, block_in, instance_by, instance_if, instance_of, output_spelt}
+use Rattle.ps_derived.specs.Flat.{FlatBlock, DerivedInstance, block_in, instance_by, instance_if, instance_of}
 use Rattle.ps_derived.specs.Flat as flat
-use Rattle.ps_by_name.specs.Reading.{Scan, Before}
-use Rattle.ps_by_name.specs.Equations.{Body, Callee, standard, derived, statements_leave, StatementsHold}
-use Rattle.ps_by_name.specs.Texts.{plain}
+use Rattle.ps_nested.specs.Reading.{Scan, Before}
+use Rattle.ps_nested.specs.Equations.{Body, Callee, standard, derived, statements_leave, StatementsHold}
+use Rattle.ps_nested.specs.Texts.{plain}
 use Rattle.ps_nested.specs.Nested.{chosen, block_named, callee_in, callee_of}
 
 -- a copy drives, calls and says what the statements of its flat source do
@@ -159,12 +159,3 @@ module _ (ps : List Pair) (n : Name) where
           callee_is ps d.part d.ty
           ∙ callee_as d.name (sym ((bytes_eq-Decides (folded n.text) (folded d.name.text)).0 is)) (look_in ps d.part d.ty)
       by false is rest = rest
-
--- an output has its name, however it is spelt
-pub spelt_same : (ds : List Declared) (q : Name) → folded (output_spelt q (first_declared ds q)) ≡ folded q.text
-spelt_same [] q = refl
-spelt_same (d ∷ ds) q = by (same q d.name) refl (spelt_same ds q)
-  where
-    by : (b : Bool) → same q d.name ≡ b → folded (output_spelt q (first_declared ds q)) ≡ folded q.text → folded (output_spelt q (cond b (Some d) (first_declared ds q))) ≡ folded q.text
-    by true is rest = sym ((bytes_eq-Decides (folded q.text) (folded d.name.text)).0 is)
-    by false is rest = rest

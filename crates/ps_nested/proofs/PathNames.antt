@@ -5,7 +5,7 @@ use Rattle.std.proofs.lemmas.List.{map-append}
 use Rattle.ps_base.specs.LetterCase.{folded}
 use Rattle.ps_parser.specs.declared.name.Name.{Name}
 use Rattle.ps_derived.specs.Dotted.{inside}
-use Rattle.ps_by_name.specs.Paths.{at, copy_at}
+use Rattle.ps_nested.specs.Paths.{at, copy_at}
 
 -- the text of a dotted name without letter case
 pub dotted_folded : (g n : List ℕ) → folded (g ++ 46 ∷ n) ≡ folded g ++ 46 ∷ folded n

@@ -10,7 +10,7 @@ use Rattle.ps_base.specs.LetterCase.{folded}
 use Rattle.ps_lexer.specs.Spelling.{continues_name}
 use Rattle.ps_parser.specs.declared.name.Name.{Name}
 use Rattle.ps_parser.specs.Names.{IsPlainName}
-use Rattle.ps_by_name.specs.Paths.{at, copy_at}
+use Rattle.ps_nested.specs.Paths.{at, copy_at}
 use Rattle.ps_nested.specs.Laws.{written, PathsAreApart}
 
 -- no byte is a dot

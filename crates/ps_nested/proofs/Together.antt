@@ -17,19 +17,21 @@ use Rattle.ps_parser.specs.Tree.{FactorTree, Signal, Pin, Literal, Time, Group, 
 use Rattle.ps_derived.specs.declared.declared.Declared.{Declared}
 use Rattle.ps_derived.specs.Bodies.{same, first_declared, inputs}
 use Rattle.ps_derived.specs.Dotted.{inside, statement_inside}
-use Rattle.ps_derived.specs.Flat.{FlatBlock, DerivedInstance, instance_if, instance_of, output_spelt, output_read, factor_flat, product_flat, sum_flat, argument_flat, input_assigned, call_flat, statement_flat}
-use Rattle.ps_by_name.specs.Paths.{at, copy_at, is_among}
-use Rattle.ps_by_name.specs.Reading.{Scan, Before, Reading, and_then, drives, calls, signal_seen, output_seen, factor_value, product_value, sum_value}
-use Rattle.ps_by_name.specs.Equations.{Callee, argument_value, actual_of, given, actuals, kind_at, HasMoved, Moves, inputs_driven, call_leaves, statement_leaves, statements_leave, dotted_seen, reading_at, InputsHold, CallHolds, StatementHolds, StatementsHold}
-use Rattle.ps_by_name.specs.Texts.{plain}
-use Rattle.ps_by_name.proofs.Walk.{then_nothing, then_then, leave_append, hold_append}
+use Rattle.ps_derived.specs.Spelling.{spelling}
+use Rattle.ps_derived.proofs.Spelt.{spelt_same}
+use Rattle.ps_derived.specs.Flat.{FlatBlock, DerivedInstance, instance_if, instance_of, output_read, factor_flat, product_flat, sum_flat, argument_flat, input_assigned, call_flat, statement_flat}
+use Rattle.ps_nested.specs.Paths.{at, copy_at, is_among}
+use Rattle.ps_nested.specs.Reading.{Scan, Before, Reading, and_then, drives, calls, signal_seen, output_seen, factor_value, product_value, sum_value}
+use Rattle.ps_nested.specs.Equations.{Callee, argument_value, actual_of, given, actuals, kind_at, HasMoved, Moves, inputs_driven, call_leaves, statement_leaves, statements_leave, dotted_seen, reading_at, InputsHold, CallHolds, StatementHolds, StatementsHold}
+use Rattle.ps_nested.specs.Texts.{plain}
+use Rattle.ps_nested.proofs.Walk.{then_nothing, then_then, leave_append, hold_append}
 use Rattle.ps_nested.specs.Nested.{callee_of}
 use Rattle.ps_nested.proofs.PathNames.{at_inside, at_same, copy_same}
 use Rattle.ps_nested.proofs.Inside.{all_leave_inside, all_hold_inside}
 use Rattle.ps_nested.proofs.Plainly.{HasNoDot, own_name, one_copy}
 use Rattle.ps_nested.proofs.FirstInputs.{IsInputOf, inputs_are, never_both}
 use Rattle.ps_nested.proofs.FineCalls.{OutputRead, FactorFine, ProductFine, SumFine, StatementFine}
-use Rattle.ps_nested.proofs.Pairs.{Pair, laid_of, bodies, Seen, no_instance, instance, instance_there, callee_seen, seen, instance_is, callee_of_is, spelt_same}
+use Rattle.ps_nested.proofs.Pairs.{Pair, laid_of, bodies, Seen, no_instance, instance, instance_there, callee_seen, seen, instance_is, callee_of_is}
 
 -- ---- equivalences
 
@@ -65,8 +67,8 @@ module _ (ps : List Pair) (ds : List Declared) (path : List ℕ) where
     dotted_as n q (instance g is p) =
         ap (signal_seen scan before)
         (ap (λ c. at c q) (copy_same path n g (sym is))
-        ∙ at_same (copy_at path g) q (record { text = output_spelt q (first_declared p.laid.declared q); place = n.place }) (sym (spelt_same p.laid.declared q))
-        ∙ sym (at_inside path g (record { text = output_spelt q (first_declared p.laid.declared q); place = n.place })))
+        ∙ at_same (copy_at path g) q (record { text = spelling q (first_declared p.laid.declared q); place = n.place }) (sym (spelt_same p.laid.declared q))
+        ∙ sym (at_inside path g (record { text = spelling q (first_declared p.laid.declared q); place = n.place })))
 
     mutual
       factor_laid : (f : FactorTree) → factor_value nested f ≡ factor_value laid (factor_flat (laid_of ps) ds f)

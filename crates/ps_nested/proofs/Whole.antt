@@ -1,5 +1,5 @@
 -- Nested is flat.
-use Rattle.std.proofs.Common.{◌≡◌, ◌↔◌, ℕ, Bool, cond, List, [], ◌∷◌, ◌++◌, Option, None, Some, map, slice_get, refl, sym, ap, subst, ◌∙◌, append_assoc}
+use Rattle.std.proofs.Common.{◌≡◌, ◌↔◌, ℕ, Bool, false, cond, List, [], ◌∷◌, ◌++◌, Option, None, Some, map, filter, slice_get, refl, sym, ap, subst, ◌∙◌, append_assoc}
 use Rattle.std.specs.List.{flat_map, AllByRecursion}
 use Rattle.std.proofs.lemmas.List.{append-nil}
 use Rattle.std.proofs.lemmas.List.Elements.{filter-append}
@@ -14,30 +14,34 @@ use Rattle.ps_parser.specs.declared.section.Declaration.{Declaration}
 use Rattle.ps_parser.specs.declared.section.Section.{Section}
 use Rattle.ps_parser.specs.Tree.{SourceTree}
 use Rattle.ps_names.specs.declared.entry.Entry.{Entry}
+use Rattle.ps_names.specs.declared.entry.Sort.{Sort}
 use Rattle.ps_names.specs.declared.entry.TypeNamed.{TypeNamed}
 use Rattle.ps_names.specs.declared.entry.TypeNamed.TheVariants as type_name
-use Rattle.ps_names.specs.Names.{declares, sort_in, type_named, section_entries, entries, entry_of, is_input}
+use Rattle.ps_names.specs.Names.{declares, sort_in, type_named, section_entries, entries, entry_of, is_input, is_output}
 use Rattle.ps_names.specs.Uses.{statement_uses, called}
 use Rattle.ps_names.proofs.Distinct.{none_left, none_right}
 use Rattle.ps_derived.specs.declared.declared.Declared.{Declared}
 use Rattle.ps_derived.specs.declared.library.Library.{Library}
 use Rattle.ps_derived.specs.Bodies.{declared_names, inputs}
 use Rattle.ps_derived.specs.Texts.{IsLibraryWithin}
+use Rattle.ps_derived.specs.Renaming.{statement_renamed}
+use Rattle.ps_derived.specs.Spelling.{as_declared, spelt_as_declared}
 use Rattle.ps_derived.specs.Flat.{FlatBlock, block_in, declaration_flat, section_flat, body_flat, block_flat, blocks_flat, flat}
-use Rattle.ps_derived_rules.specs.declared.interface.Interface.{Interface}
-use Rattle.ps_derived_rules.specs.Interfaces.{interface_of}
-use Rattle.ps_derived_rules.specs.BlockRules.{typed_wrongly, misused, miscalled_by, called_wrongly, body_breaks, blocks_break, block_names, named_wrongly, too_large, offences}
-use Rattle.ps_by_name.specs.Paths.{is_among}
-use Rattle.ps_by_name.specs.Reading.{Values, Scan, Before, and_then}
-use Rattle.ps_by_name.specs.Equations.{Body}
-use Rattle.ps_by_name.specs.Texts.{plain_body, inputs_among, begun, scan_of, Scanned}
-use Rattle.ps_by_name.specs.ByName.{by_name}
-use Rattle.ps_by_name.proofs.Whole.{names_are_numbers}
+use Rattle.ps_derived.specs.declared.interface.Interface.{Interface}
+use Rattle.ps_derived.specs.Interfaces.{interface_of}
+use Rattle.ps_derived_rules.specs.BlockRules.{typed_wrongly, misused, miscalled_by, called_wrongly, body_breaks, blocks_break, block_names, named_wrongly, text_too_large, block_offences}
+use Rattle.ps_nested.specs.Paths.{is_among}
+use Rattle.ps_nested.specs.Reading.{Values, Scan, Before, and_then}
+use Rattle.ps_nested.specs.Equations.{Body}
+use Rattle.ps_nested.specs.Texts.{plain_body, inputs_among, begun, scan_of, Scanned}
+use Rattle.ps_nested.specs.ByName.{by_name}
+use Rattle.ps_nested.proofs.Named.{names_are_numbers}
 use Rattle.ps_nested.specs.Nested.{body_of, bodies_of, program_of}
 use Rattle.ps_nested.specs.Laws.{NestedIsFlat}
 use Rattle.ps_nested.proofs.Pairs.{Pair, laid_of, bodies, laid_append, bodies_append}
 use Rattle.ps_nested.proofs.FineCalls.{faces, StatementFine, statements_fine}
-use Rattle.ps_nested.proofs.Together.{both, through, leaves_flat, holds_flat}
+use Rattle.ps_nested.proofs.Together.{both, through, same_type, leaves_flat, holds_flat}
+use Rattle.ps_nested.proofs.Spelt.{leaves_spelt, holds_spelt, fine_spelt}
 use Rattle.ps_nested.proofs.Instances.{AllHave, all_have, block_same, sections_same}
 
 -- ---- function blocks, one after the other
@@ -48,16 +52,20 @@ BodyFine ps s = AllByRecursion (StatementFine (laid_of ps) (declared_names s.sec
 
 -- a function block laid flat over those before it, and what it means
 abbrev pair_of : (ps : List Pair) (s : SourceTree) → BodyFine ps s → Pair
-pair_of ps s fine = record {
-  laid = block_flat (laid_of ps) s;
-  body = body_of (bodies ps) s;
-  meant = record {
-    name = refl;
-    inputs_are = refl;
-    leaves = λ path. leaves_flat ps (declared_names s.sections) path s.statements;
-    holds = λ scan path before. holds_flat ps (declared_names s.sections) path scan before s.statements fine;
-  };
-}
+pair_of ps s fine =
+    let ds = declared_names s.sections in
+    let spelt = map (statement_renamed (as_declared ds)) s.statements in
+    record {
+      laid = block_flat (laid_of ps) (spelt_as_declared s);
+      body = body_of (bodies ps) s;
+      meant = record {
+        name = refl;
+        inputs_are = refl;
+        leaves = λ path. sym (leaves_spelt (bodies ps) ds path s.statements) ∙ leaves_flat ps ds path spelt;
+        holds = λ scan path before.
+            through (same_type _ _ (sym (holds_spelt (bodies ps) ds path scan before s.statements))) (holds_flat ps ds path scan before spelt (fine_spelt (laid_of ps) ds s.statements fine));
+      };
+    }
 
 -- each is fine over those before it
 abbrev AllFine : List Pair → List SourceTree → Type 0
@@ -68,9 +76,9 @@ abbrev pairs_of : (ps : List Pair) (ss : List SourceTree) → AllFine ps ss → 
 pairs_of ps [] fine = ps
 pairs_of ps (s ∷ ss) fine = pairs_of (ps ++ pair_of ps s fine.0 ∷ []) ss fine.1
 
-laid_are : (ps : List Pair) (ss : List SourceTree) (fine : AllFine ps ss) → blocks_flat (laid_of ps) ss ≡ laid_of (pairs_of ps ss fine)
+laid_are : (ps : List Pair) (ss : List SourceTree) (fine : AllFine ps ss) → blocks_flat (laid_of ps) (map spelt_as_declared ss) ≡ laid_of (pairs_of ps ss fine)
 laid_are ps [] fine = refl
-laid_are ps (s ∷ ss) fine = ap (λ bs. blocks_flat bs ss) (sym (laid_append ps (pair_of ps s fine.0 ∷ []))) ∙ laid_are (ps ++ pair_of ps s fine.0 ∷ []) ss fine.1
+laid_are ps (s ∷ ss) fine = ap (λ bs. blocks_flat bs (map spelt_as_declared ss)) (sym (laid_append ps (pair_of ps s fine.0 ∷ []))) ∙ laid_are (ps ++ pair_of ps s fine.0 ∷ []) ss fine.1
 
 bodies_are : (ps : List Pair) (ss : List SourceTree) (fine : AllFine ps ss) → bodies_of (bodies ps) ss ≡ bodies (pairs_of ps ss fine)
 bodies_are ps [] fine = refl
@@ -83,7 +91,7 @@ faces_append [] cs = refl
 faces_append (b ∷ bs) cs = ap (λ l. record { name = b.name; scope = b.declared; inputs = inputs b.declared } ∷ l) (faces_append bs cs)
 
 one_more_face : (ps : List Pair) (s : SourceTree) (fine : BodyFine ps s) → faces (laid_of (ps ++ pair_of ps s fine ∷ [])) ≡ faces (laid_of ps) ++ interface_of s ∷ []
-one_more_face ps s fine = ap faces (laid_append ps (pair_of ps s fine ∷ [])) ∙ faces_append (laid_of ps) (block_flat (laid_of ps) s ∷ [])
+one_more_face ps s fine = ap faces (laid_append ps (pair_of ps s fine ∷ [])) ∙ faces_append (laid_of ps) (block_flat (laid_of ps) (spelt_as_declared s) ∷ [])
 
 faces_are : (ps : List Pair) (ss : List SourceTree) (fine : AllFine ps ss) → faces (laid_of (pairs_of ps ss fine)) ≡ faces (laid_of ps) ++ map interface_of ss
 faces_are ps [] fine = sym (append-nil (faces (laid_of ps)))
@@ -132,53 +140,68 @@ pairs_have names before ps (s ∷ ss) fine have h =
     (all_have ps (pair_of ps s fine.0) have (λ path. block_same ps have path names before s body.types))
     (none_right (body_breaks names before Block s) later h)
 
--- ---- inputs of the program
-
-locals_none : (ty : Name) (ns : List Name) → inputs_among (map (entry_of Local ty) ns) ≡ []
-locals_none ty [] = refl
-locals_none ty (n ∷ ns) = by (type_named ty.text) (locals_none ty ns)
-  where
-    by : (t : Option TypeNamed) → inputs_among (map (entry_of Local ty) ns) ≡ [] →
-        cond (is_input (sort_in Local t)) (record { name = n; ty = ty.place; sort = sort_in Local t } ∷ inputs_among (map (entry_of Local ty) ns)) (inputs_among (map (entry_of Local ty) ns)) ≡ []
-    by None rest = rest
-    by (Some (type_name.Signal t)) rest = rest
-    by (Some (type_name.Block k)) rest = rest
-
-local_declarations_none : (ds : List Declaration) → inputs_among (flat_map (declares Local) ds) ≡ []
-local_declarations_none [] = refl
-local_declarations_none (d ∷ ds) =
-    filter-append (λ (e : Entry). is_input e.sort) (declares Local d) (flat_map (declares Local) ds)
-    ∙ (λ i. locals_none d.ty d.names i ++ local_declarations_none ds i)
+-- ---- inputs and outputs of the program
 
 as_they_are : (ds : List Declaration) → flat_map (λ d. d ∷ []) ds ≡ ds
 as_they_are [] = refl
 as_they_are (d ∷ ds) = ap (λ l. d ∷ l) (as_they_are ds)
 
-section_inputs : (bs : List FlatBlock) (part : Part) (ds : List Declaration) →
-    inputs_among (flat_map (declares part) ds) ≡ inputs_among (flat_map (declares part) (flat_map (λ d. declaration_flat d (block_in bs part d.ty)) ds))
-section_inputs bs Input ds = ap (λ l. inputs_among (flat_map (declares Input) l)) (sym (as_they_are ds))
-section_inputs bs Output ds = ap (λ l. inputs_among (flat_map (declares Output) l)) (sym (as_they_are ds))
-section_inputs bs Local ds = local_declarations_none ds ∙ sym (local_declarations_none (flat_map (λ d. declaration_flat d (block_in bs Local d.ty)) ds))
+-- what passes a test that no local passes stands in the flat source as in the program
+module _ (test : Sort → Bool) (no_local : (t : Option TypeNamed) → test (sort_in Local t) ≡ false) where
+  abbrev among : List Entry → List Entry
+  among es = filter (λ (e : Entry). test e.sort) es
 
-program_inputs : (bs : List FlatBlock) (ss : List Section) → inputs_among (flat_map section_entries ss) ≡ inputs_among (flat_map section_entries (map (section_flat bs) ss))
-program_inputs bs [] = refl
-program_inputs bs (s ∷ ss) =
-    filter-append (λ (e : Entry). is_input e.sort) (section_entries s) (flat_map section_entries ss)
-    ∙ (λ i. section_inputs bs s.part s.declarations i ++ program_inputs bs ss i)
-    ∙ sym (filter-append (λ (e : Entry). is_input e.sort) (section_entries (section_flat bs s)) (flat_map section_entries (map (section_flat bs) ss)))
+  locals_none : (ty : Name) (ns : List Name) → among (map (entry_of Local ty) ns) ≡ []
+  locals_none ty [] = refl
+  locals_none ty (n ∷ ns) =
+      ap (λ b. cond b (entry_of Local ty n ∷ among (map (entry_of Local ty) ns)) (among (map (entry_of Local ty) ns))) (no_local (type_named ty.text))
+      ∙ locals_none ty ns
+
+  local_declarations_none : (ds : List Declaration) → among (flat_map (declares Local) ds) ≡ []
+  local_declarations_none [] = refl
+  local_declarations_none (d ∷ ds) =
+      filter-append (λ (e : Entry). test e.sort) (declares Local d) (flat_map (declares Local) ds)
+      ∙ (λ i. locals_none d.ty d.names i ++ local_declarations_none ds i)
+
+  section_among : (bs : List FlatBlock) (part : Part) (ds : List Declaration) →
+      among (flat_map (declares part) ds) ≡ among (flat_map (declares part) (flat_map (λ d. declaration_flat d (block_in bs part d.ty)) ds))
+  section_among bs Input ds = ap (λ l. among (flat_map (declares Input) l)) (sym (as_they_are ds))
+  section_among bs Output ds = ap (λ l. among (flat_map (declares Output) l)) (sym (as_they_are ds))
+  section_among bs Local ds = local_declarations_none ds ∙ sym (local_declarations_none (flat_map (λ d. declaration_flat d (block_in bs Local d.ty)) ds))
+
+  pub program_among : (bs : List FlatBlock) (ss : List Section) → among (flat_map section_entries ss) ≡ among (flat_map section_entries (map (section_flat bs) ss))
+  program_among bs [] = refl
+  program_among bs (s ∷ ss) =
+      filter-append (λ (e : Entry). test e.sort) (section_entries s) (flat_map section_entries ss)
+      ∙ (λ i. section_among bs s.part s.declarations i ++ program_among bs ss i)
+      ∙ sym (filter-append (λ (e : Entry). test e.sort) (section_entries (section_flat bs s)) (flat_map section_entries (map (section_flat bs) ss)))
+
+no_local_input : (t : Option TypeNamed) → is_input (sort_in Local t) ≡ false
+no_local_input None = refl
+no_local_input (Some (type_name.Signal t)) = refl
+no_local_input (Some (type_name.Block k)) = refl
+
+no_local_output : (t : Option TypeNamed) → is_output (sort_in Local t) ≡ false
+no_local_output None = refl
+no_local_output (Some (type_name.Signal t)) = refl
+no_local_output (Some (type_name.Block k)) = refl
+
+-- the outputs of the program are those of its flat source
+pub outputs_same : (l : Library) → filter (λ (e : Entry). is_output e.sort) (entries l.program) ≡ filter (λ (e : Entry). is_output e.sort) (entries (flat l))
+outputs_same l = program_among is_output no_local_output (blocks_flat [] (map spelt_as_declared l.blocks)) l.program.sections
 
 -- ---- programs that mean the same
 
-record MeanTheSame (es fs : List Entry) (a b : Body) : Type 0 where
-  inputs : inputs_among es ≡ inputs_among fs
-  instances : a.instances [] ≡ b.instances []
-  leaves : a.leaves [] ≡ b.leaves []
-  holds : (scan : Scan) (before : Before) → a.Holds scan [] before ↔ b.Holds scan [] before
+pub record MeanTheSame (es fs : List Entry) (a b : Body) : Type 0 where
+  pub inputs : inputs_among es ≡ inputs_among fs
+  pub instances : a.instances [] ≡ b.instances []
+  pub leaves : a.leaves [] ≡ b.leaves []
+  pub holds : (scan : Scan) (before : Before) → a.Holds scan [] before ↔ b.Holds scan [] before
 
 begun_same : (es fs : List Entry) → inputs_among es ≡ inputs_among fs → begun es ≡ begun fs
 begun_same es fs h = (λ i. record { driven = map (λ (e : Entry). folded e.name.text) (h i); called = [] })
 
-scanned_same : (es fs : List Entry) (a b : Body) → MeanTheSame es fs a b → (old : Values) (ins : List Bool) (dt : ℕ) (new : Values) →
+pub scanned_same : (es fs : List Entry) (a b : Body) → MeanTheSame es fs a b → (old : Values) (ins : List Bool) (dt : ℕ) (new : Values) →
     Scanned es a old ins dt new → Scanned fs b old ins dt new
 scanned_same es fs a b m old ins dt new h = record {
   inputs = λ k e at. h.inputs k e (ap (λ l. slice_get l k) m.inputs ∙ at);
@@ -189,7 +212,7 @@ scanned_same es fs a b m old ins dt new h = record {
   undriven = λ p none. h.undriven p ((λ i. is_among p (and_then (begun_same es fs m.inputs i) (m.leaves i)).driven) ∙ none);
 }
 
-other_way : (es fs : List Entry) (a b : Body) → MeanTheSame es fs a b → MeanTheSame fs es b a
+pub other_way : (es fs : List Entry) (a b : Body) → MeanTheSame es fs a b → MeanTheSame fs es b a
 other_way es fs a b m = record {
   inputs = sym m.inputs;
   instances = sym m.instances;
@@ -200,7 +223,7 @@ other_way es fs a b m = record {
 -- the program means what it means laid flat
 program_same : (ps : List Pair) (s : SourceTree) → AllHave ps → BodyFine ps s → MeanTheSame (entries s) (entries (body_flat (laid_of ps) s)) (body_of (bodies ps) s) (plain_body (body_flat (laid_of ps) s))
 program_same ps s have fine = record {
-  inputs = program_inputs (laid_of ps) s.sections;
+  inputs = program_among is_input no_local_input (laid_of ps) s.sections;
   instances = sections_same ps have [] s.sections;
   leaves = leaves_flat ps (declared_names s.sections) [] s.statements;
   holds = λ scan before. holds_flat ps (declared_names s.sections) [] scan before s.statements fine;
@@ -211,15 +234,15 @@ record TextUnbroken (l : Library) : Type 0 where
   blocks : blocks_break (block_names l.blocks) [] l.blocks ≡ []
   program : body_breaks (block_names l.blocks) (map interface_of l.blocks) Program l.program ≡ []
 
-text_unbroken : (l : Library) → offences l ≡ [] → TextUnbroken l
+text_unbroken : (l : Library) → block_offences l ≡ [] → TextUnbroken l
 text_unbroken l h =
     let wrong = named_wrongly (block_names l.blocks) in
     let blocks = blocks_break (block_names l.blocks) [] l.blocks in
     let program = body_breaks (block_names l.blocks) (map interface_of l.blocks) Program l.program in
-    let all = none_left (wrong ++ blocks ++ program) (too_large l) h in
+    let all = none_left (wrong ++ blocks ++ program) (text_too_large l) h in
     record { blocks = none_right wrong blocks (none_left (wrong ++ blocks) program all); program = none_right (wrong ++ blocks) program all }
 
-text_same : (depth : ℕ) (l : Library) → IsLibraryWithin depth l → offences l ≡ [] → MeanTheSame (entries l.program) (entries (flat l)) (program_of l) (plain_body (flat l))
+pub text_same : (depth : ℕ) (l : Library) → IsLibraryWithin depth l → block_offences l ≡ [] → MeanTheSame (entries l.program) (entries (flat l)) (program_of l) (plain_body (flat l))
 text_same depth l within h =
     let names = block_names l.blocks in
     let unbroken = text_unbroken l h in

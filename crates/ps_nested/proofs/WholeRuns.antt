@@ -12,12 +12,11 @@ use Rattle.ps_names.specs.Names.{entries, sort_at}
 use Rattle.ps_names.specs.Stands.{number_at, outputs_before}
 use Rattle.ps_derived.specs.declared.library.Library.{Library}
 use Rattle.ps_derived.specs.Flat.{flat}
-use Rattle.ps_by_name.specs.ByName.{by_name, place_of, signal_value, output_value, block_value, output_numbered}
-use Rattle.ps_by_name.specs.Laws.{HasSizes}
+use Rattle.ps_nested.specs.ByName.{by_name, place_of, signal_value, output_value, block_value, value_from, output_numbered}
 use Rattle.ps_nested.specs.Nested.{Nested}
 use Rattle.ps_nested.specs.Runs as text
 use Rattle.ps_nested.specs.Runs.{blank, Earlier, old_values, time_passed, TextRuns}
-use Rattle.ps_nested.specs.Laws.{NestedRunsAreFlat}
+use Rattle.ps_nested.specs.Laws.{HasSizes, NestedRunsAreFlat}
 use Rattle.ps_nested.proofs.Whole.{nested_is_flat}
 
 -- a list of one value has it everywhere
@@ -40,13 +39,17 @@ module _ (es : List Entry) (net : Network) where
   no_signal (Some (Instance kind)) k = refl
   no_signal (Some Nothing) k = refl
 
+  no_value : (start : ℕ) (o : Option ℕ) → value_from first start o ≡ false
+  no_value start None = refl
+  no_value start (Some j) = all_one (signal_count net) (start + j) false
+
   no_output : (o : Option Sort) (k : Option ℕ) (pin : List ℕ) → output_value es first o k pin ≡ false
   no_output None k pin = refl
   no_output (Some (InputSignal t)) k pin = refl
   no_output (Some (OutputSignal t)) k pin = refl
   no_output (Some (LocalSignal t)) k pin = refl
   no_output (Some (Instance kind)) None pin = refl
-  no_output (Some (Instance kind)) (Some k) pin = all_one (signal_count net) (outputs_before es k + output_numbered kind pin) false
+  no_output (Some (Instance kind)) (Some k) pin = no_value (outputs_before es k) (output_numbered kind pin)
   no_output (Some Nothing) k pin = refl
 
   no_block : (o : Option Sort) (k : Option ℕ) → block_value es first o k ≡ idle

@@ -12,10 +12,10 @@ use Rattle.ps_names.specs.Names.{entry_of, entries}
 use Rattle.ps_derived.specs.declared.declared.Declared.{Declared}
 use Rattle.ps_derived.specs.declared.library.Library.{Library}
 use Rattle.ps_derived.specs.Bodies.{same, declared_names, inputs}
-use Rattle.ps_by_name.specs.Paths.{at, copy_at}
-use Rattle.ps_by_name.specs.Reading.{Values}
-use Rattle.ps_by_name.specs.Equations.{Body, Callee, standard, derived, statements_leave, StatementsHold}
-use Rattle.ps_by_name.specs.Texts.{instance_at, Scanned}
+use Rattle.ps_nested.specs.Paths.{at, copy_at}
+use Rattle.ps_nested.specs.Reading.{Values}
+use Rattle.ps_nested.specs.Equations.{Body, Callee, standard, derived, statements_leave, StatementsHold}
+use Rattle.ps_nested.specs.Texts.{instance_at, Scanned}
 
 -- ---- what a name is
 

@@ -3,7 +3,7 @@ use Rattle.std.specs.Prelude.{◌≡◌, ℕ, false, List, [], ◌∷◌, ◌-�
 use Rattle.ps_model.specs.Blocks.{idle}
 use Rattle.ps_model.specs.Meaning.{Item, scan, restart}
 use Rattle.ps_derived.specs.declared.library.Library.{Library}
-use Rattle.ps_by_name.specs.Reading.{Values}
+use Rattle.ps_nested.specs.Reading.{Values}
 use Rattle.ps_nested.specs.Nested.{Nested}
 
 -- the map before the first scan: every signal FALSE, every instance idle

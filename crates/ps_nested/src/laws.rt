@@ -1,6 +1,12 @@
-// The laws of texts with function blocks.
+// The laws of the equations by names, and of texts with function blocks.
 
-ghost use Rattle.ps_nested.specs.Laws.{NestedIsFlat, NestedRunsAreFlat, PathsAreApart};
+ghost use Rattle.ps_nested.specs.Laws.{NamesAreNumbers, NestedIsFlat, NestedRunsAreFlat, PathsAreApart};
+
+/// Names are numbers: where a source stands for an application, a state solves the equations of a scan of the application
+/// exactly where it has its sizes and is, by its names, what a scan of the source leaves.
+pub fn names_are_numbers()
+    ensures { NamesAreNumbers }
+{}
 
 /// Nested is flat: of a text of the grammar that breaks no rule on function blocks, where its flat source stands for an
 /// application, a state solves the equations of a scan of the application exactly where it has its sizes and is, by its

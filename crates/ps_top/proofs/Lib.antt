@@ -10,11 +10,12 @@ mod Faulted
 mod Setups
 mod Ruling
 mod Safe
-mod OneJudgement
+pub mod OneJudgement
 mod OneAnswer
 mod SomeAnswer
 pub mod Refusals
 mod Quiet
+pub mod Untripped
 mod Few
 mod Counted
 mod Courses

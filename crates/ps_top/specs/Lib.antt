@@ -6,6 +6,7 @@ pub mod Lines
 pub mod Meets
 pub mod Calls
 pub mod Skeletons
+pub mod Untripped
 -- what the parts of a command do
 pub mod Leaving
 pub mod Opening

@@ -3,11 +3,14 @@
 ghost use Rattle.std.specs.Prelude.{◌≡◌, List, Option, IsSome, ℕ};
 ghost use Rattle.ps_model.specs.Meaning.{Item, Meaning, nothing};
 ghost use Rattle.ps_demand.specs.Laws.{EachHasDemands};
-ghost use Rattle.ps_model.specs.Network.{Network};
+ghost use Rattle.ps_model.specs.Network.{Network, input_count};
 ghost use Rattle.ps_model.specs.Scanning.{State};
+ghost use Rattle.ps_seat.specs.Items.{AreTimely};
+ghost use Rattle.ps_trace.specs.Scans.{scans_of};
 ghost use Rattle.ps_top.specs.Asking.{Answer, AsksFor, IsAnswer};
 ghost use Rattle.ps_top.specs.Program as program;
 ghost use Rattle.ps_top.specs.Skeletons.{AreSafeScans};
+ghost use Rattle.ps_top.specs.Untripped.{NoFaultNoTrip, RunsTellAll, QuietFaultsTellAll, FaultsTellTrips};
 ghost use Rattle.ps_top.specs.Program.{Ruling, Judges};
 ghost use Rattle.ps_source.specs.Source.{Reading, IsAcceptedAs, IsResolvedAs};
 ghost use Rattle.ps_source.specs.Source.Reading.{stands_for};
@@ -30,6 +33,21 @@ pub fn lines_meet_demands()
 {
     each_demands();
 }
+
+/// The scans of a trace come in order of time, also across restarts: no time is earlier than that of the scan before, and each has
+/// 32 bits. Each scan has a value for each input.
+pub fn scans_in_order()
+    ensures { (text : List ℕ) (net : Network) → AreTimely (input_count net) 0 (scans_of text net).items }
+{}
+
+/// Without faults no scan trips, of any trace, whole or refused at a line: `run`, and `fault` with a file that has no faults, tell
+/// every scan by its report line.
+pub fn no_fault_no_trip()
+    ensures trips { NoFaultNoTrip }
+    ensures run { RunsTellAll }
+    ensures quiet_fault { QuietFaultsTellAll }
+    ensures fault { FaultsTellTrips }
+{}
 
 /// The program has one answer alone, for its words and the texts that are held: one list of bytes, and one status.
 pub fn one_answer()

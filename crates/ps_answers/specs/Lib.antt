@@ -1,0 +1,2 @@
+-- What a reader believes: what is claimed of an accepted text by its own names.
+pub mod Texts

@@ -1,5 +1,0 @@
-use Rattle.ps_exists.proofs.Spelling.{spelling_decided}
-use Rattle.ps_exists.proofs.laws.spelt_or_refused.Goals as goal
-
-pub returns : goal.returns
-returns c = spelling_decided

@@ -2,7 +2,7 @@
 
 use crate::listing::add_name;
 use crate::pins::bracket_before;
-use crate::reading::{form_at, is_declared_at, is_dot, name_at, type_of};
+use crate::reading::{form_at, is_dot, name_at, type_of};
 use ps_base::{Bytes, Memory};
 use ps_lexer::{Form, Token, Word};
 use std::alloc::Global;
@@ -42,13 +42,19 @@ fn names_from(
 ) -> Result<Bytes, Memory> {
     let mut list = Bytes::new(alloc);
     let mut is_wanted = false;
+    let mut is_declared = false;
     for i in from..tokens.len() {
         if is_end(tokens, i) {
             return Ok(list);
         }
         match form_at(tokens, i) {
-            Some(Form::Word(word)) => is_wanted = *word == sort,
-            Some(Form::Name(name)) if is_wanted && is_declared_at(tokens, i) => {
+            Some(Form::Word(word)) => {
+                is_wanted = *word == sort;
+                is_declared = true;
+            }
+            Some(Form::Colon) => is_declared = false,
+            Some(Form::Semicolon) => is_declared = true,
+            Some(Form::Name(name)) if is_wanted && is_declared => {
                 add_name(&mut list, head, name.as_slice())?;
             }
             _ => (),
@@ -103,6 +109,17 @@ pub(crate) fn pins_told(alloc: Global, tokens: &[Token], at: usize) -> Result<By
             b"of an instance its outputs are read: ",
         ),
     }
+}
+
+/// The outputs of the function block of an instance where the token is its name; empty where it is none.
+pub(crate) fn outputs_told(alloc: Global, tokens: &[Token], at: usize) -> Result<Bytes, Memory> {
+    names_of(
+        alloc,
+        tokens,
+        at,
+        Word::VarOutput,
+        b"an instance is no value; behind a dot its outputs are: ",
+    )
 }
 
 /// That a literal at a pin of a function block of the text has to be a signal; empty where it stands at no such pin.

@@ -1,10 +1,11 @@
 // What is told of a refusal besides its rule.
 
-use crate::blocks::{literal_told, pins_told};
+use crate::blocks::{literal_told, outputs_told, pins_told};
 use crate::bytes::byte_told;
 use crate::faults::{fault_before, fault_told};
 use crate::grammar::grammar_told;
 use crate::inputs::{inputs_of, missing_in};
+use crate::limits::{blocks_counted, limits_told};
 use crate::lines::line_at;
 use crate::pins::pins_at;
 use crate::reading::token_at;
@@ -35,6 +36,7 @@ fn detail_in(
         Some(at) => match refusal.rule {
             Rule::P1 => grammar_told(alloc, text, tokens, at),
             Rule::N4 | Rule::B3 => any_pins(alloc, tokens, at),
+            Rule::N2 => outputs_told(alloc, tokens, at),
             Rule::N12 => literal_told(alloc, tokens, at),
             Rule::S1 | Rule::S2 => bools_behind(alloc, tokens, at),
             _ => Ok(Bytes::new(alloc)),
@@ -55,17 +57,22 @@ fn detail_of_line(alloc: Global, text: &[u8], refusal: &Refusal) -> Result<Bytes
         Rule::T7 => time_before(alloc, text, line),
         Rule::F1 => fault_told(alloc, line_at(text, line)),
         Rule::F2 | Rule::F4 => fault_before(alloc, text, line),
+        Rule::N11 => limits_told(alloc, text),
+        Rule::B4 => blocks_counted(alloc, text),
         _ => Ok(Bytes::new(alloc)),
     }
 }
 
 /// What a text tells of its refusal besides the rule. Of an application: at P1 what stands at the place and what may, at N4 and B3 the
-/// pins of the block, at N12 where a literal may stand, at S1 and S2 the BOOL values that stand where a SAFEBOOL is asked. Of a byte or
+/// pins of the block, at N2 those of an instance that stands as a value, at N12 where a literal may stand, at N11 and B4 which limit is passed and how many were counted, at S1 and S2 the
+/// BOOL values that stand where a SAFEBOOL is asked. Of a byte or
 /// a TIME literal what it is. Of a line of a trace or fault file the word that is wrong, or the line before it that it is wrong beside.
 /// It is empty where it tells nothing.
 pub fn detail_on(alloc: Global, text: &[u8], refusal: &Refusal) -> Result<Bytes, Memory> {
     match refusal.rule {
-        Rule::P1 | Rule::N4 | Rule::B3 | Rule::N12 | Rule::S1 | Rule::S2 => match lex(alloc, text) {
+        Rule::P1 | Rule::B3 | Rule::N2 | Rule::N4 | Rule::N12 | Rule::S1 | Rule::S2 => match lex(
+            alloc, text,
+        ) {
             Ok(tokens) => detail_in(alloc, text, tokens.list.as_slice(), refusal),
             Err(Fail::Memory) => Err(Memory),
             Err(Fail::Refused(_)) => Ok(Bytes::new(alloc)),

@@ -269,6 +269,11 @@ fn remedy_behind(before: &Token, text: &[u8], form: Option<&Form>) -> &'static [
     }
 }
 
+// Whether nothing but a name may stand at a spot.
+fn wants_name(spot: Spot) -> bool {
+    matches!(spot, Spot::Head | Spot::Comma | Spot::Dot)
+}
+
 // What helps at a token, where more than what may stand there is to be said.
 fn remedy(text: &[u8], tokens: &[Token], at: usize, walk: Walk) -> &'static [u8] {
     if is_head(tokens, at) && walk.spot != Spot::Outside {
@@ -277,6 +282,9 @@ fn remedy(text: &[u8], tokens: &[Token], at: usize, walk: Walk) -> &'static [u8]
     match tokens.get(at) {
         Some(token) if walk.spot == Spot::Value && spelt(text, token) == b"&".as_slice() => {
             return b"AND is written once, as & or AND";
+        }
+        Some(token) if matches!(token.form, Form::Word(_)) && wants_name(walk.spot) => {
+            return b"a keyword is no name";
         }
         _ => (),
     }

@@ -44,6 +44,23 @@ fn pins_of(alloc: Global, head: &[u8], kind: Kind, from: u8, upto: u8) -> Result
     Ok(list)
 }
 
+// The outputs of an instance of this kind whose name is a token, as they are read: `E.S_EStopOut`.
+fn outputs_of(alloc: Global, tokens: &[Token], i: usize, kind: Kind) -> Result<Bytes, Memory> {
+    let mut list = Bytes::new(alloc);
+    if let Some(instance) = name_at(tokens, i) {
+        for j in input_count(kind)..pin_count(kind) {
+            add_name(
+                &mut list,
+                b"an instance is no value; its outputs are: ",
+                instance,
+            )?;
+            list.push(b'.')?;
+            list.extend_from_slice(pin_name(kind, j).as_bytes())?;
+        }
+    }
+    Ok(list)
+}
+
 /// The pins that could stand at a token: the outputs of an instance behind its dot or at its name, and its inputs in its call. Empty
 /// where the token stands at none.
 pub(crate) fn pins_at(alloc: Global, tokens: &[Token], at: usize) -> Result<Bytes, Memory> {
@@ -55,14 +72,7 @@ pub(crate) fn pins_at(alloc: Global, tokens: &[Token], at: usize) -> Result<Byte
         return Ok(Bytes::new(alloc));
     }
     if let Some(kind) = kind_at(tokens, at) {
-        let inputs = input_count(kind);
-        return pins_of(
-            alloc,
-            b"an instance is no value; its outputs are: ",
-            kind,
-            inputs,
-            pin_count(kind),
-        );
+        return outputs_of(alloc, tokens, at, kind);
     }
     match bracket_before(tokens, at) {
         Some(bracket) if bracket >= 1 => match kind_at(tokens, bracket - 1) {

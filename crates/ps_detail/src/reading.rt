@@ -46,11 +46,6 @@ fn colon_from(tokens: &[Token], from: usize) -> Option<usize> {
     None
 }
 
-/// Whether a token is a name that is declared there: names, commas and a colon stand behind it.
-pub(crate) fn is_declared_at(tokens: &[Token], i: usize) -> bool {
-    name_at(tokens, i).is_some() && colon_from(tokens, i).is_some()
-}
-
 /// The type with which a name is first declared in a text, without letter case.
 pub(crate) fn type_of<'a>(tokens: &'a [Token], name: &[u8]) -> Option<&'a [u8]> {
     for i in 0..tokens.len() {

@@ -2,3 +2,5 @@
 pub mod Ending
 -- what is told of a refusal
 pub mod Refused
+-- what is told of a call that did all
+pub mod Told

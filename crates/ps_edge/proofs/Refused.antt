@@ -1,6 +1,7 @@
 -- What is told of a refusal.
-use Rattle.std.proofs.Common.{◌≡◌, ℕ, List, Some, Result, Ok, Err, IfOk, IfSome, sym, subst, ◌∙◌}
+use Rattle.std.proofs.Common.{◌≡◌, ℕ, List, [], Some, Result, Ok, Err, IfOk, IfSome, ◌++◌, sym, subst, ◌∙◌, append-nil}
 use Rattle.ps_base.specs.declared.failing.Refusal.{Refusal}
+use Rattle.ps_message.specs.Also.{also_text}
 use Rattle.ps_message.specs.Message.{Says}
 use Rattle.ps_top.specs.declared.left.Left.{Left}
 use Rattle.ps_edge.specs.Spoken.{IsNamed, spoken_of}
@@ -8,11 +9,23 @@ use Rattle.ps_edge.specs.Telling.{IsOfRefusal}
 use Rattle.ps_edge.specs.declared.spoken.Spoken.{Spoken}
 use Rattle.ps_edge.specs.declared.spoken.Spoken.TheVariants.{App}
 
--- a message with some further words
-pub with_words : {E : Type 0} (file name text given : List ℕ) (refusal : Refusal) (made : Result (List ℕ) E) → file ≡ name →
-    IfOk made (λ bytes. Says file text refusal given bytes) → IfOk made (λ bytes. (words : List ℕ) × Says name text refusal words bytes)
-with_words file name text given refusal (Ok bytes) same says = (given, subst (λ (f : List ℕ). Says f text refusal given bytes) same says)
-with_words file name text given refusal (Err e) same says = tt
+-- a message of a refusal with the lines of further ones
+abbrev pub IsWithFurther : (name text : List ℕ) → Refusal → List ℕ → Type 0
+IsWithFurther name text refusal bytes =
+    (given first : List ℕ) × Says name text refusal given first
+    × (further : List Refusal) × (more : ℕ) × (bytes ≡ first ++ also_text name text further more)
+
+-- a message, and the lines behind it
+pub with_lines : (file name text given first lines bytes : List ℕ) (refusal : Refusal) → file ≡ name → Says file text refusal given first →
+    ((further : List Refusal) × (more : ℕ) × (lines ≡ also_text file text further more)) → bytes ≡ first ++ lines → IsWithFurther name text refusal bytes
+with_lines file name text given first lines bytes refusal same says also joined = (
+  given,
+  first,
+  subst (λ (f : List ℕ). Says f text refusal given first) same says,
+  also.0,
+  also.1,
+  subst (λ (f : List ℕ). bytes ≡ first ++ also_text f text also.0 also.1) same (subst (λ (l : List ℕ). bytes ≡ first ++ l) also.2 joined),
+)
 
 -- a message of some text with some further words
 pub of_some_text : {E : Type 0} (file name text given : List ℕ) (refusal : Refusal) (made : Result (List ℕ) E) → file ≡ name →
@@ -20,17 +33,25 @@ pub of_some_text : {E : Type 0} (file name text given : List ℕ) (refusal : Ref
 of_some_text file name text given refusal (Ok bytes) same says = (text, given, subst (λ (f : List ℕ). Says f text refusal given bytes) same says)
 of_some_text file name text given refusal (Err e) same says = tt
 
+-- a message alone is one without further lines
+pub alone : (name text given bytes : List ℕ) (refusal : Refusal) → Says name text refusal given bytes → IsWithFurther name text refusal bytes
+alone name text given bytes refusal says = (given, bytes, says, [], 0, sym (append-nil bytes))
+
 -- a message of the refusal that is left, by the name of the text that its rule is about
-pub of_refusal : (words : List (List ℕ)) (left : Left) (refusal : Refusal) (spoken : Spoken) (file source given bytes said : List ℕ) →
+pub of_refusal : (words : List (List ℕ)) (left : Left) (refusal : Refusal) (spoken : Spoken) (file source bytes said : List ℕ) →
     left.refusal ≡ Some refusal → spoken ≡ spoken_of refusal.rule → IsNamed words spoken file →
-    (spoken ≡ App → IfSome left.text (λ text. source ≡ text)) → bytes ≡ said → Says file source refusal given said → IsOfRefusal words left bytes
-of_refusal words left refusal spoken file source given bytes said is rule named quotes same says = (
+    (spoken ≡ App → IfSome left.text (λ text. source ≡ text)) → bytes ≡ said → IsWithFurther file source refusal said → IsOfRefusal words left bytes
+of_refusal words left refusal spoken file source bytes said is rule named quotes same says = (
   refusal,
   is,
   file,
   subst (λ (s : Spoken). IsNamed words s file) rule named,
   source,
   (λ app. quotes (rule ∙ app)),
-  given,
-  subst (λ (b : List ℕ). Says file source refusal given b) (sym same) says,
+  says.0,
+  says.1,
+  says.2,
+  says.3,
+  says.4,
+  same ∙ says.5,
 )

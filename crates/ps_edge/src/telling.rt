@@ -1,21 +1,17 @@
-// What a person is told of a call: why it did not do all, and the notes on an application that `check` accepts.
+// What is told of a call: why it did not do all, and the notes on an application that `check` accepts.
 
-ghost use Rattle.std.specs.Prelude.{◌≡◌, IsTrue, IfOk, IfSome, Some, codes, slice_get, true};
-ghost use Rattle.ps_message.specs.Message.{Says};
-ghost use Rattle.ps_edge.specs.Spoken.{IsNamed, spoken_of};
-ghost use Rattle.ps_edge.specs.Telling.{AreNotes, Carries, Hears, IsOfRefusal, IsOfTrip, IsOfUnread, IsTold};
-ghost use Rattle.ps_edge.specs.Telling.{notes_text};
+ghost use Rattle.std.specs.Prelude.{◌≡◌, IsTrue, IfOk, true};
+ghost use Rattle.ps_edge.specs.Telling.{Carries, Hears, IsOfTrip, IsOfUnread, IsTold};
 
+use crate::asking::usage_on;
 use crate::listening::Listener;
+use crate::noting::{comments_on, done_on};
+use crate::refusing::refusal_on;
 use crate::spoken::Spoken;
-use ps_base::{Bytes, Memory, Refusal, Rule};
-use ps_detail::{detail_on, inputs_told};
-use ps_message::{
-    NO_MEMORY, NOT_TAKEN, UNWRITTEN, message, note_line, trip_message, unread_message,
-};
-use ps_model::App;
-use ps_notes::notes;
-use ps_top::{Left, Status, Words};
+use ps_base::{Bytes, Memory};
+use ps_detail::field_told;
+use ps_message::{NO_MEMORY, UNWRITTEN, trip_message, unread_message};
+use ps_top::{Left, Status, Trip, Words};
 use std::alloc::Global;
 
 // What is told of a call.
@@ -29,119 +25,35 @@ pub(crate) enum Message {
     Written(Bytes),
 }
 
-// Whether the words are those of `check`, of which alone something is told where all was done.
-fn asks_check(words: &Words) -> bool
-    ensures { IsTrue result → slice_get words.now 0 ≡ Some (codes "check") }
-{
-    words.len() > 0 && words.at(0).as_str() == "check"
-}
-
-// The lines of all notes of an application from a file of this name.
-fn note_lines(alloc: Global, name: &str, app: &App) -> Result<Bytes, Memory>
-    ensures { IfOk result (λ bytes. bytes ≡ notes_text name.now app.now) }
-{
-    let list = notes(alloc, app)?;
-    let mut lines = Bytes::new(alloc);
-    for note in &list {
-        let line = note_line(alloc, name.as_bytes(), app, *note)?;
-        lines.extend_from_slice(line.as_slice())?;
-    }
-    Ok(lines)
-}
-
-// The notes on an application that `check` accepted.
-fn notes_on(alloc: Global, words: &Words, left: &Left) -> Result<Message, Memory>
-    ensures { IfOk result (Carries (AreNotes words.now left.now)) }
-{
-    if !asks_check(words) {
-        return Ok(Message::Nothing);
-    }
-    match (&left.app, Spoken::App.name_in(words)) {
-        (Some(app), Some(name)) => Ok(Message::Written(note_lines(alloc, name, app)?)),
-        _ => Ok(Message::Nothing),
-    }
-}
-
-// The text of the application that is left, or nothing.
-fn source_in(left: &Left) -> &[u8]
-    ensures { IfSome left.now.text (λ bytes. result.now ≡ bytes) }
-{
+// The name of the first field that differs in a trip, by the text of the application that is left.
+fn field_of(alloc: Global, left: &Left, trip: &Trip) -> Result<Bytes, Memory> {
     match &left.text {
-        Some(text) => text.as_slice(),
-        None => &[],
+        Some(text) => field_told(alloc, text.as_slice(), trip.cause),
+        None => Ok(Bytes::new(alloc)),
     }
 }
 
-// The message of a refusal of the application of this name, whose text is left.
-fn refusal_of_app(
-    alloc: Global,
-    name: &str,
-    source: &[u8],
-    refusal: &Refusal,
-) -> Result<Bytes, Memory>
-    ensures { IfOk result (λ bytes. (given : _) × Says name.now source.now refusal.now given bytes) }
-{
-    let words = detail_on(alloc, source, refusal)?;
-    message(alloc, name.as_bytes(), source, refusal, words.as_slice())
-}
-
-// The message of a refusal of another text of this name, which is read for its line. Where a trace has not the inputs
-// of the application, it tells these.
-fn refusal_of_other<L: Listener>(
-    alloc: Global,
-    name: &str,
-    source: &[u8],
-    refusal: &Refusal,
-    listener: &L,
-) -> Result<Bytes, Memory>
-    ensures { IfOk result (λ bytes. (text : _) × (given : _) × Says name.now text refusal.now given bytes) }
-{
-    let words = match refusal.rule {
-        Rule::T2 | Rule::T3 => inputs_told(alloc, source)?,
-        _ => Bytes::new(alloc),
-    };
-    let most = Spoken::by_rule(refusal.rule).most();
-    let text = listener.text_of(alloc, name, most);
-    message(
-        alloc,
-        name.as_bytes(),
-        text.as_slice(),
-        refusal,
-        words.as_slice(),
-    )
-}
-
-// The message of the refusal that is left.
-fn refusal_on<L: Listener>(
+// The message of the first scan that tripped, as it is left, and the lines on comments of the run.
+fn trip_on<L: Listener>(
     alloc: Global,
     words: &Words,
     left: &Left,
     listener: &L,
 ) -> Result<Message, Memory>
-    ensures { IfOk result (Carries (IsOfRefusal words.now left.now)) }
-{
-    let Some(refusal) = &left.refusal else {
-        return Ok(Message::Nothing);
-    };
-    let spoken = Spoken::by_rule(refusal.rule);
-    let Some(name) = spoken.name_in(words) else {
-        return Ok(Message::Nothing);
-    };
-    let source = source_in(left);
-    let bytes = match spoken {
-        Spoken::App => refusal_of_app(alloc, name, source, refusal)?,
-        _ => refusal_of_other(alloc, name, source, refusal, listener)?,
-    };
-    Ok(Message::Written(bytes))
-}
-
-// The message of the first scan that tripped, as it is left.
-fn trip_on(alloc: Global, words: &Words, left: &Left) -> Result<Message, Memory>
     ensures { IfOk result (Carries (IsOfTrip words.now left.now)) }
 {
     match (&left.trip, Spoken::Trace.name_in(words)) {
         (Some(trip), Some(name)) => {
-            let bytes = trip_message(alloc, name.as_bytes(), trip.now, trip.cause)?;
+            let field = field_of(alloc, left, trip)?;
+            let mut bytes = trip_message(
+                alloc,
+                name.as_bytes(),
+                trip.now,
+                trip.cause,
+                field.as_slice(),
+            )?;
+            let comments = comments_on(alloc, words, listener)?;
+            bytes.extend_from_slice(comments.as_slice())?;
             Ok(Message::Written(bytes))
         }
         _ => Ok(Message::Nothing),
@@ -175,10 +87,10 @@ fn message_on<L: Listener>(
     ensures { IfOk result (Carries (IsTold words.now left.now status)) }
 {
     match status {
-        Status::Done => notes_on(alloc, words, left),
+        Status::Done => done_on(alloc, words, left, listener),
         Status::Refused | Status::BadInput => refusal_on(alloc, words, left, listener),
-        Status::Usage => Ok(Message::Fixed(NOT_TAKEN)),
-        Status::Tripped => trip_on(alloc, words, left),
+        Status::Usage => usage_on(alloc, words),
+        Status::Tripped => trip_on(alloc, words, left, listener),
         Status::ReadFault => unread_on(alloc, words, listener),
         Status::WriteFault => Ok(Message::Fixed(UNWRITTEN)),
         Status::Memory => Ok(Message::Fixed(NO_MEMORY)),

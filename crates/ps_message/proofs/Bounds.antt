@@ -53,11 +53,11 @@ length-last_shown most bytes =
     omega (arith, length-append (dots cut) (shown (drop start bytes)), length-dots cut, length-shown (drop start bytes), length-drop start bytes)
 
 -- a number of a place
-length-number : (n : ℕ) → n < 2 ^ 32 → length (decimal n) ≤ 10
+pub length-number : (n : ℕ) → n < 2 ^ 32 → length (decimal n) ≤ 10
 length-number n small = length-decimal-le 10 n (omega arith) (omega arith) (omega arith)
 
 -- the column of a heading
-length-column : (column : ℕ) → column < 2 ^ 32 → length (if column == 0 then [] else codes ":" ++ decimal column) ≤ 11
+pub length-column : (column : ℕ) → column < 2 ^ 32 → length (if column == 0 then [] else codes ":" ++ decimal column) ≤ 11
 length-column column small =
     let digits : length (decimal column) ≤ 10 = length-number column small in
     elim (column == 0) as (λ v. length (if v then [] else codes ":" ++ decimal column) ≤ 11) [ true ↦ lit≤ tt | false ↦ omega (arith, length-append (codes ":") (decimal column)) ]

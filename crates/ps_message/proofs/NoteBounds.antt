@@ -1,8 +1,9 @@
 -- How long the line of a note is, and how it ends.
-use Rattle.std.proofs.Common.{◌≡◌, ℕ, zero, suc, ◌+◌, ◌≤◌, Bool, true, false, nat_le, nat_lt, ◌&&◌, if◌then◌else◌, List, [], ◌∷◌, ◌++◌, length, codes, Option, Some, None, refl, ap, sym, ◌∙◌, arith, length-append, lit≤, append_assoc}
+use Rattle.std.proofs.Common.{◌≡◌, ℕ, zero, suc, ◌+◌, ◌<◌, ◌≤◌, ◌^◌, ◌==◌, Bool, true, false, nat_le, nat_lt, ◌&&◌, if◌then◌else◌, List, [], ◌∷◌, ◌++◌, length, codes, decimal, Option, Some, None, refl, ap, sym, ◌∙◌, arith, length-append, lit≤, append_assoc}
 use Rattle.std.specs.Prelude.{slice_get, slice_index_or}
 use Rattle.std.specs.List.{list_all}
 use Rattle.std.proofs.lemmas.Bool.{leb-true, and_parts}
+use Rattle.ps_base.specs.declared.failing.Place.{Place}
 use Rattle.ps_model.specs.declared.driver.Driver.{Driver}
 use Rattle.ps_model.specs.declared.driver.Driver.TheVariants.{Assigned, Output}
 use Rattle.ps_model.specs.declared.kind.Kind.{Kind}
@@ -14,10 +15,11 @@ use Rattle.ps_model.specs.Network.{Network, declared_count, instance_count, inst
 use Rattle.ps_model.specs.Pins.{pin_count, pin_names}
 use Rattle.ps_notes.specs.declared.note.Note.{Note}
 use Rattle.ps_notes.specs.declared.note.Note.TheVariants.{Idle, NoTime, Early, Unread, Unused, Restarts, Off, Zero, Static, Joined, Never, Inverted, Loose}
+use Rattle.ps_notes.specs.declared.note.Placed.{Placed}
 use Rattle.ps_message.specs.Message.{IsEnded}
-use Rattle.ps_message.specs.NoteLine.{instance_shown, pin_named, pin_shown, output_shown, signal_shown, step_shown, subject, said, note_text}
+use Rattle.ps_message.specs.NoteLine.{instance_shown, pin_named, pin_shown, output_shown, signal_shown, step_shown, subject, said, note_text, place_shown}
 use Rattle.ps_message.specs.Shown.{last_shown}
-use Rattle.ps_message.proofs.Bounds.{length-last_shown}
+use Rattle.ps_message.proofs.Bounds.{length-column, length-last_shown, length-number}
 
 -- no name of a pin is long
 is_short_name : List ℕ → Bool
@@ -116,12 +118,27 @@ length-said (Never i) = lit≤ tt
 length-said (Inverted i j) = lit≤ tt
 length-said (Loose s) = lit≤ tt
 
-note-size : (file about words : List ℕ) → length file ≤ 1023 → length about ≤ 2200 → length words ≤ 200 → length (file ++ codes ": note: " ++ about ++ words) ≤ 4000
-note-size file about words f a w = simp length-append (omega arith)
+-- the parts of a place
+place-size : (n : ℕ) (line column : List ℕ) → length line ≤ 10 → length column ≤ 11 →
+    length (if n == 0 then [] else codes ":" ++ line ++ column) ≤ 22
+place-size n line column l c =
+    elim (n == 0) as (λ v. length (if v then [] else codes ":" ++ line ++ column) ≤ 22) [ true ↦ lit≤ tt | false ↦ simp length-append (omega arith) ]
+
+length-place : (place : Place) → place.line < 2 ^ 32 → place.column < 2 ^ 32 → length (place_shown place) ≤ 22
+length-place place line column =
+    place-size place.line (decimal place.line) (if place.column == 0 then [] else codes ":" ++ decimal place.column)
+    (length-number place.line line) (length-column place.column column)
+
+note-size : (file at about words : List ℕ) → length file ≤ 1023 → length at ≤ 22 → length about ≤ 2200 → length words ≤ 200 →
+    length (file ++ at ++ codes ": note: " ++ about ++ words) ≤ 4000
+note-size file at about words f p a w = simp length-append (omega arith)
 
 -- the line of a note is short
-pub length-note : (file : List ℕ) (net : Network) (note : Note) → length (note_text file net note) ≤ 4000
-length-note file net note = note-size (last_shown 255 file) (subject net note) (said note) (length-last_shown 255 file) (length-subject net note) (length-said note)
+pub length-note : (file : List ℕ) (net : Network) (placed : Placed) → placed.place.line < 2 ^ 32 → placed.place.column < 2 ^ 32 →
+    length (note_text file net placed) ≤ 4000
+length-note file net placed line column =
+    note-size (last_shown 255 file) (place_shown placed.place) (subject net placed.note) (said placed.note) (length-last_shown 255 file)
+    (length-place placed.place line column) (length-subject net placed.note) (length-said placed.note)
 
 said-ended : (note : Note) → IsEnded (said note)
 said-ended (Idle i) = (codes " is left free, so the block stays Idle; give it TRUE or a signal (docs/notes.md, 1)", refl)
@@ -142,8 +159,8 @@ said-ended (Inverted i j) = (codes " has no input of the program itself, so dema
 said-ended (Loose s) = (codes " is a local that no step reads; read it, or leave it out (docs/notes.md, 13)", refl)
 
 -- the line of a note ends with a line feed
-pub note-ended : (file : List ℕ) (net : Network) (note : Note) → IsEnded (note_text file net note)
-note-ended file net note =
-    let last = said-ended note in
-    let front : List ℕ = last_shown 255 file ++ codes ": note: " ++ subject net note in
+pub note-ended : (file : List ℕ) (net : Network) (placed : Placed) → IsEnded (note_text file net placed)
+note-ended file net placed =
+    let last = said-ended placed.note in
+    let front : List ℕ = last_shown 255 file ++ place_shown placed.place ++ codes ": note: " ++ subject net placed.note in
     (front ++ last.0, ap (λ (t : List ℕ). front ++ t) last.1 ∙ sym (append_assoc front last.0 (codes "\n")))

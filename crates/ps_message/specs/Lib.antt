@@ -3,3 +3,4 @@ pub mod Quoted
 pub mod Message
 pub mod Ending
 pub mod NoteLine
+pub mod Also

@@ -1,5 +1,6 @@
--- The line of a note.
-use Rattle.std.specs.Prelude.{ℕ, ◌+◌, ◌&&◌, List, [], ◌++◌, codes, length, Option, Some, None, nat_lt, slice_get, slice_index_or, if◌then◌else◌}
+-- The line of a note, and that of an odd comment.
+use Rattle.std.specs.Prelude.{ℕ, ◌+◌, ◌&&◌, ◌==◌, List, [], ◌++◌, codes, decimal, length, Option, Some, None, nat_lt, slice_get, slice_index_or, if◌then◌else◌}
+use Rattle.ps_base.specs.declared.failing.Place.{Place}
 use Rattle.ps_model.specs.declared.driver.Driver.{Driver}
 use Rattle.ps_model.specs.declared.driver.Driver.TheVariants.{Output}
 use Rattle.ps_model.specs.Action.{Action, assigns, calls}
@@ -9,6 +10,10 @@ use Rattle.ps_model.specs.Network.{Network, declared_count, instance_count, inst
 use Rattle.ps_model.specs.Pins.{pin_count, pin_names}
 use Rattle.ps_notes.specs.declared.note.Note.{Note}
 use Rattle.ps_notes.specs.declared.note.Note.TheVariants.{Idle, NoTime, Early, Unread, Unused, Restarts, Off, Zero, Static, Joined, Never, Inverted, Loose}
+use Rattle.ps_notes.specs.declared.note.OddComment.{OddComment}
+use Rattle.ps_notes.specs.declared.note.Oddity.{Oddity}
+use Rattle.ps_notes.specs.declared.note.Oddity.TheVariants.{Return, Turn}
+use Rattle.ps_notes.specs.declared.note.Placed.{Placed}
 use Rattle.ps_message.specs.Shown.{last_shown}
 
 -- Names stand as they are declared; of a longer one, as within many function blocks, the last 255 bytes.
@@ -83,6 +88,25 @@ said (Inverted i j) =
     ++ codes " give it the input, where the demand is to have it (docs/notes.md, 12)\n"
 said (Loose s) = codes " is a local that no step reads; read it, or leave it out (docs/notes.md, 13)\n"
 
--- the line of a note: the name of the file, of a longer one the last 255 bytes, what the note is about, and what is said of it
-abbrev pub note_text : (file : List ℕ) → Network → Note → List ℕ
-note_text file net note = last_shown 255 file ++ codes ": note: " ++ subject net note ++ said note
+-- a place behind the name of a file, as `:4:15`; a line alone as `:4`, and nothing where there is none
+abbrev pub place_shown : Place → List ℕ
+place_shown place =
+    if place.line == 0 then [] else codes ":" ++ decimal place.line ++ (if place.column == 0 then [] else codes ":" ++ decimal place.column)
+
+-- the line of a note: the name of the file, of a longer one the last 255 bytes, the place, what the note is about, and what is said of it
+abbrev pub note_text : (file : List ℕ) → Network → Placed → List ℕ
+note_text file net placed =
+    last_shown 255 file ++ place_shown placed.place ++ codes ": note: " ++ subject net placed.note ++ said placed.note
+
+-- what is said of an odd comment, what helps, and where more is said
+abbrev pub odd_said : Oddity → List ℕ
+odd_said Return =
+    codes "this comment has a carriage return, behind which other editors show a line that is not read;"
+    ++ codes " end lines by LF or CR LF (docs/notes.md, 14)\n"
+odd_said Turn =
+    codes "this comment has a character that turns the direction of what is shown, which may hide what stands here;"
+    ++ codes " delete it (docs/notes.md, 15)\n"
+
+-- the line of an odd comment: the name of the file, the place, and what is said of it
+abbrev pub odd_text : (file : List ℕ) → OddComment → List ℕ
+odd_text file odd = last_shown 255 file ++ place_shown odd.place ++ codes ": note: " ++ odd_said odd.what

@@ -214,7 +214,7 @@ impl Hint {
                 remedy: "write a space in its place; it came in by a copy from a page or a word processor",
             },
             Hint::Typographic => Said {
-                sentence: "a typographic dash or quotation mark stands here",
+                sentence: "a typographic dash or quotation mark, or an unseen character, stands here",
                 remedy: "leave it out, or write the plain character; it came in by a copy from a page or a word processor",
             },
             Hint::Letter => Said {

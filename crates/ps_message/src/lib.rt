@@ -13,10 +13,11 @@
 //! - `shown`: bytes that a user wrote, as a terminal may take them.
 //! - `quoted`: the line of a place, a window on it, and the caret.
 //! - `further`: a second line of the text that a refusal rests on. `writing`: the whole message. `statuses`: the messages of calls that end without a refusal.
-//! - `noted`: the line of a note of an application that is accepted.
+//! - `noted`: the line of a note of an application that is accepted, and that of an odd comment. `also`: the lines of further refusals.
 #![tactic(auto)]
 
 pub mod advice;
+mod also;
 mod further;
 mod hint;
 mod hints;
@@ -28,6 +29,7 @@ mod words;
 mod writing;
 
 pub use advice::{Advice, advice_on};
-pub use noted::{LONGEST_NOTE, note_line};
-pub use statuses::{NO_MEMORY, NOT_TAKEN, UNWRITTEN, Unread, trip_message, unread_message};
+pub use also::also_lines;
+pub use noted::{LONGEST_NOTE, note_line, odd_line};
+pub use statuses::{NO_MEMORY, UNWRITTEN, Unread, trip_message, unread_message, usage_message};
 pub use writing::{LONGEST_MESSAGE, message};

@@ -1,17 +1,17 @@
-// The line of a note.
+// The line of a note, and that of an odd comment.
 
-ghost use Rattle.std.specs.Prelude.{◌≡◌, ◌≤◌, ◌++◌, codes, length, slice_get, Some, IfOk, OnOk};
+ghost use Rattle.std.specs.Prelude.{◌≡◌, ◌<◌, ◌≤◌, ◌^◌, ◌++◌, codes, length, slice_get, Some, IfOk, OnOk};
 ghost use Rattle.ps_model.specs.Drivers.{driver};
 ghost use Rattle.ps_model.specs.Steps.{action};
 ghost use Rattle.ps_message.specs.Message.{IsEnded};
-ghost use Rattle.ps_message.specs.NoteLine.{instance_shown, pin_named, pin_shown, output_shown, signal_shown, step_shown, subject, said, note_text};
+ghost use Rattle.ps_message.specs.NoteLine.{instance_shown, pin_named, pin_shown, output_shown, signal_shown, step_shown, subject, said, note_text, odd_said, odd_text, place_shown};
 ghost use Rattle.ps_message.specs.Shown.{last_shown};
 
 use crate::shown::add_last;
-use crate::writing::MOST_OF_FILE;
-use ps_base::{Bytes, Memory};
+use crate::writing::{MOST_OF_FILE, add_number};
+use ps_base::{Bytes, Memory, Place};
 use ps_model::{App, Driver, Step, input_count, pin_count, pin_name};
-use ps_notes::Note;
+use ps_notes::{Note, OddComment, Oddity, Placed};
 use std::alloc::Global;
 
 /// The most bytes of the line of a note.
@@ -189,26 +189,78 @@ fn said(note: Note) -> &'static [u8]
     }
 }
 
-// The line of a note.
-fn written(alloc: Global, file: &[u8], app: &App, note: Note) -> Result<Bytes, Memory>
-    ensures { IfOk result (λ bytes. bytes ≡ note_text file.now app.now note) }
+// A place behind the name of a file, or nothing.
+pub(crate) fn add_place(message: &mut Bytes, line: u32, column: u32) -> Result<(), Memory>
+    ensures { OnOk result (message.new ≡ message.old ++ place_shown (record { line = line; column = column })) }
+{
+    if line == 0 {
+        return Ok(());
+    }
+    add_number(message, b":", line)?;
+    if column > 0 {
+        add_number(message, b":", column)?;
+    }
+    Ok(())
+}
+
+// The line of a note at a line and a column.
+fn written(
+    alloc: Global,
+    file: &[u8],
+    app: &App,
+    note: Note,
+    line: u32,
+    column: u32,
+) -> Result<Bytes, Memory>
+    ensures says { IfOk result (λ bytes. bytes ≡ note_text file.now app.now
+        (record { note = note; place = record { line = line; column = column } })) }
+    ensures numbers { (line < 2 ^ 32) × (column < 2 ^ 32) }
 {
     let mut message = Bytes::new(alloc);
     add_last(&mut message, file, MOST_OF_FILE)?;
+    add_place(&mut message, line, column)?;
     message.extend_from_slice(b": note: ")?;
     add_subject(&mut message, app, note)?;
     message.extend_from_slice(said(note))?;
     Ok(message)
 }
 
-/// The line of a note of this application from a file of this name: what it is about by the names of the text, what that means,
-/// and what helps. Of the file's name, and of a longer name of the text, the last 255 bytes are shown, and every byte that is no
-/// printable ASCII character stands as an escape, as `\x1b`. The line has at most `LONGEST_NOTE` bytes. Where a number of the note
-/// is none of the application, nothing stands in the place of its name.
-pub fn note_line(alloc: Global, file: &[u8], app: &App, note: Note) -> Result<Bytes, Memory>
-    ensures says { IfOk result (λ bytes. bytes ≡ note_text file.now app.now note) }
+/// The line of a note of this application from a file of this name: where it is told, what it is about by the names of the text,
+/// what that means, and what helps. Of the file's name, and of a longer name of the text, the last 255 bytes are shown, and every
+/// byte that is no printable ASCII character stands as an escape, as `\x1b`. The line has at most `LONGEST_NOTE` bytes. A place of
+/// line 0 is left out, and where a number of the note is none of the application, nothing stands in the place of its name.
+pub fn note_line(alloc: Global, file: &[u8], app: &App, placed: &Placed) -> Result<Bytes, Memory>
+    ensures says { IfOk result (λ bytes. bytes ≡ note_text file.now app.now placed.now) }
     ensures bounded { IfOk result (λ bytes. length bytes ≤ LONGEST_NOTE) }
     ensures ended { IfOk result IsEnded }
 {
-    written(alloc, file, app, note)
+    let Place { line, column } = placed.place;
+    written(alloc, file, app, placed.note, line, column)
+}
+
+// What is said of an odd comment.
+fn said_of_odd(what: Oddity) -> &'static [u8]
+    ensures { result.now ≡ odd_said what }
+{
+    match what {
+        Oddity::Return =>
+            b"this comment has a carriage return, behind which other editors show a line that is not read;\
+            \x20end lines by LF or CR LF (docs/notes.md, 14)\n",
+        Oddity::Turn =>
+            b"this comment has a character that turns the direction of what is shown, which may hide what stands here;\
+            \x20delete it (docs/notes.md, 15)\n",
+    }
+}
+
+/// The line of an odd comment of a text from a file of this name: where it is, and what is odd in it. The file's name is shown as
+/// in the line of a note.
+pub fn odd_line(alloc: Global, file: &[u8], odd: &OddComment) -> Result<Bytes, Memory>
+    ensures says { IfOk result (λ bytes. bytes ≡ odd_text file.now odd.now) }
+{
+    let mut message = Bytes::new(alloc);
+    add_last(&mut message, file, MOST_OF_FILE)?;
+    add_place(&mut message, odd.place.line, odd.place.column)?;
+    message.extend_from_slice(b": note: ")?;
+    message.extend_from_slice(said_of_odd(odd.what))?;
+    Ok(message)
 }

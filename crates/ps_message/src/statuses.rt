@@ -1,9 +1,10 @@
 // The messages of calls that end without a refusal.
 
-ghost use Rattle.std.specs.Prelude.{◌≡◌, ◌++◌, IfOk, OnOk};
-ghost use Rattle.ps_message.specs.Ending.{cause_shown, channel_shown, help_line, remedy_of, trip_text, unread_text, wrong_line, wrong_of};
+ghost use Rattle.std.specs.Prelude.{◌≡◌, ◌++◌, [], IfOk, OnOk};
+ghost use Rattle.ps_message.specs.Ending.{cause_shown, channel_shown, field_shown, help_line, remedy_of, trap_said, trip_text};
+ghost use Rattle.ps_message.specs.Ending.{unread_text, usage_text, wrong_line, wrong_of};
 
-use crate::shown::add_last;
+use crate::shown::{add_first, add_last};
 use crate::writing::{MOST_OF_FILE, add_number};
 use ps_base::{Bytes, Memory};
 use ps_model::{Cause, Channel};
@@ -19,12 +20,6 @@ look at the room on the disk, and at what reads the output (docs/refusals.md)\n\
 pub const NO_MEMORY: &str = "\
 plcsafe: the system gave no more memory, so nothing was written\n\
 close other programs, or raise the limit on memory (docs/refusals.md)\n\
-";
-
-/// What is said where the words are not taken.
-pub const NOT_TAKEN: &str = "\
-plcsafe: the words have none of the forms in the usage line\n\
-the command stands in small letters, and no name of a file is empty or begins with a hyphen\n\
 ";
 
 /// Why a file could not be read.
@@ -120,43 +115,103 @@ fn add_channel(message: &mut Bytes, channel: Channel) -> Result<(), Memory>
     }
 }
 
+// The most bytes of the name of a field, and of each line on the words of a call.
+const MOST_OF_LINE: usize = 200;
+
+// What a trap means.
+fn said_of_trap(trap: u8) -> &'static [u8]
+    ensures { result.now ≡ trap_said trap }
+{
+    match trap {
+        1 => b", no such instruction",
+        2 => b", past the end of the code",
+        3 => b", a wrong height of the stack or number of pins",
+        4 => b", a byte that is no Boolean",
+        5 => b", a signal that there is not",
+        6 => b", an instance or a kind that there is not",
+        7 => b", bytes that are no state of the block",
+        _ => b"",
+    }
+}
+
+// A field of the reports.
+fn add_field(message: &mut Bytes, field: u32, name: &[u8]) -> Result<(), Memory>
+    ensures { OnOk result (message.new ≡ message.old ++ field_shown field name.now) }
+{
+    if !name.is_empty() {
+        add_first(message, name, MOST_OF_LINE)?;
+        message.extend_from_slice(b", ")?;
+    }
+    add_number(message, b"field ", field)
+}
+
+// A channel that a trap stopped.
+fn add_trap(message: &mut Bytes, channel: Channel, trap: u8) -> Result<(), Memory>
+    ensures { OnOk result (message.new ≡ message.old ++ cause_shown (Cause.Trap channel trap) []) }
+{
+    add_channel(message, channel)?;
+    add_number(message, b" was stopped by trap ", u32::from(trap))?;
+    message.extend_from_slice(said_of_trap(trap))?;
+    Ok(())
+}
+
 // Why a scan tripped.
-fn add_cause(message: &mut Bytes, cause: Cause) -> Result<(), Memory>
-    ensures { OnOk result (message.new ≡ message.old ++ cause_shown cause) }
+fn add_cause(message: &mut Bytes, cause: Cause, name: &[u8]) -> Result<(), Memory>
+    ensures { OnOk result (message.new ≡ message.old ++ cause_shown cause name.now) }
 {
     match cause {
-        Cause::Differ(field) => add_number(
-            message,
-            b"the reports of the channels differ, first in field ",
-            u32::from(field),
-        )?,
+        Cause::Differ(field) => {
+            message.extend_from_slice(b"the reports of the channels differ, first in ")?;
+            add_field(message, u32::from(field), name)?;
+        }
         Cause::Stuck(channel) => {
             add_channel(message, channel)?;
             message.extend_from_slice(b" did not end within its turns")?;
         }
-        Cause::Trap(channel, trap) => {
-            add_channel(message, channel)?;
-            add_number(message, b" was stopped by trap ", u32::from(trap))?;
-        }
+        Cause::Trap(channel, trap) => add_trap(message, channel, trap)?,
         Cause::NoReport(channel) => {
             add_channel(message, channel)?;
-            message.extend_from_slice(b" holds no report in its memory")?;
+            message.extend_from_slice(
+                b" has no report: an output, Ready or Error is a byte that is no Boolean",
+            )?;
         }
     }
     Ok(())
 }
 
-/// The message of a scan of the trace of this name that tripped: its time in ms, why, and what that means.
-pub fn trip_message(alloc: Global, file: &[u8], now: u32, cause: Cause) -> Result<Bytes, Memory>
-    ensures says { IfOk result (λ bytes. bytes ≡ trip_text file.now now cause) }
+/// The message of a scan of the trace of this name that tripped: its time in ms, why, and what that means. Where the reports
+/// differ, `field` is the name of their first such field, or empty where none is known; of a longer one the first 200 bytes are
+/// shown.
+pub fn trip_message(
+    alloc: Global,
+    file: &[u8],
+    now: u32,
+    cause: Cause,
+    field: &[u8],
+) -> Result<Bytes, Memory>
+    ensures says { IfOk result (λ bytes. bytes ≡ trip_text file.now now cause field.now) }
 {
     let mut message = Bytes::new(alloc);
     add_last(&mut message, file, MOST_OF_FILE)?;
     add_number(&mut message, b": the scan at ", now)?;
     message.extend_from_slice(b" ms tripped: ")?;
-    add_cause(&mut message, cause)?;
+    add_cause(&mut message, cause, field)?;
     message.extend_from_slice(
         b"\nevery output is FALSE from there up to the next restart (docs/traces.md, TRIP lines)\n",
     )?;
+    Ok(message)
+}
+
+/// The message of words that are not taken: what is wrong with them, and what helps, of each the first 200 bytes. Every byte that is
+/// no printable ASCII character stands as an escape.
+pub fn usage_message(alloc: Global, wrong: &[u8], help: &[u8]) -> Result<Bytes, Memory>
+    ensures says { IfOk result (λ bytes. bytes ≡ usage_text wrong.now help.now) }
+{
+    let mut message = Bytes::new(alloc);
+    message.extend_from_slice(b"plcsafe: ")?;
+    add_first(&mut message, wrong, MOST_OF_LINE)?;
+    message.extend_from_slice(b"\n")?;
+    add_first(&mut message, help, MOST_OF_LINE)?;
+    message.extend_from_slice(b" (docs/commands.md)\n")?;
     Ok(message)
 }

@@ -2,8 +2,8 @@
 
 use crate::hints::HINTS;
 use crate::rows::{ROWS, Row};
-use ps_base::{Memory, Place, Refusal};
-use ps_message::{Unread, message, trip_message, unread_message};
+use ps_base::{Memory, Place, Refusal, Rule};
+use ps_message::{Unread, also_lines, message, trip_message, unread_message, usage_message};
 use ps_model::{Cause, Channel};
 use std::alloc::Global;
 use std::process::Abort;
@@ -76,34 +76,73 @@ fn each_unread_file_has_its_message(rt: HostRuntime) -> Result<(), Fail> {
     Ok(())
 }
 
-/// A cause of a trip, and what the message says of it.
-const CAUSES: &[(Cause, &str)] = &[
+/// A cause of a trip, the name of a field, and what the message says of it.
+const CAUSES: &[(Cause, &str, &str)] = &[
     (
         Cause::Differ(3),
+        "E.DiagCode",
+        "the reports of the channels differ, first in E.DiagCode, field 3",
+    ),
+    (
+        Cause::Differ(3),
+        "",
         "the reports of the channels differ, first in field 3",
     ),
     (
         Cause::Stuck(Channel::A),
+        "",
         "channel A did not end within its turns",
     ),
     (
-        Cause::Trap(Channel::B, 7),
-        "channel B was stopped by trap 7",
+        Cause::Trap(Channel::B, 4),
+        "",
+        "channel B was stopped by trap 4, a byte that is no Boolean",
+    ),
+    (
+        Cause::Trap(Channel::A, 9),
+        "",
+        "channel A was stopped by trap 9",
     ),
     (
         Cause::NoReport(Channel::A),
-        "channel A holds no report in its memory",
+        "",
+        "channel A has no report: an output, Ready or Error is a byte that is no Boolean",
     ),
 ];
 
 #[test]
 fn each_trip_has_its_message(rt: HostRuntime) -> Result<(), Fail> {
-    for (cause, words) in CAUSES {
-        let said = trip_message(rt.alloc(), b"a.trace", 800, *cause)?;
+    for (cause, field, words) in CAUSES {
+        let said = trip_message(rt.alloc(), b"a.trace", 800, *cause, field.as_bytes())?;
         let text = format!(in rt.alloc();
             "a.trace: the scan at 800 ms tripped: {words}\nevery output is FALSE from there up to the next restart (docs/traces.md, TRIP lines)\n"
         )?;
         assert_eq!(rt; said.as_slice(), text.as_bytes(), "{cause:?}");
     }
+    Ok(())
+}
+
+#[test]
+fn words_and_further_refusals_have_their_lines(rt: HostRuntime) -> Result<(), Fail> {
+    let said = usage_message(rt.alloc(), b"\"chek\" is \x1b", b"check takes APP")?;
+    assert_eq!(rt;
+        said.as_slice(),
+        b"plcsafe: \"chek\" is \\x1b\ncheck takes APP (docs/commands.md)\n".as_slice()
+    );
+    let refusal = Refusal {
+        rule: Rule::S1,
+        place: Place { line: 2, column: 3 },
+    };
+    let lines = also_lines(
+        rt.alloc(),
+        b"a.st",
+        b"first\n  S_O := Ack;\n",
+        &[refusal],
+        3,
+    )?;
+    assert_eq!(rt;
+        lines.as_slice(),
+        b"a.st:2:3: S1: S_O\nand 3 more\n".as_slice()
+    );
     Ok(())
 }

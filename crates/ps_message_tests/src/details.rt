@@ -1,8 +1,12 @@
 // What the tokens of an application tell of a refusal, and what they tell of its inputs.
 
 use ps_base::{Place, Refusal, Rule};
-use ps_detail::{detail_on, header_told, inputs_told, usage_told};
+use ps_detail::{
+    detail_on, dirty_told, field_told, further_refusals, header_told, inputs_told, right_words,
+    wrong_words,
+};
 use ps_message::message;
+use ps_model::Cause;
 use std::test::Fail;
 
 /// An application that breaks rules at places.
@@ -300,31 +304,67 @@ fn each_text_is_told(rt: HostRuntime) -> Result<(), Fail> {
     Ok(())
 }
 
-/// A first word of a call, and what is told of it.
-const USAGES: &[(&str, &str)] = &[
+/// Words of a call, and the two lines that are told of them.
+const USAGES: &[(&[&[u8]], &str, &str)] = &[
     (
-        "RUN",
-        "plcsafe: \"RUN\" is no command; the nearest is run\nrun takes APP TRACE, as: plcsafe run press.st strokes.trace\n",
+        &[b"RUN", b"A", b"T"],
+        "\"RUN\" is no command; the nearest is run",
+        "run takes APP TRACE, as: plcsafe run press.st strokes.trace",
     ),
     (
-        "chek",
-        "plcsafe: \"chek\" is no command; the nearest is check\ncheck takes APP, as: plcsafe check press.st\n",
+        &[b"chert"],
+        "\"chert\" is no command; the nearest is cert",
+        "cert takes APP, as: plcsafe cert press.st",
     ),
     (
-        "other",
-        "plcsafe: \"other\" is no command\nplcsafe --help has the commands with an example each\n",
+        &[b"--hlep"],
+        "\"--hlep\" is no command; the nearest is --help",
+        "--help takes no word, as: plcsafe --help",
     ),
     (
-        "load",
-        "plcsafe: other words than these; load takes a number from 1 to 1000, as: plcsafe load 10\nno name of a file is empty or begins with a hyphen\n",
+        &[b"other"],
+        "\"other\" is no command",
+        "plcsafe --help has the commands, with an example each",
+    ),
+    (
+        &[b"run", b"A"],
+        "TRACE is missing",
+        "run takes APP TRACE, as: plcsafe run press.st strokes.trace",
+    ),
+    (
+        &[b"check", b"A", b"B"],
+        "\"B\" is one word too many",
+        "check takes APP, as: plcsafe check press.st",
+    ),
+    (
+        &[b"heal", b"A", b"T", b"F", b"G"],
+        "\"G\" is one word too many",
+        "heal takes APP TRACE FAULTS, as: plcsafe heal press.st guard.trace struck-in-turn.faults",
+    ),
+    (
+        &[b"run", b"-v", b"A", b"T"],
+        "\"-v\" begins with a hyphen: no name of a file does, and no command has options",
+        "run takes APP TRACE, as: plcsafe run press.st strokes.trace",
+    ),
+    (
+        &[b"check", b""],
+        "a word is empty, and no name of a file is",
+        "check takes APP, as: plcsafe check press.st",
+    ),
+    (
+        &[b"load", b"01"],
+        "\"01\" is no number from 1 to 1000, in digits without a zero in front",
+        "load takes N, as: plcsafe load 10",
     ),
 ];
 
 #[test]
 fn usage_is_told(rt: HostRuntime) -> Result<(), Fail> {
-    for (word, words) in USAGES {
-        let told = usage_told(rt.alloc(), word.as_bytes())?;
-        assert_eq!(rt; told.as_slice(), words.as_bytes(), "{word}");
+    for (words, wrong, right) in USAGES {
+        let told = wrong_words(rt.alloc(), words)?;
+        assert_eq!(rt; told.as_slice(), wrong.as_bytes());
+        let told = right_words(rt.alloc(), words)?;
+        assert_eq!(rt; told.as_slice(), right.as_bytes());
     }
     Ok(())
 }
@@ -342,5 +382,74 @@ fn headers_are_told(rt: HostRuntime) -> Result<(), Fail> {
         b"time S_1 S_2 Ack run Last RUN\n",
     )?;
     assert_eq!(rt; twice.as_slice(), b"twice in the header: run".as_slice());
+    Ok(())
+}
+
+/// An application with three places that SAFEBOOL flow refuses.
+const FLOW: &str = "\
+PROGRAM P\n\
+VAR_INPUT S_1 : SAFEBOOL; Ack : BOOL; END_VAR\n\
+VAR_OUTPUT S_O, S_P : SAFEBOOL; END_VAR\n\
+VAR E : SF_EmergencyStop; END_VAR\n\
+S_O := S_1 OR Ack;\n\
+E(Activate := T#1s, S_EStopIn := Ack, Reset := Ack);\n\
+S_P := S_1 AND Ack;\n\
+END_PROGRAM\n\
+";
+
+/// A fault file of three seats, in which seat B was struck last before line 4.
+const STRUCK: &[u8] =
+    b"before 1 A memory 0 00\n# a\nbefore 3 turn 2 B memory 0 00\nbefore 4 C memory 0 00\n";
+
+#[test]
+fn what_an_application_tells(rt: HostRuntime) -> Result<(), Fail> {
+    let first = Refusal {
+        rule: Rule::S1,
+        place: Place { line: 5, column: 1 },
+    };
+    let mut found = String::new(rt.alloc());
+    for refusal in &further_refusals(rt.alloc(), FLOW.as_bytes(), &first)? {
+        let place = refusal.place;
+        let line = format!(in rt.alloc(); "{:?} {} {};", refusal.rule, place.line, place.column)?;
+        found.push_str(&line)?;
+    }
+    assert_eq!(rt; found.as_str(), "S3 6 3;S2 6 21;");
+    for (field, name) in [
+        (0, "S_O"),
+        (1, "S_P"),
+        (2, "E.Ready"),
+        (4, "E.DiagCode"),
+        (5, ""),
+    ] {
+        let told = field_told(rt.alloc(), FLOW.as_bytes(), Cause::Differ(field))?;
+        assert_eq!(rt; told.as_slice(), name.as_bytes(), "{field}");
+    }
+    let told = dirty_told(rt.alloc(), STRUCK, 4, b" B ")?;
+    assert_eq!(rt;
+        told.as_slice(),
+        b"seat B is dirty: struck in scan 3 (line 3), and not outvoted and rebuilt since".as_slice()
+    );
+    let told = dirty_told(rt.alloc(), STRUCK, 3, b"  C")?;
+    assert_eq!(rt;
+        told.as_slice(),
+        b"the fault before it: before 1 A memory 0 00".as_slice()
+    );
+    Ok(())
+}
+
+#[test]
+fn limits_are_counted(rt: HostRuntime) -> Result<(), Fail> {
+    let mut text = String::new(rt.alloc());
+    text.push_str("PROGRAM P VAR_INPUT A : BOOL; ")?;
+    for i in 0..513 {
+        text.push_str(&format!(in rt.alloc(); "S_{i} : SAFEBOOL; ")?)?;
+    }
+    text.push_str("END_VAR VAR E : SF_EDM; END_VAR END_PROGRAM")?;
+    let refusal = Refusal {
+        rule: Rule::N11,
+        place: Place { line: 1, column: 9 },
+    };
+    let told = detail_on(rt.alloc(), text.as_bytes(), &refusal)?;
+    assert_eq!(rt; told.as_slice(), b"inputs: 514, and at most 512".as_slice());
     Ok(())
 }

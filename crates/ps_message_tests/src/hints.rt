@@ -419,7 +419,7 @@ write a space in its place; it came in by a copy from a page or a word processor
         column: 5,
         text: "S_O – S_1;\n",
         message: "\
-a.st:1:5: L1: a typographic dash or quotation mark stands here\n\
+a.st:1:5: L1: a typographic dash or quotation mark, or an unseen character, stands here\n\
 \x20   S_O \\xe2\\x80\\x93 S_1;\n\
 \x20       ^\n\
 leave it out, or write the plain character; it came in by a copy from a page or a word processor (docs/refusals.md, L1)\n\

@@ -1,5 +1,7 @@
 // What a note says.
 
+use ps_base::Place;
+
 /// Something in an accepted application that is most likely not meant so. Instances, signals and steps have their numbers in the
 /// application, and pins those of their kind.
 #[derive(Clone, Copy, PartialEq, Eq, Debug)]
@@ -85,4 +87,31 @@ pub enum Note {
         /// The number of the local.
         signal: u16,
     },
+}
+
+/// A note, and the place in the text at which it is told.
+#[derive(Clone, Copy, PartialEq, Eq, Debug)]
+pub struct Placed {
+    /// The note.
+    pub note: Note,
+    /// The place; line 0 where none is known.
+    pub place: Place,
+}
+
+/// What in a comment an editor shows otherwise than it is read.
+#[derive(Clone, Copy, PartialEq, Eq, Debug)]
+pub enum Oddity {
+    /// A carriage return that ends no line: other editors show what stands behind it as a line of its own.
+    Return,
+    /// A character that turns the direction of what is shown.
+    Turn,
+}
+
+/// A comment that an editor shows otherwise than it is read.
+#[derive(Clone, Copy, PartialEq, Eq, Debug)]
+pub struct OddComment {
+    /// What is odd in it.
+    pub what: Oddity,
+    /// The place of that byte; column 0 where the line alone is told.
+    pub place: Place,
 }

@@ -5,8 +5,9 @@ ghost use Rattle.std.specs.Prelude.{false, []};
 use crate::calls::{ROOM, files_of, words_of};
 use crate::motor::MOTOR;
 use ps_base::{Bytes, Memory};
+use ps_detail::HELP;
 use ps_edge::{Listener, exit_of_call};
-use ps_message::{NOT_TAKEN, UNWRITTEN, Unread};
+use ps_message::{UNWRITTEN, Unread};
 use ps_outside::{MemFiles, MemSink};
 use std::alloc::Global;
 use std::process::Abort;
@@ -71,7 +72,9 @@ static CALLS: &[Told] = &[
         1,
         REFUSED,
     ),
-    ("words", "run A", TRACE, 2, NOT_TAKEN),
+    ("words", "run A", TRACE, 2, TOO_FEW),
+    ("help", "help", TRACE, 2, HELP),
+    ("a comment", "run A T", COMMENTED, 0, COMMENT),
     ("a trace", "run A T", "time S_In Ack\n", 3, SHORT),
     ("a trip", "fault A T F", TRACE, 4, TRIP),
     ("no application", "run none T", TRACE, 5, UNREAD),
@@ -97,10 +100,19 @@ S_Motor := E.S_EStopOut AND Run;
 END_PROGRAM
 ";
 
+/// A trace with a comment that other editors show as two lines.
+const COMMENTED: &str = "# a\rb\ntime S_In Ack Run\n0 1 0 1\n";
+
 /// What is told of these calls.
+const COMMENT: &str =
+    "T:1: note: this comment has a carriage return, behind which other editors show a line that is not read; end lines by LF or CR LF (docs/notes.md, 14)\n";
+
+const TOO_FEW: &str =
+    "plcsafe: TRACE is missing\nrun takes APP TRACE, as: plcsafe run press.st strokes.trace (docs/commands.md)\n";
+
 const NOTES: &str = "\
-T: note: E.Activate is left free, so the block stays Idle; give it TRUE or a signal (docs/notes.md, 1)
-T: note: E.S_AutoReset is TRUE, so the block restarts by itself; leave it free where a person has to reset it (docs/notes.md, 6)
+T:8:1: note: E.Activate is left free, so the block stays Idle; give it TRUE or a signal (docs/notes.md, 1)
+T:8:36: note: E.S_AutoReset is TRUE, so the block restarts by itself; leave it free where a person has to reset it (docs/notes.md, 6)
 ";
 
 const REFUSED: &str = "\
@@ -114,12 +126,12 @@ what stands before it is to be followed by a sign or an operator, as ; : := . ( 
 const SHORT: &str = "\
 T:1: T3: an input is missing in the header, or stands twice
     time S_In Ack
-the inputs are: S_In, Ack, Run
+missing in the header: Run
 give each input once (docs/refusals.md, T3)
 ";
 
 const TRIP: &str = "\
-T: the scan at 20 ms tripped: the reports of the channels differ, first in field 0
+T: the scan at 20 ms tripped: the reports of the channels differ, first in S_Motor, field 0
 every output is FALSE from there up to the next restart (docs/traces.md, TRIP lines)
 ";
 

@@ -7,9 +7,10 @@ use Rattle.ps_message.proofs.noted.note_line.Goals as goal
 
 pub returns-clause-bounded : goal.returns-clause-bounded
 returns-clause-bounded c =
-    of_given (λ bytes. length bytes ≤ 4000) (note_text c.args.file.now c.args.app.now c.args.note) (length-note c.args.file.now c.args.app.now c.args.note)
-    c.written.result c.written.ensures
+    of_given (λ bytes. length bytes ≤ 4000) (note_text c.args.file.now c.args.app.now c.args.placed.now)
+    (length-note c.args.file.now c.args.app.now c.args.placed.now c.written.ensures.numbers.0 c.written.ensures.numbers.1)
+    c.written.result c.written.ensures.says
 
 pub returns-clause-ended : goal.returns-clause-ended
 returns-clause-ended c =
-    of_given IsEnded (note_text c.args.file.now c.args.app.now c.args.note) (note-ended c.args.file.now c.args.app.now c.args.note) c.written.result c.written.ensures
+    of_given IsEnded (note_text c.args.file.now c.args.app.now c.args.placed.now) (note-ended c.args.file.now c.args.app.now c.args.placed.now) c.written.result c.written.ensures.says

@@ -1,6 +1,6 @@
 use Rattle.std.proofs.Common.{◌≡◌, take, flat_map}
 use Rattle.ps_message.specs.NoteLine.{note_text}
-use Rattle.ps_edge.proofs.telling.note_lines.Given as goal
+use Rattle.ps_edge.proofs.noting.note_lines.Given as goal
 
 abbrev pub invariant-loop-note : goal.invariant-loop-note
-invariant-loop-note l = l.lines ≡ flat_map (note_text l.name l.app) (take l.note-index l.note-items)
+invariant-loop-note l = l.lines ≡ flat_map (note_text l.name l.app) (take l.note-index l.placed)

@@ -1,0 +1,154 @@
+// What is told of an application that `check` accepts, and of comments that are shown otherwise than they are read.
+
+ghost use Rattle.std.specs.Prelude.{◌≡◌, ◌++◌, List, IsTrue, IfOk, Some, codes, slice_get};
+ghost use Rattle.ps_notes.specs.declared.note.OddComment.{OddComment as OddCommentOf};
+ghost use Rattle.ps_notes.specs.declared.note.Placed.{Placed as PlacedOf};
+ghost use Rattle.ps_edge.specs.Telling.{AreNotes, AreOfDone, AreOfRun, ArePlaced, Carries};
+ghost use Rattle.ps_edge.specs.Telling.{asks_run, notes_text, odds_text};
+
+use crate::listening::Listener;
+use crate::spoken::Spoken;
+use crate::telling::Message;
+use ps_base::{Bytes, Memory};
+use ps_detail::{odd_comments, odd_lines, placed_notes};
+use ps_message::{note_line, odd_line};
+use ps_model::App;
+use ps_notes::{OddComment, Placed};
+use ps_top::{Left, Words};
+use std::alloc::Global;
+
+// As many bytes of a trace or fault file as are looked at for comments.
+const MOST_LOOKED_AT: u32 = 262_144;
+
+// Whether the words are those of `check`.
+fn asks_check(words: &Words) -> bool
+    ensures { IsTrue result → slice_get words.now 0 ≡ Some (codes "check") }
+{
+    words.len() > 0 && words.at(0).as_str() == "check"
+}
+
+// Whether the words are those of a command that runs a trace.
+fn asks_run(words: &Words) -> bool
+    ensures { result ≡ asks_run (slice_get words.now 0) }
+{
+    if words.len() == 0 {
+        return false;
+    }
+    let command = words.at(0).as_str();
+    command == "run" || command == "fault" || command == "vote" || command == "heal"
+}
+
+// The lines of notes of an application from a file of this name.
+fn note_lines(alloc: Global, name: &[u8], app: &App, placed: &[Placed]) -> Result<Bytes, Memory>
+    ensures { IfOk result (λ bytes. bytes ≡ notes_text name.now app.now placed.now) }
+{
+    let mut lines = Bytes::new(alloc);
+    for note in placed {
+        let line = note_line(alloc, name, app, note)?;
+        lines.extend_from_slice(line.as_slice())?;
+    }
+    Ok(lines)
+}
+
+// The lines of odd comments of a text from a file of this name.
+fn odd_text(alloc: Global, name: &[u8], odds: &[OddComment]) -> Result<Bytes, Memory>
+    ensures { IfOk result (λ bytes. bytes ≡ odds_text name.now odds.now) }
+{
+    let mut lines = Bytes::new(alloc);
+    for odd in odds {
+        let line = odd_line(alloc, name, odd)?;
+        lines.extend_from_slice(line.as_slice())?;
+    }
+    Ok(lines)
+}
+
+// The lines on an application of this text from a file of this name.
+fn lines_on(alloc: Global, name: &[u8], text: &[u8], app: &App) -> Result<Bytes, Memory>
+    ensures { IfOk result (λ bytes. (placed : List PlacedOf) × ArePlaced app.now placed × (odds : List OddCommentOf)
+        × (bytes ≡ notes_text name.now app.now placed ++ odds_text name.now odds)) }
+{
+    let placed = placed_notes(alloc, text, app)?;
+    let odds = odd_comments(alloc, text)?;
+    let mut lines = note_lines(alloc, name, app, placed.as_slice())?;
+    let further = odd_text(alloc, name, odds.as_slice())?;
+    lines.extend_from_slice(further.as_slice())?;
+    Ok(lines)
+}
+
+// The notes on an application that `check` accepted.
+fn notes_on(alloc: Global, words: &Words, left: &Left) -> Result<Message, Memory>
+    requires { slice_get words.now 0 ≡ Some (codes "check") }
+    ensures { IfOk result (Carries (AreNotes words.now left.now)) }
+{
+    match (&left.app, &left.text, Spoken::App.name_in(words)) {
+        (Some(app), Some(text), Some(name)) => {
+            let lines = lines_on(alloc, name.as_bytes(), text.as_slice(), app)?;
+            Ok(Message::Written(lines))
+        }
+        _ => Ok(Message::Nothing),
+    }
+}
+
+// The lines on the comments of a text of a run; empty where it has no odd one.
+fn comments_of<L: Listener>(
+    alloc: Global,
+    words: &Words,
+    spoken: Spoken,
+    listener: &L,
+) -> Result<Bytes, Memory>
+    requires { IsTrue (asks_run (slice_get words.now 0)) }
+    ensures { IfOk result (AreOfRun words.now) }
+{
+    match spoken.name_in(words) {
+        Some(name) => {
+            let text = listener.text_of(alloc, name, MOST_LOOKED_AT);
+            let odds = odd_lines(alloc, text.as_slice())?;
+            odd_text(alloc, name.as_bytes(), odds.as_slice())
+        }
+        None => Ok(Bytes::new(alloc)),
+    }
+}
+
+// The lines on the comments of the first text of a run, the trace or the fault file, that has odd ones; empty where
+// there is none, or the words are of no run.
+pub(crate) fn comments_on<L: Listener>(
+    alloc: Global,
+    words: &Words,
+    listener: &L,
+) -> Result<Bytes, Memory>
+    ensures { IfOk result (AreOfRun words.now) }
+{
+    if !asks_run(words) {
+        return Ok(Bytes::new(alloc));
+    }
+    let lines = comments_of(alloc, words, Spoken::Trace, listener)?;
+    if lines.len() > 0 {
+        return Ok(lines);
+    }
+    comments_of(alloc, words, Spoken::Faults, listener)
+}
+
+// The lines on comments of a run, as a message.
+fn run_on<L: Listener>(alloc: Global, words: &Words, listener: &L) -> Result<Message, Memory>
+    ensures { IfOk result (Carries (AreOfRun words.now)) }
+{
+    let lines = comments_on(alloc, words, listener)?;
+    Ok(Message::Written(lines))
+}
+
+// What is told of a call that did all.
+#[tactic(auto, using(crate::proofs::Told::of_notes, crate::proofs::Told::of_run))]
+pub(crate) fn done_on<L: Listener>(
+    alloc: Global,
+    words: &Words,
+    left: &Left,
+    listener: &L,
+) -> Result<Message, Memory>
+    ensures { IfOk result (Carries (AreOfDone words.now left.now)) }
+{
+    if asks_check(words) {
+        notes_on(alloc, words, left)
+    } else {
+        run_on(alloc, words, listener)
+    }
+}

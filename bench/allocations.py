@@ -16,6 +16,9 @@ import tempfile
 from generate import MOTOR
 
 HERE = os.path.dirname(os.path.abspath(__file__))
+sys.path.append(os.path.join(HERE, "..", "tools"))
+from plainly import Stop, plainly
+
 BUILT = os.path.join(HERE, "..", "built", "ps_main", "program")
 TRACE = "time S_In Ack Run\n0 1 0 1\n10 1 0 1\n20 1 0 1\n30 1 1 1\n40 1 0 0\n50 0 0 1\n"
 CERTIFICATE = "0 SRC\n3 SRC\n2 AND 2\n"
@@ -96,17 +99,22 @@ def tried(program, folder, words, done):
 FEW = ("fault", "verify", "heal")
 
 
-def main(program, commands):
+def main(words):
+    given = [word for word in words if word != "--few"]
+    if len(given) > 1 or given and given[0].startswith("-"):
+        return None
+    program = os.path.abspath(given[0] if given else BUILT)
+    if not os.path.isfile(program) or not os.access(program, os.X_OK):
+        raise Stop(f"{program} is no program: run ./plcsafe once")
+    commands = [row for row in COMMANDS if row[0][0] in FEW] if "--few" in words else COMMANDS
     with tempfile.TemporaryDirectory() as folder:
         texts = {"M": MOTOR, "U": TRACE, "C": CERTIFICATE, "F": FAULT, "G": TWO_FAULTS, "V": LONG_TRACE, "shim.c": SHIM}
         for name, text in texts.items():
             with open(os.path.join(folder, name), "w", encoding="ascii") as out:
                 out.write(text)
         subprocess.run(["cc", "-shared", "-fPIC", "-o", "shim.so", "shim.c"], cwd=folder, check=True)
-        sys.exit(1 if sum(tried(program, folder, words, done) for words, done in commands) else 0)
+        return 1 if sum(tried(program, folder, row, done) for row, done in commands) else 0
 
 
 if __name__ == "__main__":
-    given = [word for word in sys.argv[1:] if word != "--few"]
-    chosen = [row for row in COMMANDS if row[0][0] in FEW] if "--few" in sys.argv else COMMANDS
-    main(os.path.abspath(given[0] if given else BUILT), chosen)
+    plainly(main, "bench/allocations.py [--few] [PROGRAM]")

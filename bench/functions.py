@@ -10,9 +10,13 @@ The last two columns are the seconds of the function's paths (they grow with its
 of its goals (they grow with what has to be searched).
 """
 import collections
+import os
 import pathlib
 import re
 import sys
+
+sys.path.append(os.path.join(os.path.dirname(os.path.abspath(__file__)), "..", "tools"))
+from plainly import Stop, plainly
 
 ROOT = pathlib.Path(__file__).resolve().parent.parent
 PARTS = re.compile(r"\.(Lts|Proof|Answers|Invariants|Given|Goals|Tie|Reads|Layout|Kinds|Code|Named|Met)\b")
@@ -43,10 +47,11 @@ def costs(kept):
 
 
 def main(words):
-    kept = files(words[0]) if words else []
+    if len(words) not in (1, 2) or words[0].startswith("-") or not all(word.isdecimal() for word in words[1:]):
+        return None
+    kept = files(words[0])
     if not kept:
-        print("functions.py: name a crate that `rt check --jobs 1` has checked here", file=sys.stderr)
-        return 2
+        raise Stop(f"no check of a crate {words[0]} left its times here: call `rt check --jobs 1` in its folder")
     whole, size, paths, goals = costs(kept)
     print(f"{'seconds':>8}{'KiB':>8}{'paths':>8}{'goals':>8}  function")
     for name, taken in whole.most_common(int(words[1]) if len(words) > 1 else 30):
@@ -56,4 +61,4 @@ def main(words):
 
 
 if __name__ == "__main__":
-    sys.exit(main(sys.argv[1:]))
+    plainly(main, "bench/functions.py CRATE [MOST]")

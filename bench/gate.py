@@ -19,6 +19,9 @@ import subprocess
 import sys
 import time
 
+sys.path.append(os.path.join(os.path.dirname(os.path.abspath(__file__)), "..", "tools"))
+from plainly import Stop, plainly
+
 ROOT = pathlib.Path(__file__).resolve().parent.parent
 TICKS = os.sysconf("SC_CLK_TCK")
 STEPS = ("proof", "tests", "edits")
@@ -122,6 +125,10 @@ def from_nothing():
 
 
 def main(words):
+    if any(word.startswith("-") and word not in ("--costs", "--kept", "--anew") for word in words):
+        return None
+    if unknown := [word for word in words if not word.startswith("-") and word not in stands_on()]:
+        raise Stop(f"crates.txt has no crate {unknown[0]}")
     writes_costs = "--costs" in words
     takes_kept = "--kept" in words
     words = [word for word in words if word not in ("--costs", "--kept")] or ([] if takes_kept else from_nothing())
@@ -152,4 +159,4 @@ def main(words):
 
 
 if __name__ == "__main__":
-    sys.exit(main(sys.argv[1:]))
+    plainly(main, "bench/gate.py [--costs] [--kept] [CRATE..]")

@@ -18,6 +18,9 @@ from changing import changing_files
 from generate import MOTOR
 
 HERE = os.path.dirname(os.path.abspath(__file__))
+sys.path.append(os.path.join(HERE, "..", "tools"))
+from plainly import Stop, plainly
+
 BUILT = os.path.join(HERE, "..", "built", "ps_main", "program")
 MIB = 1 << 20
 SOURCE = 1_048_576  # the most bytes of a source and of a certificate
@@ -643,9 +646,12 @@ def proportions(run, table):
             sys.exit("wanted: at most three times the time")
 
 
-def main(program, word):
-    if not os.access(program, os.X_OK):
-        sys.exit("the program is not built: run ./plcsafe once")
+def main(words):
+    if len(words) > 2 or words and words[0].startswith("-"):
+        return None
+    program, word = os.path.abspath(words[0] if words else BUILT), words[1] if len(words) > 1 else ""
+    if not os.path.isfile(program) or not os.access(program, os.X_OK):
+        raise Stop(f"{program} is no program: run ./plcsafe once")
     folder = tempfile.mkdtemp()
     os.chmod(folder, 0o777)
     run, table = Run(program, folder), Table(word)
@@ -663,7 +669,8 @@ def main(program, word):
     finally:
         shutil.rmtree(folder)
     print(f"{table.count} rows; the slowest took {table.slowest:.2f} s, the largest {table.largest / MIB:.1f} MiB")
+    return 0
 
 
 if __name__ == "__main__":
-    main(os.path.abspath(sys.argv[1] if len(sys.argv) > 1 else BUILT), sys.argv[2] if len(sys.argv) > 2 else "")
+    plainly(main, "bench/hostile.py [PROGRAM [WORD]]")

@@ -4,9 +4,14 @@
 build.py [CRATE]                        builds the program where it is not built of the sources as they are; CRATE is ps_main
                                         where it is left out
 build.py --check [CRATE]                only says by its status whether it is built (0) or not (1)
-build.py --fingerprints                 writes for each program that has a launcher its crate and the fingerprint of its sources
+build.py --programs                     writes for each program its crate and its name: those that have a launcher at the top of the
+                                        repository, and whose crate stands in crates.txt
+build.py --fingerprints                 writes for each program its crate and the fingerprint of its sources
 build.py --take FINGERPRINTS            takes the programs that `rt ci` has built in this repository, where their sources have these
                                         fingerprints now: those that they had before `rt ci` began
+
+What `rt ci` leaves in crates/CRATE/out says nothing of the sources that it was made from, and anybody can write there. So it is taken
+by `--take` alone, from somebody who noted the fingerprints before the run, as .ci/run does.
 
 The crates that the program stands on are laid into a folder of their own, without tests and wrong bodies, and `rt ci` proves them
 there side by side, as many as there are processors and memory allows; what this machine has proved before of the same files it takes
@@ -28,6 +33,7 @@ import threading
 import time
 
 sys.path.insert(0, os.path.dirname(os.path.realpath(__file__)))
+from plainly import plainly
 from sources import BUILT, FOLDERS, NotComparable, Store, below, crates, fingerprint, rows_of
 
 ROOT = pathlib.Path(__file__).resolve().parent.parent
@@ -54,6 +60,11 @@ def guessed_cost(name):
     """The same of a crate that was never measured, by the length of its sources."""
     texts = [path.read_text() for path in sorted((ROOT / "crates" / name / "src").glob("**/*.rt"))]
     return sum(text.count("fn ") for text in texts), 0.1 * sum(text.count("\n") for text in texts) + 1
+
+
+def counted(names):
+    """How many crates these are, in words."""
+    return f"{len(names)} crate{'' if len(names) == 1 else 's'}"
 
 
 @contextlib.contextmanager
@@ -163,7 +174,7 @@ class Build:
         functions = sum(self.costs[low][0] for low in self.proved)
         every = sum(count for count, _ in self.costs.values())
         minutes = "" if seconds is None else f", about {max(1, round(seconds / 60))} min left"
-        text = f"proved {len(self.proved)} of {len(self.names)} crates, {functions} of {every} functions, {share:.0%}{minutes}"
+        text = f"proved {len(self.proved)} of {counted(self.names)}, {functions} of {every} functions, {share:.0%}{minutes}"
         self.progress.show(text, time.monotonic())
 
     def run_in(self, stage):
@@ -190,7 +201,7 @@ class Build:
 
     def run(self):
         """Proves and builds all, and keeps the program. Whether that went well."""
-        self.say(f"proving {len(self.names)} crates side by side; what this machine has proved before is taken as it is kept")
+        self.say(f"proving {counted(self.names)} side by side; what this machine has proved before is taken as it is kept")
         with tempfile.TemporaryDirectory(prefix="plcsafe-") as folder:
             stage = pathlib.Path(folder)
             lay(stage, self.names)
@@ -228,18 +239,18 @@ def build(crate=PROGRAM, name="plcsafe"):
 
 
 def programs():
-    """The crates of the programs that have a launcher at the top of the repository."""
-    found = []
+    """The programs that have a launcher at the top of the repository and a crate in crates.txt: each crate, and its program's name."""
+    listed, found = crates(), []
     for path in sorted(ROOT.iterdir()):
         if path.is_file() and os.access(path, os.X_OK):
-            found += re.findall(r'tools/launch\.py" (\w+) ', path.read_text(errors="replace"))
-    return found
+            found += re.findall(r'tools/launch\.py" (\w+) (\S+)', path.read_text(errors="replace"))
+    return [(crate, name) for crate, name in found if crate in listed]
 
 
 def fingerprints():
     """The fingerprint of the sources of each program, a line for each."""
     stands_on = crates()
-    return "".join(f"{crate} {fingerprint(below(stands_on, crate))}\n" for crate in programs())
+    return "".join(f"{crate} {fingerprint(below(stands_on, crate))}\n" for crate, _ in programs())
 
 
 def take(before):
@@ -251,27 +262,32 @@ def take(before):
             with alone_in(os.path.join(BUILT, crate)):
                 Store(crate).keep(program, sources, names)
         else:
-            print(f"plcsafe: the program of {crate} is not taken: there is none, or its sources changed", file=sys.stderr)
+            print(f"build.py: the program of {crate} is not taken: there is none, or its sources changed", file=sys.stderr)
             taken = False
     return taken
 
 
-def main(words):
-    try:
-        if words == ["--fingerprints"]:
-            print(fingerprints(), end="")
-            return 0
-        if words[:1] == ["--take"] and len(words) == 2:
-            return 0 if take(words[1]) else 1
-    except (OSError, ValueError, NotComparable) as error:
-        print(f"plcsafe: {error}", file=sys.stderr)
-        return 1
-    is_asked = words[:1] == ["--check"]
-    crate = words[is_asked] if len(words) > is_asked else PROGRAM
-    if is_asked:
+def answer(flag, words):
+    """The status of a call with these words behind its flag, or None where the words are not taken."""
+    if flag == "--programs" and not words:
+        print("".join(f"{crate} {name}\n" for crate, name in programs()), end="")
+        return 0
+    if flag == "--fingerprints" and not words:
+        print(fingerprints(), end="")
+        return 0
+    if flag == "--take" and len(words) == 1:
+        return 0 if take(words[0]) else 1
+    crate = words[0] if words else PROGRAM
+    if flag not in ("", "--check") or len(words) > 1 or crate not in crates():
+        return None
+    if flag:
         return 0 if Store(crate).is_current() else 1
-    return 0 if build(crate) else NOT_BUILT
+    return 0 if build(crate, dict(programs()).get(crate, crate)) else NOT_BUILT
+
+
+def main(words):
+    return answer(words.pop(0) if words and words[0].startswith("-") else "", words)
 
 
 if __name__ == "__main__":
-    sys.exit(main(sys.argv[1:]))
+    plainly(main, "build.py [--check] [CRATE] | --programs | --fingerprints | --take FINGERPRINTS")

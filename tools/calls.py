@@ -19,6 +19,8 @@ import subprocess
 import sys
 import tempfile
 
+from plainly import Stop, plainly
+
 DONE, REFUSED, USAGE, BAD, TRIPPED, NO_READ, NO_WRITE, NO_MEMORY = range(8)
 QUIET = {**os.environ, "PLCSAFE_QUIET": "1"}
 NAME = 64  # the most bytes of a name
@@ -413,7 +415,11 @@ PARTS = (statuses, pieces, outputs, writes, limits, memory, shims)
 
 
 def main(words):
+    if len(words) not in (1, 2) or words[0].startswith("-"):
+        return None
     program = str(pathlib.Path(words[0]).resolve())
+    if not os.path.isfile(program) or not os.access(program, os.X_OK):
+        raise Stop(f"{words[0]} is no program")
     with tempfile.TemporaryDirectory(prefix="plcsafe-calls-") as folder:
         calls = Calls(program, pathlib.Path(folder), words[1] if len(words) > 1 else "")
         for part in PARTS:
@@ -427,6 +433,4 @@ def main(words):
 
 
 if __name__ == "__main__":
-    if len(sys.argv) < 2:
-        sys.exit(__doc__)
-    sys.exit(main(sys.argv[1:]))
+    plainly(main, "tools/calls.py PROGRAM [WORD]")

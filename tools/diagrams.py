@@ -13,6 +13,7 @@ import re
 import sys
 
 from blocks import FILES, PAGE, codes_of, rows_of, tables
+from plainly import plainly
 
 END = "<!-- up to here -->"
 
@@ -123,6 +124,8 @@ def wrong_tables():
 
 
 def main(words):
+    if words not in ([], ["--write"], ["--check"]):
+        return None
     if words == ["--write"]:
         PAGE.write_text(page_with_diagrams())
     elif words == ["--check"]:
@@ -138,4 +141,4 @@ def main(words):
 
 
 if __name__ == "__main__":
-    sys.exit(main(sys.argv[1:]))
+    plainly(main, "tools/diagrams.py [--write | --check]")

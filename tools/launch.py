@@ -41,4 +41,6 @@ def start(crate, name, words):
 
 
 if __name__ == "__main__":
+    if len(sys.argv) < 3:
+        sys.exit(print("usage: launch.py CRATE NAME WORD..", file=sys.stderr) or NOT_BUILT)
     sys.exit(main(sys.argv[1], sys.argv[2], sys.argv[3:]))

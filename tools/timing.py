@@ -12,6 +12,8 @@ import pathlib
 import re
 import sys
 
+from plainly import plainly
+
 ROOT = pathlib.Path(__file__).resolve().parent.parent
 LEFT, WIDE, HIGH, TOP = 90, 44, 24, 26
 STYLE = (
@@ -96,7 +98,7 @@ def codes(columns, name, y):
 def pictures():
     """Each picture, with the file that it belongs in."""
     for path in sorted((ROOT / "examples").glob("**/*.expected")):
-        for call in path.read_text().split("$ ./plcsafe ")[1:]:
+        for call in re.findall(r"(?ms)^\$ \./plcsafe (.*?)(?=^\$ |\Z)", path.read_text()):
             first, *written = call.splitlines()
             words = first.split()
             is_drawn = words[0] == "run" or words[0] == "fault" and "restart" in written and " TRIP" in call
@@ -114,9 +116,8 @@ def main(words):
         wrong = [str(path.relative_to(ROOT)) for path, text in pictures() if not path.exists() or path.read_text() != text]
         print("another picture: " + " ".join(wrong) if wrong else "the pictures are those of the examples")
         return 1 if wrong else 0
-    print(__doc__)
-    return 2
+    return None
 
 
 if __name__ == "__main__":
-    sys.exit(main(sys.argv[1:]))
+    plainly(main, "tools/timing.py --write | --check")

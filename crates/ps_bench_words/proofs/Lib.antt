@@ -1,0 +1,2 @@
+-- what was given to a command
+pub mod Given

@@ -1,0 +1,18 @@
+-- What the words of a call ask, as the code has it.
+use Rattle.std.specs.Prelude.{ℕ, List, map}
+use Rattle.std.specs.Borrow.{Bor}
+use Rattle.ps_bench_words.specs.Asking as asking
+use Rattle.ps_bench_words.specs.Asking.Asked.{Test as TestOf, Expand as ExpandOf, Page as PageOf, NotTaken as NotTakenOf}
+use Rattle.ps_bench_words.specs.declared.asking.Asked.{Asked}
+use Rattle.ps_bench_words.specs.declared.asking.Asked.TheVariants.{Test, Expand, Page, NotTaken}
+
+-- the bytes of words that are borrowed
+abbrev pub seen : List (Bor (List ℕ)) → List (List ℕ)
+seen = map (λ word. word.now)
+
+-- what the code's answer asks
+abbrev pub asked_seen : Asked → asking.Asked
+asked_seen (Test app cases format) = TestOf app.now (seen cases.items) format
+asked_seen (Expand app cases) = ExpandOf app.now cases.now
+asked_seen (Page text) = PageOf
+asked_seen (NotTaken text) = NotTakenOf

@@ -1,0 +1,132 @@
+// The commands of the program, as `clap` reads them.
+
+ghost use Rattle.std.specs.Prelude.{◌≡◌, IfOk, false};
+ghost use Rattle.clap.specs.Words.{app_of, rule_of};
+ghost use Rattle.clap.specs.Simple.{with_rule, with_subcommand};
+ghost use Rattle.clap.specs.declared.builder.command.Command.TheViews.{out-Command as fields_of};
+ghost use Rattle.ps_bench_words.specs.Commands as commands;
+
+use crate::pages;
+use clap::{Arg, Command};
+use std::alloc::{AllocError, Global};
+
+// The application.
+fn app_arg<'a>(alloc: Global) -> Arg<'a>
+    ensures rule { rule_of result ≡ commands.app }
+    ensures local { result.global ≡ false }
+{
+    Arg::new(alloc, "APP").required(true).help(pages::APP)
+}
+
+// One case file.
+fn file_arg<'a>(alloc: Global) -> Arg<'a>
+    ensures rule { rule_of result ≡ commands.file }
+    ensures local { result.global ≡ false }
+{
+    Arg::new(alloc, "CASES").required(true).help(pages::FILE)
+}
+
+// One case file or several.
+fn files_arg<'a>(alloc: Global) -> Arg<'a>
+    ensures rule { rule_of result ≡ commands.files }
+    ensures local { result.global ≡ false }
+{
+    Arg::new(alloc, "CASES")
+        .required(true)
+        .num_args(1..)
+        .help(pages::FILES)
+}
+
+// How results are told.
+fn format_arg<'a>(alloc: Global) -> Arg<'a>
+    ensures rule { rule_of result ≡ commands.format }
+    ensures local { result.global ≡ false }
+{
+    Arg::new(alloc, "format")
+        .long("format")
+        .value_name("FORMAT")
+        .help(pages::FORMAT)
+}
+
+// The command that help is asked for.
+fn topic_arg<'a>(alloc: Global) -> Arg<'a>
+    ensures rule { rule_of result ≡ commands.topic }
+    ensures local { result.global ≡ false }
+{
+    Arg::new(alloc, "COMMAND").help(pages::TOPIC)
+}
+
+// A command with one argument more.
+fn with_arg<'a>(command: Command<'a>, arg: Arg<'a>) -> Result<Command<'a>, AllocError>
+    requires { arg.global ≡ false }
+    ensures app { IfOk result (λ c. app_of c ≡ with_rule (app_of command.entry) (rule_of arg.entry)) }
+    ensures local { IfOk result (λ c. (fields_of c).has_globals ≡ (fields_of command.entry).has_globals) }
+{
+    command.arg(arg)
+}
+
+// `test APP CASES.. [--format FORMAT]`
+pub(crate) fn test_command<'a>(alloc: Global) -> Result<Command<'a>, AllocError>
+    ensures app { IfOk result (λ c. app_of c ≡ commands.leaf commands.test) }
+    ensures local { IfOk result (λ c. (fields_of c).has_globals ≡ false) }
+{
+    let command = Command::new(alloc, "test")
+        .about(pages::TEST)
+        .after_help(pages::TEST_EXAMPLE);
+    let command = with_arg(command, app_arg(alloc))?;
+    let command = with_arg(command, files_arg(alloc))?;
+    with_arg(command, format_arg(alloc))
+}
+
+// `expand APP CASES`
+fn expand_command<'a>(alloc: Global) -> Result<Command<'a>, AllocError>
+    ensures app { IfOk result (λ c. app_of c ≡ commands.leaf commands.expand) }
+    ensures local { IfOk result (λ c. (fields_of c).has_globals ≡ false) }
+{
+    let command = Command::new(alloc, "expand")
+        .about(pages::EXPAND)
+        .after_help(pages::EXPAND_EXAMPLE);
+    let command = with_arg(command, app_arg(alloc))?;
+    with_arg(command, file_arg(alloc))
+}
+
+// `help [COMMAND]`
+pub(crate) fn help_command<'a>(alloc: Global) -> Result<Command<'a>, AllocError>
+    ensures app { IfOk result (λ c. app_of c ≡ commands.leaf commands.help) }
+    ensures local { IfOk result (λ c. (fields_of c).has_globals ≡ false) }
+{
+    let command = Command::new(alloc, "help")
+        .about(pages::HELP)
+        .after_help(pages::HELP_EXAMPLE);
+    with_arg(command, topic_arg(alloc))
+}
+
+// The program without its commands.
+fn bare_program<'a>(alloc: Global) -> Command<'a>
+    ensures { app_of result ≡ commands.bare }
+{
+    Command::new(alloc, pages::NAME)
+        .about(pages::PROGRAM)
+        .after_help(pages::PROGRAM_EXAMPLE)
+        .version(pages::VERSION)
+        .no_binary_name(true)
+        .disable_help_subcommand(true)
+        .subcommand_required(true)
+}
+
+// A command with one more subcommand.
+fn with_command<'a>(command: Command<'a>, more: Command<'a>) -> Result<Command<'a>, AllocError>
+    requires { (fields_of more).has_globals ≡ false }
+    ensures { IfOk result (λ c. app_of c ≡ with_subcommand (app_of command.entry) (app_of more.entry).top) }
+{
+    command.subcommand(more)
+}
+
+/// The program with its commands, as `clap` reads them.
+pub(crate) fn program<'a>(alloc: Global) -> Result<Command<'a>, AllocError>
+    ensures { IfOk result (λ c. app_of c ≡ commands.workbench) }
+{
+    let program = with_command(bare_program(alloc), test_command(alloc)?)?;
+    let program = with_command(program, expand_command(alloc)?)?;
+    with_command(program, help_command(alloc)?)
+}

@@ -1,0 +1,11 @@
+//! The words of a call of `plcsafe-bench`, and what they ask.
+//!
+//! `command` is what `clap` is asked to read, with its help, its version and its errors; `asking` says what the words
+//! ask of the program.
+#![tactic(auto)]
+
+mod asking;
+mod command;
+mod pages;
+
+pub use asking::{Asked, Format, asked_of, texts_of};

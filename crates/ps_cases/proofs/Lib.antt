@@ -1,0 +1,5 @@
+pub mod Naming
+pub mod Counting
+pub mod Cutting
+pub mod CaseNames
+pub mod ReadLines

@@ -1,0 +1,21 @@
+//! What a case of a case file is judged by: what is seen of each scan, and which expectations hold.
+//!
+//! - `seen`: what is seen of a scan.
+//! - `pins`, `values`: the value of a name in it. Outputs, Ready, Error and DiagCodes are those that were released, and
+//!   all other values what the networks mean.
+//! - `checks`: whether a check holds in it.
+//! - `watch`: an expectation whose window is open.
+//! - `judge`: all of a case, scan by scan; it keeps no scans.
+#![tactic(auto)]
+
+mod checks;
+mod judge;
+mod pins;
+mod seen;
+mod values;
+mod watch;
+
+pub use checks::{Failure, Why, first_broken, holds, value_shown};
+pub use judge::Judge;
+pub use seen::Seen;
+pub use values::value_of;

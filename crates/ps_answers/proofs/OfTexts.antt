@@ -7,7 +7,6 @@ use Rattle.ps_names.specs.Stands.{Stands}
 use Rattle.ps_derived.specs.declared.library.Library.{Library}
 use Rattle.ps_derived.specs.Flat.{flat}
 use Rattle.ps_derived.specs.Texts.{IsLibraryWithin}
-use Rattle.ps_nested.specs.Runs as runs
 use Rattle.ps_nested.specs.Maps.{HasFields}
 use Rattle.ps_nested.proofs.Whole.{nested_is_flat}
 use Rattle.ps_nested.proofs.WholeRuns.{nested_runs_are_flat}
@@ -18,7 +17,7 @@ use Rattle.ps_source.specs.Source.Reading.{stands_for}
 use Rattle.ps_source.proofs.Keeping.{resolved_sound}
 use Rattle.ps_trace.specs.Scans.{Scans}
 use Rattle.ps_model.specs.declared.channel.Cause.{Cause}
-use Rattle.ps_model.specs.Meaning.{Item}
+use Rattle.ps_model.specs.Meaning.{Item, nothing}
 use Rattle.ps_top.specs.Asking.{Answer}
 use Rattle.ps_top.specs.Untripped.{Held, AreHeld, TellsScans}
 use Rattle.ps_top.proofs.Untripped.{runs_tell_all, faults_tell_trips}
@@ -51,11 +50,11 @@ module _ (source : List ℕ) (l : Library) (net : Network) (is : IsAcceptedText 
 
   pub has_one_run : (items : List Item) → HasOneRun l net items
   has_one_run items =
-      let run = some_run MOST_GROUPS l net within is.unbroken is.stands sound runs.nothing items in
+      let run = some_run MOST_GROUPS l net within is.unbroken is.stands sound nothing items in
       record {
         maps = run.0;
         means = run.1;
-        only = λ others meant. runs_alike MOST_GROUPS l net within is.unbroken is.stands sound runs.nothing runs.nothing tt items others run.0 meant run.1;
+        only = λ others meant. runs_alike MOST_GROUPS l net within is.unbroken is.stands sound nothing nothing tt items others run.0 meant run.1;
         states = λ ws means. ((nested_runs_are_flat MOST_GROUPS l net within is.unbroken is.stands items ws).0 means).1;
       }
 

@@ -16,33 +16,45 @@ pub data Item : Type 0 where
 abbrev pub first_state : Network → State
 first_state net = record { signals = replicate (signal_count net) false; blocks = replicate (instance_count net) idle }
 
--- what a scan starts from: nothing where it is the first one or the first after a restart, and else the time and the state of the scan before
-pub data Past : Type 0 where
-  nothing : Past
-  last : (now : ℕ) (w : State) → Past
+-- what a scan starts from: nothing where it is the first one or the first after a restart, and else the time of the scan before and what it left
+pub data After (W : Type 0) : Type 0 where
+  nothing : After W
+  last : (now : ℕ) (w : W) → After W
 
--- the state that a scan starts from
-abbrev pub old_state : Network → Past → State
-old_state net nothing = first_state net
-old_state net (last now w) = w
+-- what the scan before left, or what there is before the first scan
+abbrev pub left_by : {W : Type 0} → W → After W → W
+left_by first nothing = first
+left_by first (last now w) = w
 
 -- the time of the scan before in ms, 0 where there is none since the start or a restart
-abbrev pub last_time : Past → ℕ
+abbrev pub last_time : {W : Type 0} → After W → ℕ
 last_time nothing = 0
 last_time (last before w) = before
 
 -- the time that passed since the scan before, in ms
-abbrev pub passed : Past → ℕ → ℕ
+abbrev pub passed : {W : Type 0} → After W → ℕ → ℕ
 passed nothing now = 0
 passed (last before w) now = now - before
 
+-- what the scans among these items leave, by what one scan leaves after another, and anew after each restart
+abbrev pub Leaves : {W : Type 0} → W → (W → List Bool → ℕ → W → Type 0) → After W → List Item → List W → Type 0
+Leaves first Scan past [] ws = ws ≡ []
+Leaves first Scan past (restart ∷ items) ws = Leaves first Scan nothing items ws
+Leaves first Scan past (scan now ins ∷ items) [] = ⊥
+Leaves first Scan past (scan now ins ∷ items) (w ∷ ws) =
+    Scan (left_by first past) ins (passed past now) w × Leaves first Scan (last now w) items ws
+
+-- a scan starts from the state that the one before left
+abbrev pub Past : Type 0
+Past = After State
+
+-- the state that a scan starts from
+abbrev pub old_state : Network → Past → State
+old_state net = left_by (first_state net)
+
 -- the states of the scans among these items, each of which solves over the one before, and anew after each restart
 abbrev pub Runs : Network → Past → List Item → List State → Type 0
-Runs net past [] ws = ws ≡ []
-Runs net past (restart ∷ items) ws = Runs net nothing items ws
-Runs net past (scan now ins ∷ items) [] = ⊥
-Runs net past (scan now ins ∷ items) (w ∷ ws) =
-    Solves net (old_state net past) ins (passed past now) w × Runs net (last now w) items ws
+Runs net = Leaves (first_state net) (Solves net)
 
 -- these states, one for each scan, are what the items mean
 abbrev pub Meaning : Network → List Item → List State → Type 0

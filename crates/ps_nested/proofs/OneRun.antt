@@ -1,7 +1,7 @@
 -- One list of maps is what runs of a text leave, up to what it does not declare.
 use Rattle.std.proofs.Common.{◌≡◌, ℕ, ◌-◌, Bool, List, [], ◌∷◌, refl, sym, ap, subst}
 use Rattle.ps_model.specs.Network.{Network}
-use Rattle.ps_model.specs.Meaning.{Item, scan, restart}
+use Rattle.ps_model.specs.Meaning.{Item, scan, restart, After, nothing, last, left_by, passed}
 use Rattle.ps_model.specs.Sound.{IsSound}
 use Rattle.ps_names.specs.Names.{entries}
 use Rattle.ps_names.specs.Stands.{Stands}
@@ -12,7 +12,7 @@ use Rattle.ps_derived_rules.specs.BlockRules.{block_offences}
 use Rattle.ps_nested.specs.Reading.{Values}
 use Rattle.ps_nested.specs.Texts.{plain_body}
 use Rattle.ps_nested.specs.Nested.{Nested, program_of}
-use Rattle.ps_nested.specs.Runs.{Earlier, nothing, earlier, old_values, time_passed, TextRuns}
+use Rattle.ps_nested.specs.Runs.{blank, TextRuns}
 use Rattle.ps_nested.specs.Maps.{AreAlike, AllAlike, text_instances}
 use Rattle.ps_nested.proofs.Whole.{MeanTheSame, scanned_same, other_way, text_same}
 use Rattle.ps_nested.proofs.OneMap.{some_map, alike_after}
@@ -44,44 +44,44 @@ module _ (depth : ℕ) (l : Library) (net : Network) (within : IsLibraryWithin d
 
   -- ---- runs
 
-  pub some_run : (past : Earlier) (items : List Item) → (ms : List Values) × TextRuns l past items ms
+  pub some_run : (past : After Values) (items : List Item) → (ms : List Values) × TextRuns l past items ms
   some_run past [] = ([], refl)
   some_run past (restart ∷ items) = some_run nothing items
   some_run past (scan now ins ∷ items) =
-      let one = one_more (old_values past) ins (time_passed past now) in
-      let rest = some_run (earlier now one.0) items in
+      let one = one_more (left_by blank past) ins (passed past now) in
+      let rest = some_run (last now one.0) items in
       (one.0 ∷ rest.0, (one.1, rest.1))
 
   -- what scans start from alike
-  abbrev StartAlike : Earlier → Earlier → Type 0
+  abbrev StartAlike : After Values → After Values → Type 0
   StartAlike nothing nothing = Unit {0}
-  StartAlike (earlier t m) (earlier u n) = (t ≡ u) × AreAlike (text_instances l) m n
+  StartAlike (last t m) (last u n) = (t ≡ u) × AreAlike (text_instances l) m n
   StartAlike _ _ = ⊥
 
-  maps_before : (past other : Earlier) → StartAlike past other → AreAlike (text_instances l) (old_values past) (old_values other)
-  maps_before nothing nothing alike = alike_itself l (old_values nothing)
-  maps_before nothing (earlier u n) alike = absurd alike
-  maps_before (earlier t m) nothing alike = absurd alike
-  maps_before (earlier t m) (earlier u n) alike = alike.1
+  maps_before : (past other : After Values) → StartAlike past other → AreAlike (text_instances l) (left_by blank past) (left_by blank other)
+  maps_before nothing nothing alike = alike_itself l (left_by blank nothing)
+  maps_before nothing (last u n) alike = absurd alike
+  maps_before (last t m) nothing alike = absurd alike
+  maps_before (last t m) (last u n) alike = alike.1
 
-  time_before : (past other : Earlier) (now : ℕ) → StartAlike past other → time_passed other now ≡ time_passed past now
+  time_before : (past other : After Values) (now : ℕ) → StartAlike past other → passed other now ≡ passed past now
   time_before nothing nothing now alike = refl
-  time_before nothing (earlier u n) now alike = absurd alike
-  time_before (earlier t m) nothing now alike = absurd alike
-  time_before (earlier t m) (earlier u n) now alike = ap (λ z. now - z) (sym alike.0)
+  time_before nothing (last u n) now alike = absurd alike
+  time_before (last t m) nothing now alike = absurd alike
+  time_before (last t m) (last u n) now alike = ap (λ z. now - z) (sym alike.0)
 
   empty_alike : (ms ns : List Values) → ms ≡ [] → ns ≡ [] → AllAlike (text_instances l) ms ns
   empty_alike [] [] a b = tt
   empty_alike [] (n ∷ ns) a b = cc
   empty_alike (m ∷ ms) ns a b = cc
 
-  pub runs_alike : (past other : Earlier) → StartAlike past other → (items : List Item) (ms ns : List Values) →
+  pub runs_alike : (past other : After Values) → StartAlike past other → (items : List Item) (ms ns : List Values) →
       TextRuns l past items ms → TextRuns l other items ns → AllAlike (text_instances l) ms ns
   runs_alike past other alike [] ms ns first second = empty_alike ms ns first second
   runs_alike past other alike (restart ∷ items) ms ns first second = runs_alike nothing nothing tt items ms ns first second
   runs_alike past other alike (scan now ins ∷ items) [] ns first second = absurd first
   runs_alike past other alike (scan now ins ∷ items) (m ∷ ms) [] first second = absurd second
   runs_alike past other alike (scan now ins ∷ items) (m ∷ ms) (n ∷ ns) first second =
-      let here = one_alone (old_values past) (old_values other) ins (time_passed past now) m n (maps_before past other alike) first.0
-      (subst (λ t. Nested l (old_values other) ins t n) (time_before past other now alike) second.0) in
-      (here, runs_alike (earlier now m) (earlier now n) (refl, here) items ms ns first.1 second.1)
+      let here = one_alone (left_by blank past) (left_by blank other) ins (passed past now) m n (maps_before past other alike) first.0
+      (subst (λ t. Nested l (left_by blank other) ins t n) (time_before past other now alike) second.0) in
+      (here, runs_alike (last now m) (last now n) (refl, here) items ms ns first.1 second.1)

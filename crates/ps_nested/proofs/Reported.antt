@@ -8,7 +8,7 @@ use Rattle.ps_model.specs.Blocks.{Block_state, idle}
 use Rattle.ps_model.specs.Network as net
 use Rattle.ps_model.specs.Network.{Network}
 use Rattle.ps_model.specs.Scanning.{State, signal_in, block_in}
-use Rattle.ps_model.specs.Meaning.{Item, Meaning, diag_in, report}
+use Rattle.ps_model.specs.Meaning.{Item, nothing, Meaning, diag_in, report}
 use Rattle.ps_model.specs.Sound.{IsSound}
 use Rattle.ps_base.specs.declared.failing.Place.{Place}
 use Rattle.ps_parser.specs.declared.name.Name.{Name}
@@ -34,7 +34,7 @@ use Rattle.ps_nested.specs.ByName.{by_name}
 use Rattle.ps_nested.specs.Laws.{HasSizes}
 use Rattle.ps_nested.proofs.Seen.{IsMapOf, by_name_is, filtered}
 use Rattle.ps_nested.proofs.Declaring.{declared_here, own, own_number, output_as}
-use Rattle.ps_nested.specs.Runs.{TextMeaning, nothing}
+use Rattle.ps_nested.specs.Runs.{TextMeaning}
 use Rattle.ps_nested.specs.Maps.{AreAlike, AllAlike, HasFields, folded_instance, report_in, text_instances}
 use Rattle.ps_nested.proofs.Whole.{outputs_same, text_same}
 use Rattle.ps_nested.proofs.WholeRuns.{nested_runs_are_flat}

@@ -4,7 +4,7 @@ use Rattle.std.specs.List.{AllByRecursion}
 use Rattle.ps_model.specs.Blocks.{idle}
 use Rattle.ps_model.specs.Network.{Network, signal_count, instance_count}
 use Rattle.ps_model.specs.Scanning.{State, Solves}
-use Rattle.ps_model.specs.Meaning.{Item, scan, restart, Past, nothing, last, first_state, old_state, passed, Runs}
+use Rattle.ps_model.specs.Meaning.{Item, scan, restart, After, Past, nothing, last, left_by, first_state, old_state, passed, Runs}
 use Rattle.ps_names.specs.declared.entry.Entry.{Entry}
 use Rattle.ps_names.specs.declared.entry.Sort.{Sort}
 use Rattle.ps_names.specs.declared.entry.Sort.TheVariants.{InputSignal, OutputSignal, LocalSignal, Instance, Nothing}
@@ -12,10 +12,10 @@ use Rattle.ps_names.specs.Names.{entries, sort_at}
 use Rattle.ps_names.specs.Stands.{number_at, outputs_before}
 use Rattle.ps_derived.specs.declared.library.Library.{Library}
 use Rattle.ps_derived.specs.Flat.{flat}
+use Rattle.ps_nested.specs.Reading.{Values}
 use Rattle.ps_nested.specs.ByName.{by_name, place_of, signal_value, output_value, block_value, value_from, output_numbered}
 use Rattle.ps_nested.specs.Nested.{Nested}
-use Rattle.ps_nested.specs.Runs as text
-use Rattle.ps_nested.specs.Runs.{blank, Earlier, old_values, time_passed, TextRuns}
+use Rattle.ps_nested.specs.Runs.{blank, TextRuns}
 use Rattle.ps_nested.specs.Laws.{HasSizes, NestedRunsAreFlat}
 use Rattle.ps_nested.proofs.Whole.{nested_is_flat}
 
@@ -70,15 +70,15 @@ module _ (es : List Entry) (net : Network) where
   -- ---- what a scan starts from
 
   -- the same by names
-  abbrev earlier_of : Past → Earlier
-  earlier_of nothing = text.nothing
-  earlier_of (last now w) = text.earlier now (by_name es w)
+  abbrev earlier_of : Past → After Values
+  earlier_of nothing = nothing
+  earlier_of (last now w) = last now (by_name es w)
 
-  old_same : (past : Past) → by_name es (old_state net past) ≡ old_values (earlier_of past)
+  old_same : (past : Past) → by_name es (old_state net past) ≡ left_by blank (earlier_of past)
   old_same nothing = first_is_blank
   old_same (last now w) = refl
 
-  passed_same : (past : Past) (now : ℕ) → passed past now ≡ time_passed (earlier_of past) now
+  passed_same : (past : Past) (now : ℕ) → passed past now ≡ passed (earlier_of past) now
   passed_same nothing now = refl
   passed_same (last before w) now = refl
 
@@ -95,9 +95,9 @@ module _ (l : Library) (net : Network)
 
   -- one scan after what it starts from
   one_scan : (past : Past) (now : ℕ) (ins : List Bool) (w : State) →
-      Solves net (old_state net past) ins (passed past now) w ↔ (HasSizes net w × Nested l (old_values (earlier_of es net past)) ins (time_passed (earlier_of es net past) now) (by_name es w))
+      Solves net (old_state net past) ins (passed past now) w ↔ (HasSizes net w × Nested l (left_by blank (earlier_of es net past)) ins (passed (earlier_of es net past) now) (by_name es w))
   one_scan past now ins w =
-      subst (λ x. Solves net (old_state net past) ins (passed past now) w ↔ (HasSizes net w × Nested l x ins (time_passed (earlier_of es net past) now) (by_name es w))) (old_same es net past)
+      subst (λ x. Solves net (old_state net past) ins (passed past now) w ↔ (HasSizes net w × Nested l x ins (passed (earlier_of es net past) now) (by_name es w))) (old_same es net past)
       (subst (λ t. Solves net (old_state net past) ins (passed past now) w ↔ (HasSizes net w × Nested l (by_name es (old_state net past)) ins t (by_name es w))) (passed_same es net past now)
       (one (old_state net past) ins (passed past now) w))
 

@@ -214,6 +214,7 @@ impl SafetyBlock for Edm {
         }
     }
 
+    #[inline(always)]
     fn step(state: &mut EdmState, pins: Pins) -> Outs {
         let seen = Seen::at(pins, state.since).with_reset(5, state.last_reset);
         let phase = state.phase.next(seen);

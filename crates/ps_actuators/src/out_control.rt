@@ -133,6 +133,7 @@ impl SafetyBlock for OutControl {
         }
     }
 
+    #[inline(always)]
     fn step(state: &mut OutControlState, pins: Pins) -> Outs {
         let seen = Seen::at(pins, state.since)
             .with_reset(6, state.last_reset)

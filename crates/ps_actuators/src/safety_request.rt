@@ -136,6 +136,7 @@ impl SafetyBlock for SafetyRequest {
         }
     }
 
+    #[inline(always)]
     fn step(state: &mut SafetyRequestState, pins: Pins) -> Outs {
         let seen = Seen::at(pins, state.since).with_reset(3, state.last_reset);
         let phase = state.phase.next(seen);

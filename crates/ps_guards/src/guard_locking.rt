@@ -149,6 +149,7 @@ impl SafetyBlock for GuardLocking {
         }
     }
 
+    #[inline(always)]
     fn step(state: &mut GuardLockingState, pins: Pins) -> Outs {
         let seen = Seen::at(pins, state.since).with_reset(7, state.last_reset);
         let phase = state.phase.next(seen);

@@ -148,6 +148,7 @@ impl SafetyBlock for GuardMonitoring {
         }
     }
 
+    #[inline(always)]
     fn step(state: &mut GuardMonitoringState, pins: Pins) -> Outs {
         let seen = Seen::at(pins, state.since).with_reset(5, state.last_reset);
         let phase = state.phase.next(seen);

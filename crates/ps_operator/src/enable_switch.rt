@@ -148,6 +148,7 @@ impl SafetyBlock for EnableSwitch {
         }
     }
 
+    #[inline(always)]
     #[tactic(auto, unfolding(ps_model::specs::Blocks::block, ps_model::specs::Blocks::latched, ps_model::specs::Blocks::outs))]
     fn step(state: &mut EnableSwitchState, pins: Pins) -> Outs {
         let seen = Seen::at(pins, state.since).with_reset(5, state.last_reset);

@@ -246,6 +246,7 @@ impl SafetyBlock for ModeSelector {
         }
     }
 
+    #[inline(always)]
     #[tactic(auto, using(crate::proofs::Modes::mode_shows), unfolding(ps_model::specs::Blocks::block))]
     fn step(state: &mut ModeSelectorState, pins: Pins) -> Outs {
         let seen = Seen::at(pins, state.since)

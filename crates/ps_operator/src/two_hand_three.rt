@@ -101,6 +101,7 @@ impl SafetyBlock for TwoHandThree {
         }
     }
 
+    #[inline(always)]
     #[tactic(auto, unfolding(ps_model::specs::Blocks::block, ps_model::specs::Blocks::latched, ps_model::specs::Blocks::outs))]
     fn step(state: &mut TwoHandThreeState, pins: Pins) -> Outs {
         let seen = Seen::at(pins, state.since);

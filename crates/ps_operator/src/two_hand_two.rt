@@ -35,6 +35,7 @@ impl SafetyBlock for TwoHandTwo {
         }
     }
 
+    #[inline(always)]
     #[tactic(auto, unfolding(ps_model::specs::Blocks::block, ps_model::specs::Blocks::latched, ps_model::specs::Blocks::outs))]
     fn step(state: &mut TwoHandTwoState, pins: Pins) -> Outs {
         let seen = Seen::at(pins, state.since);

@@ -64,6 +64,7 @@ pub struct Stopped {
 ///
 /// `Stopped` comes only where the sink's count rose in this call, at the one write that failed. Where all is written
 /// the count is as it was.
+#[inline(always)]
 pub fn write_all<S: Sink>(out: &mut S, piece: &[u8]) -> Result<(), Stopped>
     ensures whole { IsTrue (S.tells out.old) → OnOk result (S.taken out.new ≡ S.taken out.old ++ piece.now) }
     ensures part { IsTrue (S.tells out.old) →

@@ -16,6 +16,7 @@ pub(crate) struct LastPins {
 }
 
 // The two pins of a kind.
+#[inline(always)]
 #[tactic(auto, unfolding(ps_model::specs::Blocks::block))]
 pub(crate) fn last_pins(kind: Kind) -> LastPins
     ensures reset { result.reset ≡ bit_of (block kind).reset }
@@ -34,6 +35,7 @@ pub(crate) fn last_pins(kind: Kind) -> LastPins
 }
 
 // Whether the pin of a bit is TRUE: FALSE where the kind lacks it.
+#[inline(always)]
 pub(crate) fn is_on(bits: u32, pin: u32) -> bool
     ensures { (j : Option ℕ) → pin ≡ bit_of j → result ≡ at_pin j (pin_of bits) }
 {
@@ -41,6 +43,7 @@ pub(crate) fn is_on(bits: u32, pin: u32) -> bool
 }
 
 // Whether a kind can keep such a last value of the pin of a bit: TRUE only where it has the pin.
+#[inline(always)]
 pub(crate) fn may_keep(last: bool, pin: u32) -> bool
     ensures { (j : Option ℕ) → pin ≡ bit_of j → result ≡ is_last j (bit last) }
 {

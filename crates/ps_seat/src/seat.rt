@@ -164,6 +164,7 @@ impl<C: ScanMachine> Seat<C> {
     /// Writes the report of a channel that has ended into a blank one of the application's sizes, or answers why there is
     /// none, and then `into` is still blank. A caller hands over a blank report, every Boolean FALSE and every code 0, so
     /// that a channel that writes nothing, as by a compiler's or a processor's fault, releases nothing that stood there.
+    #[inline(always)]
     pub fn outcome_into(&self, into: &mut Report) -> Result<(), Failing>
         requires blank { into.old ≡ blank_report self.now.sizes.outputs self.now.sizes.instances }
         ensures gives { OnOk result (outcome (machine_in C.workings self.now) self.now.channel.cells ≡ gives into.new) }

@@ -125,6 +125,7 @@ impl ContactsState {
     }
 
     // One step; b is the second contact, the other way round where it is normally open.
+    #[inline(always)]
     #[tactic(auto, unfolding(ps_model::specs::Blocks::block, ps_model::specs::Blocks::latched, ps_model::specs::Blocks::outs))]
     fn step(&mut self, pins: Pins, b: bool) -> Outs
         ensures equivalent { b ≡ pin_of pins.bits 2 → IsStep EquivalentKind pins (kept_of self.old) (kept_of self.new) result }
@@ -187,6 +188,7 @@ impl SafetyBlock for Equivalent {
         ContactsState::fresh()
     }
 
+    #[inline(always)]
     fn step(state: &mut ContactsState, pins: Pins) -> Outs {
         state.step(pins, pins.at(2))
     }
@@ -219,6 +221,7 @@ impl SafetyBlock for Antivalent {
         ContactsState::fresh()
     }
 
+    #[inline(always)]
     fn step(state: &mut ContactsState, pins: Pins) -> Outs {
         state.step(pins, !pins.at(2))
     }

@@ -126,6 +126,7 @@ impl StopState {
     }
 
     // One step, the same for both kinds.
+    #[inline(always)]
     #[tactic(auto, unfolding(ps_model::specs::Blocks::block, ps_model::specs::Blocks::latched, ps_model::specs::Blocks::outs))]
     fn step(&mut self, pins: Pins) -> Outs
         ensures emergency_stop { IsStep EmergencyStopKind pins (kept_of self.old) (kept_of self.new) result }
@@ -192,6 +193,7 @@ impl SafetyBlock for EmergencyStop {
         StopState::fresh()
     }
 
+    #[inline(always)]
     fn step(state: &mut StopState, pins: Pins) -> Outs {
         state.step(pins)
     }
@@ -224,6 +226,7 @@ impl SafetyBlock for Espe {
         StopState::fresh()
     }
 
+    #[inline(always)]
     fn step(state: &mut StopState, pins: Pins) -> Outs {
         state.step(pins)
     }

@@ -1,6 +1,6 @@
 // Where the rule M1 refuses a text: in the order of the rules, and at which place.
 
-use ps_base::{Memory, Place, Rule};
+use ps_base::{Fail as RuleFail, Memory, Place, Rule};
 use ps_outside::{MemFiles, TextFail};
 use ps_source::read_demanded;
 use std::alloc::Global;
@@ -10,13 +10,18 @@ use std::test::Fail;
 fn refusal_of(alloc: Global, text: &str) -> Result<Option<(Rule, u32, u32)>, Memory> {
     let mut files = MemFiles::new(alloc);
     files.put("A", text.as_bytes())?;
-    match read_demanded(alloc, "A", &mut files) {
+    let demands = match read_demanded(alloc, "A", &mut files) {
+        Ok(demanded) => demanded.into_parts().1,
+        Err(TextFail::Refused(refusal)) => Err(RuleFail::Refused(refusal)),
+        Err(TextFail::Memory | TextFail::Fault) => return Err(Memory),
+    };
+    match demands {
         Ok(_) => Ok(None),
-        Err(TextFail::Refused(refusal)) => {
+        Err(RuleFail::Refused(refusal)) => {
             let Place { line, column } = refusal.place;
             Ok(Some((refusal.rule, line, column)))
         }
-        Err(TextFail::Memory | TextFail::Fault) => Err(Memory),
+        Err(RuleFail::Memory) => Err(Memory),
     }
 }
 

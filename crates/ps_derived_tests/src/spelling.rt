@@ -94,8 +94,7 @@ const NEEDED: &str = "S_o needs K.h@before AND S_i\n";
 
 // The lines of what the outputs of a text demand.
 fn demanded(alloc: Global, text: &str) -> Result<Bytes, Fail> {
-    let (lines, _) = demand_text(alloc, text.as_bytes())?.into_parts();
-    Ok(lines)
+    demand_text(alloc, text.as_bytes())?.into_parts().1
 }
 
 #[test]

@@ -80,7 +80,7 @@ IsOfRefusal words left text =
     × (further : List Refusal) × (more : ℕ) × (text ≡ first ++ also_text file source further more)
 
 -- The message of the scan that tripped first, as it is left, by the name of the trace, and the lines on comments behind
--- it. What name stands before the number of a field is left open.
+-- it. What name and which values stand before the number of a field is left open.
 abbrev pub IsOfTrip : (words : List (List ℕ)) → Left → List ℕ → Type 0
 IsOfTrip words left text =
     (trip : Trip) × (left.trip ≡ Some trip) × (file : List ℕ) × IsNamed words Trace file × (field comments : List ℕ)

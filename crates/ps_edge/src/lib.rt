@@ -26,4 +26,6 @@ pub use exit::{NO_WORDS, ended, exit_code, exit_code_without_words};
 pub use given::words_given;
 pub use listening::Listener;
 pub use program::{exit_of_program, exit_of_words};
+pub use refusing::refusal_of_app;
 pub use standing::StandardError;
+pub use telling::hear_bytes;

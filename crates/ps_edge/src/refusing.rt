@@ -40,8 +40,9 @@ fn further_on(alloc: Global, name: &[u8], source: &[u8], refusal: &Refusal) -> R
     also_lines(alloc, name, source, &all[..told], more)
 }
 
-// The message of a refusal of the application of this name, whose text is left, and the lines of further ones.
-fn refusal_of_app(
+/// The message of a refusal of the application of this name and this text, and behind it the lines of further refusals
+/// of the same letter. An error: memory is wanting.
+pub fn refusal_of_app(
     alloc: Global,
     name: &str,
     source: &[u8],

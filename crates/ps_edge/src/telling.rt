@@ -25,10 +25,10 @@ pub(crate) enum Message {
     Written(Bytes),
 }
 
-// The name of the first field that differs in a trip, by the text of the application that is left.
+// The name of the first field that differs in a trip, and its values, by the text of the application that is left.
 fn field_of(alloc: Global, left: &Left, trip: &Trip) -> Result<Bytes, Memory> {
     match &left.text {
-        Some(text) => field_told(alloc, text.as_slice(), trip.cause),
+        Some(text) => field_told(alloc, text.as_slice(), trip.cause, trip.values),
         None => Ok(Bytes::new(alloc)),
     }
 }
@@ -97,8 +97,8 @@ fn message_on<L: Listener>(
     }
 }
 
-// Has a listener hear bytes, where they are text.
-fn hear_bytes<L: Listener>(listener: &mut L, bytes: &[u8])
+/// Has a listener hear bytes, where they are UTF-8, and else nothing.
+pub fn hear_bytes<L: Listener>(listener: &mut L, bytes: &[u8])
     ensures heard { IsTrue (L.tells listener.old) →
         Hears (λ heard. heard ≡ bytes.now) (L.heard listener.old) (L.heard listener.new) }
     ensures telling { L.tells listener.new ≡ L.tells listener.old }

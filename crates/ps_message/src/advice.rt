@@ -140,7 +140,7 @@ fn said_of(rule: Rule) -> Said
         },
         Rule::S3 => Said {
             sentence: "a TIME literal stands at a Boolean pin",
-            remedy: "exchange them",
+            remedy: "give a signal, TRUE or FALSE here, and the time at a TIME pin",
         },
         Rule::S4 => Said {
             sentence: "TRUE, FALSE or a value stands at a TIME pin",

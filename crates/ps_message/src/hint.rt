@@ -48,6 +48,8 @@ pub(crate) enum Hint {
     Keyword,
     /// TRUE or FALSE as an operand.
     Constant,
+    /// A value in a call without the name of its pin.
+    Unnamed,
     /// A value at a declaration.
     Initial,
     /// A further program or function block behind the end.
@@ -123,7 +125,7 @@ impl Hint {
             },
             Hint::Empty => Said {
                 sentence: "a semicolon stands where nothing is to be ended",
-                remedy: "leave it out: one ends each declaration, assignment and call, and none stands behind END_VAR or END_PROGRAM",
+                remedy: "leave it out: one ends each declaration, assignment and call; none stands behind the name of the program, END_VAR or END_PROGRAM",
             },
             Hint::Joining => Said {
                 sentence: "",
@@ -176,6 +178,10 @@ impl Hint {
             Hint::Constant => Said {
                 sentence: "TRUE and FALSE are no operands",
                 remedy: "they stand at the pins of a call alone: leave the operand out, or name a signal",
+            },
+            Hint::Unnamed => Said {
+                sentence: "a value stands where the name of a pin is asked",
+                remedy: "name the pin of each value in a call, as E(Activate := TRUE, S_EStopIn := S_In)",
             },
             Hint::Initial => Said {
                 sentence: "a declaration gives no value",

@@ -5,7 +5,7 @@ ghost use Rattle.ps_message.specs.Message.{IsOf, is_short};
 
 use crate::advice::{Advice, advice_on};
 use crate::hint::{Hint, hinted};
-use crate::words::{first_word, is_of_word, last_word, without_blanks};
+use crate::words::{before_last_word, first_word, is_of_word, last_word, without_blanks};
 use ps_base::Rule;
 
 // Words that the language has not, each with what is said of it.
@@ -76,6 +76,11 @@ fn asks_value(front: &[u8]) -> bool {
     front.ends_with(b":=") || word.eq_ignore_ascii_case(b"AND") || word.eq_ignore_ascii_case(b"OR")
 }
 
+// Whether the name of a pin is asked behind these bytes.
+fn asks_pin(front: &[u8]) -> bool {
+    front.ends_with(b"(") || front.ends_with(b",")
+}
+
 // Whether the type of a declaration ends these bytes.
 fn ends_with_type(front: &[u8]) -> bool {
     let word = last_word(front);
@@ -99,10 +104,17 @@ fn opens_section(word: &[u8]) -> bool {
         || word.eq_ignore_ascii_case(b"VAR")
 }
 
+// Whether a head ends these bytes: PROGRAM or FUNCTION_BLOCK, and a name.
+fn ends_with_head(front: &[u8]) -> bool {
+    let keyword = last_word(without_blanks(before_last_word(front)));
+    keyword.eq_ignore_ascii_case(b"PROGRAM") || keyword.eq_ignore_ascii_case(b"FUNCTION_BLOCK")
+}
+
 // Whether nothing is to be ended by a semicolon behind these bytes.
 fn ends_already(front: &[u8]) -> bool {
     let word = last_word(front);
     front.ends_with(b";")
+        || ends_with_head(front)
         || word.eq_ignore_ascii_case(b"END_VAR")
         || word.eq_ignore_ascii_case(b"END_PROGRAM")
         || word.eq_ignore_ascii_case(b"END_FUNCTION_BLOCK")
@@ -163,6 +175,9 @@ fn hint_on_grammar(line: u32, front: &[u8], back: &[u8]) -> Option<Hint> {
     if is_constant(here) && asks_value(before) {
         return Some(Hint::Constant);
     }
+    if is_constant(here) && asks_pin(before) {
+        return Some(Hint::Unnamed);
+    }
     if is_keyword(here) {
         return Some(Hint::Keyword);
     }
@@ -202,13 +217,15 @@ fn hint_on_byte(front: &[u8], back: &[u8]) -> Option<Hint> {
     }
 }
 
-// Whether a TIME literal at the beginning of bytes goes on behind a comma.
+// Whether a TIME literal at the beginning of bytes goes on with a digit behind a comma.
 fn has_decimal_comma(bytes: &[u8]) -> bool {
+    let mut is_behind = false;
     for byte in bytes {
-        if *byte == b',' {
-            return true;
+        if is_behind {
+            return byte.is_ascii_digit();
         }
-        if !is_of_word(*byte) && *byte != b'#' && *byte != b'.' {
+        is_behind = *byte == b',';
+        if !is_behind && !is_of_word(*byte) && *byte != b'#' && *byte != b'.' {
             return false;
         }
     }

@@ -30,6 +30,16 @@ pub(crate) fn last_word(bytes: &[u8]) -> &[u8] {
     bytes
 }
 
+/// The bytes before the word at the end.
+pub(crate) fn before_last_word(bytes: &[u8]) -> &[u8] {
+    for i in (0..bytes.len()).rev() {
+        if !is_of_word(bytes[i]) {
+            return &bytes[..i + 1];
+        }
+    }
+    &[]
+}
+
 /// The word at the beginning of bytes.
 pub(crate) fn first_word(bytes: &[u8]) -> &[u8] {
     for i in 0..bytes.len() {

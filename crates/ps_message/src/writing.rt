@@ -92,25 +92,25 @@ fn add_remedy(message: &mut Bytes, advice: &Advice) -> Result<(), Memory>
     add_reference(message, advice)
 }
 
-// The message with an advice and further words, at a line and a column.
-fn written(
+/// The message with this advice at a place in this text from a file of this name, in the form of `message`, with these
+/// further words below the line. A place with column 0 is a line alone. It takes time linear in the text.
+pub fn advised_message(
     alloc: Global,
     advice: &Advice,
     words: &[u8],
     file: &[u8],
     text: &[u8],
-    line: u32,
-    column: u32,
+    place: &Place,
 ) -> Result<Bytes, Memory>
-    ensures says { IfOk result (λ bytes. bytes ≡ message_text advice.now words.now file.now text.now (record { line = line; column = column })) }
-    ensures numbers { (line < 2 ^ 32) × (column < 2 ^ 32) }
+    ensures says { IfOk result (λ bytes. bytes ≡ message_text advice.now words.now file.now text.now place.now) }
+    ensures numbers { (place.now.line < 2 ^ 32) × (place.now.column < 2 ^ 32) }
 {
-    let here = line_at(text, line);
-    let (_front, back) = cut_at(here, column);
+    let here = line_at(text, place.line);
+    let (_front, back) = cut_at(here, place.column);
     let mut message = Bytes::new(alloc);
-    add_heading(&mut message, file, &Place { line, column }, advice)?;
+    add_heading(&mut message, file, place, advice)?;
     add_reason(&mut message, advice, name_of(back))?;
-    add_quoted(&mut message, here, column)?;
+    add_quoted(&mut message, here, place.column)?;
     add_further(&mut message, words)?;
     add_remedy(&mut message, advice)?;
     Ok(message)
@@ -150,13 +150,5 @@ pub fn message(
     let place = &refusal.place;
     let advice = advice_of(refusal.rule, text, place);
     let further = further_on(alloc, text, refusal, words)?;
-    written(
-        alloc,
-        &advice,
-        further.as_slice(),
-        file,
-        text,
-        place.line,
-        place.column,
-    )
+    advised_message(alloc, &advice, further.as_slice(), file, text, place)
 }

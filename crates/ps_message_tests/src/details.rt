@@ -414,14 +414,14 @@ fn what_an_application_tells(rt: HostRuntime) -> Result<(), Fail> {
         found.push_str(&line)?;
     }
     assert_eq!(rt; found.as_str(), "S3 6 3;S2 6 21;");
-    for (field, name) in [
-        (0, "S_O"),
-        (1, "S_P"),
-        (2, "E.Ready"),
-        (4, "E.DiagCode"),
-        (5, ""),
+    for (field, values, name) in [
+        (0, Some((1, 0)), "S_O (A 1, B 0)"),
+        (1, None, "S_P"),
+        (2, None, "E.Ready"),
+        (4, Some((0x8000, 0xc002)), "E.DiagCode (A 8000, B C002)"),
+        (5, None, ""),
     ] {
-        let told = field_told(rt.alloc(), FLOW.as_bytes(), Cause::Differ(field))?;
+        let told = field_told(rt.alloc(), FLOW.as_bytes(), Cause::Differ(field), values)?;
         assert_eq!(rt; told.as_slice(), name.as_bytes(), "{field}");
     }
     let told = dirty_told(rt.alloc(), STRUCK, 4, b" B ")?;

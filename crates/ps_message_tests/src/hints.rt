@@ -86,7 +86,7 @@ a text begins with PROGRAM or FUNCTION_BLOCK and a name, and a section ends with
 a.st:1:12: P1: a semicolon stands where nothing is to be ended\n\
 \x20   S_O := S_1;;\n\
 \x20              ^\n\
-leave it out: one ends each declaration, assignment and call, and none stands behind END_VAR or END_PROGRAM (docs/refusals.md, P1)\n\
+leave it out: one ends each declaration, assignment and call; none stands behind the name of the program, END_VAR or END_PROGRAM (docs/refusals.md, P1)\n\
 ",
     },
     Row {
@@ -99,6 +99,30 @@ a.st:1:16: P1: TRUE and FALSE are no operands\n\
 \x20   S_O := S_1 AND TRUE;\n\
 \x20                  ^\n\
 they stand at the pins of a call alone: leave the operand out, or name a signal (docs/refusals.md, P1)\n\
+",
+    },
+    Row {
+        rule: Rule::P1,
+        line: 1,
+        column: 14,
+        text: "PROGRAM Motor;\n",
+        message: "\
+a.st:1:14: P1: a semicolon stands where nothing is to be ended\n\
+\x20   PROGRAM Motor;\n\
+\x20                ^\n\
+leave it out: one ends each declaration, assignment and call; none stands behind the name of the program, END_VAR or END_PROGRAM (docs/refusals.md, P1)\n\
+",
+    },
+    Row {
+        rule: Rule::P1,
+        line: 1,
+        column: 3,
+        text: "E(TRUE, S_1);\n",
+        message: "\
+a.st:1:3: P1: a value stands where the name of a pin is asked\n\
+\x20   E(TRUE, S_1);\n\
+\x20     ^\n\
+name the pin of each value in a call, as E(Activate := TRUE, S_EStopIn := S_In) (docs/refusals.md, P1)\n\
 ",
     },
     Row {
@@ -352,6 +376,18 @@ a.st:1:1: L1: a sign # stands alone\n\
 \x20   # a comment\n\
 \x20   ^\n\
 in an application a comment stands between (* and *) or behind //; # serves traces and fault files (docs/refusals.md, L1)\n\
+",
+    },
+    Row {
+        rule: Rule::L3,
+        line: 1,
+        column: 12,
+        text: "E(Limit := T#100, Reset := Ack);\n",
+        message: "\
+a.st:1:12: L3: what stands after T# is no TIME literal\n\
+\x20   E(Limit := T#100, Reset := Ack);\n\
+\x20              ^\n\
+write whole parts from the larger to the smaller unit, as T#1s500ms (docs/refusals.md, L3)\n\
 ",
     },
     Row {

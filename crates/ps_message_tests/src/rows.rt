@@ -335,7 +335,7 @@ give a SAFEBOOL; TRUE and FALSE are taken too (docs/refusals.md, S2)\n\
 a.st:2:3: S3: Activate is a Boolean pin, and a TIME literal stands at it\n\
 \x20   E(Activate := T#5ms);\n\
 \x20     ^\n\
-exchange them (docs/refusals.md, S3)\n\
+give a signal, TRUE or FALSE here, and the time at a TIME pin (docs/refusals.md, S3)\n\
 ",
     },
     Row {

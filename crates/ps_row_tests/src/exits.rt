@@ -131,7 +131,7 @@ give each input once (docs/refusals.md, T3)
 ";
 
 const TRIP: &str = "\
-T: the scan at 20 ms tripped: the reports of the channels differ, first in S_Motor, field 0
+T: the scan at 20 ms tripped: the reports of the channels differ, first in S_Motor (A 1, B 0), field 0
 every output is FALSE from there up to the next restart (docs/traces.md, TRIP lines)
 ";
 

@@ -9,7 +9,7 @@ ghost use Rattle.ps_runs.specs.Performing.{trips_with};
 
 use crate::performing::Performer;
 use ps_base::Refusal;
-use ps_model::{App, Cause, Fault, Report, Scan, Verdict};
+use ps_model::{App, Cause, Channel, Fault, Report, Scan, Verdict};
 use ps_trace::Faults;
 use ps_vote::VoteFault;
 use ps_world::World;
@@ -21,6 +21,9 @@ pub struct Trip {
     pub now: u32,
     /// Why it tripped.
     pub cause: Cause,
+    /// The values of channel A and of channel B in the first field in which their reports differ, where they do: 0 or 1
+    /// of a Boolean, or a code.
+    pub values: Option<(u16, u16)>,
 }
 
 /// A world of two channels, with the faults of a run and how far the run has come.
@@ -106,10 +109,28 @@ fn is_trip(verdict: Verdict) -> bool
     matches!(verdict, Verdict::Tripped(_))
 }
 
-// The first scan that tripped, behind a scan at this time with this verdict.
-fn first_trip(before: Option<Trip>, now: u32, verdict: Verdict) -> Option<Trip> {
+// The values of the two channels in the first field in which their reports differ, where this is the cause of a trip.
+fn values_of(world: &mut World, cause: Cause) -> Option<(u16, u16)>
+    ensures same { world.new ≡ world.old }
+{
+    let Cause::Differ(field) = cause else {
+        return None;
+    };
+    let a = world.field_value(Channel::A, field)?;
+    let b = world.field_value(Channel::B, field)?;
+    Some((a, b))
+}
+
+// The first scan that tripped, behind a scan at this time with this verdict, which the world has just made.
+fn first_trip(before: Option<Trip>, world: &mut World, now: u32, verdict: Verdict) -> Option<Trip>
+    ensures same { world.new ≡ world.old }
+{
     match (before, verdict) {
-        (None, Verdict::Tripped(cause)) => Some(Trip { now, cause }),
+        (None, Verdict::Tripped(cause)) => Some(Trip {
+            now,
+            cause,
+            values: values_of(world, cause),
+        }),
         _ => before,
     }
 }
@@ -161,7 +182,7 @@ impl StruckWorld {
         self.scans = number;
         self.next += due;
         self.tripped |= is_trip(verdict);
-        self.trip = first_trip(self.trip, scan.now, verdict);
+        self.trip = first_trip(self.trip, &mut self.world, scan.now, verdict);
         verdict
     }
 }

@@ -11,7 +11,7 @@ use Rattle.ps_parser.specs.Tree.{SourceTree}
 use Rattle.ps_source.specs.Source.{Reading, IsResolvedAs, IsAcceptedAs}
 use Rattle.ps_source.specs.Source.Reading.{stands_for, is_refused}
 use Rattle.ps_source.specs.Answering.{Decides, GivesApp, GivesAccepted, Reads, IsFrontOf, IsFrontHeld, IsResolution, IsResolved, IsSourcedAcceptance, IsAcceptance}
-use Rattle.ps_source.specs.Demanding.{GivesDemanded, IsDemandableAs, IsDemanding, app_demanded}
+use Rattle.ps_source.specs.Demanding.{AreDemands, GivesDemanded, GivesLines, IsDemandableAs, IsDemanding, app_demanded, lines_demanded}
 use Rattle.ps_source.specs.declared.accepting.Accepted.{Accepted}
 use Rattle.ps_source.specs.declared.demanding.Demanded.{Demanded}
 use Rattle.ps_source.proofs.Sourced.{some_of, resolution_of_whole, acceptance_of_whole, demanding_of_whole}
@@ -73,8 +73,19 @@ pub accepted_none : (front : List ℕ) (why : Fail) (result : Result Accepted Fa
 accepted_none front why (Ok a) is h = absurd is
 accepted_none front why (Err w) is h = subst (λ (f : Fail). IsAcceptance front (Err f)) (sym is) (none_accepted front why h)
 
--- by these and the rule M1
+-- what the outputs of an application demand
+demands_whole : (front whole : List ℕ) (net : Network) (lines : Result (List ℕ) Fail) → IsFrontOf front whole → AreDemands front net lines → AreDemands whole net lines
+demands_whole front whole net lines is =
+    let whole_of = λ (r : Reading) (h : IsDemandableAs front r). demanding_of_whole whole r (subst (λ (t : List ℕ). IsDemandableAs t r) is h) in
+    decides_whole (GivesLines net) IsDemandableAs front whole (λ ls h. (whole_of (stands_for net) h.0, h.1)) whole_of lines
+
+-- by the rules before M1, with what the outputs demand
 pub demanded_whole : (front whole : List ℕ) (result : Result Demanded Fail) → IsFrontOf front whole → IsDemanding front result → IsDemanding whole result
 demanded_whole front whole result is =
-    let whole_of = λ (r : Reading) (h : IsDemandableAs front r). demanding_of_whole whole r (subst (λ (t : List ℕ). IsDemandableAs t r) is h) in
-    decides_whole GivesDemanded IsDemandableAs front whole (λ d h. (whole_of (stands_for (app_demanded d)) h.0, h.1)) whole_of result
+    let whole_of = λ (r : Reading) (h : IsAcceptedAs front r). acceptance_of_whole whole r (subst (λ (t : List ℕ). IsAcceptedAs t r) is h) in
+    decides_whole GivesDemanded IsAcceptedAs front whole
+    (λ d h. record {
+      accepted = whole_of (stands_for (app_demanded d)) h.accepted;
+      checked = h.checked;
+      demands = demands_whole front whole (app_demanded d) (lines_demanded d) is h.demands;
+    }) whole_of result

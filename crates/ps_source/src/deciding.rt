@@ -2,7 +2,7 @@
 
 ghost use Rattle.std.specs.Prelude.{◌≡◌, List, ℕ, IfOk};
 ghost use Rattle.ps_source.specs.Answering.{IsFrontOf, IsResolved, IsAcceptance, IsChecked};
-ghost use Rattle.ps_source.specs.Demanding.{IsDemanding, IsLined};
+ghost use Rattle.ps_source.specs.Demanding.{IsCheckedOf, IsDemanding};
 
 use crate::accepting::{Accepted, accept_source, resolve_source};
 use crate::demanding::{Demanded, demand_source};
@@ -30,12 +30,13 @@ pub fn accept_text(alloc: Global, text: &[u8]) -> Result<Accepted, Fail>
     Ok(accepted)
 }
 
-/// The accepted application of the text that begins with these bytes, with the lines of what its outputs demand, by the
-/// rules L, P, B, N and S, and then by the rule M1: the demand of each SAFEBOOL output has at most 1,000 leaves before
-/// it is made slim. The bytes are all of the text, or one more than the largest source has.
+/// The accepted application of the text that begins with these bytes, by the rules L, P, B, N and S, with the lines of
+/// what its outputs demand; or in the place of the lines the refusal by the rule M1, where a SAFEBOOL output has a
+/// demand of over 1,000 leaves before it is made slim. The bytes are all of the text, or one more than the largest
+/// source has.
 pub fn demand_text(alloc: Global, text: &[u8]) -> Result<Demanded, Fail>
     ensures decides { (whole : List ℕ) → IsFrontOf text.now whole → IsDemanding whole result }
-    ensures lined { IfOk result IsLined }
+    ensures checked { IfOk result IsCheckedOf }
 {
     demand_source(alloc, text)
 }

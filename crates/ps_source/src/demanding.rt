@@ -1,10 +1,11 @@
 // From the text of a source to the lines of what its outputs demand.
 
-ghost use Rattle.std.specs.Prelude.{◌≡◌};
+ghost use Rattle.std.specs.Prelude.{◌≡◌, List, ℕ};
 ghost use Rattle.ps_names.specs.Stands.{Stands};
 ghost use Rattle.ps_demand.specs.Lines.{IsSafeOutput};
-ghost use Rattle.ps_source.specs.Answering.{checked_of};
-ghost use Rattle.ps_source.specs.Demanding.{IsDemanding, IsPlaceOfOutput, lines_demanded};
+ghost use Rattle.ps_model.specs.Typing.{Accepted as IsAccepted};
+ghost use Rattle.ps_source.specs.Demanding.{AreDemands, IsDemanding, IsPlaceOfOutput, checked_demanded, lines_demanded};
+ghost use Rattle.ps_source.specs.Source.{IsProgram};
 
 use crate::accepting::{Accepted, accept_source};
 use ps_base::{Bytes, Fail, Place, Refusal, Rule};
@@ -14,10 +15,10 @@ use ps_model::{App, Driver};
 use ps_parser::Source;
 use std::alloc::Global;
 
-/// An accepted application none of whose SAFEBOOL outputs has a demand of over 1,000 leaves, with the lines of what they demand.
+/// An accepted application, with the lines of what its outputs demand, or why there are none.
 pub struct Demanded {
     pub(crate) accepted: Accepted,
-    pub(crate) lines: Bytes,
+    pub(crate) lines: Result<Bytes, Fail>,
 }
 
 impl Drop for Demanded {
@@ -31,14 +32,15 @@ impl Drop for Demanded {
 }
 
 impl Demanded {
-    /// The lines, and what was checked of the application. It takes no memory.
-    pub fn into_parts(self) -> (Bytes, Checked)
-        ensures lines { result.0 ≡ lines_demanded self }
-        ensures checked { result.1 ≡ checked_of self.accepted }
+    /// What was checked of the application, and the lines; or the refusal by the rule M1, or want of memory. It takes
+    /// no memory.
+    pub fn into_parts(self) -> (Checked, Result<Bytes, Fail>)
+        ensures checked { result.0 ≡ checked_demanded self }
+        ensures lines { result.1 ≡ lines_demanded self }
     {
         let Demanded { accepted, lines } = self;
         let (_, checked) = accepted.into_parts();
-        (lines, checked)
+        (checked, lines)
     }
 }
 
@@ -56,17 +58,28 @@ fn place_of_output(source: &Source, app: &App, output: u16) -> Place
     }
 }
 
-// The accepted application of a text with the lines of what its outputs demand, by the rules L, P, B, N, S and M1, tried in this order.
+// The lines of what the outputs of the application of a source demand, by the rule M1.
+fn lines_of(alloc: Global, source: &Source, app: &App) -> Result<Bytes, Fail>
+    requires stands { Stands source.now app.now }
+    requires accepted { IsAccepted app.now }
+    ensures { (text : List ℕ) → IsProgram text source.now → AreDemands text app.now result }
+{
+    match demand_lines(alloc, app) {
+        Ok(lines) => Ok(lines),
+        Err(NoLines::Memory) => Err(Fail::Memory),
+        Err(NoLines::Large(output)) => Err(Fail::Refused(Refusal {
+            rule: Rule::M1,
+            place: place_of_output(source, app, output),
+        })),
+    }
+}
+
+// The accepted application of a text, by the rules L, P, B, N and S, tried in this order, with the lines of what its
+// outputs demand, by the rule M1.
 pub(crate) fn demand_source(alloc: Global, text: &[u8]) -> Result<Demanded, Fail>
     ensures { IsDemanding text.now result }
 {
     let (source, accepted) = accept_source(alloc, text)?;
-    match demand_lines(alloc, &accepted.app) {
-        Ok(lines) => Ok(Demanded { accepted, lines }),
-        Err(NoLines::Memory) => Err(Fail::Memory),
-        Err(NoLines::Large(output)) => Err(Fail::Refused(Refusal {
-            rule: Rule::M1,
-            place: place_of_output(&source, &accepted.app, output),
-        })),
-    }
+    let lines = lines_of(alloc, &source, &accepted.app);
+    Ok(Demanded { accepted, lines })
 }

@@ -4,7 +4,7 @@ ghost use Rattle.std.specs.Prelude.{◌≡◌, ◌≤◌, List, ℕ, IsTrue, IfO
 ghost use Rattle.ps_outside.specs.Outside.{Rose, CountsStay};
 ghost use Rattle.ps_source.specs.Source.{IsResolvedAs, IsAcceptedAs};
 ghost use Rattle.ps_source.specs.Answering.{GivesApp, GivesAccepted, Reads, IsFault, IsChecked, IsFrontHeld};
-ghost use Rattle.ps_source.specs.Demanding.{GivesDemanded, IsDemandableAs, IsLined};
+ghost use Rattle.ps_source.specs.Demanding.{GivesDemanded, IsCheckedOf};
 
 use crate::accepting::Accepted;
 use crate::deciding::{accept_text, demand_text, resolve_text};
@@ -76,8 +76,9 @@ pub fn read_accepted<F: Files>(
     }
 }
 
-/// Reads the accepted application of this name with the lines of what its outputs demand, by the rules L, P, B, N and
-/// S, and then by the rule M1: the demand of each SAFEBOOL output has at most 1,000 leaves before it is made slim.
+/// Reads the accepted application of this name, by the rules L, P, B, N and S, with the lines of what its outputs
+/// demand; or in the place of the lines the refusal by the rule M1, where a SAFEBOOL output has a demand of over 1,000
+/// leaves before it is made slim.
 ///
 /// `Fault` comes only where the files' count of the name rose in this call; every other answer leaves the counts as
 /// they were.
@@ -87,8 +88,8 @@ pub fn read_demanded<F: Files>(
     files: &mut F,
 ) -> Result<Demanded, TextFail>
     ensures read { IsTrue (F.tells files.old) →
-        Reads GivesDemanded IsDemandableAs (F.held files.old app.now) result }
-    ensures lined { IfOk result IsLined }
+        Reads GivesDemanded IsAcceptedAs (F.held files.old app.now) result }
+    ensures checked { IfOk result IsCheckedOf }
     ensures fault { IsFault result → Rose (F.faults files.old app.now) (F.faults files.new app.now) }
     ensures exact { ¬ IsFault result → CountsStay (F.faults files.old) (F.faults files.new) }
     ensures counts { (other : List ℕ) → F.faults files.old other ≤ F.faults files.new other }

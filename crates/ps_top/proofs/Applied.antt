@@ -26,7 +26,7 @@ abbrev pub asked : List ℕ → (List ℕ → Reading → Type 0) → (Network �
 asked app Readings next = Asks app (λ source. Finds Reading (Readings source) (with_application next))
 
 -- behind the reading of a source that is held
-reads_on : (app text : List ℕ) (Readings : List ℕ → Reading → Type 0) (next : Network → Asking) (reading : Reading) (held : List ℕ → Option (List ℕ)) (work : Worked) (status : Status) →
+pub reads_on : (app text : List ℕ) (Readings : List ℕ → Reading → Type 0) (next : Network → Asking) (reading : Reading) (held : List ℕ → Option (List ℕ)) (work : Worked) (status : Status) →
     held app ≡ Some text → Readings text reading → GoesOnAs (asked app Readings next) (with_application next reading) held work status
 reads_on app text Readings next reading held work status is reads =
     goes_both held work status (asked app Readings next) (Finds Reading (Readings text) (with_application next)) (with_application next reading)

@@ -22,6 +22,7 @@ mod Courses
 mod CourseMeant
 mod Ending
 mod Sourced
+mod Demands
 mod Opened
 mod Ran
 mod InWorld

@@ -20,7 +20,7 @@ use Rattle.ps_words.specs.Command.{Command, command_of}
 use Rattle.ps_words.specs.Command.Command.{Run, Fault as FaultWords, Check, Cert, Verify, Image, Load, Demand, Vote, Heal, NotTaken}
 use Rattle.ps_top.specs.Asking.{Answer, Asking, IsAnswer, AsksFor, Worked}
 use Rattle.ps_top.specs.Asking.Asking.{Says, Asks, Finds, Leaves}
-use Rattle.ps_top.specs.Program.{Ruling, Judges, verdict, leaves_checked, with_application, accepted_source, accepted, summary, sum_scans, sum_trace, load, leaves_world, answer, image_lines, imaged, region_sizes, trips_of, unless_refused, with_faults, run_quietly, run_struck, answer_scans, run_named, verify_named, verify, demanded, demand, seat_faults_of, seat_sizes, told_votes, leaves_votes, vote_scans, vote_named, with_seat_faults, vote_struck, said, told, text}
+use Rattle.ps_top.specs.Program.{Ruling, Judges, verdict, leaves_accepted, leaves_checked, with_application, accepted_source, accepted, summary, sum_scans, sum_trace, load, leaves_world, answer, image_lines, imaged, region_sizes, trips_of, unless_refused, with_faults, run_quietly, run_struck, answer_scans, run_named, verify_named, verify, demanded, demand, seat_faults_of, seat_sizes, told_votes, leaves_votes, vote_scans, vote_named, with_seat_faults, vote_struck, said, told, text}
 use Rattle.ps_top.specs.Program.Ruling.{derives, objects}
 use Rattle.ps_source.specs.Demanding.{IsDemandableAs}
 use Rattle.ps_source.specs.Source.{Reading, Resolves, IsResolvedAs, IsAcceptedAs, counts}
@@ -148,11 +148,12 @@ module _ (held : List ℕ → Option (List ℕ)) where
 
   demand_determined : (app : List ℕ) → IsDetermined (demand app) held
   demand_determined app =
-      asks_determined held app (λ s. Finds Reading (IsDemandableAs s) (with_application (with_counts demanded)))
-      (λ s. finds_determined held Reading (IsDemandableAs s) (with_application (with_counts demanded)) (λ x y p q. one_demanding s x y p q) (go s))
+      asks_determined held app (λ s. Leaves (leaves_accepted s) (Finds Reading (IsDemandableAs s) (with_application demanded)))
+      (λ s. leaves_determined held (leaves_accepted s) (Finds Reading (IsDemandableAs s) (with_application demanded))
+      (finds_determined held Reading (IsDemandableAs s) (with_application demanded) (λ x y p q. one_demanding s x y p q) (go s)))
     where
-      go : (s : List ℕ) (r : Reading) → IsDemandableAs s r → IsDetermined (with_application (with_counts demanded) r) held
-      go s (stands_for net) f = leaves_determined held (leaves_checked (counts net (certificate net))) (demanded net) (says_determined held _)
+      go : (s : List ℕ) (r : Reading) → IsDemandableAs s r → IsDetermined (with_application demanded r) held
+      go s (stands_for net) f = says_determined held _
       go s (is_refused r) f = says_determined held _
 
   said_determined : (c : Command) → IsDetermined (said c) held

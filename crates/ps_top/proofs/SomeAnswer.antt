@@ -22,8 +22,8 @@ use Rattle.ps_world.specs.Whole.{Setup, IsSetupOf}
 use Rattle.ps_words.specs.Command.{Command, command_of}
 use Rattle.ps_words.specs.Command.Command.{Run, Fault as FaultWords, Check, Cert, Verify, Image, Load, Demand, Vote, Heal, NotTaken}
 use Rattle.ps_top.specs.Asking.{Answer, Asking, IsAnswer, AsksFor}
-use Rattle.ps_top.specs.Asking.Asking.{Says, Asks, Finds}
-use Rattle.ps_top.specs.Program.{Ruling, Judges, verdict, with_application, accepted_source, accepted, summary, sum_scans, sum_trace, load, answer, image_lines, imaged, region_sizes, trips_of, unless_refused, with_faults, run_quietly, run_struck, answer_scans, run_named, verify_named, verify, demanded, demand, seat_faults_of, seat_sizes, told_votes, vote_scans, vote_named, with_seat_faults, vote_struck, said, told, text}
+use Rattle.ps_top.specs.Asking.Asking.{Says, Asks, Finds, Leaves}
+use Rattle.ps_top.specs.Program.{Ruling, Judges, verdict, leaves_accepted, with_application, accepted_source, accepted, summary, sum_scans, sum_trace, load, answer, image_lines, imaged, region_sizes, trips_of, unless_refused, with_faults, run_quietly, run_struck, answer_scans, run_named, verify_named, verify, demanded, demand, seat_faults_of, seat_sizes, told_votes, vote_scans, vote_named, with_seat_faults, vote_struck, said, told, text}
 use Rattle.ps_top.specs.Program.Ruling.{derives, objects}
 use Rattle.ps_top.specs.declared.Status.TheVariants.{Done}
 use Rattle.ps_source.proofs.Keeping.{resolved_sound}
@@ -123,10 +123,10 @@ module _ (held : List ℕ → Option (List ℕ)) where
 
     demand_some : (app : List ℕ) → HasAnswer (demand app) held
     demand_some app =
-        asks_some app (λ s. Finds Reading (IsDemandableAs s) (with_application (with_counts demanded)))
-        (λ s. let d = some_demanding s (accepts s).0 (accepts s).1 in finds_some Reading (IsDemandableAs s) (with_application (with_counts demanded)) d.0 d.1 (go d.0))
+        asks_some app (λ s. Leaves (leaves_accepted s) (Finds Reading (IsDemandableAs s) (with_application demanded)))
+        (λ s. let d = some_demanding s (accepts s).0 (accepts s).1 in finds_some Reading (IsDemandableAs s) (with_application demanded) d.0 d.1 (go d.0))
       where
-        go : (r : Reading) → HasAnswer (with_application (with_counts demanded) r) held
+        go : (r : Reading) → HasAnswer (with_application demanded r) held
         go (stands_for net) = says_some _
         go (is_refused r) = says_some _
 

@@ -86,20 +86,20 @@ cert app = accepted app (λ net. Says (answer (written (certificate net)) Done))
 
 -- ---- demand
 
--- The application of an accepted source whose certificate was checked, where no SAFEBOOL output has a demand that is
--- too large.
-abbrev pub demandable : List ℕ → (Network → Asking) → Asking
-demandable app next =
-    Asks app (λ source. Finds Reading (IsDemandableAs source)
-    (with_application (λ net. Leaves (leaves_checked (counts net (certificate net))) (next net))))
+-- where this source is accepted, the counts of its certificate are left
+abbrev pub leaves_accepted : List ℕ → Worked → Type 0
+leaves_accepted source work =
+    (net : Network) → IsAcceptedAs source (stands_for net) → leaves_checked (counts net (certificate net)) work
 
 -- what each SAFEBOOL output demands, a line for each
 abbrev pub demanded : Network → Asking
 demanded net = Says (answer (demand_lines net) Done)
 
--- `demand APP`: the lines of what the outputs demand
+-- `demand APP`: the lines of what the outputs demand, where the application is accepted and no demand is too large
 abbrev pub demand : List ℕ → Asking
-demand app = demandable app demanded
+demand app =
+    Asks app (λ source. Leaves (leaves_accepted source)
+    (Finds Reading (IsDemandableAs source) (with_application demanded)))
 
 -- ---- the channels of an application
 

@@ -1,5 +1,5 @@
 -- How a call ends that gets no text, or no application of one.
-use Rattle.std.specs.Prelude.{◌≡◌, ◌⊎◌, ℕ, List, Some, IsTrue}
+use Rattle.std.specs.Prelude.{◌≡◌, ◌⊎◌, ℕ, List, Some, Result, Err, IsTrue}
 use Rattle.ps_base.specs.declared.failing.Fail.{Fail}
 use Rattle.ps_base.specs.declared.failing.Fail.TheVariants.{Memory as NoneForRules, Refused as RefusedByRules}
 use Rattle.ps_base.specs.declared.failing.Refusal.{Refusal}
@@ -24,6 +24,11 @@ Fails said IsFault old new status = (status ≡ ReadFault) × (new ≡ old)
 abbrev pub SaysNone : Fail → (old new : CallSeen) → Status → Type 0
 SaysNone (RefusedByRules refusal) old new status = SaysAnswer (answer (refusal_text refusal) Refused) old new status
 SaysNone NoneForRules old new status = (status ≡ Memory) × Passes old new
+
+-- there are no lines of demands, and why is said and left
+abbrev pub SaysWhy : Result (List ℕ) Fail → (old new : CallSeen) → Status → Type 0
+SaysWhy lines old new status =
+    (why : Fail) × (lines ≡ Err why) × SaysNone why old new status × LeavesRefusal new.left new.out status
 
 -- a call that could not read its source ends so
 abbrev pub IsUnread : Status → Type 0

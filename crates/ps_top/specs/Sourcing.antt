@@ -1,7 +1,11 @@
 -- How a call comes to what the source of a name stands for.
 use Rattle.std.specs.Prelude.{◌≡◌, ℕ, List, Some, IsTrue}
+use Rattle.ps_model.specs.Network.{Network}
 use Rattle.ps_source.specs.Answering.{IsFrontHeld}
+use Rattle.ps_source.specs.Demanding.{GivesLines}
+use Rattle.ps_top.specs.Asking.{worked}
 use Rattle.ps_top.specs.Calls.{CallSeen, Passes}
+use Rattle.ps_top.specs.Program.{leaves_accepted}
 
 -- These bytes decide of the source of a name.
 abbrev pub AreOfSource : (name : List ℕ) (call : CallSeen) → List ℕ → Type 0
@@ -12,3 +16,12 @@ pub record Finds {A : Type 0} (Gives : List ℕ → A → Type 0) (name : List �
     (found : A) : Type 0 where
   pub passes : Passes old new
   pub gives : IsTrue old.files.tells → (text : List ℕ) × (old.files.held name ≡ Some text) × Gives text found
+
+-- the text stands for an application none of whose demands is too large, and these are their lines
+abbrev pub HasLines : List ℕ → List ℕ → Type 0
+HasLines text lines = (net : Network) × GivesLines net text lines
+
+-- where the source of a name is accepted, the counts of its certificate are left
+abbrev pub LeavesAccepted : (name : List ℕ) (old new : CallSeen) → Type 0
+LeavesAccepted name old new =
+    IsTrue old.files.tells → (text : List ℕ) → old.files.held name ≡ Some text → leaves_accepted text (worked new.left)

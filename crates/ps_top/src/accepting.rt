@@ -1,15 +1,17 @@
 // How a command comes to the application of a source.
 
-ghost use Rattle.std.specs.Prelude.{◌≡◌, ◌≢◌, Some, IfOk, IfErr, IsErrOf};
+ghost use Rattle.std.specs.Prelude.{◌≡◌, ◌≢◌, Some, Ok, IfOk, IfErr, IsErrOf, OnOk};
 ghost use Rattle.ps_flow.specs.Derivation.{certificate};
 ghost use Rattle.ps_model.specs.Typing.{Accepted as IsAccepted};
 ghost use Rattle.ps_source.specs.Answering.{IsChecked, app_of};
-ghost use Rattle.ps_source.specs.Demanding.{IsDemandableAs, IsLined, app_demanded};
+ghost use Rattle.ps_source.specs.Demanding.{IsDemandableAs, checked_demanded, lines_demanded};
 ghost use Rattle.ps_source.specs.Source.{IsAcceptedAs, IsResolvedAs, counts};
 ghost use Rattle.ps_source.specs.Source.Reading.{stands_for};
-ghost use Rattle.ps_top.specs.Calls.{LeavesRefusal, ReadsName};
-ghost use Rattle.ps_top.specs.Refusing.{GivesNone, IsUnread, SaysNone};
-ghost use Rattle.ps_top.specs.Sourcing.{AreOfSource, Finds};
+ghost use Rattle.ps_top.specs.Asking.{worked};
+ghost use Rattle.ps_top.specs.Calls.{LeavesRefusal, Passes, ReadsName};
+ghost use Rattle.ps_top.specs.Meets.{IsCut};
+ghost use Rattle.ps_top.specs.Refusing.{GivesNone, IsUnread, SaysNone, SaysWhy};
+ghost use Rattle.ps_top.specs.Sourcing.{AreOfSource, Finds, HasLines, LeavesAccepted};
 
 use crate::Status;
 use crate::call::Call;
@@ -37,6 +39,7 @@ fn read_source<C: Call>(call: &mut C, name: &str) -> Result<Bytes, Status>
 // Ends a call whose source gives nothing, and leaves the bytes that were read of it.
 fn refuse_source<C: Call>(call: &mut C, bytes: Bytes, why: Fail) -> Status
     ensures says { SaysNone why (C.seen call.old) (C.seen call.new) result }
+    ensures worked { worked (C.seen call.new).left ≡ worked (C.seen call.old).left }
     ensures refuses { LeavesRefusal (C.seen call.new).left (C.seen call.new).out result }
     ensures no_usage { result ≢ Status.Usage }
 {
@@ -90,20 +93,37 @@ pub(crate) fn resolve<C: Call>(call: &mut C, name: &str) -> Result<App, Status>
     }
 }
 
-// The accepted application of a name with the lines of what its outputs demand, by the rules L, P, B, N, S and M1; or
-// the status of a call that gets none.
-pub(crate) fn accept_demands<C: Call>(call: &mut C, name: &str) -> Result<Demanded, Status>
-    ensures finds { IfOk result (Finds (λ text d. IsDemandableAs text (stands_for (app_demanded d))) name.now
-        (C.seen call.old) (C.seen call.new)) }
-    ensures lined { IfOk result IsLined }
+// Leaves what was checked of an application and the bytes of its source, and gives the lines of what its outputs
+// demand; or the status of a call that the rule M1 refuses.
+fn lines_of<C: Call>(call: &mut C, bytes: Bytes, demanded: Demanded) -> Result<Bytes, Status>
+    ensures passes { OnOk result (Passes (C.seen call.old) (C.seen call.new)) }
+    ensures lines { IfOk result (λ lines. lines_demanded demanded ≡ Ok lines) }
+    ensures none { IfErr result (SaysWhy (lines_demanded demanded) (C.seen call.old) (C.seen call.new)) }
+    ensures checked { (C.seen call.new).left.checked ≡ Some (checked_demanded demanded) }
+{
+    let (counts, lines) = demanded.into_parts();
+    call.leave(Leaving::Checked(counts));
+    match lines {
+        Ok(lines) => {
+            call.leave(Leaving::Text(bytes));
+            Ok(lines)
+        }
+        Err(why) => Err(refuse_source(call, bytes, why)),
+    }
+}
+
+// The lines of what the outputs of the application of a name demand, by the rules L, P, B, N, S and M1; or the status
+// of a call that gets none. Where the source is accepted, what was checked is left, also where the rule M1 refuses.
+pub(crate) fn accept_demands<C: Call>(call: &mut C, name: &str) -> Result<Bytes, Status>
+    ensures finds { IfOk result (Finds HasLines name.now (C.seen call.old) (C.seen call.new)) }
     ensures none { IfErr result (GivesNone IsDemandableAs name.now (C.seen call.old) (C.seen call.new)) }
+    ensures leaves { OnOk result (LeavesAccepted name.now (C.seen call.old) (C.seen call.new)) }
+    ensures leaves_refused { IfErr result (λ status. ¬ IsCut status →
+        LeavesAccepted name.now (C.seen call.old) (C.seen call.new)) }
 {
     let bytes = read_source(call, name)?;
     match demand_text(call.alloc(), bytes.as_slice()) {
-        Ok(demanded) => {
-            call.leave(Leaving::Text(bytes));
-            Ok(demanded)
-        }
+        Ok(demanded) => lines_of(call, bytes, demanded),
         Err(why) => Err(refuse_source(call, bytes, why)),
     }
 }

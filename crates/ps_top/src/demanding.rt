@@ -7,7 +7,6 @@ ghost use Rattle.ps_top.specs.Program as program;
 use crate::Status;
 use crate::accepting::accept_demands;
 use crate::call::Call;
-use crate::left::Leaving;
 use crate::saying::say_lines;
 
 // `demand APP`: what each SAFEBOOL output of an accepted application demands, line by line.
@@ -16,11 +15,7 @@ pub(crate) fn demand<C: Call>(call: &mut C, app: &str) -> Status
     ensures no_usage { result ≢ Status.Usage }
 {
     match accept_demands(call, app) {
-        Ok(demanded) => {
-            let (lines, checked) = demanded.into_parts();
-            call.leave(Leaving::Checked(checked));
-            say_lines(call, lines.as_slice(), Status::Done)
-        }
+        Ok(lines) => say_lines(call, lines.as_slice(), Status::Done),
         Err(status) => status,
     }
 }

@@ -60,6 +60,7 @@ pub(crate) fn fail<C: Call>(call: &mut C, why: TextFail, status: Status) -> Stat
 // tells.
 pub(crate) fn say_none<C: Call>(call: &mut C, why: Fail) -> Status
     ensures says { SaysNone why (C.seen call.old) (C.seen call.new) result }
+    ensures worked { worked (C.seen call.new).left ≡ worked (C.seen call.old).left }
     ensures refuses { LeavesRefusal (C.seen call.new).left (C.seen call.new).out result }
     ensures no_usage { result ≢ Status.Usage }
 {

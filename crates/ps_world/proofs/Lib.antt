@@ -10,3 +10,4 @@ pub mod Built
 pub mod Ordered
 pub mod Run
 pub mod Quiet
+pub mod FieldValues

@@ -1,5 +1,5 @@
 -- What a Compare answers: the verdict with its cause, and the report that is given.
-use Rattle.std.specs.Prelude.{ℕ, Bool, true, false, if◌then◌else◌, Option, Some, None}
+use Rattle.std.specs.Prelude.{ℕ, Bool, true, false, if◌then◌else◌, Option, Some, None, slice_get}
 use Rattle.ps_model.specs.declared.channel.Channel.{Channel}
 use Rattle.ps_model.specs.declared.channel.Channel.TheVariants.{A, B}
 use Rattle.ps_model.specs.declared.channel.Cause.{Cause}
@@ -7,7 +7,7 @@ use Rattle.ps_model.specs.declared.channel.Cause.TheVariants.{Differ, Stuck, Tra
 use Rattle.ps_model.specs.declared.channel.Verdict.{Verdict}
 use Rattle.ps_model.specs.declared.channel.Verdict.TheVariants.{Released, Tripped, Down}
 use Rattle.ps_model.specs.declared.report.Report.{Report}
-use Rattle.ps_model.specs.Fields.{first_difference, blank_report}
+use Rattle.ps_model.specs.Fields.{fields, first_difference, blank_report}
 use Rattle.ps_seat.specs.declared.seat.Failing.{Failing}
 use Rattle.ps_seat.specs.Outcomes.{Outcome, gives, lacks, outcome}
 use Rattle.ps_world.specs.Worlds.{Machines, World_state}
@@ -49,6 +49,11 @@ abbrev pub given_with : Verdict → (outputs instances : ℕ) → Outcome → Re
 given_with Released outputs instances a = report_or (blank_report outputs instances) a
 given_with (Tripped cause) outputs instances a = blank_report outputs instances
 given_with Down outputs instances a = blank_report outputs instances
+
+-- the value of a field in the report of an outcome, where it has one: a Boolean is 0 or 1
+abbrev pub field_in : ℕ → Outcome → Option ℕ
+field_in field (gives r) = slice_get (fields r) field
+field_in field (lacks failing) = None
 
 -- the report that a Compare gives, where the application has so many outputs and instances
 abbrev pub report_given : Machines → (outputs instances : ℕ) → World_state → Report

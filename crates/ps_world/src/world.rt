@@ -11,12 +11,13 @@ ghost use Rattle.ps_seat.specs.Seats.{new_seat};
 ghost use Rattle.ps_world.specs.Worlds.{machine, channel};
 ghost use Rattle.ps_world.specs.Worlds.Event.{Begin, Turn, Spoil, Compare, Restart};
 ghost use Rattle.ps_world.specs.Steps.{both_ended};
-ghost use Rattle.ps_world.specs.Verdicts.{verdict, report_given, judged, cause_of};
+ghost use Rattle.ps_world.specs.Verdicts.{verdict, report_given, judged, cause_of, field_in};
 ghost use Rattle.ps_world.specs.Whole.{machines_in, region_in, happened, after_events, IsWorldOf};
 ghost use Rattle.ps_world.specs.Orders.{spoils_before, next_turn, turn_events, events_before_compare, at_compare, scan_events};
 ghost use Rattle.ps_seat.specs.Outcomes.{outcome};
 ghost use Rattle.ps_seat.specs.Outcomes.Outcome.{gives};
 
+use crate::field::value_given;
 use ps_base::Memory;
 use ps_eqgen::{equation_image, equation_sizes};
 use ps_eqvm::EquationChannel;
@@ -241,6 +242,19 @@ impl World {
         match into.first_difference(&self.other) {
             None => Verdict::Released,
             Some(field) => Verdict::Tripped(Cause::Differ(field)),
+        }
+    }
+
+    /// The value of a field in the report that the cells of a channel hold: 0 or 1 of a Boolean, or a code. Fields are
+    /// numbered as those of `Cause::Differ`. None comes exactly where the channel has no report, or a report no such
+    /// field. The world stays as it is. It takes no memory.
+    pub fn field_value(&mut self, of: Channel, field: u16) -> Option<u16>
+        ensures same { self.new ≡ self.old }
+        ensures value { result ≡ field_in field (outcome (machine of (machines_in self.old.setup)) (channel of self.old.state).cells) }
+    {
+        match of {
+            Channel::A => value_given(&self.a, &mut self.other, field),
+            Channel::B => value_given(&self.b, &mut self.other, field),
         }
     }
 

@@ -1,8 +1,7 @@
 -- The words of a line that count.
-use Rattle.std.proofs.Common.{◌≡◌, ◌≤◌, ◌<◌, ◌+◌, ◌-◌, ◌==◌, ℕ, List, [], ◌∷◌, Bool, true, false, length, take, drop, get_or, suc, sym, ◌∙◌, ap, arith}
+use Rattle.std.proofs.Common.{◌≡◌, ◌≤◌, ◌<◌, ◌+◌, ◌-◌, ◌==◌, ℕ, List, [], ◌∷◌, true, false, length, take, drop, get_or, suc, ◌∙◌, ap, arith}
 use Rattle.std.proofs.lemmas.Grind.{common_steps}
 use Rattle.std.proofs.lemmas.List.{drop_more}
-use Rattle.ps_trace.specs.Words.{words}
 use Rattle.ps_cases.specs.Words.{is_comment, counted}
 
 -- a word begins a comment by its first byte

@@ -3,3 +3,11 @@ pub mod Counting
 pub mod Cutting
 pub mod CaseNames
 pub mod ReadLines
+pub mod SaidInputs
+pub mod Rising
+pub mod Running
+pub mod RunningFiles
+pub mod Pieces
+pub mod Points
+pub mod Shifted
+pub mod ReadBack

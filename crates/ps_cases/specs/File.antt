@@ -1,5 +1,5 @@
 -- What a case file says: its cases, or its first refusal.
-use Rattle.std.specs.Prelude.{ℕ, ◌+◌, List, [], ◌∷◌, ◌++◌, Bool, true, false, not, ◌==◌, ◌||◌, nat_le, nat_lt, if◌then◌else◌, length, Option, Some, None, Result, Ok, Err}
+use Rattle.std.specs.Prelude.{ℕ, ◌+◌, List, [], ◌∷◌, ◌++◌, not, ◌==◌, ◌||◌, nat_le, nat_lt, if◌then◌else◌, length, Option, Some, None, Result, Ok, Err}
 use Rattle.ps_base.specs.declared.limits.TheConstants.{LARGEST_TIME}
 use Rattle.ps_lines.specs.Lines.{Line, lines_at}
 use Rattle.ps_lines.specs.Lines.Line.{Kept, KeptLast, Long, Large}
@@ -12,9 +12,7 @@ use Rattle.ps_cases.specs.declared.rule.CaseRefusal.{CaseRefusal}
 use Rattle.ps_cases.specs.declared.case.Act.{Act}
 use Rattle.ps_cases.specs.declared.case.Setting.{Setting}
 use Rattle.ps_cases.specs.declared.case.Statement.{Statement}
-use Rattle.ps_cases.specs.declared.case.Case.{Case}
 use Rattle.ps_cases.specs.declared.case.CaseFile.{CaseFile}
-use Rattle.ps_cases.specs.declared.deed.Deed.{Deed}
 use Rattle.ps_cases.specs.declared.stand.Stand.{Stand}
 use Rattle.ps_cases.specs.declared.draft.Head.{Head}
 use Rattle.ps_cases.specs.declared.draft.Draft.{Draft}

@@ -1,10 +1,15 @@
 -- what a case file means and says: what a reader of the clauses has to believe
 pub mod Meant
+pub mod Runnable
 pub mod Parts
 pub mod Words
 pub mod Line
 pub mod Stands
 pub mod File
+pub mod Expanded
+pub mod Joined
 -- what the parts of the reader answer
 pub mod LineSays
 pub mod DraftSays
+-- what a call leaves that writes
+pub mod Writing

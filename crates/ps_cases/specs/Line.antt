@@ -1,11 +1,10 @@
 -- What the lines of a case file say.
-use Rattle.std.specs.Prelude.{ℕ, ◌-◌, List, [], ◌∷◌, ◌==◌, ◌&&◌, ◌||◌, Bool, true, false, not, nat_le, if◌then◌else◌, length, take, drop, slice_index_or, codes, fold, Option, Some, None, Result, Ok, Err}
+use Rattle.std.specs.Prelude.{ℕ, ◌-◌, List, [], ◌∷◌, ◌==◌, ◌&&◌, Bool, true, false, not, nat_le, if◌then◌else◌, length, take, drop, slice_index_or, codes, fold, Option, Some, None, Result, Ok, Err}
 use Rattle.std.specs.Option.{ok_or}
 use Rattle.std.specs.List.{list_all, prefix_len, suffix_len}
 use Rattle.std.specs.Str.{bytes_eq, is_utf8, chars}
 use Rattle.ps_model.specs.declared.channel.Channel.{Channel}
 use Rattle.ps_model.specs.declared.channel.Region.{Region}
-use Rattle.ps_model.specs.declared.channel.Fault.{Fault as Strike}
 use Rattle.ps_model.specs.Network.{Network}
 use Rattle.ps_trace.specs.Words.{is_blank}
 use Rattle.ps_trace.specs.Faults.{first_of, others_of, region_of, bytes_said, channel_of}

@@ -10,7 +10,7 @@ use Rattle.ps_cases.specs.declared.case.Setting.{Setting}
 use Rattle.ps_cases.specs.declared.case.Pace.{Pace}
 use Rattle.ps_cases.specs.declared.case.Expectation.{Expectation}
 use Rattle.ps_cases.specs.declared.case.Act.{Act}
-use Rattle.ps_cases.specs.declared.case.Act.TheVariants.{Set, Scans, Restart, Fault, Expect}
+use Rattle.ps_cases.specs.declared.case.Act.TheVariants.{Scans, Restart, Fault, Expect}
 use Rattle.ps_cases.specs.declared.case.Statement.{Statement}
 use Rattle.ps_cases.specs.declared.case.Case.{Case}
 use Rattle.ps_cases.specs.declared.case.CaseFile.{CaseFile}

@@ -1,12 +1,12 @@
 -- What a line of a case does behind the lines before it, and what they leave. Times are in ms within the case.
-use Rattle.std.specs.Prelude.{◌≤◌, ℕ, ◌+◌, ◌-◌, ◌*◌, ◌/◌, max, Bool, ◌||◌, ◌==◌, nat_lt, if◌then◌else◌, length, Option, Some, None, Result, Ok, Err}
+use Rattle.std.specs.Prelude.{◌≤◌, ℕ, ◌+◌, ◌-◌, ◌*◌, ◌/◌, max, Bool, ◌||◌, ◌==◌, nat_lt, if◌then◌else◌, length, Some, Result, Ok, Err}
 use Rattle.ps_base.specs.declared.limits.TheConstants.{LARGEST_TIME}
 use Rattle.ps_model.specs.declared.channel.Fault.{Fault as Strike}
 use Rattle.ps_model.specs.declared.channel.ImageSizes.{ImageSizes}
 use Rattle.ps_trace.specs.Faults.{is_other, is_same_channel, first_struck, region_size}
 use Rattle.ps_cases.specs.declared.limits.TheConstants.{MOST_CASE_FAULTS, MOST_CASE_SCANS}
 use Rattle.ps_cases.specs.declared.rule.CaseRule.{CaseRule}
-use Rattle.ps_cases.specs.declared.rule.CaseRule.TheVariants.{K4, K5, K6, K7}
+use Rattle.ps_cases.specs.declared.rule.CaseRule.TheVariants.{K4, K5, K6}
 use Rattle.ps_cases.specs.declared.case.Act.{Act}
 use Rattle.ps_cases.specs.declared.case.Act.TheVariants as act
 use Rattle.ps_cases.specs.declared.deed.Deed.{Deed}

@@ -1,5 +1,5 @@
 -- The words of a line of a case file, and the numbers, names and values that they are.
-use Rattle.std.specs.Prelude.{ℕ, ◌+◌, ◌-◌, ◌*◌, List, [], ◌∷◌, ◌==◌, ◌&&◌, ◌||◌, Bool, true, false, nat_lt, if◌then◌else◌, length, map, drop, codes, slice_get, Option, Some, None, is_some, option_map, Result, Ok, Err}
+use Rattle.std.specs.Prelude.{ℕ, ◌+◌, ◌*◌, List, [], ◌∷◌, ◌==◌, ◌&&◌, ◌||◌, Bool, true, false, nat_lt, if◌then◌else◌, length, map, codes, slice_get, Option, Some, None, is_some, option_map, Result, Ok, Err}
 use Rattle.std.specs.Option.{ok_or}
 use Rattle.std.specs.List.{list_all, list_any, filter_map, position_from, before_first, after_first, before_last, after_last, slice_split}
 use Rattle.std.specs.Str.{bytes_eq}
@@ -15,7 +15,6 @@ use Rattle.ps_model.specs.Network.{Network, declared_signals, input_count, kind_
 use Rattle.ps_model.specs.Pins.{pin_names, pin_rows}
 use Rattle.ps_model.specs.Stored.{bit, is_state}
 use Rattle.ps_trace.specs.Words.{words, number_of}
-use Rattle.ps_cases.specs.Parts.{and_then}
 use Rattle.ps_cases.specs.declared.rule.CaseRule.{CaseRule}
 use Rattle.ps_cases.specs.declared.rule.CaseRule.TheVariants.{K1, K2, K3, K4}
 use Rattle.ps_cases.specs.declared.case.Setting.{Setting}

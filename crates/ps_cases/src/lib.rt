@@ -5,7 +5,8 @@
 //! - `line` reads a line: its words (`words`), the names and values that they are (`names`), settings and checks (`checks`),
 //!   what it asks for (`deed`, `deeds`) and faults (`strike`); `parts` puts together what is right and what breaks a rule.
 //! - `settling` has what a line does behind the lines before it (`stand`), `draft` a file as far as it was read, and `reading` reads it,
-//!   within `limits`.
+//!   within `limits`. `laws` has what holds of all case files.
+//! - `expanding` writes one trace of all cases, and `point` is how it stands between two lines of a case.
 #![tactic(auto)]
 
 mod case;
@@ -13,11 +14,14 @@ mod checks;
 mod deed;
 mod deeds;
 mod draft;
+mod expanding;
+pub mod laws;
 pub mod limits;
 mod line;
 mod lists;
 mod names;
 mod parts;
+mod point;
 mod reading;
 mod rule;
 mod settling;
@@ -26,6 +30,7 @@ mod strike;
 mod words;
 
 pub use case::{Act, Case, CaseFile, Check, Expectation, Name, Pace, Setting, Statement, Window};
+pub use expanding::{ExpandFail, expand};
 pub use lists::{Cases, Checks, Settings, Statements, Values};
 pub use reading::read_cases;
 pub use rule::{CaseRefusal, CaseRule, CasesFail};

@@ -1,9 +1,13 @@
 // The reader of a case file.
 
-ghost use Rattle.std.specs.Prelude.{◌≡◌, ◌≤◌, ℕ, List, IsTrue, Some, IsSome, Ok, Err, IfOk, IsErrOf};
+ghost use Rattle.std.specs.Prelude.{◌≡◌, ◌≤◌, ℕ, List, length, All, IsTrue, Some, IsSome, Ok, Err, IfOk, IsErrOf};
 ghost use Rattle.ps_outside.specs.Outside.{Rose, CountsStay};
+ghost use Rattle.ps_cases.specs.declared.limits.TheConstants.{MOST_CASES};
+ghost use Rattle.ps_cases.specs.declared.case.Case.{Case};
 ghost use Rattle.ps_cases.specs.declared.rule.CaseRefusal.{CaseRefusal};
 ghost use Rattle.ps_cases.specs.File.{cases_of};
+ghost use Rattle.ps_cases.specs.Meant.{whole_case};
+ghost use Rattle.ps_cases.specs.Runnable.{IsRunnable};
 ghost use Rattle.ps_cases.specs.DraftSays.{IsRead};
 
 use crate::case::CaseFile;
@@ -32,8 +36,9 @@ const LIMITS: Limits = Limits {
 /// line, 200 in a name of a case, 100,000 lines, 1,000 cases, 1,000 faults in a case, 1,000,000 scans, or 4,294,967,295
 /// bytes in all. What the lines before the first case cause only in their copy is refused at the line of the case.
 ///
-/// Memory is linear in the file, whatever the number of scans. `Fault` comes only where the files' count of the name rose
-/// in this call; every other answer leaves the counts as they were.
+/// Each case that is given can be run: its faults come in order and strike one channel, its times do not fall, and its
+/// settings are of inputs. Memory is linear in the file, whatever the number of scans. `Fault` comes only where the
+/// files' count of the name rose in this call; every other answer leaves the counts as they were.
 pub fn read_cases<F: Files>(
     alloc: Global,
     files: &mut F,
@@ -50,6 +55,9 @@ pub fn read_cases<F: Files>(
     ensures exact { ¬ IsErrOf result CasesFail.Fault → CountsStay (F.faults files.old) (F.faults files.new) }
 
     // Whether or not the files tell.
+    ensures runnable { IfOk result (λ file.
+        All (λ (case : Case). IsRunnable app.now (whole_case file case)) file.cases) }
+    ensures few { IfOk result (λ file. length file.cases ≤ MOST_CASES) }
     ensures counts { (other : List ℕ) → F.faults files.old other ≤ F.faults files.new other }
     ensures kept { F.held files.new ≡ F.held files.old }
     ensures telling { F.tells files.new ≡ F.tells files.old }

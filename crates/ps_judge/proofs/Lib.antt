@@ -4,3 +4,11 @@ pub mod Windows
 pub mod Passing
 -- the step at which a signal gets its value
 pub mod Steps
+-- what statements ask for, in parts
+pub mod Tasks
+-- how a rig and its judge come from one place of a run to another
+pub mod Going
+-- what was told of a whole case
+pub mod Judged
+-- the turns of its loops
+pub mod Turns

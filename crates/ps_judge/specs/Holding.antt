@@ -1,9 +1,10 @@
 -- When an expectation holds of a run, and how a case fails.
 use Rattle.std.specs.Prelude.{◌≤◌, ℕ, Bool, true, false, not, ◌+◌, ◌&&◌, ◌||◌, ◌==◌, List, [], ◌∷◌, ◌++◌}
-use Rattle.std.specs.Prelude.{max, nat_le, Option, Some, None, if◌then◌else◌, option_map, slice_get}
+use Rattle.std.specs.Prelude.{max, nat_le, Option, Some, None, if◌then◌else◌, length, option_map, replicate, slice_get}
 use Rattle.std.specs.List.{list_all, list_any, position, filter}
 use Rattle.ps_model.specs.declared.channel.Verdict.TheVariants.{Released}
-use Rattle.ps_model.specs.Network.{Network}
+use Rattle.ps_model.specs.Fields.{blank_report}
+use Rattle.ps_model.specs.Network.{Network, instance_count, signal_count}
 use Rattle.ps_model.specs.Stored.{bit}
 use Rattle.ps_cases.specs.declared.case.Check.{Check}
 use Rattle.ps_cases.specs.declared.case.Check.TheVariants.{Trip, NoTrip, Among, Not}
@@ -177,14 +178,20 @@ failures_behind net m before (expects line window checks ∷ events) =
     listed (failure_of net line window checks m (moments events))
     ++ failures_behind net m (awaited_by window checks m.now before) events
 
--- what stands before the first scan: nothing is seen, at 0 ms
-abbrev pub no_scan : Moment
-no_scan = record { now = 0; verdict = Released; report = record { outs = []; diags = [] }; before = []; signals = [] }
+-- what stands before the first scan, at 0 ms: every output and every signal is FALSE, and each instance is Idle
+abbrev pub no_scan : Network → Moment
+no_scan net = record {
+  now = 0;
+  verdict = Released;
+  report = blank_report (length net.outputs) (instance_count net);
+  before = replicate (signal_count net) false;
+  signals = replicate (signal_count net) false;
+}
 
 -- The failures of a case, whose lines expect something behind its first scan at the earliest. It passes exactly where
 -- there are none.
 abbrev pub failures : Network → List Event → List Failure
-failures net events = failures_behind net no_scan 0 events
+failures net events = failures_behind net (no_scan net) 0 events
 
 -- scans that are not before this time, and none before the one in front of it
 abbrev pub AreFrom : ℕ → List Moment → Type 0

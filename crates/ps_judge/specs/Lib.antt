@@ -3,5 +3,8 @@
 pub mod Moments
 pub mod Named
 pub mod Holding
+pub mod CaseRuns
 -- what a judge still owes
 pub mod Owing
+-- the rig of a case
+pub mod Rigs

@@ -144,7 +144,7 @@ impl<'a> Judge<'a> {
     /// What judges a case, before its first scan. It takes no memory.
     pub fn new(alloc: Global) -> Judge<'a>
         ensures { (net : Network) (p : Failure → Bool) (events : List Event) →
-            owed net p result no_scan events ≡ list_all p (failures net events) }
+            owed net p result (no_scan net) events ≡ list_all p (failures net events) }
     {
         Judge {
             watches: Vec::new(alloc),
@@ -200,14 +200,12 @@ impl<'a> Judge<'a> {
     }
 
     /// Ends the case, whose last scan was at this time, and gives its failures. An error: memory is wanting.
-    pub fn finish(&mut self, now: u32) -> Result<&[Failure], Memory>
+    pub fn finish(&mut self, alloc: Global, now: u32) -> Result<Vec<Failure>, Memory>
         ensures { IfOk result (λ told. (net : Network) (p : Failure → Bool) (m : Moment) → m.now ≡ now →
-            owed net p self.old m [] ≡ list_all p told.now) }
+            owed net p self.old m [] ≡ list_all p told.items) }
     {
         tell(&mut self.told, self.sudden)?;
         tell_ended(self.watches.as_slice(), now, &mut self.told)?;
-        self.sudden = None;
-        self.watches.clear();
-        Ok(self.told.as_slice())
+        Ok(std::mem::replace(&mut self.told, Vec::new(alloc)))
     }
 }

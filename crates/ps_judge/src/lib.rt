@@ -6,16 +6,21 @@
 //! - `checks`: whether a check holds in it.
 //! - `watch`: an expectation whose window is open.
 //! - `judge`: all of a case, scan by scan; it keeps no scans.
+//! - `run`: a case is run and judged, in a `rig` of its own that its faults strike (`struck`).
 #![tactic(auto)]
 
 mod checks;
 mod judge;
 mod pins;
+mod rig;
+mod run;
 mod seen;
+mod struck;
 mod values;
 mod watch;
 
 pub use checks::{Failure, Why, first_broken, holds, value_shown};
 pub use judge::Judge;
+pub use run::{CaseOutcome, run_case};
 pub use seen::Seen;
 pub use values::value_of;

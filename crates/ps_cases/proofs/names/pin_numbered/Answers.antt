@@ -1,5 +1,4 @@
-use Rattle.std.proofs.Common.{◌≡◌, ◌<◌, ◌∙◌, [], Some, length, get_or, slice_get, true, false, sym, ap, arith}
-use Rattle.std.proofs.lemmas.Grind.{common_steps}
+use Rattle.std.proofs.Common.{◌≡◌, ◌<◌, ◌∙◌, [], length, get_or, true, false, sym, ap, arith}
 use Rattle.ps_base.specs.LetterCase.{is_same_name}
 use Rattle.ps_model.specs.Pins.{pin_names}
 use Rattle.ps_trace.proofs.HeaderLemmas.{name_found, name_passed}

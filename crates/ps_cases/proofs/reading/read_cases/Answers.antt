@@ -1,19 +1,22 @@
-use Rattle.std.proofs.Common.{◌≡◌, ◌≢◌, ◌≤◌, ◌<◌, ◌+◌, ◌∙◌, ℕ, List, [], Option, Some, None, Result, Ok, Err, IfOk, IsTrue, IsSome, refl, subst, sym, ap, arith}
+use Rattle.std.proofs.Common.{length, ◌≡◌, ◌≢◌, ◌≤◌, ◌<◌, ◌∙◌, ℕ, List, [], Option, None, Result, Ok, Err, IfOk, IsTrue, IsSome, refl, subst, sym, ap, arith}
 use Rattle.std.proofs.lemmas.Grind.{common_steps}
 use Rattle.ps_lines.specs.Reader.{Gives, IsFresh, left, line_of, begin_of, read_of, name_of}
 use Rattle.ps_lines.specs.declared.reader.Limits.{Limits}
 use Rattle.ps_lines.specs.declared.reader.Got.{Got}
 use Rattle.ps_lines.specs.declared.reader.Got.TheVariants.{TooLong, TooLarge, End}
 use Rattle.ps_trace.proofs.FaultLemmas.{found_either}
-use Rattle.ps_cases.specs.declared.limits.TheConstants.{LARGEST_CASE_FILE, LONGEST_CASE_LINE, MOST_CASE_LINES}
+use Rattle.ps_cases.specs.declared.limits.TheConstants.{LARGEST_CASE_FILE, LONGEST_CASE_LINE, MOST_CASE_LINES, MOST_CASES}
 use Rattle.ps_cases.specs.declared.rule.CaseRefusal.{CaseRefusal}
 use Rattle.ps_cases.specs.declared.rule.CasesFail.{CasesFail}
 use Rattle.ps_cases.specs.declared.case.CaseFile.{CaseFile}
+use Rattle.ps_cases.specs.declared.draft.Draft.{Draft}
 use Rattle.ps_cases.specs.Line.{line_said}
 use Rattle.ps_cases.specs.LineSays.{said_by}
 use Rattle.ps_cases.specs.DraftSays.{after_by}
 use Rattle.ps_cases.specs.File.{cases_of, lines_read, no_lines, said_after, file_ended}
 use Rattle.ps_cases.proofs.ReadLines.{line_taken, line_refused, lines_ended, goes_past}
+use Rattle.ps_cases.proofs.SaidInputs.{line_has}
+use Rattle.ps_cases.proofs.RunningFiles.{AreRunnable, CanRun, IsGiven, no_lines_run, said_runs, file_runs}
 use Rattle.ps_cases.proofs.reading.read_cases.Goals as goal
 use Rattle.ps_cases.proofs.reading.read_cases.Goals.{in-Ok, in-Err}
 
@@ -24,6 +27,7 @@ lines-init g c =
       reads = λ tells text is. fresh.reads text;
       says = λ tells text is. ap (lines_read c.args.app.now c.args.sizes.now no_lines 1) (sym (fresh.all_left text)) ∙ ap (λ d. lines_read c.args.app.now c.args.sizes.now d 1 (left c.in_ok-lines.lines text)) (sym c.new-draft.ensures.none);
       small = c.new-draft.ensures.small;
+      run = subst (CanRun c.args.app.now) (sym c.new-draft.ensures.none) (no_lines_run c.args.app.now);
       found = λ tells some. absurd (omega (arith, fresh.nothing));
       fresh = λ none. fresh.nothing;
       few = omega arith;
@@ -46,6 +50,25 @@ returns-then-eq-clause-gives g c = λ tells text is.
     elim c.match-branch-4.branch [
       | in-Ok w ↦ subst (λ (r : Result CaseFile CasesFail). IfOk r (λ file. cases_of c.args.app.now c.args.sizes.now text ≡ Ok file)) (sym w.result-is) (whole ∙ sym c.in_ok-file.ensures ∙ w.in-Ok.is)
       | in-Err w ↦ subst (λ (r : Result CaseFile CasesFail). IfOk r (λ file. cases_of c.args.app.now c.args.sizes.now text ≡ Ok file)) (sym w.result-is) tt
+    ]
+
+pub returns-then-eq-clause-runnable : goal.returns-then-eq-clause-runnable
+returns-then-eq-clause-runnable g c =
+    let runs = file_runs c.args.app.now c.lines.draft c.lines.number c.lines.invariant.run in
+    elim c.match-branch-4.branch [
+      | in-Ok w ↦ subst (λ (r : Result CaseFile CasesFail). IfOk r (AreRunnable c.args.app.now)) (sym w.result-is)
+          (subst (λ (r : Result CaseFile CaseRefusal). IfOk r (IsGiven c.args.app.now)) (sym c.in_ok-file.ensures ∙ w.in-Ok.is) runs).run
+      | in-Err w ↦ subst (λ (r : Result CaseFile CasesFail). IfOk r (AreRunnable c.args.app.now)) (sym w.result-is) tt
+    ]
+
+pub returns-then-eq-clause-few : goal.returns-then-eq-clause-few
+returns-then-eq-clause-few g c =
+    let runs = file_runs c.args.app.now c.lines.draft c.lines.number c.lines.invariant.run in
+    let IsFew : CaseFile → Type 0 = λ file. length file.cases ≤ MOST_CASES in
+    elim c.match-branch-4.branch [
+      | in-Ok w ↦ subst (λ (r : Result CaseFile CasesFail). IfOk r IsFew) (sym w.result-is)
+          (subst (λ (r : Result CaseFile CaseRefusal). IfOk r (IsGiven c.args.app.now)) (sym c.in_ok-file.ensures ∙ w.in-Ok.is) runs).few
+      | in-Err w ↦ subst (λ (r : Result CaseFile CasesFail). IfOk r IsFew) (sym w.result-is) tt
     ]
 
 pub returns-in-Some-clause-refuses : goal.returns-in-Some-clause-refuses
@@ -84,6 +107,8 @@ lines-preserved g c =
       says = λ tells text is. c.lines.invariant.says tells text is
           ∙ line_taken c.args.app.now c.args.sizes.now c.in_ok-got.got c.lines.draft c.take.new.self c.lines.number _ _ (line_of c.next_line.new.self) (c.in_ok-got.ensures.gives (subst IsTrue (sym c.lines.invariant.telling) tells) text (grind (arith, common_steps)) (c.lines.invariant.reads tells text is)) more short small few says;
       small = c.in_ok-refusal.ensures.small;
+      run = subst (λ (r : Result Draft CaseRefusal). IfOk r (CanRun c.args.app.now)) says
+          (said_runs c.args.app.now c.args.sizes.now c.lines.draft c.lines.number (line_said c.args.app.now (line_of c.next_line.new.self)) c.lines.invariant.run (line_has c.args.app.now (line_of c.next_line.new.self)));
       found = λ tells some. found_either (begin_of c.lines.lines) (read_of c.lines.lines) (c.lines.invariant.found tells)
           (λ none. subst IsSome (ap (λ (held : List ℕ → Option (List ℕ)). held (name_of c.lines.lines)) c.lines.invariant.kept ∙ ap (g.F.Files.held c.args.files.now) c.lines.invariant.named) (c.in_ok-got.ensures.found (subst IsTrue (sym c.lines.invariant.telling) tells) none))
           c.lines.invariant.fresh;

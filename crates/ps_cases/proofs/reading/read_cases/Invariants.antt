@@ -4,6 +4,7 @@ use Rattle.ps_lines.specs.Reader.{IsReading, left, begin_of, name_of, limits_of,
 use Rattle.ps_cases.specs.declared.limits.TheConstants.{LARGEST_CASE_FILE, MOST_CASE_LINES}
 use Rattle.ps_cases.specs.DraftSays.{KeepsLimits}
 use Rattle.ps_cases.specs.File.{cases_of, lines_read}
+use Rattle.ps_cases.proofs.RunningFiles.{CanRun}
 use Rattle.ps_cases.proofs.reading.read_cases.Given as goal
 
 abbrev pub invariant-lines : goal.invariant-lines
@@ -12,6 +13,7 @@ invariant-lines g l = record {
   says : IsTrue (g.F.Files.tells l.initial.files) → (text : List ℕ) → g.F.Files.held l.initial.files l.name ≡ Some text →
       cases_of l.app l.sizes text ≡ lines_read l.app l.sizes l.draft l.number (left l.lines text);
   small : KeepsLimits l.draft;
+  run : CanRun l.app l.draft;
   found : IsTrue (g.F.Files.tells l.initial.files) → 0 < begin_of l.lines → IsSome (g.F.Files.held l.initial.files l.name);
   fresh : begin_of l.lines ≡ 0 → read_of l.lines ≡ 0;
   few : l.number ≤ MOST_CASE_LINES + 1;

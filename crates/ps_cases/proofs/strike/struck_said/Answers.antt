@@ -1,5 +1,3 @@
-use Rattle.std.proofs.Common.{◌∙◌, sym, arith}
-use Rattle.std.proofs.lemmas.Grind.{common_steps}
 use Rattle.ps_cases.proofs.strike.struck_said.Goals as goal
 
 pub returns : goal.returns

@@ -1,0 +1,46 @@
+// What holds of all case files.
+
+ghost use Rattle.std.specs.Prelude.{◌≡◌, ◌≤◌, ◌++◌, ℕ, List, Bool, All, IfOk, length, flat_map, decimal};
+ghost use Rattle.ps_base.specs.declared.limits.TheConstants.{LARGEST_TIME};
+ghost use Rattle.ps_model.specs.declared.channel.ImageSizes.{ImageSizes};
+ghost use Rattle.ps_model.specs.Meaning.{Item, Meaning, Past, Runs};
+ghost use Rattle.ps_model.specs.Network.{Network};
+ghost use Rattle.ps_model.specs.Scanning.{State};
+ghost use Rattle.ps_trace.specs.Words.{fields};
+ghost use Rattle.ps_trace.specs.Trace.{line_said};
+ghost use Rattle.ps_trace.specs.Trace.Said.{scans};
+ghost use Rattle.ps_cases.specs.declared.case.Case.{Case};
+ghost use Rattle.ps_cases.specs.declared.case.CaseFile.{CaseFile};
+ghost use Rattle.ps_cases.specs.Meant.{whole_case, items_of};
+ghost use Rattle.ps_cases.specs.Runnable.{IsRunnable};
+ghost use Rattle.ps_cases.specs.File.{cases_of};
+ghost use Rattle.ps_cases.specs.Expanded.{value_text};
+ghost use Rattle.ps_cases.specs.Joined.{later, later_past, items_of_file};
+
+/// Each case that a text says can be run.
+pub fn cases_can_be_run()
+    ensures { (net : Network) (sizes : ImageSizes) (text : List ℕ) →
+        IfOk (cases_of net sizes text) (λ file.
+        All (λ (case : Case). IsRunnable net (whole_case file case)) file.cases) }
+{}
+
+/// Blocks know differences of times alone: the same scans so much later, behind the same ones so much later, have the
+/// same states.
+pub fn times_may_be_shifted()
+    ensures { (net : Network) (past : Past) (items : List Item) (ws : List State) (by : ℕ) →
+        Runs net past items ws → Runs net (later_past by past) (later by items) ws }
+{}
+
+/// What the items of all cases in one trace mean is what each case means alone, one case behind the other.
+pub fn cases_mean_the_same_in_one_trace()
+    ensures { (net : Network) (file : CaseFile) (states : Case → List State) →
+        All (λ case. Meaning net (items_of net (whole_case file case)) (states case)) file.cases →
+        Meaning net (items_of_file net file) (flat_map states file.cases) }
+{}
+
+/// A scan line of the trace of all cases, without its line feed, is read as the scan that it was written for, behind one at
+/// this time or before.
+pub fn scan_lines_are_read()
+    ensures { (now last : ℕ) (ins : List Bool) → now ≤ LARGEST_TIME → last ≤ now →
+        line_said (length ins) last (fields (decimal now ++ flat_map value_text ins)) ≡ scans now ins }
+{}

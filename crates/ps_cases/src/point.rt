@@ -1,0 +1,127 @@
+// How a trace of cases stands between two lines of a case.
+
+ghost use Rattle.std.specs.Prelude.{◌≡◌, ◌<◌, ◌≤◌, ◌+◌, ◌++◌, ◌^◌, ℕ, All, IfOk, OnOk, length, decimal};
+ghost use Rattle.ps_cases.specs.declared.case.Setting.{Setting};
+ghost use Rattle.ps_cases.specs.Meant.{set_by, time_at};
+ghost use Rattle.ps_cases.specs.Expanded.{turn_text, region_text, fault_line, begin_point, point_set, point_after};
+
+use crate::case::{Act, Pace, Setting};
+use itoa::Buffer;
+use ps_base::{Bytes, Memory};
+use ps_model::{Bits, Channel, Fault, Region};
+use std::alloc::Global;
+
+// How the trace stands: when the case begins, the time of its last scan within the case, the values of the inputs, and
+// the lines of the faults of its next scan.
+#[derive(Drop)]
+pub(crate) struct Point {
+    pub(crate) base: u64,
+    pub(crate) time: u32,
+    pub(crate) ins: Bits,
+    pub(crate) held: Bytes,
+}
+
+impl Point {
+    // With so many inputs, before the first case.
+    pub(crate) fn new(alloc: Global, inputs: usize) -> Result<Point, Memory>
+        ensures { IfOk result (λ point. point ≡ begin_point inputs 0) }
+    {
+        Ok(Point {
+            base: 0,
+            time: 0,
+            ins: Bits::all_false(alloc, inputs)?,
+            held: Bytes::new(alloc),
+        })
+    }
+
+    // A case begins at this time.
+    pub(crate) fn begin(&mut self, alloc: Global, base: u64)
+        ensures { self.new ≡ begin_point (length self.old.ins) base }
+    {
+        self.base = base;
+        self.time = 0;
+        self.ins.clear();
+        self.held = Bytes::new(alloc);
+    }
+
+    // The inputs are set.
+    pub(crate) fn set(&mut self, settings: &[Setting])
+        requires { All (λ (setting : Setting). setting.input < length self.old.ins) settings.now }
+        ensures { self.new ≡ point_set self.old settings.now }
+    {
+        for setting in settings {
+            self.ins.set(usize::from(setting.input), setting.value);
+        }
+    }
+
+    // A line does this.
+    pub(crate) fn pass(&mut self, alloc: Global, act: &Act) -> Result<(), Memory>
+        ensures { OnOk result (self.new ≡ point_after self.old act.now) }
+    {
+        match act {
+            Act::Scans(pace) => {
+                if pace.count > 0 {
+                    self.time = last_time(pace);
+                    self.held = Bytes::new(alloc);
+                }
+            }
+            Act::Fault(fault) => hold(alloc, &mut self.held, fault)?,
+            Act::Set | Act::Restart | Act::Expect(_) => {}
+        }
+        Ok(())
+    }
+}
+
+// The time of the last scan of a pace.
+fn last_time(pace: &Pace) -> u32
+    ensures { result ≡ time_at pace.now pace.now.count }
+{
+    let span = u64::from(pace.count) * u64::from(pace.step);
+    let time = u64::from(pace.from) + span;
+    time.min(u64::from(pace.upto)) as u32
+}
+
+// The line of a fault, behind others.
+fn hold(alloc: Global, lines: &mut Bytes, fault: &Fault) -> Result<(), Memory>
+    ensures { OnOk result (lines.new ≡ lines.old ++ fault_line fault.now) }
+{
+    lines.extend_from_slice(b"# fault ")?;
+    hold_turn(lines, fault.turn)?;
+    lines.extend_from_slice(region_text(fault.channel, fault.region))?;
+    hold_number(lines, fault.at)?;
+    lines.extend_from_slice(b" ")?;
+    let digits = hex::encode(alloc, fault.bytes.as_slice())?;
+    lines.extend_from_slice(digits.as_bytes())?;
+    lines.extend_from_slice(b"\n")
+}
+
+// The turn of a fault, where it strikes before one.
+fn hold_turn(lines: &mut Bytes, turn: u32) -> Result<(), Memory>
+    ensures { OnOk result (lines.new ≡ lines.old ++ turn_text turn) }
+{
+    if turn == 0 {
+        return Ok(());
+    }
+    lines.extend_from_slice(b"turn ")?;
+    hold_number(lines, turn)?;
+    lines.extend_from_slice(b" ")
+}
+
+fn hold_number(lines: &mut Bytes, number: u32) -> Result<(), Memory>
+    ensures { OnOk result (lines.new ≡ lines.old ++ decimal number) }
+{
+    let mut digits = Buffer::new();
+    lines.extend_from_slice(digits.format(number).as_bytes())
+}
+
+// The words of a channel and a region.
+fn region_text(channel: Channel, region: Region) -> &'static [u8]
+    ensures { result.now ≡ region_text channel region }
+{
+    match (channel, region) {
+        (Channel::A, Region::Code) => b"A code ",
+        (Channel::A, Region::Cells) => b"A memory ",
+        (Channel::B, Region::Code) => b"B code ",
+        (Channel::B, Region::Cells) => b"B memory ",
+    }
+}

@@ -4,7 +4,7 @@
 pub(crate) const NAME: &str = "plcsafe-bench";
 
 /// The program's version.
-pub(crate) const VERSION: &str = "1.0";
+pub(crate) const VERSION: &str = "0.9.0";
 
 /// What the program does.
 pub(crate) const PROGRAM: &str =

@@ -1,0 +1,120 @@
+-- What `test` runs, what it tells of it, and its status.
+use Rattle.std.specs.Prelude.{◌≡◌, ◌↔◌, ℕ, Bool, IsTrue, List, [], ◌∷◌, ◌++◌, Option, Some, Ok, length, if◌then◌else◌}
+use Rattle.std.specs.List.{list_all}
+use Rattle.ps_bench_words.specs.declared.asking.Format.{Format}
+use Rattle.ps_cases.specs.declared.case.Case.{Case}
+use Rattle.ps_cases.specs.declared.case.CaseFile.{CaseFile}
+use Rattle.ps_cases.specs.declared.case.Statement.{Statement}
+use Rattle.ps_cases.specs.File.{cases_of}
+use Rattle.ps_cases.specs.Meant.{items_of, whole_case}
+use Rattle.ps_judge.specs.CaseRuns.{IsJudged, failures_of}
+use Rattle.ps_judge.specs.declared.run.CaseOutcome.{CaseOutcome}
+use Rattle.ps_model.specs.Meaning.{Meaning}
+use Rattle.ps_model.specs.Network.{Network}
+use Rattle.ps_model.specs.Scanning.{State}
+use Rattle.ps_model.specs.declared.channel.ImageSizes.{ImageSizes}
+use Rattle.ps_world.specs.Whole.{IsSetupOf, Setup}
+use Rattle.ps_tester.specs.Lines.{Ran, passes}
+use Rattle.ps_tester.specs.Report.{case_text, counted, file_foot_text, file_head_text, foot_text, head_text, none_told}
+use Rattle.ps_tester.specs.declared.ending.Status.{Status}
+use Rattle.ps_tester.specs.declared.ending.Status.TheVariants.{Done, Failed}
+use Rattle.ps_tester.specs.declared.report.Tally.{Tally}
+
+-- What came of a case that means these statements: its failures are those of the run that they mean.
+pub record IsOutcome (net : Network) (statements : List Statement) (outcome : CaseOutcome) : Type 0 where
+  pub judged : IsJudged net statements outcome.failures.items
+
+-- this case of a file of this name was run on an application
+pub record IsRan (net : Network) (name : List ℕ) (file : CaseFile) (case : Case) (r : Ran) : Type 0 where
+  pub net_is : r.net ≡ net
+  pub name_is : r.name ≡ name
+  pub file_is : r.file ≡ file
+  pub case_is : r.case ≡ case
+  pub outcome : IsOutcome net (whole_case file case) r.outcome
+
+-- these cases of a file were run, one after another
+abbrev pub AreRan : Network → (name : List ℕ) → CaseFile → List Case → List Ran → Type 0
+AreRan net name file [] [] = Unit {0}
+AreRan net name file [] (r ∷ rs) = ⊥
+AreRan net name file (c ∷ cs) [] = ⊥
+AreRan net name file (c ∷ cs) (r ∷ rs) = IsRan net name file c r × AreRan net name file cs rs
+
+-- how many cases were told, and failed, behind these
+abbrev pub tally_of : Tally → List Ran → Tally
+tally_of t [] = t
+tally_of t (r ∷ rs) = tally_of (counted t (passes r.outcome)) rs
+
+-- what is told of cases, behind as many
+abbrev pub cases_text : Format → Tally → List Ran → List ℕ
+cases_text format t [] = []
+cases_text format t (r ∷ rs) = case_text format t r ++ cases_text format (counted t (passes r.outcome)) rs
+
+-- What the cases of a call are run on: the application, the sizes of the regions of its channels, and the files, which
+-- tell what they hold, or do not.
+pub record Source : Type 0 where
+  pub net : Network
+  pub sizes : ImageSizes
+  pub tells : Bool
+  pub held : List ℕ → Option (List ℕ)
+
+-- the same from its parts
+abbrev pub source : Network → ImageSizes → (tells : Bool) → (held : List ℕ → Option (List ℕ)) → Source
+source net sizes tells held = record { net = net; sizes = sizes; tells = tells; held = held }
+
+-- a case file, and its cases that were run
+pub record FileRan : Type 0 where
+  pub name : List ℕ
+  pub file : CaseFile
+  pub ran : List Ran
+
+-- the file says what the text of its name says, where that is known
+abbrev pub IsOfText : Source → (name : List ℕ) → CaseFile → Type 0
+IsOfText from name file =
+    IsTrue from.tells → (text : List ℕ) → from.held name ≡ Some text → cases_of from.net from.sizes text ≡ Ok file
+
+-- all cases of the file of this name were run
+pub record IsRanFile (from : Source) (name : List ℕ) (f : FileRan) : Type 0 where
+  pub name_is : f.name ≡ name
+  pub of_text : IsOfText from name f.file
+  pub ran : AreRan from.net name f.file f.file.cases f.ran
+
+-- these files were run, all cases of each, one after another
+abbrev pub AreRanFiles : Source → (names : List (List ℕ)) → List FileRan → Type 0
+AreRanFiles from [] [] = Unit {0}
+AreRanFiles from [] (f ∷ fs) = ⊥
+AreRanFiles from (name ∷ names) [] = ⊥
+AreRanFiles from (name ∷ names) (f ∷ fs) = IsRanFile from name f × AreRanFiles from names fs
+
+-- how many cases were told, and failed, behind these files
+abbrev pub tally_of_files : Tally → List FileRan → Tally
+tally_of_files t [] = t
+tally_of_files t (f ∷ fs) = tally_of_files (tally_of t f.ran) fs
+
+-- what is told of a file, behind as many cases
+abbrev pub file_text : Format → Tally → FileRan → List ℕ
+file_text format t f =
+    file_head_text format f.name (length f.file.cases) ++ cases_text format t f.ran ++ file_foot_text format
+
+-- what is told of files, behind as many cases
+abbrev pub files_text : Format → Tally → List FileRan → List ℕ
+files_text format t [] = []
+files_text format t (f ∷ fs) = file_text format t f ++ files_text format (tally_of t f.ran) fs
+
+-- all that `test` tells of files
+abbrev pub test_text : Format → List FileRan → List ℕ
+test_text format fs =
+    head_text format ++ files_text format none_told fs ++ foot_text format (tally_of_files none_told fs)
+
+-- every case of these files passed
+abbrev pub all_passed : List FileRan → Bool
+all_passed fs = list_all (λ f. list_all (λ (r : Ran). passes r.outcome) f.ran) fs
+
+-- the status of a call of `test` that ran all of these
+abbrev pub test_status : List FileRan → Status
+test_status fs = if all_passed fs then Done else Failed
+
+-- A case is told as passed exactly where the run that it means has no failure.
+abbrev pub IsToldExactly : Network → List Statement → CaseOutcome → Type 0
+IsToldExactly net statements outcome =
+    (setup : Setup) → IsSetupOf net setup → (ws : List State) → Meaning net (items_of net statements) ws →
+    IsTrue (passes outcome) ↔ (failures_of net setup statements ws ≡ [])

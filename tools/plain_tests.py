@@ -24,6 +24,7 @@ CANNOT = {
     "tools/believed": [["--why"], ["--why", "ps_top.whole"], ["--why", "nothing", "scan_line"]],
     "tools/build.py": [["--check", "a", "b"], ["ps_nothing"], ["--take"], ["--take", "ps_main 0"], ["--take", "x"]],
     "tools/calls.py": [[], MANY, ["GONE"], ["FOLDER"], ["BYTES"]],
+    "tools/cases.py": [[], ["BYTES"], ["BYTES", "plcsafe-bench=GONE"], ["GONE", "plcsafe-bench=BYTES"], ["FOLDER", "plcsafe-bench=FOLDER"], ["--count", "a"]],
     "tools/check": [["nothing"], ["--program"], ["--program", "GONE"], ["--program", "FOLDER"], ["--log", "GONE"], ["--log", "FOLDER"], ["--list", "a"]],
     "tools/claims": [["nothing"], MANY],
     "tools/diagrams.py": [["nothing"], MANY],
@@ -44,6 +45,7 @@ CANNOT = {
     "bench/generate.py": [[], MANY, ["EMPTY"], ["EMPTY/below"]],
     "bench/hostile.py": [MANY, ["GONE"], ["FOLDER"], ["BYTES", "a"]],
     "bench/instructions.py": [[], ["nothing"], ["program", "FOLDER", "GONE"], ["program", "FOLDER", "FOLDER"], ["channels", "0"], ["channels", "a"], ["reader", "1"], MANY],
+    "bench/messages.py": [[], ["GONE"], ["FOLDER"], ["BYTES", "no_mistake"], ["a", "b", "c"]],
     "bench/measure.py": [MANY, ["FOLDER", "GONE"], ["FOLDER", "FOLDER"]],
     "dist/install": [["a", "b"], ["--help"]],
 }

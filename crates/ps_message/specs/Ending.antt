@@ -1,5 +1,5 @@
 -- The messages of calls that end without a refusal: of a file that could not be read, of a scan that tripped, and of words that are not taken.
-use Rattle.std.specs.Prelude.{ℕ, ◌==◌, List, [], ◌++◌, codes, decimal, length, if◌then◌else◌}
+use Rattle.std.specs.Prelude.{ℕ, ◌==◌, List, [], ◌++◌, ◌∷◌, codes, decimal, length, if◌then◌else◌}
 use Rattle.ps_model.specs.declared.channel.Cause.{Cause}
 use Rattle.ps_model.specs.declared.channel.Cause.TheVariants.{Differ, Stuck, Trap, NoReport}
 use Rattle.ps_model.specs.declared.channel.Channel.{Channel}
@@ -69,6 +69,14 @@ abbrev pub trip_text : (file : List ℕ) → (now : ℕ) → Cause → (name : L
 trip_text file now cause name =
     last_shown 255 file ++ codes ": the scan at " ++ decimal now ++ codes " ms tripped: " ++ cause_shown cause name
     ++ codes "\nevery output is FALSE from there up to the next restart (docs/traces.md, TRIP lines)\n"
+
+-- The message of a seat, by its letter, that was outvoted again in the scan behind its healing: the last 255 bytes of the trace's name, the
+-- time of that scan in ms, and what it may mean.
+abbrev pub again_text : (file : List ℕ) → (now letter : ℕ) → List ℕ
+again_text file now letter =
+    last_shown 255 file ++ codes ": the scan at " ++ decimal now ++ codes " ms outvoted seat " ++ letter ∷ []
+    ++ codes " again, right behind its healing\na fault struck it anew, or the two others are wrong alike: A and C step blocks by one code"
+    ++ codes " (docs/faults.md, Healed in vain)\n"
 
 -- the message of words that are not taken: what is wrong with them, and what helps; of either the first 200 bytes are shown
 abbrev pub usage_text : (wrong help : List ℕ) → List ℕ

@@ -23,8 +23,8 @@ fn header_of(text: &[u8]) -> &[u8] {
     &[]
 }
 
-// The last line before a line of this number that is not blank.
-fn line_before(text: &[u8], number: u32) -> &[u8] {
+/// The last line before a line of this number that is not blank.
+pub(crate) fn line_before(text: &[u8], number: u32) -> &[u8] {
     let mut last: &[u8] = &[];
     for (index, line) in text.split(|byte| *byte == b'\n').enumerate() {
         if index + 1 >= number as usize {

@@ -10,6 +10,8 @@ use crate::advice::{Advice, Said};
 pub(crate) enum Hint {
     /// The text ends where more is asked.
     Ending,
+    /// The text has nothing but blanks.
+    Bare,
     /// The text does not begin as an application does.
     Beginning,
     /// The first token of a line does not fit.
@@ -18,6 +20,10 @@ pub(crate) enum Hint {
     Opening,
     /// A semicolon where nothing is to be ended.
     Empty,
+    /// A semicolon where what it ends is not whole.
+    Early,
+    /// A comma behind which nothing follows.
+    Comma,
     /// A sign stands where a value is asked.
     Valueless,
     /// A sign that does not fit.
@@ -48,6 +54,8 @@ pub(crate) enum Hint {
     Keyword,
     /// TRUE or FALSE as an operand.
     Constant,
+    /// TRUE, FALSE or a TIME literal as a value that is no pin's.
+    Assigned,
     /// A value in a call without the name of its pin.
     Unnamed,
     /// A value at a declaration.
@@ -103,6 +111,10 @@ impl Hint {
                 sentence: "the text ends too soon",
                 remedy: "close what is open: a comment, a bracket, a section by END_VAR, the program by END_PROGRAM",
             },
+            Hint::Bare => Said {
+                sentence: "the file is empty, or has blanks alone",
+                remedy: "an application begins with PROGRAM and its name, or with FUNCTION_BLOCK and a name; docs/tutorial.md writes a first one",
+            },
             Hint::Beginning => Said {
                 sentence: "",
                 remedy: "an application begins with PROGRAM and its name, or with FUNCTION_BLOCK and a name",
@@ -126,6 +138,14 @@ impl Hint {
             Hint::Empty => Said {
                 sentence: "a semicolon stands where nothing is to be ended",
                 remedy: "leave it out: one ends each declaration, assignment and call; none stands behind the name of the program, END_VAR or END_PROGRAM",
+            },
+            Hint::Early => Said {
+                sentence: "a semicolon stands before what it ends is whole",
+                remedy: "a declaration has a colon and a type, an assignment := and a value, a call or a group its closing bracket",
+            },
+            Hint::Comma => Said {
+                sentence: "a comma stands before this sign, and nothing between them",
+                remedy: "leave the comma out, or write what is to follow it",
             },
             Hint::Joining => Said {
                 sentence: "",
@@ -173,11 +193,15 @@ impl Hint {
             },
             Hint::Keyword => Said {
                 sentence: "",
-                remedy: "AND, OR, TRUE and FALSE are keywords and no names; see docs/language.md for the forms",
+                remedy: "AND, OR, TRUE, FALSE, VAR, VAR_INPUT, VAR_OUTPUT and PROGRAM are keywords and no names; see docs/language.md for the forms",
             },
             Hint::Constant => Said {
                 sentence: "TRUE and FALSE are no operands",
                 remedy: "they stand at the pins of a call alone: leave the operand out, or name a signal",
+            },
+            Hint::Assigned => Said {
+                sentence: "TRUE, FALSE or a TIME literal is assigned, or given to a function block of the text",
+                remedy: "give an input, a local, an output, or an output of an instance; literals stand at the pins of the thirteen blocks alone",
             },
             Hint::Unnamed => Said {
                 sentence: "a value stands where the name of a pin is asked",

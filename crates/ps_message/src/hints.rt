@@ -1,11 +1,13 @@
 // What is said where bytes of another language, or of another kind of text, stand at the place.
 
-ghost use Rattle.std.specs.Prelude.{IsTrue};
+ghost use Rattle.std.specs.Prelude.{IsTrue, IfSome};
 ghost use Rattle.ps_message.specs.Message.{IsOf, is_short};
 
 use crate::advice::{Advice, advice_on};
 use crate::hint::{Hint, hinted};
-use crate::words::{before_last_word, first_word, is_of_word, last_word, without_blanks};
+use crate::words::{
+    before_last_word, first_word, is_of_word, last_word, without_blanks, without_front_blanks,
+};
 use ps_base::Rule;
 
 // Words that the language has not, each with what is said of it.
@@ -70,10 +72,21 @@ fn hint_on_word(word: &[u8]) -> Option<Hint> {
     None
 }
 
+// Whether a word joins two values.
+fn joins(word: &[u8]) -> bool {
+    word.eq_ignore_ascii_case(b"AND") || word.eq_ignore_ascii_case(b"OR")
+}
+
 // Whether a value is asked behind these bytes.
 fn asks_value(front: &[u8]) -> bool {
     let word = last_word(front);
-    front.ends_with(b":=") || word.eq_ignore_ascii_case(b"AND") || word.eq_ignore_ascii_case(b"OR")
+    front.ends_with(b":=") || front.ends_with(b"&") || joins(word)
+}
+
+// Whether a value without the name of its pin ends these bytes.
+fn ends_unnamed(front: &[u8]) -> bool {
+    let word = last_word(front);
+    !word.is_empty() && asks_pin(without_blanks(before_last_word(front)))
 }
 
 // Whether the name of a pin is asked behind these bytes.
@@ -89,7 +102,7 @@ fn ends_with_type(front: &[u8]) -> bool {
 
 // Whether a word is a keyword that might be meant as a name.
 fn is_keyword(word: &[u8]) -> bool {
-    word.eq_ignore_ascii_case(b"AND") || word.eq_ignore_ascii_case(b"OR") || is_constant(word)
+    joins(word) || is_constant(word)
 }
 
 // Whether a word is a value that stands at pins alone.
@@ -126,6 +139,12 @@ fn hint_on_sign(front: &[u8], back: &[u8]) -> Hint {
         Hint::Valueless
     } else if back.starts_with(b";") && ends_already(front) {
         Hint::Empty
+    } else if front.ends_with(b",") {
+        Hint::Comma
+    } else if (back.starts_with(b",") || back.starts_with(b")")) && ends_unnamed(front) {
+        Hint::Unnamed
+    } else if back.starts_with(b";") {
+        Hint::Early
     } else if back.starts_with(b":=") && ends_with_type(front) {
         Hint::Initial
     } else {
@@ -138,15 +157,29 @@ fn begins_other(word: &[u8]) -> bool {
     word == b"time".as_slice() || word == b"before".as_slice()
 }
 
+// Whether a word is one of the keywords that stand as names by mistake.
+fn is_any_keyword(word: &[u8]) -> bool {
+    is_keyword(word) || opens_section(word) || word.eq_ignore_ascii_case(b"PROGRAM")
+}
+
+// Whether a word stands where the name of a declaration does: a colon or a comma follows it.
+fn is_declared(back: &[u8], word: &[u8]) -> bool {
+    let behind = without_front_blanks(&back[word.len().min(back.len())..]);
+    !behind.starts_with(b":=") && (behind.starts_with(b":") || behind.starts_with(b","))
+}
+
 // What is said of the first token of a text or a line that does not fit, by the bytes from it on.
 fn hint_on_first(line: u32, back: &[u8]) -> Hint {
+    let here = first_word(back);
     if line == 1 {
         Hint::Beginning
     } else if back.starts_with(b";") {
         Hint::Empty
+    } else if is_declared(back, here) && is_any_keyword(here) {
+        Hint::Keyword
     } else if begins_application(back) {
         Hint::Behind
-    } else if opens_section(first_word(back)) {
+    } else if opens_section(here) {
         Hint::Opening
     } else {
         Hint::Unfinished
@@ -172,6 +205,9 @@ fn hint_on_grammar(line: u32, front: &[u8], back: &[u8]) -> Option<Hint> {
     if before.is_empty() {
         return Some(hint_on_first(line, back));
     }
+    if joins(here) && asks_value(before) {
+        return Some(Hint::Valueless);
+    }
     if is_constant(here) && asks_value(before) {
         return Some(Hint::Constant);
     }
@@ -190,6 +226,22 @@ fn hint_on_grammar(line: u32, front: &[u8], back: &[u8]) -> Option<Hint> {
     Some(Hint::Joining)
 }
 
+// What is said of a literal that is not the whole argument of a pin, by what stands before it in its line and from it
+// on.
+fn hint_on_literal(front: &[u8], back: &[u8]) -> Option<Hint> {
+    let before = without_blanks(front);
+    let here = first_word(back);
+    let behind = without_front_blanks(&back[here.len().min(back.len())..]);
+    let is_joined = behind.starts_with(b"&") || joins(first_word(behind));
+    if before.ends_with(b":=") && !is_joined {
+        Some(Hint::Assigned)
+    } else if is_constant(here) && !before.ends_with(b"(") {
+        Some(Hint::Constant)
+    } else {
+        None
+    }
+}
+
 // Whether bytes begin as no text in ASCII or UTF-8 does.
 fn is_wide(bytes: &[u8]) -> bool {
     matches!(bytes, [0xFF, 0xFE, ..] | [0xFE, 0xFF, ..] | [0, ..])
@@ -201,7 +253,9 @@ fn hint_on_byte(front: &[u8], back: &[u8]) -> Option<Hint> {
         _ if is_wide(back) => Some(Hint::Wide),
         [0xEF, 0xBB, 0xBF, ..] => Some(Hint::ByteOrderMark),
         [0xC2, 0xA0, ..] | [0xE2, 0x80, 0xAF, ..] => Some(Hint::HardBlank),
-        [0xE2, 0x80, ..] | [0xE2, 0x88, 0x92, ..] => Some(Hint::Typographic),
+        [0xE2, 0x80, ..] | [0xE2, 0x81, 0xA0..=0xA9, ..] | [0xE2, 0x88, 0x92, ..] => {
+            Some(Hint::Typographic)
+        }
         [b'=', b'>', ..] => Some(Hint::Arrow),
         [b'=', ..] => Some(Hint::Equals),
         [b'|', ..] => Some(Hint::Bar),
@@ -306,6 +360,7 @@ fn hint_at(rule: Rule, line: u32, front: &[u8], back: &[u8]) -> Option<Hint> {
         Rule::L3 if has_decimal_comma(back) => Some(Hint::DecimalComma),
         Rule::P1 => hint_on_grammar(line, front, back),
         Rule::B2 | Rule::N2 | Rule::N3 => hint_on_word(first_word(back)),
+        Rule::N12 => hint_on_literal(front, back),
         Rule::C1 | Rule::T1 | Rule::F1 if is_wide(back) => Some(Hint::Wide),
         Rule::C1 => hint_on_certificate(back),
         Rule::T1 | Rule::T2 | Rule::T4 | Rule::T5 | Rule::T6 => hint_on_trace(rule, back),
@@ -314,8 +369,45 @@ fn hint_at(rule: Rule, line: u32, front: &[u8], back: &[u8]) -> Option<Hint> {
     }
 }
 
-/// What is said of a rule at a place in this line, before which `front` stands and from which on `back`: of what was most likely
-/// meant, where that can be told, and else of the rule.
+/// What is said of a rule where a text has nothing that was read.
+pub(crate) fn advice_on_none(rule: Rule) -> Advice
+    ensures name { IsOf rule result }
+    ensures short { IsTrue (is_short result) }
+{
+    let advice = advice_on(rule);
+    match rule {
+        Rule::P1 => hinted(advice, Hint::Bare),
+        _ => advice,
+    }
+}
+
+// What is said of a token that begins a line, by the line before it: a section that the language has not, or the end
+// of the program.
+fn hint_behind(before: &[u8]) -> Option<Hint> {
+    for word in [first_word(before), last_word(before)] {
+        match hint_on_word(word) {
+            Some(Hint::Section) => return Some(Hint::Section),
+            _ => (),
+        }
+    }
+    if first_word(before).eq_ignore_ascii_case(b"END_PROGRAM") {
+        return Some(Hint::Behind);
+    }
+    None
+}
+
+/// What is said of a token that does not fit and begins a line, by the line before it, where that tells what was meant.
+pub(crate) fn advice_behind(rule: Rule, before: &[u8]) -> Option<Advice>
+    ensures { IfSome result (λ advice. IsOf rule advice × IsTrue (is_short advice)) }
+{
+    match hint_behind(before) {
+        Some(hint) => Some(hinted(advice_on(rule), hint)),
+        None => None,
+    }
+}
+
+/// What is said of a rule at a place in this line, before which `front` stands and from which on `back`: of what was
+/// most likely meant, where that can be told, and else of the rule.
 pub(crate) fn advice_at(rule: Rule, line: u32, front: &[u8], back: &[u8]) -> Advice
     ensures name { IsOf rule result }
     ensures short { IsTrue (is_short result) }

@@ -31,5 +31,7 @@ mod writing;
 pub use advice::{Advice, advice_on};
 pub use also::also_lines;
 pub use noted::{LONGEST_NOTE, note_line, odd_line};
-pub use statuses::{NO_MEMORY, UNWRITTEN, Unread, trip_message, unread_message, usage_message};
+pub use statuses::{
+    NO_MEMORY, UNWRITTEN, Unread, again_message, trip_message, unread_message, usage_message,
+};
 pub use writing::{LONGEST_MESSAGE, advised_message, message};

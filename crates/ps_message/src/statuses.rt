@@ -1,7 +1,7 @@
 // The messages of calls that end without a refusal.
 
 ghost use Rattle.std.specs.Prelude.{◌≡◌, ◌++◌, [], IfOk, OnOk};
-ghost use Rattle.ps_message.specs.Ending.{cause_shown, channel_shown, field_shown, help_line, remedy_of, trap_said, trip_text};
+ghost use Rattle.ps_message.specs.Ending.{again_text, cause_shown, channel_shown, field_shown, help_line, remedy_of, trap_said, trip_text};
 ghost use Rattle.ps_message.specs.Ending.{unread_text, usage_text, wrong_line, wrong_of};
 
 use crate::shown::{add_first, add_last};
@@ -199,6 +199,23 @@ pub fn trip_message(
     message.extend_from_slice(
         b"\nevery output is FALSE from there up to the next restart (docs/traces.md, TRIP lines)\n",
     )?;
+    Ok(message)
+}
+
+/// The message of a seat that was outvoted again in the scan behind its healing, by its letter, in a trace of this name: the time
+/// of that scan in ms, and what it may mean.
+pub fn again_message(alloc: Global, file: &[u8], now: u32, letter: u8) -> Result<Bytes, Memory>
+    ensures says { IfOk result (λ bytes. bytes ≡ again_text file.now now letter) }
+{
+    let mut message = Bytes::new(alloc);
+    add_last(&mut message, file, MOST_OF_FILE)?;
+    add_number(&mut message, b": the scan at ", now)?;
+    message.extend_from_slice(b" ms outvoted seat ")?;
+    message.extend_from_slice(&[letter])?;
+    message.extend_from_slice(
+        b" again, right behind its healing\na fault struck it anew, or the two others are wrong alike: A and C step blocks by one code",
+    )?;
+    message.extend_from_slice(b" (docs/faults.md, Healed in vain)\n")?;
     Ok(message)
 }
 

@@ -20,6 +20,26 @@ pub(crate) fn without_blanks(bytes: &[u8]) -> &[u8] {
     &[]
 }
 
+/// The bytes from the first one that is no blank.
+pub(crate) fn without_front_blanks(bytes: &[u8]) -> &[u8] {
+    for i in 0..bytes.len() {
+        if !is_blank(bytes[i]) {
+            return &bytes[i..];
+        }
+    }
+    &[]
+}
+
+/// Whether bytes are blanks and ends of lines alone.
+pub(crate) fn is_bare(bytes: &[u8]) -> bool {
+    for byte in bytes {
+        if !is_blank(*byte) && *byte != b'\n' {
+            return false;
+        }
+    }
+    true
+}
+
 /// The word at the end of bytes.
 pub(crate) fn last_word(bytes: &[u8]) -> &[u8] {
     for i in (0..bytes.len()).rev() {

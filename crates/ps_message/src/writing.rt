@@ -4,11 +4,12 @@ ghost use Rattle.std.specs.Prelude.{◌≡◌, ◌<◌, ◌≤◌, ◌^◌, ◌+
 ghost use Rattle.ps_message.specs.Message.{further, heading, reason, reference, remedy, message_text, IsOf, Says, IsEnded, is_short};
 ghost use Rattle.ps_message.specs.Quoted.{line_of, behind, name_at, quoted};
 
-use crate::advice::{Advice, advice_on};
-use crate::further::further_on;
-use crate::hints::advice_at;
+use crate::advice::Advice;
+use crate::further::{further_on, line_before};
+use crate::hints::{advice_at, advice_behind, advice_on_none};
 use crate::quoted::{add_quoted, cut_at, line_at, name_of};
 use crate::shown::{add_first, add_last};
+use crate::words::is_bare;
 use itoa::Buffer;
 use ps_base::{Bytes, Memory, Place, Refusal, Rule};
 use std::alloc::Global;
@@ -116,15 +117,20 @@ pub fn advised_message(
     Ok(message)
 }
 
-// What is said of a rule at a place in a text; of the rule alone where the text is empty.
+// What is said of a rule at a place in a text; of the rule alone where the text has nothing.
 fn advice_of(rule: Rule, text: &[u8], place: &Place) -> Advice
     ensures name { IsOf rule result }
     ensures short { IsTrue (is_short result) }
 {
-    if text.is_empty() {
-        return advice_on(rule);
+    if is_bare(text) {
+        return advice_on_none(rule);
     }
     let (front, back) = cut_at(line_at(text, place.line), place.column);
+    if rule == Rule::P1 && is_bare(front) {
+        if let Some(advice) = advice_behind(rule, line_before(text, place.line)) {
+            return advice;
+        }
+    }
     advice_at(rule, place.line, front, back)
 }
 

@@ -28,8 +28,8 @@ fn count_called(alloc: Global, calls: &mut Tally, statement: &Statement) -> Resu
     }
 }
 
-// How often names are called.
-fn calls_of(alloc: Global, statements: &[Statement]) -> Result<Tally, Memory>
+/// How often names are called.
+pub fn calls_of(alloc: Global, statements: &[Statement]) -> Result<Tally, Memory>
     ensures { IfOk result (λ t. Counts t (flat_map called (map statement_tree statements.now))) }
 {
     let mut calls = Tally::new(alloc);
@@ -39,8 +39,8 @@ fn calls_of(alloc: Global, statements: &[Statement]) -> Result<Tally, Memory>
     Ok(calls)
 }
 
-// How often names are declared.
-fn declared_of(alloc: Global, declared: &[Declared]) -> Result<Tally, Memory>
+/// How often names are declared.
+pub fn declared_of(alloc: Global, declared: &[Declared]) -> Result<Tally, Memory>
     ensures { IfOk result (λ t. Counts t (map (λ (d : Declared). d.name) declared.now)) }
 {
     let mut names = Tally::new(alloc);
@@ -50,8 +50,8 @@ fn declared_of(alloc: Global, declared: &[Declared]) -> Result<Tally, Memory>
     Ok(names)
 }
 
-// Notes a derived instance that is not called exactly once, or whose name is declared again.
-fn check_one(
+/// Notes a derived instance that is not called exactly once, or whose name is declared again (B5).
+pub fn check_count(
     alloc: Global,
     before: &Interfaces,
     calls: &Tally,
@@ -85,7 +85,7 @@ pub fn check_counts(
     let names = declared_of(alloc, body.scope.as_slice())?;
     let mut found = found;
     for declared in body.scope.as_slice() {
-        found = check_one(alloc, body.before, &calls, &names, declared, found)?;
+        found = check_count(alloc, body.before, &calls, &names, declared, found)?;
     }
     Ok(found)
 }

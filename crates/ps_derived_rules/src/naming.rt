@@ -39,8 +39,8 @@ fn names_type(name: &Name) -> bool
     names_signal(name) || kind_of_name(name).is_some()
 }
 
-// Notes the function blocks that have the name of a type of the language.
-fn check_types(blocks: &[Source], found: Option<Refusal>) -> Option<Refusal>
+/// Notes the function blocks that have the name of a type of the language (B1).
+pub fn check_kinds(blocks: &[Source], found: Option<Refusal>) -> Option<Refusal>
     ensures { result ≡ noted found (flat_map named_as_type (block_names blocks.now)) }
 {
     let mut found = found;
@@ -74,5 +74,5 @@ pub fn check_names(alloc: Global, blocks: &[Source]) -> Result<(Table, Option<Re
     ensures found { IfOk result (λ r. r.1 ≡ refused (named_wrongly (block_names blocks.now))) }
 {
     let (table, found) = names_of(alloc, blocks, None)?;
-    Ok((table, check_types(blocks, found)))
+    Ok((table, check_kinds(blocks, found)))
 }

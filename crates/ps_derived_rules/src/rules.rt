@@ -63,8 +63,8 @@ fn check_blocks(
     Ok((before, found))
 }
 
-// Notes a text that is too large: B4.
-fn check_size(
+/// Notes a text that is too large (B4).
+pub fn check_size(
     alloc: Global,
     library: &Library,
     found: Option<Refusal>,

@@ -15,8 +15,8 @@ enum Spot {
     Block,
 }
 
-// Whether bytes begin with a character that turns the direction of what is shown: U+061C, U+200E, U+200F, U+202A to U+202E, U+2066 to
-// U+2069.
+// Whether bytes begin with a character that turns the direction of what is shown: U+061C, U+200E, U+200F, U+202A to
+// U+202E, U+2066 to U+2069.
 fn turns(bytes: &[u8]) -> bool {
     match bytes {
         [0xD8, 0x9C, ..] => true,
@@ -69,10 +69,26 @@ fn behind(place: Place, byte: u8) -> Place {
     }
 }
 
-/// The odd comments of an application's text, at most 20: in a `//` comment a carriage return that does not end its line, and in any
-/// comment a character that turns the direction of what is shown. Of a line the first is told.
+// Whether something odd may begin at some byte: a carriage return behind which its line goes on, or the first byte of
+// U+061C or of a character from U+2000 on.
+fn may_have_odd(text: &[u8]) -> bool {
+    for (i, byte) in text.iter().enumerate() {
+        match *byte {
+            0xD8 | 0xE2 => return true,
+            b'\r' if returns(&text[i..]) => return true,
+            _ => (),
+        }
+    }
+    false
+}
+
+/// The odd comments of an application's text, at most 20: in a `//` comment a carriage return that does not end its
+/// line, and in any comment a character that turns the direction of what is shown. Of a line the first is told.
 pub fn odd_comments(alloc: Global, text: &[u8]) -> Result<Vec<OddComment>, Memory> {
     let mut list = Vec::new(alloc);
+    if !may_have_odd(text) {
+        return Ok(list);
+    }
     let mut spot = Spot::Code;
     let mut told = 0u32;
     let mut skipped = 0u8;
@@ -109,7 +125,8 @@ fn has_return(line: &[u8]) -> bool {
     false
 }
 
-/// The comment lines of a trace or fault file that have a carriage return before their end, at most 20, each told by its line alone.
+/// The comment lines of a trace or fault file that have a carriage return before their end, at most 20, each told by
+/// its line alone.
 pub fn odd_lines(alloc: Global, text: &[u8]) -> Result<Vec<OddComment>, Memory> {
     let mut list = Vec::new(alloc);
     let mut number = 0u32;

@@ -115,25 +115,14 @@ fn flows_of(alloc: Global, source: &Source, app: &App) -> Result<Vec<Refusal>, M
     Ok(list)
 }
 
-/// The refusals of the letter of this first one that the application of a text has behind it. Of the rules S these are all, in the
-/// order of statements and pins; of other letters none is known.
-pub fn further_refusals(
-    alloc: Global,
-    text: &[u8],
-    first: &Refusal,
-) -> Result<Vec<Refusal>, Memory> {
-    let mut list = Vec::new(alloc);
-    if !matches!(first.rule, Rule::S1 | Rule::S2 | Rule::S3 | Rule::S4) {
-        return Ok(list);
+/// All refusals of the application of a text by the rules S, in the order of statements and pins; none where a rule L,
+/// P, B or N refuses the text.
+pub(crate) fn flows_in(alloc: Global, text: &[u8]) -> Result<Vec<Refusal>, Memory> {
+    match source_of(alloc, text)? {
+        Some(source) => match app_of(alloc, &source)? {
+            Some(app) => flows_of(alloc, &source, &app),
+            None => Ok(Vec::new(alloc)),
+        },
+        None => Ok(Vec::new(alloc)),
     }
-    if let Some(source) = source_of(alloc, text)? {
-        if let Some(app) = app_of(alloc, &source)? {
-            for refusal in flows_of(alloc, &source, &app)? {
-                if refusal != *first {
-                    list.push(refusal)?;
-                }
-            }
-        }
-    }
-    Ok(list)
 }

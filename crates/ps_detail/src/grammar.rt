@@ -1,9 +1,10 @@
 // What stands at a token, and what may stand there.
 
 use crate::lines::add_word;
-use crate::reading::form_at;
+use crate::reading::{form_at, name_at};
 use ps_base::{Bytes, Memory};
 use ps_lexer::{Form, Token, Word};
+use ps_model::kind_named;
 use std::alloc::Global;
 
 // Where among the declarations and statements of a text a token stands.
@@ -253,6 +254,17 @@ fn begins(word: &[u8], front: &[u8]) -> bool {
     true
 }
 
+// Whether the name of a kind stands before the colon of a declaration whose type stands before a token.
+fn is_turned(tokens: &[Token], at: usize) -> bool {
+    if at < 3 || !matches!(form_at(tokens, at - 2), Some(Form::Colon)) {
+        return false;
+    }
+    match name_at(tokens, at - 3) {
+        Some(name) => kind_named(name).is_some(),
+        None => false,
+    }
+}
+
 // What helps where a token stands behind a name that looks like a keyword, or behind a keyword that stands as a name.
 fn remedy_behind(before: &Token, text: &[u8], form: Option<&Form>) -> &'static [u8] {
     match (&before.form, form) {
@@ -269,6 +281,15 @@ fn remedy_behind(before: &Token, text: &[u8], form: Option<&Form>) -> &'static [
     }
 }
 
+// Whether a keyword stands at a token as the name of a declaration does: a colon or a comma follows it.
+fn is_keyword_named(tokens: &[Token], at: usize) -> bool {
+    matches!(form_at(tokens, at), Some(Form::Word(_)))
+        && matches!(
+            form_at(tokens, at.saturating_add(1)),
+            Some(Form::Colon | Form::Comma)
+        )
+}
+
 // Whether nothing but a name may stand at a spot.
 fn wants_name(spot: Spot) -> bool {
     matches!(spot, Spot::Head | Spot::Comma | Spot::Dot)
@@ -276,6 +297,9 @@ fn wants_name(spot: Spot) -> bool {
 
 // What helps at a token, where more than what may stand there is to be said.
 fn remedy(text: &[u8], tokens: &[Token], at: usize, walk: Walk) -> &'static [u8] {
+    if is_keyword_named(tokens, at) && walk.spot == Spot::Declaration {
+        return b"a keyword is no name";
+    }
     if is_head(tokens, at) && walk.spot != Spot::Outside {
         return b"the function block or program before it has no END_FUNCTION_BLOCK or END_PROGRAM";
     }
@@ -290,6 +314,9 @@ fn remedy(text: &[u8], tokens: &[Token], at: usize, walk: Walk) -> &'static [u8]
     }
     if at == 0 {
         return b"";
+    }
+    if walk.spot == Spot::Typed && is_turned(tokens, at) {
+        return b"the name of an instance stands before the colon, and its block behind it, as E : SF_EDM;";
     }
     match tokens.get(at - 1) {
         Some(before) => remedy_behind(before, text, form_at(tokens, at)),
@@ -306,7 +333,9 @@ pub(crate) fn grammar_told(
 ) -> Result<Bytes, Memory> {
     let mut list = Bytes::new(alloc);
     if tokens.is_empty() {
-        list.extend_from_slice(b"the text is empty, or has comments alone")?;
+        list.extend_from_slice(
+            b"the file has no more than blanks and comments; an application begins with PROGRAM or FUNCTION_BLOCK and a name",
+        )?;
         return Ok(list);
     }
     let mut walk = Walk {

@@ -1,15 +1,20 @@
 // Which limit a text passes, and how many were counted.
 
+use crate::lines::{add_digits, narrow};
+use crate::sizes::{TextSize, size_of};
 use crate::sources::{library_of, source_of};
-use itoa::Buffer;
 use ps_base::limits::{MOST_INPUTS, MOST_INSTANCES, MOST_NODES, MOST_OUTPUTS, MOST_SIGNALS};
 use ps_base::{Bytes, Memory};
 use ps_model::{kind_named, output_count};
 use ps_parser::{Declaration, Factor, Part, Product, Source, Statement, Sum};
 use std::alloc::Global;
 
-// The most function blocks of a text.
+// The most function blocks of a text, and the most names and statements of a text that is written out.
 const MOST_BLOCKS: u32 = 64;
+
+const MOST_NAMES: u32 = 4_000;
+
+const MOST_STATEMENTS: u32 = 20_000;
 
 // How many there are of all that has a limit.
 #[derive(Clone, Copy)]
@@ -27,15 +32,6 @@ struct Limit {
     name: &'static [u8],
     count: u32,
     most: u32,
-}
-
-// A number of things, as far as it goes into 32 bits.
-fn narrow(count: usize) -> u32 {
-    if count < u32::MAX as usize {
-        count as u32
-    } else {
-        u32::MAX
-    }
 }
 
 // Counts the names of a declaration.
@@ -130,12 +126,6 @@ fn counts_of(source: &Source) -> Counts {
     counts
 }
 
-// Adds a number in digits.
-fn add_digits(list: &mut Bytes, number: u32) -> Result<(), Memory> {
-    let mut digits = Buffer::new();
-    list.extend_from_slice(digits.format(number).as_bytes())
-}
-
 // Adds a limit to a list where it is passed.
 fn add_limit(list: &mut Bytes, limit: Limit) -> Result<(), Memory> {
     if limit.count <= limit.most {
@@ -182,8 +172,8 @@ fn limits_of(counts: Counts) -> [Limit; 5] {
     ]
 }
 
-/// Which of the five limits of rule N11 the application of a text passes, and how many were counted, with function blocks written
-/// out; empty where it has no flat source.
+/// Which of the five limits of rule N11 the application of a text passes, and how many were counted, with function
+/// blocks written out; empty where it has no flat source.
 pub(crate) fn limits_told(alloc: Global, text: &[u8]) -> Result<Bytes, Memory> {
     let mut list = Bytes::new(alloc);
     if let Some(source) = source_of(alloc, text)? {
@@ -194,8 +184,25 @@ pub(crate) fn limits_told(alloc: Global, text: &[u8]) -> Result<Bytes, Memory> {
     Ok(list)
 }
 
-/// How many function blocks a text has, where these are too many by rule B4.
-pub(crate) fn blocks_counted(alloc: Global, text: &[u8]) -> Result<Bytes, Memory> {
+// Adds the limits on a text that is written out to a list where they are passed.
+fn add_sizes(list: &mut Bytes, size: TextSize) -> Result<(), Memory> {
+    let names = Limit {
+        name: b"names with function blocks written out",
+        count: size.names,
+        most: MOST_NAMES,
+    };
+    let statements = Limit {
+        name: b"statements with function blocks written out",
+        count: size.statements,
+        most: MOST_STATEMENTS,
+    };
+    add_limit(list, names)?;
+    add_limit(list, statements)
+}
+
+/// Which of the limits of rule B4 a text passes, and how many were counted: function blocks; and where these are not
+/// too many, names and statements with function blocks written out. Empty where a rule L or P refuses the text.
+pub(crate) fn blocks_told(alloc: Global, text: &[u8]) -> Result<Bytes, Memory> {
     let mut list = Bytes::new(alloc);
     if let Some(library) = library_of(alloc, text)? {
         let limit = Limit {
@@ -204,6 +211,9 @@ pub(crate) fn blocks_counted(alloc: Global, text: &[u8]) -> Result<Bytes, Memory
             most: MOST_BLOCKS,
         };
         add_limit(&mut list, limit)?;
+        if limit.count <= limit.most {
+            add_sizes(&mut list, size_of(alloc, &library)?)?;
+        }
     }
     Ok(list)
 }

@@ -1,5 +1,6 @@
 // Looks at the lines and words of a text.
 
+use itoa::Buffer;
 use ps_base::{Bytes, Memory};
 use std::alloc::Global;
 
@@ -43,6 +44,21 @@ pub(crate) fn is_number(word: &[u8]) -> bool {
         }
     }
     !word.is_empty()
+}
+
+/// A number of things, as far as it goes into 32 bits.
+pub(crate) fn narrow(count: usize) -> u32 {
+    if count < u32::MAX as usize {
+        count as u32
+    } else {
+        u32::MAX
+    }
+}
+
+/// Adds a number in digits.
+pub(crate) fn add_digits(list: &mut Bytes, number: u32) -> Result<(), Memory> {
+    let mut digits = Buffer::new();
+    list.extend_from_slice(digits.format(number).as_bytes())
 }
 
 /// Adds a word in quotation marks, of which the first 40 bytes are shown.

@@ -4,7 +4,6 @@ ghost use Rattle.std.specs.Prelude.{◌≡◌, IfOk, map};
 ghost use Rattle.ps_notes.specs.Notes.{notes};
 
 use crate::flows::place_of;
-use crate::sources::source_of;
 use ps_base::{Memory, Place};
 use ps_model::{App, Driver, pin_count, pin_name};
 use ps_notes::{Note, Placed, notes};
@@ -76,8 +75,8 @@ fn of_signal(source: &Source, app: &App, signal: u16) -> Place {
     }
 }
 
-// Where a note is told: at the pin that it is about, at the call where the pin is left free or the note is about the block, at the
-// step that reads, and at the declaration of a signal that nothing reads.
+// Where a note is told: at the pin that it is about, at the call where the pin is left free or the note is about the
+// block, at the step that reads, and at the declaration of a signal that nothing reads.
 fn place_in(source: &Source, app: &App, note: Note) -> Place {
     match note {
         Note::Idle { instance } | Note::NoTime { instance, .. } => of_call(source, app, instance),
@@ -95,28 +94,15 @@ fn place_in(source: &Source, app: &App, note: Note) -> Place {
     }
 }
 
-// Where a note is told, where there is a source.
-fn place_told(source: &Option<Source>, app: &App, note: Note) -> Place {
-    match source {
-        Some(source) => place_in(source, app, note),
-        None => NOWHERE,
-    }
-}
-
-/// The notes of an application of this text, in their order, each with the place at which it is told; line 0 where the text has
-/// none. The text is read once more, where there is a note.
-pub fn placed_notes(alloc: Global, text: &[u8], app: &App) -> Result<Vec<Placed>, Memory>
+/// The notes of an application of this flat source, in their order, each with the place at which it is told; line 0
+/// where the source has none.
+pub fn placed_notes(alloc: Global, source: &Source, app: &App) -> Result<Vec<Placed>, Memory>
     ensures notes { IfOk result (λ list. map (λ placed. placed.note) list.items ≡ notes app.now) }
 {
     let found = notes(alloc, app)?;
-    let source = if found.is_empty() {
-        None
-    } else {
-        source_of(alloc, text)?
-    };
     let mut list = Vec::new(alloc);
     for note in &found {
-        let place = place_told(&source, app, *note);
+        let place = place_in(source, app, *note);
         list.push(Placed { note: *note, place })?;
     }
     Ok(list)

@@ -1,8 +1,7 @@
 // Which seat was dirty where a fault of another one was refused.
 
 use crate::faults::fault_before;
-use crate::lines::{is_passed_over, word_at};
-use itoa::Buffer;
+use crate::lines::{add_digits, is_passed_over, word_at};
 use ps_base::{Bytes, Memory};
 use std::alloc::Global;
 
@@ -25,7 +24,6 @@ fn is_of(line: &[u8], seats: &[u8]) -> bool {
 // The words on a dirty seat, by the line of the fault that struck it, and that line's number.
 fn struck(alloc: Global, line: &[u8], number: u32) -> Result<Bytes, Memory> {
     let mut list = Bytes::new(alloc);
-    let mut digits = Buffer::new();
     list.extend_from_slice(b"seat ")?;
     if let Some(seat) = seat_of(line) {
         list.extend_from_slice(seat)?;
@@ -35,7 +33,7 @@ fn struck(alloc: Global, line: &[u8], number: u32) -> Result<Bytes, Memory> {
         list.extend_from_slice(scan)?;
     }
     list.extend_from_slice(b" (line ")?;
-    list.extend_from_slice(digits.format(number).as_bytes())?;
+    add_digits(&mut list, number)?;
     list.extend_from_slice(b"), and not outvoted and rebuilt since")?;
     Ok(list)
 }

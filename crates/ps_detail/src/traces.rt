@@ -79,6 +79,31 @@ pub(crate) fn wrong_count(alloc: Global, text: &[u8], number: u32) -> Result<Byt
     }
 }
 
+// What is wrong with a word that is no time.
+fn time_wrong(word: &[u8]) -> &'static [u8] {
+    if is_number(word) {
+        b" is over 4294967295 ms, which is 49 days and 17 hours; a time counts from any beginning"
+    } else if word.starts_with(b"-") {
+        b" is below 0; a time counts from any beginning"
+    } else if word.contains(&b'.') || word.contains(&b',') {
+        b" has a fraction or a comma; a time is a whole number of ms, and blanks stand between words"
+    } else if word.ends_with(b"s") && word.starts_with(b"T#") {
+        b" is a TIME literal; a time is a whole number of ms, in digits alone"
+    } else if word.ends_with(b"s") || word.ends_with(b"S") {
+        b" has a unit; a time is a whole number of ms, in digits alone"
+    } else {
+        b" is no number in digits; a line begins with its time in ms, or is restart alone"
+    }
+}
+
+/// What is wrong with the time of a line; empty where it has no word.
+pub(crate) fn wrong_time(alloc: Global, text: &[u8], number: u32) -> Result<Bytes, Memory> {
+    match word_at(line_at(text, number), 0) {
+        Some(word) => told(alloc, b"", word, time_wrong(word)),
+        None => Ok(Bytes::new(alloc)),
+    }
+}
+
 // The time of the last scan before a line of this number; empty where there is none.
 fn last_time(text: &[u8], number: u32) -> &[u8] {
     let mut last: &[u8] = &[];

@@ -1,7 +1,7 @@
 -- What is told of a call that did all.
 use Rattle.std.proofs.Common.{ℕ, List, Result, Ok, Err, IfOk, inl, inr}
 use Rattle.ps_top.specs.declared.left.Left.{Left}
-use Rattle.ps_edge.specs.Telling.{AreNotes, AreOfDone, AreOfRun, Carries}
+use Rattle.ps_edge.specs.Telling.{AreNotes, AreOfDone, AreOfWholeRun, Carries}
 use Rattle.ps_edge.specs.declared.telling.Message.{Message}
 use Rattle.ps_edge.specs.declared.telling.Message.TheVariants.{Nothing, Fixed, Written}
 
@@ -13,8 +13,8 @@ of_notes words left (Ok (Fixed text)) told = inl told
 of_notes words left (Ok (Written bytes)) told = inl told
 of_notes words left (Err e) told = tt
 
--- lines on comments of a run are told of such a call
-pub of_run : {E : Type 0} (words : List (List ℕ)) (left : Left) (made : Result Message E) → IfOk made (Carries (AreOfRun words)) →
+-- what is told of a run is told of such a call
+pub of_run : {E : Type 0} (words : List (List ℕ)) (left : Left) (made : Result Message E) → IfOk made (Carries (AreOfWholeRun words left)) →
     IfOk made (Carries (AreOfDone words left))
 of_run words left (Ok Nothing) told = tt
 of_run words left (Ok (Fixed text)) told = inr told

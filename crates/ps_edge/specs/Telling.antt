@@ -5,7 +5,7 @@ use Rattle.std.specs.Str.{bytes_eq}
 use Rattle.ps_base.specs.declared.failing.Refusal.{Refusal}
 use Rattle.ps_detail.specs.declared.usage.TheConstants.{HELP, VERSION}
 use Rattle.ps_message.specs.Also.{also_text}
-use Rattle.ps_message.specs.Ending.{trip_text, unread_text, usage_text}
+use Rattle.ps_message.specs.Ending.{again_text, trip_text, unread_text, usage_text}
 use Rattle.ps_message.specs.Message.{Says}
 use Rattle.ps_message.specs.NoteLine.{note_text, odd_text}
 use Rattle.ps_message.specs.declared.statuses.Unread.{Unread}
@@ -14,11 +14,14 @@ use Rattle.ps_model.specs.Network.{Network}
 use Rattle.ps_notes.specs.Notes.{notes}
 use Rattle.ps_notes.specs.declared.note.OddComment.{OddComment}
 use Rattle.ps_notes.specs.declared.note.Placed.{Placed}
+use Rattle.ps_runs.specs.declared.seats.Again.{Again}
 use Rattle.ps_runs.specs.declared.striking.Trip.{Trip}
 use Rattle.ps_top.specs.declared.Status.{Status}
 use Rattle.ps_top.specs.declared.Status.TheVariants.{Done, Refused, Usage, BadInput, Tripped}
 use Rattle.ps_top.specs.declared.Status.TheVariants.{ReadFault, WriteFault, Memory}
 use Rattle.ps_top.specs.declared.left.Left.{Left}
+use Rattle.ps_vote.specs.declared.seat.Seat.{Seat}
+use Rattle.ps_vote.specs.declared.seat.Seat.TheVariants.{A, B, C}
 use Rattle.ps_edge.specs.Spoken.{IsNamed, spoken_of}
 use Rattle.ps_edge.specs.declared.spoken.Spoken.{Spoken}
 use Rattle.ps_edge.specs.declared.spoken.Spoken.TheVariants.{App, Trace}
@@ -66,9 +69,28 @@ abbrev pub AreOfRun : (words : List (List ℕ)) → List ℕ → Type 0
 AreOfRun words text =
     (text ≡ []) ⊎ (IsTrue (asks_run (slice_get words 0)) × (spoken : Spoken) × AreOnComments words spoken text)
 
--- what is told of a call that did all: the notes on what `check` accepted, or lines on comments of a run
+-- the letter of a seat
+abbrev pub letter_of : Seat → ℕ
+letter_of A = 65
+letter_of B = 66
+letter_of C = 67
+
+-- the message of a seat that was outvoted again in the scan behind its healing, by the name of the trace, where there is
+-- such a seat, and else nothing
+abbrev pub IsOfAgain : (words : List (List ℕ)) → Option Again → List ℕ → Type 0
+IsOfAgain words None text = text ≡ []
+IsOfAgain words (Some again) text =
+    (text ≡ []) ⊎ ((file : List ℕ) × IsNamed words Trace file × (text ≡ again_text file again.now (letter_of again.seat)))
+
+-- What is told of a run that did all: the message of the seat that was outvoted again, as it is left, and then lines on
+-- the comments of its texts.
+abbrev pub AreOfWholeRun : (words : List (List ℕ)) → Left → List ℕ → Type 0
+AreOfWholeRun words left text =
+    (again comments : List ℕ) × IsOfAgain words left.again again × AreOfRun words comments × (text ≡ again ++ comments)
+
+-- what is told of a call that did all: the notes on what `check` accepted, or what is told of a run
 abbrev pub AreOfDone : (words : List (List ℕ)) → Left → List ℕ → Type 0
-AreOfDone words left text = AreNotes words left text ⊎ AreOfRun words text
+AreOfDone words left text = AreNotes words left text ⊎ AreOfWholeRun words left text
 
 -- The message of the refusal that is left, by the name of the text that its rule is about, and the lines of further
 -- refusals behind it. Of an application it quotes the text that was read. Which refusals are further ones is left open.
@@ -78,6 +100,11 @@ IsOfRefusal words left text =
     × (source : List ℕ) × (spoken_of refusal.rule ≡ App → IfSome left.text (λ bytes. source ≡ bytes))
     × (given first : List ℕ) × Says file source refusal given first
     × (further : List Refusal) × (more : ℕ) × (text ≡ first ++ also_text file source further more)
+
+-- the message of the refusal that is left, and behind it that of the seat that was outvoted again, as it is left
+abbrev pub IsOfBadInput : (words : List (List ℕ)) → Left → List ℕ → Type 0
+IsOfBadInput words left text =
+    (refused again : List ℕ) × IsOfRefusal words left refused × IsOfAgain words left.again again × (text ≡ refused ++ again)
 
 -- The message of the scan that tripped first, as it is left, by the name of the trace, and the lines on comments behind
 -- it. What name and which values stand before the number of a field is left open.
@@ -116,7 +143,7 @@ abbrev pub IsTold : (words : List (List ℕ)) → Left → Status → List ℕ �
 IsTold words left Done text = AreOfDone words left text
 IsTold words left Refused text = IsOfRefusal words left text
 IsTold words left Usage text = IsOfWords words text
-IsTold words left BadInput text = IsOfRefusal words left text
+IsTold words left BadInput text = IsOfBadInput words left text
 IsTold words left Tripped text = IsOfTrip words left text
 IsTold words left ReadFault text = IsOfUnread words text
 IsTold words left WriteFault text = text ≡ UNWRITTEN.now

@@ -4,11 +4,12 @@
 //! `call` is one call of the program, over any files, any output and whoever is told: `exit_of_call`. `given` takes
 //! the words that come behind the program's name, and `exit` has the numbers. `listening` is who can be told why a
 //! call did not do all; `telling` what is told: of a refusal (`refusing`), of an application that is accepted and of
-//! comments (`noting`), and of words that are not taken (`asking`); `spoken` which word of a call names the text that a
-//! rule speaks of. `program` makes the call over the files and the outputs of the system, and is all that `main` calls;
-//! `standing` is who reads the standard error.
+//! comments (`noting`), of a seat that was healed in vain (`again`), and of words that are not taken (`asking`);
+//! `spoken` which word of a call names the text that a rule speaks of. `program` makes the call over the files and the
+//! outputs of the system, and is all that `main` calls; `standing` is who reads the standard error.
 #![tactic(auto)]
 
+mod again;
 mod asking;
 mod call;
 mod exit;

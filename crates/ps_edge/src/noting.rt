@@ -3,9 +3,10 @@
 ghost use Rattle.std.specs.Prelude.{◌≡◌, ◌++◌, List, IsTrue, IfOk, Some, codes, slice_get};
 ghost use Rattle.ps_notes.specs.declared.note.OddComment.{OddComment as OddCommentOf};
 ghost use Rattle.ps_notes.specs.declared.note.Placed.{Placed as PlacedOf};
-ghost use Rattle.ps_edge.specs.Telling.{AreNotes, AreOfDone, AreOfRun, ArePlaced, Carries};
+ghost use Rattle.ps_edge.specs.Telling.{AreNotes, AreOfDone, AreOfRun, AreOfWholeRun, ArePlaced, Carries};
 ghost use Rattle.ps_edge.specs.Telling.{asks_run, notes_text, odds_text};
 
+use crate::again::again_on;
 use crate::listening::Listener;
 use crate::spoken::Spoken;
 use crate::telling::Message;
@@ -14,6 +15,7 @@ use ps_detail::{odd_comments, odd_lines, placed_notes};
 use ps_message::{note_line, odd_line};
 use ps_model::App;
 use ps_notes::{OddComment, Placed};
+use ps_parser::Source;
 use ps_top::{Left, Words};
 use std::alloc::Global;
 
@@ -62,12 +64,18 @@ fn odd_text(alloc: Global, name: &[u8], odds: &[OddComment]) -> Result<Bytes, Me
     Ok(lines)
 }
 
-// The lines on an application of this text from a file of this name.
-fn lines_on(alloc: Global, name: &[u8], text: &[u8], app: &App) -> Result<Bytes, Memory>
+// The lines on an application of this text and flat source from a file of this name.
+fn lines_on(
+    alloc: Global,
+    name: &[u8],
+    text: &[u8],
+    source: &Source,
+    app: &App,
+) -> Result<Bytes, Memory>
     ensures { IfOk result (λ bytes. (placed : List PlacedOf) × ArePlaced app.now placed × (odds : List OddCommentOf)
         × (bytes ≡ notes_text name.now app.now placed ++ odds_text name.now odds)) }
 {
-    let placed = placed_notes(alloc, text, app)?;
+    let placed = placed_notes(alloc, source, app)?;
     let odds = odd_comments(alloc, text)?;
     let mut lines = note_lines(alloc, name, app, placed.as_slice())?;
     let further = odd_text(alloc, name, odds.as_slice())?;
@@ -80,9 +88,14 @@ fn notes_on(alloc: Global, words: &Words, left: &Left) -> Result<Message, Memory
     requires { slice_get words.now 0 ≡ Some (codes "check") }
     ensures { IfOk result (Carries (AreNotes words.now left.now)) }
 {
-    match (&left.app, &left.text, Spoken::App.name_in(words)) {
-        (Some(app), Some(text), Some(name)) => {
-            let lines = lines_on(alloc, name.as_bytes(), text.as_slice(), app)?;
+    match (
+        &left.app,
+        &left.source,
+        &left.text,
+        Spoken::App.name_in(words),
+    ) {
+        (Some(app), Some(source), Some(text), Some(name)) => {
+            let lines = lines_on(alloc, name.as_bytes(), text.as_slice(), source, app)?;
             Ok(Message::Written(lines))
         }
         _ => Ok(Message::Nothing),
@@ -128,11 +141,18 @@ pub(crate) fn comments_on<L: Listener>(
     comments_of(alloc, words, Spoken::Faults, listener)
 }
 
-// The lines on comments of a run, as a message.
-fn run_on<L: Listener>(alloc: Global, words: &Words, listener: &L) -> Result<Message, Memory>
-    ensures { IfOk result (Carries (AreOfRun words.now)) }
+// What is told of a run that did all: of a seat that was outvoted again, and the lines on comments.
+fn run_on<L: Listener>(
+    alloc: Global,
+    words: &Words,
+    left: &Left,
+    listener: &L,
+) -> Result<Message, Memory>
+    ensures { IfOk result (Carries (AreOfWholeRun words.now left.now)) }
 {
-    let lines = comments_on(alloc, words, listener)?;
+    let mut lines = again_on(alloc, words, left)?;
+    let comments = comments_on(alloc, words, listener)?;
+    lines.extend_from_slice(comments.as_slice())?;
     Ok(Message::Written(lines))
 }
 
@@ -149,6 +169,6 @@ pub(crate) fn done_on<L: Listener>(
     if asks_check(words) {
         notes_on(alloc, words, left)
     } else {
-        run_on(alloc, words, listener)
+        run_on(alloc, words, left, listener)
     }
 }

@@ -9,11 +9,14 @@ ghost use Rattle.ps_edge.specs.Telling.{Carries, IsOfRefusal};
 use crate::listening::Listener;
 use crate::spoken::Spoken;
 use crate::telling::Message;
-use ps_base::{Bytes, Memory, Refusal, Rule};
-use ps_detail::{detail_on, dirty_told, further_refusals, header_told, inputs_told};
+use ps_base::{Bytes, Fail, Memory, Refusal, Rule};
+use ps_detail::{
+    RegionSizes, detail_on, dirty_told, further_refusals, header_told, inputs_told, past_told,
+};
 use ps_message::{also_lines, message};
+use ps_source::accept_text;
 use ps_top::{Left, Words};
-use ps_vote::{Seat, VoteWorld};
+use ps_vote::{Seat, VoteSizes, VoteWorld};
 use std::alloc::Global;
 
 // The most further refusals that are told.
@@ -79,12 +82,52 @@ fn fault_told(alloc: Global, left: &Left, text: &[u8], refusal: &Refusal) -> Res
     }
 }
 
+// The lengths of the regions of an application of this text; nothing where it is refused.
+fn sizes_of(alloc: Global, source: &[u8]) -> Result<Option<VoteSizes>, Memory> {
+    match accept_text(alloc, source) {
+        Ok(accepted) => {
+            let (app, _) = accepted.into_parts();
+            Ok(Some(VoteWorld::build(alloc, &app)?.sizes()))
+        }
+        Err(Fail::Memory) => Err(Memory),
+        Err(Fail::Refused(_)) => Ok(None),
+    }
+}
+
+// The lengths of the regions of a channel.
+fn regions(channel: u8, code: u32, memory: u32) -> RegionSizes {
+    RegionSizes {
+        channel,
+        code,
+        memory,
+    }
+}
+
+// What is told of a fault whose bytes pass the end of its region.
+fn region_told(
+    alloc: Global,
+    source: &[u8],
+    text: &[u8],
+    refusal: &Refusal,
+) -> Result<Bytes, Memory> {
+    let Some(sizes) = sizes_of(alloc, source)? else {
+        return Ok(Bytes::new(alloc));
+    };
+    let channels = [
+        regions(b'A', sizes.code[0], sizes.cells[0]),
+        regions(b'B', sizes.code[1], sizes.cells[1]),
+        regions(b'C', sizes.code[2], sizes.cells[2]),
+    ];
+    past_told(alloc, text, refusal.place.line, &channels)
+}
+
 // What is told of a refusal of a text besides its rule: where a trace has not the inputs of the application, what these
-// are; which seat was dirty; or what the line tells.
+// are; which seat was dirty; how long a region is; or what the line tells.
 fn told_on(alloc: Global, left: &Left, text: &[u8], refusal: &Refusal) -> Result<Bytes, Memory> {
     match refusal.rule {
         Rule::T2 => inputs_told(alloc, source_in(left)),
         Rule::T3 => header_told(alloc, source_in(left), text),
+        Rule::F3 => region_told(alloc, source_in(left), text, refusal),
         Rule::F4 => fault_told(alloc, left, text, refusal),
         _ => detail_on(alloc, text, refusal),
     }

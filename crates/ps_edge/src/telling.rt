@@ -3,6 +3,7 @@
 ghost use Rattle.std.specs.Prelude.{◌≡◌, IsTrue, IfOk, true};
 ghost use Rattle.ps_edge.specs.Telling.{Carries, Hears, IsOfTrip, IsOfUnread, IsTold};
 
+use crate::again::refusal_and_again;
 use crate::asking::usage_on;
 use crate::listening::Listener;
 use crate::noting::{comments_on, done_on};
@@ -88,7 +89,11 @@ fn message_on<L: Listener>(
 {
     match status {
         Status::Done => done_on(alloc, words, left, listener),
-        Status::Refused | Status::BadInput => refusal_on(alloc, words, left, listener),
+        Status::Refused => refusal_on(alloc, words, left, listener),
+        Status::BadInput => {
+            let refusal = refusal_on(alloc, words, left, listener)?;
+            refusal_and_again(alloc, words, left, refusal)
+        }
         Status::Usage => usage_on(alloc, words),
         Status::Tripped => trip_on(alloc, words, left, listener),
         Status::ReadFault => unread_on(alloc, words, listener),

@@ -66,8 +66,8 @@ pub fn check_calls(
 
 // ---- N7 and N9
 
-// Enters the name that a statement assigns, and notes it where it was assigned before.
-fn note_target(
+/// Enters the name that a statement assigns, and notes it where it was assigned before (N7).
+pub fn note_target(
     alloc: Global,
     targets: &mut Table,
     statement: &Statement,
@@ -100,8 +100,8 @@ pub fn targets(
     Ok((table, found))
 }
 
-// Enters the name that a statement calls, and notes it where it was called before.
-fn note_called(
+/// Enters the name that a statement calls, and notes it where it was called before (N9).
+pub fn note_called(
     alloc: Global,
     calls: &mut Table,
     statement: &Statement,

@@ -9,6 +9,7 @@ pub mod Running
 -- who performs them: worlds that faults strike, and the plain evaluator
 pub mod Performing
 pub mod Resting
+pub mod Again
 pub mod Seats
 pub mod Watching
 -- who takes what comes of them

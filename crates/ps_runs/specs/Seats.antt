@@ -10,15 +10,18 @@ use Rattle.ps_trace.specs.FaultOrder.{StrikeInOrder, StrikeOne}
 use Rattle.ps_trace.specs.Scans.{Scans, End}
 use Rattle.ps_trace.specs.Scans.End.{refused}
 use Rattle.ps_vote.specs.declared.faults.VoteFault.{VoteFault}
+use Rattle.ps_vote.specs.declared.seat.Seat.{Seat}
 use Rattle.ps_vote.specs.declared.seat.Vote.{Vote}
 use Rattle.ps_vote.specs.Faults.{line_of_fault}
 use Rattle.ps_vote.specs.Worlds.{Machines, World_state, Restart}
 use Rattle.ps_vote.specs.Votes.{vote, report_given}
 use Rattle.ps_vote.specs.Whole.{Whole, machines_in, happened, after_events, IsSetupOf, IsWorldOf}
 use Rattle.ps_vote.specs.Orders.{Path, Course, of_scan, at_vote, path_of_scan, course_from}
+use Rattle.ps_runs.specs.Again.{first_again, healed_by}
 use Rattle.ps_runs.specs.Outcomes.{Outcome, performed, refuses, anew, vote_lines}
 use Rattle.ps_runs.specs.Written.{HasEnded, WritesLines}
 use Rattle.ps_runs.specs.declared.items.Cut.{Cut}
+use Rattle.ps_runs.specs.declared.seats.Again.{Again}
 use Rattle.ps_runs.specs.declared.seats.StruckSeats.{StruckSeats}
 
 -- the faults that are still to come
@@ -34,11 +37,13 @@ pub record AreStruckSeatsFor (net : Network) (p : StruckSeats) : Type 0 where
   pub ordered : IsNonDecreasingBy (λ (f : VoteFault). f.scan) (to_come p)
   pub later : All (λ f. p.scans < f.scan) (to_come p)
 
--- A run is at its beginning: its world is that of the application, no scan was made, and its faults come in order;
--- those of a run that heals none strike one seat. Those of a scan 0 are passed over.
+-- A run is at its beginning: its world is that of the application, no scan was made and no seat healed, and its faults
+-- come in order; those of a run that heals none strike one seat. Those of a scan 0 are passed over.
 pub record AreAtBeginning (net : Network) (p : StruckSeats) : Type 0 where
   pub world : IsWorldOf net p.world
   pub none_made : p.scans ≡ 0
+  pub none_healed : p.healed ≡ None
+  pub none_again : p.again ≡ None
   pub ordered : StrikeInOrder line_of_fault p.faults
   pub one_seat : p.heals ≡ false → StrikeOne line_of_fault p.faults
   pub within : p.next ≤ length p.faults
@@ -75,6 +80,18 @@ abbrev pub unless_at_fault : Option VoteFault → Outcome Vote → Outcome Vote
 unless_at_fault None outcome = outcome
 unless_at_fault (Some f) outcome = refuses (fault_refusal f)
 
+-- the seat that is healed behind an outcome
+abbrev pub healed_behind : StruckSeats → Outcome Vote → Option Seat
+healed_behind p (performed now vote report) = healed_by p.heals vote
+healed_behind p (refuses refusal) = None
+healed_behind p anew = None
+
+-- the first seat that was outvoted again in the scan behind its healing, behind an outcome
+abbrev pub again_behind : StruckSeats → Outcome Vote → Option Again
+again_behind p (performed now vote report) = first_again p.again p.healed now vote
+again_behind p (refuses refusal) = p.again
+again_behind p anew = p.again
+
 -- The next scan was made by its events, with the faults that are due, and has the vote and its report, or is refused.
 pub record VotesScan (net : Network) (p : StruckSeats) (now : ℕ) (ins : List Bool) (outcome : Outcome Vote)
     (after : StruckSeats) : Type 0 where
@@ -84,10 +101,12 @@ pub record VotesScan (net : Network) (p : StruckSeats) (now : ℕ) (ins : List B
   pub leaves : to_come p ≡ due p ++ to_come after
   pub counts : (to_come p ≡ []) ⊎ (after.scans ≡ suc p.scans)
   pub same_way : after.heals ≡ p.heals
+  pub healed : after.healed ≡ healed_behind p outcome
+  pub again : after.again ≡ again_behind p outcome
 
--- the same run with another world
+-- the same run with another world, behind no healing
 abbrev pub with_seats : Whole → StruckSeats → StruckSeats
-with_seats w p = record p { world = w }
+with_seats w p = record p { world = w; healed = None }
 
 -- An item has this outcome, and leaves the second world where the first one was.
 abbrev pub VotesItem : Network → StruckSeats → Item → Outcome Vote → StruckSeats → Type 0

@@ -31,7 +31,7 @@ mod watching;
 pub use counting::Counter;
 pub use items::{Cut, Runner, do_items};
 pub use performing::Performer;
-pub use seats::{StruckSeats, at_line};
+pub use seats::{Again, StruckSeats, at_line};
 pub use striking::{StruckWorld, Trip};
 pub use taking::Taker;
 pub use watching::{Evaluated, Watched};

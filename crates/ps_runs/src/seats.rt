@@ -1,6 +1,7 @@
 //! A world of three seats that the faults of a list strike.
 
 ghost use Rattle.std.specs.Prelude.{◌≡◌, ◌≤◌, false, length};
+ghost use Rattle.ps_runs.specs.Again.{first_again, healed_by};
 ghost use Rattle.ps_model.specs.Network.{Network, input_count, instance_count};
 ghost use Rattle.ps_trace.specs.FaultOrder.{StrikeInOrder, StrikeOne};
 ghost use Rattle.ps_vote.specs.Faults.{line_of_fault};
@@ -10,7 +11,16 @@ use crate::performing::Performer;
 use crate::striking::{count_upto, faults_from, number_behind};
 use ps_base::{Place, Refusal, Rule};
 use ps_model::{App, Report, Scan};
-use ps_vote::{Vote, VoteFaults, VoteWorld};
+use ps_vote::{Seat, Vote, VoteFaults, VoteWorld};
+
+/// A seat that was outvoted again in the scan behind its healing.
+#[derive(Clone, Copy, Debug, PartialEq, Eq)]
+pub struct Again {
+    /// The time of that scan in ms.
+    pub now: u32,
+    /// The seat.
+    pub seat: Seat,
+}
 
 /// A world of three seats, with the faults of a run and how far the run has come.
 #[derive(Drop)]
@@ -21,6 +31,10 @@ pub struct StruckSeats {
     pub faults: VoteFaults,
     /// Whether a seat that a vote outvotes is healed.
     pub heals: bool,
+    /// The first seat of the whole run that was outvoted again in the scan behind its healing, where one was.
+    pub again: Option<Again>,
+    // the seat that was healed behind the last scan, where no restart came since
+    pub(crate) healed: Option<Seat>,
     // the place of the first fault that is still to come
     pub(crate) next: usize,
     // how many scans were made; they are counted while faults are still to come
@@ -34,6 +48,28 @@ pub fn at_line(rule: Rule, line: u32) -> Refusal
     Refusal {
         rule,
         place: Place { line, column: 0 },
+    }
+}
+
+// The seat that a run heals behind this vote.
+fn healed_by(heals: bool, vote: Vote) -> Option<Seat>
+    ensures { result ≡ healed_by heals vote }
+{
+    match vote {
+        Vote::Two(seat) if heals => Some(seat),
+        _ => None,
+    }
+}
+
+// The first seat that was outvoted again right behind its healing, behind a scan at this time with this vote.
+fn first_again(before: Option<Again>, healed: Option<Seat>, now: u32, vote: Vote) -> Option<Again>
+    ensures { result ≡ first_again before healed now vote }
+{
+    match (before, healed, vote) {
+        (None, Some(Seat::A), Vote::Two(Seat::A)) => Some(Again { now, seat: Seat::A }),
+        (None, Some(Seat::B), Vote::Two(Seat::B)) => Some(Again { now, seat: Seat::B }),
+        (None, Some(Seat::C), Vote::Two(Seat::C)) => Some(Again { now, seat: Seat::C }),
+        _ => before,
     }
 }
 
@@ -58,6 +94,8 @@ impl StruckSeats {
             world,
             faults,
             heals,
+            again: None,
+            healed: None,
             next,
             scans: 0,
         }
@@ -94,8 +132,15 @@ impl StruckSeats {
         self.scans = number;
         self.next += due;
         match answer {
-            Ok(vote) => Ok(vote),
-            Err(line) => Err(at_line(Rule::F4, line)),
+            Ok(vote) => {
+                self.again = first_again(self.again, self.healed, scan.now, vote);
+                self.healed = healed_by(self.heals, vote);
+                Ok(vote)
+            }
+            Err(line) => {
+                self.healed = None;
+                Err(at_line(Rule::F4, line))
+            }
         }
     }
 }
@@ -123,5 +168,6 @@ impl Performer for StruckSeats {
 
     fn perform_restart(&mut self, _app: &App) {
         self.world.restart();
+        self.healed = None;
     }
 }

@@ -10,7 +10,7 @@ use Rattle.ps_model.specs.Network.{Network}
 use Rattle.ps_parser.specs.Tree.{SourceTree}
 use Rattle.ps_source.specs.Source.{Reading, IsResolvedAs, IsAcceptedAs}
 use Rattle.ps_source.specs.Source.Reading.{stands_for, is_refused}
-use Rattle.ps_source.specs.Answering.{Decides, GivesApp, GivesAccepted, Reads, IsFrontOf, IsFrontHeld, IsResolution, IsResolved, IsSourcedAcceptance, IsAcceptance}
+use Rattle.ps_source.specs.Answering.{Decides, IsChecked, GivesApp, GivesAccepted, Reads, IsFrontOf, IsFrontHeld, IsResolution, IsResolved, IsSourcedAcceptance, IsAcceptance}
 use Rattle.ps_source.specs.Demanding.{AreDemands, GivesDemanded, GivesLines, IsDemandableAs, IsDemanding, app_demanded, lines_demanded}
 use Rattle.ps_source.specs.declared.accepting.Accepted.{Accepted}
 use Rattle.ps_source.specs.declared.demanding.Demanded.{Demanded}
@@ -62,16 +62,15 @@ accepted_whole front whole result is =
     let whole_of = λ (r : Reading) (h : IsAcceptedAs front r). acceptance_of_whole whole r (subst (λ (t : List ℕ). IsAcceptedAs t r) is h) in
     decides_whole GivesAccepted IsAcceptedAs front whole (λ a h. (whole_of (stands_for a.app) h.0, h.1)) whole_of result
 
-pub accepted_given : (front : List ℕ) (tree : SourceTree) (a : Accepted) → IsSourcedAcceptance front (Ok (tree, a)) → IsAcceptance front (Ok a)
-accepted_given front tree a h = ((record { tree = tree; program = h.0; stands = h.1 }, h.2.accepted), h.2)
+pub accepted_given : (front : List ℕ) (result : Result Accepted Fail) → IsSourcedAcceptance front result → IsAcceptance front result
+accepted_given front (Ok a) h = ((record { tree = a.source; program = h.0; stands = h.1 }, h.2.accepted), h.2)
+accepted_given front (Err NoMemory) h = tt
+accepted_given front (Err (IsRefused r)) h = h
 
-none_accepted : (front : List ℕ) (why : Fail) → IsSourcedAcceptance front (Err why) → IsAcceptance front (Err why)
-none_accepted front NoMemory h = tt
-none_accepted front (IsRefused r) h = h
-
-pub accepted_none : (front : List ℕ) (why : Fail) (result : Result Accepted Fail) → IsErrAnd result (λ w. w ≡ why) → IsSourcedAcceptance front (Err why) → IsAcceptance front result
-accepted_none front why (Ok a) is h = absurd is
-accepted_none front why (Err w) is h = subst (λ (f : Fail). IsAcceptance front (Err f)) (sym is) (none_accepted front why h)
+-- what is accepted with its source was checked
+pub sourced_checked : (front : List ℕ) (result : Result Accepted Fail) → IsSourcedAcceptance front result → IfOk result IsChecked
+sourced_checked front (Ok a) h = h.2
+sourced_checked front (Err why) h = tt
 
 -- what the outputs of an application demand
 demands_whole : (front whole : List ℕ) (net : Network) (lines : Result (List ℕ) Fail) → IsFrontOf front whole → AreDemands front net lines → AreDemands whole net lines

@@ -20,6 +20,10 @@ use Rattle.ps_outside.specs.declared.text_fail.TextFail.TheVariants.{Memory, Fau
 abbrev pub app_of : Accepted → Network
 app_of accepted = accepted.app
 
+-- the flat source that it stands for
+abbrev pub source_of : Accepted → SourceTree
+source_of accepted = accepted.source
+
 -- its certificate
 abbrev pub certificate_of : Accepted → List CertLine
 certificate_of accepted = accepted.certificate
@@ -57,9 +61,9 @@ GivesApp text net = IsResolvedAs text (stands_for net)
 abbrev pub IsResolved : List ℕ → Result Network Fail → Type 0
 IsResolved = Decides GivesApp IsResolvedAs
 
--- by the rules L, P, B, N and S: a flat source and its accepted application
-abbrev pub IsSourcedAcceptance : List ℕ → Result (SourceTree × Accepted) Fail → Type 0
-IsSourcedAcceptance = Decides (λ text r. IsProgram text r.0 × Stands r.0 r.1.app × IsChecked r.1) IsAcceptedAs
+-- by the rules L, P, B, N and S: an accepted application with its flat source
+abbrev pub IsSourcedAcceptance : List ℕ → Result Accepted Fail → Type 0
+IsSourcedAcceptance = Decides (λ text a. IsProgram text a.source × Stands a.source a.app × IsChecked a) IsAcceptedAs
 
 -- by these rules a text gives an accepted application, which was checked
 abbrev pub GivesAccepted : List ℕ → Accepted → Type 0

@@ -9,7 +9,7 @@ ghost use Rattle.ps_flow.specs.Written.{written};
 ghost use Rattle.ps_names.specs.Stands.{Stands};
 ghost use Rattle.ps_parser.specs.Places.{step_place};
 ghost use Rattle.ps_source.specs.Source.{pin_name};
-ghost use Rattle.ps_source.specs.Answering.{IsResolution, IsChecked, IsSourcedAcceptance, app_of, certificate_of, checked_of};
+ghost use Rattle.ps_source.specs.Answering.{IsResolution, IsChecked, IsSourcedAcceptance, app_of, certificate_of, checked_of, source_of};
 
 use crate::flattening::flat_source;
 use ps_base::{Bytes, Fail, Memory, Place, Refusal};
@@ -23,8 +23,9 @@ use ps_parser::Source;
 use ps_resolve::resolve;
 use std::alloc::Global;
 
-/// An accepted application, with its certificate, which was checked.
+/// An accepted application, with the flat source that it stands for, and its certificate, which was checked.
 pub struct Accepted {
+    pub(crate) source: Source,
     pub(crate) app: App,
     pub(crate) certificate: Certificate,
     pub(crate) checked: Checked,
@@ -34,6 +35,7 @@ impl Drop for Accepted {
     // One call for whoever owns one, in place of a walk through all that it holds.
     fn drop(self) {
         let Accepted {
+            source: _,
             app: _,
             certificate: _,
             checked: _,
@@ -47,12 +49,23 @@ impl Accepted {
         ensures app { result.0 ≡ app_of self }
         ensures checked { result.1 ≡ checked_of self }
     {
+        let (_, app, checked) = self.into_sourced();
+        (app, checked)
+    }
+
+    /// The flat source, the application that stands for it, and what was checked. It takes no memory.
+    pub fn into_sourced(self) -> (Source, App, Checked)
+        ensures source { result.0 ≡ source_of self }
+        ensures app { result.1 ≡ app_of self }
+        ensures checked { result.2 ≡ checked_of self }
+    {
         let Accepted {
+            source,
             app,
             certificate: _,
             checked,
         } = self;
-        (app, checked)
+        (source, app, checked)
     }
 
     /// The text of the certificate.
@@ -94,15 +107,17 @@ fn place_of(source: &Source, app: &App, breach: FlowRefusal) -> Place
 }
 
 // An accepted application with its certificate, which is checked. What is derived passes.
-fn with_check(app: App, certificate: Certificate) -> Accepted
+fn with_check(source: Source, app: App, certificate: Certificate) -> Accepted
     requires accepted { IsAccepted app }
     requires derived { certificate ≡ derivation.certificate app }
+    ensures source { result.source ≡ source }
     ensures app { result.app ≡ app }
     ensures checked { IsChecked result }
 {
     derived_passes();
     match check(&app, &certificate) {
         Ok(checked) => Accepted {
+            source,
             app,
             certificate,
             checked,
@@ -111,13 +126,13 @@ fn with_check(app: App, certificate: Certificate) -> Accepted
     }
 }
 
-// The flat source of a text and its accepted application with its certificate, by the rules L, P, B, N and S, tried in this order.
-pub(crate) fn accept_source(alloc: Global, text: &[u8]) -> Result<(Source, Accepted), Fail>
+// The accepted application of a text with its flat source and its certificate, by the rules L, P, B, N and S, tried in this order.
+pub(crate) fn accept_source(alloc: Global, text: &[u8]) -> Result<Accepted, Fail>
     ensures { IsSourcedAcceptance text.now result }
 {
     let (source, app) = resolve_source(alloc, text)?;
     match derive(alloc, &app) {
-        Ok(certificate) => Ok((source, with_check(app, certificate))),
+        Ok(certificate) => Ok(with_check(source, app, certificate)),
         Err(FlowFail::Memory) => Err(Fail::Memory),
         Err(FlowFail::Refused(breach)) => Err(Fail::Refused(Refusal {
             rule: breach.rule,

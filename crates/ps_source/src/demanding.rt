@@ -79,7 +79,7 @@ fn lines_of(alloc: Global, source: &Source, app: &App) -> Result<Bytes, Fail>
 pub(crate) fn demand_source(alloc: Global, text: &[u8]) -> Result<Demanded, Fail>
     ensures { IsDemanding text.now result }
 {
-    let (source, accepted) = accept_source(alloc, text)?;
-    let lines = lines_of(alloc, &source, &accepted.app);
+    let accepted = accept_source(alloc, text)?;
+    let lines = lines_of(alloc, &accepted.source, &accepted.app);
     Ok(Demanded { accepted, lines })
 }

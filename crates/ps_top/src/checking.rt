@@ -5,7 +5,7 @@ ghost use Rattle.ps_top.specs.Calls.{Answers};
 ghost use Rattle.ps_top.specs.Program as program;
 
 use crate::Status;
-use crate::accepting::accept_app;
+use crate::accepting::accept;
 use crate::call::Call;
 use crate::left::Leaving;
 use crate::saying::say;
@@ -16,10 +16,12 @@ pub(crate) fn check<C: Call>(call: &mut C, app: &str) -> Status
     ensures answers { Answers (program.check app.now) (app.now ∷ []) (C.seen call.old) (C.seen call.new) result }
     ensures no_usage { result ≢ Status.Usage }
 {
-    match accept_app(call, app) {
-        Ok(app) => {
+    match accept(call, app) {
+        Ok(accepted) => {
+            let (source, app, checked) = accepted.into_sourced();
+            call.leave(Leaving::Checked(checked));
             let status = say(call, check_line(&app).as_slice(), Status::Done);
-            call.leave(Leaving::App(app));
+            call.leave(Leaving::App(app, source));
             status
         }
         Err(status) => status,

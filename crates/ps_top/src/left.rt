@@ -3,7 +3,8 @@
 use ps_base::{Bytes, Refusal};
 use ps_checker::Checked;
 use ps_model::App;
-use ps_runs::Trip;
+use ps_parser::Source;
+use ps_runs::{Again, Trip};
 use ps_vote::VoteWorld;
 use ps_world::World;
 
@@ -19,10 +20,14 @@ pub struct Left {
     pub refusal: Option<Refusal>,
     /// The first scan that tripped, where one did.
     pub trip: Option<Trip>,
+    /// The first seat that was outvoted again in the scan behind its healing, where one was.
+    pub again: Option<Again>,
     /// The text of the application, where it was read: up to one byte more than the largest.
     pub text: Option<Bytes>,
     /// The application of that text, where `check` accepts it.
     pub app: Option<App>,
+    /// The flat source for which that application stands.
+    pub source: Option<Source>,
 }
 
 impl Drop for Left {
@@ -34,8 +39,10 @@ impl Drop for Left {
             votes: _,
             refusal: _,
             trip: _,
+            again: _,
             text: _,
             app: _,
+            source: _,
         } = self;
     }
 }
@@ -50,8 +57,10 @@ impl Left {
         ensures votes { result.votes ≡ None }
         ensures refusal { result.refusal ≡ None }
         ensures trip { result.trip ≡ None }
+        ensures again { result.again ≡ None }
         ensures text { result.text ≡ None }
         ensures app { result.app ≡ None }
+        ensures source { result.source ≡ None }
     {
         Left {
             checked: None,
@@ -59,8 +68,10 @@ impl Left {
             votes: None,
             refusal: None,
             trip: None,
+            again: None,
             text: None,
             app: None,
+            source: None,
         }
     }
 }
@@ -72,14 +83,14 @@ pub enum Leaving {
     Checked(Checked),
     /// The world of two channels that a run ended with, and its first trip.
     World(World, Option<Trip>),
-    /// The world of three seats that a run ended with.
-    Votes(VoteWorld),
+    /// The world of three seats that a run ended with, and the first seat that was outvoted again behind its healing.
+    Votes(VoteWorld, Option<Again>),
     /// The refusal that is said.
     Refusal(Refusal),
     /// The text of the application.
     Text(Bytes),
-    /// The application.
-    App(App),
+    /// The application, and its flat source.
+    App(App, Source),
 }
 
 impl Left {
@@ -96,10 +107,16 @@ impl Left {
                 self.world = Some(world);
                 self.trip = trip;
             }
-            Leaving::Votes(world) => self.votes = Some(world),
+            Leaving::Votes(world, again) => {
+                self.votes = Some(world);
+                self.again = again;
+            }
             Leaving::Refusal(refusal) => self.refusal = Some(refusal),
             Leaving::Text(text) => self.text = Some(text),
-            Leaving::App(app) => self.app = Some(app),
+            Leaving::App(app, source) => {
+                self.app = Some(app);
+                self.source = Some(source);
+            }
         }
     }
 }

@@ -25,7 +25,7 @@ mod voting;
 pub use call::Call;
 pub use left::{Leaving, Left};
 pub use program::top;
-pub use ps_runs::Trip;
+pub use ps_runs::{Again, Trip};
 pub use ps_words::Words;
 
 /// How a call of the program ended.

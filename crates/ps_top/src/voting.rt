@@ -56,7 +56,7 @@ fn run_in_seats<C: Call>(call: &mut C, app: &App, trace: &str, seats: StruckSeat
     };
     let ran = run_trace(call, app, trace, &mut runner);
     let struck = runner.performer;
-    call.leave(Leaving::Votes(struck.world));
+    call.leave(Leaving::Votes(struck.world, struck.again));
     status_behind(ran, Status::Done)
 }
 

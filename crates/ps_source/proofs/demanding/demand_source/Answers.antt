@@ -15,5 +15,5 @@ exit text e (Err d) is p = subst (λ z. IsDemanding text (Err z)) (sym is) (same
     same Memory p = tt
     same (Refused refusal) p = p
 
-pub returns-in_err-source : goal.returns-in_err-source
-returns-in_err-source c = exit c.args.text.now _ _ c.from_residual.ensures.1 c.in_err-source.ensures
+pub returns-in_err-accepted : goal.returns-in_err-accepted
+returns-in_err-accepted c = exit c.args.text.now _ _ c.from_residual.ensures.1 c.in_err-accepted.ensures

@@ -1,7 +1,10 @@
-use Rattle.std.proofs.Common.{◌∙◌, ℕ, List, [], inl, refl, ap, subst, arith}
+use Rattle.std.proofs.Common.{◌∙◌, ℕ, List, [], Some, refl, ap, subst, arith}
+use Rattle.ps_checker.specs.Counts.{Counts}
+use Rattle.ps_flow.specs.declared.certificate.CertLine.{CertLine}
 use Rattle.ps_model.specs.Network.{Network}
 use Rattle.ps_report.specs.Short.{check_text}
-use Rattle.ps_source.specs.Source.{IsAcceptedAs}
+use Rattle.ps_source.specs.Answering.{app_of}
+use Rattle.ps_source.specs.Source.{IsAcceptedAs, counts}
 use Rattle.ps_top.specs.Asking.{Asking}
 use Rattle.ps_top.specs.Asking.Asking.{Says}
 use Rattle.ps_top.specs.Calls.{SaysAnswer}
@@ -9,9 +12,9 @@ use Rattle.ps_top.specs.Leaving.{left_with}
 use Rattle.ps_top.specs.Program.{answer}
 use Rattle.ps_top.specs.declared.Status.TheVariants.{Done}
 use Rattle.ps_top.specs.declared.left.Left.{Left}
-use Rattle.ps_top.specs.declared.left.Leaving.TheVariants.{App}
+use Rattle.ps_top.specs.declared.left.Leaving.TheVariants.{App, Checked}
 use Rattle.ps_top.proofs.Applied.{accepted_answers, checked_none}
-use Rattle.ps_top.proofs.Calling.{answers_left, said_answers}
+use Rattle.ps_top.proofs.Calling.{answers_left, passes_both, passes_left, said_answers}
 use Rattle.ps_top.proofs.Refusals.{otherwise_refuses}
 use Rattle.ps_top.proofs.checking.check.Goals as goal
 
@@ -20,13 +23,20 @@ counted net = Says (answer (check_text net) Done)
 
 pub returns-in-Ok-clause-answers : goal.returns-in-Ok-clause-answers
 returns-in-Ok-clause-answers g c =
-    let net : Network = c.in-Ok.app in
-    let mid = g.C.Call.seen c.accept_app.new.call in
+    let net : Network = app_of c.in-Ok.accepted in
+    let old = g.C.Call.seen c.args.call.now in
+    let there = g.C.Call.seen c.accept.new.call in
+    let mid = g.C.Call.seen c.leave.new.self in
     let new = g.C.Call.seen c.say-status.new.call in
-    let said = subst (λ (bytes : List ℕ). SaysAnswer (answer bytes Done) mid new c.say-status.result) (c.as_slice.ensures ∙ c.check_line.ensures) c.say-status.ensures.says in
-    answers_left (left_with (App net) new.left) c.leave.ensures refl refl
-    (accepted_answers c.args.app.now counted [] net c.in-Ok.ensures.finds.passes c.in-Ok.ensures.finds.gives
-    (ap (λ (l : Left). l.checked) c.say-status.ensures.left ∙ c.in-Ok.ensures.checked)
+    let parts = c.into_sourced-source.result in
+    let text = c.as_slice.ensures ∙ c.check_line.ensures ∙ ap check_text c.into_sourced-source.ensures.app in
+    let said = subst (λ (bytes : List ℕ). SaysAnswer (answer bytes Done) mid new c.say-status.result) text c.say-status.ensures.says in
+    answers_left (left_with (App parts.1 parts.0) new.left) c.leave-in-Ok.ensures refl refl
+    (accepted_answers c.args.app.now counted [] net
+    (passes_both {old = old} {mid = there} {new = mid} c.in-Ok.ensures.finds.passes (passes_left (left_with (Checked parts.2) there.left) c.leave.ensures))
+    c.in-Ok.ensures.finds.gives
+    (ap (λ (l : Left). l.checked) (c.say-status.ensures.left ∙ ap (λ s. s.left) c.leave.ensures)
+    ∙ ap (λ (x : Counts). Some x) (c.into_sourced-source.ensures.checked ∙ c.in-Ok.ensures.checked.counts_are ∙ ap (λ (ls : List CertLine). counts net ls) c.in-Ok.ensures.checked.derivation))
     (said_answers (answer (check_text net) Done) [] {old = mid} {new = new} (λ cut. grind arith) said
     (otherwise_refuses Done c.say-status.result new.left new.out (λ refusing. grind arith) said.ends)))
 

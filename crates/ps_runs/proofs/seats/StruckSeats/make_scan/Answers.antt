@@ -39,6 +39,8 @@ returns-in-Ok-clause-votes c =
       leaves = sym (take-append-drop k (to_come p)) ∙ (λ i. (sym (ap (λ (fs : List VoteFault). take k fs) same) ∙ struck) i ++ drop-drop k p.next p.faults i);
       counts = counts;
       same_way = refl;
+      healed = c.healed_by-self.ensures;
+      again = c.first_again-self.ensures;
     }
 
 pub returns-in-Ok-clause-fits : goal.returns-in-Ok-clause-fits
@@ -77,4 +79,6 @@ returns-in-Err-clause-votes c =
       leaves = sym (take-append-drop k (to_come p)) ∙ (λ i. (sym (ap (λ (fs : List VoteFault). take k fs) same) ∙ struck) i ++ drop-drop k p.next p.faults i);
       counts = counts;
       same_way = refl;
+      healed = refl;
+      again = refl;
     }

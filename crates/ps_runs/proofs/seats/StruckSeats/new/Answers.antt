@@ -12,6 +12,8 @@ returns-clause-begins c = λ net built.
     record {
       world = built;
       none_made = refl;
+      none_healed = refl;
+      none_again = refl;
       ordered = c.requires.ordered;
       one_seat = c.requires.one_seat;
       within = subst (λ (fs : List VoteFault). next ≤ length fs) same c.count_upto-next.ensures.within;

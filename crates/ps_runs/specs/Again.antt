@@ -1,0 +1,27 @@
+-- Which seat is outvoted again in the scan behind its healing.
+use Rattle.std.specs.Prelude.{ℕ, Bool, true, false, Option, Some, None, if◌then◌else◌}
+use Rattle.ps_vote.specs.declared.seat.Seat.{Seat}
+use Rattle.ps_vote.specs.declared.seat.Vote.{Vote}
+use Rattle.ps_vote.specs.declared.seat.Vote.TheVariants.{All, Two, Split}
+use Rattle.ps_vote.specs.Worlds.{is_same}
+use Rattle.ps_runs.specs.declared.seats.Again.{Again}
+
+-- the seat that a run heals behind a vote: the one that is outvoted, where the run heals
+abbrev pub healed_by : (heals : Bool) → Vote → Option Seat
+healed_by false vote = None
+healed_by true All = None
+healed_by true (Two seat) = Some seat
+healed_by true Split = None
+
+-- the seat that was healed behind the scan before is outvoted again by the vote of a scan at this time
+abbrev pub again_at : (healed : Option Seat) → (now : ℕ) → Vote → Option Again
+again_at None now vote = None
+again_at (Some seat) now All = None
+again_at (Some seat) now (Two outvoted) =
+    if is_same seat outvoted then Some (record { now = now; seat = seat }) else None
+again_at (Some seat) now Split = None
+
+-- the first seat that was outvoted again: the one of earlier scans, and else that of this one
+abbrev pub first_again : (before : Option Again) → (healed : Option Seat) → (now : ℕ) → Vote → Option Again
+first_again (Some again) healed now vote = Some again
+first_again None healed now vote = again_at healed now vote

@@ -1,4 +1,0 @@
-pub mod Beginning
-pub mod Pairs
-pub mod Made
-pub mod Rightness

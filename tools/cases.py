@@ -3,7 +3,8 @@
 
 cases.py [--count N] [--seed N] PLCSAFE plcsafe-bench=FILE    both are programs; N drawn case files, 40 where it is left out
 
-Rows: case files that break a rule K, each with its refusal line, and some that break none. Drawn: cases of the applications of
+Rows: case files that break a rule K, each with its refusal line, and some that break none. Sizes: files whose expanded trace just is as
+large as a trace may be, or larger by a scan or a letter, of an application with many inputs. Drawn: cases of the applications of
 examples/, with expectations that hold and others that do not. This script lays a case out as a trace and a fault file of its own, has
 `plcsafe fault` run them, reads the expectations against the lines that it writes, and compares what passes and which lines fail with
 what `plcsafe-bench test` tells. It shares nothing with the program that is tried but the two channels. The status is 0 where nothing
@@ -59,6 +60,9 @@ ROWS = [
 ]
 
 
+MANY, LARGEST = 512, 67_108_864  # the inputs of the application of the sizes, and the bytes of the largest trace
+
+
 class Programs:
     """The two programs."""
 
@@ -75,6 +79,11 @@ class Programs:
 
     def test(self, app, cases):
         return self.call(self.bench, "test", app, cases)
+
+    def expand(self, app, cases, trace):
+        """The status, with the trace in a file."""
+        with open(trace, "wb") as out:
+            return subprocess.run([self.bench, "expand", app, cases], stdin=subprocess.DEVNULL, stdout=out, stderr=subprocess.DEVNULL).returncode
 
 
 class Laid:
@@ -279,6 +288,47 @@ def wrong_rows(programs, folder):
             yield f"{text[:60]!r}: {refusal or 'taken'} is wanted, and status {status} comes: {lines[-1:]}"
 
 
+def many_inputs():
+    """An application with as many inputs as there may be, one of which it reads."""
+    names = "".join(f"    I{number} : BOOL;\n" for number in range(MANY))
+    return f"PROGRAM Wide\nVAR_INPUT\n{names}END_VAR\nVAR_OUTPUT\n    Lamp : BOOL;\nEND_VAR\n    Lamp := I0;\nEND_PROGRAM\n"
+
+
+def scan_bytes(times):
+    return sum(len(str(time)) + 2 * MANY + 1 for time in times)
+
+
+def sized():
+    """Case files whose expanded trace is as large as may be or larger, each with the refusal that it has to get."""
+    room = LARGEST - 5 - sum(1 + len(f"I{number}") for number in range(MANY)) - len("# case a\n")
+    count = 0
+    while room >= scan_bytes([count + 1]):
+        count, room = count + 1, room - scan_bytes([count + 1])
+    restarts, letters = divmod(room, len("restart\n"))
+    behind = f"\nevery 1 times {count}\n" + "restart\n" * restarts
+    yield "case a" + "a" * letters + behind, None
+    yield "case a" + "a" * letters + "a" + behind, f"K7 {2 + restarts}"
+    yield f"case a\nevery 1 times {count + 1}\n", "K7 2"
+    yield f"every 1 times {count + 1}\n\ncase a\n", "K7 3"
+    yield f"every 1 times {count * 2 // 5}\ncase a\ncase b\ncase c\n", "K7 4"
+    yield "every 4294967 times 1000\ncase a\ncase b\n", "K4 3"
+
+
+def wrong_sizes(programs, folder):
+    """The sized case files that get another answer. One that is taken has a trace as large as may be."""
+    app, cases, trace = folder / "wide.st", folder / "cases", folder / "trace"
+    app.write_text(many_inputs())
+    for text, refusal in sized():
+        cases.write_text(text)
+        status = programs.expand(app, cases, trace)
+        with open(trace, "rb") as file:
+            begin = file.readline(100)
+        rule, _, line = (refusal or "").partition(" ")
+        right = status == 3 and begin == f"refused {rule} line {line}\n".encode() if refusal else status == 0 and trace.stat().st_size == LARGEST
+        if not right:
+            yield f"{text[:60]!r}: {refusal or 'taken'} is wanted, and status {status} comes, {trace.stat().st_size} bytes: {begin[:40]!r}"
+
+
 def wrong_draws(programs, folder, count, seed):
     """The drawn case files of which other things are told."""
     for number in range(count):
@@ -304,9 +354,9 @@ def main(words):
     programs = Programs(plain[0], named[0])
     with tempfile.TemporaryDirectory(prefix="plcsafe-cases-") as place:
         folder = pathlib.Path(place)
-        wrong = [*wrong_rows(programs, folder), *wrong_draws(programs, folder, options["--count"], options["--seed"])]
+        wrong = [*wrong_rows(programs, folder), *wrong_sizes(programs, folder), *wrong_draws(programs, folder, options["--count"], options["--seed"])]
     print("\n".join(wrong[:5]) + "\n" if wrong else "", end="")
-    print(f"{len(ROWS)} rows and {options['--count']} drawn case files, {len(wrong)} of them told otherwise")
+    print(f"{len(ROWS)} rows, sizes and {options['--count']} drawn case files, {len(wrong)} of them told otherwise")
     return 1 if wrong else 0
 
 

@@ -6,8 +6,11 @@ pub mod ReadLines
 pub mod SaidInputs
 pub mod Rising
 pub mod Running
+pub mod Placing
 pub mod RunningFiles
+pub mod Rooming
 pub mod Pieces
 pub mod Points
 pub mod Shifted
 pub mod ReadBack
+pub mod HeaderBack

@@ -1,25 +1,24 @@
 -- A scan line is read as the scan that it was written for.
-use Rattle.std.proofs.Common.{◌≡◌, ◌≤◌, ◌<◌, ◌+◌, ◌*◌, ◌-◌, ◌^◌, ◌++◌, ◌∙◌, ◌==◌, ◌&&◌, ℕ, List, [], ◌∷◌, Bool, true, false, not, Option, Some, None, is_some, nat_lt, if◌then◌else◌, length, map, filter_map, flat_map, fold, codes, decimal, refl, sym, ap, arith, eq-eqb}
+use Rattle.std.proofs.Common.{◌≡◌, ◌≤◌, ◌<◌, ◌+◌, ◌*◌, ◌-◌, ◌^◌, ◌++◌, ◌∙◌, ◌==◌, ◌&&◌, ℕ, List, [], ◌∷◌, Bool, true, false, not, Option, Some, is_some, if◌then◌else◌, length, map, filter_map, flat_map, fold, codes, decimal, refl, sym, ap, arith, eq-eqb}
 use Rattle.std.specs.List.{list_all}
 use Rattle.std.specs.Char.{is_ascii_digit}
 use Rattle.std.specs.Str.{bytes_eq}
 use Rattle.std.proofs.lemmas.Bool.{le-ltb}
 use Rattle.std.proofs.lemmas.Bool.Decides.{nat_tests}
-use Rattle.std.proofs.lemmas.Grind.{common_steps}
 use Rattle.std.proofs.lemmas.List.{length-map}
 use Rattle.std.proofs.lemmas.Str.Parse.{IsNumeralModel, numerals_by_fold}
 use Rattle.std.proofs.lemmas.Fmt.{digits_decimal, digits_value-decimal, decimal_nonempty}
 use Rattle.std.proofs.Common.{rules}
 use Rattle.ps_base.specs.declared.failing.Rule.TheVariants.{T4, T5, T7}
 use Rattle.ps_trace.specs.Words.{is_blank, onto_word, before_words, words, fields, digits_value, number_of}
-use Rattle.ps_trace.specs.Trace.{Said, value_of, scan_at_time, scan_line, is_restart, line_said}
+use Rattle.ps_trace.specs.Trace.{value_of, scan_at_time, scan_line, is_restart, line_said}
 use Rattle.ps_trace.specs.Trace.Said.{restarts, scans, breaks}
 use Rattle.ps_trace.proofs.Numbers.{number_of-all}
 use Rattle.ps_cases.specs.Expanded.{value_text}
 
 -- ---- Digits.
 
-both_hold : (a b : Bool) → (a && b) ≡ true → (a ≡ true) × (b ≡ true)
+pub both_hold : (a b : Bool) → (a && b) ≡ true → (a ≡ true) × (b ≡ true)
 both_hold true b is = (refl, is)
 both_hold false b is = cc
 

@@ -13,12 +13,12 @@ use Rattle.ps_cases.specs.declared.rule.CaseRule.TheVariants.{K7}
 use Rattle.ps_cases.specs.declared.rule.CaseRefusal.{CaseRefusal}
 use Rattle.ps_cases.specs.declared.draft.Draft.{Draft}
 use Rattle.ps_cases.specs.Line.{line_said}
-use Rattle.ps_cases.specs.File.{at, said_after, file_ended, lines_read}
+use Rattle.ps_cases.specs.File.{at, unless_large, said_after, file_ended, lines_read}
 
 module _ (net : Network) (sizes : ImageSizes) where
   -- a line is read, and those behind it are left
   pub line_taken : (got : Got) (d after : Draft) (number : ℕ) (lines rest : List cut.Line) (bytes : List ℕ) → Gives lines got bytes rest →
-      got ≢ End → got ≢ TooLong → got ≢ TooLarge → number ≤ MOST_CASE_LINES → said_after sizes d number (line_said net bytes) ≡ Ok after →
+      got ≢ End → got ≢ TooLong → got ≢ TooLarge → number ≤ MOST_CASE_LINES → unless_large net number (said_after sizes d number (line_said net bytes)) ≡ Ok after →
       lines_read net sizes d number lines ≡ lines_read net sizes after (number + 1) rest
   line_taken Line d after number lines rest bytes gives more short small few says = ap (lines_read net sizes d number) gives ∙ grind (arith, common_steps)
   line_taken LastLine d after number lines rest bytes gives more short small few says = ap (lines_read net sizes d number) gives ∙ grind (arith, common_steps)
@@ -28,7 +28,7 @@ module _ (net : Network) (sizes : ImageSizes) where
 
   -- a line is refused
   pub line_refused : (got : Got) (d : Draft) (refusal : CaseRefusal) (number : ℕ) (lines rest : List cut.Line) (bytes : List ℕ) → Gives lines got bytes rest →
-      got ≢ End → got ≢ TooLong → got ≢ TooLarge → number ≤ MOST_CASE_LINES → said_after sizes d number (line_said net bytes) ≡ Err refusal →
+      got ≢ End → got ≢ TooLong → got ≢ TooLarge → number ≤ MOST_CASE_LINES → unless_large net number (said_after sizes d number (line_said net bytes)) ≡ Err refusal →
       lines_read net sizes d number lines ≡ Err refusal
   line_refused Line d refusal number lines rest bytes gives more short small few says = ap (lines_read net sizes d number) gives ∙ grind (arith, common_steps)
   line_refused LastLine d refusal number lines rest bytes gives more short small few says = ap (lines_read net sizes d number) gives ∙ grind (arith, common_steps)

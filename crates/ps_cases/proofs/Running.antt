@@ -1,6 +1,8 @@
 -- Each case of a file that is not refused can be run.
-use Rattle.std.proofs.Common.{◌≡◌, ◌≤◌, ◌+◌, ◌++◌, ◌∙◌, ◌==◌, ◌||◌, ℕ, zero, suc, List, [], ◌∷◌, Bool, true, false, not, Option, Some, None, Ok, Err, IfOk, nat_lt, if◌then◌else◌, get_or, refl, sym, ap, subst, arith}
+use Rattle.std.proofs.Common.{◌≡◌, ◌≤◌, ◌<◌, ◌+◌, ◌-◌, ◌*◌, ◌/◌, min, max, ◌++◌, ◌∙◌, ◌==◌, ◌||◌, ℕ, zero, suc, List, [], ◌∷◌, Bool, true, false, not, Option, Some, None, Result, Ok, Err, IfOk, nat_lt, if◌then◌else◌, get_or, refl, sym, ap, subst, ⊎_elim, arith}
 use Rattle.std.specs.List.{All}
+use Rattle.std.proofs.Math.Nat.{mul-le-mul_right, le-div_iff_mul-le, suc-mul}
+use Rattle.std.proofs.lemmas.Bool.{cases_lt}
 use Rattle.std.specs.List.Sorted.{IsNonDecreasing}
 use Rattle.std.proofs.lemmas.Grind.{common_steps}
 use Rattle.std.proofs.lemmas.List.{append-nil}
@@ -17,7 +19,7 @@ use Rattle.ps_model.specs.Network.{Network}
 use Rattle.ps_trace.specs.Faults.{is_other, is_same_channel, first_struck}
 use Rattle.ps_trace.specs.FaultOrder.{IsNoLater, AreInOrder, AreOfOneChannel}
 use Rattle.ps_cases.specs.declared.rule.CaseRule.{CaseRule}
-use Rattle.ps_cases.specs.declared.rule.CaseRule.TheVariants.{K4, K5, K6}
+use Rattle.ps_cases.specs.declared.rule.CaseRule.TheVariants.{K4, K5, K6, K7}
 use Rattle.ps_cases.specs.declared.case.Setting.{Setting}
 use Rattle.ps_cases.specs.declared.case.Pace.{Pace}
 use Rattle.ps_cases.specs.declared.case.Act.{Act}
@@ -26,8 +28,8 @@ use Rattle.ps_cases.specs.declared.case.Statement.{Statement}
 use Rattle.ps_cases.specs.declared.deed.Deed.{Deed}
 use Rattle.ps_cases.specs.declared.deed.Deed.TheVariants.{Set, At, After, Times, For, Until, Restart, Fault, Expect}
 use Rattle.ps_cases.specs.declared.stand.Stand.{Stand}
-use Rattle.ps_cases.specs.Stands.{scans_to, deed_settled, strikes_wrongly, stand_after, unless_made}
-use Rattle.ps_cases.specs.Meant.{times_of, times_made, times_in, fault_made, faults_in}
+use Rattle.ps_cases.specs.Stands.{rounds, scans_to, deed_settled, is_over, unless_over, strikes_wrongly, stand_after, unless_made}
+use Rattle.ps_cases.specs.Meant.{time_at, times_of, times_made, times_in, fault_made, faults_in}
 use Rattle.ps_cases.specs.Runnable.{IsRunnable}
 use Rattle.ps_cases.proofs.Rising.{rising_append, pace_rises, pace_from, pace_upto}
 use Rattle.ps_cases.proofs.SaidInputs.{AreOfInputs}
@@ -46,10 +48,12 @@ pub record IsNext (s : Stand) (fault : Strike) : Type 0 where
   pub turn : s.turn ≤ fault.turn
   pub first : is_other is_same_channel s.struck fault.channel ≡ false
 
--- scans go on from the last one
+-- Scans go on from the last one. The last of them is at the time up to which they go, and none is past the latest time.
 pub record GoesOn (s : Stand) (pace : Pace) : Type 0 where
   pub from : pace.from ≡ s.time
   pub upto : pace.from ≤ pace.upto
+  pub reaches : time_at pace pace.count ≡ pace.upto
+  pub early : s.base + pace.upto ≤ LARGEST_TIME
 
 -- what a line does goes on from what stands before it
 abbrev pub IsBehind : Stand → Act → Type 0
@@ -66,10 +70,42 @@ either_is P false rule a second = second refl
 not_before : (s : Stand) (step target count : ℕ) → (nat_lt target s.time || nat_lt LARGEST_TIME (s.base + target)) ≡ false → s.time ≤ target
 not_before s step target count is = grind (arith, common_steps)
 
-scans_go_on : (s : Stand) (step target count : ℕ) → IfOk (scans_to s step target count) (IsBehind s)
-scans_go_on s step target count =
+not_late : (s : Stand) (target : ℕ) → (nat_lt target s.time || nat_lt LARGEST_TIME (s.base + target)) ≡ false → s.base + target ≤ LARGEST_TIME
+not_late s target is = grind (arith, common_steps)
+
+-- so many scans go so far
+abbrev Reaches : (s : Stand) (step target count : ℕ) → Type 0
+Reaches s step target count = s.time ≤ target → min (s.time + count * step) target ≡ target
+
+scans_go_on : (s : Stand) (step target count : ℕ) → Reaches s step target count → IfOk (scans_to s step target count) (IsBehind s)
+scans_go_on s step target count reaches =
     either_is (IsBehind s) (nat_lt target s.time || nat_lt LARGEST_TIME (s.base + target)) K4 (act.Scans record { from = s.time; step = step; upto = target; count = count })
-    (λ is. record { from = refl; upto = not_before s step target count is })
+    (λ is. let upto = not_before s step target count is in record { from = refl; upto = upto; reaches = reaches upto; early = not_late s target is })
+
+-- one scan does
+one_reaches : (s : Stand) (target : ℕ) → Reaches s (target - s.time) target 1
+one_reaches s target on = omega (arith, on)
+
+-- and as many as it takes
+whole_steps : (step span : ℕ) → 0 < step → span ≤ (span + (step - 1)) / step * step
+whole_steps step span some =
+    let q = (span + (step - 1)) / step in
+    ⊎_elim
+    (λ (short : q * step < span).
+    let more : suc q * step ≤ span + (step - 1) = omega (arith, suc-mul q step) in
+    absurd (omega (arith, (le-div_iff_mul-le some).1 more)))
+    (λ (long : span ≤ q * step). long)
+    (cases_lt (q * step) span)
+
+until_reaches : (s : Stand) (step target : ℕ) → Reaches s (max step 1) target (rounds step (target - s.time))
+until_reaches s step target on =
+    let m : ℕ = max step 1 in
+    let some : 0 < m = omega arith in
+    let span : ℕ = target - s.time in
+    let q : ℕ = (span + (m - 1)) / m in
+    let far : span ≤ q * m = whole_steps m span some in
+    let farther : q * m ≤ max q 1 * m = mul-le-mul_right m (omega arith) in
+    omega (arith, on, far, farther)
 
 fault_is_next : (sizes : ImageSizes) (s : Stand) (fault : Strike) → strikes_wrongly sizes s fault ≡ false →
     IsNext s (record { scan = s.scans + 1; turn = fault.turn; channel = fault.channel; region = fault.region; at = fault.at; bytes = fault.bytes })
@@ -77,14 +113,22 @@ fault_is_next sizes s fault right = record { scan = refl; turn = grind (arith, c
 
 pub settled_behind : (sizes : ImageSizes) (s : Stand) (deed : Deed) → IfOk (deed_settled sizes s deed) (IsBehind s)
 settled_behind sizes s Set = tt
-settled_behind sizes s (At t) = scans_go_on s _ _ 1
-settled_behind sizes s (After d) = scans_go_on s _ _ 1
-settled_behind sizes s (Times step count) = scans_go_on s step _ count
-settled_behind sizes s (For step span) = scans_go_on s step _ _
-settled_behind sizes s (Until step t) = scans_go_on s step _ _
+settled_behind sizes s (At t) = scans_go_on s _ _ 1 (one_reaches s (s.origin + t))
+settled_behind sizes s (After d) = scans_go_on s _ _ 1 (one_reaches s (s.time + d))
+settled_behind sizes s (Times step count) = scans_go_on s step _ count (λ on. omega (arith, on))
+settled_behind sizes s (For step span) = scans_go_on s (max step 1) _ _ (until_reaches s step (s.time + span))
+settled_behind sizes s (Until step t) = scans_go_on s (max step 1) _ _ (until_reaches s step (s.origin + t))
 settled_behind sizes s Restart = tt
 settled_behind sizes s (Fault fault) = either_is (IsBehind s) (strikes_wrongly sizes s fault) K6 _ (fault_is_next sizes s fault)
 settled_behind sizes s (Expect window checks) = either_is (IsBehind s) (s.scans == 0) K5 _ (λ is. tt)
+
+over_behind : (s : Stand) (over : Bool) (a : Act) → IsBehind s a → IfOk (if over then Err K7 else Ok a) (IsBehind s)
+over_behind s true a behind = tt
+over_behind s false a behind = behind
+
+pub unless_behind : (s : Stand) (act : Result Act CaseRule) → IfOk act (IsBehind s) → IfOk (unless_over s act) (IsBehind s)
+unless_behind s (Err rule) behind = tt
+unless_behind s (Ok a) behind = over_behind s (is_over s a) a behind
 
 -- ---- Faults.
 

@@ -2,7 +2,8 @@
 use Rattle.std.specs.Prelude.{◌≤◌, ◌<◌, ◌^◌, Option, Some, None, Result, Ok, Err}
 use Rattle.ps_cases.specs.declared.rule.CaseRefusal.{CaseRefusal}
 use Rattle.ps_cases.specs.declared.rule.CasesFail.{CasesFail}
-use Rattle.ps_cases.specs.declared.rule.CasesFail.TheVariants.{Memory as NoMemory, Fault as IsFault, Refused as IsRefused}
+use Rattle.ps_cases.specs.declared.rule.CasesFail.TheVariants.{Memory as NoMemory, Fault as IsFault}
+use Rattle.ps_cases.specs.declared.rule.CasesFail.TheVariants.{Refused as IsRefused}
 use Rattle.ps_cases.specs.declared.limits.TheConstants.{MOST_CASE_SCANS}
 use Rattle.ps_cases.specs.declared.stand.Coming.{Coming}
 use Rattle.ps_cases.specs.declared.draft.Draft.{Draft}

@@ -1,5 +1,6 @@
 -- The text of one trace of all cases of a file.
-use Rattle.std.specs.Prelude.{ℕ, ◌+◌, ◌<◌, List, [], ◌∷◌, ◌++◌, ◌==◌, Bool, false, if◌then◌else◌, All, replicate, fold, flat_map}
+use Rattle.std.specs.Prelude.{ℕ, ◌+◌, ◌<◌, List, [], ◌∷◌, ◌++◌, ◌==◌, Bool, false, if◌then◌else◌, All, replicate, fold}
+use Rattle.std.specs.Prelude.{flat_map}
 use Rattle.std.specs.Prelude.{codes, decimal}
 use Rattle.hex.specs.Hex.{encode_lower}
 use Rattle.ps_model.specs.declared.channel.Channel.{Channel}
@@ -55,12 +56,15 @@ region_text B Cells = codes "B memory "
 abbrev pub fault_line : Strike → List ℕ
 fault_line f =
     codes "# fault "
-    ++ (turn_text f.turn ++ (region_text f.channel f.region ++ (decimal f.at ++ (codes " " ++ (encode_lower f.bytes ++ codes "\n")))))
+    ++ (turn_text f.turn ++ (region_text f.channel f.region
+    ++ (decimal f.at ++ (codes " " ++ (encode_lower f.bytes ++ codes "\n")))))
 
 -- ---- The lines of a case.
 
--- `Point` says how the trace stands between two lines of a case: when the case begins in the trace (`base`), the time of
--- its last scan within the case, 0 before the first one (`time`), the values of the inputs (`ins`), and the lines of the
+-- `Point` says how the trace stands between two lines of a case: when the case begins in the trace (`base`), the time
+-- of
+-- its last scan within the case, 0 before the first one (`time`), the values of the inputs (`ins`), and the lines of
+-- the
 -- faults of its next scan (`held`).
 
 -- a line of a case whose inputs are set makes no scan, or scans behind the faults of the first one, or a restart

@@ -8,8 +8,10 @@ pub mod Stands
 pub mod File
 pub mod Expanded
 pub mod Joined
+pub mod Traced
 -- what the parts of the reader answer
 pub mod LineSays
 pub mod DraftSays
+pub mod Rooms
 -- what a call leaves that writes
 pub mod Writing

@@ -1,5 +1,6 @@
 -- What the lines of a case file say.
-use Rattle.std.specs.Prelude.{ℕ, ◌-◌, List, [], ◌∷◌, ◌==◌, ◌&&◌, Bool, true, false, not, nat_le, if◌then◌else◌, length, take, drop, slice_index_or, codes, fold, Option, Some, None, Result, Ok, Err}
+use Rattle.std.specs.Prelude.{ℕ, ◌-◌, List, [], ◌∷◌, ◌==◌, ◌&&◌, Bool, true, false, not, nat_le, if◌then◌else◌, length}
+use Rattle.std.specs.Prelude.{take, drop, slice_index_or, codes, fold, Option, Some, None, Result, Ok, Err}
 use Rattle.std.specs.Option.{ok_or}
 use Rattle.std.specs.List.{list_all, prefix_len, suffix_len}
 use Rattle.std.specs.Str.{bytes_eq, is_utf8, chars}
@@ -9,7 +10,8 @@ use Rattle.ps_model.specs.Network.{Network}
 use Rattle.ps_trace.specs.Words.{is_blank}
 use Rattle.ps_trace.specs.Faults.{first_of, others_of, region_of, bytes_said, channel_of}
 use Rattle.ps_cases.specs.Parts.{both, and_then}
-use Rattle.ps_cases.specs.Words.{words_in, number_said, above_zero, name_of, value_of, values_of, setting_said, has_equals, name_part, value_part}
+use Rattle.ps_cases.specs.Words.{words_in, number_said, above_zero, name_of, value_of, values_of, setting_said}
+use Rattle.ps_cases.specs.Words.{has_equals, name_part, value_part}
 use Rattle.ps_cases.specs.declared.rule.CaseRule.{CaseRule}
 use Rattle.ps_cases.specs.declared.rule.CaseRule.TheVariants.{K1, K2, K3}
 use Rattle.ps_cases.specs.declared.case.Setting.{Setting}
@@ -59,7 +61,8 @@ among_said net (Some name) value = among_values name (values_of net name value)
 -- a name and what stands behind its `=`
 abbrev pub compare_said : Network → (name value : List ℕ) → Result Check CaseRule
 compare_said net name value =
-    if is_denied name then not_said net (name_of net (take (length name - 1) name)) value else among_said net (name_of net name) value
+    if is_denied name then not_said net (name_of net (take (length name - 1) name)) value
+    else among_said net (name_of net name) value
 
 -- the check that a word is: K1 where it is no word for a trip and has no `=`
 abbrev pub check_said : Network → List ℕ → Result Check CaseRule
@@ -71,7 +74,8 @@ check_said net word =
 
 -- the checks that words are: K1 where there is none
 abbrev pub checks_said : Network → List (List ℕ) → Result (List Check) CaseRule
-checks_said net words = if is_none_left words then Err K1 else fold (λ found word. and_then found (check_said net word)) (Ok []) words
+checks_said net words =
+    if is_none_left words then Err K1 else fold (λ found word. and_then found (check_said net word)) (Ok []) words
 
 -- ---- Deeds. A word that is missing is empty, and so no word that is wanted.
 
@@ -95,30 +99,35 @@ abbrev pub every_said : (step key number : List ℕ) → Result Deed CaseRule
 every_said step key number =
     if bytes_eq key (codes "times") then deed_of_two Times (both (number_said step) (number_said number))
     else if bytes_eq key (codes "for") then deed_of_two For (both (above_zero (number_said step)) (number_said number))
-    else if bytes_eq key (codes "until") then deed_of_two Until (both (above_zero (number_said step)) (number_said number))
+    else if bytes_eq key (codes "until")
+    then deed_of_two Until (both (above_zero (number_said step)) (number_said number))
     else Err K1
 
 -- the fault of these parts, of a scan that is not yet known
 abbrev pub strike_of : Result (ℕ × (Channel × (Region × (ℕ × List ℕ)))) CaseRule → Result Deed CaseRule
-strike_of (Ok (turn, (channel, (region, (at, bytes))))) = Ok (Fault record { scan = 0; turn = turn; channel = channel; region = region; at = at; bytes = bytes })
+strike_of (Ok (turn, (channel, (region, (at, bytes))))) =
+    Ok (Fault record { scan = 0; turn = turn; channel = channel; region = region; at = at; bytes = bytes })
 strike_of (Err rule) = Err rule
 
 -- a channel, a region, an offset and bytes, before this turn
 abbrev pub struck_said : Result ℕ CaseRule → (channel region offset bytes : List ℕ) → Result Deed CaseRule
 struck_said turn channel region offset bytes =
-    strike_of (both turn (both (ok_or (channel_of channel) K1) (both (ok_or (region_of region) K1) (both (number_said offset) (ok_or (bytes_said bytes) K1)))))
+    strike_of (both turn (both (ok_or (channel_of channel) K1)
+    (both (ok_or (region_of region) K1) (both (number_said offset) (ok_or (bytes_said bytes) K1)))))
 
 -- the same in four words: K1 where a word stands behind them
 abbrev pub target_said : Result ℕ CaseRule → List (List ℕ) → Result Deed CaseRule
 target_said turn words =
     if is_none_left (others_of (others_of (others_of (others_of words))))
-    then struck_said turn (first_of words) (first_of (others_of words)) (first_of (others_of (others_of words))) (first_of (others_of (others_of (others_of words))))
+    then struck_said turn (first_of words) (first_of (others_of words)) (first_of (others_of (others_of words)))
+    (first_of (others_of (others_of (others_of words))))
     else Err K1
 
 -- behind `fault`: perhaps `turn` and a turn from 1 on, and what is struck
 abbrev pub fault_said : List (List ℕ) → Result Deed CaseRule
 fault_said words =
-    if bytes_eq (first_of words) (codes "turn") then target_said (above_zero (number_said (first_of (others_of words)))) (others_of (others_of words))
+    if bytes_eq (first_of words) (codes "turn")
+    then target_said (above_zero (number_said (first_of (others_of words)))) (others_of (others_of words))
     else target_said (Ok 0) words
 
 -- checks in a window
@@ -134,8 +143,12 @@ expect_now (Err rule) = Err rule
 -- behind `expect`: perhaps `within` or `for` and a number, and checks
 abbrev pub expect_said : Network → List (List ℕ) → Result Deed CaseRule
 expect_said net words =
-    if bytes_eq (first_of words) (codes "within") then expect_of Within (both (number_said (first_of (others_of words))) (checks_said net (others_of (others_of words))))
-    else if bytes_eq (first_of words) (codes "for") then expect_of Throughout (both (number_said (first_of (others_of words))) (checks_said net (others_of (others_of words))))
+    if bytes_eq (first_of words) (codes "within")
+    then expect_of Within
+    (both (number_said (first_of (others_of words))) (checks_said net (others_of (others_of words))))
+    else if bytes_eq (first_of words) (codes "for")
+    then expect_of Throughout
+    (both (number_said (first_of (others_of words))) (checks_said net (others_of (others_of words))))
     else expect_now (checks_said net words)
 
 -- a deed, with the settings behind it
@@ -164,7 +177,8 @@ restart_said words = if is_none_left words then Ok Restart else Err K1
 abbrev pub deed_said : Network → List ℕ → List (List ℕ) → Result (Deed × List Setting) CaseRule
 deed_said net word words =
     if bytes_eq word (codes "set") then set_said net words
-    else if bytes_eq word (codes "at") then with_settings net (deed_with At (number_said (first_of words))) (others_of words)
+    else if bytes_eq word (codes "at")
+    then with_settings net (deed_with At (number_said (first_of words))) (others_of words)
     else if bytes_eq word (codes "every") then alone (behind_every words)
     else if bytes_eq word (codes "restart") then alone (restart_said words)
     else if bytes_eq word (codes "fault") then alone (fault_said words)
@@ -194,7 +208,8 @@ may_stand c = nat_le 32 c && not (c == 0xFFFE) && not (c == 0xFFFF)
 abbrev pub is_case_name : List ℕ → Bool
 is_case_name name = not (length name == 0) && is_utf8 name && list_all may_stand (chars name)
 
--- What a line says: nothing; a case begins, by this name, which may be none; it asks for something; or it is refused by a rule.
+-- What a line says: nothing; a case begins, by this name, which may be none; it asks for something; or it is refused by
+-- a rule.
 pub data Said : Type 0 where
   nothing : Said
   begins : (name : List ℕ) → Said
@@ -209,7 +224,8 @@ asked (Err rule) = breaks rule
 -- what a line says, by its words that count
 abbrev pub said_by_words : Network → (line : List ℕ) → List (List ℕ) → Said
 said_by_words net line [] = nothing
-said_by_words net line (word ∷ words) = if bytes_eq word (codes "case") then begins (case_name line) else asked (deed_said net word words)
+said_by_words net line (word ∷ words) =
+    if bytes_eq word (codes "case") then begins (case_name line) else asked (deed_said net word words)
 
 -- what a line says
 abbrev pub line_said : Network → List ℕ → Said

@@ -1,6 +1,8 @@
--- What the statements of a case mean: its scans and restarts with the lines that made them, its faults, what is expected, and which
+-- What the statements of a case mean: its scans and restarts with the lines that made them, its faults, what is
+-- expected, and which
 -- scans a window has.
-use Rattle.std.specs.Prelude.{ℕ, Bool, false, List, [], ◌∷◌, ◌++◌, ◌+◌, ◌*◌, ◌&&◌, min, map, length, replicate, nat_le, slice_index_or, slice_set, Option, Some, None}
+use Rattle.std.specs.Prelude.{ℕ, Bool, false, List, [], ◌∷◌, ◌++◌, ◌+◌, ◌*◌, ◌&&◌, min, map, length, replicate, nat_le}
+use Rattle.std.specs.Prelude.{slice_index_or, slice_set, Option, Some, None}
 use Rattle.std.specs.List.{filter_map, flat_map, fold, range_with_len}
 use Rattle.ps_model.specs.declared.channel.Fault.{Fault as Strike}
 use Rattle.ps_model.specs.Meaning.{Item}
@@ -40,7 +42,8 @@ items_made ins _ = []
 -- the scans and restarts of statements, where inputs had these values before
 abbrev pub items_from : List Bool → List Statement → List Item
 items_from ins [] = []
-items_from ins (s ∷ statements) = items_made (set_by ins s.settings) s.act ++ items_from (set_by ins s.settings) statements
+items_from ins (s ∷ statements) =
+    items_made (set_by ins s.settings) s.act ++ items_from (set_by ins s.settings) statements
 
 -- the scans and restarts of a case: all inputs are FALSE until they are set
 abbrev pub items_of : Network → List Statement → List Item
@@ -86,7 +89,8 @@ expected_in statements = filter_map (λ (s : Statement). expected_by s.line s.ac
 abbrev pub time_of : List ℕ → ℕ → ℕ
 time_of times i = slice_index_or (0 ∷ times) i 0
 
--- Scan j belongs to the window of d ms of scan i: it is that scan or a later one, and at most so much later. Times do not fall.
+-- Scan j belongs to the window of d ms of scan i: it is that scan or a later one, and at most so much later. Times do
+-- not fall.
 abbrev pub is_in_window : List ℕ → (d i j : ℕ) → Bool
 is_in_window times d i j = nat_le i j && nat_le j (length times) && nat_le (time_of times j) (time_of times i + d)
 

@@ -1,4 +1,5 @@
--- The parts of a line: each is right, or breaks a rule. Of several rules that a line breaks the one with the least number counts.
+-- The parts of a line: each is right, or breaks a rule. Of several rules that a line breaks the one with the least
+-- number counts.
 use Rattle.std.specs.Prelude.{ℕ, List, [], ◌∷◌, ◌++◌, if◌then◌else◌, nat_le, Result, Ok, Err}
 use Rattle.ps_cases.specs.declared.rule.CaseRule.{CaseRule}
 use Rattle.ps_cases.specs.declared.rule.CaseRule.TheVariants.{K1, K2, K3, K4, K5, K6, K7}

@@ -1,23 +1,27 @@
 -- What a line of a case does behind the lines before it, and what they leave. Times are in ms within the case.
-use Rattle.std.specs.Prelude.{◌≤◌, ℕ, ◌+◌, ◌-◌, ◌*◌, ◌/◌, max, Bool, ◌||◌, ◌==◌, nat_lt, if◌then◌else◌, length, Some, Result, Ok, Err}
+use Rattle.std.specs.Prelude.{◌≤◌, ℕ, ◌+◌, ◌-◌, ◌*◌, ◌/◌, max, Bool, ◌||◌, ◌==◌, nat_lt, if◌then◌else◌, length, Some}
+use Rattle.std.specs.Prelude.{Result, Ok, Err}
 use Rattle.ps_base.specs.declared.limits.TheConstants.{LARGEST_TIME}
 use Rattle.ps_model.specs.declared.channel.Fault.{Fault as Strike}
 use Rattle.ps_model.specs.declared.channel.ImageSizes.{ImageSizes}
 use Rattle.ps_trace.specs.Faults.{is_other, is_same_channel, first_struck, region_size}
 use Rattle.ps_cases.specs.declared.limits.TheConstants.{MOST_CASE_FAULTS, MOST_CASE_SCANS}
 use Rattle.ps_cases.specs.declared.rule.CaseRule.{CaseRule}
-use Rattle.ps_cases.specs.declared.rule.CaseRule.TheVariants.{K4, K5, K6}
+use Rattle.ps_cases.specs.declared.rule.CaseRule.TheVariants.{K4, K5, K6, K7}
 use Rattle.ps_cases.specs.declared.case.Act.{Act}
 use Rattle.ps_cases.specs.declared.case.Act.TheVariants as act
 use Rattle.ps_cases.specs.declared.deed.Deed.{Deed}
 use Rattle.ps_cases.specs.declared.deed.Deed.TheVariants.{Set, At, After, Times, For, Until, Restart, Fault, Expect}
 use Rattle.ps_cases.specs.declared.stand.Stand.{Stand}
 
--- `Stand` says how a case stands behind some of its lines: when it begins in the expanded trace (`base`), from when on `at` and `until`
--- count (`origin`), the time of the last scan, how many scans it has (`scans`) and the file so far (`made`), how many faults, whom the
+-- `Stand` says how a case stands behind some of its lines: when it begins in the expanded trace (`base`), from when on
+-- `at` and `until`
+-- count (`origin`), the time of the last scan, how many scans it has (`scans`) and the file so far (`made`), how many
+-- faults, whom the
 -- first one strikes, and of the faults of the next scan the last turn and the first line.
 
--- So many scans from the last one on, of which the last is at this time: K4 where that is before the last one, or past the latest time
+-- So many scans from the last one on, of which the last is at this time: K4 where that is before the last one, or past
+-- the latest time
 -- in the expanded trace.
 abbrev pub scans_to : Stand → (step target count : ℕ) → Result Act CaseRule
 scans_to s step target count =
@@ -32,20 +36,29 @@ one_scan s target = scans_to s (target - s.time) target 1
 abbrev pub rounds : (step span : ℕ) → ℕ
 rounds step span = max ((span + (max step 1 - 1)) / max step 1) 1
 
--- scans a step apart, and one at this time
+-- Scans a step apart, and one at this time. A step of 0 counts as 1.
 abbrev pub scans_until : Stand → (step target : ℕ) → Result Act CaseRule
-scans_until s step target = scans_to s step target (rounds step (target - s.time))
+scans_until s step target = scans_to s (max step 1) target (rounds step (target - s.time))
 
--- a fault may not strike: before the turn of the fault before it, another channel than the first one does, or past its region
+-- a fault may not strike: before the turn of the fault before it, another channel than the first one does, or past its
+-- region
 abbrev pub strikes_wrongly : ImageSizes → Stand → Strike → Bool
 strikes_wrongly sizes s fault =
-    nat_lt fault.turn s.turn || is_other is_same_channel s.struck fault.channel || nat_lt (region_size sizes fault.channel fault.region) (fault.at + length fault.bytes)
+    nat_lt fault.turn s.turn || is_other is_same_channel s.struck fault.channel
+    || nat_lt (region_size sizes fault.channel fault.region) (fault.at + length fault.bytes)
 
 -- a fault of the next scan
 abbrev pub fault_settled : ImageSizes → Stand → Strike → Result Act CaseRule
 fault_settled sizes s fault =
     if strikes_wrongly sizes s fault then Err K6
-    else Ok (act.Fault record { scan = s.scans + 1; turn = fault.turn; channel = fault.channel; region = fault.region; at = fault.at; bytes = fault.bytes })
+    else Ok (act.Fault record {
+      scan = s.scans + 1;
+      turn = fault.turn;
+      channel = fault.channel;
+      region = fault.region;
+      at = fault.at;
+      bytes = fault.bytes;
+    })
 
 -- what a line does that asks for this
 abbrev pub deed_settled : ImageSizes → Stand → Deed → Result Act CaseRule
@@ -73,6 +86,11 @@ faults_in _ = 0
 -- it makes more scans or faults than there may be
 abbrev pub is_over : Stand → Act → Bool
 is_over s a = nat_lt MOST_CASE_SCANS (s.made + scans_in a) || nat_lt MOST_CASE_FAULTS (s.faults + faults_in a)
+
+-- what a line does, unless it makes too much: K7
+abbrev pub unless_over : Stand → Result Act CaseRule → Result Act CaseRule
+unless_over s (Err rule) = Err rule
+unless_over s (Ok a) = if is_over s a then Err K7 else Ok a
 
 -- what is left of something of the faults of the next scan, behind so many scans: 0 where it was made
 abbrev pub unless_made : (scans left : ℕ) → ℕ

@@ -1,7 +1,9 @@
 -- The words of a line of a case file, and the numbers, names and values that they are.
-use Rattle.std.specs.Prelude.{ℕ, ◌+◌, ◌*◌, List, [], ◌∷◌, ◌==◌, ◌&&◌, ◌||◌, Bool, true, false, nat_lt, if◌then◌else◌, length, map, codes, slice_get, Option, Some, None, is_some, option_map, Result, Ok, Err}
+use Rattle.std.specs.Prelude.{ℕ, ◌+◌, ◌*◌, List, [], ◌∷◌, ◌==◌, ◌&&◌, ◌||◌, Bool, true, false, nat_lt, if◌then◌else◌}
+use Rattle.std.specs.Prelude.{length, map, codes, slice_get, Option, Some, None, is_some, option_map, Result, Ok, Err}
 use Rattle.std.specs.Option.{ok_or}
-use Rattle.std.specs.List.{list_all, list_any, filter_map, position_from, before_first, after_first, before_last, after_last, slice_split}
+use Rattle.std.specs.List.{list_all, list_any, filter_map, position_from, before_first, after_first, before_last}
+use Rattle.std.specs.List.{after_last, slice_split}
 use Rattle.std.specs.Str.{bytes_eq}
 use Rattle.std.specs.Char.{is_ascii_digit}
 use Rattle.hex.specs.Hex.{decode_of}
@@ -89,7 +91,8 @@ pin_at kind instance (Some pin) = boolean_pin instance pin (slice_get (pin_rows 
 -- the pin of this name of an instance, if there is one
 abbrev pub pin_of : Network → Option ℕ → List ℕ → Option Name
 pin_of net None pin = None
-pin_of net (Some instance) pin = pin_at (kind_at net instance) instance (number_named (pin_names (kind_at net instance)) pin)
+pin_of net (Some instance) pin =
+    pin_at (kind_at net instance) instance (number_named (pin_names (kind_at net instance)) pin)
 
 -- INSTANCE.PIN: the last dot stands between them
 abbrev pub pin_named : Network → List ℕ → Option Name
@@ -103,7 +106,8 @@ either_name None None pin = pin
 
 -- what a NAME names
 abbrev pub name_of : Network → List ℕ → Option Name
-name_of net word = either_name (number_named (signal_names net) word) (number_named (instance_names net) word) (pin_named net word)
+name_of net word =
+    either_name (number_named (signal_names net) word) (number_named (instance_names net) word) (pin_named net word)
 
 -- ---- Values.
 
@@ -171,4 +175,6 @@ setting_of (Some input) (Some value) = Ok record { input = input; value = value 
 -- the setting that a word is: K1 without a `=`
 abbrev pub setting_said : Network → List ℕ → Result Setting CaseRule
 setting_said net word =
-    if has_equals word then setting_of (input_in net (number_named (signal_names net) (name_part word))) (truth_of (value_part word)) else Err K1
+    if has_equals word
+    then setting_of (input_in net (number_named (signal_names net) (name_part word))) (truth_of (value_part word))
+    else Err K1

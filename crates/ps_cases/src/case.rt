@@ -115,7 +115,8 @@ pub struct Statement {
     pub act: Act,
 }
 
-/// A case. It means the statements before the first case of its file, and then its own: numbers of scans and times go on.
+/// A case. It means the statements before the first case of its file, and then its own: numbers of scans and times go
+/// on.
 #[derive(Drop, Debug)]
 pub struct Case {
     /// The number of its `case` line.

@@ -4,7 +4,8 @@ ghost use Rattle.std.specs.Prelude.{◌≡◌, ◌≤◌, length, drop, IfOk};
 ghost use Rattle.ps_trace.specs.Words.{words};
 ghost use Rattle.ps_cases.specs.Words.{counted, number_said};
 ghost use Rattle.ps_cases.specs.Parts.{both};
-ghost use Rattle.ps_cases.specs.Line.{alone, set_said, behind_every, restart_said, deed_with, every_said, expect_of, expect_now, expect_said, with_settings, deed_said};
+ghost use Rattle.ps_cases.specs.Line.{alone, set_said, behind_every, restart_said, deed_with, every_said, expect_of};
+ghost use Rattle.ps_cases.specs.Line.{expect_now, expect_said, with_settings, deed_said};
 ghost use Rattle.ps_cases.specs.declared.deed.Deed.TheVariants.{At, After};
 ghost use Rattle.ps_cases.specs.declared.case.Window.TheVariants.{Within, For as Throughout};
 

@@ -1,25 +1,23 @@
 // A case file as far as it was read.
 
-ghost use Rattle.std.specs.Prelude.{◌≡◌, ◌≤◌, ◌<◌, ◌+◌, ◌^◌, [], true, IfOk, IfNone, OnOk};
+ghost use Rattle.std.specs.Prelude.{◌≡◌, ◌≤◌, ◌<◌, ◌+◌, ◌^◌, [], true, false, IfOk, IfNone, OnOk};
 ghost use Rattle.ps_base.specs.declared.limits.TheConstants.{LARGEST_TIME};
 ghost use Rattle.ps_cases.specs.declared.limits.TheConstants.{MOST_CASE_SCANS};
 ghost use Rattle.ps_cases.specs.Line.{is_case_name};
-ghost use Rattle.ps_cases.specs.LineSays.{said_by};
-ghost use Rattle.ps_cases.specs.Stands.{deed_settled, IsSmall};
-ghost use Rattle.ps_cases.specs.File.{no_lines, at, act_after, closed, coming, fault_left, case_judged, opened, case_after, said_after, file_ended};
+ghost use Rattle.ps_cases.specs.Stands.{is_over, IsSmall};
+ghost use Rattle.ps_cases.specs.File.{no_lines, at, stated, closed, coming, fault_left};
+ghost use Rattle.ps_cases.specs.File.{case_judged, opened, case_after, file_ended};
 ghost use Rattle.ps_cases.specs.DraftSays.{after_by, KeepsLimits, IsWithin};
 
-use crate::case::{Case, CaseFile, Statement};
-use crate::deed::Deed;
+use crate::case::{Act, Case, CaseFile, Statement};
 use crate::limits::{LONGEST_CASE_NAME, MOST_CASE_SCANS, MOST_CASES};
-use crate::line::{LineSays, case_name, is_case_name};
+use crate::line::is_case_name;
 use crate::lists::{Cases, Settings, Statements};
 use crate::rule::{CaseRefusal, CaseRule};
-use crate::settling::{is_over, settle, stand_after};
+use crate::settling::stand_after;
 use crate::stand::{Coming, Stand};
 use ps_base::limits::LARGEST_TIME;
 use ps_base::{Label, Memory};
-use ps_model::ImageSizes;
 use std::alloc::Global;
 use std::{mem, str};
 
@@ -30,7 +28,8 @@ pub(crate) struct Head {
     pub(crate) name: Label,
 }
 
-// A case file as far as it was read: what stands behind the last `case` line, `head`, or before the first, is not yet in `file`.
+// A case file as far as it was read: what stands behind the last `case` line, `head`, or before the first, is not yet
+// in `file`.
 pub(crate) struct Draft {
     pub(crate) file: CaseFile,
     pub(crate) head: Option<Head>,
@@ -83,57 +82,24 @@ impl Draft {
         }
     }
 
-    // What a line with this number does that says this. None: it is not refused.
-    pub(crate) fn take(
-        &mut self,
-        alloc: Global,
-        sizes: &ImageSizes,
-        number: u32,
-        line: &[u8],
-        says: LineSays,
-    ) -> Result<Option<CaseRefusal>, Memory>
-        requires { KeepsLimits self.old }
-        ensures after { IfOk result (λ refusal. said_after sizes.now self.old number (said_by says line.now) ≡ after_by refusal self.new) }
+    // A line with this number does this.
+    pub(crate) fn state(&mut self, number: u32, settings: Settings, act: Act) -> Result<(), Memory>
+        requires small { KeepsLimits self.old }
+        requires within { is_over self.old.stand act ≡ false }
+        ensures after { OnOk result (self.new ≡ stated self.old number settings act) }
         ensures small { OnOk result (KeepsLimits self.new) }
     {
-        match says {
-            LineSays::Nothing => Ok(None),
-            LineSays::Case => self.begin_case(alloc, number, case_name(line)),
-            LineSays::Asks(deed, settings) => self.ask(sizes, number, deed, settings),
-            LineSays::Broken(rule) => Ok(Some(at(rule, number))),
-        }
-    }
-
-    // A line asks for something.
-    fn ask(
-        &mut self,
-        sizes: &ImageSizes,
-        number: u32,
-        deed: Deed,
-        settings: Settings,
-    ) -> Result<Option<CaseRefusal>, Memory>
-        requires { KeepsLimits self.old }
-        ensures after { IfOk result (λ refusal. act_after self.old number settings (deed_settled sizes.now self.old.stand deed) ≡ after_by refusal self.new) }
-        ensures small { OnOk result (KeepsLimits self.new) }
-    {
-        let act = match settle(sizes, &self.stand, deed) {
-            Ok(act) => act,
-            Err(rule) => return Ok(Some(at(rule, number))),
-        };
-        if is_over(&self.stand, &act) {
-            return Ok(Some(at(CaseRule::K7, number)));
-        }
         self.stand = stand_after(number, self.stand, &act);
         self.statements.push(Statement {
             line: number,
             settings,
             act,
         })?;
-        Ok(None)
+        Ok(())
     }
 
-    // A case begins by this name.
-    fn begin_case(
+    // A case begins by this name. None: it is not refused.
+    pub(crate) fn begin_case(
         &mut self,
         alloc: Global,
         number: u32,

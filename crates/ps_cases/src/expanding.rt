@@ -7,7 +7,8 @@ ghost use Rattle.ps_cases.specs.declared.case.Setting.{Setting};
 ghost use Rattle.ps_cases.specs.declared.case.Case.{Case};
 ghost use Rattle.ps_cases.specs.Meant.{times_of, whole_case};
 ghost use Rattle.ps_cases.specs.Runnable.{IsRunnable};
-ghost use Rattle.ps_cases.specs.Expanded.{header_line, value_text, scan_line, name_line, act_text, point_set, next_point};
+ghost use Rattle.ps_cases.specs.Expanded.{header_line, value_text, scan_line, name_line, act_text, point_set};
+ghost use Rattle.ps_cases.specs.Expanded.{next_point};
 ghost use Rattle.ps_cases.specs.Expanded.{statements_text, SetInputs, end_point, case_text, cases_text, expanded};
 ghost use Rattle.ps_cases.specs.Writing.{Wrote};
 
@@ -96,7 +97,8 @@ fn put_case<S: Sink>(
     requires inputs { SetInputs (length point.old.ins) (begin.now ++ case.now.statements) }
     requires base { base < 2 ^ 63 }
     ensures wrote { Wrote S.tells S.taken S.faults
-        (case_text (length point.old.ins) base case.now.name (begin.now ++ case.now.statements)) out.old out.new result }
+        (case_text (length point.old.ins) base case.now.name (begin.now ++ case.now.statements))
+        out.old out.new result }
     ensures point { OnOk result
         (point.new ≡ end_point (length point.old.ins) base (begin.now ++ case.now.statements)) }
 {

@@ -1,21 +1,28 @@
 // What holds of all case files.
 
-ghost use Rattle.std.specs.Prelude.{◌≡◌, ◌≤◌, ◌++◌, ℕ, List, Bool, All, IfOk, length, flat_map, decimal};
+ghost use Rattle.std.specs.Prelude.{◌≡◌, ◌≤◌, ◌++◌, ◌∷◌, ℕ, List, Bool, All, IfOk, length, flat_map, decimal, codes};
+ghost use Rattle.std.specs.List.{range_with_len};
 ghost use Rattle.ps_base.specs.declared.limits.TheConstants.{LARGEST_TIME};
 ghost use Rattle.ps_model.specs.declared.channel.ImageSizes.{ImageSizes};
 ghost use Rattle.ps_model.specs.Meaning.{Item, Meaning, Past, Runs};
-ghost use Rattle.ps_model.specs.Network.{Network};
+ghost use Rattle.ps_model.specs.Network.{Network, input_count};
+ghost use Rattle.ps_model.specs.Sound.{IsSound};
+ghost use Rattle.ps_model.specs.declared.channel.Fault.{Fault as Strike};
 ghost use Rattle.ps_model.specs.Scanning.{State};
 ghost use Rattle.ps_trace.specs.Words.{fields};
 ghost use Rattle.ps_trace.specs.Trace.{line_said};
-ghost use Rattle.ps_trace.specs.Trace.Said.{scans};
+ghost use Rattle.ps_trace.specs.Trace.Said.{restarts, scans, skips};
+ghost use Rattle.ps_trace.specs.Header.{header_said, input_names};
+ghost use Rattle.ps_trace.specs.Header.Header.{places};
+ghost use Rattle.ps_trace.specs.Scans.{inputs_of};
 ghost use Rattle.ps_cases.specs.declared.case.Case.{Case};
 ghost use Rattle.ps_cases.specs.declared.case.CaseFile.{CaseFile};
 ghost use Rattle.ps_cases.specs.Meant.{whole_case, items_of};
 ghost use Rattle.ps_cases.specs.Runnable.{IsRunnable};
 ghost use Rattle.ps_cases.specs.File.{cases_of};
-ghost use Rattle.ps_cases.specs.Expanded.{value_text};
+ghost use Rattle.ps_cases.specs.Expanded.{value_text, name_line, fault_line};
 ghost use Rattle.ps_cases.specs.Joined.{later, later_past, items_of_file};
+ghost use Rattle.ps_cases.specs.Traced.{HasWords};
 
 /// Each case that a text says can be run.
 pub fn cases_can_be_run()
@@ -38,9 +45,26 @@ pub fn cases_mean_the_same_in_one_trace()
         Meaning net (items_of_file net file) (flat_map states file.cases) }
 {}
 
-/// A scan line of the trace of all cases, without its line feed, is read as the scan that it was written for, behind one at
+/// A scan line of the trace of all cases, without its line feed, is read as the scan that it was written for, behind
+/// one at
 /// this time or before.
 pub fn scan_lines_are_read()
     ensures { (now last : ℕ) (ins : List Bool) → now ≤ LARGEST_TIME → last ≤ now →
         line_said (length ins) last (fields (decimal now ++ flat_map value_text ins)) ≡ scans now ins }
+{}
+
+/// The header of the trace of all cases, without its line feed, is read as the inputs in their order, where their names
+/// are words: then a scan has the values of its line.
+pub fn header_is_read()
+    ensures places { (net : Network) → IsSound net → HasWords net →
+        header_said (input_names net) (fields (codes "time" ++ flat_map (λ s. 32 ∷ s.name) net.inputs))
+        ≡ places (range_with_len 0 (input_count net)) }
+    ensures values { (ins : List Bool) → inputs_of (range_with_len 0 (length ins)) ins ≡ ins }
+{}
+
+/// The other lines of that trace: names of cases and faults are passed over, and a restart is one.
+pub fn other_lines_are_read()
+    ensures names { (inputs last : ℕ) (name : List ℕ) → line_said inputs last (fields (name_line name)) ≡ skips }
+    ensures faults { (inputs last : ℕ) (fault : Strike) → line_said inputs last (fields (fault_line fault)) ≡ skips }
+    ensures restart { (inputs last : ℕ) → line_said inputs last (fields (codes "restart")) ≡ restarts }
 {}

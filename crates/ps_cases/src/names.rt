@@ -4,7 +4,8 @@ ghost use Rattle.std.specs.Prelude.{◌≡◌, ◌≢◌, ◌<◌, ℕ, length, 
 ghost use Rattle.ps_base.specs.LetterCase.{is_same_name};
 ghost use Rattle.ps_model.specs.Network.{declared_count, input_count, instance_count, kind_at};
 ghost use Rattle.ps_model.specs.Pins.{pin_names};
-ghost use Rattle.ps_cases.specs.Words.{number_named, signal_names, instance_names, pin_named, name_of, truth_of, four_digits, code_of_kind, value_of, values_of, input_in, setting_said};
+ghost use Rattle.ps_cases.specs.Words.{number_named, signal_names, instance_names, pin_named, name_of, truth_of};
+ghost use Rattle.ps_cases.specs.Words.{four_digits, code_of_kind, value_of, values_of, input_in, setting_said};
 
 use crate::case::{Name, Setting};
 use crate::lists::Values;

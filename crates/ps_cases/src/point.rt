@@ -82,7 +82,7 @@ fn last_time(pace: &Pace) -> u32
 }
 
 // The line of a fault, behind others.
-fn hold(alloc: Global, lines: &mut Bytes, fault: &Fault) -> Result<(), Memory>
+pub(crate) fn hold(alloc: Global, lines: &mut Bytes, fault: &Fault) -> Result<(), Memory>
     ensures { OnOk result (lines.new ≡ lines.old ++ fault_line fault.now) }
 {
     lines.extend_from_slice(b"# fault ")?;

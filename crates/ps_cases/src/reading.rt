@@ -11,9 +11,10 @@ ghost use Rattle.ps_cases.specs.Runnable.{IsRunnable};
 ghost use Rattle.ps_cases.specs.DraftSays.{IsRead};
 
 use crate::case::CaseFile;
-use crate::draft::{Draft, at};
+use crate::draft::at;
 use crate::limits::{LARGEST_CASE_FILE, LONGEST_CASE_LINE, MOST_CASE_LINES};
 use crate::line::read_line;
+use crate::measured::Measured;
 use crate::rule::{CaseRule, CasesFail};
 use ps_lines::{Got, Limits, LineReader};
 use ps_model::{App, ImageSizes};
@@ -27,14 +28,21 @@ const LIMITS: Limits = Limits {
 
 /// The cases of a case file of an application, whose channels have regions of these sizes.
 ///
-/// The first refused line decides; in a line K7 for its bytes or its number comes first, then the least number of a rule.
-/// K1: a line has not its form, or at the line behind the last one: there is no case. K2: a NAME that there is not, or of
-/// another sort. K3: a value. K4: a time before the scan before; a number, or a time in the case or in the expanded trace,
+/// The first refused line decides; in a line K7 for its bytes or its number comes first, then the least number of a
+/// rule.
+/// K1: a line has not its form, or at the line behind the last one: there is no case. K2: a NAME that there is not, or
+/// of
+/// another sort. K3: a value. K4: a time before the scan before; a number, or a time in the case or in the expanded
+/// trace,
 /// past 4,294,967,295. K5: an expectation with no scan of its case before it. K6: a fault past its region, of another
-/// channel than the first of its case, of a turn before that of the fault before it for the same scan, or with no scan of
-/// its case after it, which is found at the end of the case and is refused at the fault's line. K7: over 65,536 bytes in a
-/// line, 200 in a name of a case, 100,000 lines, 1,000 cases, 1,000 faults in a case, 1,000,000 scans, or 4,294,967,295
-/// bytes in all. What the lines before the first case cause only in their copy is refused at the line of the case.
+/// channel than the first of its case, of a turn before that of the fault before it for the same scan, or with no scan
+/// of
+/// its case after it, which is found at the end of the case and is refused at the fault's line. K7: over 65,536 bytes
+/// in a
+/// line, 200 in a name of a case, 100,000 lines, 1,000 cases, 1,000 faults in a case, 1,000,000 scans, 67,108,864 bytes
+/// in the trace that `expand` writes of what was read, or 4,294,967,295 in the file. What the lines before the first
+/// case
+/// cause only in their copy is refused at the line of the case.
 ///
 /// Each case that is given can be run: its faults come in order and strike one channel, its times do not fall, and its
 /// settings are of inputs. Memory is linear in the file, whatever the number of scans. `Fault` comes only where the
@@ -49,7 +57,8 @@ pub fn read_cases<F: Files>(
     ensures gives { IsTrue (F.tells files.old) → (text : List ℕ) → F.held files.old name.now ≡ Some text →
         IfOk result (λ file. cases_of app.now sizes.now text ≡ Ok file) }
     ensures refuses { IsTrue (F.tells files.old) → (text : List ℕ) → F.held files.old name.now ≡ Some text →
-        (refusal : CaseRefusal) → result ≡ Err (CasesFail.Refused refusal) → cases_of app.now sizes.now text ≡ Err refusal }
+        (refusal : CaseRefusal) → result ≡ Err (CasesFail.Refused refusal) →
+        cases_of app.now sizes.now text ≡ Err refusal }
     ensures found { IsTrue (F.tells files.old) → IsRead result → IsSome (F.held files.old name.now) }
     ensures fault { IsErrOf result CasesFail.Fault → Rose (F.faults files.old name.now) (F.faults files.new name.now) }
     ensures exact { ¬ IsErrOf result CasesFail.Fault → CountsStay (F.faults files.old) (F.faults files.new) }
@@ -63,12 +72,12 @@ pub fn read_cases<F: Files>(
     ensures telling { F.tells files.new ≡ F.tells files.old }
 {
     let mut lines = LineReader::start(alloc, name, LIMITS)?;
-    let mut draft = Draft::new(alloc);
+    let mut measured = Measured::new(alloc, app);
     let mut number = 1;
     'lines: loop {
         let got = lines.next_line(files)?;
         if got == Got::End {
-            return match draft.end(alloc, number)? {
+            return match measured.end(alloc, number)? {
                 Ok(file) => Ok(file),
                 Err(refusal) => Err(CasesFail::Refused(refusal)),
             };
@@ -77,7 +86,8 @@ pub fn read_cases<F: Files>(
             return Err(CasesFail::Refused(at(CaseRule::K7, number)));
         }
         let says = read_line(alloc, app, lines.line())?;
-        if let Some(refusal) = draft.take(alloc, sizes, number, lines.line(), says)? {
+        let line = lines.line();
+        if let Some(refusal) = measured.take(alloc, app, sizes, number, line, says)? {
             return Err(CasesFail::Refused(refusal));
         }
         number += 1;

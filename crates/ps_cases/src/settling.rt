@@ -1,9 +1,10 @@
 // What a line of a case does behind the lines before it, and how the case stands then.
 
-ghost use Rattle.std.specs.Prelude.{◌≡◌, ◌≤◌, ◌<◌, ◌+◌, ◌*◌, ◌^◌, false};
+ghost use Rattle.std.specs.Prelude.{◌≡◌, ◌≤◌, ◌<◌, ◌+◌, ◌*◌, ◌^◌, false, IfOk};
 ghost use Rattle.ps_base.specs.declared.limits.TheConstants.{LARGEST_TIME};
 ghost use Rattle.ps_trace.specs.Faults.{is_other, is_same_channel};
-ghost use Rattle.ps_cases.specs.Stands.{rounds, scans_to, one_scan, scans_until, fault_settled, deed_settled, is_over, stand_after, IsSmall};
+ghost use Rattle.ps_cases.specs.Stands.{rounds, scans_to, one_scan, scans_until, fault_settled, deed_settled};
+ghost use Rattle.ps_cases.specs.Stands.{is_over, unless_over, stand_after, IsSmall};
 
 use crate::case::{Act, Expectation, Pace};
 use crate::deed::Deed;
@@ -14,8 +15,21 @@ use ps_base::limits::LARGEST_TIME;
 use ps_model::{Channel, Fault, ImageSizes};
 use ps_trace::Target;
 
-// What a line does that asks for something, behind what stands before it.
+// What a line does that asks for something, behind what stands before it, unless it makes too much.
 pub(crate) fn settle(sizes: &ImageSizes, stand: &Stand, deed: Deed) -> Result<Act, CaseRule>
+    requires { IsSmall stand.now }
+    ensures settled { result ≡ unless_over stand.now (deed_settled sizes.now stand.now deed) }
+    ensures within { IfOk result (λ act. is_over stand.now act ≡ false) }
+{
+    let act = settle_deed(sizes, stand, deed)?;
+    if is_over(stand, &act) {
+        return Err(CaseRule::K7);
+    }
+    Ok(act)
+}
+
+// What a line does that asks for something, behind what stands before it.
+fn settle_deed(sizes: &ImageSizes, stand: &Stand, deed: Deed) -> Result<Act, CaseRule>
     requires { IsSmall stand.now }
     ensures { result ≡ deed_settled sizes.now stand.now deed }
 {
@@ -84,13 +98,13 @@ fn times(stand: &Stand, step: u32, count: u32) -> Result<Act, CaseRule>
     scans_to(stand, step, u64::from(stand.time) + span, u64::from(count))
 }
 
-// Scans a step apart, and one at this time.
+// Scans a step apart, and one at this time. A step of 0 counts as 1.
 fn scans_until(stand: &Stand, step: u32, target: u64) -> Result<Act, CaseRule>
     requires { target < 2 ^ 33 }
     ensures { result ≡ scans_until stand.now step target }
 {
     let span = target.saturating_sub(u64::from(stand.time));
-    scans_to(stand, step, target, rounds(step, span))
+    scans_to(stand, step.max(1), target, rounds(step, span))
 }
 
 // How many steps it takes to come so far: one at least. A step of 0 counts as 1.
@@ -130,7 +144,7 @@ fn is_other(first: Option<Channel>, channel: Channel) -> bool
 }
 
 // Whether a line makes more scans or faults than there may be.
-pub(crate) fn is_over(stand: &Stand, act: &Act) -> bool
+fn is_over(stand: &Stand, act: &Act) -> bool
     requires { IsSmall stand.now }
     ensures { result ≡ is_over stand.now act.now }
 {

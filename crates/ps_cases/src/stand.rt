@@ -22,7 +22,8 @@ pub(crate) struct Stand {
     pub(crate) waiting: u32,
 }
 
-// What the next case begins with: how many cases stand before it, when it begins in the expanded trace in ms, how many scans
+// What the next case begins with: how many cases stand before it, when it begins in the expanded trace in ms, how many
+// scans
 // these have made, and how a case stands behind the lines before the first.
 #[derive(Clone, Copy)]
 pub(crate) struct Coming {

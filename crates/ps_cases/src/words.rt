@@ -1,7 +1,8 @@
 // The words of a line, and the numbers that they are.
 
 ghost use Rattle.std.specs.Prelude.{◌≡◌, ◌≤◌, ◌<◌, ◌==◌, ◌∷◌, [], true, false, ◌-◌, length, take, drop, IfSome, IfNone};
-ghost use Rattle.std.specs.List.{position_or_len, before_first, after_first, before_last, after_last, list_all, list_any, slice_split};
+ghost use Rattle.std.specs.List.{position_or_len, before_first, after_first, before_last, after_last, list_all};
+ghost use Rattle.std.specs.List.{list_any, slice_split};
 ghost use Rattle.std.specs.Char.{is_ascii_digit};
 ghost use Rattle.std.specs.Option.{option_map_or};
 ghost use Rattle.ps_trace.specs.Words.{is_blank, words};
@@ -29,7 +30,8 @@ pub(crate) fn take_word(line: &[u8], at: usize) -> (&[u8], usize)
 pub(crate) fn next_counted(line: &[u8], at: usize) -> Option<(usize, usize)>
     requires { at ≤ length line.now }
     ensures within { IfSome result (λ word. (at ≤ word.0) × (word.0 < word.1) × (word.1 ≤ length line.now)) }
-    ensures first { IfSome result (λ word. counted (words (drop at line.now)) ≡ take (word.1 - word.0) (drop word.0 line.now) ∷ counted (words (drop word.1 line.now))) }
+    ensures first { IfSome result (λ word. counted (words (drop at line.now))
+        ≡ take (word.1 - word.0) (drop word.0 line.now) ∷ counted (words (drop word.1 line.now))) }
     ensures none { IfNone result (counted (words (drop at line.now)) ≡ []) }
 {
     let Some((from, upto)) = next_word(line, at) else {
@@ -108,7 +110,8 @@ pub(crate) fn cut(word: &[u8], byte: u8) -> (&[u8], Option<&[u8]>)
     ensures found { IfSome result.1 (λ rest. list_any (λ b. b == byte) word.now ≡ true) }
     ensures none { IfNone result.1 (list_any (λ b. b == byte) word.now ≡ false) }
     ensures shorter { IfSome result.1 (λ rest. length rest.now < length word.now) }
-    ensures split { slice_split (λ b. b == byte) word.now ≡ result.0.now ∷ option_map_or (λ rest. slice_split (λ b. b == byte) rest.now) result.1 [] }
+    ensures split { slice_split (λ b. b == byte) word.now
+        ≡ result.0.now ∷ option_map_or (λ rest. slice_split (λ b. b == byte) rest.now) result.1 [] }
 {
     let at = place_of(word, byte);
     if at == word.len() {

@@ -1,6 +1,8 @@
 -- What `test` runs, what it tells of it, and its status.
-use Rattle.std.specs.Prelude.{◌≡◌, ◌↔◌, ℕ, Bool, IsTrue, List, [], ◌∷◌, ◌++◌, Option, Some, Ok, length, if◌then◌else◌}
+use Rattle.std.specs.Prelude.{◌≡◌, ◌≤◌, ◌<◌, ◌+◌, ◌↔◌, ℕ, slice_index_or, Bool, IsTrue, List, [], ◌∷◌, ◌++◌, Option}
+use Rattle.std.specs.Prelude.{Some, Ok, length, if◌then◌else◌}
 use Rattle.std.specs.List.{list_all}
+use Rattle.std.specs.List.Sorted.{IsNonDecreasingBy}
 use Rattle.ps_bench_words.specs.declared.asking.Format.{Format}
 use Rattle.ps_cases.specs.declared.case.Case.{Case}
 use Rattle.ps_cases.specs.declared.case.CaseFile.{CaseFile}
@@ -8,6 +10,7 @@ use Rattle.ps_cases.specs.declared.case.Statement.{Statement}
 use Rattle.ps_cases.specs.File.{cases_of}
 use Rattle.ps_cases.specs.Meant.{items_of, whole_case}
 use Rattle.ps_judge.specs.CaseRuns.{IsJudged, failures_of}
+use Rattle.ps_judge.specs.declared.checks.Failure.{Failure}
 use Rattle.ps_judge.specs.declared.run.CaseOutcome.{CaseOutcome}
 use Rattle.ps_model.specs.Meaning.{Meaning}
 use Rattle.ps_model.specs.Network.{Network}
@@ -20,9 +23,17 @@ use Rattle.ps_tester.specs.declared.ending.Status.{Status}
 use Rattle.ps_tester.specs.declared.ending.Status.TheVariants.{Done, Failed}
 use Rattle.ps_tester.specs.declared.report.Tally.{Tally}
 
--- What came of a case that means these statements: its failures are those of the run that they mean.
+-- failures stand in the order of their lines, and neighbours of one line in the order of their times
+pub record AreToldInOrder (failures : List Failure) : Type 0 where
+  pub by_line : IsNonDecreasingBy (λ (f : Failure). f.line) failures
+  pub by_time : (k : ℕ) (d : Failure) → k + 1 < length failures →
+      (slice_index_or failures k d).line ≡ (slice_index_or failures (k + 1) d).line →
+      (slice_index_or failures k d).now ≤ (slice_index_or failures (k + 1) d).now
+
+-- What came of a case that means these statements: its failures are those of the run that they mean, in order.
 pub record IsOutcome (net : Network) (statements : List Statement) (outcome : CaseOutcome) : Type 0 where
   pub judged : IsJudged net statements outcome.failures.items
+  pub in_order : AreToldInOrder outcome.failures.items
 
 -- this case of a file of this name was run on an application
 pub record IsRan (net : Network) (name : List ℕ) (file : CaseFile) (case : Case) (r : Ran) : Type 0 where

@@ -12,7 +12,8 @@ ghost use Rattle.ps_model.specs.Typing.{Accepted};
 ghost use Rattle.ps_bench_words.specs.Seen.{seen};
 ghost use Rattle.ps_tester.specs.Lines.{Ran, passes, ran_of};
 ghost use Rattle.ps_tester.specs.Report.{case_text, counted, none_told};
-ghost use Rattle.ps_tester.specs.Testing.{AreRan, AreRanFiles, FileRan, IsOfText, IsOutcome, IsRan, IsRanFile};
+ghost use Rattle.ps_tester.specs.Testing.{AreToldInOrder, AreRan, AreRanFiles, FileRan, IsOfText, IsOutcome, IsRan};
+ghost use Rattle.ps_tester.specs.Testing.{IsRanFile};
 ghost use Rattle.ps_tester.specs.Testing.{cases_text, file_text, files_text, source, tally_of, tally_of_files};
 ghost use Rattle.ps_tester.specs.Testing.{test_status, test_text};
 
@@ -62,12 +63,14 @@ fn say<O: Output>(out: &mut O, text: &[u8]) -> Result<(), Stop>
     Ok(())
 }
 
-// Failures in the order of their lines and times.
+// Failures in the order of their lines, and those of a line in the order of their times.
 fn sorted(failures: Vec<Failure>) -> Result<Vec<Failure>, Memory>
-    ensures { IfOk result (λ sorted. (p : Failure → Bool) → list_all p sorted.items ≡ list_all p failures.items) }
+    ensures same { IfOk result (λ sorted. (p : Failure → Bool) → list_all p sorted.items ≡ list_all p failures.items) }
+    ensures ordered { IfOk result (λ sorted. AreToldInOrder sorted.items) }
 {
     let mut sorted = failures;
-    sorted.sort_by_key(|failure| (failure.line, failure.now))?;
+    sorted.sort_by_key(|failure| failure.now)?;
+    sorted.sort_by_key(|failure| failure.line)?;
     Ok(sorted)
 }
 

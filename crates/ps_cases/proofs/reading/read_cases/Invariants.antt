@@ -4,6 +4,7 @@ use Rattle.ps_lines.specs.Reader.{IsReading, left, begin_of, name_of, limits_of,
 use Rattle.ps_cases.specs.declared.limits.TheConstants.{LARGEST_CASE_FILE, MOST_CASE_LINES}
 use Rattle.ps_cases.specs.DraftSays.{KeepsLimits}
 use Rattle.ps_cases.specs.File.{cases_of, lines_read}
+use Rattle.ps_cases.specs.Rooms.{HasRoom}
 use Rattle.ps_cases.proofs.RunningFiles.{CanRun}
 use Rattle.ps_cases.proofs.reading.read_cases.Given as goal
 
@@ -11,9 +12,10 @@ abbrev pub invariant-lines : goal.invariant-lines
 invariant-lines g l = record {
   reads : IsTrue (g.F.Files.tells l.initial.files) → (text : List ℕ) → g.F.Files.held l.initial.files l.name ≡ Some text → IsReading l.lines text;
   says : IsTrue (g.F.Files.tells l.initial.files) → (text : List ℕ) → g.F.Files.held l.initial.files l.name ≡ Some text →
-      cases_of l.app l.sizes text ≡ lines_read l.app l.sizes l.draft l.number (left l.lines text);
-  small : KeepsLimits l.draft;
-  run : CanRun l.app l.draft;
+      cases_of l.app l.sizes text ≡ lines_read l.app l.sizes l.measured.draft l.number (left l.lines text);
+  small : KeepsLimits l.measured.draft;
+  run : CanRun l.app l.measured.draft;
+  room : HasRoom l.app l.measured.draft l.measured.room;
   found : IsTrue (g.F.Files.tells l.initial.files) → 0 < begin_of l.lines → IsSome (g.F.Files.held l.initial.files l.name);
   fresh : begin_of l.lines ≡ 0 → read_of l.lines ≡ 0;
   few : l.number ≤ MOST_CASE_LINES + 1;

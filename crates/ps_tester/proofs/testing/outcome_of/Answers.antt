@@ -5,5 +5,6 @@ pub returns : goal.returns
 returns c =
     record {
       judged = λ setup of ws means p.
-          c.in_ok-failures.ensures p ∙ c.in_ok-outcome.ensures.judged setup of ws means p;
+          c.in_ok-failures.ensures.same p ∙ c.in_ok-outcome.ensures.judged setup of ws means p;
+      in_order = c.in_ok-failures.ensures.ordered;
     }

@@ -1,10 +1,12 @@
-"""The tables of docs/blocks.md, and the mask rows of the crate ps_rows, for the scripts of this folder."""
+"""The tables of docs/blocks.md, the words of states of the crate ps_states, and the mask rows of the crate ps_rows, for the
+scripts of this folder."""
 import pathlib
 import re
 
 ROOT = pathlib.Path(__file__).resolve().parent.parent
 PAGE = ROOT / "docs" / "blocks.md"
 ROWS = ROOT / "crates" / "ps_rows" / "src"
+WORDS = ROOT / "crates" / "ps_states" / "specs" / "Words.antt"
 FILES = {  # the file of a kind's rows
     "SF_Equivalent": "equivalent",
     "SF_Antivalent": "equivalent",
@@ -40,10 +42,16 @@ def rows_of(file):
     return rows, says
 
 
+def words():
+    """What the states of each kind are called, as the crate ps_states has it: for each kind the words of its codes."""
+    lists = re.findall(r"abbrev pub (\w+) : List Called\n\w+ =\n(.*?)\n    ∷ \[\]", WORDS.read_text(), re.S)
+    found = {name: dict(re.findall(r'\(0x(\w+), codes "([^"]*)"\)', rows)) for name, rows in lists}
+    found["two_hand_three"] = {**found["two_hand_two"], **found["late"]}
+    return {kind: found[file] for kind, file in FILES.items()}
+
+
 def codes_of(cell):
-    """The codes that the first cell of a row of the page names."""
-    if " to " in cell:  # C011 to C091, those that end in 1
-        return [f"C0{tens}1" for tens in range(1, 10)]
+    """The codes that a text of the page names."""
     return re.findall(r"[0-9A-F]{4}", cell)
 
 
@@ -56,9 +64,9 @@ def tables():
         elif kinds and re.match(r"\| [0-9A-F]{4}\b", line):
             cells = [cell.strip() for cell in line.strip("|").split("|")]
             for kind in kinds:
-                if kind == "SF_TwoHandControlTypeII" and codes_of(cells[0]) == ["C004", "C005", "C006"]:
-                    continue  # type III alone
                 for code in codes_of(cells[0]):
+                    if kind == "SF_TwoHandControlTypeII" and code in ("C004", "C005", "C006"):
+                        continue  # type III alone
                     found.setdefault(kind, {})[code] = cells[1], cells[2]
     if "SF_Equivalent" in found:
         found["SF_Antivalent"] = found["SF_Equivalent"]

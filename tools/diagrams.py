@@ -4,7 +4,7 @@
 diagrams.py            prints the diagrams, in mermaid
 diagrams.py --write    writes them into the page, each between its two marks
 diagrams.py --check    asks whether the page has these diagrams, and whether its tables have the states and the ways of the
-                       rows, in the order in which they are tried; by its status
+                       rows, in the order in which they are tried, and the words of ps_states; by its status
 
 The rows are those that channel B runs. They are proved equal to the tables of ps_model (laws `.._rows` of ps_rows). Ways to Idle
 are left out, since they are the same in each state: Activate FALSE.
@@ -12,7 +12,7 @@ are left out, since they are the same in each state: Activate FALSE.
 import re
 import sys
 
-from blocks import FILES, PAGE, codes_of, rows_of, tables
+from blocks import FILES, PAGE, codes_of, rows_of, tables, words as words_of_states
 from plainly import plainly
 
 END = "<!-- up to here -->"
@@ -100,12 +100,7 @@ def next_codes(kind, state, text):
     """The next states that a table of the page names for a state, in order."""
     found = []
     for way in text.split(";"):
-        if "the code plus 1" in way:
-            found.append(f"C{int(state[1:], 16) + 1:03X}")
-        elif "the code less 1" in way:
-            found.append(f"C{int(state[1:], 16) - 1:03X}")
-        else:
-            found += codes_of(way)[-1:]
+        found += codes_of(way)[-1:]
     if kind == "SF_EnableSwitch" and state != "8004":
         found.insert(0, "8004")
     if kind == "SF_TwoHandControlTypeIII" and state in ("8005", "8006"):
@@ -120,6 +115,8 @@ def wrong_tables():
         shown = {state: next_codes(kind, state, text) for state, (_, text) in tables()[kind].items()}
         real = {state: [way for way, _ in ways_of if way != state] for state, ways_of in ways(rows_of(file)[0]).items() if state != "0000"}
         wrong += [f"{kind} {state}: {shown.get(state)} and {real.get(state)}" for state in sorted({*shown, *real}) if shown.get(state) != real.get(state)]
+        called = words_of_states()[kind]
+        wrong += [f"{kind} {state} is called {called.get(state)}" for state, (meaning, _) in tables()[kind].items() if called.get(state) != meaning]
     return wrong
 
 

@@ -1,0 +1,101 @@
+// The line of a value change.
+
+ghost use Rattle.std.specs.Prelude.{◌≡◌, ◌+◌, ◌*◌, ◌≤◌, ◌<◌, ◌++◌, length, take, flat_map};
+ghost use Rattle.ps_vcd.specs.declared.identifier.TheConstants.{MOST_WIRES};
+ghost use Rattle.ps_vcd.specs.declared.value.TheConstants.{LONGEST_WORDS};
+ghost use Rattle.ps_vcd.specs.Values.{held, shortened};
+ghost use Rattle.ps_vcd.specs.declared.change.TheConstants.{CHANGE_ROOM};
+ghost use Rattle.ps_vcd.specs.Text.{bits, shown_byte, value_text, vector_text, change_text};
+
+use crate::identifier::Identifier;
+use crate::room::{put, put_byte};
+use crate::value::{LONGEST_WORDS, Value, shortened};
+
+/// The most bytes of a change: `s`, words of which each byte takes up to four, a blank, an identifier and a line feed.
+pub(crate) const CHANGE_ROOM: usize = 6 + 4 * LONGEST_WORDS;
+
+// Puts so many binary digits of a number, the highest first.
+fn put_bits(text: &mut [u8], at: usize, count: usize, number: u64) -> usize
+    requires { at + count ≤ length text.old }
+    ensures bytes { take result text.new ≡ take at text.old ++ bits count number }
+    ensures end { result ≡ at + count }
+    ensures len { length text.new ≡ length text.old }
+{
+    if count == 0 {
+        return at;
+    }
+    let end = put_bits(text, at, count - 1, number / 2);
+    put_byte(text, end, b'0' + (number % 2) as u8)
+}
+
+// Puts a byte of words: a blank as `\x20`.
+fn put_shown(text: &mut [u8], at: usize, byte: u8) -> usize
+    requires { at + 4 ≤ length text.old }
+    ensures bytes { take result text.new ≡ take at text.old ++ shown_byte byte }
+    ensures end { result ≤ at + 4 }
+    ensures len { length text.new ≡ length text.old }
+{
+    if byte == b' ' {
+        put(text, at, b"\\x20")
+    } else {
+        put_byte(text, at, byte)
+    }
+}
+
+// Puts words.
+fn put_words(text: &mut [u8], at: usize, words: &[u8]) -> usize
+    requires { at + 4 * length words.now ≤ length text.old }
+    ensures bytes { take result text.new ≡ take at text.old ++ flat_map shown_byte words.now }
+    ensures end { result ≤ at + 4 * length words.now }
+    ensures len { length text.new ≡ length text.old }
+{
+    let mut end = at;
+    for byte in words {
+        end = put_shown(text, end, *byte);
+    }
+    end
+}
+
+// Puts what stands before an identifier.
+fn put_value(text: &mut [u8], at: usize, value: Value) -> usize
+    requires { at + (2 + 4 * LONGEST_WORDS) ≤ length text.old }
+    ensures bytes { take result text.new ≡ take at text.old ++ value_text (held value) }
+    ensures end { result ≤ at + (2 + 4 * LONGEST_WORDS) }
+    ensures len { length text.new ≡ length text.old }
+{
+    match value {
+        Value::Bit(value) => put_byte(text, at, if value { b'1' } else { b'0' }),
+        Value::Code(code) => put_vector(text, at, 16, u64::from(code)),
+        Value::Count(count) => put_vector(text, at, 64, count),
+        Value::Words(words) => {
+            let at = put_byte(text, at, b's');
+            let at = put_words(text, at, shortened(words));
+            put_byte(text, at, b' ')
+        }
+    }
+}
+
+// Puts a number of so many bits.
+fn put_vector(text: &mut [u8], at: usize, width: usize, number: u64) -> usize
+    requires room { at + (2 + width) ≤ length text.old }
+    ensures bytes { take result text.new ≡ take at text.old ++ vector_text width number }
+    ensures end { result ≡ at + (2 + width) }
+    ensures len { length text.new ≡ length text.old }
+{
+    let at = put_byte(text, at, b'b');
+    let at = put_bits(text, at, width, number);
+    put_byte(text, at, b' ')
+}
+
+// Puts the line of a change: the wire with this number has this value.
+pub(crate) fn put_change(text: &mut [u8], at: usize, wire: usize, value: Value) -> usize
+    requires wire { wire < MOST_WIRES }
+    requires room { at + CHANGE_ROOM ≤ length text.old }
+    ensures bytes { take result text.new ≡ take at text.old ++ change_text wire (held value) }
+    ensures end { result ≤ at + CHANGE_ROOM }
+    ensures len { length text.new ≡ length text.old }
+{
+    let at = put_value(text, at, value);
+    let at = put(text, at, Identifier::of(wire).as_slice());
+    put_byte(text, at, b'\n')
+}

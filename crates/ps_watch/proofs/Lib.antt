@@ -1,0 +1,4 @@
+mod Quoting
+mod Ranges
+mod Renewing
+mod Running

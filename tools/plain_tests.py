@@ -37,6 +37,7 @@ CANNOT = {
     "tools/plain_tests.py": [MANY, ["no_script_has_this_name"]],
     "tools/refusals": [[], ["nothing"], ["N2", "Z9"]],
     "tools/release": [[], MANY, ["one"], ["--verify"], ["--verify", "GONE"], ["--verify", "FOLDER"], ["--verify", "RECORDS"], ["--try", "a"], ["1.0", "FOLDER"], ["1.0", "EMPTY"]],
+    "tools/rows.py": [[], MANY, ["GONE"], ["FOLDER"], ["BYTES", "no_row"]],
     "tools/shared": [["nothing"], MANY],
     "tools/timing.py": [[], ["nothing"], MANY],
     "bench/allocations.py": [MANY, ["GONE"], ["FOLDER"], ["--few", "BYTES"]],
@@ -110,7 +111,7 @@ def annotated(trial):
             done = trial.call("tools/annotate", [name], stdin=run)
         trial.judge(f"tools/annotate of bytes, {name}", done, (DONE,) if name == "A" else (STOPPED,), name != "A")
         kept = b"".join(line for line in done.stdout.splitlines(True) if not line.startswith(b"      "))
-        if kept.rstrip(b"\n") != lines or (b"Idle -> 8001" in done.stdout) != (name == "A"):
+        if kept.rstrip(b"\n") != lines or (b"idle -> 8001" in done.stdout) != (name == "A"):
             trial.wrong.append(f"tools/annotate, {name}: it writes {done.stdout!r}")
     reads, writes = os.pipe()
     os.close(reads)

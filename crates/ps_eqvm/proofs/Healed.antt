@@ -19,9 +19,7 @@ use Rattle.ps_model.proofs.Keeping.{heals}
 use Rattle.ps_model.proofs.Sixteen.{load_of_store}
 use Rattle.ps_machine.specs.Bytes.{replaced}
 use Rattle.ps_machine.specs.Standing.{LoadsTo, limit_from, limit_in}
-use Rattle.ps_eqvm.proofs.Again.{bytes-append, one, four}
-use Rattle.ps_eqvm.proofs.Complements.{complement_small}
-use Rattle.ps_eqvm.proofs.StoredBytes.{bit_low}
+use Rattle.ps_eqvm.proofs.StaysPlain.{stored_bytes}
 use Rattle.ps_eqvm.specs.Restoring.{counted_block}
 
 -- ---- The limits of an application fit 32 bits.
@@ -91,24 +89,6 @@ mode_of_none mode h = let none = eqb-true mode 0 h in omega arith
 mode_small : (kind : Kind) (code mode : ℕ) → is_mode kind code mode ≡ true → mode < 256
 mode_small ModeSelector code mode h = mode_of_two (list_any (λ x. x == code) mode_states) mode h
 mode_small kind code mode h = mode_of_none mode h
-
-bit_byte : (b : Bool) → bit b < 256
-bit_byte b = let low = bit_low b in omega arith
-
-two : (n i : ℕ) → slice_index (to_be_bytes w16 n) i < 256
-two n zero = omega arith
-two n (suc zero) = omega arith
-two n (suc (suc i)) = lit< tt
-
-stored_bytes : (k : Kept) → k.mode < 256 → (i : ℕ) → slice_index (stored k) i < 256
-stored_bytes k low =
-    let zeros : List ℕ = replicate 7 0 in
-    let l4 : List ℕ = to_be_bytes w32 k.timer ++ zeros in
-    let h4 = bytes-append (to_be_bytes w32 k.timer) zeros (four k.timer) (complement_small (replicate 7 255)) in
-    let h3 = bytes-append (k.mode ∷ []) l4 (one k.mode low) h4 in
-    let h2 = bytes-append (bit k.last_auxiliary ∷ []) (k.mode ∷ l4) (one (bit k.last_auxiliary) (bit_byte k.last_auxiliary)) h3 in
-    let h1 = bytes-append (bit k.last_reset ∷ []) (bit k.last_auxiliary ∷ k.mode ∷ l4) (one (bit k.last_reset) (bit_byte k.last_reset)) h2 in
-    bytes-append (to_be_bytes w16 k.code) (bit k.last_reset ∷ bit k.last_auxiliary ∷ k.mode ∷ l4) (two k.code) h1
 
 pub counted_bytes : (kind : Kind) (limit t : ℕ) (bytes : List ℕ) (b : Block_state) → LoadsTo (Since t) kind bytes b → (i : ℕ) → slice_index (counted_block limit t bytes) i < 256
 counted_bytes kind limit t bytes b h i =

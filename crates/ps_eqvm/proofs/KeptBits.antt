@@ -1,12 +1,12 @@
 -- What is known of cells that are kept in bits.
-use Rattle.std.proofs.Common.{inl, inr, ◌≡◌, ℕ, zero, suc, ◌/◌, ◌%◌, ◌<◌, ◌≤◌, true, false, cond, List, length, replicate, refl, sym, ap, ◌∙◌, subst, ⊎_elim, arith, lit<, zero-add}
+use Rattle.std.proofs.Common.{Some, None, inl, inr, ◌≡◌, ℕ, zero, suc, ◌/◌, ◌%◌, ◌<◌, ◌≤◌, true, false, cond, List, length, replicate, refl, sym, ap, ◌∙◌, subst, ⊎_elim, arith, lit<, zero-add}
 use Rattle.std.specs.Prelude.{slice_index, ◌==◌, nat_lt}
 use Rattle.std.specs.Int.{bit_at}
 use Rattle.std.proofs.lemmas.Bool.{cases_Bool, cond-true, cond-false, eqb-true, eq-eqb, ne_eqb, lt-ltb, le-ltb, cases_lt, cases_eq}
 use Rattle.std.proofs.lemmas.List.{same_lists, length-replicate, get_or-replicate, get_or_past}
 use Rattle.std.proofs.lemmas.List.FromFn.{length-map-range_with_len, get_or-map-range_with_len}
 use Rattle.std.proofs.lemmas.Nat.Bits.{bit_at-lt, bit_at-zero}
-use Rattle.ps_eqvm.specs.Bits.{bit_in, plain_cell, plain_cells, words_for, AreCells, AreBitsOf}
+use Rattle.ps_eqvm.specs.Bits.{truth_of, bit_in, plain_cell, plain_cells, words_for, AreCells, AreBitsOf}
 
 pub length-cells : (value odd counted : List ℕ) → length (plain_cells value odd counted) ≡ length counted
 length-cells value odd counted = length-map-range_with_len (plain_cell value odd counted) 0 (length counted)
@@ -102,6 +102,10 @@ even_cell value odd counted i is small =
           absurd (omega (arith, own, small, is.counts i one))
       | inr other ↦ omega (arith, low, other)
     ]
+
+-- a byte that is 0 or 1 is a truth value
+pub truth_even : (byte : ℕ) → byte < 2 → truth_of byte ≡ Some (byte == 1)
+truth_even byte low = cond-false (nat_lt 1 byte) None (Some (byte == 1)) (le-ltb 1 byte (omega arith))
 
 -- where no cell is odd
 pub even_cells : (value odd counted : List ℕ) → ((i : ℕ) → bit_in odd i ≡ 0) → (i : ℕ) → i < length (plain_cells value odd counted) → slice_index (plain_cells value odd counted) i < 2

@@ -2,6 +2,7 @@ pub mod Again
 pub mod Blocks
 pub mod Complements
 pub mod Fetching
+pub mod Joining
 pub mod KeptBits
 pub mod Lengths
 pub mod LowBits

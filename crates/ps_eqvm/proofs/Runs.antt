@@ -118,6 +118,20 @@ module _ (words : List ℕ) (i count number w : ℕ) (within : i / 64 < length w
       other j one (inl low) = before (j % 64) (omega (arith, one, low))
       other j one (inr high) = after (j % 64) (omega (arith, one, high))
 
+-- words of which each bit is 0, and so many side by side become 0
+pub run_clear : (odd odd' : List ℕ) (i count : ℕ) → ((k : ℕ) → k < count → bit_in odd' (i + k) ≡ bit_at 0 k) → ((j : ℕ) → (j < i) ⊎ (i + count ≤ j) → bit_in odd' j ≡ bit_in odd j) →
+    ((j : ℕ) → bit_in odd j ≡ 0) → (j : ℕ) → bit_in odd' j ≡ 0
+run_clear odd odd' i count inside off clear j = elim (cases_lt j i) [
+  | inl low ↦ off j (inl low) ∙ clear j
+  | inr high ↦ elim (cases_lt j (i + count)) [
+    | inl within ↦
+        let k = j - i in
+        let there : j ≡ i + k = omega (arith, high) in
+        ap (bit_in odd') there ∙ inside k (omega (arith, high, within)) ∙ bit_at-zero k
+    | inr past ↦ off j (inr past) ∙ clear j
+  ]
+]
+
 -- cells of which so many side by side are new, and not odd
 module _ (value value' odd odd' counted : List ℕ) (i count number : ℕ) (is : AreCells value odd counted) (room : i + count ≤ length counted)
     (size : length value' ≡ length value) (size' : length odd' ≡ length odd)

@@ -71,7 +71,7 @@ zero_bytes : (n : ℕ) → AreBytes (replicate n 0)
 zero_bytes zero = no_bytes
 zero_bytes (suc n) = bytes-append (0 ∷ []) (replicate n 0) (one 0 (lit< tt)) (zero_bytes n)
 
-stored_bytes : (k : Kept) → k.mode < 256 → AreBytes (stored k)
+pub stored_bytes : (k : Kept) → k.mode < 256 → AreBytes (stored k)
 stored_bytes k low =
     let rest : List ℕ = replicate 7 0 in
     let timed = bytes-append (to_be_bytes w32 k.timer) rest (four k.timer) (zero_bytes 7) in

@@ -44,3 +44,7 @@ pub record AreBitsOf (test : ℕ → Bool) (cells words : List ℕ) : Type 0 whe
 -- the byte of each of so many signals is 0 or 1, where the bytes of all cells are these
 abbrev pub AreEven : (signals : ℕ) → List ℕ → Type 0
 AreEven signals bytes = (s : ℕ) → s < signals → is_no_bit (slice_index bytes (SIGNALS_AT + s)) ≡ false
+
+-- each byte is 0 or 1
+abbrev pub AreTruths : List ℕ → Type 0
+AreTruths bytes = (i : ℕ) → i < length bytes → slice_index bytes i < 2

@@ -17,3 +17,4 @@ pub mod Finding
 pub mod Gates
 pub mod Pins
 pub mod Instances
+pub mod Readies

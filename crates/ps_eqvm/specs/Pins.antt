@@ -19,9 +19,8 @@ Reads (Bits bits) bytes = (list_any is_missing bytes ≡ false) × (list_any is_
 abbrev pub pin_byte : (signals : ℕ) → (cells code : List ℕ) → (from j : ℕ) → Option ℕ
 pin_byte signals cells code from j = byte_of cells (operand_of signals (be2 code (from + 2 * j)))
 
--- What is known after n operands, where f k is the byte of operand k: none is bad, none is neither 0 nor 1, and the pins so far.
+-- What is known after n operands, where f k is the byte of operand k: none is bad, and the pins so far.
 pub record ReadSoFar (f : ℕ → Option ℕ) (n bits : ℕ) : Type 0 where
   pub whole : list_any is_missing (map f (range_with_len 0 n)) ≡ false
-  pub even : list_any is_odd (map f (range_with_len 0 n)) ≡ false
   pub pins : (k : ℕ) → k < n → pin_of bits k ≡ is_on (f k)
   pub beyond : (k : ℕ) → n ≤ k → bit_at bits k ≡ 0

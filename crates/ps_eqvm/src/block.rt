@@ -1,6 +1,6 @@
 // BLOCK: one step of an instance.
 
-ghost use Rattle.std.specs.Prelude.{◌≡◌, ◌≢◌, ℕ, ◌+◌, ◌*◌, ◌<◌, ◌≤◌, ◌||◌, Option, if◌then◌else◌, length, true};
+ghost use Rattle.std.specs.Prelude.{◌≡◌, ◌≢◌, ℕ, ◌+◌, ◌*◌, ◌<◌, ◌≤◌, Option, IfSome, IfNone, if◌then◌else◌, length, false, true};
 ghost use Rattle.std.specs.List.{list_any};
 ghost use Rattle.ps_model.specs.Blocks.{output_count};
 ghost use Rattle.ps_model.specs.Budgets.{boolean_count};
@@ -9,7 +9,7 @@ ghost use Rattle.ps_machine.specs.Bytes.{instance_bytes};
 ghost use Rattle.ps_model.specs.PinBits.{pin_of};
 ghost use Rattle.ps_eqvm.specs.Plain.{IsSized};
 ghost use Rattle.ps_eqvm.specs.Rows.{operands};
-ghost use Rattle.ps_eqvm.specs.Acting.{after_block, block_as, trapped, after_step, pin_bytes, is_missing, is_odd};
+ghost use Rattle.ps_eqvm.specs.Acting.{after_block, block_as, trapped, after_step, pin_bytes, pins_on, is_missing, is_odd};
 ghost use Rattle.ps_eqvm.specs.Pins.{Reads};
 ghost use Rattle.ps_eqvm.specs.Finding.{found_of};
 
@@ -44,36 +44,43 @@ pub struct Site {
     pub next: u32,
 }
 
-// The pins that so many operands from a place of the code on give, among so many signals.
+// Of so many operands from a place of the code on, among so many signals, which bytes are 1: bit j is operand j. None
+// comes where one of them is bad.
+#[inline(always)]
+fn ones_of(plain: &PlainCells, signals: u16, code: &[u8], from: usize, count: u8) -> Option<u32>
+    requires sized { length plain.now.cells ≡ WORK_CELLS + signals }
+    requires whole { from + 2 * count ≤ length code.now }
+    requires few { count ≤ 32 }
+    ensures some { IfSome result (λ bits. pin_of bits ≡ pins_on (pin_bytes signals plain.now.cells (operands code.now from count))) }
+    ensures whole { IfSome result (λ bits. list_any is_missing (pin_bytes signals plain.now.cells (operands code.now from count)) ≡ false) }
+    ensures none { IfNone result (list_any is_missing (pin_bytes signals plain.now.cells (operands code.now from count)) ≡ true) }
+{
+    let mut bits = 0;
+    for j in 0..count {
+        let on = plain.is_one(signals, number_in_two(code, from + 2 * j as usize))?;
+        bits = with_bit(bits, j, on);
+    }
+    Some(bits)
+}
+
+// The pins that so many operands from a place of the code on give, among so many signals. A bad one counts before an
+// odd one. Where all cells are even, no odd bit is looked at.
+#[inline(always)]
 fn pins_of(plain: &PlainCells, signals: u16, code: &[u8], from: usize, count: u8) -> Pins
     requires sized { length plain.now.cells ≡ WORK_CELLS + signals }
     requires whole { from + 2 * count ≤ length code.now }
     requires few { count ≤ 32 }
     ensures { Reads result (pin_bytes signals plain.now.cells (operands code.now from count)) }
 {
-    let mut bits = 0;
-    for j in 0..count {
-        match plain.find(signals, number_in_two(code, from + 2 * j as usize)) {
-            Found::Truth(on) => bits = with_bit(bits, j, on),
-            _ => return refused_pins(plain, signals, code, from, count),
+    match ones_of(plain, signals, code, from, count) {
+        None => Pins::Missing,
+        Some(bits) => {
+            if plain.are_even() || !has_odd(plain, signals, code, from, count) {
+                Pins::Bits(bits)
+            } else {
+                Pins::Odd
+            }
         }
-    }
-    Pins::Bits(bits)
-}
-
-// The same where one of them at least is bad or odd. A bad one counts before an odd one.
-#[cold]
-#[inline(never)]
-fn refused_pins(plain: &PlainCells, signals: u16, code: &[u8], from: usize, count: u8) -> Pins
-    requires sized { length plain.now.cells ≡ WORK_CELLS + signals }
-    requires whole { from + 2 * count ≤ length code.now }
-    requires refused { (list_any is_missing (pin_bytes signals plain.now.cells (operands code.now from count)) || list_any is_odd (pin_bytes signals plain.now.cells (operands code.now from count))) ≡ true }
-    ensures { Reads result (pin_bytes signals plain.now.cells (operands code.now from count)) }
-{
-    if has_bad(plain, signals, code, from, count) {
-        Pins::Missing
-    } else {
-        Pins::Odd
     }
 }
 
@@ -86,6 +93,33 @@ fn was_bad(found: Found) -> bool
         Found::Odd => false,
         Found::Truth(_) => false,
     }
+}
+
+// Whether the operand was odd.
+fn was_odd(found: Found) -> bool
+    ensures { (byte : Option ℕ) → found ≡ found_of byte → result ≡ is_odd byte }
+{
+    match found {
+        Found::Missing => false,
+        Found::Odd => true,
+        Found::Truth(_) => false,
+    }
+}
+
+// Whether one of so many operands from a place of the code on is odd, among so many signals.
+#[cold]
+#[inline(never)]
+fn has_odd(plain: &PlainCells, signals: u16, code: &[u8], from: usize, count: u8) -> bool
+    requires sized { length plain.now.cells ≡ WORK_CELLS + signals }
+    requires whole { from + 2 * count ≤ length code.now }
+    ensures { result ≡ list_any is_odd (pin_bytes signals plain.now.cells (operands code.now from count)) }
+{
+    for j in 0..count {
+        if was_odd(plain.find(signals, number_in_two(code, from + 2 * j as usize))) {
+            return true;
+        }
+    }
+    false
 }
 
 // Whether one of so many operands from a place of the code on is bad, among so many signals.

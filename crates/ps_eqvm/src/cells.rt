@@ -18,17 +18,19 @@ pub struct BitCells {
     value: Vec<u64>,
     odd: Vec<u64>,
     counted: Vec<u8>,
+    // TRUE only where no cell is odd
+    even: bool,
 }
 
 impl Model for BitCells {
-    ghost use Rattle.std.specs.Prelude.{ℕ, List};
-    ghost use Rattle.ps_eqvm.specs.Bits.{plain_cells, AreCells};
+    ghost use Rattle.std.specs.Prelude.{◌≡◌, ℕ, List, true};
+    ghost use Rattle.ps_eqvm.specs.Bits.{bit_in, plain_cells, AreCells};
 
     ghost Value = { List ℕ };
 
     ghost view = { λ c. plain_cells c.value.items c.odd.items c.counted.items };
 
-    ghost invariant = { λ c. AreCells c.value.items c.odd.items c.counted.items };
+    ghost invariant = { λ c. AreCells c.value.items c.odd.items c.counted.items × (c.even ≡ true → (i : ℕ) → bit_in c.odd.items i ≡ 0) };
 }
 
 // The truth value of cell i, or None where it is odd.
@@ -50,6 +52,7 @@ fn write(value: &mut [u64], odd: &mut [u64], counted: &[u8], i: usize, on: bool)
     requires within { i < length counted.now }
     ensures cells { AreCells value.new odd.new counted.now }
     ensures written { plain_cells value.new odd.new counted.now ≡ slice_set (plain_cells value.old odd.old counted.now) i (bit on) }
+    ensures even { ((j : ℕ) → bit_in odd.old j ≡ 0) → (j : ℕ) → bit_in odd.new j ≡ 0 }
 {
     place(odd, i, false);
     place(value, i, on);
@@ -88,6 +91,7 @@ fn write_run(value: &mut [u64], odd: &mut [u64], counted: &[u8], i: usize, count
     requires fits { i % 64 + count ≤ 64 }
     ensures cells { AreCells value.new odd.new counted.now }
     ensures written { (values : List Bool) → length values ≡ count → AreLowBits values number → plain_cells value.new odd.new counted.now ≡ replaced (plain_cells value.old odd.old counted.now) i (map bit values) }
+    ensures even { ((j : ℕ) → bit_in odd.old j ≡ 0) → (j : ℕ) → bit_in odd.new j ≡ 0 }
 {
     place_run(odd, i, count, 0);
     place_run(value, i, count, number);
@@ -101,7 +105,7 @@ fn are_bytes(bytes: &[u8])
 impl BitCells {
     ghost use Rattle.std.specs.Prelude.{◌≡◌, ℕ, ◌+◌, ◌<◌, ◌≤◌, ◌^◌, ◌==◌, Bool, IfOk, List, length, map, replicate, slice_index, slice_set, nat_lt, true};
     ghost use Rattle.ps_machine.specs.Bytes.{bit, replaced};
-    ghost use Rattle.ps_eqvm.specs.Bits.{truth_of, AreBitsOf};
+    ghost use Rattle.ps_eqvm.specs.Bits.{truth_of, AreBitsOf, AreTruths};
     ghost use Rattle.ps_eqvm.specs.LowBits.{AreLowBits};
 
     /// So many cells, each 0.
@@ -117,6 +121,7 @@ impl BitCells {
             value,
             odd,
             counted,
+            even: true,
         })
     }
 
@@ -139,7 +144,19 @@ impl BitCells {
         requires { i < length self.now }
         ensures { result ≡ truth_of (slice_index self.now i) }
     {
-        read(&self.value, &self.odd, &self.counted, i)
+        if self.are_even() {
+            Some(self.is_one(i))
+        } else {
+            read(&self.value, &self.odd, &self.counted, i)
+        }
+    }
+
+    /// Whether the byte of a cell is 1: only then its value bit is.
+    pub fn is_one(&self, i: usize) -> bool
+        requires { i < length self.now }
+        ensures { result ≡ (slice_index self.now i == 1) }
+    {
+        bit_at(&self.value, i)
     }
 
     /// A cell becomes a truth value.
@@ -163,7 +180,7 @@ impl BitCells {
     /// the cells stand in one word, they are written at once.
     #[inline(always)]
     pub fn put_run(&mut self, i: usize, count: u8, number: u32)
-        requires low { i < 2 ^ 32 }
+        requires low { i + 32 < 2 ^ 64 }
         requires room { i + count ≤ length self.old }
         requires few { count ≤ 32 }
         ensures { (values : List Bool) → length values ≡ count → AreLowBits values number → self.new ≡ replaced self.old i (map bit values) }
@@ -186,7 +203,7 @@ impl BitCells {
     #[cold]
     #[inline(never)]
     fn put_each(&mut self, i: usize, count: u8, number: u32)
-        requires low { i < 2 ^ 32 }
+        requires low { i + 32 < 2 ^ 64 }
         requires room { i + count ≤ length self.old }
         requires few { count ≤ 32 }
         ensures { (values : List Bool) → length values ≡ count → AreLowBits values number → self.new ≡ replaced self.old i (map bit values) }
@@ -202,6 +219,7 @@ impl BitCells {
         ensures { self.new ≡ slice_set self.old i byte }
     {
         if byte > 1 {
+            self.even = false;
             write_odd(&mut self.value, &mut self.odd, &mut self.counted, i, byte);
         } else {
             self.put(i, byte == 1);
@@ -214,13 +232,24 @@ impl BitCells {
     {
         clear_all(&mut self.value);
         clear_all(&mut self.odd);
+        self.even = true;
     }
 
-    /// TRUE only where each cell's byte is 0 or 1.
+    /// TRUE only where each cell's byte is 0 or 1. It is TRUE from the first, and FALSE once a byte was neither, until
+    /// `look` sees that none is any longer.
     pub fn are_even(&self) -> bool
-        ensures { result ≡ true → (i : ℕ) → i < length self.now → slice_index self.now i < 2 }
+        ensures { result ≡ true → AreTruths self.now }
     {
-        are_clear(&self.odd)
+        self.even
+    }
+
+    /// Looks whether a byte is still neither 0 nor 1, where one was.
+    pub fn look(&mut self)
+        ensures { self.new ≡ self.old }
+    {
+        if !self.even {
+            self.even = are_clear(&self.odd);
+        }
     }
 
     /// The value words: a bit is 1 exactly where its cell's byte is 1.

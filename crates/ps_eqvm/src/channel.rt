@@ -14,7 +14,7 @@ use std::alloc::Global;
 use std::marker::Model;
 
 /// Channel B: a machine that runs equation code. It has its own copy of the code and its cells, and
-/// remembers nothing else. Contracts see both as bytes as they are stored: each byte of the cells is
+/// remembers nothing else of a scan. Contracts see both as bytes as they are stored: each byte of the cells is
 /// 255 less its plain value. Every turn reads its row from that code, so bytes that a fault replaced
 /// are run as they are. Of its calls only `new` takes memory.
 #[derive(Debug)]
@@ -22,6 +22,8 @@ pub struct EquationChannel {
     sizes: Sizes,
     code: Vec<u8>,
     plain: PlainCells,
+    // of each instance the signal of its Ready, as `new` found it by the sizes
+    readies: Vec<u16>,
 }
 
 impl Drop for EquationChannel {
@@ -31,6 +33,7 @@ impl Drop for EquationChannel {
             sizes: _,
             code: _,
             plain: _,
+            readies: _,
         } = self;
     }
 }
@@ -38,13 +41,14 @@ impl Drop for EquationChannel {
 impl Model for EquationChannel {
     ghost use Rattle.std.specs.Prelude.{◌≡◌, ◌^◌, ◌<◌, length};
     ghost use Rattle.ps_eqvm.specs.Plain.{laid_out, IsSized};
+    ghost use Rattle.ps_eqvm.specs.Readies.{AreReadies};
     ghost use Rattle.ps_machine.specs.StoredChannel.{Stored};
 
     ghost Value = { Stored };
 
     ghost view = { λ c. record { sizes = c.sizes; code = c.code.items; cells = laid_out c.plain } };
 
-    ghost invariant = { λ c. IsSized c.sizes.signals c.sizes.instances c.plain × (length c.code.items < 2 ^ 32) };
+    ghost invariant = { λ c. IsSized c.sizes.signals c.sizes.instances c.plain × (length c.code.items < 2 ^ 32) × AreReadies c.sizes c.readies.items };
 }
 
 // How many bytes the cells of an application have.
@@ -74,7 +78,13 @@ impl EquationChannel {
         let sizes = copy_of(alloc, sizes)?;
         let code = Vec::from_slice(alloc, image.as_slice())?;
         let plain = PlainCells::all_zero(alloc, sizes.signals, sizes.instances)?;
-        Ok(EquationChannel { sizes, code, plain })
+        let readies = report::ready_signals(alloc, &sizes)?;
+        Ok(EquationChannel {
+            sizes,
+            code,
+            plain,
+            readies,
+        })
     }
 
     /// The channel is as `new` makes it from this image.
@@ -209,11 +219,11 @@ impl EquationChannel {
         ensures sized { (length into.new.outs ≡ length into.old.outs) × (length into.new.diags ≡ length into.old.diags) }
     {
         self.plain.sound();
-        if !report::has_report(&self.plain, &self.sizes) {
+        if !report::has_report(&self.plain, &self.sizes, &self.readies) {
             return false;
         }
         report::write_outputs(&self.plain, &self.sizes, &mut into.outs);
-        report::write_diags(&self.plain, &self.sizes, &mut into.diags);
+        report::write_diags(&self.plain, &self.sizes, &self.readies, &mut into.diags);
         true
     }
 }

@@ -5,7 +5,6 @@ ghost use Rattle.std.specs.Prelude.{◌≡◌, length, replicate};
 use crate::kept::{read, store};
 use crate::layout::INSTANCE_SIZE;
 use ps_base::Memory;
-use ps_machine::replace;
 use ps_rows::CountedBlock;
 use std::alloc::Global;
 use std::marker::Model;
@@ -83,7 +82,7 @@ impl InstanceBytes {
         requires { INSTANCE_SIZE * i + INSTANCE_SIZE ≤ length self.old }
         ensures { self.new ≡ replaced self.old (INSTANCE_SIZE * i) (stored (kept_of block)) }
     {
-        replace(&mut self.stored, INSTANCE_SIZE * i, &store(block));
+        store(&mut self.stored, INSTANCE_SIZE * i, block);
     }
 
     /// One byte becomes another, by its plain value.

@@ -1,8 +1,10 @@
 // The sixteen bytes of an instance, as they are stored: each is 255 less its plain value.
 
-ghost use Rattle.std.specs.Prelude.{◌≡◌, ℕ, ◌+◌, ◌<◌, ◌≤◌, IfSome, IfNone, length, slice_index, true};
+ghost use Rattle.std.specs.Prelude.{◌≡◌, ℕ, ◌+◌, ◌-◌, ◌^◌, ◌<◌, ◌≤◌, IfSome, IfNone, length, slice_index, take, drop, true};
+ghost use Rattle.std.specs.Int.{w64, to_be_bytes};
 ghost use Rattle.ps_model.specs.Stored.{stored};
 ghost use Rattle.ps_rows.specs.Counted.{kept_of};
+ghost use Rattle.ps_machine.specs.Bytes.{replaced};
 ghost use Rattle.ps_eqvm.specs.Plain.{complement};
 ghost use Rattle.ps_eqvm.specs.Instances.{sixteen_at, LoadAs, LoadNowhere};
 
@@ -42,16 +44,44 @@ pub fn read(stored: &[u8], at: usize) -> Option<CountedBlock>
     })
 }
 
-/// The sixteen bytes of what an instance keeps, as they are stored.
-pub fn store(block: CountedBlock) -> [u8; 16]
-    ensures { complement result ≡ stored (kept_of block) }
+// The bytes 0 to 7 of what an instance keeps as one number, byte 0 the highest: the code, the last inputs, the mode and
+// all of the time but its last byte.
+#[inline(always)]
+fn head(block: CountedBlock) -> u64
+    ensures { to_be_bytes w64 (2 ^ 64 - 1 - result) ≡ complement (take 8 (stored (kept_of block))) }
 {
-    let [c0, c1] = (!block.code).to_be_bytes();
-    let [t0, t1, t2, t3] = (!block.remains).to_be_bytes();
-    let reset = !u8::from(block.last_reset);
-    let auxiliary = !u8::from(block.last_auxiliary);
-    let mode = !block.mode;
-    [
-        c0, c1, reset, auxiliary, mode, t0, t1, t2, t3, 255, 255, 255, 255, 255, 255, 255,
-    ]
+    u64::from(block.code) * (1 << 48)
+        + u64::from(block.last_reset) * (1 << 40)
+        + u64::from(block.last_auxiliary) * (1 << 32)
+        + u64::from(block.mode) * (1 << 24)
+        + u64::from(block.remains / 256)
+}
+
+// The bytes 8 to 15 in the same way: the last byte of the time, and seven that are 0.
+#[inline(always)]
+fn tail(block: CountedBlock) -> u64
+    ensures { to_be_bytes w64 (2 ^ 64 - 1 - result) ≡ complement (drop 8 (stored (kept_of block))) }
+{
+    u64::from(block.remains % 256) * (1 << 56)
+}
+
+// Writes a number in eight bytes at a place, the highest first.
+#[inline(always)]
+fn put_eight(bytes: &mut [u8], at: usize, number: u64)
+    requires { at + 8 ≤ length bytes.old }
+    ensures { bytes.new ≡ replaced bytes.old at (to_be_bytes w64 number) }
+{
+    for (i, byte) in number.to_be_bytes().iter().enumerate() {
+        bytes[at + i] = *byte;
+    }
+}
+
+/// The sixteen bytes that are stored from a place on become those of what an instance keeps.
+#[inline(always)]
+pub fn store(bytes: &mut [u8], at: usize, block: CountedBlock)
+    requires { at + 16 ≤ length bytes.old }
+    ensures { bytes.new ≡ replaced bytes.old at (complement (stored (kept_of block))) }
+{
+    put_eight(bytes, at, !head(block));
+    put_eight(bytes, at + 8, !tail(block));
 }

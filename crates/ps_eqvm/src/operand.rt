@@ -4,7 +4,7 @@ ghost use Rattle.std.specs.Prelude.{◌≡◌, ◌+◌, ◌<◌, ◌≤◌, leng
 ghost use Rattle.ps_eqvm.specs.Code.{work, constant_of};
 ghost use Rattle.ps_eqvm.specs.Rows.{operand_of};
 ghost use Rattle.ps_eqvm.specs.Acting.{byte_of};
-ghost use Rattle.ps_eqvm.specs.Finding.{found_of, IsWithin};
+ghost use Rattle.ps_eqvm.specs.Finding.{found_of, one_of, IsWithin};
 
 use crate::cells::BitCells;
 use crate::layout::WORK_CELLS;
@@ -73,6 +73,18 @@ pub fn find(cells: &BitCells, operand: Operand) -> Found
         },
         Operand::Constant(on) => Found::Truth(on),
         Operand::Bad => Found::Missing,
+    }
+}
+
+/// Whether the byte of an operand is 1, and None where the operand is bad.
+pub fn is_one(cells: &BitCells, operand: Operand) -> Option<bool>
+    requires { IsWithin (length cells.now) operand }
+    ensures { result ≡ one_of (byte_of cells.now operand) }
+{
+    match operand {
+        Operand::Cell(i) => Some(cells.is_one(i as usize)),
+        Operand::Constant(on) => Some(on),
+        Operand::Bad => None,
     }
 }
 

@@ -1,17 +1,18 @@
 // The cells with their plain content.
 
-ghost use Rattle.std.specs.Prelude.{◌≡◌, ◌+◌, ◌<◌, ◌≤◌, ◌^◌, length, map, slice_set};
+ghost use Rattle.std.specs.Prelude.{◌≡◌, ℕ, ◌+◌, ◌<◌, ◌≤◌, ◌^◌, List, length, map, slice_set, take};
 ghost use Rattle.std.specs.Int.{w32, to_be_bytes};
 ghost use Rattle.ps_model.specs.Blocks.{outs, output_count};
 ghost use Rattle.ps_machine.specs.Bytes.{bit, replaced};
+ghost use Rattle.ps_eqvm.specs.LowBits.{AreLowBits};
 
 use crate::cells::BitCells;
 use crate::instances::InstanceBytes;
 use crate::layout::{
     INSTANCE_SIZE, LAST_AT, PASSED_AT, PROGRESS_AT, SIGNALS_AT, WORK_AT, WORK_CELLS,
 };
-use crate::operand::{Found, Operand, find};
-use crate::outputs::outputs;
+use crate::operand::{Found, Operand, find, is_one};
+use crate::outputs::{low_then_high, outputs};
 use crate::trap::Trap;
 use ps_base::Memory;
 use ps_model::{Kind, OutOfRegion};
@@ -53,14 +54,64 @@ impl Model for PlainCells {
     ghost view = { λ p. record { offset = p.offset; progress = p.progress; last = p.last; passed = p.passed; cells = p.cells; blocks = p.blocks } };
 }
 
+// How many truth values are written at once.
+const AT_ONCE: usize = 8;
+
+// Truth values as the lowest bits of a number, from the last to the first.
+#[inline(always)]
+fn low_bits(values: &[bool]) -> u32
+    requires { length values.now ≤ 32 }
+    ensures { AreLowBits values.now result }
+{
+    let mut bits = 0;
+    for j in 0..values.len() {
+        bits = low_then_high(u32::from(values[values.len() - 1 - j]), 1, bits);
+    }
+    bits
+}
+
+// One truth value for each cell from a place on, eight at once as long as there are eight. The answer is how many were
+// written. It is a call of its own, since fewer inputs than eight need none of its values.
+#[inline(never)]
+fn put_eights(cells: &mut BitCells, at: usize, values: &[bool]) -> usize
+    requires low { at < 2 ^ 32 }
+    requires room { at + length values.now ≤ length cells.old }
+    ensures within { result ≤ length values.now }
+    ensures written { cells.new ≡ replaced cells.old at (map bit (take result values.now)) }
+{
+    let mut done = 0;
+    while values.len() - done >= AT_ONCE {
+        let end = done + AT_ONCE;
+        cells.put_run(at + done, AT_ONCE as u8, low_bits(&values[done..end]));
+        done = end;
+    }
+    done
+}
+
+// The same of the values behind the first ones, of which so many are written, one by one.
+#[inline(always)]
+fn put_rest(cells: &mut BitCells, at: usize, done: usize, values: &[bool])
+    requires low { at < 2 ^ 32 }
+    requires room { at + length values.now ≤ length cells.old }
+    requires within { done ≤ length values.now }
+    ensures { (c : List ℕ) → at + length values.now ≤ length c → cells.old ≡ replaced c at (map bit (take done values.now)) → cells.new ≡ replaced c at (map bit values.now) }
+{
+    for i in done..values.len() {
+        cells.put(at + i, values[i]);
+    }
+}
+
 // One truth value for each cell from a place on.
 fn put_all(cells: &mut BitCells, at: usize, values: &[bool])
     requires low { at < 2 ^ 32 }
     requires room { at + length values.now ≤ length cells.old }
     ensures { cells.new ≡ replaced cells.old at (map bit values.now) }
 {
-    for (i, value) in values.iter().enumerate() {
-        cells.put(at + i, *value);
+    if values.len() < AT_ONCE {
+        put_rest(cells, at, 0, values);
+    } else {
+        let done = put_eights(cells, at, values);
+        put_rest(cells, at, done, values);
     }
 }
 
@@ -92,12 +143,12 @@ impl PlainCells {
     ghost use Rattle.ps_model.specs.Blocks.{output_count};
     ghost use Rattle.ps_rows.specs.Counted.{kept_of};
     ghost use Rattle.ps_eqvm.specs.Instances.{LoadAs, LoadNowhere};
-    ghost use Rattle.ps_eqvm.specs.Bits.{truth_of, AreBitsOf, AreEven};
+    ghost use Rattle.ps_eqvm.specs.Bits.{truth_of, AreBitsOf, AreEven, AreTruths};
     ghost use Rattle.ps_eqvm.specs.Plain.{plain_bytes, laid_out, blank, IsPlain};
     ghost use Rattle.ps_eqvm.specs.Rows.{operand_of};
     ghost use Rattle.ps_eqvm.specs.Acting.{trapped, after_last, byte_of, with_cell, settled};
     ghost use Rattle.ps_eqvm.specs.Turn.{begin_plain};
-    ghost use Rattle.ps_eqvm.specs.Finding.{found_of};
+    ghost use Rattle.ps_eqvm.specs.Finding.{found_of, one_of};
 
     /// Cells of an application with so many signals and instances, each 0.
     pub fn all_zero(alloc: Global, signals: u16, instances: u16) -> Result<PlainCells, Memory>
@@ -176,6 +227,14 @@ impl PlainCells {
         find(&self.cells, Operand::numbered(signals, number))
     }
 
+    /// Whether the byte of the operand with a number, among so many signals, is 1, and None where the operand is bad.
+    pub fn is_one(&self, signals: u16, number: u16) -> Option<bool>
+        requires { length self.now.cells ≡ WORK_CELLS + signals }
+        ensures { result ≡ one_of (byte_of self.now.cells (operand_of signals number)) }
+    {
+        is_one(&self.cells, Operand::numbered(signals, number))
+    }
+
     /// What the bytes of an instance say, for any kind that can keep it. None comes where they load for
     /// no kind.
     #[inline(always)]
@@ -195,9 +254,18 @@ impl PlainCells {
         self.cells.at(WORK_CELLS as usize + s as usize)
     }
 
-    /// TRUE only where the byte of each signal is 0 or 1.
+    /// Whether the byte of signal s is 1.
+    pub fn is_on(&self, s: u16) -> bool
+        requires { WORK_CELLS + s < length self.now.cells }
+        ensures { result ≡ (slice_index (plain_bytes self.now) (SIGNALS_AT + s) == 1) }
+    {
+        self.cells.is_one(WORK_CELLS as usize + s as usize)
+    }
+
+    /// TRUE only where the byte of each work cell and signal is 0 or 1.
     pub fn are_even(&self) -> bool
-        ensures { (signals : ℕ) → length self.now.cells ≡ WORK_CELLS + signals → result ≡ true → AreEven signals (plain_bytes self.now) }
+        ensures cells { result ≡ true → AreTruths self.now.cells }
+        ensures signals { (signals : ℕ) → length self.now.cells ≡ WORK_CELLS + signals → result ≡ true → AreEven signals (plain_bytes self.now) }
     {
         self.cells.are_even()
     }
@@ -234,6 +302,7 @@ impl PlainCells {
         self.progress = 0;
         self.passed = now.saturating_sub(self.last);
         self.last = now;
+        self.cells.look();
         put_all(&mut self.cells, WORK_CELLS as usize, ins);
     }
 

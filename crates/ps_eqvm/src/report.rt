@@ -1,6 +1,6 @@
 // The report that the cells hold.
 
-ghost use Rattle.std.specs.Prelude.{◌≡◌, ◌+◌, ◌-◌, ◌*◌, ◌<◌, ◌≤◌, ◌==◌, ◌&&◌, not, length, map, slice_index, slice_index_or, true};
+ghost use Rattle.std.specs.Prelude.{◌≡◌, ◌+◌, ◌-◌, ◌*◌, ◌<◌, ◌≤◌, ◌==◌, ◌&&◌, not, IfOk, length, map, slice_index, slice_index_or, true};
 ghost use Rattle.std.specs.List.{list_all, range_with_len};
 ghost use Rattle.ps_model.specs.declared.kind.Kind.TheVariants.{Equivalent};
 ghost use Rattle.ps_model.specs.Blocks.{output_count};
@@ -8,21 +8,39 @@ ghost use Rattle.ps_machine.specs.Bytes.{is_no_bit};
 ghost use Rattle.ps_machine.specs.Reporting.{output_byte, ready_byte, error_byte, diag_at, holds_report};
 ghost use Rattle.ps_eqvm.specs.Bits.{AreEven};
 ghost use Rattle.ps_eqvm.specs.Plain.{plain_bytes, IsSized};
+ghost use Rattle.ps_eqvm.specs.Readies.{AreReadies};
 
 use crate::layout::SIGNALS_AT;
 use crate::plain::PlainCells;
+use ps_base::Memory;
 use ps_model::{Bits, Diag, Diags, Sizes};
 use ps_rows::all_outputs;
+use std::alloc::Global;
+
+/// Of each instance the signal of its Ready: Error is the one behind it.
+#[tactic(auto, unfolding(ps_model::specs::Blocks::output_count))]
+pub fn ready_signals(alloc: Global, sizes: &Sizes) -> Result<Vec<u16>, Memory>
+    ensures { IfOk result (λ readies. AreReadies sizes.now readies.items) }
+{
+    let _signals = sizes.signals;
+    let mut readies = Vec::new(alloc);
+    for i in 0..sizes.instances {
+        let outputs = u16::from(all_outputs(sizes.kinds.at(i as usize)));
+        readies.push(sizes.first_pins.at(i as usize) + outputs - 2)?;
+    }
+    Ok(readies)
+}
 
 // The signal behind the outputs of an instance: Ready and Error are the last two of them.
-#[tactic(auto, using(std::proofs::lemmas::Option::get_or_from_slice_get), unfolding(ps_model::specs::Blocks::output_count))]
-fn past_outputs(sizes: &Sizes, i: u16) -> usize
-    requires { i < sizes.now.instances }
+fn past_outputs(sizes: &Sizes, readies: &[u16], i: u16) -> usize
+    requires instance { i < sizes.now.instances }
+    requires readies { AreReadies sizes.now readies.now }
     ensures value { result ≡ slice_index_or sizes.now.first_pins i 0 + output_count (slice_index_or sizes.now.kinds i Equivalent) }
     ensures low { 2 ≤ result }
     ensures high { result ≤ sizes.now.signals }
 {
-    sizes.first_pins.at(i as usize) as usize + all_outputs(sizes.kinds.at(i as usize)) as usize
+    let _instances = sizes.instances;
+    readies[i as usize] as usize + 2
 }
 
 // Whether the byte of a signal is 0 or 1; `even` says it of all signals.
@@ -43,20 +61,18 @@ fn is_on(plain: &PlainCells, sizes: &Sizes, s: usize) -> bool
     ensures { result ≡ (slice_index (plain_bytes plain.now) (SIGNALS_AT + s) == 1) }
 {
     let _signals = sizes.signals;
-    match plain.signal(s as u16) {
-        Some(on) => on,
-        None => false,
-    }
+    plain.is_on(s as u16)
 }
 
 // Whether the Ready and the Error byte of an instance are 0 or 1.
-fn diag_holds(plain: &PlainCells, sizes: &Sizes, even: bool, i: u16) -> bool
+fn diag_holds(plain: &PlainCells, sizes: &Sizes, readies: &[u16], even: bool, i: u16) -> bool
     requires sized { IsSized sizes.now.signals sizes.now.instances plain.now }
+    requires readies { AreReadies sizes.now readies.now }
     requires instance { i < sizes.now.instances }
     requires even { even ≡ true → AreEven sizes.now.signals (plain_bytes plain.now) }
     ensures { result ≡ (not (is_no_bit (ready_byte sizes.now SIGNALS_AT (plain_bytes plain.now) i)) && not (is_no_bit (error_byte sizes.now SIGNALS_AT (plain_bytes plain.now) i))) }
 {
-    let past = past_outputs(sizes, i);
+    let past = past_outputs(sizes, readies, i);
     holds(plain, sizes, even, past - 2) && holds(plain, sizes, even, past - 1)
 }
 
@@ -75,13 +91,14 @@ fn outputs_hold(plain: &PlainCells, sizes: &Sizes, even: bool) -> bool
 }
 
 // Whether each Ready and Error byte is 0 or 1.
-fn diags_hold(plain: &PlainCells, sizes: &Sizes, even: bool) -> bool
+fn diags_hold(plain: &PlainCells, sizes: &Sizes, readies: &[u16], even: bool) -> bool
     requires sized { IsSized sizes.now.signals sizes.now.instances plain.now }
+    requires readies { AreReadies sizes.now readies.now }
     requires even { even ≡ true → AreEven sizes.now.signals (plain_bytes plain.now) }
     ensures { result ≡ list_all (λ i. not (is_no_bit (ready_byte sizes.now SIGNALS_AT (plain_bytes plain.now) i)) && not (is_no_bit (error_byte sizes.now SIGNALS_AT (plain_bytes plain.now) i))) (range_with_len 0 sizes.now.instances) }
 {
     for i in 0..sizes.instances {
-        if !diag_holds(plain, sizes, even, i) {
+        if !diag_holds(plain, sizes, readies, even, i) {
             return false;
         }
     }
@@ -89,12 +106,13 @@ fn diags_hold(plain: &PlainCells, sizes: &Sizes, even: bool) -> bool
 }
 
 /// Whether the cells hold a report.
-pub fn has_report(plain: &PlainCells, sizes: &Sizes) -> bool
-    requires { IsSized sizes.now.signals sizes.now.instances plain.now }
+pub fn has_report(plain: &PlainCells, sizes: &Sizes, readies: &[u16]) -> bool
+    requires sized { IsSized sizes.now.signals sizes.now.instances plain.now }
+    requires readies { AreReadies sizes.now readies.now }
     ensures { result ≡ holds_report sizes.now SIGNALS_AT (plain_bytes plain.now) }
 {
     let even = plain.are_even();
-    outputs_hold(plain, sizes, even) && diags_hold(plain, sizes, even)
+    outputs_hold(plain, sizes, even) && diags_hold(plain, sizes, readies, even)
 }
 
 /// Writes the outputs of the report.
@@ -112,12 +130,13 @@ pub fn write_outputs(plain: &PlainCells, sizes: &Sizes, outs: &mut Bits)
 }
 
 // What an instance says of itself.
-fn diag(plain: &PlainCells, sizes: &Sizes, i: u16) -> Diag
+fn diag(plain: &PlainCells, sizes: &Sizes, readies: &[u16], i: u16) -> Diag
     requires sized { IsSized sizes.now.signals sizes.now.instances plain.now }
+    requires readies { AreReadies sizes.now readies.now }
     requires instance { i < sizes.now.instances }
     ensures { result ≡ diag_at sizes.now SIGNALS_AT (plain_bytes plain.now) i }
 {
-    let past = past_outputs(sizes, i);
+    let past = past_outputs(sizes, readies, i);
     Diag {
         ready: is_on(plain, sizes, past - 2),
         error: is_on(plain, sizes, past - 1),
@@ -126,12 +145,13 @@ fn diag(plain: &PlainCells, sizes: &Sizes, i: u16) -> Diag
 }
 
 /// Writes what the instances say of themselves.
-pub fn write_diags(plain: &PlainCells, sizes: &Sizes, diags: &mut Diags)
+pub fn write_diags(plain: &PlainCells, sizes: &Sizes, readies: &[u16], diags: &mut Diags)
     requires sized { IsSized sizes.now.signals sizes.now.instances plain.now }
+    requires readies { AreReadies sizes.now readies.now }
     requires size { length diags.old ≡ sizes.now.instances }
     ensures { diags.new ≡ map (diag_at sizes.now SIGNALS_AT (plain_bytes plain.now)) (range_with_len 0 sizes.now.instances) }
 {
     for i in 0..sizes.instances {
-        diags.set(i as usize, diag(plain, sizes, i));
+        diags.set(i as usize, diag(plain, sizes, readies, i));
     }
 }

@@ -1,7 +1,7 @@
 // The bytes of the texts that a load runs over.
 
 ghost use Rattle.std.specs.Prelude.{◌≡◌, ◌≤◌, ◌<◌, ◌-◌, ◌*◌, ◌/◌, ◌%◌, ◌+◌, length, take, drop, min, not};
-ghost use Rattle.ps_load.specs.Texts.{app_text, trace_text, scan_line as line_of, header_line, digit_at, value_digit, is_stopped, is_acknowledged};
+ghost use Rattle.ps_load.specs.Texts.{app_text, trace_text, scan_line as line_of, header_line, eight_digits};
 
 // The text of the application: eight emergency stops, and an output that all of them release.
 const APP: &[u8] = b"PROGRAM Load
@@ -26,29 +26,44 @@ const HEADER: &[u8] = b"time S_0 S_1 S_2 S_3 S_4 S_5 S_6 S_7 Ack\n";
 // The bytes of a scan line.
 const SCAN_LINE: usize = 27;
 
+// Where the value of the first block's input stands in it, and where that of the acknowledgement.
+const FIRST_VALUE: usize = 9;
+
+const ACK_AT: usize = 25;
+
 // How many scans there are for each one of a load's number.
 const SCANS: usize = 1000;
 
-// A decimal digit of a number: that of this unit, which is a power of ten.
-fn digit(number: u32, unit: u32) -> u8
-    requires { 0 < unit }
-    ensures { result ≡ 48 + number / unit % 10 }
+// The last digit of a number, and the number that is left without it.
+fn last_digit(number: u32) -> (u8, u32)
+    ensures digit { result.0 ≡ 48 + number % 10 }
+    ensures left { result.1 ≡ number / 10 }
 {
-    b'0' + (number / unit % 10) as u8
+    let left = number / 10;
+    (b'0' + (number - 10 * left) as u8, left)
 }
 
-// TRUE as `1`, and FALSE as `0`.
-fn value(value: bool) -> u8
-    ensures { result ≡ value_digit value }
+// The time of a scan, counted from 0, in eight digits.
+fn time_digits(scan: u32) -> [u8; 8]
+    requires { scan < 1000000 }
+    ensures { result ≡ eight_digits (10 * scan) }
 {
-    if value { b'1' } else { b'0' }
-}
-
-// The value of a block's input in a scan: TRUE but in the ninth scan of each ten, and there of one block after another.
-fn input(scan: u32, block: u32) -> u8
-    ensures { result ≡ value_digit (not (is_stopped scan block)) }
-{
-    value(scan % 10 != 8 || scan / 10 % 8 != block)
+    let (tens, left) = last_digit(scan);
+    let (hundreds, left) = last_digit(left);
+    let (thousands, left) = last_digit(left);
+    let (ten_thousands, left) = last_digit(left);
+    let (hundred_thousands, left) = last_digit(left);
+    let (millions, _) = last_digit(left);
+    [
+        b'0',
+        millions,
+        hundred_thousands,
+        ten_thousands,
+        thousands,
+        hundreds,
+        tens,
+        b'0',
+    ]
 }
 
 // The line of a scan, counted from 0.
@@ -56,36 +71,14 @@ fn scan_line(scan: u32) -> [u8; SCAN_LINE]
     requires { scan < 1000000 }
     ensures { result ≡ line_of scan }
 {
-    let time = 10 * scan;
-    [
-        digit(time, 10_000_000),
-        digit(time, 1_000_000),
-        digit(time, 100_000),
-        digit(time, 10_000),
-        digit(time, 1_000),
-        digit(time, 100),
-        digit(time, 10),
-        digit(time, 1),
-        b' ',
-        input(scan, 0),
-        b' ',
-        input(scan, 1),
-        b' ',
-        input(scan, 2),
-        b' ',
-        input(scan, 3),
-        b' ',
-        input(scan, 4),
-        b' ',
-        input(scan, 5),
-        b' ',
-        input(scan, 6),
-        b' ',
-        input(scan, 7),
-        b' ',
-        value(scan % 10 == 3),
-        b'\n',
-    ]
+    let mut line = *b"00000000 1 1 1 1 1 1 1 1 0\n";
+    line[..8].copy_from_slice(&time_digits(scan));
+    match scan % 10 {
+        3 => line[ACK_AT] = b'1',
+        8 => line[FIRST_VALUE + 2 * (scan / 10 % 8) as usize] = b'0',
+        _ => {}
+    }
+    line
 }
 
 // Copies the first bytes, as many as there is room for.

@@ -144,6 +144,7 @@ impl CountedBlock {
 }
 
 // Whether a kind has such a latched mode in a state.
+#[inline(always)]
 fn may_latch(kind: Kind, code: u16, mode: u8) -> bool
     ensures { result ≡ is_mode kind code mode }
 {
@@ -155,6 +156,7 @@ fn may_latch(kind: Kind, code: u16, mode: u8) -> bool
 
 // The mode after a step to the state with this code: that of SF_ModeSelector is latched, kept in 8000
 // and 8004, and 0 elsewhere; that of other kinds is 0.
+#[inline(always)]
 fn mode_after(kind: Kind, action: u8, code: u16, bits: u32, mode: u8) -> u8
     ensures { result ≡ mode_after kind action code (pin_of bits) mode }
 {
@@ -165,6 +167,7 @@ fn mode_after(kind: Kind, action: u8, code: u16, bits: u32, mode: u8) -> u8
 }
 
 // The mode of SF_ModeSelector after a step.
+#[inline(always)]
 fn selected_mode(action: u8, code: u16, bits: u32, mode: u8) -> u8
     ensures { result ≡ mode_after ModeSelector action code (pin_of bits) mode }
 {
@@ -203,6 +206,7 @@ fn lowest_mode(bits: u32) -> u8
 }
 
 // The time that remains after a step: the limit where the timer begins anew.
+#[inline(always)]
 fn timer_after(action: u8, limit: u32, remains: u32) -> u32
     ensures { result ≡ (if bit_and action 1 == 1 then limit else remains) }
 {

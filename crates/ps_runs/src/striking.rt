@@ -121,17 +121,16 @@ fn values_of(world: &mut World, cause: Cause) -> Option<(u16, u16)>
     Some((a, b))
 }
 
-// The first scan that tripped, behind a scan at this time with this verdict, which the world has just made.
-fn first_trip(before: Option<Trip>, world: &mut World, now: u32, verdict: Verdict) -> Option<Trip>
+// Remembers a scan at this time with this verdict, which the world has just made, where it is the first that tripped.
+fn remember_trip(trip: &mut Option<Trip>, world: &mut World, now: u32, verdict: Verdict)
     ensures same { world.new ≡ world.old }
 {
-    match (before, verdict) {
-        (None, Verdict::Tripped(cause)) => Some(Trip {
-            now,
-            cause,
-            values: values_of(world, cause),
-        }),
-        _ => before,
+    if trip.is_some() {
+        return;
+    }
+    if let Verdict::Tripped(cause) = verdict {
+        let values = values_of(world, cause);
+        *trip = Some(Trip { now, cause, values });
     }
 }
 
@@ -182,7 +181,7 @@ impl StruckWorld {
         self.scans = number;
         self.next += due;
         self.tripped |= is_trip(verdict);
-        self.trip = first_trip(self.trip, &mut self.world, scan.now, verdict);
+        remember_trip(&mut self.trip, &mut self.world, scan.now, verdict);
         verdict
     }
 }

@@ -6,7 +6,8 @@ use Rattle.ps_model.specs.declared.channel.Progress.TheVariants.{Running}
 use Rattle.ps_machine.specs.Machines.{turned}
 use Rattle.ps_machine.specs.Progressing.{progress_said, is_running}
 use Rattle.ps_machine.proofs.Places.{be4_within}
-use Rattle.ps_machine.proofs.Progressing.{other_ends}
+use Rattle.ps_machine.proofs.Phases.{turned_next}
+use Rattle.ps_machine.proofs.Progressing.{other_ends, running_next}
 use Rattle.ps_stackvm.specs.declared.layout.TheConstants.{SIGNALS_AT}
 use Rattle.ps_stackvm.specs.declared.trap.Trap.{Trap}
 use Rattle.ps_stackvm.specs.declared.trap.Trap.TheVariants.{StackHeight, NotBoolean}
@@ -228,6 +229,19 @@ module _ (signals instances pc h : ℕ) (code c : List ℕ) (fits : pc < 2 ^ 32)
   pub turn_stopped : (trap : Trap) → fetched code pc ≡ Err trap → trapped trap (with_head pc h c) ≡ turn_of signals instances code (with_head pc h c)
   turn_stopped trap err =
       ap (λ r. carried_out signals instances r (with_head pc h c)) (sym err ∙ ap (fetched code) (sym (pc_is pc h c fits)))
+
+-- ---- One turn more, behind k turns of a running scan.
+
+module _ (f : List ℕ → List ℕ) (k k' pc h : ℕ) (c old : List ℕ) (next : k' ≡ k + 1) (made : with_head pc h c ≡ turned f k old) where
+  pub turned_more : (after : List ℕ) → after ≡ f (with_head pc h c) → after ≡ turned f k' old
+  turned_more after is =
+      let suc_is : suc k ≡ k' = omega (arith, next) in
+      is ∙ ap f made ∙ sym (turned_next f k old) ∙ ap (λ j. turned f j old) suc_is
+
+  pub running_more : SIGNALS_AT ≤ length c → progress_of c ≡ 0 → ((j : ℕ) → j < k → progress_of (turned f j old) ≡ 0) →
+      (j : ℕ) → j < k' → progress_of (turned f j old) ≡ 0
+  running_more room here before j lt =
+      running_next f progress_of old k before (ap progress_of (sym made) ∙ same_progress pc h c room ∙ here) j (omega (arith, lt, next))
 
 -- ---- One turn of a scan that is Running, as a run of at most one.
 

@@ -1,5 +1,5 @@
 -- A step of an instance in the cells, from what its block answers.
-use Rattle.std.proofs.Common.{◌≡◌, ℕ, ◌+◌, ◌-◌, List, ◌++◌, length, take, drop, map, Option, Some, None, refl, ap, ◌∙◌, subst, arith}
+use Rattle.std.proofs.Common.{◌≡◌, ℕ, ◌+◌, ◌-◌, List, length, take, drop, map, Option, Some, None, refl, ap, ◌∙◌, subst}
 use borrow.Rule.Slice.PartMut.{put_mid}
 use Rattle.ps_model.specs.declared.kind.Kind.{Kind}
 use Rattle.ps_model.specs.Blocks.{block}

@@ -136,6 +136,7 @@ impl StackChannel {
 
     /// Writes the report that the cells hold into a report of the application's sizes. False where an output,
     /// Ready or Error byte is neither 0 nor 1, and then the report is as before.
+    #[inline(always)]
     pub fn report_into(&self, into: &mut Report) -> bool
         requires outs { length into.old.outs ≡ self.now.sizes.outputs }
         requires diags { length into.old.diags ≡ self.now.sizes.instances }
@@ -210,6 +211,7 @@ impl ScanMachine for StackChannel {
         self.turns(most)
     }
 
+    #[inline(always)]
     fn report_into(&self, into: &mut Report) -> bool {
         self.report_into(into)
     }

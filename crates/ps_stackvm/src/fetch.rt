@@ -22,12 +22,29 @@ fn call_at(code: &[u8], pc: usize) -> Instruction
     }
 }
 
-// The instruction at a place of the code, or the trap that reading it gives.
-pub(crate) fn fetch(code: &[u8], pc: u32) -> Result<Instruction, Trap>
-    requires { length code.now < 2 ^ 32 }
+// The instruction at a place of the code that the longest instruction fits behind, so that none passes the code's end.
+fn fetch_inside(code: &[u8], pc: usize) -> Result<Instruction, Trap>
+    requires { pc + 10 ≤ length code.now }
     ensures { result ≡ fetched code.now pc }
 {
-    let pc = pc as usize;
+    match code[pc] {
+        LOAD => Ok(Instruction::Load(number_at(code, pc + 1))),
+        STORE => Ok(Instruction::Store(number_at(code, pc + 1))),
+        CONST => Ok(Instruction::Const(code[pc + 1])),
+        AND => Ok(Instruction::And),
+        OR => Ok(Instruction::Or),
+        CALL => Ok(call_at(code, pc)),
+        END => Ok(Instruction::End),
+        _ => Err(Trap::NoOpcode),
+    }
+}
+
+// The instruction at a place near the code's end or past it.
+fn fetch_near_end(code: &[u8], pc: usize) -> Result<Instruction, Trap>
+    requires near { length code.now < pc + 10 }
+    requires short { length code.now < 2 ^ 32 }
+    ensures { result ≡ fetched code.now pc }
+{
     if pc >= code.len() {
         return Err(Trap::CodeEnd);
     }
@@ -38,9 +55,22 @@ pub(crate) fn fetch(code: &[u8], pc: u32) -> Result<Instruction, Trap>
         CONST if room >= 2 => Ok(Instruction::Const(code[pc + 1])),
         AND => Ok(Instruction::And),
         OR => Ok(Instruction::Or),
-        CALL if room >= 10 => Ok(call_at(code, pc)),
         END => Ok(Instruction::End),
         LOAD..=END => Err(Trap::CodeEnd),
         _ => Err(Trap::NoOpcode),
+    }
+}
+
+// The instruction at a place of the code, or the trap that reading it gives. One test says for almost all places that the whole
+// instruction is there.
+pub(crate) fn fetch(code: &[u8], pc: usize) -> Result<Instruction, Trap>
+    requires short { length code.now < 2 ^ 32 }
+    requires fits { pc < 2 ^ 32 }
+    ensures { result ≡ fetched code.now pc }
+{
+    if pc + 10 <= code.len() {
+        fetch_inside(code, pc)
+    } else {
+        fetch_near_end(code, pc)
     }
 }

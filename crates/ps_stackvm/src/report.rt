@@ -109,6 +109,7 @@ fn write_diags(cells: &[u8], signals_at: usize, sizes: &Sizes, diags: &mut Diags
 /// Writes the report that cells hold into a report of the application's sizes: the value of each output, and Ready, Error and
 /// the DiagCode of each instance. The signals' bytes begin at `signals_at`. False where an output, Ready or Error byte is
 /// neither 0 nor 1, and then the report is as before.
+#[inline(always)]
 pub fn read_report(cells: &[u8], signals_at: usize, sizes: &Sizes, into: &mut Report) -> bool
     requires room { signals_at + sizes.now.signals + INSTANCE_SIZE * sizes.now.instances ≤ length cells.now }
     requires outs { length into.old.outs ≡ sizes.now.outputs }

@@ -1,6 +1,6 @@
 // One turn: an instruction is read from the code and carried out.
 
-ghost use Rattle.std.specs.Prelude.{◌≡◌, ◌≢◌, ℕ, ◌+◌, ◌*◌, ◌<◌, ◌≤◌, ◌^◌, length};
+ghost use Rattle.std.specs.Prelude.{◌≡◌, ◌≢◌, ℕ, ◌+◌, ◌*◌, ◌<◌, ◌≤◌, ◌^◌, true, false, length};
 ghost use Rattle.ps_machine.specs.Machines.{turned};
 ghost use Rattle.ps_machine.specs.Progressing.{progress_said};
 ghost use Rattle.ps_stackvm.specs.Cells.{progress_of, with_head};
@@ -10,21 +10,26 @@ use crate::call::{Site, call};
 use crate::fetch::fetch;
 use crate::head::{Head, stop};
 use crate::instruction::Instruction;
-use crate::layout::{INSTANCE_SIZE, PROGRESS_AT, SIGNALS_AT};
+use crate::layout::{INSTANCE_SIZE, SIGNALS_AT};
 use crate::stack::{and, constant, end, load, or, store};
 use ps_model::Progress;
 
 // Carries out an instruction, with so many signals and instances.
+#[inline(always)]
 fn carry_out(
     cells: &mut [u8],
     signals: u16,
     instances: u16,
     i: Instruction,
     head: Head,
-    next: u32,
+    next: usize,
 ) -> Head
-    requires { SIGNALS_AT + signals + INSTANCE_SIZE * instances ≤ length cells.old }
-    ensures { with_head result.pc result.height cells.new ≡ after signals instances i next (with_head head.pc head.height cells.old) }
+    requires room { SIGNALS_AT + signals + INSTANCE_SIZE * instances ≤ length cells.old }
+    requires runs { progress_of cells.old ≡ 0 }
+    requires next { next < 2 ^ 32 }
+    ensures cells { with_head result.pc result.height cells.new ≡ after signals instances i next (with_head head.pc head.height cells.old) }
+    ensures runs { result.ended ≡ false → progress_of cells.new ≡ 0 }
+    ensures ended { result.ended ≡ true → progress_of cells.new ≢ 0 }
 {
     match i {
         Instruction::Load(c) => load(cells, signals, c, head, next),
@@ -43,7 +48,7 @@ fn carry_out(
                 instance,
                 first,
                 limit,
-                next,
+                next: next as u32,
             };
             head.write(cells);
             call(cells, instances, kind, site);
@@ -54,10 +59,14 @@ fn carry_out(
 }
 
 // One turn, with so many signals and instances. The head is kept apart.
+#[inline(always)]
 fn advance(cells: &mut [u8], code: &[u8], signals: u16, instances: u16, head: Head) -> Head
     requires room { SIGNALS_AT + signals + INSTANCE_SIZE * instances ≤ length cells.old }
     requires short { length code.now < 2 ^ 32 }
-    ensures { with_head result.pc result.height cells.new ≡ turn_of signals instances code.now (with_head head.pc head.height cells.old) }
+    requires runs { progress_of cells.old ≡ 0 }
+    ensures cells { with_head result.pc result.height cells.new ≡ turn_of signals instances code.now (with_head head.pc head.height cells.old) }
+    ensures runs { result.ended ≡ false → progress_of cells.new ≡ 0 }
+    ensures ended { result.ended ≡ true → progress_of cells.new ≢ 0 }
 {
     match fetch(code, head.pc) {
         Ok(i) => carry_out(
@@ -66,7 +75,7 @@ fn advance(cells: &mut [u8], code: &[u8], signals: u16, instances: u16, head: He
             instances,
             i,
             head,
-            head.pc + u32::from(i.size()),
+            head.pc + i.size() as usize,
         ),
         Err(reason) => stop(cells, head, reason),
     }
@@ -82,12 +91,17 @@ pub(crate) fn turns(cells: &mut [u8], code: &[u8], signals: u16, instances: u16,
     ensures stopped { result < most → progress_of cells.new ≢ 0 }
 {
     let mut head = Head::of(cells);
-    for made in 0..most {
-        if cells[PROGRESS_AT] != 0 {
-            head.write(cells);
-            return made;
-        }
+    if head.ended {
+        return 0;
+    }
+    let mut left = most;
+    'turns: while left > 0 {
         head = advance(cells, code, signals, instances, head);
+        left -= 1;
+        if head.ended {
+            head.write(cells);
+            return most - left;
+        }
     }
     head.write(cells);
     most

@@ -1,7 +1,7 @@
 // The lines of a trace as most of them are: a time where the line begins, and behind it values that stand behind one
 // blank each.
 
-ghost use Rattle.std.specs.Prelude.{◌≡◌, ◌∷◌, IsTrue, map, IfSome};
+ghost use Rattle.std.specs.Prelude.{◌≡◌, ◌≤◌, ◌∷◌, IsTrue, length, map, IfSome};
 ghost use Rattle.ps_trace.specs.Words.{words};
 ghost use Rattle.ps_trace.specs.LineSays.{word_of, IsApart, IsNumbered, IsPlain};
 
@@ -21,12 +21,25 @@ pub(crate) fn read_plain(line: &[u8], values: &mut [bool]) -> Option<u32>
 }
 
 // The number that the digits are with which the bytes begin, at most nine of them, and the bytes behind these. None:
-// the bytes begin with no digit.
-#[tactic(auto, using(crate::proofs::Numbers::below_nine_digits))]
+// the bytes begin with no digit. Where there are nine bytes, their count is a constant.
 fn leading_number(bytes: &[u8]) -> Option<(u32, &[u8])>
     ensures { IfSome result (λ found. IsNumbered bytes.now found.0 found.1.now) }
 {
-    let most = bytes.len().min(MOST_DIGITS);
+    if bytes.len() >= MOST_DIGITS {
+        number_within(bytes, MOST_DIGITS)
+    } else {
+        number_within(bytes, bytes.len())
+    }
+}
+
+// The same with at most so many digits.
+#[inline(always)]
+#[tactic(auto, using(crate::proofs::Numbers::below_nine_digits))]
+fn number_within(bytes: &[u8], most: usize) -> Option<(u32, &[u8])>
+    requires within { most ≤ length bytes.now }
+    requires few { most ≤ MOST_DIGITS }
+    ensures { IfSome result (λ found. IsNumbered bytes.now found.0 found.1.now) }
+{
     let mut value = 0u32;
     let mut end = 0;
     'digits: while end < most && bytes[end].is_ascii_digit() {

@@ -1,25 +1,37 @@
-use Rattle.std.proofs.Common.{◌≡◌, suc, ◌+◌, ◌≤◌, length, sym, ap, ◌∙◌, arith}
-use Rattle.ps_machine.specs.Machines.{turned}
-use Rattle.ps_machine.proofs.Phases.{turned_next}
-use Rattle.ps_machine.proofs.Progressing.{running_next}
+use Rattle.std.proofs.Common.{◌≡◌, ◌+◌, ◌-◌, ◌≤◌, length, ◌∙◌, arith}
 use Rattle.ps_stackvm.specs.declared.layout.TheConstants.{SIGNALS_AT}
-use Rattle.ps_stackvm.specs.Cells.{progress_of}
 use Rattle.ps_stackvm.specs.Turn.{turn_of}
-use Rattle.ps_stackvm.proofs.Heads.{same_progress}
+use Rattle.ps_stackvm.proofs.Heads.{turned_more, running_more}
 use Rattle.ps_stackvm.proofs.turn.turns.Goals as goal
 
-pub loop-made-preserved : goal.loop-made-preserved
-loop-made-preserved c =
+pub turns-preserved : goal.turns-preserved
+turns-preserved c =
     let a = c.args in
     let f = turn_of a.signals a.instances a.code.now in
-    let k = c.loop-made.made in
-    let head = c.loop-made.head in
-    let before = c.loop-made.invariant in
-    let next : suc k ≡ k + 1 = omega arith in
-    let room : SIGNALS_AT ≤ length c.loop-made.cells = omega (arith, c.requires.room, c.loop-made.auto.cells) in
-    let here : progress_of (turned f k a.cells.now) ≡ 0 =
-    ap progress_of (sym before.cells) ∙ same_progress head.pc head.height c.loop-made.cells room ∙ c.if-cells-ne0.false in
+    let l = c.turns in
+    let made = a.most - l.left in
+    let next : a.most - (l.left - 1) ≡ made + 1 = omega arith in
+    let room : SIGNALS_AT ≤ length l.cells = omega (arith, c.requires.room, l.auto.cells) in
     record {
-      cells = c.advance-head.ensures ∙ ap f before.cells ∙ sym (turned_next f k a.cells.now) ∙ ap (λ j. turned f j a.cells.now) next;
-      running = running_next f progress_of a.cells.now k before.running here;
+      within = omega arith;
+      cells = turned_more f made _ l.head.pc l.head.height l.cells a.cells.now next l.invariant.cells _ c.advance-head.ensures.cells;
+      here = c.advance-head.ensures.runs c.if-head-2.false;
+      running = running_more f made _ l.head.pc l.head.height l.cells a.cells.now next l.invariant.cells room l.invariant.here l.invariant.running;
     }
+
+pub returns-then-head-2-clause-cells : goal.returns-then-head-2-clause-cells
+returns-then-head-2-clause-cells c =
+    let a = c.args in
+    let l = c.turns in
+    let next : a.most - (l.left - 1) ≡ (a.most - l.left) + 1 = omega arith in
+    turned_more (turn_of a.signals a.instances a.code.now) (a.most - l.left) _ l.head.pc l.head.height l.cells a.cells.now next l.invariant.cells _
+    (c.write.ensures ∙ c.advance-head.ensures.cells)
+
+pub returns-then-head-2-clause-running : goal.returns-then-head-2-clause-running
+returns-then-head-2-clause-running c =
+    let a = c.args in
+    let l = c.turns in
+    let next : a.most - (l.left - 1) ≡ (a.most - l.left) + 1 = omega arith in
+    let room : SIGNALS_AT ≤ length l.cells = omega (arith, c.requires.room, l.auto.cells) in
+    running_more (turn_of a.signals a.instances a.code.now) (a.most - l.left) _ l.head.pc l.head.height l.cells a.cells.now next l.invariant.cells room
+    l.invariant.here l.invariant.running

@@ -15,4 +15,4 @@ write_over-requires-clause-even c =
     let k = c.self.inside.counted.items in
     let at = (cell_at v o k c.args.self.now c.args.i c.self.view_is c.requires.within).1 in
     let small : plain_cell v o k c.args.i < 2 = omega (arith, at, c.requires.even) in
-    rw c.deref.ensures.value (even_cell v o k c.args.i c.self.invariant small)
+    rw c.deref.ensures.value (even_cell v o k c.args.i c.self.invariant.0 small)

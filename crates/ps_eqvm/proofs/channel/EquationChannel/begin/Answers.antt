@@ -21,4 +21,4 @@ invariant_of-self c =
     let count = ap length c.as_slice.ensures in
     let same = ap (λ (v : Stored). v.sizes.inputs) c.self.view_is in
     let few : length c.as_slice.result.now ≤ s.sizes.signals = omega (arith, count, c.requires, same, s.sizes.places.declared) in
-    (subst (λ (p : Plain). IsSized s.sizes.signals s.sizes.instances p) (sym c.begin.ensures) (begin_sized s.sizes.signals s.sizes.instances c.args.scan.now.now c.as_slice.result.now s.plain few c.self.invariant.0), c.self.invariant.1)
+    (subst (λ (p : Plain). IsSized s.sizes.signals s.sizes.instances p) (sym c.begin.ensures) (begin_sized s.sizes.signals s.sizes.instances c.args.scan.now.now c.as_slice.result.now s.plain few c.self.invariant.0), c.self.invariant.1, c.self.invariant.2)

@@ -16,4 +16,4 @@ returns c =
 pub invariant_of-self : goal.invariant_of-self
 invariant_of-self c =
     let s = c.self.inside in
-    (subst (λ (p : Plain). IsSized s.sizes.signals s.sizes.instances p) (sym c.turn.ensures) (turn_sized s.sizes.signals s.sizes.instances c.deref.result.now s.plain c.self.invariant.0), c.self.invariant.1)
+    (subst (λ (p : Plain). IsSized s.sizes.signals s.sizes.instances p) (sym c.turn.ensures) (turn_sized s.sizes.signals s.sizes.instances c.deref.result.now s.plain c.self.invariant.0), c.self.invariant.1, c.self.invariant.2)

@@ -34,4 +34,4 @@ returns-clause-running c = λ j low.
 pub invariant_of-self : goal.invariant_of-self
 invariant_of-self c =
     let s = c.self.inside in
-    (subst (λ (p : Plain). IsSized s.sizes.signals s.sizes.instances p) (sym c.turns.ensures.cells) (run_sized s.sizes.signals s.sizes.instances c.deref.result.now c.turns.result s.plain c.self.invariant.0), c.self.invariant.1)
+    (subst (λ (p : Plain). IsSized s.sizes.signals s.sizes.instances p) (sym c.turns.ensures.cells) (run_sized s.sizes.signals s.sizes.instances c.deref.result.now c.turns.result s.plain c.self.invariant.0), c.self.invariant.1, c.self.invariant.2)

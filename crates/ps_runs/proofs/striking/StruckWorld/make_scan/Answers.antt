@@ -31,7 +31,7 @@ returns-clause-makes c =
     record {
       compares = λ i. performed now (verdict_is i)
           ((c.make_scan-verdict.ensures.report ∙ (λ j. report_given m (c.requires.fits.setup.sizes.outputs j) (c.requires.fits.setup.sizes.instances j) (at_compare m (struck j) now ins p.world.state))) i);
-      happens = c.first_trip-self.ensures.same ∙ c.make_scan-verdict.ensures.events ∙ ap (λ (fs : List Fault). after_events (scan_events m fs now ins p.world.state) p.world) struck;
+      happens = c.remember_trip.ensures.same ∙ c.make_scan-verdict.ensures.events ∙ ap (λ (fs : List Fault). after_events (scan_events m fs now ins p.world.state) p.world) struck;
       leaves = sym (take-append-drop k (to_come p)) ∙ (λ i. (sym (ap (λ (fs : List Fault). take k fs) same) ∙ struck) i ++ drop-drop k p.next p.faults i);
       counts = counts;
       remembers = ap (λ b. p.tripped || b) (c.is_trip.ensures ∙ ap trips_with verdict_is);
@@ -43,8 +43,8 @@ returns-clause-fits c =
     let k = c.count_upto-due.result in
     let same : c.faults_from-to_come.result.now ≡ to_come p = c.faults_from-to_come.ensures ∙ ap (λ (fs : List Fault). drop c.args.self.now.next fs) c.as_slice.ensures in
     record {
-      setup = subst (λ (w : Whole). IsSetupOf c.args.app.now w.setup) (sym (c.first_trip-self.ensures.same ∙ c.make_scan-verdict.ensures.events)) c.requires.fits.setup;
-      rest = ap (λ (w : Whole). w.state.begun) c.first_trip-self.ensures.same ∙ c.make_scan-verdict.ensures.rest;
+      setup = subst (λ (w : Whole). IsSetupOf c.args.app.now w.setup) (sym (c.remember_trip.ensures.same ∙ c.make_scan-verdict.ensures.events)) c.requires.fits.setup;
+      rest = ap (λ (w : Whole). w.state.begun) c.remember_trip.ensures.same ∙ c.make_scan-verdict.ensures.rest;
       within = omega (arith, c.count_upto-due.ensures.within, ap length same, length-drop p.next p.faults, c.requires.fits.within);
       ordered = subst (λ (fs : List Fault). IsNonDecreasingBy (λ (f : Fault). f.scan) fs) (drop-drop k p.next p.faults) (IsNonDecreasingBy-drop (λ (f : Fault). f.scan) k (to_come p) c.requires.fits.ordered);
       later = subst (λ (fs : List Fault). All (λ f. c.number_behind-number.result < f.scan) fs) (ap (λ (fs : List Fault). drop k fs) same ∙ drop-drop k p.next p.faults) c.count_upto-due.ensures.later;

@@ -2,7 +2,7 @@ use Rattle.std.proofs.Common.{◌≡◌, ◌≤◌, ◌<◌, ◌-◌, ◌^◌, t
 use Rattle.std.specs.List.{list_all}
 use Rattle.std.specs.Char.{is_ascii_digit}
 use Rattle.ps_trace.specs.Words.{digits_value}
-use Rattle.ps_trace.proofs.plain_line.leading_number.Given as goal
+use Rattle.ps_trace.proofs.plain_line.number_within.Given as goal
 
 abbrev pub invariant-digits : goal.invariant-digits
 invariant-digits l = record {

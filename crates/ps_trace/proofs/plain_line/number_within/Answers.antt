@@ -2,7 +2,7 @@ use Rattle.std.proofs.Common.{◌-◌, arith, length-drop, length, drop}
 use Rattle.std.proofs.lemmas.List.{take_all}
 use Rattle.ps_trace.proofs.Numbers.{up_to_nine_digits}
 use Rattle.ps_trace.proofs.PlainLemmas.{numbered-at}
-use Rattle.ps_trace.proofs.plain_line.leading_number.Goals as goal
+use Rattle.ps_trace.proofs.plain_line.number_within.Goals as goal
 
 pub returns : goal.returns
 returns c =

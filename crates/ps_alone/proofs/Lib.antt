@@ -1,0 +1,8 @@
+-- What the searched block cites.
+pub mod Allowing
+pub mod Marking
+pub mod Numbering
+pub mod Inputs
+pub mod Showing
+pub mod Excluding
+pub mod Applying

@@ -14,3 +14,7 @@ pub mod Points
 pub mod Shifted
 pub mod ReadBack
 pub mod HeaderBack
+pub mod TraceBack
+pub mod OneLines
+pub mod LegibleFiles
+pub mod HexPairs

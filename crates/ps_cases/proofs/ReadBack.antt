@@ -32,7 +32,7 @@ not_hash b digit = grind (arith, nat_tests)
 not_restart : (b : ℕ) (word : List ℕ) → is_ascii_digit b ≡ true → bytes_eq (b ∷ word) (codes "restart") ≡ false
 not_restart b word digit = grind (arith, nat_tests)
 
-digits_of_traces : IsNumeralModel (λ ds. list_all is_ascii_digit ds ≡ true) digits_value
+pub digits_of_traces : IsNumeralModel (λ ds. list_all is_ascii_digit ds ≡ true) digits_value
 digits_of_traces = numerals_by_fold (λ ds. list_all is_ascii_digit ds ≡ true) (search rules) (λ n ds. fold (λ v d. v * 10 + (d - 48)) n ds) (search rules)
 
 -- a number that was written is read

@@ -66,7 +66,7 @@ module _ (net : Network) where
     pub base : stand.base ≡ 0
     pub time : stand.time ≡ (end_point (input_count net) 0 statements).time
 
-  abbrev IsSoundBy : Option Head → CaseFile → List Statement → Stand → Stand → Type 0
+  abbrev pub IsSoundBy : Option Head → CaseFile → List Statement → Stand → Stand → Type 0
   IsSoundBy None file statements start stand = IsFirst file statements stand
   IsSoundBy (Some head) file statements start stand = IsSound file statements start stand
 

@@ -17,7 +17,7 @@ use Rattle.ps_cases.specs.Line.{Said, alone, deed_with, is_none_left, settings_s
 use Rattle.ps_cases.specs.Line.Said.{nothing, begins, asks, breaks}
 
 -- of two answers each of which has what is wanted, either has it
-either_has : {A : Type 0} (P : A → Type 0) (b : Bool) (r s : Result A CaseRule) → IfOk r P → IfOk s P → IfOk (if b then r else s) P
+pub either_has : {A : Type 0} (P : A → Type 0) (b : Bool) (r s : Result A CaseRule) → IfOk r P → IfOk s P → IfOk (if b then r else s) P
 either_has P true r s first second = first
 either_has P false r s first second = second
 

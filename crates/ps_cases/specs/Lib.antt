@@ -9,6 +9,7 @@ pub mod File
 pub mod Expanded
 pub mod Joined
 pub mod Traced
+pub mod Legible
 -- what the parts of the reader answer
 pub mod LineSays
 pub mod DraftSays

@@ -13,7 +13,7 @@ ghost use Rattle.ps_cases.specs.Expanded.{statements_text, SetInputs, end_point,
 ghost use Rattle.ps_cases.specs.Writing.{Wrote};
 
 use crate::case::{Act, Case, CaseFile, Pace, Statement};
-use crate::point::Point;
+use crate::point::{Point, room_of};
 use itoa::Buffer;
 use ps_base::Memory;
 use ps_model::{App, Bits};
@@ -46,7 +46,8 @@ impl From<Memory> for ExpandFail {
 /// scan that it strikes. `read_cases` gives files that may be asked for.
 ///
 /// `Fault` comes only where the output's count rose in this call, at the one write that failed. Memory does not grow
-/// with the scans: it has a value for each input, and the lines of the faults of one scan.
+/// with the scans: it has a value for each input, and room for the lines of the faults of a case. All of it is taken
+/// before the first line.
 pub fn expand<S: Sink>(
     out: &mut S,
     alloc: Global,
@@ -57,18 +58,33 @@ pub fn expand<S: Sink>(
     requires few { length file.now.cases ≤ MOST_CASES }
     ensures { Wrote S.tells S.taken S.faults (expanded app.now file.now) out.old out.new result }
 {
-    let mut point = Point::new(alloc, usize::from(app.input_count()))?;
+    let mut point = Point::new(alloc, usize::from(app.input_count()), room_of_file(file))?;
     put_header(out, app)?;
-    put_cases(out, alloc, &mut point, file)
+    put_cases(out, &mut point, file)
+}
+
+// Room enough for the lines of the faults of each scan of a file: for those of the case that has most.
+fn room_of_file(file: &CaseFile) -> usize {
+    let mut most = 0;
+    for case in file.cases.as_slice() {
+        most = room_of_faults(case.statements.as_slice()).max(most);
+    }
+    room_of_faults(file.begin.as_slice()).saturating_add(most)
+}
+
+// Room enough for the lines of the faults of statements.
+fn room_of_faults(statements: &[Statement]) -> usize {
+    let mut room: usize = 0;
+    for statement in statements {
+        if let Act::Fault(fault) = &statement.act {
+            room = room.saturating_add(room_of(fault));
+        }
+    }
+    room
 }
 
 // All cases.
-fn put_cases<S: Sink>(
-    out: &mut S,
-    alloc: Global,
-    point: &mut Point,
-    file: &CaseFile,
-) -> Result<(), ExpandFail>
+fn put_cases<S: Sink>(out: &mut S, point: &mut Point, file: &CaseFile) -> Result<(), ExpandFail>
     requires inputs { All (λ (c : Case). SetInputs (length point.old.ins) (whole_case file.now c)) file.now.cases }
     requires few { length file.now.cases ≤ MOST_CASES }
     ensures { Wrote S.tells S.taken S.faults
@@ -78,7 +94,7 @@ fn put_cases<S: Sink>(
     let mut lead: &[u8] = b"";
     for case in file.cases.as_slice() {
         put(out, lead)?;
-        put_case(out, alloc, point, base, file.begin.as_slice(), case)?;
+        put_case(out, point, base, file.begin.as_slice(), case)?;
         base += u64::from(point.time);
         lead = b"restart\n";
     }
@@ -88,7 +104,6 @@ fn put_cases<S: Sink>(
 // A case that begins at this time, behind the statements before the first one.
 fn put_case<S: Sink>(
     out: &mut S,
-    alloc: Global,
     point: &mut Point,
     base: u64,
     begin: &[Statement],
@@ -102,16 +117,15 @@ fn put_case<S: Sink>(
     ensures point { OnOk result
         (point.new ≡ end_point (length point.old.ins) base (begin.now ++ case.now.statements)) }
 {
-    point.begin(alloc, base);
+    point.begin(base);
     put_name(out, case.name.as_str())?;
-    put_statements(out, alloc, point, begin)?;
-    put_statements(out, alloc, point, case.statements.as_slice())
+    put_statements(out, point, begin)?;
+    put_statements(out, point, case.statements.as_slice())
 }
 
 // Statements.
 fn put_statements<S: Sink>(
     out: &mut S,
-    alloc: Global,
     point: &mut Point,
     statements: &[Statement],
 ) -> Result<(), ExpandFail>
@@ -121,7 +135,7 @@ fn put_statements<S: Sink>(
     ensures point { OnOk result (point.new ≡ fold next_point point.old statements.now) }
 {
     for statement in statements {
-        put_statement(out, alloc, point, statement)?;
+        put_statement(out, point, statement)?;
     }
     Ok(())
 }
@@ -129,7 +143,6 @@ fn put_statements<S: Sink>(
 // A statement.
 fn put_statement<S: Sink>(
     out: &mut S,
-    alloc: Global,
     point: &mut Point,
     statement: &Statement,
 ) -> Result<(), ExpandFail>
@@ -141,7 +154,7 @@ fn put_statement<S: Sink>(
 {
     point.set(statement.settings.as_slice());
     put_act(out, point, &statement.act)?;
-    point.pass(alloc, &statement.act)?;
+    point.pass(&statement.act)?;
     Ok(())
 }
 

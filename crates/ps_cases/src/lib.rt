@@ -19,6 +19,7 @@ mod deed;
 mod deeds;
 mod draft;
 mod expanding;
+mod held;
 pub mod laws;
 pub mod limits;
 mod line;

@@ -1,13 +1,16 @@
 // How a trace of cases stands between two lines of a case.
 
-ghost use Rattle.std.specs.Prelude.{◌≡◌, ◌<◌, ◌≤◌, ◌+◌, ◌++◌, ◌^◌, ℕ, All, IfOk, OnOk, length, decimal};
+ghost use Rattle.std.specs.Prelude.{◌≡◌, ◌<◌, ◌≤◌, ◌+◌, ◌++◌, ◌∷◌, ◌/◌, ◌%◌, ◌^◌, [], ℕ, All, IfOk, OnOk};
+ghost use Rattle.std.specs.Prelude.{decimal, length, slice_index};
+ghost use Rattle.hex.specs.Hex.{encode_lower, lower_digits};
 ghost use Rattle.ps_cases.specs.declared.case.Setting.{Setting};
 ghost use Rattle.ps_cases.specs.Meant.{set_by, time_at};
 ghost use Rattle.ps_cases.specs.Expanded.{turn_text, region_text, fault_line, begin_point, point_set, point_after};
 
 use crate::case::{Act, Pace, Setting};
+use crate::held::Held;
 use itoa::Buffer;
-use ps_base::{Bytes, Memory};
+use ps_base::Memory;
 use ps_model::{Bits, Channel, Fault, Region};
 use std::alloc::Global;
 
@@ -18,30 +21,30 @@ pub(crate) struct Point {
     pub(crate) base: u64,
     pub(crate) time: u32,
     pub(crate) ins: Bits,
-    pub(crate) held: Bytes,
+    pub(crate) held: Held,
 }
 
 impl Point {
-    // With so many inputs, before the first case.
-    pub(crate) fn new(alloc: Global, inputs: usize) -> Result<Point, Memory>
+    // With so many inputs, before the first case. There is room for so many bytes of the lines of faults.
+    pub(crate) fn new(alloc: Global, inputs: usize, room: usize) -> Result<Point, Memory>
         ensures { IfOk result (λ point. point ≡ begin_point inputs 0) }
     {
         Ok(Point {
             base: 0,
             time: 0,
             ins: Bits::all_false(alloc, inputs)?,
-            held: Bytes::new(alloc),
+            held: Held::with_room(alloc, room)?,
         })
     }
 
     // A case begins at this time.
-    pub(crate) fn begin(&mut self, alloc: Global, base: u64)
+    pub(crate) fn begin(&mut self, base: u64)
         ensures { self.new ≡ begin_point (length self.old.ins) base }
     {
         self.base = base;
         self.time = 0;
         self.ins.clear();
-        self.held = Bytes::new(alloc);
+        self.held.clear();
     }
 
     // The inputs are set.
@@ -54,18 +57,18 @@ impl Point {
         }
     }
 
-    // A line does this.
-    pub(crate) fn pass(&mut self, alloc: Global, act: &Act) -> Result<(), Memory>
+    // A line does this. It takes no memory where there is room for the line of a fault.
+    pub(crate) fn pass(&mut self, act: &Act) -> Result<(), Memory>
         ensures { OnOk result (self.new ≡ point_after self.old act.now) }
     {
         match act {
             Act::Scans(pace) => {
                 if pace.count > 0 {
                     self.time = last_time(pace);
-                    self.held = Bytes::new(alloc);
+                    self.held.clear();
                 }
             }
-            Act::Fault(fault) => hold(alloc, &mut self.held, fault)?,
+            Act::Fault(fault) => hold(&mut self.held, fault)?,
             Act::Set | Act::Restart | Act::Expect(_) => {}
         }
         Ok(())
@@ -81,8 +84,18 @@ fn last_time(pace: &Pace) -> u32
     time.min(u64::from(pace.upto)) as u32
 }
 
+// Room enough for the line of a fault: twice its bytes, and all else.
+pub(crate) fn room_of(fault: &Fault) -> usize {
+    fault
+        .bytes
+        .as_slice()
+        .len()
+        .saturating_mul(2)
+        .saturating_add(64)
+}
+
 // The line of a fault, behind others.
-pub(crate) fn hold(alloc: Global, lines: &mut Bytes, fault: &Fault) -> Result<(), Memory>
+pub(crate) fn hold(lines: &mut Held, fault: &Fault) -> Result<(), Memory>
     ensures { OnOk result (lines.new ≡ lines.old ++ fault_line fault.now) }
 {
     lines.extend_from_slice(b"# fault ")?;
@@ -90,13 +103,37 @@ pub(crate) fn hold(alloc: Global, lines: &mut Bytes, fault: &Fault) -> Result<()
     lines.extend_from_slice(region_text(fault.channel, fault.region))?;
     hold_number(lines, fault.at)?;
     lines.extend_from_slice(b" ")?;
-    let digits = hex::encode(alloc, fault.bytes.as_slice())?;
-    lines.extend_from_slice(digits.as_bytes())?;
+    hold_bytes(lines, fault.bytes.as_slice())?;
     lines.extend_from_slice(b"\n")
 }
 
+// Bytes by two small hexadecimal digits each.
+fn hold_bytes(lines: &mut Held, bytes: &[u8]) -> Result<(), Memory>
+    ensures { OnOk result (lines.new ≡ lines.old ++ encode_lower bytes.now) }
+{
+    for byte in bytes {
+        lines.extend_from_slice(&hex_digits(*byte))?;
+    }
+    Ok(())
+}
+
+// The two small hexadecimal digits of a byte.
+fn hex_digits(byte: u8) -> [u8; 2]
+    ensures { result ≡ slice_index lower_digits (byte / 16) ∷ slice_index lower_digits (byte % 16) ∷ [] }
+{
+    [hex_digit(byte / 16), hex_digit(byte % 16)]
+}
+
+// The small hexadecimal digit of a number up to 15.
+fn hex_digit(n: u8) -> u8
+    requires { n < 16 }
+    ensures { result ≡ slice_index lower_digits n }
+{
+    b"0123456789abcdef"[usize::from(n)]
+}
+
 // The turn of a fault, where it strikes before one.
-fn hold_turn(lines: &mut Bytes, turn: u32) -> Result<(), Memory>
+fn hold_turn(lines: &mut Held, turn: u32) -> Result<(), Memory>
     ensures { OnOk result (lines.new ≡ lines.old ++ turn_text turn) }
 {
     if turn == 0 {
@@ -107,7 +144,7 @@ fn hold_turn(lines: &mut Bytes, turn: u32) -> Result<(), Memory>
     lines.extend_from_slice(b" ")
 }
 
-fn hold_number(lines: &mut Bytes, number: u32) -> Result<(), Memory>
+fn hold_number(lines: &mut Held, number: u32) -> Result<(), Memory>
     ensures { OnOk result (lines.new ≡ lines.old ++ decimal number) }
 {
     let mut digits = Buffer::new();

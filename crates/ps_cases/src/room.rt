@@ -9,10 +9,11 @@ ghost use Rattle.ps_cases.specs.Expanded.{act_text, point_after, statements_text
 ghost use Rattle.ps_cases.specs.Rooms.{Counts, IsLeft, IsRoom};
 
 use crate::case::{Act, Pace, Statement};
-use crate::point::hold;
+use crate::held::Held;
+use crate::point::{hold, room_of};
 use itoa::Buffer;
+use ps_base::Memory;
 use ps_base::limits::LARGEST_TRACE;
-use ps_base::{Bytes, Memory};
 use ps_model::{App, Fault};
 use std::alloc::Global;
 
@@ -125,8 +126,8 @@ impl Room {
         ensures { IfOk result (λ room. (inputs : ℕ) → (p : Point) → Counts inputs p self →
             (room.left ≡ self.left) × Counts inputs (point_after p (Act.Fault fault.now)) room) }
     {
-        let mut line = Bytes::new(alloc);
-        hold(alloc, &mut line, fault)?;
+        let mut line = Held::with_room(alloc, room_of(fault))?;
+        hold(&mut line, fault)?;
         Ok(Room {
             left: self.left,
             held: self.held.saturating_add(line.len() as u64),

@@ -1,10 +1,10 @@
 // An expectation whose window is open.
 
-ghost use Rattle.std.specs.Prelude.{◌≡◌, ◌∷◌, [], ℕ, List};
+ghost use Rattle.std.specs.Prelude.{◌≡◌, ◌+◌, ◌∷◌, [], ℕ, List};
 ghost use Rattle.ps_model.specs.Network.{Network};
 ghost use Rattle.ps_judge.specs.Holding.{AreFrom, ended, failure_of, for_failure, within_failure};
 ghost use Rattle.ps_judge.specs.Moments.{Moment, moment_of};
-ghost use Rattle.ps_judge.specs.Owing.{left, outcome_left};
+ghost use Rattle.ps_judge.specs.Owing.{left, left_by, outcome_left};
 
 use crate::checks::{Failure, Why, failure_in};
 use crate::seen::Seen;
@@ -124,6 +124,28 @@ impl<'a> Watch<'a> {
     }
 }
 
+// An expectation of a line with a window of so many ms that is looked at in this way, as it is behind the scan before
+// the line: the first one of its window.
+fn opened<'a>(
+    app: &App,
+    line: u32,
+    duration: u32,
+    checks: &'a [Check],
+    way: Way,
+    seen: &Seen<'_>,
+) -> Outcome<'a>
+    ensures { (t : ℕ) (ms : List Moment) → AreFrom seen.entry.now.now ms →
+        left_by app.now line (seen.entry.now.now + duration) checks.now way t (moment_of seen.entry.now ∷ ms) ≡ outcome_left app.now result seen.entry.now.now ms }
+{
+    let watch = Watch {
+        line,
+        end: seen.now as u64 + duration as u64,
+        checks,
+        way,
+    };
+    watch.see(app, seen)
+}
+
 // An expectation of a line as it is behind the scan before the line.
 pub(crate) fn begun<'a>(
     app: &App,
@@ -140,23 +162,7 @@ pub(crate) fn begun<'a>(
             Some(failure) => Outcome::Failed(failure),
             None => Outcome::Met,
         },
-        Window::Within(duration) => {
-            let watch = Watch {
-                line,
-                end: seen.now as u64 + duration as u64,
-                checks,
-                way: Way::Within(None),
-            };
-            watch.see(app, seen)
-        }
-        Window::For(duration) => {
-            let watch = Watch {
-                line,
-                end: seen.now as u64 + duration as u64,
-                checks,
-                way: Way::For,
-            };
-            watch.see(app, seen)
-        }
+        Window::Within(duration) => opened(app, line, duration, checks, Way::Within(None), seen),
+        Window::For(duration) => opened(app, line, duration, checks, Way::For, seen),
     }
 }

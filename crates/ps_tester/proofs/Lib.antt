@@ -1,8 +1,8 @@
--- the capital hexadecimal digits
-pub mod Capitals
 -- texts that are written one behind the other
 pub mod Joining
 -- cases and files that were run, one more behind others
 pub mod Running
 -- failures in another order
 pub mod Ordering
+-- what an output took where a call stops
+pub mod Stopped

@@ -10,7 +10,8 @@ use Rattle.ps_cases.specs.declared.case.CaseFile.{CaseFile}
 use Rattle.ps_model.specs.Network.{Network}
 use Rattle.ps_tester.specs.Lines.{Ran, passes}
 use Rattle.ps_tester.specs.Report.{case_text, counted, none_told}
-use Rattle.ps_tester.specs.Testing.{AreRan, AreRanFiles, FileRan, all_passed, IsRan, IsRanFile, Source, cases_text, file_text, files_text, tally_of, tally_of_files}
+use Rattle.ps_bench_base.specs.Opening.{Source}
+use Rattle.ps_tester.specs.Testing.{AreRan, AreRanFiles, FileRan, all_passed, IsRan, IsRanFile, cases_text, file_text, files_text, tally_of, tally_of_files}
 use Rattle.ps_tester.specs.declared.report.Tally.{Tally}
 
 pub are_more : (net : Network) (name : List ℕ) (file : CaseFile) (cs : List Case) (c : Case) (rs : List Ran) (r : Ran) →

@@ -1,5 +1,6 @@
 -- The failures of a case, each in a sentence.
 use Rattle.std.specs.Prelude.{ℕ, ◌==◌, List, [], ◌∷◌, ◌++◌, codes, decimal, nat_lt, if◌then◌else◌, slice_get, unwrap_or}
+use Rattle.std.specs.Prelude.{Option, Some, None}
 use Rattle.std.specs.List.{flat_map}
 use Rattle.std.specs.Option.{option_map_or}
 use Rattle.ps_cases.specs.declared.case.Act.{Act}
@@ -18,6 +19,7 @@ use Rattle.ps_judge.specs.declared.checks.Why.TheVariants.{Broken, Ended, Trippe
 use Rattle.ps_model.specs.Network.{Network, declared_count, instance_count, instance_name, kind_at, signal_name}
 use Rattle.ps_model.specs.Pins.{pin_names}
 use Rattle.ps_report.specs.Lines.{code_text}
+use Rattle.ps_states.specs.States.{state_words}
 
 -- the name of an input, output or local
 abbrev pub signal_text : Network → ℕ → List ℕ
@@ -37,16 +39,26 @@ name_text net (Signal s) = signal_text net s
 name_text net (Code i) = instance_text net i
 name_text net (Pin i j) = instance_text net i ++ codes "." ++ pin_text net i j
 
--- a value of a name: of an instance its code, in four hexadecimal digits, and of others 0 or 1
-abbrev pub value_text : Name → ℕ → List ℕ
-value_text (Signal s) value = decimal value
-value_text (Code i) value = code_text value
-value_text (Pin i j) value = decimal value
+-- the words of a state behind its code, where there are any
+abbrev pub words_text : Option (List ℕ) → List ℕ
+words_text None = []
+words_text (Some words) = codes " " ++ words
 
--- values of which one is expected, as `8000 or 8001`
-abbrev pub values_text : Name → List ℕ → List ℕ
-values_text name [] = []
-values_text name (v ∷ vs) = value_text name v ++ flat_map (λ w. codes " or " ++ value_text name w) vs
+-- a code of an instance, in four hexadecimal digits, with the words of its state, as `8000 enabled`
+abbrev pub state_text : Network → (i code : ℕ) → List ℕ
+state_text net i code =
+    code_text code ++ (if nat_lt i (instance_count net) then words_text (state_words (kind_at net i) code) else [])
+
+-- a value of a name: of an instance its code, and of others 0 or 1
+abbrev pub value_text : Network → Name → ℕ → List ℕ
+value_text net (Signal s) value = decimal value
+value_text net (Code i) value = state_text net i value
+value_text net (Pin i j) value = decimal value
+
+-- values of which one is expected, as `8000 enabled or 8001 first state`
+abbrev pub values_text : Network → Name → List ℕ → List ℕ
+values_text net name [] = []
+values_text net name (v ∷ vs) = value_text net name v ++ flat_map (λ w. codes " or " ++ value_text net name w) vs
 
 -- in which scans it is expected, as ` within 500 ms`
 abbrev pub window_text : Window → List ℕ
@@ -56,13 +68,13 @@ window_text (For d) = codes " for " ++ decimal d ++ codes " ms"
 
 -- a name with the value that it has, before what is expected
 abbrev pub found_text : Network → Name → (value : ℕ) → List ℕ
-found_text net name value = name_text net name ++ codes " is " ++ value_text name value ++ codes ", expected "
+found_text net name value = name_text net name ++ codes " is " ++ value_text net name value ++ codes ", expected "
 
 -- what a check found, and what it expects
 abbrev pub check_text : Network → Check → (value : ℕ) → List ℕ
 check_text net Trip value = codes "no trip"
 check_text net NoTrip value = codes "a trip, expected none"
-check_text net (Among name values) value = found_text net name value ++ values_text name values
+check_text net (Among name values) value = found_text net name value ++ values_text net name values
 check_text net (Not name other) value = found_text net name value ++ codes "another value"
 
 -- why an expectation fails by the check at a place

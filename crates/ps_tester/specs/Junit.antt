@@ -2,8 +2,9 @@
 use Rattle.std.specs.Prelude.{ℕ, ◌==◌, List, [], ◌∷◌, ◌++◌, codes, decimal, length, nat_lt, if◌then◌else◌}
 use Rattle.std.specs.List.{flat_map}
 use Rattle.ps_cases.specs.declared.rule.CaseRefusal.{CaseRefusal}
-use Rattle.ps_tester.specs.Lines.{Ran, all_failures, passes, refused_line}
-use Rattle.ps_tester.specs.Pieces.{count_text}
+use Rattle.ps_bench_base.specs.Refusing.{refused_line}
+use Rattle.ps_tester.specs.Lines.{Ran, all_failures, passes}
+use Rattle.ps_bench_base.specs.Pieces.{count_text}
 
 -- a byte of a text or an attribute: what has a meaning of its own is escaped, and what XML cannot hold is `?`
 abbrev pub xml_byte : ℕ → List ℕ

@@ -2,12 +2,10 @@
 use Rattle.std.specs.Prelude.{ℕ, Bool, ◌==◌, ◌-◌, List, ◌++◌, codes, decimal, length, if◌then◌else◌}
 use Rattle.ps_cases.specs.declared.case.Case.{Case}
 use Rattle.ps_cases.specs.declared.case.CaseFile.{CaseFile}
-use Rattle.ps_cases.specs.declared.rule.CaseRefusal.{CaseRefusal}
-use Rattle.ps_cases.specs.Parts.{rank}
 use Rattle.ps_judge.specs.declared.run.CaseOutcome.{CaseOutcome}
 use Rattle.ps_model.specs.Network.{Network}
 use Rattle.ps_tester.specs.Failing.{failures_text}
-use Rattle.ps_tester.specs.Pieces.{count_text, place_text}
+use Rattle.ps_bench_base.specs.Pieces.{count_text, place_text}
 use Rattle.ps_tester.specs.declared.report.CaseRun.{CaseRun}
 use Rattle.ps_tester.specs.declared.report.Tally.{Tally}
 
@@ -49,7 +47,3 @@ abbrev pub total_line : Tally → List ℕ
 total_line t =
     count_text t.cases (codes "case") ++ codes ", " ++ decimal (t.cases - t.failed) ++ codes " passed, "
     ++ decimal t.failed ++ codes " failed\n"
-
--- the line of a refusal, as `refused K2 line 3`
-abbrev pub refused_line : CaseRefusal → List ℕ
-refused_line r = codes "refused K" ++ decimal (rank r.rule) ++ codes " line " ++ decimal r.line ++ codes "\n"

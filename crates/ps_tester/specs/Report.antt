@@ -4,7 +4,8 @@ use Rattle.ps_bench_words.specs.declared.asking.Format.{Format}
 use Rattle.ps_bench_words.specs.declared.asking.Format.TheVariants.{Text, Tap, Junit}
 use Rattle.ps_cases.specs.declared.rule.CaseRefusal.{CaseRefusal}
 use Rattle.ps_tester.specs.Junit.{junit_case, junit_foot, junit_head, junit_refused, suite_foot, suite_head}
-use Rattle.ps_tester.specs.Lines.{Ran, case_lines, refused_line, total_line}
+use Rattle.ps_bench_base.specs.Refusing.{refused_line}
+use Rattle.ps_tester.specs.Lines.{Ran, case_lines, total_line}
 use Rattle.ps_tester.specs.Tap.{tap_case, tap_head, tap_plan, tap_refused}
 use Rattle.ps_tester.specs.declared.report.Tally.{Tally}
 

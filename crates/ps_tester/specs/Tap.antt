@@ -2,8 +2,9 @@
 use Rattle.std.specs.Prelude.{ℕ, ◌==◌, List, [], ◌∷◌, ◌++◌, codes, decimal, if◌then◌else◌}
 use Rattle.std.specs.List.{flat_map}
 use Rattle.ps_cases.specs.declared.rule.CaseRefusal.{CaseRefusal}
-use Rattle.ps_tester.specs.Lines.{Ran, all_failures, passes, refused_line}
-use Rattle.ps_tester.specs.Pieces.{place_text}
+use Rattle.ps_bench_base.specs.Refusing.{refused_line}
+use Rattle.ps_tester.specs.Lines.{Ran, all_failures, passes}
+use Rattle.ps_bench_base.specs.Pieces.{place_text}
 use Rattle.ps_tester.specs.declared.report.Tally.{Tally}
 
 -- a byte of a description, in which `#` would begin a directive

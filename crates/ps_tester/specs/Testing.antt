@@ -1,13 +1,13 @@
 -- What `test` runs, what it tells of it, and its status.
-use Rattle.std.specs.Prelude.{◌≡◌, ◌≤◌, ◌<◌, ◌+◌, ◌↔◌, ℕ, slice_index_or, Bool, IsTrue, List, [], ◌∷◌, ◌++◌, Option}
-use Rattle.std.specs.Prelude.{Some, Ok, length, if◌then◌else◌}
+use Rattle.std.specs.Prelude.{◌≡◌, ◌≤◌, ◌<◌, ◌+◌, ◌↔◌, ℕ, slice_index_or, Bool, IsTrue, List, [], ◌∷◌, ◌++◌}
+use Rattle.std.specs.Prelude.{length, if◌then◌else◌}
 use Rattle.std.specs.List.{list_all}
 use Rattle.std.specs.List.Sorted.{IsNonDecreasingBy}
+use Rattle.ps_bench_base.specs.Opening.{IsOfText, Source}
 use Rattle.ps_bench_words.specs.declared.asking.Format.{Format}
 use Rattle.ps_cases.specs.declared.case.Case.{Case}
 use Rattle.ps_cases.specs.declared.case.CaseFile.{CaseFile}
 use Rattle.ps_cases.specs.declared.case.Statement.{Statement}
-use Rattle.ps_cases.specs.File.{cases_of}
 use Rattle.ps_cases.specs.Meant.{items_of, whole_case}
 use Rattle.ps_judge.specs.CaseRuns.{IsJudged, failures_of}
 use Rattle.ps_judge.specs.declared.checks.Failure.{Failure}
@@ -15,12 +15,11 @@ use Rattle.ps_judge.specs.declared.run.CaseOutcome.{CaseOutcome}
 use Rattle.ps_model.specs.Meaning.{Meaning}
 use Rattle.ps_model.specs.Network.{Network}
 use Rattle.ps_model.specs.Scanning.{State}
-use Rattle.ps_model.specs.declared.channel.ImageSizes.{ImageSizes}
 use Rattle.ps_world.specs.Whole.{IsSetupOf, Setup}
 use Rattle.ps_tester.specs.Lines.{Ran, passes}
 use Rattle.ps_tester.specs.Report.{case_text, counted, file_foot_text, file_head_text, foot_text, head_text, none_told}
-use Rattle.ps_tester.specs.declared.ending.Status.{Status}
-use Rattle.ps_tester.specs.declared.ending.Status.TheVariants.{Done, Failed}
+use Rattle.ps_bench_base.specs.declared.ending.Status.{Status}
+use Rattle.ps_bench_base.specs.declared.ending.Status.TheVariants.{Done, Failed}
 use Rattle.ps_tester.specs.declared.report.Tally.{Tally}
 
 -- failures stand in the order of their lines, and neighbours of one line in the order of their times
@@ -60,28 +59,11 @@ abbrev pub cases_text : Format → Tally → List Ran → List ℕ
 cases_text format t [] = []
 cases_text format t (r ∷ rs) = case_text format t r ++ cases_text format (counted t (passes r.outcome)) rs
 
--- What the cases of a call are run on: the application, the sizes of the regions of its channels, and the files, which
--- tell what they hold, or do not.
-pub record Source : Type 0 where
-  pub net : Network
-  pub sizes : ImageSizes
-  pub tells : Bool
-  pub held : List ℕ → Option (List ℕ)
-
--- the same from its parts
-abbrev pub source : Network → ImageSizes → (tells : Bool) → (held : List ℕ → Option (List ℕ)) → Source
-source net sizes tells held = record { net = net; sizes = sizes; tells = tells; held = held }
-
 -- a case file, and its cases that were run
 pub record FileRan : Type 0 where
   pub name : List ℕ
   pub file : CaseFile
   pub ran : List Ran
-
--- the file says what the text of its name says, where that is known
-abbrev pub IsOfText : Source → (name : List ℕ) → CaseFile → Type 0
-IsOfText from name file =
-    IsTrue from.tells → (text : List ℕ) → from.held name ≡ Some text → cases_of from.net from.sizes text ≡ Ok file
 
 -- all cases of the file of this name were run
 pub record IsRanFile (from : Source) (name : List ℕ) (f : FileRan) : Type 0 where

@@ -1,18 +1,23 @@
 // The failures of a case, each in a sentence.
 
-ghost use Rattle.std.specs.Prelude.{◌≡◌, ◌++◌, [], OnOk, decimal, codes, unwrap_or, slice_get};
+ghost use Rattle.std.specs.Prelude.{◌≡◌, ◌++◌, [], OnOk, decimal, codes, unwrap_or, slice_get, nat_lt, option_map};
+ghost use Rattle.std.specs.Prelude.{if◌then◌else◌};
 ghost use Rattle.std.specs.List.{flat_map};
 ghost use Rattle.std.specs.Option.{option_map_or};
+ghost use Rattle.ps_model.specs.Network.{instance_count, kind_at};
 ghost use Rattle.ps_model.specs.Pins.{pin_names};
+ghost use Rattle.ps_states.specs.States.{state_words};
 ghost use Rattle.ps_tester.specs.Failing.{broken_text, check_text, failure_text, failures_text, found_text, from_line};
 ghost use Rattle.ps_tester.specs.Failing.{instance_text, marked, name_text, over_text, pin_text, signal_text};
+ghost use Rattle.ps_tester.specs.Failing.{state_text, words_text};
 ghost use Rattle.ps_tester.specs.Failing.{unmet_text, value_text, values_text, why_text, window_text};
 
-use crate::pieces::{add_code, add_short};
 use ps_base::{Bytes, Memory};
+use ps_bench_base::pieces::{add_code, add_short};
 use ps_cases::{Act, Check, Expectation, Name, Statement, Window};
 use ps_judge::{Failure, Why};
 use ps_model::{App, Kind, pin_count, pin_name};
+use ps_states::state_words;
 
 // The name of an instance.
 fn instance_text(app: &App, instance: u16) -> &[u8]
@@ -73,44 +78,79 @@ fn add_name(text: &mut Bytes, app: &App, name: Name) -> Result<(), Memory>
     }
 }
 
+// The words of a state behind its code, where there are any.
+fn add_words(text: &mut Bytes, words: Option<&'static str>) -> Result<(), Memory>
+    ensures { OnOk result (text.new ≡ text.old ++ words_text (option_map (λ w. w.now) words.entry)) }
+{
+    match words {
+        Some(words) => {
+            text.extend_from_slice(b" ")?;
+            text.extend_from_slice(words.as_bytes())
+        }
+        None => Ok(()),
+    }
+}
+
+// The words of a code of an instance.
+fn words_of(app: &App, instance: u16, code: u16) -> Option<&'static str>
+    ensures { words_text (option_map (λ w. w.now) result) ≡
+        (if nat_lt instance (instance_count app.now) then words_text (state_words (kind_at app.now instance) code)
+        else []) }
+{
+    if instance < app.instance_count() {
+        state_words(app.instance_kind(instance), code)
+    } else {
+        None
+    }
+}
+
+// A code of an instance with the words of its state, as `8000 enabled`.
+fn add_state(text: &mut Bytes, app: &App, instance: u16, code: u16) -> Result<(), Memory>
+    ensures { OnOk result (text.new ≡ text.old ++ state_text app.now instance code) }
+{
+    add_code(text, code)?;
+    add_words(text, words_of(app, instance, code))
+}
+
 // A value of a name: of an instance its code, of others 0 or 1.
-fn add_value(text: &mut Bytes, name: Name, value: u16) -> Result<(), Memory>
-    ensures { OnOk result (text.new ≡ text.old ++ value_text name value) }
+fn add_value(text: &mut Bytes, app: &App, name: Name, value: u16) -> Result<(), Memory>
+    ensures { OnOk result (text.new ≡ text.old ++ value_text app.now name value) }
 {
     match name {
-        Name::Code(_) => add_code(text, value),
+        Name::Code(instance) => add_state(text, app, instance, value),
         Name::Signal(_) => add_short(text, u32::from(value)),
         Name::Pin { .. } => add_short(text, u32::from(value)),
     }
 }
 
 // One more value of which one is expected.
-fn add_other_value(text: &mut Bytes, name: Name, value: u16) -> Result<(), Memory>
-    ensures { OnOk result (text.new ≡ text.old ++ codes " or " ++ value_text name value) }
+fn add_other_value(text: &mut Bytes, app: &App, name: Name, value: u16) -> Result<(), Memory>
+    ensures { OnOk result (text.new ≡ text.old ++ codes " or " ++ value_text app.now name value) }
 {
     text.extend_from_slice(b" or ")?;
-    add_value(text, name, value)
+    add_value(text, app, name, value)
 }
 
 // More values of which one is expected.
-fn add_other_values(text: &mut Bytes, name: Name, values: &[u16]) -> Result<(), Memory>
-    ensures { OnOk result (text.new ≡ text.old ++ flat_map (λ v. codes " or " ++ value_text name v) values.now) }
+fn add_other_values(text: &mut Bytes, app: &App, name: Name, values: &[u16]) -> Result<(), Memory>
+    ensures { OnOk result (text.new ≡
+        text.old ++ flat_map (λ v. codes " or " ++ value_text app.now name v) values.now) }
 {
     for value in values {
-        add_other_value(text, name, *value)?;
+        add_other_value(text, app, name, *value)?;
     }
     Ok(())
 }
 
-// Values of which one is expected, as `8000 or 8001`.
-fn add_values(text: &mut Bytes, name: Name, values: &[u16]) -> Result<(), Memory>
-    ensures { OnOk result (text.new ≡ text.old ++ values_text name values.now) }
+// Values of which one is expected, as `8000 enabled or 8001 first state`.
+fn add_values(text: &mut Bytes, app: &App, name: Name, values: &[u16]) -> Result<(), Memory>
+    ensures { OnOk result (text.new ≡ text.old ++ values_text app.now name values.now) }
 {
     match values {
         [] => Ok(()),
         [first, rest @ ..] => {
-            add_value(text, name, *first)?;
-            add_other_values(text, name, rest)
+            add_value(text, app, name, *first)?;
+            add_other_values(text, app, name, rest)
         }
     }
 }
@@ -141,7 +181,7 @@ fn add_found(text: &mut Bytes, app: &App, name: Name, value: u16) -> Result<(), 
 {
     add_name(text, app, name)?;
     text.extend_from_slice(b" is ")?;
-    add_value(text, name, value)?;
+    add_value(text, app, name, value)?;
     text.extend_from_slice(b", expected ")?;
     Ok(())
 }
@@ -154,10 +194,11 @@ fn add_among(
     value: u16,
     values: &[u16],
 ) -> Result<(), Memory>
-    ensures { OnOk result (text.new ≡ text.old ++ (found_text app.now name value ++ values_text name values.now)) }
+    ensures { OnOk result (text.new ≡
+        text.old ++ (found_text app.now name value ++ values_text app.now name values.now)) }
 {
     add_found(text, app, name, value)?;
-    add_values(text, name, values)?;
+    add_values(text, app, name, values)?;
     Ok(())
 }
 

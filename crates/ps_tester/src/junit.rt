@@ -5,10 +5,11 @@ ghost use Rattle.ps_tester.specs.Junit.{attribute, case_head, case_name, failed_
 ghost use Rattle.ps_tester.specs.Junit.{junit_refused, outcome_element, suite_head, xml_byte, xml_escaped};
 ghost use Rattle.ps_tester.specs.Lines.{all_failures, ran_of};
 
-use crate::lines::{add_failures_of, add_refusal};
-use crate::pieces::{add_count, add_number};
+use crate::lines::add_failures_of;
 use crate::report::CaseRun;
 use ps_base::{Bytes, Memory};
+use ps_bench_base::add_refusal;
+use ps_bench_base::pieces::{add_count, add_number};
 use ps_cases::CaseRefusal;
 use std::alloc::Global;
 

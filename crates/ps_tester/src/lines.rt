@@ -1,14 +1,13 @@
 // Results in lines for a person.
 
 ghost use Rattle.std.specs.Prelude.{◌≡◌, ◌++◌, IfOk, OnOk, codes, if◌then◌else◌};
-ghost use Rattle.ps_tester.specs.Pieces.{count_text};
-ghost use Rattle.ps_tester.specs.Lines.{all_failures, case_line, case_lines, passes, ran_of, refused_line, total_line};
+ghost use Rattle.ps_bench_base.specs.Pieces.{count_text};
+ghost use Rattle.ps_tester.specs.Lines.{all_failures, case_line, case_lines, passes, ran_of, total_line};
 
 use crate::failing::add_failures;
-use crate::pieces::{add_count, add_number, add_place, add_short};
 use crate::report::{CaseRun, Tally};
 use ps_base::{Bytes, Memory};
-use ps_cases::CaseRefusal;
+use ps_bench_base::pieces::{add_count, add_number, add_place, add_short};
 use std::alloc::Global;
 
 // Whether a case passed or failed.
@@ -78,25 +77,5 @@ pub(crate) fn total_line(alloc: Global, tally: &Tally) -> Result<Bytes, Memory>
     text.extend_from_slice(b" passed, ")?;
     add_number(&mut text, tally.failed)?;
     text.extend_from_slice(b" failed\n")?;
-    Ok(text)
-}
-
-// The line of a refusal at the end of a text, as `refused K2 line 3`.
-pub(crate) fn add_refusal(text: &mut Bytes, refusal: CaseRefusal) -> Result<(), Memory>
-    ensures { OnOk result (text.new ≡ text.old ++ refused_line refusal) }
-{
-    text.extend_from_slice(b"refused K")?;
-    add_short(text, u32::from(refusal.rule.number()))?;
-    text.extend_from_slice(b" line ")?;
-    add_short(text, refusal.line)?;
-    text.extend_from_slice(b"\n")
-}
-
-// The line of a refusal.
-pub(crate) fn refused_line(alloc: Global, refusal: CaseRefusal) -> Result<Bytes, Memory>
-    ensures { IfOk result (λ bytes. bytes ≡ refused_line refusal) }
-{
-    let mut text = Bytes::new(alloc);
-    add_refusal(&mut text, refusal)?;
     Ok(text)
 }

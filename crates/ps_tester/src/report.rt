@@ -7,6 +7,7 @@ ghost use Rattle.ps_tester.specs.Report.{next, none_told, refused_text};
 
 use crate::{junit, lines, tap};
 use ps_base::{Bytes, Memory};
+use ps_bench_base::refused_line;
 use ps_bench_words::Format;
 use ps_cases::{Case, CaseFile, CaseRefusal};
 use ps_judge::CaseOutcome;
@@ -145,7 +146,7 @@ pub(crate) fn refused(
     ensures { IfOk result (λ bytes. bytes ≡ refused_text format name.now refusal) }
 {
     match format {
-        Format::Text => lines::refused_line(alloc, refusal),
+        Format::Text => refused_line(alloc, refusal),
         Format::Tap => tap::refused(alloc, refusal),
         Format::Junit => junit::refused(alloc, name.as_bytes(), refusal),
     }

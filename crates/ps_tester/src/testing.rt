@@ -1,29 +1,33 @@
 // `test APP CASES..`: runs the cases of case files, and tells which of them fail.
 
-ghost use Rattle.std.specs.Prelude.{◌≡◌, ◌++◌, Bool, List, All, IsTrue, IfOk, OnOk};
+ghost use Rattle.std.specs.Prelude.{◌≡◌, ◌⊎◌, ◌≤◌, ◌++◌, ◌∷◌, [], ℕ, Bool, List, All, Any, IsTrue, IfOk};
+ghost use Rattle.std.specs.Prelude.{IfErr, IsErrOf, OnOk, take};
 ghost use Rattle.std.specs.List.{list_all};
 ghost use Rattle.ps_cases.specs.Meant.{whole_case};
 ghost use Rattle.ps_cases.specs.Runnable.{IsRunnable};
 ghost use Rattle.ps_cases.specs.declared.case.Case.{Case as CaseOf};
 ghost use Rattle.ps_model.specs.Network.{Network};
 ghost use Rattle.ps_model.specs.declared.channel.ImageSizes.{ImageSizes};
-ghost use Rattle.ps_tester.specs.Answering.{IsOfApp};
+ghost use Rattle.ps_bench_base.specs.Ending.{IsUnread};
+ghost use Rattle.ps_bench_base.specs.Opening.{IsOfApp, IsOfText, Source, source};
+ghost use Rattle.ps_bench_base.specs.Stopping.{AreRefused, StopsAtCases, StopsIn};
+ghost use Rattle.ps_outside.specs.Outside.{Rose};
 ghost use Rattle.ps_model.specs.Typing.{Accepted};
 ghost use Rattle.ps_bench_words.specs.Seen.{seen};
 ghost use Rattle.ps_tester.specs.Lines.{Ran, passes, ran_of};
-ghost use Rattle.ps_tester.specs.Report.{case_text, counted, none_told};
-ghost use Rattle.ps_tester.specs.Testing.{AreToldInOrder, AreRan, AreRanFiles, FileRan, IsOfText, IsOutcome, IsRan};
+ghost use Rattle.ps_tester.specs.Report.{case_text, counted, none_told, refused_text};
+ghost use Rattle.ps_tester.specs.Stopping.{StopsAmong, StopsInFile, StopsRunning, StopsTesting, StopsTold};
+ghost use Rattle.ps_tester.specs.Testing.{AreToldInOrder, AreRan, AreRanFiles, FileRan, IsOutcome, IsRan};
 ghost use Rattle.ps_tester.specs.Testing.{IsRanFile};
-ghost use Rattle.ps_tester.specs.Testing.{cases_text, file_text, files_text, source, tally_of, tally_of_files};
+ghost use Rattle.ps_tester.specs.Testing.{cases_text, file_text, files_text, tally_of, tally_of_files};
 ghost use Rattle.ps_tester.specs.Testing.{test_status, test_text};
 
-use crate::ending::{Status, Stop};
-use crate::opening::{Opened, open_app, open_cases};
 use crate::report::{self, CaseRun, Tally};
 use crate::telling::tell_of_nothing;
 use ps_base::Memory;
+use ps_bench_base::{Opened, Status, Stop, open_app, open_cases};
 use ps_bench_words::Format;
-use ps_cases::{Case, CaseFile};
+use ps_cases::{Case, CaseFile, CaseRefusal};
 use ps_edge::Listener;
 use ps_judge::{CaseOutcome, Failure, run_case};
 use ps_model::App;
@@ -56,6 +60,11 @@ struct Place<'a> {
 // Writes a piece of what is told, and has the output hand it on.
 fn say<O: Output>(out: &mut O, text: &[u8]) -> Result<(), Stop>
     ensures all { IsTrue (O.tells out.old) → OnOk result (O.taken out.new ≡ O.taken out.old ++ text.now) }
+    ensures cut { IfErr result (λ stop. stop ≡ Stop.Unwritten) }
+    ensures stops { IfErr result (λ stop. StopsIn text.now stop
+        (O.tells out.old) (O.taken out.old) (O.taken out.new)) }
+    ensures unwritten { IsErrOf result Stop.Unwritten → Rose (O.faults out.old) (O.faults out.new) }
+    ensures writes { O.faults out.old ≤ O.faults out.new }
     ensures telling { O.tells out.new ≡ O.tells out.old }
 {
     write_all(out, text)?;
@@ -96,6 +105,10 @@ fn tell_case<O: Output, L: Listener>(
 ) -> Result<(), Stop>
     ensures says { IsTrue (O.tells out.old) → OnOk result (O.taken out.new ≡
         O.taken out.old ++ case_text bench.now.format before.now (ran_of run.now)) }
+    ensures stops { IfErr result (λ stop. StopsIn (case_text bench.now.format before.now (ran_of run.now)) stop
+        (O.tells out.old) (O.taken out.old) (O.taken out.new)) }
+    ensures unwritten { IsErrOf result Stop.Unwritten → Rose (O.faults out.old) (O.faults out.new) }
+    ensures writes { O.faults out.old ≤ O.faults out.new }
     ensures telling { O.tells out.new ≡ O.tells out.old }
 {
     let text = report::case_report(bench.alloc, bench.format, before, run)?;
@@ -119,6 +132,13 @@ fn test_case<O: Output, L: Listener>(
         × IsRan bench.now.opened.now.app named.now.name.now named.now.file.now case.now r
         × (tally ≡ counted before (passes r.outcome))
         × (IsTrue (O.tells out.old) → O.taken out.new ≡ O.taken out.old ++ case_text bench.now.format before r)) }
+    ensures stops { IfErr result (λ stop. StopsIn [] stop
+        (O.tells out.old) (O.taken out.old) (O.taken out.new)
+        ⊎ ((r : Ran) × IsRan bench.now.opened.now.app named.now.name.now named.now.file.now case.now r
+        × StopsIn (case_text bench.now.format before r) stop
+        (O.tells out.old) (O.taken out.old) (O.taken out.new))) }
+    ensures unwritten { IsErrOf result Stop.Unwritten → Rose (O.faults out.old) (O.faults out.new) }
+    ensures writes { O.faults out.old ≤ O.faults out.new }
     ensures telling { O.tells out.new ≡ O.tells out.old }
 {
     let app = &bench.opened.app;
@@ -150,6 +170,12 @@ fn test_all<O: Output, L: Listener>(
         × AreRan bench.now.opened.now.app named.now.name.now named.now.file.now cases.now rs
         × (tally ≡ tally_of before rs)
         × (IsTrue (O.tells out.old) → O.taken out.new ≡ O.taken out.old ++ cases_text bench.now.format before rs)) }
+    ensures stops { IfErr result (λ stop. (ran : ℕ) × (rs : List Ran)
+        × AreRan bench.now.opened.now.app named.now.name.now named.now.file.now (take ran cases.now) rs
+        × StopsIn (cases_text bench.now.format before rs) stop
+        (O.tells out.old) (O.taken out.old) (O.taken out.new)) }
+    ensures unwritten { IsErrOf result Stop.Unwritten → Rose (O.faults out.old) (O.faults out.new) }
+    ensures writes { O.faults out.old ≤ O.faults out.new }
     ensures telling { O.tells out.new ≡ O.tells out.old }
 {
     let mut tally = before;
@@ -175,6 +201,11 @@ fn test_cases<O: Output, L: Listener>(
         × (tally ≡ tally_of before rs)
         × (IsTrue (O.tells out.old) → O.taken out.new ≡ O.taken out.old ++ file_text bench.now.format before
         (record { name = named.now.name.now; file = named.now.file.now; ran = rs }))) }
+    ensures stops { IfErr result (λ stop. StopsRunning bench.now.opened.now.app bench.now.format before
+        named.now.name.now named.now.file.now stop
+        (O.tells out.old) (O.taken out.old) (O.taken out.new)) }
+    ensures unwritten { IsErrOf result Stop.Unwritten → Rose (O.faults out.old) (O.faults out.new) }
+    ensures writes { O.faults out.old ≤ O.faults out.new }
     ensures telling { O.tells out.new ≡ O.tells out.old }
 {
     let cases = named.file.cases.as_slice();
@@ -185,30 +216,59 @@ fn test_cases<O: Output, L: Listener>(
     Ok(tally)
 }
 
-// Reads the cases of a file of this name, which stands at this place of the words. Where it is refused that is told.
+// Ends a call that gets no cases, by this refusal of the file at this place of the words, which is told.
+fn refuse_told<O: Output>(
+    out: &mut O,
+    bench: &Bench<'_>,
+    at: Place<'_>,
+    refusal: CaseRefusal,
+) -> Stop
+    ensures stops { (from : Source) → AreRefused from at.entry.name.now refusal →
+        StopsAtCases from at.entry.name.now (refused_text bench.now.format at.entry.name.now) result
+        (O.tells out.old) (O.taken out.old) (O.taken out.new) }
+    ensures read { ¬ IsUnread result }
+    ensures unwritten { result ≡ Stop.Unwritten → Rose (O.faults out.old) (O.faults out.new) }
+    ensures writes { O.faults out.old ≤ O.faults out.new }
+    ensures telling { O.tells out.new ≡ O.tells out.old }
+{
+    match report::refused(bench.alloc, bench.format, at.name, refusal) {
+        Ok(text) => match say(out, text.as_slice()) {
+            Ok(()) => Stop::Cases(at.place, refusal),
+            Err(_) => Stop::Unwritten,
+        },
+        Err(Memory) => Stop::NoMemory,
+    }
+}
+
+// Reads the cases of the file at a place of the words. Where it is refused that is told.
 fn open_told<F: Files, O: Output>(
     files: &mut F,
     out: &mut O,
     bench: &Bench<'_>,
-    place: usize,
-    name: &str,
+    at: Place<'_>,
 ) -> Result<CaseFile, Stop>
     ensures of_text { IfOk result (IsOfText
-        (source bench.now.opened.now.app bench.now.opened.now.sizes (F.tells files.old) (F.held files.old)) name.now) }
+        (source bench.now.opened.now.app bench.now.opened.now.sizes (F.tells files.old) (F.held files.old))
+        at.entry.name.now) }
     ensures runnable { IfOk result (λ file.
         All (λ (case : CaseOf). IsRunnable bench.now.opened.now.app (whole_case file case)) file.cases) }
     ensures kept { F.held files.new ≡ F.held files.old }
     ensures reading { F.tells files.new ≡ F.tells files.old }
     ensures unsaid { OnOk result (O.taken out.new ≡ O.taken out.old) }
+    ensures stops { IfErr result (λ stop. StopsAtCases
+        (source bench.now.opened.now.app bench.now.opened.now.sizes (F.tells files.old) (F.held files.old))
+        at.entry.name.now (refused_text bench.now.format at.entry.name.now) stop
+        (O.tells out.old) (O.taken out.old) (O.taken out.new)) }
+    ensures unread { IfErr result (λ stop. IsUnread stop →
+        Rose (F.faults files.old at.entry.name.now) (F.faults files.new at.entry.name.now)) }
+    ensures reads { (other : List ℕ) → F.faults files.old other ≤ F.faults files.new other }
+    ensures unwritten { IsErrOf result Stop.Unwritten → Rose (O.faults out.old) (O.faults out.new) }
+    ensures writes { O.faults out.old ≤ O.faults out.new }
     ensures telling { O.tells out.new ≡ O.tells out.old }
 {
-    match open_cases(bench.alloc, files, bench.opened, place, name) {
+    match open_cases(bench.alloc, files, bench.opened, at.place, at.name) {
         Ok(file) => Ok(file),
-        Err(Stop::Cases(place, refusal)) => {
-            let text = report::refused(bench.alloc, bench.format, name, refusal)?;
-            say(out, text.as_slice())?;
-            Err(Stop::Cases(place, refusal))
-        }
+        Err(Stop::Cases(_, refusal)) => Err(refuse_told(out, bench, at, refusal)),
         Err(stop) => Err(stop),
     }
 }
@@ -230,9 +290,18 @@ fn test_file<F: Files, O: Output, L: Listener>(
         × (IsTrue (O.tells out.old) → O.taken out.new ≡ O.taken out.old ++ file_text bench.now.format before f)) }
     ensures kept { F.held files.new ≡ F.held files.old }
     ensures reading { F.tells files.new ≡ F.tells files.old }
+    ensures stops { IfErr result (λ stop. StopsInFile
+        (source bench.now.opened.now.app bench.now.opened.now.sizes (F.tells files.old) (F.held files.old))
+        bench.now.format before at.entry.name.now stop
+        (O.tells out.old) (O.taken out.old) (O.taken out.new)) }
+    ensures unread { IfErr result (λ stop. IsUnread stop →
+        Rose (F.faults files.old at.entry.name.now) (F.faults files.new at.entry.name.now)) }
+    ensures reads { (other : List ℕ) → F.faults files.old other ≤ F.faults files.new other }
+    ensures unwritten { IsErrOf result Stop.Unwritten → Rose (O.faults out.old) (O.faults out.new) }
+    ensures writes { O.faults out.old ≤ O.faults out.new }
     ensures telling { O.tells out.new ≡ O.tells out.old }
 {
-    let file = open_told(files, out, bench, at.place, at.name)?;
+    let file = open_told(files, out, bench, at)?;
     let named = Named {
         name: at.name,
         file: &file,
@@ -257,6 +326,14 @@ fn test_files<F: Files, O: Output, L: Listener>(
         × (IsTrue (O.tells out.old) → O.taken out.new ≡ O.taken out.old ++ files_text bench.now.format none_told fs)) }
     ensures kept { F.held files.new ≡ F.held files.old }
     ensures reading { F.tells files.new ≡ F.tells files.old }
+    ensures stops { IfErr result (λ stop. StopsAmong
+        (source bench.now.opened.now.app bench.now.opened.now.sizes (F.tells files.old) (F.held files.old))
+        bench.now.format (seen bench.now.names.now) stop
+        (O.tells out.old) (O.taken out.old) (O.taken out.new)) }
+    ensures unread { IfErr result (λ stop. IsUnread stop →
+        Any (λ (name : List ℕ). Rose (F.faults files.old name) (F.faults files.new name)) (seen bench.now.names.now)) }
+    ensures unwritten { IsErrOf result Stop.Unwritten → Rose (O.faults out.old) (O.faults out.new) }
+    ensures writes { O.faults out.old ≤ O.faults out.new }
     ensures telling { O.tells out.new ≡ O.tells out.old }
 {
     let mut tally = Tally::none();
@@ -283,6 +360,14 @@ fn test_told<F: Files, O: Output, L: Listener>(
         (seen bench.now.names.now) fs
         × (tally ≡ tally_of_files none_told fs)
         × (IsTrue (O.tells out.old) → O.taken out.new ≡ O.taken out.old ++ test_text bench.now.format fs)) }
+    ensures stops { IfErr result (λ stop. StopsTold
+        (source bench.now.opened.now.app bench.now.opened.now.sizes (F.tells files.old) (F.held files.old))
+        bench.now.format (seen bench.now.names.now) stop
+        (O.tells out.old) (O.taken out.old) (O.taken out.new)) }
+    ensures unread { IfErr result (λ stop. IsUnread stop →
+        Any (λ (name : List ℕ). Rose (F.faults files.old name) (F.faults files.new name)) (seen bench.now.names.now)) }
+    ensures unwritten { IsErrOf result Stop.Unwritten → Rose (O.faults out.old) (O.faults out.new) }
+    ensures writes { O.faults out.old ≤ O.faults out.new }
     ensures telling { O.tells out.new ≡ O.tells out.old }
 {
     say(out, report::head(bench.format))?;
@@ -303,17 +388,18 @@ fn status_of(tally: &Tally) -> Status
     }
 }
 
-// What `test` is asked: the names of an application and of case files, and how results are told.
+/// What `test` is asked: the names of an application and of case files, and how results are told.
 #[derive(Clone, Copy)]
-pub(crate) struct Asked<'a> {
-    pub(crate) app: &'a str,
-    pub(crate) cases: &'a [&'a str],
-    pub(crate) format: Format,
+pub struct Asked<'a> {
+    pub app: &'a str,
+    pub cases: &'a [&'a str],
+    pub format: Format,
 }
 
-// `test APP CASES..`: how the call ended, where nothing stopped it. Then each case of each file was run, and its status
-// is Done exactly where all passed, and else Failed.
-pub(crate) fn test<F: Files, O: Output, L: Listener>(
+/// `test APP CASES..`: how the call ended, where nothing stopped it. Then each case of each file was run, and its
+/// status is Done exactly where all passed, and else Failed. Where a file cannot be read its count rose in this call,
+/// and where the output cannot be written the output's did.
+pub fn test<F: Files, O: Output, L: Listener>(
     alloc: Global,
     files: &mut F,
     out: &mut O,
@@ -326,6 +412,14 @@ pub(crate) fn test<F: Files, O: Output, L: Listener>(
         × AreRanFiles (source net sizes (F.tells files.old) (F.held files.old)) (seen asked.now.cases.now) fs
         × (status ≡ test_status fs)
         × (IsTrue (O.tells out.old) → O.taken out.new ≡ O.taken out.old ++ test_text asked.now.format fs)) }
+    ensures stops { IfErr result (λ stop. StopsTesting (F.tells files.old) (F.held files.old)
+        asked.now.app.now (seen asked.now.cases.now) asked.now.format stop
+        (O.tells out.old) (O.taken out.old) (O.taken out.new)) }
+    ensures unread { IfErr result (λ stop. IsUnread stop →
+        Any (λ (name : List ℕ). Rose (F.faults files.old name) (F.faults files.new name))
+        (asked.now.app.now ∷ seen asked.now.cases.now)) }
+    ensures unwritten { IsErrOf result Stop.Unwritten → Rose (O.faults out.old) (O.faults out.new) }
+    ensures writes { O.faults out.old ≤ O.faults out.new }
     ensures telling { O.tells out.new ≡ O.tells out.old }
 {
     let opened = open_app(alloc, files, out, asked.app)?;

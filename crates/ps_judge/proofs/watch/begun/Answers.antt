@@ -6,9 +6,9 @@ use Rattle.ps_judge.proofs.watch.begun.Goals as goal
 pub returns-in-Within : goal.returns-in-Within
 returns-in-Within c = λ ms from.
     ap (λ w. failure_of c.args.app.now c.args.line w c.args.checks.now (moment_of c.args.seen.now) ms) c.in-Within.is
-    ∙ c.see.ensures c.args.seen.now.now ms from
+    ∙ c.opened.ensures c.args.seen.now.now ms from
 
 pub returns-in-For : goal.returns-in-For
 returns-in-For c = λ ms from.
     ap (λ w. failure_of c.args.app.now c.args.line w c.args.checks.now (moment_of c.args.seen.now) ms) c.in-For.is
-    ∙ c.see-in-For.ensures c.args.seen.now.now ms from
+    ∙ c.opened-in-For.ensures c.args.seen.now.now ms from

@@ -4,4 +4,4 @@ use Rattle.ps_tester.proofs.failing.add_other_values.Given as goal
 
 abbrev pub invariant-loop-value : goal.invariant-loop-value
 invariant-loop-value l =
-    l.text ≡ l.initial.text ++ flat_map (λ v. codes " or " ++ value_text l.name v) (take l.value-index l.values)
+    l.text ≡ l.initial.text ++ flat_map (λ v. codes " or " ++ value_text l.app l.name v) (take l.value-index l.values)

@@ -1,5 +1,5 @@
 use Rattle.std.proofs.Common.{codes}
-use Rattle.ps_tester.specs.Pieces.{count_text}
+use Rattle.ps_bench_base.specs.Pieces.{count_text}
 use Rattle.ps_tester.proofs.Joining.{three_more}
 use Rattle.ps_tester.proofs.junit.add_failed_head.Goals as goal
 

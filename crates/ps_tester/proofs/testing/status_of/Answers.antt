@@ -3,7 +3,7 @@ use Rattle.std.proofs.lemmas.Bool.Decides.{nat_tests}
 use Rattle.std.specs.Prelude.{if◌then◌else◌}
 use Rattle.ps_tester.proofs.Running.{none_failed_told}
 use Rattle.ps_tester.proofs.testing.status_of.Goals as goal
-use Rattle.ps_tester.specs.declared.ending.Status.TheVariants.{Done, Failed}
+use Rattle.ps_bench_base.specs.declared.ending.Status.TheVariants.{Done, Failed}
 
 pub returns-then-tally-eq0 : goal.returns-then-tally-eq0
 returns-then-tally-eq0 c = λ fs is.

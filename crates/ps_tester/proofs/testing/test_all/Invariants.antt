@@ -1,4 +1,4 @@
-use Rattle.std.proofs.Common.{◌≡◌, ◌++◌, IsTrue, List, take}
+use Rattle.std.proofs.Common.{◌≡◌, ◌≤◌, ◌++◌, IsTrue, List, take}
 use Rattle.ps_tester.specs.Lines.{Ran}
 use Rattle.ps_tester.specs.Testing.{AreRan, cases_text, tally_of}
 use Rattle.ps_tester.proofs.testing.test_all.Given as goal
@@ -10,5 +10,6 @@ invariant-loop-case g l =
           × AreRan l.bench.opened.now.app l.named.name.now l.named.file.now (take l.case-index l.cases) rs
           × (l.tally ≡ tally_of l.fn.before rs)
           × (IsTrue (g.O.Sink.tells l.fn.out) → g.O.Sink.taken l.out ≡ g.O.Sink.taken l.fn.out ++ cases_text l.bench.format l.fn.before rs);
+      writes : g.O.Sink.faults l.fn.out ≤ g.O.Sink.faults l.out;
       telling : g.O.Sink.tells l.out ≡ g.O.Sink.tells l.fn.out;
     }

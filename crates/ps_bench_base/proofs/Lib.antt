@@ -1,0 +1,4 @@
+-- the capital hexadecimal digits
+pub mod Capitals
+-- what an output took of a text whose writing stopped
+pub mod Stopped

@@ -1,0 +1,143 @@
+// How a call of the program ends.
+
+ghost use Rattle.std.specs.Prelude.{◌≡◌};
+ghost use Rattle.ps_bench_base.specs.Ending.{exit_number, input_stop_status, stop_status};
+
+use ps_base::{Memory, Refusal};
+use ps_cases::CaseRefusal;
+use ps_outside::{Failed, Stopped};
+
+/// How a call of the program ended.
+#[derive(Clone, Copy, Debug, PartialEq, Eq)]
+pub enum Status {
+    /// All was done; of `test`, every case passed.
+    Done,
+    /// The application is refused, by a rule L, P, B, N or S.
+    Refused,
+    /// The words are not taken.
+    Usage,
+    /// A case file, a trace or a fault file is refused, by a rule K, T or F.
+    BadInput,
+    /// A case failed, and all were run.
+    Failed,
+    /// A file could not be read.
+    ReadFault,
+    /// The output could not be written.
+    WriteFault,
+    /// Memory is wanting.
+    Memory,
+}
+
+/// The number with which the program exits: 0 to 7, in the order of `Status`.
+pub fn exit_code(status: Status) -> u8
+    ensures { result ≡ exit_number status }
+{
+    match status {
+        Status::Done => 0,
+        Status::Refused => 1,
+        Status::Usage => 2,
+        Status::BadInput => 3,
+        Status::Failed => 4,
+        Status::ReadFault => 5,
+        Status::WriteFault => 6,
+        Status::Memory => 7,
+    }
+}
+
+/// What a run is made of beside the application.
+#[derive(Clone, Copy, Debug, PartialEq, Eq)]
+pub enum Input {
+    /// A trace.
+    Trace,
+    /// A fault file.
+    Faults,
+}
+
+/// Why a call stops at what a run is made of.
+#[derive(Clone, Copy)]
+pub enum InputStop {
+    /// A rule T refuses the trace, or a rule F the fault file.
+    Refused(Input, Refusal),
+    /// It cannot be read.
+    Unread(Input),
+}
+
+impl InputStop {
+    /// The status of a call that stops so.
+    fn status(self) -> Status
+        ensures { result ≡ input_stop_status self }
+    {
+        match self {
+            InputStop::Refused(..) => Status::BadInput,
+            InputStop::Unread(_) => Status::ReadFault,
+        }
+    }
+}
+
+/// Why a call stops before all is done.
+#[derive(Clone, Copy)]
+pub enum Stop {
+    /// A rule refuses the application.
+    App(Refusal),
+    /// A rule refuses the case file at this place of the words, counted from 0.
+    Cases(usize, CaseRefusal),
+    /// The application cannot be read.
+    UnreadApp,
+    /// The case file at this place of the words cannot be read.
+    UnreadCases(usize),
+    /// What a run is made of stops it.
+    Input(InputStop),
+    /// A write failed.
+    Unwritten,
+    /// Memory is wanting.
+    NoMemory,
+}
+
+impl Stop {
+    /// The status of a call that stops so.
+    pub fn status(self) -> Status
+        ensures { result ≡ stop_status self }
+    {
+        match self {
+            Stop::App(_) => Status::Refused,
+            Stop::Cases(..) => Status::BadInput,
+            Stop::Input(why) => why.status(),
+            Stop::UnreadApp | Stop::UnreadCases(_) => Status::ReadFault,
+            Stop::Unwritten => Status::WriteFault,
+            Stop::NoMemory => Status::Memory,
+        }
+    }
+}
+
+impl From<Memory> for Stop {
+    ghost use Rattle.std.specs.Prelude.{◌≡◌};
+    ghost use Rattle.ps_bench_base.specs.declared.ending.Stop.TheVariants.{NoMemory as IsNoMemory};
+
+    ghost from_gives = { λ _ stop. stop ≡ IsNoMemory };
+
+    fn from(_memory: Memory) -> Stop {
+        Stop::NoMemory
+    }
+}
+
+impl From<Stopped> for Stop {
+    ghost use Rattle.std.specs.Prelude.{◌≡◌};
+    ghost use Rattle.ps_bench_base.specs.declared.ending.Stop.TheVariants.{Unwritten as IsUnwritten};
+
+    ghost from_gives = { λ _ stop. stop ≡ IsUnwritten };
+
+    fn from(_stopped: Stopped) -> Stop {
+        Stop::Unwritten
+    }
+}
+
+impl From<Failed> for Stop {
+    ghost use Rattle.std.specs.Prelude.{◌≡◌};
+    ghost use Rattle.ps_bench_base.specs.declared.ending.Stop.TheVariants.{Unwritten as IsUnwritten};
+
+    ghost from_gives = { λ _ stop. stop ≡ IsUnwritten };
+
+    fn from(_failed: Failed) -> Stop {
+        Stop::Unwritten
+    }
+}

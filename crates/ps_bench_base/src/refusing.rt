@@ -1,0 +1,29 @@
+// The line of a case file that is refused.
+
+ghost use Rattle.std.specs.Prelude.{◌≡◌, ◌++◌, IfOk, OnOk};
+ghost use Rattle.ps_bench_base.specs.Refusing.{refused_line};
+
+use crate::pieces::add_short;
+use ps_base::{Bytes, Memory};
+use ps_cases::CaseRefusal;
+use std::alloc::Global;
+
+/// The line of a refusal at the end of a text, as `refused K2 line 3`.
+pub fn add_refusal(text: &mut Bytes, refusal: CaseRefusal) -> Result<(), Memory>
+    ensures { OnOk result (text.new ≡ text.old ++ refused_line refusal) }
+{
+    text.extend_from_slice(b"refused K")?;
+    add_short(text, u32::from(refusal.rule.number()))?;
+    text.extend_from_slice(b" line ")?;
+    add_short(text, refusal.line)?;
+    text.extend_from_slice(b"\n")
+}
+
+/// The line of a refusal, as `refused K2 line 3`.
+pub fn refused_line(alloc: Global, refusal: CaseRefusal) -> Result<Bytes, Memory>
+    ensures { IfOk result (λ bytes. bytes ≡ refused_line refusal) }
+{
+    let mut text = Bytes::new(alloc);
+    add_refusal(&mut text, refusal)?;
+    Ok(text)
+}

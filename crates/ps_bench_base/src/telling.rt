@@ -1,0 +1,206 @@
+// What a person reads on standard error of a call that stopped.
+
+use crate::advising::{MOST_LOOKED_AT, case_message};
+use crate::ending::{Input, InputStop, Stop};
+use crate::pieces::add_shown;
+use ps_base::limits::{LARGEST_SOURCE, LARGEST_TRACE, LONGEST_FAULT_LINE, MOST_FAULT_LINES};
+use ps_base::{Bytes, Memory, Refusal, Rule};
+use ps_cases::CaseRefusal;
+use ps_detail::{detail_on, header_told, inputs_told};
+use ps_edge::{Listener, hear_bytes, refusal_of_app};
+use ps_message::{NO_MEMORY, UNWRITTEN, message as refusal_message, unread_message};
+use std::alloc::Global;
+
+/// The names of the files of a call, and what it is to watch.
+#[derive(Clone, Copy)]
+pub struct Names<'a> {
+    /// The application.
+    pub app: &'a str,
+    /// The case files.
+    pub cases: &'a [&'a str],
+    /// The trace.
+    pub trace: &'a str,
+    /// The fault file.
+    pub faults: &'a str,
+}
+
+impl<'a> Names<'a> {
+    /// The name of an application, and no other name.
+    pub fn of_app(app: &'a str) -> Names<'a> {
+        Names {
+            app,
+            cases: &[],
+            trace: "",
+            faults: "",
+        }
+    }
+}
+
+// The message of a refusal of the application.
+fn app_refused<L: Listener>(
+    alloc: Global,
+    listener: &L,
+    name: &str,
+    refusal: &Refusal,
+) -> Result<Bytes, Memory> {
+    let text = listener.text_of(alloc, name, LARGEST_SOURCE + 1);
+    refusal_of_app(alloc, name, text.as_slice(), refusal)
+}
+
+// The message of a refusal of a case file.
+fn cases_refused<L: Listener>(
+    alloc: Global,
+    listener: &L,
+    app: &str,
+    name: &str,
+    refusal: CaseRefusal,
+) -> Result<Bytes, Memory> {
+    let source = listener.text_of(alloc, app, LARGEST_SOURCE + 1);
+    let text = listener.text_of(alloc, name, MOST_LOOKED_AT);
+    case_message(
+        alloc,
+        source.as_slice(),
+        name.as_bytes(),
+        text.as_slice(),
+        refusal,
+    )
+}
+
+// The message of a file that cannot be read; nothing where it can be read by now.
+fn unread<L: Listener>(alloc: Global, listener: &L, name: &str) -> Result<Bytes, Memory> {
+    match listener.why_unread(name) {
+        Some(why) => unread_message(alloc, name.as_bytes(), why),
+        None => Ok(Bytes::new(alloc)),
+    }
+}
+
+// The name at a place among names.
+fn name_at<'a>(names: &[&'a str], place: usize) -> &'a str {
+    if place < names.len() {
+        names[place]
+    } else {
+        ""
+    }
+}
+
+// The name of what a run is made of.
+fn input_name<'a>(names: &Names<'a>, input: Input) -> &'a str {
+    match input {
+        Input::Trace => names.trace,
+        Input::Faults => names.faults,
+    }
+}
+
+// As many bytes of what a run is made of as its rules look at.
+fn most_of(input: Input) -> u32 {
+    match input {
+        Input::Trace => LARGEST_TRACE,
+        Input::Faults => MOST_FAULT_LINES * (LONGEST_FAULT_LINE + 1),
+    }
+}
+
+// What is told of a refusal besides its rule: where a trace has not the inputs of the application of this text, what
+// these are, or what the line tells.
+fn told_on(alloc: Global, source: &[u8], text: &[u8], refusal: &Refusal) -> Result<Bytes, Memory> {
+    match refusal.rule {
+        Rule::T2 => inputs_told(alloc, source),
+        Rule::T3 => header_told(alloc, source, text),
+        _ => detail_on(alloc, text, refusal),
+    }
+}
+
+// The message of a refusal of what a run is made of.
+fn input_refused<L: Listener>(
+    alloc: Global,
+    listener: &L,
+    names: &Names<'_>,
+    input: Input,
+    refusal: &Refusal,
+) -> Result<Bytes, Memory> {
+    let name = input_name(names, input);
+    let source = listener.text_of(alloc, names.app, LARGEST_SOURCE);
+    let text = listener.text_of(alloc, name, most_of(input));
+    let words = told_on(alloc, source.as_slice(), text.as_slice(), refusal)?;
+    refusal_message(
+        alloc,
+        name.as_bytes(),
+        text.as_slice(),
+        refusal,
+        words.as_slice(),
+    )
+}
+
+// What is told of a call that stopped at what a run is made of.
+fn input_message<L: Listener>(
+    alloc: Global,
+    listener: &L,
+    names: &Names<'_>,
+    why: InputStop,
+) -> Result<Bytes, Memory> {
+    match why {
+        InputStop::Refused(input, refusal) => {
+            input_refused(alloc, listener, names, input, &refusal)
+        }
+        InputStop::Unread(input) => unread(alloc, listener, input_name(names, input)),
+    }
+}
+
+// What is told of a call that stopped so.
+fn message<L: Listener>(
+    alloc: Global,
+    listener: &L,
+    names: &Names<'_>,
+    stop: Stop,
+) -> Result<Bytes, Memory> {
+    match stop {
+        Stop::App(refusal) => app_refused(alloc, listener, names.app, &refusal),
+        Stop::Cases(place, refusal) => {
+            cases_refused(
+                alloc,
+                listener,
+                names.app,
+                name_at(names.cases, place),
+                refusal,
+            )
+        }
+        Stop::UnreadApp => unread(alloc, listener, names.app),
+        Stop::UnreadCases(place) => unread(alloc, listener, name_at(names.cases, place)),
+        Stop::Input(why) => input_message(alloc, listener, names, why),
+        Stop::Unwritten => Bytes::from_slice(alloc, UNWRITTEN.as_bytes()),
+        Stop::NoMemory => Err(Memory),
+    }
+}
+
+/// Tells a listener why a call stopped. For want of memory it tells of that.
+pub fn tell<L: Listener>(alloc: Global, listener: &mut L, names: &Names<'_>, stop: Stop) {
+    if listener.is_quiet() {
+        return;
+    }
+    match message(alloc, listener, names, stop) {
+        Ok(text) => hear_bytes(listener, text.as_slice()),
+        Err(Memory) => listener.hear(NO_MEMORY),
+    }
+}
+
+// What is told of a word that names nothing in the application of this name.
+fn no_name(alloc: Global, app: &str, word: &str) -> Result<Bytes, Memory> {
+    let mut text = Bytes::new(alloc);
+    add_shown(&mut text, app.as_bytes())?;
+    text.extend_from_slice(b": nothing there is called ")?;
+    add_shown(&mut text, word.as_bytes())?;
+    text.extend_from_slice(
+        b"\nname an input, an output, a local, an instance, or INSTANCE.PIN for a BOOL or SAFEBOOL pin (docs/watch.md)\n",
+    )?;
+    Ok(text)
+}
+
+/// Tells a listener that a word names nothing in the application of this name.
+pub fn tell_no_name<L: Listener>(alloc: Global, listener: &mut L, app: &str, word: &str) {
+    if listener.is_quiet() {
+        return;
+    }
+    match no_name(alloc, app, word) {
+        Ok(text) => hear_bytes(listener, text.as_slice()),
+        Err(Memory) => listener.hear(NO_MEMORY),
+    }
+}

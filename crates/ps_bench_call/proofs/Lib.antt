@@ -1,0 +1,2 @@
+-- which counts of failed reads rose
+pub mod Risen

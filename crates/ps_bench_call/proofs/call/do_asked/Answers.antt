@@ -1,0 +1,71 @@
+use Rattle.std.proofs.Common.{ℕ, List, Any, Bor, Err, IfErr, refl, ap, sym, subst, ◌∷◌, ◌∙◌}
+use Rattle.std.specs.Prelude.{IfOk, option_map}
+use Rattle.std.proofs.lemmas.Result.{IfErr-weaker, err_from_is_err_and}
+use Rattle.ps_bench_base.specs.Ending.{IsUnread}
+use Rattle.ps_bench_base.specs.declared.ending.Status.TheVariants.{Done}
+use Rattle.ps_bench_words.specs.Seen.{asked_seen, seen}
+use Rattle.ps_bench_words.specs.declared.asking.Asked.{Asked}
+use Rattle.ps_outside.specs.Outside.{Rose}
+use Rattle.ps_tester.specs.Stopping.{StopsTesting}
+use Rattle.ps_tester.proofs.Stopped.{err_is}
+use Rattle.ps_bench_call.specs.Answering.{Answers, Stops, names_of, wanted_of}
+use Rattle.ps_bench_call.proofs.Risen.{risen_any}
+use Rattle.ps_watching.specs.Asking.{AnswersWatch, StopsWatch}
+use Rattle.ps_bench_call.proofs.call.do_asked.Goals as goal
+
+pub returns-in_ok-expand-in-Expand-clause-answers : goal.returns-in_ok-expand-in-Expand-clause-answers
+returns-in_ok-expand-in-Expand-clause-answers g c =
+    let says = c.in_ok-expand-in-Expand.ensures.says in
+    subst (λ (asked : Asked). Answers (asked_seen asked) (g.F.Files.tells c.args.files.now) (g.F.Files.held c.args.files.now) Done
+    (g.O.Sink.tells c.args.out.now) (g.O.Sink.taken c.args.out.now) (g.O.Sink.taken c.expand.new.out)) (sym c.in-Expand.is)
+    (refl, says.0, says.1, says.2, says.3, says.4, says.5)
+
+pub returns-in_err-expand-in-Expand-clause-stops : goal.returns-in_err-expand-in-Expand-clause-stops
+returns-in_err-expand-in-Expand-clause-stops g c =
+    let p = err_from_is_err_and c.from_residual.result c.from_residual.ensures.1 in
+    err_is _ c.from_residual.result _ (p.1 ∙ ap Err p.2)
+    (subst (λ (asked : Asked). Stops (asked_seen asked) (g.F.Files.tells c.args.files.now) (g.F.Files.held c.args.files.now)
+    c.in_err-expand-in-Expand.field-0.0 (g.O.Sink.tells c.args.out.now) (g.O.Sink.taken c.args.out.now) (g.O.Sink.taken c.expand.new.out))
+    (sym c.in-Expand.is) c.in_err-expand-in-Expand.ensures.stops)
+
+pub returns-in-Test-clause-stops : goal.returns-in-Test-clause-stops
+returns-in-Test-clause-stops g c =
+    subst (λ (asked : Asked). IfErr c.test.result (λ stop. Stops (asked_seen asked) (g.F.Files.tells c.args.files.now) (g.F.Files.held c.args.files.now)
+    stop (g.O.Sink.tells c.args.out.now) (g.O.Sink.taken c.args.out.now) (g.O.Sink.taken c.test.new.out))) (sym c.in-Test.is)
+    (subst (λ (cases : List (Bor (List ℕ))). IfErr c.test.result (λ stop. StopsTesting (g.F.Files.tells c.args.files.now) (g.F.Files.held c.args.files.now)
+    c.in-Test.app.now (seen cases) c.in-Test.format stop (g.O.Sink.tells c.args.out.now) (g.O.Sink.taken c.args.out.now) (g.O.Sink.taken c.test.new.out)))
+    c.as_slice.ensures.value c.test.ensures.stops)
+
+pub returns-in-Test-clause-unread : goal.returns-in-Test-clause-unread
+returns-in-Test-clause-unread g c =
+    subst (λ (asked : Asked). IfErr c.test.result (λ stop. IsUnread stop → Any (λ (name : List ℕ).
+    Rose (g.F.Files.faults c.args.files.now name) (g.F.Files.faults c.test.new.files name)) (names_of (asked_seen asked)))) (sym c.in-Test.is)
+    (subst (λ (cases : List (Bor (List ℕ))). IfErr c.test.result (λ stop. IsUnread stop → Any (λ (name : List ℕ).
+    Rose (g.F.Files.faults c.args.files.now name) (g.F.Files.faults c.test.new.files name)) (c.in-Test.app.now ∷ seen cases)))
+    c.as_slice.ensures.value c.test.ensures.unread)
+
+pub returns-in-Watch-clause-answers : goal.returns-in-Watch-clause-answers
+returns-in-Watch-clause-answers g c =
+    subst (λ (asked : Asked). IfOk c.watch.result (λ status. Answers (asked_seen asked) (g.F.Files.tells c.args.files.now) (g.F.Files.held c.args.files.now)
+    status (g.O.Sink.tells c.args.out.now) (g.O.Sink.taken c.args.out.now) (g.O.Sink.taken c.watch.new.out))) (sym c.in-Watch.is)
+    (subst (λ (names : List (Bor (List ℕ))). IfOk c.watch.result (λ status. AnswersWatch c.in-Watch.app.now c.in-Watch.layout
+    (wanted_of c.in-Watch.trace.now (seen names) (option_map (λ (name : Bor (List ℕ)). name.now) c.in-Watch.faults)) (g.F.Files.tells c.args.files.now) (g.F.Files.held c.args.files.now)
+    (g.O.Sink.tells c.args.out.now) (g.O.Sink.taken c.args.out.now) (g.O.Sink.taken c.watch.new.out) status))
+    c.as_slice-in-Watch.ensures.value c.watch.ensures.answers)
+
+pub returns-in-Watch-clause-stops : goal.returns-in-Watch-clause-stops
+returns-in-Watch-clause-stops g c =
+    subst (λ (asked : Asked). IfErr c.watch.result (λ stop. Stops (asked_seen asked) (g.F.Files.tells c.args.files.now) (g.F.Files.held c.args.files.now)
+    stop (g.O.Sink.tells c.args.out.now) (g.O.Sink.taken c.args.out.now) (g.O.Sink.taken c.watch.new.out))) (sym c.in-Watch.is)
+    (subst (λ (names : List (Bor (List ℕ))). IfErr c.watch.result (λ stop. StopsWatch c.in-Watch.app.now c.in-Watch.layout
+    (wanted_of c.in-Watch.trace.now (seen names) (option_map (λ (name : Bor (List ℕ)). name.now) c.in-Watch.faults)) (g.F.Files.tells c.args.files.now) (g.F.Files.held c.args.files.now)
+    (g.O.Sink.tells c.args.out.now) (g.O.Sink.taken c.args.out.now) (g.O.Sink.taken c.watch.new.out) stop))
+    c.as_slice-in-Watch.ensures.value c.watch.ensures.stops)
+
+pub returns-in-Watch-clause-unread : goal.returns-in-Watch-clause-unread
+returns-in-Watch-clause-unread g c =
+    subst (λ (asked : Asked). IfErr c.watch.result (λ stop. IsUnread stop → Any (λ (name : List ℕ).
+    Rose (g.F.Files.faults c.args.files.now name) (g.F.Files.faults c.watch.new.files name)) (names_of (asked_seen asked)))) (sym c.in-Watch.is)
+    (IfErr-weaker c.watch.result _ _ (λ stop unread is. risen_any c.in-Watch.app.now c.in-Watch.trace.now
+    (option_map (λ (name : Bor (List ℕ)). name.now) c.in-Watch.faults) (g.F.Files.faults c.args.files.now) (g.F.Files.faults c.watch.new.files) (unread is))
+    c.watch.ensures.unread)

@@ -1,0 +1,78 @@
+-- What a call does: one that did what its words ask, and one that stopped before.
+use Rattle.std.specs.Prelude.{◌≡◌, ◌⊎◌, ℕ, Bool, IsTrue, List, [], ◌∷◌, ◌++◌, Option, Some, None}
+use Rattle.ps_bench_words.specs.Asking.{Asked}
+use Rattle.ps_bench_words.specs.Asking.Asked.{Test, Expand, Watch, Page, NotTaken}
+use Rattle.ps_cases.specs.Expanded.{expanded}
+use Rattle.ps_cases.specs.declared.case.CaseFile.{CaseFile}
+use Rattle.ps_model.specs.Network.{Network}
+use Rattle.ps_model.specs.declared.channel.ImageSizes.{ImageSizes}
+use Rattle.ps_tester.specs.Stopping.{StopsExpanding, StopsTesting}
+use Rattle.ps_tester.specs.Testing.{AreRanFiles, FileRan, test_status, test_text}
+use Rattle.ps_watching.specs.Asking.{AnswersWatch, StopsWatch}
+use Rattle.ps_watching.specs.Showing.{Wanted}
+use Rattle.ps_bench_base.specs.Ending.{stop_status}
+use Rattle.ps_bench_base.specs.Opening.{IsOfApp, IsOfText, source}
+use Rattle.ps_bench_base.specs.declared.ending.Status.{Status}
+use Rattle.ps_bench_base.specs.declared.ending.Status.TheVariants.{Done, Failed, Usage, WriteFault}
+use Rattle.ps_bench_base.specs.declared.ending.Stop.{Stop}
+use Rattle.ps_bench_base.specs.declared.ending.Stop.TheVariants.{Unwritten}
+
+-- the call was not stopped before all was done
+abbrev pub IsAnswered : Status → Type 0
+IsAnswered status = (status ≡ Done) ⊎ (status ≡ Failed) ⊎ (status ≡ Usage)
+
+-- the run that `watch` is asked for
+abbrev pub wanted_of : (trace : List ℕ) (names : List (List ℕ)) (faults : Option (List ℕ)) → Wanted
+wanted_of trace names faults = record { trace = trace; words = names; file = faults }
+
+-- By what the words ask, over files that tell what they hold or do not: the status, and what an output that tells
+-- took. `test` ran all cases of all of its files, in the order of the words; its status is Done where each passed, and
+-- else Failed.
+abbrev pub Answers : Asked → (reading : Bool) (held : List ℕ → Option (List ℕ)) → Status →
+    (tells : Bool) → (before after : List ℕ) → Type 0
+Answers (Test app cases format) reading held status tells before after =
+    (net : Network) × (sizes : ImageSizes) × IsOfApp (source net sizes reading held) app
+    × (fs : List FileRan) × AreRanFiles (source net sizes reading held) cases fs × (status ≡ test_status fs)
+    × (IsTrue tells → after ≡ before ++ test_text format fs)
+Answers (Expand app cases) reading held status tells before after =
+    (status ≡ Done) × (net : Network) × (sizes : ImageSizes) × IsOfApp (source net sizes reading held) app
+    × (file : CaseFile) × IsOfText (source net sizes reading held) cases file
+    × (IsTrue tells → after ≡ before ++ expanded net file)
+Answers (Watch app trace names faults layout) reading held status tells before after =
+    AnswersWatch app layout (wanted_of trace names faults) reading held tells before after status
+Answers Page reading held status tells before after = status ≡ Done
+Answers NotTaken reading held status tells before after = (status ≡ Usage) × (IsTrue tells → after ≡ before)
+
+-- By what the words ask: why a call stops before all is done, and what an output that tells took up to there.
+abbrev pub Stops : Asked → (reading : Bool) (held : List ℕ → Option (List ℕ)) → Stop →
+    (tells : Bool) → (before after : List ℕ) → Type 0
+Stops (Test app cases format) reading held stop tells before after =
+    StopsTesting reading held app cases format stop tells before after
+Stops (Expand app cases) reading held stop tells before after =
+    StopsExpanding reading held app cases stop tells before after
+Stops (Watch app trace names faults layout) reading held stop tells before after =
+    StopsWatch app layout (wanted_of trace names faults) reading held tells before after stop
+Stops Page reading held stop tells before after = stop ≡ Unwritten
+Stops NotTaken reading held stop tells before after = ⊥
+
+-- How a call ended that did not do all: it stopped, which its status tells; or a write failed at the end, where the
+-- output handed on what it held back, behind that or behind all.
+abbrev pub IsCutOff : Asked → (reading : Bool) (held : List ℕ → Option (List ℕ)) → Status →
+    (tells : Bool) → (before after : List ℕ) → Type 0
+IsCutOff asked reading held status tells before after =
+    ((stop : Stop) × Stops asked reading held stop tells before after
+    × ((status ≡ stop_status stop) ⊎ (status ≡ WriteFault)))
+    ⊎ ((all : Status) × Answers asked reading held all tells before after × (status ≡ WriteFault))
+
+-- the name of a file, where one is named
+abbrev pub file_of : Option (List ℕ) → List (List ℕ)
+file_of (Some name) = name ∷ []
+file_of None = []
+
+-- the names of the files that a call reads
+abbrev pub names_of : Asked → List (List ℕ)
+names_of (Test app cases format) = app ∷ cases
+names_of (Expand app cases) = app ∷ cases ∷ []
+names_of (Watch app trace names faults layout) = app ∷ trace ∷ file_of faults
+names_of Page = []
+names_of NotTaken = []

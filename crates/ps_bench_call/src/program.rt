@@ -1,0 +1,38 @@
+// All that the program does, over the system.
+
+ghost use Rattle.std.specs.Prelude.{◌≤◌};
+
+use crate::call::exit_of_call;
+use ps_bench_base::{Status, exit_code};
+use ps_edge::{StandardError, words_given};
+use ps_outside::{DiskFiles, StdSink};
+use ps_words::Words;
+use std::io::{BufWriter, Eprint, Print};
+use std::rt::Env;
+use std::{env, io, rt};
+
+// Does what the words ask, over the files and the standard output of the system.
+fn exit_of_words<R: Env + rt::Files + Print + Eprint + AllocGlobal>(system: &R, words: &Words) -> u8
+    ensures in_range { result ≤ 7 }
+{
+    let alloc = system.alloc();
+    let mut listener = StandardError::new(system);
+    match BufWriter::new(alloc, io::writer(system)) {
+        Ok(out) => {
+            let mut files = DiskFiles::new(system);
+            let mut sink = StdSink::new(out);
+            exit_of_call(alloc, words, &mut files, &mut sink, &mut listener)
+        }
+        Err(_) => exit_code(Status::Memory),
+    }
+}
+
+/// Does all that the program does, and says the number with which it exits: 0 to 7, or 8 where there are no words.
+pub fn exit_of_program<R: Env + rt::Files + Print + Eprint + AllocGlobal>(system: &R) -> u8
+    ensures in_range { result ≤ 8 }
+{
+    match words_given(system.alloc(), env::args(system)) {
+        Ok(words) => exit_of_words(system, &words),
+        Err(number) => number,
+    }
+}

@@ -13,11 +13,14 @@ use Rattle.clap.specs.declared.error.kind.ErrorKind.TheVariants.{DisplayHelp, Di
 use Rattle.ps_bench_words.specs.Commands.{workbench}
 use Rattle.ps_bench_words.specs.declared.asking.Format.{Format}
 use Rattle.ps_bench_words.specs.declared.asking.Format.TheVariants.{Text, Tap, Junit}
+use Rattle.ps_bench_words.specs.declared.asking.Layout.{Layout}
+use Rattle.ps_bench_words.specs.declared.asking.Layout.TheVariants.{Text as AsText, Csv, Json, Vcd}
 
 -- What the words ask: a command with the names of its files, a page to be shown, or nothing that is taken.
 pub data Asked : Type 0 where
   Test : (app : List ℕ) (cases : List (List ℕ)) (format : Format) → Asked
   Expand : (app cases : List ℕ) → Asked
+  Watch : (app trace : List ℕ) (names : List (List ℕ)) (faults : Option (List ℕ)) (layout : Layout) → Asked
   Page : Asked
   NotTaken : Asked
 
@@ -39,6 +42,25 @@ abbrev pub test_in : Option Format → (app : List ℕ) (cases : List (List ℕ)
 test_in (Some format) app cases = Test app cases format
 test_in None app cases = NotTaken
 
+-- the layout of a name
+abbrev pub layout_named : List ℕ → Option Layout
+layout_named name =
+    if bytes_eq name (codes "text") then Some AsText
+    else if bytes_eq name (codes "csv") then Some Csv
+    else if bytes_eq name (codes "json") then Some Json
+    else if bytes_eq name (codes "vcd") then Some Vcd
+    else None
+
+-- a run is written as text where no layout is named
+abbrev pub layout_of : Option (List ℕ) → Option Layout
+layout_of None = Some AsText
+layout_of (Some name) = layout_named name
+
+-- `watch` with a layout that there is
+abbrev pub watch_in : Option Layout → (app trace : List ℕ) (names : List (List ℕ)) (faults : Option (List ℕ)) → Asked
+watch_in (Some layout) app trace names faults = Watch app trace names faults layout
+watch_in None app trace names faults = NotTaken
+
 -- the values of an argument, none where it was not given
 abbrev pub values_of : List ℕ → List Row → List (List ℕ)
 values_of id rows = unwrap_or (all_of id rows) []
@@ -49,7 +71,9 @@ value_of id rows = unwrap_or (first_of id rows) []
 
 -- the program has a command of this name
 abbrev pub is_command : List ℕ → Bool
-is_command name = bytes_eq name (codes "test") || (bytes_eq name (codes "expand") || bytes_eq name (codes "help"))
+is_command name =
+    bytes_eq name (codes "test") || (bytes_eq name (codes "expand") || (bytes_eq name (codes "watch")
+    || bytes_eq name (codes "help")))
 
 -- `help`: the page of a command that there is, or of the program
 abbrev pub help_asks : Option (List ℕ) → Asked
@@ -67,6 +91,9 @@ command_asks name rows =
     if bytes_eq name (codes "test") then
     test_in (format_of (first_of (codes "format") rows)) (value_of (codes "APP") rows) (values_of (codes "CASES") rows)
     else if bytes_eq name (codes "expand") then Expand (value_of (codes "APP") rows) (value_of (codes "CASES") rows)
+    else if bytes_eq name (codes "watch") then
+    watch_in (layout_of (first_of (codes "format") rows)) (value_of (codes "APP") rows) (value_of (codes "TRACE") rows)
+    (values_of (codes "NAME") rows) (first_of (codes "faults") rows)
     else if bytes_eq name (codes "help") then help_asks (first_of (codes "COMMAND") rows)
     else NotTaken
 
@@ -94,5 +121,6 @@ IsFaulty words = (kind : ErrorKind) × IsAmong kind (fault_of workbench words) �
 abbrev pub Asks : List (List ℕ) → Asked → Type 0
 Asks words (Test app cases format) = IsForm words (Test app cases format)
 Asks words (Expand app cases) = IsForm words (Expand app cases)
+Asks words (Watch app trace names faults layout) = IsForm words (Watch app trace names faults layout)
 Asks words Page = IsForm words Page ⊎ AsksPage words
 Asks words NotTaken = IsForm words NotTaken ⊎ IsFaulty words

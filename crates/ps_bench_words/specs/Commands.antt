@@ -20,6 +20,20 @@ files = record (new_rule (codes "CASES")) {
   range = Some (record { start_inclusive = 1; end_inclusive = usize_max });
 }
 
+-- TRACE, which is required
+abbrev pub items : Rule
+items = record (new_rule (codes "TRACE")) { required = true }
+
+-- NAMEs, which may be left out
+abbrev pub names : Rule
+names = record (new_rule (codes "NAME")) {
+  range = Some (record { start_inclusive = 1; end_inclusive = usize_max });
+}
+
+-- `--faults FAULTS`, which may be left out
+abbrev pub faults : Rule
+faults = record (new_rule (codes "faults")) { long = Some (codes "faults"); value_names = 1 }
+
 -- `--format FORMAT`, which may be left out
 abbrev pub format : Rule
 format = record (new_rule (codes "format")) { long = Some (codes "format"); value_names = 1 }
@@ -40,6 +54,14 @@ test = command (codes "test") (app ∷ files ∷ format ∷ [])
 abbrev pub expand : Shape
 expand = command (codes "expand") (app ∷ file ∷ [])
 
+-- `watch APP TRACE [NAME..]`, without its options
+abbrev pub watch_words : Shape
+watch_words = command (codes "watch") (app ∷ items ∷ names ∷ [])
+
+-- `watch APP TRACE [NAME..] [--faults FAULTS] [--format FORMAT]`
+abbrev pub watch : Shape
+watch = command (codes "watch") (app ∷ items ∷ names ∷ faults ∷ format ∷ [])
+
 -- `help [COMMAND]`
 abbrev pub help : Shape
 help = command (codes "help") (topic ∷ [])
@@ -57,6 +79,14 @@ bare = leaf (record (new_shape (codes "plcsafe-bench")) {
   has_version = true;
 })
 
+-- the program with these commands
+abbrev pub with_commands : List Shape → App
+with_commands commands = record { top = record bare.top { is_leaf = false }; subs = commands }
+
+-- the program with the commands that are about case files alone
+abbrev pub cases_workbench : App
+cases_workbench = with_commands (test ∷ expand ∷ [])
+
 -- the program
 abbrev pub workbench : App
-workbench = record { top = record bare.top { is_leaf = false }; subs = test ∷ expand ∷ help ∷ [] }
+workbench = with_commands (test ∷ expand ∷ watch ∷ help ∷ [])

@@ -9,7 +9,7 @@ ghost use Rattle.ps_bench_words.specs.Asking as asking;
 ghost use Rattle.ps_bench_words.specs.Commands as commands;
 ghost use Rattle.ps_bench_words.specs.Seen.{asked_seen, seen};
 
-use crate::command::{help_command, program, test_command};
+use crate::command::{help_command, program, test_command, watch_command};
 use crate::pages;
 use clap::error::ErrorKind;
 use clap::{ArgMatches, Command, Error};
@@ -28,6 +28,19 @@ pub enum Format {
     Junit,
 }
 
+/// How `watch` writes a run.
+#[derive(Clone, Copy, Debug, PartialEq, Eq)]
+pub enum Layout {
+    /// What changes, for a person.
+    Text,
+    /// CSV (RFC 4180): a row a scan.
+    Csv,
+    /// JSON (RFC 8259): an object a scan.
+    Json,
+    /// A value change dump (IEEE 1364).
+    Vcd,
+}
+
 /// What the words ask.
 #[derive(Drop)]
 pub enum Asked<'a> {
@@ -41,6 +54,14 @@ pub enum Asked<'a> {
     Expand {
         app: &'a str,
         cases: &'a str,
+    },
+    /// `watch APP TRACE [NAME..] [--faults FAULTS] [--format LAYOUT]`
+    Watch {
+        app: &'a str,
+        trace: &'a str,
+        names: Vec<&'a str>,
+        faults: Option<&'a str>,
+        layout: Layout,
     },
     /// Help or the version was asked for: the page, for standard output.
     Page {
@@ -83,6 +104,36 @@ fn format_in(values: &ArgMatches<'_>) -> Option<Format>
         Some(name) => format_named(name),
         None => Some(Format::Text),
     }
+}
+
+// The layout of a name.
+fn layout_named(name: &str) -> Option<Layout>
+    ensures { result ≡ asking.layout_named name.now }
+{
+    match name {
+        "text" => Some(Layout::Text),
+        "csv" => Some(Layout::Csv),
+        "json" => Some(Layout::Json),
+        "vcd" => Some(Layout::Vcd),
+        _ => None,
+    }
+}
+
+// The layout that was asked for.
+fn layout_in(values: &ArgMatches<'_>) -> Option<Layout>
+    ensures { result ≡ asking.layout_of (first_of (codes "format") (rows_of (found_of values.now))) }
+{
+    match values.get_str("format") {
+        Some(name) => layout_named(name),
+        None => Some(Layout::Text),
+    }
+}
+
+// The first value of an argument, where it was given.
+fn given_in<'a>(values: &ArgMatches<'a>, id: &str) -> Option<&'a str>
+    ensures { option_map (λ s. s.now) result ≡ first_of id.now (rows_of (found_of values.now)) }
+{
+    values.get_str(id)
 }
 
 // The first value of an argument, the empty text where it was not given.
@@ -132,6 +183,12 @@ fn no_format(alloc: Global) -> Result<String, Memory> {
     wrong_value(alloc, command, pages::NO_FORMAT)
 }
 
+// What is wrong where a run cannot be written so.
+fn no_layout(alloc: Global) -> Result<String, Memory> {
+    let command = watch_command(alloc)?.bin_name("plcsafe-bench watch")?;
+    wrong_value(alloc, command, pages::NO_LAYOUT)
+}
+
 // What is wrong where there is no such command.
 fn no_command(alloc: Global) -> Result<String, Memory> {
     let command = help_command(alloc)?.bin_name("plcsafe-bench help")?;
@@ -165,6 +222,25 @@ fn expand_in<'a>(values: &ArgMatches<'a>) -> Asked<'a>
     }
 }
 
+// What `watch` asks with what was given to it.
+fn watch_in<'a>(alloc: Global, values: &ArgMatches<'a>) -> Result<Asked<'a>, Memory>
+    ensures { IfOk result (λ asked. asked_seen asked ≡
+        asking.command_asks (codes "watch") (rows_of (found_of values.now))) }
+{
+    match layout_in(values) {
+        Some(layout) => Ok(Asked::Watch {
+            app: value_in(values, "APP"),
+            trace: value_in(values, "TRACE"),
+            names: values_in(alloc, values, "NAME")?,
+            faults: given_in(values, "faults"),
+            layout,
+        }),
+        None => Ok(Asked::NotTaken {
+            text: no_layout(alloc)?,
+        }),
+    }
+}
+
 // The page that `--help` shows behind these words.
 fn shown_page(alloc: Global, words: &[&str]) -> Result<String, Memory> {
     match program(alloc)?.try_get_matches_from(words) {
@@ -181,6 +257,7 @@ fn page_named(alloc: Global, name: Option<&str>) -> Result<Option<String>, Memor
         None => shown_page(alloc, &["--help"])?,
         Some("test") => shown_page(alloc, &["test", "--help"])?,
         Some("expand") => shown_page(alloc, &["expand", "--help"])?,
+        Some("watch") => shown_page(alloc, &["watch", "--help"])?,
         Some("help") => shown_page(alloc, &["help", "--help"])?,
         Some(_) => return Ok(None),
     };
@@ -207,6 +284,7 @@ fn command_in<'a>(alloc: Global, name: &str, values: &ArgMatches<'a>) -> Result<
     match name {
         "test" => test_in(alloc, values),
         "expand" => Ok(expand_in(values)),
+        "watch" => watch_in(alloc, values),
         "help" => help_in(alloc, values),
         _ => Ok(Asked::NotTaken {
             text: no_command(alloc)?,

@@ -37,15 +37,42 @@ fn files_arg<'a>(alloc: Global) -> Arg<'a>
         .help(pages::FILES)
 }
 
-// How results are told.
-fn format_arg<'a>(alloc: Global) -> Arg<'a>
+// A trace, or what means one.
+fn trace_arg<'a>(alloc: Global) -> Arg<'a>
+    ensures rule { rule_of result ≡ commands.items }
+    ensures local { result.global ≡ false }
+{
+    Arg::new(alloc, "TRACE").required(true).help(pages::ITEMS)
+}
+
+// Names that are watched.
+fn names_arg<'a>(alloc: Global) -> Arg<'a>
+    ensures rule { rule_of result ≡ commands.names }
+    ensures local { result.global ≡ false }
+{
+    Arg::new(alloc, "NAME").num_args(1..).help(pages::NAMES)
+}
+
+// A fault file.
+fn faults_arg<'a>(alloc: Global) -> Arg<'a>
+    ensures rule { rule_of result ≡ commands.faults }
+    ensures local { result.global ≡ false }
+{
+    Arg::new(alloc, "faults")
+        .long("faults")
+        .value_name("FAULTS")
+        .help(pages::FAULTS)
+}
+
+// How a command tells what it has to tell, with what its page says of that.
+fn format_arg<'a>(alloc: Global, help: &'a str) -> Arg<'a>
     ensures rule { rule_of result ≡ commands.format }
     ensures local { result.global ≡ false }
 {
     Arg::new(alloc, "format")
         .long("format")
         .value_name("FORMAT")
-        .help(pages::FORMAT)
+        .help(help)
 }
 
 // The command that help is asked for.
@@ -75,7 +102,7 @@ pub(crate) fn test_command<'a>(alloc: Global) -> Result<Command<'a>, AllocError>
         .after_help(pages::TEST_EXAMPLE);
     let command = with_arg(command, app_arg(alloc))?;
     let command = with_arg(command, files_arg(alloc))?;
-    with_arg(command, format_arg(alloc))
+    with_arg(command, format_arg(alloc, pages::FORMAT))
 }
 
 // `expand APP CASES`
@@ -88,6 +115,28 @@ fn expand_command<'a>(alloc: Global) -> Result<Command<'a>, AllocError>
         .after_help(pages::EXPAND_EXAMPLE);
     let command = with_arg(command, app_arg(alloc))?;
     with_arg(command, file_arg(alloc))
+}
+
+// `watch APP TRACE [NAME..]`, without its options.
+fn watch_words<'a>(alloc: Global) -> Result<Command<'a>, AllocError>
+    ensures app { IfOk result (λ c. app_of c ≡ commands.leaf commands.watch_words) }
+    ensures local { IfOk result (λ c. (fields_of c).has_globals ≡ false) }
+{
+    let command = Command::new(alloc, "watch")
+        .about(pages::WATCH)
+        .after_help(pages::WATCH_EXAMPLE);
+    let command = with_arg(command, app_arg(alloc))?;
+    let command = with_arg(command, trace_arg(alloc))?;
+    with_arg(command, names_arg(alloc))
+}
+
+// `watch APP TRACE [NAME..] [--faults FAULTS] [--format FORMAT]`
+pub(crate) fn watch_command<'a>(alloc: Global) -> Result<Command<'a>, AllocError>
+    ensures app { IfOk result (λ c. app_of c ≡ commands.leaf commands.watch) }
+    ensures local { IfOk result (λ c. (fields_of c).has_globals ≡ false) }
+{
+    let command = with_arg(watch_words(alloc)?, faults_arg(alloc))?;
+    with_arg(command, format_arg(alloc, pages::LAYOUT))
 }
 
 // `help [COMMAND]`
@@ -122,11 +171,18 @@ fn with_command<'a>(command: Command<'a>, more: Command<'a>) -> Result<Command<'
     command.subcommand(more)
 }
 
+// The program with the commands that are about case files alone.
+fn cases_program<'a>(alloc: Global) -> Result<Command<'a>, AllocError>
+    ensures { IfOk result (λ c. app_of c ≡ commands.cases_workbench) }
+{
+    let program = with_command(bare_program(alloc), test_command(alloc)?)?;
+    with_command(program, expand_command(alloc)?)
+}
+
 /// The program with its commands, as `clap` reads them.
 pub(crate) fn program<'a>(alloc: Global) -> Result<Command<'a>, AllocError>
     ensures { IfOk result (λ c. app_of c ≡ commands.workbench) }
 {
-    let program = with_command(bare_program(alloc), test_command(alloc)?)?;
-    let program = with_command(program, expand_command(alloc)?)?;
+    let program = with_command(cases_program(alloc)?, watch_command(alloc)?)?;
     with_command(program, help_command(alloc)?)
 }

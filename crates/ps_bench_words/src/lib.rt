@@ -8,4 +8,4 @@ mod asking;
 mod command;
 mod pages;
 
-pub use asking::{Asked, Format, asked_of, texts_of};
+pub use asking::{Asked, Format, Layout, asked_of, texts_of};

@@ -8,13 +8,13 @@ pub(crate) const VERSION: &str = "0.9.0";
 
 /// What the program does.
 pub(crate) const PROGRAM: &str =
-    "Tests applications of PLCopen-Safety blocks: runs the cases of case files, and judges what they expect";
+    "Tests applications of PLCopen-Safety blocks: runs the cases of case files, judges what they expect, and shows runs";
 
 /// Its example.
 pub(crate) const PROGRAM_EXAMPLE: &str = "Example: plcsafe-bench test press.st press.cases\n\
     \n\
     Status: 0 all was done and every case passed, 1 the application is refused, 2 the words are not taken,\n\
-    3 a case file is refused, 4 a case failed, 5 a file cannot be read, 6 the output failed, 7 memory is wanting,\n\
+    3 a case file, trace or fault file is refused, 4 a case failed, 5 a file cannot be read, 6 the output failed, 7 memory is wanting,\n\
     8 the words are no text";
 
 /// What `test` does.
@@ -32,6 +32,14 @@ pub(crate) const EXPAND: &str = "Writes one trace of all cases of a case file, w
 pub(crate) const EXPAND_EXAMPLE: &str =
     "Example: plcsafe-bench expand press.st press.cases > press.trace";
 
+/// What `watch` does.
+pub(crate) const WATCH: &str =
+    "Shows what happens in a run, by name: changes in words, or each scan in CSV, JSON or VCD";
+
+/// Its example.
+pub(crate) const WATCH_EXAMPLE: &str =
+    "Example: plcsafe-bench watch press.st press.trace S_Ram Guard --faults press.faults";
+
 /// What `help` does.
 pub(crate) const HELP: &str = "Writes this page, or the page of a command";
 
@@ -47,6 +55,22 @@ pub(crate) const FILE: &str = "The case file";
 /// Case files.
 pub(crate) const FILES: &str = "The case files, in the order in which they are run";
 
+/// A trace, or what means one.
+pub(crate) const ITEMS: &str = "The trace";
+
+/// Names that are watched.
+pub(crate) const NAMES: &str =
+    "What is watched: inputs, outputs, locals, INSTANCE for its state, INSTANCE.PIN. Left out, as text all outputs\n\
+    and instances, and in the other formats all that there is";
+
+/// A fault file.
+pub(crate) const FAULTS: &str =
+    "The faults that strike; outputs and codes are then those that are released";
+
+/// How a run is written.
+pub(crate) const LAYOUT: &str =
+    "How the run is written: text (what changes), csv, json (an object a line) or vcd. Left out it is text";
+
 /// The forms of results.
 pub(crate) const FORMAT: &str =
     "How the results are told: text, tap (TAP version 13) or junit (XML). Left out it is text";
@@ -57,5 +81,9 @@ pub(crate) const TOPIC: &str = "The command whose page is written";
 /// A format that there is not.
 pub(crate) const NO_FORMAT: &str = "there is no such format: FORMAT is text, tap or junit";
 
+/// A way to write a run that there is not.
+pub(crate) const NO_LAYOUT: &str = "there is no such format: FORMAT is text, csv, json or vcd";
+
 /// A command that there is not.
-pub(crate) const NO_COMMAND: &str = "there is no such command: COMMAND is test, expand or help";
+pub(crate) const NO_COMMAND: &str =
+    "there is no such command: COMMAND is test, expand, watch or help";

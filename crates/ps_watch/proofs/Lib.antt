@@ -1,4 +1,6 @@
 mod Quoting
 mod Ranges
 mod Renewing
+-- what any taker writes that sees each scan
+pub mod Seeing
 mod Running

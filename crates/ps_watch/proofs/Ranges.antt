@@ -1,5 +1,5 @@
 -- Lists that go over a range, one number on.
-use Rattle.std.proofs.Common.{◌≡◌, ◌∙◌, ◌++◌, ℕ, zero, suc, ◌+◌, List, [], ◌∷◌, ap, sym, append_assoc, append-nil, arith}
+use Rattle.std.proofs.Common.{◌≡◌, ◌∙◌, ◌++◌, ℕ, zero, suc, ◌+◌, List, ap, sym, append_assoc, append-nil, arith}
 use Rattle.std.specs.List.{flat_map, range_with_len}
 
 module _ {X : Type 0} (f : ℕ → List X) where

@@ -1,5 +1,5 @@
 -- What stands for a name, and how its value is shown.
-use Rattle.std.specs.Prelude.{ℕ, ◌==◌, List, [], ◌∷◌, ◌++◌, codes, nat_lt, if◌then◌else◌, slice_get, unwrap_or}
+use Rattle.std.specs.Prelude.{ℕ, ◌==◌, List, [], ◌++◌, codes, nat_lt, if◌then◌else◌, slice_get, unwrap_or}
 use Rattle.std.specs.Prelude.{Option, Some, None}
 use Rattle.json.specs.Print.{quoted}
 use Rattle.ps_cases.specs.declared.case.Name.{Name}

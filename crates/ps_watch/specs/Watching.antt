@@ -42,14 +42,22 @@ cell_in net b m name = record {
 abbrev pub moment_text : Network → Format → List Name → Before → Moment → List ℕ
 moment_text net format names b m = scan_text net format m.now b.is_restarted m.verdict (map (cell_in net b m) names)
 
--- what is written of items, of whose scans this is seen
+-- What is written of items, of whose scans this is seen, behind what was seen before: of a scan what stands for it
+-- there, and of a restart a line.
+abbrev pub written_of : {B : Type 0} → (told_of : B → Moment → List ℕ) (seen_then : B → Moment → B) (line : List ℕ)
+    (anew_from : B → B) → B → List Item → List Moment → List ℕ
+written_of told_of seen_then line anew_from b [] ms = []
+written_of told_of seen_then line anew_from b (restart ∷ items) ms =
+    line ++ written_of told_of seen_then line anew_from (anew_from b) items ms
+written_of told_of seen_then line anew_from b (scan now ins ∷ items) [] = []
+written_of told_of seen_then line anew_from b (scan now ins ∷ items) (m ∷ ms) =
+    told_of b m ++ written_of told_of seen_then line anew_from (seen_then b m) items ms
+
+-- the same in a format
 abbrev pub items_text : Network → Format → List Name → Before → List Item → List Moment → List ℕ
-items_text net format names b [] ms = []
-items_text net format names b (restart ∷ items) ms =
-    restart_text format ++ items_text net format names at_restart items ms
-items_text net format names b (scan now ins ∷ items) [] = []
-items_text net format names b (scan now ins ∷ items) (m ∷ ms) =
-    moment_text net format names b m ++ items_text net format names (behind_scan m) items ms
+items_text net format names b items ms =
+    written_of (moment_text net format names) (λ before m. behind_scan m) (restart_text format) (λ before. at_restart)
+    b items ms
 
 -- What is written of a run over these items, whose scans have these answers and mean these states.
 abbrev pub watch_text : Network → Format → List Name → List Item → List Answer → List State → List ℕ

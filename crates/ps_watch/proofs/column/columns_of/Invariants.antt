@@ -1,4 +1,4 @@
-use Rattle.std.proofs.Common.{◌≡◌, List, map, take}
+use Rattle.std.proofs.Common.{◌≡◌, map, take}
 use Rattle.std.specs.Prelude.{All}
 use Rattle.ps_watch.specs.Room.{IsKeyed}
 use Rattle.ps_watch.specs.declared.column.Column.{Column}

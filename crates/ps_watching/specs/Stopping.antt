@@ -1,0 +1,26 @@
+-- How a call ends that is refused what a run is made of, and one whose run came to its end.
+use Rattle.std.specs.Prelude.{◌≡◌, ◌⊎◌, ℕ, Bool, IsTrue, List, ◌++◌, take, Result}
+use Rattle.ps_base.specs.declared.failing.Refusal.{Refusal}
+use Rattle.ps_report.specs.Short.{refusal_text}
+use Rattle.ps_runs.specs.Written.{WritesLines}
+use Rattle.ps_runs.specs.declared.items.Cut.{Cut}
+use Rattle.ps_trace.specs.Scans.{End}
+use Rattle.ps_watching.specs.Showing.{EndsRun}
+use Rattle.ps_bench_base.specs.declared.ending.Input.{Input}
+use Rattle.ps_bench_base.specs.declared.ending.InputStop.TheVariants.{Refused}
+use Rattle.ps_bench_base.specs.declared.ending.Stop.{Stop}
+use Rattle.ps_bench_base.specs.declared.ending.Stop.TheVariants.{Input as StopsAt, Unwritten}
+
+-- the line of a refusal was written, or a beginning of it, and the call stops by that
+abbrev pub SaysRefusal : Input → Refusal → (tells : Bool) → (before after : List ℕ) → Stop → Type 0
+SaysRefusal input refusal tells before after stop =
+    ((stop ≡ StopsAt (Refused input refusal)) × (IsTrue tells → after ≡ before ++ refusal_text refusal))
+    ⊎ ((stop ≡ Unwritten) × (n : ℕ) × (IsTrue tells → after ≡ before ++ take n (refusal_text refusal)))
+
+-- Behind a run that ended so a call wrote more, and ended.
+pub record EndsBehind (ran : Result (Unit {0}) Cut) (tells : Bool) (before after : List ℕ)
+    (ended : Result (Unit {0}) Stop) : Type 0 where
+  pub more : List ℕ
+  pub written : IsTrue tells → after ≡ before ++ more
+  pub ends : (text : List ℕ) (end : End) (bytes : List ℕ) → WritesLines text end bytes ran →
+      EndsRun text end (bytes ++ more) ended

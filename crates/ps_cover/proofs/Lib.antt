@@ -1,0 +1,12 @@
+pub mod Bitwise
+pub mod Calling
+pub mod Counting
+pub mod Deciding
+pub mod Excluded
+pub mod Fixing
+pub mod Knowing
+pub mod Listed
+pub mod Listings
+pub mod Looking
+pub mod Marking
+pub mod Standing

@@ -40,6 +40,7 @@ CANNOT = {
     "tools/rows.py": [[], MANY, ["GONE"], ["FOLDER"], ["BYTES", "no_row"]],
     "tools/shared": [["nothing"], MANY],
     "tools/timing.py": [[], ["nothing"], MANY],
+    "tools/waves.py": [[], ["BYTES"], ["BYTES", "plcsafe-bench=GONE"], ["GONE", "plcsafe-bench=BYTES"], ["FOLDER", "plcsafe-bench=FOLDER"]],
     "bench/allocations.py": [MANY, ["GONE"], ["FOLDER"], ["--few", "BYTES"]],
     "bench/functions.py": [[], ["ps_nothing"], ["ps_main", "a"], MANY],
     "bench/gate.py": [["ps_nothing"], ["--costs", "GONE"]],

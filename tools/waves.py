@@ -1,0 +1,138 @@
+#!/usr/bin/env python3
+"""Compares what `plcsafe-bench watch` writes of a run, read by readers of its own, with what `plcsafe` writes of it.
+
+waves.py PLCSAFE plcsafe-bench=FILE    both are programs
+
+For each run below: the rows of CSV by the reader of Python, the objects of JSON by that of Python, and the value changes by a reader
+of this script, of which each scan has the values that were last given. All three have the same values of the same names in the same
+scans; the outputs, and Ready, Error and code of each instance, are those of the lines of `run` or `fault`. The status is 0 where
+nothing differs.
+"""
+import csv
+import io
+import json
+import pathlib
+import re
+import subprocess
+import sys
+
+from plainly import Stop, plainly
+
+ROOT = pathlib.Path(__file__).resolve().parent.parent
+# Runs: an application, a trace, and a fault file, if there is one.
+RUNS = [
+    ("press/press.st", "press/strokes.trace", None), ("press/press.st", "press/guard.trace", None), ("press/press.st", "press/closing.trace", None),
+    ("press/automatic.st", "press/contactor.trace", None), ("press/press.st", "press/strokes.trace", "press/and-is-or.faults"),
+    ("press/press.st", "press/strokes.trace", "press/longer-time.faults"),
+    ("stop/motor.st", "stop/restart.trace", None), ("stop/motor.st", "stop/restart.trace", "stop/differ.faults"),
+    ("stop/lamp.st", "stop/lamp.trace", None), ("hood/wrapped.st", "hood/hood.trace", None), ("hood/flat.st", "hood/hood.trace", None),
+    ("robot/robot.st", "robot/robot.trace", None), ("line/line.st", "line/line.trace", None), ("pack/pack.st", "pack/pack.trace", None),
+    ("saw/saw.st", "saw/saw.trace", None), ("mode/modes.st", "mode/changes.trace", None), ("two-hand/station.st", "two-hand/hands.trace", None),
+    ("guard/cell.st", "guard/visit.trace", None), ("curtain/curtain.st", "curtain/setup.trace", None), ("tutorial/door.st", "tutorial/door.trace", None),
+    ("tutorial/door.st", "tutorial/door.trace", "tutorial/blind.faults"),
+]
+
+
+def said(words):
+    """What a call writes; a trip ends it with 4."""
+    run = subprocess.run(words, cwd=ROOT / "examples", stdin=subprocess.DEVNULL, stdout=subprocess.PIPE, stderr=subprocess.DEVNULL)
+    if run.returncode not in (0, 4):
+        raise Stop(f"{' '.join(words[1:])} ends with {run.returncode}")
+    return run.stdout.decode()
+
+
+def changes(text):
+    """The scans of a value change dump: of each its time, and the value of each wire by its name."""
+    wires, scopes, scans, now = {}, [], [], {}
+    head, _, body = text.partition("$enddefinitions $end\n")
+    for kind, rest in re.findall(r"(?m)^\$(scope|upscope|var)\b(.*)\$end$", head):
+        words = rest.split()
+        if kind == "scope":
+            scopes.append(words[1])
+        elif kind == "upscope":
+            scopes.pop()
+        else:
+            wires[words[2]] = ".".join([*scopes, words[3]])
+    for line in body.splitlines():
+        if line.startswith("#"):
+            now = dict(now, **{"@time": int(line[1:])})
+            scans.append(now)
+        elif line[0] in "bs":
+            value, wire = line[1:].rsplit(" ", 1)
+            now[wires[wire]] = int(value, 2) if line[0] == "b" else value
+        elif line[0] in "01":
+            now[wires[line[1:]]] = int(line[0])
+        elif not line.startswith("$"):
+            raise Stop(f"a line of value changes that is none: {line}")
+    return scans
+
+
+def of_wire(name, scan):
+    """The value of a column of CSV in a scan of the value changes."""
+    if name == "@time":
+        return str(scan["@time"])
+    if name in ("@restart", "@trip"):
+        return str(scan["@run." + name[1:].capitalize()])
+    if "Program." + name in scan:
+        return str(scan["Program." + name])
+    return f"{scan[name + '.DiagCode']:04X}" if name + ".DiagCode" in scan else str(scan[name])
+
+
+def of_json(value):
+    return str(int(value)) if isinstance(value, (bool, int)) else value
+
+
+def lines_of(text):
+    """Of each scan that `run` or `fault` tells: its time, and the values of outputs and instances, or nothing where it tripped."""
+    scans = []
+    for line in text.splitlines():
+        words = line.split()
+        if words[0].isdigit():
+            scans.append((words[0], dict(word.split("=") for word in words[1:] if "=" in word) if "TRIP" not in line else {}))
+    return scans
+
+
+def told(row, name, value):
+    """Whether a row has what a line says of an output, or of an instance: Ready, Error and its code."""
+    if "," not in value:
+        return row[name] == value
+    return [row[name + ".Ready"], row[name + ".Error"], row[name]] == value.split(",")
+
+
+def differences(plcsafe, bench, app, trace, faults):
+    """What differs in a run, a line each, and how many values were compared."""
+    more = ["--faults", faults] if faults else []
+    written = {layout: said([bench, "watch", app, trace, *more, "--format", layout]) for layout in ("csv", "json", "vcd")}
+    rows = list(csv.DictReader(io.StringIO(written["csv"])))
+    objects, waves = [json.loads(line) for line in written["json"].splitlines()], changes(written["vcd"])
+    lines = lines_of(said([plcsafe, "fault" if faults else "run", app, trace, *([faults] if faults else [])]))
+    if not len(rows) == len(objects) == len(waves) or not rows or len(lines) > len(rows):
+        return [f"{app} {trace}: {len(rows)} rows, {len(objects)} objects, {len(waves)} scans of value changes, {len(lines)} lines"], 0
+    wrong = []
+    for number, (row, found, scan) in enumerate(zip(rows, objects, waves), 1):
+        wrong += [f"{app} {trace}: scan {number}, {name}: {value} in CSV, {of_json(found[name])} in JSON, {of_wire(name, scan)} in VCD"
+                  for name, value in row.items() if not value == of_json(found[name]) == of_wire(name, scan)]
+        if list(row) != list(found) or scan["@run.Scan"] != number:
+            wrong.append(f"{app} {trace}: scan {number} has other names, or another number")
+    for row, (time, values) in zip(rows, lines):
+        if row["@time"] != time or not all(told(row, name, value) for name, value in values.items()):
+            wrong.append(f"{app} {trace}: at {time} the line is {values}")
+    return wrong, len(rows) * len(rows[0])
+
+
+def main(words):
+    if len(words) != 2 or not words[1].startswith("plcsafe-bench="):
+        return None
+    plcsafe, bench = (str(pathlib.Path(word.rpartition("=")[2]).resolve()) for word in words)
+    wrong, count = [], 0
+    for app, trace, faults in RUNS:
+        found, compared = differences(plcsafe, bench, app, trace, faults)
+        wrong, count = wrong + found, count + compared
+    for line in wrong[:20]:
+        print("differs:", line)
+    print(f"{len(RUNS)} runs, {count} values in each layout, {len(wrong)} differences")
+    return 1 if wrong else 0
+
+
+if __name__ == "__main__":
+    plainly(main, "tools/waves.py PLCSAFE plcsafe-bench=FILE")

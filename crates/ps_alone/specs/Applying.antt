@@ -2,12 +2,12 @@
 use Rattle.std.specs.Prelude.{◌≡◌, ℕ, Bool, false, List, [], ◌∷◌, Option, Some, slice_get}
 use Rattle.std.specs.List.{list_any}
 use Rattle.ps_model.specs.Action.{Actual, calls}
-use Rattle.ps_model.specs.Blocks.{conditions}
 use Rattle.ps_model.specs.Network.{Network, kind_at}
 use Rattle.ps_model.specs.Meaning.{Item, Meaning, Past, last, nothing, old_state, passed, restart, scan}
-use Rattle.ps_model.specs.Scanning.{State, block_in, limit_of, pins_under, read_at}
+use Rattle.ps_model.specs.Scanning.{State, block_in, pins_under}
 use Rattle.ps_model.specs.Table.{Conditions}
 use Rattle.ps_model.specs.declared.kind.Kind.{Kind}
+use Rattle.ps_ways.specs.Calling.{seen_by}
 use Rattle.ps_alone.specs.Alone.{Allows, IsExcluded}
 use Rattle.ps_alone.specs.Marks.{marked}
 
@@ -41,9 +41,7 @@ kind_of net call = kind_at net call.instance
 
 -- what the guards of the instance see in a scan
 abbrev pub seen_at : Network → CallAt → ScanStep → Conditions
-seen_at net call s =
-    conditions (kind_of net call) (limit_of (kind_of net call) call.args)
-    (pins_under (read_at net s.old s.new call.step) (kind_of net call) call.args) s.since (block_in s.old call.instance)
+seen_at net call s = seen_by net s.old s.since s.new call.step call.instance call.args
 
 -- the call makes a mark in a scan
 abbrev pub makes : Network → CallAt → (mark : ℕ) → ScanStep → Bool

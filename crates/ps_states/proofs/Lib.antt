@@ -1,1 +1,1 @@
-mod Wording
+pub mod Wording

@@ -1,11 +1,11 @@
 // What the guards of a step see.
 
 ghost use Rattle.std.specs.Prelude.{◌≡◌, ◌≤◌, if◌then◌else◌};
-ghost use Rattle.ps_model.specs.Blocks.{at_pin, block, exactly_on, modes_on};
+ghost use Rattle.ps_model.specs.Blocks.{at_pin, exactly_on, modes_on};
 ghost use Rattle.ps_model.specs.Kept.{Kept, seen};
 ghost use Rattle.ps_ways.specs.Stepping.{IsLastOf, conditions_of, pins_of};
 
-use ps_model::Kind;
+use ps_model::{Kind, auxiliary_pin, reset_pin};
 
 /// What a step keeps of the last one: its Reset, its auxiliary input, and the latched mode.
 #[derive(Clone, Copy, PartialEq, Eq, Debug)]
@@ -43,35 +43,6 @@ fn is_on(pins: u32, j: u8) -> bool
     ensures { result ≡ pins_of pins j }
 {
     j < 32 && (pins >> j) & 1 == 1
-}
-
-// The number of the pin Reset, if the kind has it.
-#[tactic(auto, unfolding(ps_model::specs::Blocks::block))]
-fn reset_pin(kind: Kind) -> Option<u8>
-    ensures { result ≡ (block kind).reset }
-{
-    match kind {
-        Kind::EmergencyStop | Kind::Espe => Some(4),
-        Kind::ModeSelector => Some(12),
-        Kind::GuardMonitoring | Kind::EnableSwitch | Kind::Edm => Some(5),
-        Kind::GuardLocking => Some(7),
-        Kind::SafetyRequest => Some(3),
-        Kind::OutControl => Some(6),
-        Kind::Equivalent | Kind::Antivalent | Kind::TwoHandTwo | Kind::TwoHandThree => None,
-    }
-}
-
-// The number of the auxiliary input, if the kind has one: S_SetMode of SF_ModeSelector, ProcessControl of
-// SF_OutControl.
-#[tactic(auto, unfolding(ps_model::specs::Blocks::block))]
-fn auxiliary_pin(kind: Kind) -> Option<u8>
-    ensures { result ≡ (block kind).auxiliary }
-{
-    match kind {
-        Kind::ModeSelector => Some(10),
-        Kind::OutControl => Some(2),
-        _ => None,
-    }
 }
 
 // Whether a pin that a kind may lack is TRUE.

@@ -15,7 +15,8 @@ use Rattle.ps_ways.specs.Ways.{asks}
 use Rattle.ps_ways.specs.declared.way.Ask.{Ask}
 use Rattle.ps_ways.specs.declared.way.Ask.TheVariants.{Elapsed}
 use Rattle.ps_why.specs.Explained.{EachIsSo, EachOfIsSo, IsExplained, IsLeaf, IsOfBefore}
-use Rattle.ps_why.specs.Facts.{IsSo, seen_by}
+use Rattle.ps_ways.specs.Calling.{seen_by}
+use Rattle.ps_why.specs.Facts.{IsSo}
 use Rattle.ps_why.specs.Laws.{FormulasFollow, GroundsAreEnough, WhateverTheInputs, WhyIsEnough}
 use Rattle.ps_why.specs.Rests.{IsOutput, Rests}
 use Rattle.ps_why.specs.declared.fact.Fact.{Fact}

@@ -25,7 +25,8 @@ use Rattle.ps_ways.specs.declared.way.Literal.{Literal}
 use Rattle.ps_ways.specs.declared.way.Literal.TheVariants.{Any, Is, Not}
 use Rattle.ps_ways.specs.declared.way.Way.{Way}
 use Rattle.ps_why.specs.Explained.{IsLeaf}
-use Rattle.ps_why.specs.Facts.{IsSo, pins_read, seen_by}
+use Rattle.ps_ways.specs.Calling.{pins_read, seen_by}
+use Rattle.ps_why.specs.Facts.{IsSo}
 use Rattle.ps_why.specs.Grounds.{EachHasValue, HasValue, MayBe, PinHasValue, ReadIsTold, SomeHasValue}
 use Rattle.ps_why.specs.Guards.{IsKept, IsLeft, IsPassed, LiteralIs, asked}
 use Rattle.ps_why.specs.Laws.{EachFactHasGrounds, IsOfApplication}

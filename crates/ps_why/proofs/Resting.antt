@@ -18,7 +18,8 @@ use Rattle.ps_demand.proofs.SafeOutputs.{safe_shown}
 use Rattle.ps_ways.specs.Tables.{ways_of}
 use Rattle.ps_ways.specs.declared.way.Ask.{Ask}
 use Rattle.ps_why.specs.Explained.{IsOfBefore}
-use Rattle.ps_why.specs.Facts.{IsSo, pins_read, seen_by}
+use Rattle.ps_ways.specs.Calling.{pins_read, seen_by}
+use Rattle.ps_why.specs.Facts.{IsSo}
 use Rattle.ps_why.specs.Grounds.{MayBe, PinHasValue, ReadIsTold}
 use Rattle.ps_why.specs.Rests.{IsAssigned, IsDecided, IsDenied, IsEntered, IsInactive, IsLatched, IsMoved, IsOutput, IsRead, IsSettled, IsShown, IsUndriven, unmet}
 use Rattle.ps_why.specs.declared.fact.Fact.{Fact}

@@ -1,0 +1,25 @@
+//! Why something of a scan is as it is: the search for what it rests on, down to the inputs of the scan and what was
+//! before it.
+//!
+//! - `scene`: what is seen of a scan.
+//! - `reading`: what a step reads, and what the guards see in a call.
+//! - `signals`, `pins`, `asks`, `states`: on what a fact of each sort rests.
+//! - `explaining`: all that a fact rests on.
+//! - `questions`: what is asked of a scan, and its answer.
+//! - `keeping`: what is seen of an instance from scan to scan.
+#![tactic(auto)]
+
+mod asks;
+mod explaining;
+mod keeping;
+mod pins;
+mod questions;
+mod reading;
+mod scene;
+mod signals;
+mod states;
+
+pub use explaining::{Explanation, Reasons, explain};
+pub use keeping::{Stepped, step_instance};
+pub use questions::{Question, answer};
+pub use scene::{CallScene, Scene};

@@ -1,9 +1,10 @@
 -- Counting, number by number.
-use Rattle.std.proofs.Common.{◌≡◌, ℕ, suc, ◌+◌, List, ◌∷◌, ◌++◌, [], Bool, true, false, cond, length, map, slice_get, Some, refl, sym, ap, ◌∙◌, ◌&&◌, ◌||◌, ◌≤◌, append-nil, subst, zero-add, arith}
+use Rattle.std.proofs.Common.{◌≡◌, ℕ, suc, ◌+◌, List, ◌∷◌, ◌++◌, [], Bool, true, false, cond, length, map, slice_get, not, Option, Some, None, refl, sym, ap, ◌∙◌, ◌&&◌, ◌||◌, ◌≤◌, append-nil, subst, zero-add, arith}
 use Rattle.std.specs.Prelude.{count_by, slice_index_or, if◌then◌else◌}
 use Rattle.std.specs.List.{flat_map, list_any, range_with_len}
 use Rattle.std.proofs.lemmas.List.Sums.{sum_by-append}
 use Rattle.std.proofs.Math.Bool.{or_assoc}
+use Rattle.std.proofs.lemmas.Bool.{false≢true}
 use Rattle.std.proofs.lemmas.Grind.{flat_map-append}
 use Rattle.std.proofs.lemmas.List.Concat.{flat_map-cons}
 use Rattle.std.proofs.lemmas.List.Folds.{list_any-append}
@@ -14,8 +15,12 @@ use Rattle.ps_cover.specs.Covering.{point_of}
 use Rattle.ps_cover.specs.Points as points
 use Rattle.ps_cover.specs.Points.{shows}
 use Rattle.ps_cover.specs.Shown.{is_covered, is_shown}
-use Rattle.ps_cover.specs.Tallied.{CountsAreDefined, CoveredIsDefined, TracesAddUp}
-use Rattle.ps_cover.specs.Tallying.{counts, counts_at, shown_at}
+use Rattle.ps_cover.specs.Tallied.{CountsAreDefined, CoveredIsDefined, IsUnseen, KnowsTraces, TracesAddUp}
+use Rattle.ps_cover.specs.declared.cover.Cover.{Cover}
+use Rattle.ps_cover.specs.Tallying.{counts, counts_at, excluded_in, is_in, is_of, shown_at, tally}
+use Rattle.ps_cover.specs.declared.excluding.Row.{Row}
+use Rattle.ps_cover.specs.declared.tallying.Sort.{Sort}
+use Rattle.ps_cover.specs.declared.tallying.Status.TheVariants.{Covered, Counted}
 use Rattle.ps_cover.specs.declared.point.Point.{Point}
 use Rattle.ps_cover.proofs.Listings.{range_more}
 
@@ -41,6 +46,35 @@ pub at_most_one : (b : Bool) → (if b then 1 else 0) ≤ 1
 at_most_one true = omega arith
 at_most_one false = omega arith
 
+-- what counts for one reason, and what for a weaker one
+pub count_fewer : (f g : ℕ → Bool) → ((n : ℕ) → f n ≡ true → g n ≡ true) → (ns : List ℕ) → count_by f ns ≤ count_by g ns
+count_fewer f g weaker [] = omega arith
+count_fewer f g weaker (n ∷ ns) =
+    let rest = count_fewer f g weaker ns in
+    subst (λ m. m ≤ count_by g (n ∷ ns)) (sym (cons_count f n ns))
+    (subst (λ m. cond (f n) 1 0 + count_by f ns ≤ m) (sym (cons_count g n ns)) (one (f n) (g n) (weaker n) rest))
+  where
+    one : (b b' : Bool) → (b ≡ true → b' ≡ true) → {x y : ℕ} → x ≤ y → cond b 1 0 + x ≤ cond b' 1 0 + y
+    one true b' h {x} {y} le = subst (λ v. 1 + x ≤ cond v 1 0 + y) (sym (h refl)) (let m : 1 + x ≤ 1 + y = omega (arith, le) in m)
+    one false true h {x} {y} le = let m : 0 + x ≤ 1 + y = omega (arith, le) in m
+    one false false h {x} {y} le = let m : 0 + x ≤ 0 + y = omega (arith, le) in m
+
+-- what was covered is counted
+pub covered_within : (net : Network) (rows : List Row) (c : Cover) (sort : Sort) (step : Option ℕ) →
+    tally net rows c sort step Covered ≤ tally net rows c sort step Counted
+covered_within net rows c sort step = count_fewer _ _ (λ n. weaker n (slice_get c.points.items n)) (range_with_len 0 (length c.points.items))
+  where
+    both : (a b x y : Bool) → (a && b && (not x && y)) ≡ true → (a && b && not x) ≡ true
+    both true true false true e = refl
+    both true true false false e = absurd (false≢true e)
+    both true true true y e = absurd (false≢true e)
+    both true false x y e = absurd (false≢true e)
+    both false b x y e = absurd (false≢true e)
+
+    weaker : (n : ℕ) (o : Option Point) → counts_at net rows sort step Covered (shown_at c n) o ≡ true → counts_at net rows sort step Counted (shown_at c n) o ≡ true
+    weaker n None e = e
+    weaker n (Some p) e = both (is_of net sort (point_of p)) (is_in step (point_of p)) (excluded_in rows (point_of p)) (shown_at c n) e
+
 -- numbers of the elements of a list, and the elements
 pub index_count : {P : Type 0} (f : ℕ → Bool) (h : P → Bool) (a : ℕ) (xs : List P) → ((n : ℕ) (p : P) → slice_get xs n ≡ Some p → f (a + n) ≡ h p) →
     count_by f (range_with_len a (length xs)) ≡ count_by h xs
@@ -63,15 +97,23 @@ any_flat f (steps ∷ traces) =
     ap (list_any f) (flat_map-cons (λ (xs : List ScanStep). xs) steps traces)
     ∙ list_any-append f steps (flat_map (λ xs. xs) traces) ∙ ap (λ b. list_any f steps || b) (any_flat f traces)
 
--- what was shown by some traces to a cover that had seen nothing
+-- what was shown by some traces, with each value, to a cover that had seen nothing
+module _ (net : Network) (traces : List (List ScanStep)) (old new : Cover) (unseen : IsUnseen old) (knows : KnowsTraces net traces old new)
+    (n : ℕ) (p : Point) (at : slice_get old.points.items n ≡ Some p) where
+  pub off_shown : slice_index_or new.off.items n false ≡ is_shown net traces false (point_of p)
+  off_shown =
+      knows.off.seen n p at ∙ ap (λ v. v || list_any (shows net false (point_of p)) (flat_map (λ steps. steps) traces)) (unseen.off n)
+      ∙ any_flat (shows net false (point_of p)) traces
+
+  pub on_shown : slice_index_or new.on.items n false ≡ is_shown net traces true (point_of p)
+  on_shown =
+      knows.on.seen n p at ∙ ap (λ v. v || list_any (shows net true (point_of p)) (flat_map (λ steps. steps) traces)) (unseen.on n)
+      ∙ any_flat (shows net true (point_of p)) traces
+
+-- and with both
 pub shown_is : CoveredIsDefined
 shown_is net traces old new unseen knows n p at =
-    let q = point_of p in
-    let off : slice_index_or new.off.items n false ≡ is_shown net traces false q =
-    knows.off.seen n p at ∙ ap (λ v. v || list_any (shows net false q) (flat_map (λ steps. steps) traces)) (unseen.off n) ∙ any_flat (shows net false q) traces in
-    let on : slice_index_or new.on.items n false ≡ is_shown net traces true q =
-    knows.on.seen n p at ∙ ap (λ v. v || list_any (shows net true q) (flat_map (λ steps. steps) traces)) (unseen.on n) ∙ any_flat (shows net true q) traces in
-    λ i. off i && on i
+    λ i. off_shown net traces old new unseen knows n p at i && on_shown net traces old new unseen knows n p at i
 
 -- so the counts are those of the definitions
 pub tally_is : CountsAreDefined

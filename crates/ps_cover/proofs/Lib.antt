@@ -1,9 +1,9 @@
-pub mod Bitwise
 pub mod Calling
 pub mod Counting
 pub mod Deciding
 pub mod Excluded
 pub mod Fixing
+pub mod Joining
 pub mod Knowing
 pub mod Listed
 pub mod Listings

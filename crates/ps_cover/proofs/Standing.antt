@@ -1,6 +1,6 @@
 -- What the code keeps of a run stands for its states.
 use Rattle.std.proofs.Common.{◌≡◌, ◌≢◌, ℕ, zero, suc, ◌+◌, ◌-◌, ◌<◌, Bool, true, false, cond, List, length, map, replicate, slice_get, Option, Some, None, refl, sym, ap, subst, ◌∙◌, inl, inr, arith, ◌&&◌}
-use Rattle.std.specs.Prelude.{◌==◌, nat_le, option_map, slice_index_or, if◌then◌else◌}
+use Rattle.std.specs.Prelude.{◌==◌, nat_le, option_map, slice_index_or}
 use Rattle.std.specs.List.{range_with_len}
 use Rattle.std.proofs.lemmas.Bool.{cases_lt, eq-eqb, le-leb, lt-leb, ne_eqb}
 use Rattle.std.proofs.lemmas.Option.{same_Some, slice_get-get_or, slice_get_within}
@@ -8,7 +8,7 @@ use Rattle.ps_model.specs.Action.{Action, Actual, assigns, calls}
 use Rattle.ps_model.specs.Blocks.{Block_state, conditions, idle, moved, next}
 use Rattle.ps_model.specs.Kept.{Kept, Remains, StandsBy, counted_down, fresh, seen}
 use Rattle.ps_model.specs.Meaning.{Past, last, nothing, old_state, passed}
-use Rattle.ps_model.specs.Network.{Network, instance_count, is_new, kind_at}
+use Rattle.ps_model.specs.Network.{Network, instance_count, kind_at}
 use Rattle.ps_model.specs.Scanning.{Solves, State, block_in, limit_of, pins_under, read_at}
 use Rattle.ps_model.specs.declared.kind.Kind.{Kind}
 use Rattle.ps_model.proofs.Keeping.{count_down}
@@ -19,14 +19,15 @@ use Rattle.ps_cover.specs.Blocks.{called_in, made, moved_by, moved_in}
 use Rattle.ps_cover.specs.Covering.{AreCalls, AreScanned, makes_in, operands_in, point_of, shows_in}
 use Rattle.ps_cover.specs.Covers.{StandsFor, idle_call, idle_step}
 use Rattle.ps_cover.specs.Points.{decides, is_value, makes_at, shows}
-use Rattle.ps_cover.specs.Reading.{read_in}
+use Rattle.ps_pins.specs.Reading.{read_in}
+use Rattle.ps_pins.proofs.Between.{reads_are as read_as}
 use Rattle.ps_cover.specs.declared.block.Called.{Called}
 use Rattle.ps_cover.specs.declared.block.Moved.{Moved}
 use Rattle.ps_cover.specs.declared.point.Point.{Point}
 use Rattle.ps_cover.specs.declared.point.Point.TheVariants.{Mark, Value, Decides}
 use Rattle.ps_cover.proofs.Calling.{no_call}
 use Rattle.ps_cover.proofs.Calling.{idle_at as idle_step_at}
-use Rattle.ps_cover.specs.declared.reading.Signals.{Signals}
+use Rattle.ps_pins.specs.declared.signals.Signals.{Signals}
 
 run_out : (limit age dt : ℕ) → (limit - age - dt == 0) ≡ nat_le limit (age + dt)
 run_out limit age dt =
@@ -70,7 +71,7 @@ module _ (kind : Kind) (limit : ℕ) (pins : ℕ → Bool) (since : ℕ) (k : Ke
 module _ (net : Network) (x : Signals) (old new : State) (before : x.before.now ≡ old.signals) (behind : x.behind.now ≡ new.signals) where
   -- a step reads what it reads
   pub reads_are : (k : ℕ) → read_in net x k ≡ read_at net old new k
-  reads_are k = λ i s. if is_new net k s then slice_index_or (behind i) s false else slice_index_or (before i) s false
+  reads_are k = read_as net x.before.now x.behind.now old new before behind k
 
   -- the step of a call
   moved_is : (since k i : ℕ) (args : List Actual) → slice_get net.steps k ≡ Some (calls i args) → (c : Called) → c.step ≡ k →

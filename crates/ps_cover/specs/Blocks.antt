@@ -10,10 +10,10 @@ use Rattle.ps_rows.specs.declared.step.CountedBlock.{CountedBlock}
 use Rattle.ps_ways.specs.Tables.{ways_of}
 use Rattle.ps_ways.specs.declared.way.Way.{Way}
 use Rattle.ps_alone.specs.Marks.{number_taken, of_way}
-use Rattle.ps_cover.specs.Reading.{read_in}
+use Rattle.ps_pins.specs.Reading.{read_in}
 use Rattle.ps_cover.specs.declared.block.Called.{Called}
 use Rattle.ps_cover.specs.declared.block.Moved.{Moved}
-use Rattle.ps_cover.specs.declared.reading.Signals.{Signals}
+use Rattle.ps_pins.specs.declared.signals.Signals.{Signals}
 
 -- a block of which this is kept
 abbrev pub counted_of : Kept → CountedBlock

@@ -9,12 +9,12 @@ use Rattle.ps_cover.specs.Blocks.{called_in, made}
 use Rattle.ps_cover.specs.Points as points
 use Rattle.ps_model.specs.Formula.{Formula}
 use Rattle.ps_cover.specs.Points.{decides, is_value, leaves, others_leave}
-use Rattle.ps_cover.specs.Reading.{read_in}
+use Rattle.ps_pins.specs.Reading.{read_in}
 use Rattle.ps_cover.specs.declared.block.Called.{Called}
 use Rattle.ps_cover.specs.declared.point.Point.{Point}
 use Rattle.ps_cover.specs.declared.point.Point.TheVariants.{Mark, Value, Decides}
 use Rattle.ps_cover.specs.declared.point.Decision.{Decision}
-use Rattle.ps_cover.specs.declared.reading.Signals.{Signals}
+use Rattle.ps_pins.specs.declared.signals.Signals.{Signals}
 
 -- the operands of a decision
 abbrev pub operands_in : Decision → List Formula

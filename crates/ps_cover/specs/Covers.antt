@@ -1,5 +1,5 @@
 -- What scans make of what was shown.
-use Rattle.std.specs.Prelude.{◌≡◌, ◌-◌, ◌||◌, ℕ, Bool, false, true, List, Option, Some, None, length, option_map, slice_get, slice_index_or}
+use Rattle.std.specs.Prelude.{◌≡◌, ◌<◌, ◌-◌, ◌||◌, ℕ, Bool, false, true, List, Option, Some, None, length, option_map, slice_get, slice_index_or}
 use Rattle.std.specs.List.{list_any}
 use Rattle.ps_model.specs.Action.{Actual, calls}
 use Rattle.ps_model.specs.Kept.{Remains, StandsBy, fresh}
@@ -8,15 +8,13 @@ use Rattle.ps_model.specs.Network.{Network, kind_at}
 use Rattle.ps_model.specs.Scanning.{block_in, limit_of}
 use Rattle.ps_rows.specs.Counted.{kept_of}
 use Rattle.ps_alone.specs.Applying.{ScanStep}
-use Rattle.ps_runs.specs.Outcomes.{Outcome, performed, refuses, anew}
-use Rattle.ps_runs.specs.declared.watching.Evaluated.{Evaluated}
 use Rattle.ps_cover.specs.Blocks.{counted_of}
 use Rattle.ps_cover.specs.Covering.{AreCalls, AreScanned, Looks, point_of}
 use Rattle.ps_cover.specs.Points.{shows}
 use Rattle.ps_cover.specs.declared.block.Called.{Called}
 use Rattle.ps_cover.specs.declared.point.Point.{Point}
 use Rattle.ps_cover.specs.declared.cover.Cover.{Cover}
-use Rattle.ps_cover.specs.declared.reading.Signals.{Signals}
+use Rattle.ps_pins.specs.declared.signals.Signals.{Signals}
 
 -- the ms that passed since the scan before, 0 where there is none
 abbrev pub since : Option ℕ → (now : ℕ) → ℕ
@@ -53,24 +51,24 @@ pub record BeginsAnew (old : Cover) (new : Cover) : Type 0 where
   pub on : new.on.items ≡ old.on.items
   pub last : new.last ≡ None
 
--- A scan was taken that the evaluator made.
-pub record TakesBehind (net : Network) (old : Cover) (e : Evaluated) (now : ℕ) (new : Cover) : Type 0 where
-  pub signals : Signals
-  pub before : signals.before.now ≡ e.before.signals
-  pub behind : signals.behind.now ≡ e.behind.signals
-  pub takes : TakesScan net old now signals new
-  pub fits : IsCoverFor net new
+-- what was seen of each point before, or elsewhere, is seen now
+pub record JoinsBits (before other after : List Bool) : Type 0 where
+  pub each : length after ≡ length before
+  pub joined : (n : ℕ) → n < length before →
+      slice_index_or after n false ≡ (slice_index_or before n false || slice_index_or other n false)
+
+-- What other scans have shown was added; the calls stay.
+pub record Joins (old other new : Cover) : Type 0 where
+  pub calls : new.calls.items ≡ old.calls.items
+  pub points : new.points.items ≡ old.points.items
+  pub last : new.last ≡ old.last
+  pub off : JoinsBits old.off.items other.off.items new.off.items
+  pub on : JoinsBits old.on.items other.on.items new.on.items
 
 -- All began anew, and what is kept is of the application's sizes still.
 pub record Renews (net : Network) (old new : Cover) : Type 0 where
   pub begins : BeginsAnew old new
   pub fits : IsCoverFor net new
-
--- what taking an outcome of the evaluator makes of what was shown
-abbrev pub cover_takes : Network → Cover → Evaluated → Outcome (Unit {0}) → Cover → Type 0
-cover_takes net old e (performed now done report) new = TakesBehind net old e now new
-cover_takes net old e (refuses refusal) new = Unit {0}
-cover_takes net old e anew new = Renews net old new
 
 -- The calls stand for where a run of the application is: each block for that of the state.
 abbrev pub StandsFor : Network → Past → List Called → Type 0

@@ -6,7 +6,6 @@ pub mod Excluding
 pub mod Tallying
 pub mod Tallied
 -- what the code keeps of a scan
-pub mod Reading
 pub mod Blocks
 pub mod Covering
 pub mod Covers

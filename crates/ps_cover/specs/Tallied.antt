@@ -1,10 +1,11 @@
 -- What the counts say of the scans of several traces.
-use Rattle.std.specs.Prelude.{◌≡◌, ℕ, false, List, [], ◌∷◌, ◌++◌, Option, Some, count_by, map, slice_get, slice_index_or}
+use Rattle.std.specs.Prelude.{◌≡◌, ℕ, false, List, [], ◌∷◌, ◌++◌, Option, Some, count_by, length, map, slice_get, slice_index_or}
 use Rattle.std.specs.List.{flat_map}
 use Rattle.ps_model.specs.Network.{Network}
 use Rattle.ps_alone.specs.Applying.{ScanStep}
 use Rattle.ps_cover.specs.Covering.{point_of}
-use Rattle.ps_cover.specs.Covers.{BeginsAnew, Knows}
+use Rattle.ps_cover.specs.Covers.{BeginsAnew, Joins, Knows}
+use Rattle.ps_cover.specs.Listing.{points_of}
 use Rattle.ps_cover.specs.Shown.{is_covered}
 use Rattle.ps_cover.specs.Tallying.{counts, shown_at, tally}
 use Rattle.ps_cover.specs.declared.cover.Cover.{Cover}
@@ -27,6 +28,19 @@ abbrev pub TracesAddUp : Type 0
 TracesAddUp = (net : Network) (traces : List (List ScanStep)) (more : List ScanStep) (old behind begun new : Cover) →
     KnowsTraces net traces old behind → BeginsAnew behind begun → Knows net more begun new →
     KnowsTraces net (traces ++ more ∷ []) old new
+
+-- a cover knows of all points of an application
+pub record IsWhole (net : Network) (c : Cover) : Type 0 where
+  pub points : map point_of c.points.items ≡ points_of net
+  pub off_each : length c.off.items ≡ length c.points.items
+  pub on_each : length c.on.items ≡ length c.points.items
+
+-- What is known behind some traces, to which is added what one more shows to a cover of its own that had seen nothing,
+-- is known behind them all.
+abbrev pub JoinsAddUp : Type 0
+JoinsAddUp = (net : Network) (traces : List (List ScanStep)) (more : List ScanStep) (old behind begun other new : Cover) →
+    IsWhole net old → KnowsTraces net traces old behind → IsWhole net begun → IsUnseen begun →
+    Knows net more begun other → Joins behind other new → KnowsTraces net (traces ++ more ∷ []) old new
 
 -- Behind some traces a point was shown exactly where its definition says so.
 abbrev pub CoveredIsDefined : Type 0

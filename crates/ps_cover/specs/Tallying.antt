@@ -14,7 +14,7 @@ use Rattle.ps_cover.specs.declared.point.Point.{Point}
 use Rattle.ps_cover.specs.declared.tallying.Sort.{Sort}
 use Rattle.ps_cover.specs.declared.tallying.Sort.TheVariants.{States, Ways, Values, Decisions}
 use Rattle.ps_cover.specs.declared.tallying.Status.{Status}
-use Rattle.ps_cover.specs.declared.tallying.Status.TheVariants.{Covered, Missed, Excluded}
+use Rattle.ps_cover.specs.declared.tallying.Status.TheVariants.{Covered, Missed, Excluded, Counted}
 
 -- the kind of the block that a step calls; of one that assigns nothing is asked
 abbrev pub called_kind : Network → Option Action → Kind
@@ -64,10 +64,16 @@ abbrev pub has_status : Status → (excluded shown : Bool) → Bool
 has_status Excluded excluded shown = excluded
 has_status Covered excluded shown = not excluded && shown
 has_status Missed excluded shown = not excluded && not shown
+has_status Counted excluded shown = not excluded
 
 -- the point with this number was shown with both values
 abbrev pub shown_at : Cover → (n : ℕ) → Bool
 shown_at c n = slice_index_or c.off.items n false && slice_index_or c.on.items n false
+
+-- the point with this number was shown with value b
+abbrev pub seen_with : Cover → (b : Bool) → (n : ℕ) → Bool
+seen_with c true n = slice_index_or c.on.items n false
+seen_with c false n = slice_index_or c.off.items n false
 
 -- a point counts: it is of the sort and of the step, and has the status
 abbrev pub counts : Network → List Row → Sort → Option ℕ → Status → points.Point → (shown : Bool) → Bool
@@ -88,3 +94,7 @@ tally net rows c sort step status =
 -- a part of a whole in percent, rounded down, and 100 where the whole is nothing
 abbrev pub percent : (covered all : ℕ) → ℕ
 percent covered all = if all == 0 then 100 else (100 * covered) / all
+
+-- the part of the points of a sort that are not excluded that was shown, in percent
+abbrev pub percent_of : Network → List Row → Cover → Sort → ℕ
+percent_of net rows c sort = percent (tally net rows c sort None Covered) (tally net rows c sort None Counted)

@@ -10,9 +10,9 @@ ghost use Rattle.ps_cover.specs.Blocks.{called_in, made, moved_by};
 ghost use Rattle.ps_cover.specs.Covers.{idle_call, idle_step};
 ghost use Rattle.ps_cover.specs.Covering.{AreCalls, AreScanned, IsCallKept};
 
-use crate::reading::{Signals, read_pins};
 use ps_machine::call_limit;
 use ps_model::{App, Kind, Step};
+use ps_pins::{Signals, read_pins};
 use ps_rows::CountedBlock;
 use ps_ways::{LastStep, StepConditions, Way, guard_taken, ways};
 

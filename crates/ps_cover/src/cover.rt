@@ -1,24 +1,23 @@
 // What a set of traces has shown so far.
 
-ghost use Rattle.std.specs.Prelude.{◌≡◌, IfOk, false, length, map, replicate};
+ghost use Rattle.std.specs.Prelude.{◌≡◌, ◌<◌, ◌||◌, ℕ, IfOk, false, length, map, replicate, slice_index_or};
 ghost use Rattle.ps_model.specs.Meaning.{nothing};
 ghost use Rattle.ps_cover.specs.Covering.{AreCalls, point_of};
 ghost use Rattle.ps_cover.specs.Listing.{points_of};
-ghost use Rattle.ps_cover.specs.Covers.{BeginsAnew, IsAt, IsCoverFor, StandsFor, TakesScan, since};
+ghost use Rattle.ps_cover.specs.Covers.{BeginsAnew, IsAt, IsCoverFor, Joins, StandsFor, TakesScan, since};
 
 use crate::block::{Called, begin_calls, scan_calls};
 use crate::listing::{push_steps, push_values};
 use crate::point::{Point, look};
-use crate::reading::Signals;
 use ps_base::Memory;
-use ps_model::{App, Report};
-use ps_outside::{Sink, Stopped};
-use ps_runs::{Evaluated, Taker};
+use ps_model::App;
+use ps_pins::{Signals, bit_at};
 use std::alloc::Global;
 
 /// What the scans so far have shown of an application: of each point whether one of them showed it.
 ///
-/// No scan takes memory. Several traces are taken one after another, with `begin_anew` between them.
+/// No scan takes memory. Several traces are taken one after another, with
+/// `begin_anew` between them, or each apart, and joined.
 #[derive(Drop)]
 pub struct Cover<'a> {
     // each step of the application, with the block that it calls
@@ -63,6 +62,17 @@ fn all_points(alloc: Global, app: &App) -> Result<Vec<Point<'_>>, Memory>
     push_values(app, &mut points)?;
     push_steps(app, &mut points)?;
     Ok(points)
+}
+
+// Adds to what is known of each place of a list what is known of it in another one.
+fn join_bits(bits: &mut [bool], others: &[bool])
+    ensures each { length bits.new ≡ length bits.old }
+    ensures joined { (n : ℕ) → n < length bits.old → slice_index_or bits.new n false
+        ≡ (slice_index_or bits.old n false || slice_index_or others.now n false) }
+{
+    for n in 0..bits.len() {
+        bits[n] = bits[n] || bit_at(others, n);
+    }
 }
 
 // For each point that it was not shown.
@@ -118,43 +128,12 @@ impl Cover<'_> {
         begin_calls(app, self.calls.as_mut_slice());
         self.last = None;
     }
-}
 
-/// The scans of the plain evaluator: each is taken, and nothing is written.
-impl Taker<Evaluated> for Cover<'_> {
-    ghost use Rattle.std.specs.Prelude.{[]};
-    ghost use Rattle.ps_cover.specs.Covers.{IsCoverFor, cover_takes};
-
-    ghost fits = { IsCoverFor };
-
-    ghost said = { λ _ _ _ _. [] };
-
-    ghost takes = { cover_takes };
-
-    fn take_scan<S: Sink>(
-        &mut self,
-        app: &App,
-        now: u32,
-        _verdict: (),
-        _report: &Report,
-        performer: &Evaluated,
-        _out: &mut S,
-    ) -> Result<(), Stopped> {
-        let signals = Signals {
-            before: performer.signals_before(),
-            behind: performer.signals(),
-        };
-        self.take(app, now, &signals);
-        Ok(())
-    }
-
-    fn take_restart<S: Sink>(
-        &mut self,
-        app: &App,
-        _performer: &Evaluated,
-        _out: &mut S,
-    ) -> Result<(), Stopped> {
-        self.begin_anew(app);
-        Ok(())
+    /// Adds what other scans of the same application have shown.
+    pub fn join(&mut self, other: &Cover<'_>)
+        ensures { Joins self.old other.entry.now self.new }
+    {
+        join_bits(self.off.as_mut_slice(), other.off.as_slice());
+        join_bits(self.on.as_mut_slice(), other.on.as_slice());
     }
 }

@@ -5,8 +5,8 @@ ghost use Rattle.ps_cover.specs.Covering.{Looks, decides_in, leaves_in, makes_in
 ghost use Rattle.ps_cover.specs.Points.{is_value};
 
 use crate::block::{Called, makes};
-use crate::reading::{Signals, bit_at, read_value};
 use ps_model::{App, Exprs, Step};
+use ps_pins::{Signals, bit_at, read_value};
 
 /// An operand of an AND or an OR.
 #[derive(Clone, Copy)]

@@ -3,13 +3,13 @@
 ghost use Rattle.std.specs.Prelude.{◌≡◌, ◌≤◌, if◌then◌else◌, slice_get};
 ghost use Rattle.ps_cover.specs.Covering.{point_of};
 ghost use Rattle.ps_cover.specs.Tallying.{called_kind, counts, excluded_in, has_status, is_in, is_of, is_way_mark};
-ghost use Rattle.ps_cover.specs.Tallying.{percent, shown_at, tally};
+ghost use Rattle.ps_cover.specs.Tallying.{percent, percent_of, seen_with, shown_at, tally};
 
 use crate::cover::Cover;
 use crate::excluding::Exclusions;
 use crate::point::Point;
-use crate::reading::bit_at;
 use ps_model::{App, Kind, Step};
+use ps_pins::bit_at;
 use ps_ways::ways;
 
 /// What is counted.
@@ -34,10 +34,12 @@ pub enum Status {
     Missed,
     /// No run of the block alone shows it.
     Excluded,
+    /// It is not excluded, and was shown or not.
+    Counted,
 }
 
-// The kind of the block that a step calls; any where it calls none.
-fn called_kind(app: &App, k: u16) -> Kind
+/// The kind of the block that a step calls; of a step that calls none it is of no meaning.
+pub fn called_kind(app: &App, k: u16) -> Kind
     ensures { result ≡ called_kind app.now (slice_get app.now.steps k) }
 {
     app.sound();
@@ -100,6 +102,7 @@ fn has_status(status: Status, excluded: bool, shown: bool) -> bool
         Status::Excluded => excluded,
         Status::Covered => !excluded && shown,
         Status::Missed => !excluded && !shown,
+        Status::Counted => !excluded,
     }
 }
 
@@ -134,6 +137,17 @@ impl Cover<'_> {
         ensures { result ≡ shown_at self.now n }
     {
         bit_at(self.off.as_slice(), n) && bit_at(self.on.as_slice(), n)
+    }
+
+    /// Whether the point with a number was shown with a value; FALSE past the last one.
+    pub fn is_seen_at(&self, n: usize, value: bool) -> bool
+        ensures { result ≡ seen_with self.now value n }
+    {
+        if value {
+            bit_at(self.on.as_slice(), n)
+        } else {
+            bit_at(self.off.as_slice(), n)
+        }
     }
 }
 
@@ -172,4 +186,14 @@ pub fn tally(
         count += one_if(counts(app, exclusions, sort, step, status, shown, &points[n]));
     }
     count
+}
+
+/// How many of the points of a sort that are not excluded were shown, in percent, rounded down, and 100 where there are
+/// none.
+pub fn percent_of(app: &App, cover: &Cover<'_>, exclusions: &Exclusions, sort: Sort) -> u8
+    ensures { result ≡ percent_of app.now exclusions.now.rows.items cover.entry.now sort }
+{
+    let covered = tally(app, cover, exclusions, sort, None, Status::Covered);
+    let all = tally(app, cover, exclusions, sort, None, Status::Counted);
+    percent(covered, all)
 }

@@ -3,7 +3,7 @@ use Rattle.ps_model.specs.Action.{calls}
 use Rattle.ps_model.specs.Scanning.{limit_of, pins_under}
 use Rattle.ps_model.specs.Steps.{action}
 use Rattle.ps_cover.specs.Blocks.{moved_by, moved_in}
-use Rattle.ps_cover.specs.Reading.{read_in}
+use Rattle.ps_pins.specs.Reading.{read_in}
 use Rattle.ps_cover.specs.declared.block.Called.{Called}
 use Rattle.ps_cover.specs.declared.block.Moved.{Moved}
 use Rattle.ps_cover.proofs.block.Called.scanned.Goals as goal

@@ -1,8 +1,0 @@
-use Rattle.std.proofs.Common.{arith}
-use Rattle.ps_cover.proofs.Knowing.{covered}
-use Rattle.ps_cover.proofs.covering.cover_items.Goals as goal
-
-pub returns-clause-covers : goal.returns-clause-covers
-returns-clause-covers G c tells text held reading stands is_at states means =
-    let does = c.do_items.ensures.does tells text held reading in
-    covered c.args.app.now c.sound.ensures _ c.args.runner.now.performer c.args.runner.now.taker _ does.bytes _ _ _ _ states stands (omega arith) is_at means does.did

@@ -1,0 +1,342 @@
+// The lines of what was never seen.
+
+ghost use Rattle.std.specs.Prelude.{◌≡◌, ◌++◌, OnOk, Some, slice_get};
+ghost use Rattle.ps_cover.specs.Covering.{point_of};
+ghost use Rattle.ps_coverage.specs.Lines.{called_name, decision_line, json_decided, json_entered, json_had, json_taken};
+ghost use Rattle.ps_coverage.specs.Lines.{made_line, mark_line, missed_decisions, missed_mark, missed_values};
+ghost use Rattle.ps_coverage.specs.Lines.{never_decided, never_entered, never_had, never_taken, signal_label};
+ghost use Rattle.ps_coverage.specs.Lines.{state_line, unless, value_line, way_line};
+
+use crate::format::Format;
+use crate::guard::add_guard;
+use crate::pieces::{add_code, add_number, add_ordinal, add_state, joined_by, json_truth, truth};
+use ps_base::{Bytes, Memory, Place};
+use ps_cover::{Exclusions, Point, called_kind};
+use ps_model::{App, Kind, Step};
+use ps_ways::{Way, ways};
+
+// Puts a state that a block never entered, for a person.
+fn add_never_entered(text: &mut Bytes, kind: Kind, way: &Way) -> Result<(), Memory>
+    ensures { OnOk result (text.new ≡ text.old ++ never_entered kind way.now) }
+{
+    text.extend_from_slice(b"  never: ")?;
+    add_state(text, kind, way.state)?;
+    text.extend_from_slice(b"\n")
+}
+
+// Puts a state that a block never entered, in JSON.
+fn add_json_entered(text: &mut Bytes, name: &str, way: &Way) -> Result<(), Memory>
+    ensures { OnOk result (text.new ≡ text.old ++ json_entered name.now way.now) }
+{
+    text.extend_from_slice(b"{\"never\":\"state\",\"instance\":\"")?;
+    text.extend_from_slice(name.as_bytes())?;
+    text.extend_from_slice(b"\",\"state\":\"")?;
+    add_code(text, way.state)?;
+    text.extend_from_slice(b"\"}\n")
+}
+
+// Puts a state that a block of this name never entered.
+fn add_state_line(
+    text: &mut Bytes,
+    format: Format,
+    name: &str,
+    kind: Kind,
+    way: &Way,
+) -> Result<(), Memory>
+    ensures { OnOk result (text.new ≡ text.old ++ state_line format name.now kind (Some way.now)) }
+{
+    match format {
+        Format::Text => add_never_entered(text, kind, way),
+        Format::Json => add_json_entered(text, name, way),
+    }
+}
+
+// Puts a way that a block never took, for a person.
+fn add_never_taken(text: &mut Bytes, kind: Kind, place: usize, way: &Way) -> Result<(), Memory>
+    ensures { OnOk result (text.new ≡ text.old ++ never_taken kind place way.now) }
+{
+    text.extend_from_slice(b"  never: ")?;
+    add_code(text, way.next)?;
+    text.extend_from_slice(b" from ")?;
+    add_state(text, kind, way.state)?;
+    text.extend_from_slice(b": ")?;
+    add_guard(text, kind, place, way)?;
+    text.extend_from_slice(b"\n")
+}
+
+// Puts a way that a block never took, in JSON.
+fn add_json_taken(
+    text: &mut Bytes,
+    name: &str,
+    kind: Kind,
+    place: usize,
+    way: &Way,
+) -> Result<(), Memory>
+    ensures { OnOk result (text.new ≡ text.old ++ json_taken name.now kind place way.now) }
+{
+    text.extend_from_slice(b"{\"never\":\"way\",\"instance\":\"")?;
+    text.extend_from_slice(name.as_bytes())?;
+    text.extend_from_slice(b"\",\"from\":\"")?;
+    add_code(text, way.state)?;
+    text.extend_from_slice(b"\",\"to\":\"")?;
+    add_code(text, way.next)?;
+    text.extend_from_slice(b"\",\"guard\":")?;
+    add_number(text, u64::from(way.number))?;
+    text.extend_from_slice(b",\"when\":\"")?;
+    add_guard(text, kind, place, way)?;
+    text.extend_from_slice(b"\"}\n")
+}
+
+// Puts a way that a block of this name never took.
+fn add_way_line(
+    text: &mut Bytes,
+    format: Format,
+    name: &str,
+    kind: Kind,
+    place: usize,
+    way: &Way,
+) -> Result<(), Memory>
+    ensures { OnOk result (text.new ≡ text.old ++ way_line format name.now kind place (Some way.now)) }
+{
+    match format {
+        Format::Text => add_never_taken(text, kind, place, way),
+        Format::Json => add_json_taken(text, name, kind, place, way),
+    }
+}
+
+// Puts a mark that a call of a block of this name and kind never made.
+fn add_made_line(
+    text: &mut Bytes,
+    format: Format,
+    name: &str,
+    kind: Kind,
+    mark: usize,
+) -> Result<(), Memory>
+    ensures { OnOk result (text.new ≡ text.old ++ made_line format name.now kind mark) }
+{
+    let ways = ways(kind);
+    if mark < ways.len() {
+        let way = &ways[mark];
+        return add_way_line(text, format, name, kind, mark, way);
+    }
+    let place = mark - ways.len();
+    if place < ways.len() {
+        let way = &ways[place];
+        return add_state_line(text, format, name, kind, way);
+    }
+    Ok(())
+}
+
+// The name of the instance that a step calls; empty where it calls none.
+fn called_name(app: &App, k: u16) -> &str
+    ensures { result.now ≡ called_name app.now (slice_get app.now.steps k) }
+{
+    app.sound();
+    if k >= app.step_count() {
+        return "";
+    }
+    match app.step(k) {
+        Step::Call { instance, .. } => app.instance_name(*instance),
+        Step::Assign { .. } => "",
+    }
+}
+
+// Puts a mark that the call of a step never made.
+fn add_mark_line(
+    text: &mut Bytes,
+    app: &App,
+    format: Format,
+    k: u16,
+    mark: usize,
+) -> Result<(), Memory>
+    ensures { OnOk result (text.new ≡ text.old ++ mark_line app.now format k mark) }
+{
+    add_made_line(text, format, called_name(app, k), called_kind(app, k), mark)
+}
+
+/// Puts a mark of step k that is not excluded and was not made; nothing of another point.
+pub(crate) fn add_missed_mark(
+    text: &mut Bytes,
+    app: &App,
+    exclusions: &Exclusions,
+    format: Format,
+    k: u16,
+    point: &Point<'_>,
+    shown: bool,
+) -> Result<(), Memory>
+    ensures { OnOk result (text.new ≡ text.old
+        ++ missed_mark app.now exclusions.now.rows.items format k (point_of point.entry.now) shown) }
+{
+    match point {
+        Point::Mark { step, mark } => {
+            if *step == k && !exclusions.is_excluded(*step, *mark) && !shown {
+                add_mark_line(text, app, format, *step, *mark)?;
+            }
+            Ok(())
+        }
+        Point::Value { .. } | Point::Decides(_) => Ok(()),
+    }
+}
+
+// The name of an input, output or local.
+fn signal_label(app: &App, signal: u16) -> &str
+    ensures { result.now ≡ signal_label app.now signal }
+{
+    if signal < app.declared_count() {
+        app.signal_name(signal)
+    } else {
+        ""
+    }
+}
+
+// Puts a value that a signal never had, for a person.
+fn add_never_had(text: &mut Bytes, app: &App, signal: u16, value: bool) -> Result<(), Memory>
+    ensures { OnOk result (text.new ≡ text.old ++ never_had app.now signal value) }
+{
+    text.extend_from_slice(b"  never ")?;
+    text.extend_from_slice(truth(value))?;
+    text.extend_from_slice(b": ")?;
+    text.extend_from_slice(signal_label(app, signal).as_bytes())?;
+    text.extend_from_slice(b"\n")
+}
+
+// Puts a value that a signal never had, in JSON.
+fn add_json_had(text: &mut Bytes, app: &App, signal: u16, value: bool) -> Result<(), Memory>
+    ensures { OnOk result (text.new ≡ text.old ++ json_had app.now signal value) }
+{
+    text.extend_from_slice(b"{\"never\":\"value\",\"signal\":\"")?;
+    text.extend_from_slice(signal_label(app, signal).as_bytes())?;
+    text.extend_from_slice(b"\",\"value\":")?;
+    text.extend_from_slice(json_truth(value))?;
+    text.extend_from_slice(b"}\n")
+}
+
+// Puts a value that a signal never had, unless it was seen.
+fn add_value_line(
+    text: &mut Bytes,
+    app: &App,
+    format: Format,
+    signal: u16,
+    value: bool,
+    seen: bool,
+) -> Result<(), Memory>
+    ensures { OnOk result (text.new ≡ text.old ++ unless seen (value_line app.now format signal value)) }
+{
+    if seen {
+        return Ok(());
+    }
+    match format {
+        Format::Text => add_never_had(text, app, signal, value),
+        Format::Json => add_json_had(text, app, signal, value),
+    }
+}
+
+/// Puts the values that a signal never had; nothing of another point.
+pub(crate) fn add_missed_values(
+    text: &mut Bytes,
+    app: &App,
+    format: Format,
+    point: &Point<'_>,
+    off: bool,
+    on: bool,
+) -> Result<(), Memory>
+    ensures { OnOk result (text.new ≡ text.old ++ missed_values app.now format (point_of point.entry.now) off on) }
+{
+    match point {
+        Point::Value { signal } => {
+            add_value_line(text, app, format, *signal, false, off)?;
+            add_value_line(text, app, format, *signal, true, on)
+        }
+        Point::Mark { .. } | Point::Decides(_) => Ok(()),
+    }
+}
+
+// Puts a value with which an operand never decided, for a person.
+fn add_never_decided(
+    text: &mut Bytes,
+    at: Place,
+    of_and: bool,
+    place: usize,
+    value: bool,
+) -> Result<(), Memory>
+    ensures { OnOk result (text.new ≡ text.old ++ never_decided at of_and place value) }
+{
+    text.extend_from_slice(b"  never decided ")?;
+    text.extend_from_slice(truth(value))?;
+    text.extend_from_slice(b": line ")?;
+    add_number(text, u64::from(at.line))?;
+    text.extend_from_slice(b" column ")?;
+    add_number(text, u64::from(at.column))?;
+    text.extend_from_slice(b", operand ")?;
+    add_ordinal(text, place)?;
+    text.extend_from_slice(b" of an ")?;
+    text.extend_from_slice(joined_by(of_and))?;
+    text.extend_from_slice(b"\n")
+}
+
+// Puts a value with which an operand never decided, in JSON.
+fn add_json_decided(
+    text: &mut Bytes,
+    at: Place,
+    of_and: bool,
+    place: usize,
+    value: bool,
+) -> Result<(), Memory>
+    ensures { OnOk result (text.new ≡ text.old ++ json_decided at of_and place value) }
+{
+    text.extend_from_slice(b"{\"never\":\"decision\",\"line\":")?;
+    add_number(text, u64::from(at.line))?;
+    text.extend_from_slice(b",\"column\":")?;
+    add_number(text, u64::from(at.column))?;
+    text.extend_from_slice(b",\"operand\":")?;
+    add_ordinal(text, place)?;
+    text.extend_from_slice(b",\"of\":\"")?;
+    text.extend_from_slice(joined_by(of_and))?;
+    text.extend_from_slice(b"\",\"value\":")?;
+    text.extend_from_slice(json_truth(value))?;
+    text.extend_from_slice(b"}\n")
+}
+
+// Puts a value with which an operand never decided, unless it was seen.
+fn add_decision_line(
+    text: &mut Bytes,
+    format: Format,
+    at: Place,
+    of_and: bool,
+    place: usize,
+    value: bool,
+    seen: bool,
+) -> Result<(), Memory>
+    ensures { OnOk result (text.new ≡ text.old ++ unless seen (decision_line format at of_and place value)) }
+{
+    if seen {
+        return Ok(());
+    }
+    match format {
+        Format::Text => add_never_decided(text, at, of_and, place, value),
+        Format::Json => add_json_decided(text, at, of_and, place, value),
+    }
+}
+
+/// Puts the values with which an operand that stands at this place of the source never decided; nothing of another
+/// point.
+pub(crate) fn add_missed_decisions(
+    text: &mut Bytes,
+    format: Format,
+    at: Place,
+    point: &Point<'_>,
+    off: bool,
+    on: bool,
+) -> Result<(), Memory>
+    ensures { OnOk result (text.new ≡ text.old ++ missed_decisions format at (point_of point.entry.now) off on) }
+{
+    match point {
+        Point::Decides(operand) => {
+            let of_and = operand.of_and;
+            let place = operand.place;
+            add_decision_line(text, format, at, of_and, place, false, off)?;
+            add_decision_line(text, format, at, of_and, place, true, on)
+        }
+        Point::Mark { .. } | Point::Value { .. } => Ok(()),
+    }
+}

@@ -1,0 +1,30 @@
+-- A cover that has seen nothing.
+use Rattle.std.proofs.Common.{◌≡◌, ◌∙◌, ℕ, zero, suc, Bool, false, List, length, map, refl, replicate, ap}
+use Rattle.std.specs.Prelude.{slice_index_or}
+use Rattle.std.proofs.lemmas.List.{length-replicate}
+use Rattle.ps_model.specs.Network.{Network}
+use Rattle.ps_cover.specs.Covering.{point_of}
+use Rattle.ps_cover.specs.Listing.{points_of}
+use Rattle.ps_cover.specs.Tallied.{IsUnseen, IsWhole}
+use Rattle.ps_cover.specs.declared.cover.Cover.{Cover}
+
+all_false : (n k : ℕ) → slice_index_or (replicate n false) k false ≡ false
+all_false zero zero = refl
+all_false zero (suc k) = refl
+all_false (suc n) zero = refl
+all_false (suc n) (suc k) = all_false n k
+
+module _ (net : Network) (c : Cover) (points : map point_of c.points.items ≡ points_of net) (off : c.off.items ≡ replicate (length c.points.items) false)
+    (on : c.on.items ≡ replicate (length c.points.items) false) where
+  pub begun_whole : IsWhole net c
+  begun_whole = record {
+    points = points;
+    off_each = ap length off ∙ length-replicate (length c.points.items) false;
+    on_each = ap length on ∙ length-replicate (length c.points.items) false;
+  }
+
+  pub begun_unseen : IsUnseen c
+  begun_unseen = record {
+    off = λ n. ap (λ (bs : List Bool). slice_index_or bs n false) off ∙ all_false (length c.points.items) n;
+    on = λ n. ap (λ (bs : List Bool). slice_index_or bs n false) on ∙ all_false (length c.points.items) n;
+  }

@@ -1,7 +1,3 @@
-pub mod Naming
-pub mod Counting
-pub mod Cutting
-pub mod CaseNames
 pub mod ReadLines
 pub mod SaidInputs
 pub mod Rising
@@ -18,3 +14,4 @@ pub mod TraceBack
 pub mod OneLines
 pub mod LegibleFiles
 pub mod HexPairs
+pub mod CaseWith

@@ -25,7 +25,7 @@ use Rattle.ps_trace.specs.Words.{digits_value, is_blank, number_of}
 use Rattle.ps_trace.specs.Faults.{bytes_said, channel_of, first_of, others_of, region_of, value_if_ok}
 use Rattle.ps_cases.specs.declared.rule.CaseRule.{CaseRule}
 use Rattle.ps_cases.specs.declared.rule.CaseRule.TheVariants.{K1, K4}
-use Rattle.ps_cases.specs.declared.case.Setting.{Setting}
+use Rattle.ps_terms.specs.declared.name.Setting.{Setting}
 use Rattle.ps_cases.specs.declared.case.Window.{Window}
 use Rattle.ps_cases.specs.declared.case.Window.TheVariants.{Within, For as Throughout}
 use Rattle.ps_cases.specs.declared.case.Check.{Check}
@@ -33,10 +33,12 @@ use Rattle.ps_cases.specs.declared.deed.Deed.{Deed}
 use Rattle.ps_cases.specs.declared.deed.Deed.TheVariants.{Set, At, After, Times, For, Until, Restart, Fault}
 use Rattle.ps_cases.specs.Expanded.{fault_line, name_line, region_text, turn_text}
 use Rattle.ps_cases.specs.Legible.{IsLine}
-use Rattle.ps_cases.specs.Line.{Said, alone, asked, behind_blanks, behind_every, case_name, checks_said, deed_of_two, deed_said, deed_with, every_said, expect_now, expect_of, expect_said, fault_said, first_byte, is_none_left, line_said, restart_said, said_by_words, set_said, settings_said, strike_of, struck_said, target_said, with_settings}
+use Rattle.ps_cases.specs.Line.{Said, alone, asked, behind_every, case_name, checks_said, deed_of_two, deed_said, deed_with, every_said, expect_now, expect_of, expect_said, fault_said, first_byte, line_said, restart_said, said_by_words, set_said, settings_said, strike_of, struck_said, target_said, with_settings}
+use Rattle.ps_terms.specs.Words.{behind_blanks, is_none_left}
 use Rattle.ps_cases.specs.Line.Said.{nothing, begins, asks, breaks}
 use Rattle.ps_cases.specs.Parts.{both}
-use Rattle.ps_cases.specs.Words.{above_zero, is_digits, number_said, words_in}
+use Rattle.ps_cases.specs.Words.{above_zero, number_said}
+use Rattle.ps_terms.specs.Words.{is_digits, words_in}
 use Rattle.ps_cases.proofs.ReadBack.{digits_of_traces}
 use Rattle.ps_cases.proofs.SaidInputs.{either_has}
 use Rattle.ps_cases.proofs.TraceBack.{no_feed, plain_digits}

@@ -2,7 +2,7 @@
 use Rattle.std.proofs.Common.{◌≡◌, ◌+◌, ◌++◌, ◌∙◌, ℕ, List, [], ◌∷◌, Bool, length, fold, refl, sym, ap, subst, arith}
 use Rattle.std.specs.List.{All}
 use Rattle.std.proofs.lemmas.List.{append_assoc, length-set, length-append, get_or_append_left, get_or-append-add}
-use Rattle.ps_cases.specs.declared.case.Setting.{Setting}
+use Rattle.ps_terms.specs.declared.name.Setting.{Setting}
 use Rattle.ps_cases.specs.declared.case.Act.{Act}
 use Rattle.ps_cases.specs.declared.case.Act.TheVariants as act
 use Rattle.ps_cases.specs.declared.case.Statement.{Statement}

@@ -5,7 +5,7 @@ use Rattle.ps_base.specs.declared.limits.TheConstants.{LARGEST_TRACE}
 use Rattle.ps_model.specs.Network.{Network, input_count}
 use Rattle.ps_cases.specs.declared.rule.CaseRule.{CaseRule}
 use Rattle.ps_cases.specs.declared.rule.CaseRefusal.{CaseRefusal}
-use Rattle.ps_cases.specs.declared.case.Setting.{Setting}
+use Rattle.ps_terms.specs.declared.name.Setting.{Setting}
 use Rattle.ps_cases.specs.declared.case.Act.{Act}
 use Rattle.ps_cases.specs.declared.case.Statement.{Statement}
 use Rattle.ps_cases.specs.declared.case.Case.{Case}

@@ -20,7 +20,7 @@ use Rattle.ps_trace.specs.Faults.{is_other, is_same_channel, first_struck}
 use Rattle.ps_trace.specs.FaultOrder.{IsNoLater, AreInOrder, AreOfOneChannel}
 use Rattle.ps_cases.specs.declared.rule.CaseRule.{CaseRule}
 use Rattle.ps_cases.specs.declared.rule.CaseRule.TheVariants.{K4, K5, K6, K7}
-use Rattle.ps_cases.specs.declared.case.Setting.{Setting}
+use Rattle.ps_terms.specs.declared.name.Setting.{Setting}
 use Rattle.ps_cases.specs.declared.case.Pace.{Pace}
 use Rattle.ps_cases.specs.declared.case.Act.{Act}
 use Rattle.ps_cases.specs.declared.case.Act.TheVariants as act

@@ -8,12 +8,15 @@ use Rattle.ps_model.specs.Network.{Network, input_count}
 use Rattle.ps_trace.specs.Faults.{first_of, others_of}
 use Rattle.ps_cases.specs.declared.rule.CaseRule.{CaseRule}
 use Rattle.ps_cases.specs.declared.rule.CaseRule.TheVariants.{K1}
-use Rattle.ps_cases.specs.declared.case.Setting.{Setting}
+use Rattle.ps_terms.specs.declared.name.Setting.{Setting}
 use Rattle.ps_cases.specs.declared.deed.Deed.{Deed}
 use Rattle.ps_cases.specs.declared.deed.Deed.TheVariants.{Set, At, After}
 use Rattle.ps_cases.specs.Parts.{both, and_then}
-use Rattle.ps_cases.specs.Words.{number_said, number_named, signal_names, name_part, value_part, truth_of, has_equals, input_in, setting_of, setting_said, words_in}
-use Rattle.ps_cases.specs.Line.{Said, alone, deed_with, is_none_left, settings_said, with_settings, set_said, behind_every, restart_said, fault_said, expect_said, deed_said, asked, said_by_words, line_said, case_name, first_byte}
+use Rattle.ps_cases.specs.Words.{number_said, setting_of, setting_said}
+use Rattle.ps_terms.specs.Names.{number_named, signal_names, name_part, value_part, truth_of, has_equals, input_in}
+use Rattle.ps_terms.specs.Words.{words_in}
+use Rattle.ps_cases.specs.Line.{Said, alone, deed_with, settings_said, with_settings, set_said, behind_every, restart_said, fault_said, expect_said, deed_said, asked, said_by_words, line_said, case_name, first_byte}
+use Rattle.ps_terms.specs.Words.{is_none_left}
 use Rattle.ps_cases.specs.Line.Said.{nothing, begins, asks, breaks}
 
 -- of two answers each of which has what is wanted, either has it

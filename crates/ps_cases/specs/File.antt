@@ -12,14 +12,15 @@ use Rattle.ps_cases.specs.declared.rule.CaseRule.{CaseRule}
 use Rattle.ps_cases.specs.declared.rule.CaseRule.TheVariants.{K1, K4, K6, K7}
 use Rattle.ps_cases.specs.declared.rule.CaseRefusal.{CaseRefusal}
 use Rattle.ps_cases.specs.declared.case.Act.{Act}
-use Rattle.ps_cases.specs.declared.case.Setting.{Setting}
+use Rattle.ps_terms.specs.declared.name.Setting.{Setting}
 use Rattle.ps_cases.specs.declared.case.Statement.{Statement}
 use Rattle.ps_cases.specs.declared.case.CaseFile.{CaseFile}
 use Rattle.ps_cases.specs.declared.stand.Stand.{Stand}
 use Rattle.ps_cases.specs.declared.draft.Head.{Head}
 use Rattle.ps_cases.specs.declared.draft.Draft.{Draft}
 use Rattle.ps_cases.specs.declared.stand.Coming.{Coming}
-use Rattle.ps_cases.specs.Line.{Said, is_case_name, line_said}
+use Rattle.ps_cases.specs.Line.{Said, line_said}
+use Rattle.ps_terms.specs.Titles.{is_case_name}
 use Rattle.ps_cases.specs.Line.Said.{nothing, begins, asks, breaks}
 use Rattle.ps_cases.specs.Stands.{deed_settled, stand_after, unless_over}
 use Rattle.ps_cases.specs.Expanded.{expanded}

@@ -10,12 +10,13 @@ use Rattle.ps_model.specs.Network.{Network}
 use Rattle.ps_trace.specs.Words.{is_blank}
 use Rattle.ps_trace.specs.Faults.{first_of, others_of, region_of, bytes_said, channel_of}
 use Rattle.ps_cases.specs.Parts.{both, and_then}
-use Rattle.ps_cases.specs.Words.{words_in, number_said, above_zero, name_of, value_of, values_of, setting_said}
-use Rattle.ps_cases.specs.Words.{has_equals, name_part, value_part}
+use Rattle.ps_terms.specs.Words.{words_in, is_none_left, behind_blanks, before_blanks}
+use Rattle.ps_cases.specs.Words.{number_said, above_zero, setting_said}
+use Rattle.ps_terms.specs.Names.{name_of, value_of, values_of, has_equals, name_part, value_part, is_denied}
 use Rattle.ps_cases.specs.declared.rule.CaseRule.{CaseRule}
 use Rattle.ps_cases.specs.declared.rule.CaseRule.TheVariants.{K1, K2, K3}
-use Rattle.ps_cases.specs.declared.case.Setting.{Setting}
-use Rattle.ps_cases.specs.declared.case.Name.{Name}
+use Rattle.ps_terms.specs.declared.name.Setting.{Setting}
+use Rattle.ps_terms.specs.declared.name.Name.{Name}
 use Rattle.ps_cases.specs.declared.case.Check.{Check}
 use Rattle.ps_cases.specs.declared.case.Check.TheVariants.{Trip, NoTrip, Among, Not}
 use Rattle.ps_cases.specs.declared.case.Window.{Window}
@@ -25,18 +26,9 @@ use Rattle.ps_cases.specs.declared.deed.Deed.TheVariants.{Set, At, After, Times,
 
 -- ---- Settings and checks.
 
--- whether there is no word
-abbrev pub is_none_left : List (List ℕ) → Bool
-is_none_left [] = true
-is_none_left (word ∷ words) = false
-
 -- the settings that words are
 abbrev pub settings_said : Network → List (List ℕ) → Result (List Setting) CaseRule
 settings_said net words = fold (λ found word. and_then found (setting_said net word)) (Ok []) words
-
--- whether a name ends with `!`, which belongs to the `=` behind it
-abbrev pub is_denied : List ℕ → Bool
-is_denied name = slice_index_or name (length name - 1) 0 == 33
 
 -- a value that a name has not: K3 where it is none
 abbrev pub not_value : Name → Option ℕ → Result Check CaseRule
@@ -188,25 +180,9 @@ deed_said net word words =
 
 -- ---- Lines.
 
--- bytes without the blanks in front
-abbrev pub behind_blanks : List ℕ → List ℕ
-behind_blanks bytes = drop (prefix_len is_blank bytes) bytes
-
--- bytes without the blanks at the end
-abbrev pub before_blanks : List ℕ → List ℕ
-before_blanks bytes = take (length bytes - suffix_len is_blank bytes) bytes
-
 -- the name of a `case` line: what stands behind that word, without blanks at the ends
 abbrev pub case_name : List ℕ → List ℕ
 case_name line = before_blanks (behind_blanks (drop 4 (behind_blanks line)))
-
--- whether XML can hold a character, and it is none below 32
-abbrev pub may_stand : ℕ → Bool
-may_stand c = nat_le 32 c && not (c == 0xFFFE) && not (c == 0xFFFF)
-
--- whether bytes may be the name of a case: UTF-8 of such characters
-abbrev pub is_case_name : List ℕ → Bool
-is_case_name name = not (length name == 0) && is_utf8 name && list_all may_stand (chars name)
 
 -- What a line says: nothing; a case begins, by this name, which may be none; it asks for something; or it is refused by
 -- a rule.

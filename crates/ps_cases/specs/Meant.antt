@@ -8,7 +8,7 @@ use Rattle.ps_model.specs.declared.channel.Fault.{Fault as Strike}
 use Rattle.ps_model.specs.Meaning.{Item}
 use Rattle.ps_model.specs.Meaning.Item.{scan, restart}
 use Rattle.ps_model.specs.Network.{Network, input_count}
-use Rattle.ps_cases.specs.declared.case.Setting.{Setting}
+use Rattle.ps_terms.specs.declared.name.Setting.{Setting}
 use Rattle.ps_cases.specs.declared.case.Pace.{Pace}
 use Rattle.ps_cases.specs.declared.case.Expectation.{Expectation}
 use Rattle.ps_cases.specs.declared.case.Act.{Act}

@@ -3,7 +3,7 @@ use Rattle.std.specs.Prelude.{◌<◌, List, ◌∷◌, All}
 use Rattle.std.specs.List.Sorted.{IsNonDecreasing}
 use Rattle.ps_model.specs.Network.{Network, input_count}
 use Rattle.ps_trace.specs.FaultOrder.{AreInOrder, AreOfOneChannel}
-use Rattle.ps_cases.specs.declared.case.Setting.{Setting}
+use Rattle.ps_terms.specs.declared.name.Setting.{Setting}
 use Rattle.ps_cases.specs.declared.case.Statement.{Statement}
 use Rattle.ps_cases.specs.Meant.{faults_in, times_in}
 

@@ -1,17 +1,9 @@
 // What a case file says.
 
-use crate::lists::{Cases, Checks, Settings, Statements, Values};
+use crate::lists::{Cases, Checks, Statements};
 use ps_base::Label;
 use ps_model::Fault;
-
-/// An input takes a value.
-#[derive(Clone, Copy, Debug, PartialEq, Eq)]
-pub struct Setting {
-    /// The number of the input, in order of declaration, counted from 0.
-    pub input: u16,
-    /// Its value from now on.
-    pub value: bool,
-}
+use ps_terms::{Name, Settings, Values};
 
 /// The scans that a statement makes: scan k, counted from 1, is `k * step` ms after `from`, but none is later than
 /// `upto`.
@@ -36,22 +28,6 @@ pub enum Window {
     Within(u32),
     /// In that scan and in each later one at most so many ms after it.
     For(u32),
-}
-
-/// Whose value is looked at.
-#[derive(Clone, Copy, Debug, PartialEq, Eq)]
-pub enum Name {
-    /// Of an input, an output or a local, by its number among them.
-    Signal(u16),
-    /// The DiagCode of an instance, by its number.
-    Code(u16),
-    /// Of a BOOL or SAFEBOOL pin of an instance, by their numbers.
-    Pin {
-        /// The instance.
-        instance: u16,
-        /// The pin among those of its kind, with the numbers of `pin_row`.
-        pin: u8,
-    },
 }
 
 /// What is to hold in a scan. A value is a number: of a signal or a pin 0 for FALSE and 1 for TRUE, of an instance its

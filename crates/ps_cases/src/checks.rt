@@ -2,17 +2,18 @@
 
 ghost use Rattle.std.specs.Prelude.{◌≡◌, ◌≤◌, length, drop, IfOk};
 ghost use Rattle.ps_trace.specs.Words.{words};
-ghost use Rattle.ps_cases.specs.Words.{counted, name_of};
+ghost use Rattle.ps_terms.specs.Words.{counted};
+ghost use Rattle.ps_terms.specs.Names.{name_of};
 ghost use Rattle.ps_cases.specs.Line.{settings_said, not_said, among_said, compare_said, check_said, checks_said};
 
 use crate::case::Check;
-use crate::lists::{Checks, Settings};
-use crate::names::{name_of, setting_said, value_of, values_of};
+use crate::lists::Checks;
 use crate::parts::{and_check, and_setting};
 use crate::rule::CaseRule;
-use crate::words::{cut, is_none_left, next_counted};
+use crate::settings::setting_said;
 use ps_base::Memory;
 use ps_model::App;
+use ps_terms::{Settings, cut, is_none_left, name_of, next_counted, value_of, values_of};
 use std::alloc::Global;
 
 // The settings that the words of a line are from `at` on.

@@ -2,7 +2,8 @@
 
 ghost use Rattle.std.specs.Prelude.{◌≡◌, ◌≤◌, length, drop, IfOk};
 ghost use Rattle.ps_trace.specs.Words.{words};
-ghost use Rattle.ps_cases.specs.Words.{counted, number_said};
+ghost use Rattle.ps_terms.specs.Words.{counted};
+ghost use Rattle.ps_cases.specs.Words.{number_said};
 ghost use Rattle.ps_cases.specs.Parts.{both};
 ghost use Rattle.ps_cases.specs.Line.{alone, set_said, behind_every, restart_said, deed_with, every_said, expect_of};
 ghost use Rattle.ps_cases.specs.Line.{expect_now, expect_said, with_settings, deed_said};
@@ -12,13 +13,14 @@ ghost use Rattle.ps_cases.specs.declared.case.Window.TheVariants.{Within, For as
 use crate::case::Window;
 use crate::checks::{checks_said, settings_said};
 use crate::deed::Deed;
-use crate::lists::{Checks, Settings};
+use crate::lists::Checks;
+use crate::numbers::{count_said, number_said};
 use crate::parts::both;
 use crate::rule::CaseRule;
 use crate::strike::fault_said;
-use crate::words::{count_said, is_none_left, number_said, take_word};
 use ps_base::Memory;
 use ps_model::App;
+use ps_terms::{Settings, is_none_left, take_word};
 use std::alloc::Global;
 
 // What a line asks for and its settings, or the least rule that it breaks.

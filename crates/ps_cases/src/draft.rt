@@ -3,7 +3,7 @@
 ghost use Rattle.std.specs.Prelude.{◌≡◌, ◌≤◌, ◌<◌, ◌+◌, ◌^◌, [], true, false, IfOk, IfNone, OnOk};
 ghost use Rattle.ps_base.specs.declared.limits.TheConstants.{LARGEST_TIME};
 ghost use Rattle.ps_cases.specs.declared.limits.TheConstants.{MOST_CASE_SCANS};
-ghost use Rattle.ps_cases.specs.Line.{is_case_name};
+ghost use Rattle.ps_terms.specs.Titles.{is_case_name};
 ghost use Rattle.ps_cases.specs.Stands.{is_over, IsSmall};
 ghost use Rattle.ps_cases.specs.File.{no_lines, at, stated, closed, coming, fault_left};
 ghost use Rattle.ps_cases.specs.File.{case_judged, opened, case_after, file_ended};
@@ -11,13 +11,13 @@ ghost use Rattle.ps_cases.specs.DraftSays.{after_by, KeepsLimits, IsWithin};
 
 use crate::case::{Act, Case, CaseFile, Statement};
 use crate::limits::{LONGEST_CASE_NAME, MOST_CASE_SCANS, MOST_CASES};
-use crate::line::is_case_name;
-use crate::lists::{Cases, Settings, Statements};
+use crate::lists::{Cases, Statements};
 use crate::rule::{CaseRefusal, CaseRule};
 use crate::settling::stand_after;
 use crate::stand::{Coming, Stand};
 use ps_base::limits::LARGEST_TIME;
 use ps_base::{Label, Memory};
+use ps_terms::{Settings, is_case_name};
 use std::alloc::Global;
 use std::{mem, str};
 

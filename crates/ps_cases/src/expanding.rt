@@ -3,13 +3,14 @@
 ghost use Rattle.std.specs.Prelude.{◌≡◌, ◌≤◌, ◌<◌, ◌+◌, ◌++◌, ◌∷◌, [], ◌^◌, All, OnOk, length, fold, flat_map, decimal};
 ghost use Rattle.ps_model.specs.Network.{input_count};
 ghost use Rattle.ps_cases.specs.declared.limits.TheConstants.{MOST_CASES};
-ghost use Rattle.ps_cases.specs.declared.case.Setting.{Setting};
+ghost use Rattle.ps_terms.specs.declared.name.Setting.{Setting};
 ghost use Rattle.ps_cases.specs.declared.case.Case.{Case};
 ghost use Rattle.ps_cases.specs.Meant.{times_of, whole_case};
 ghost use Rattle.ps_cases.specs.Runnable.{IsRunnable};
 ghost use Rattle.ps_cases.specs.Expanded.{header_line, value_text, scan_line, name_line, act_text, point_set};
 ghost use Rattle.ps_cases.specs.Expanded.{next_point};
 ghost use Rattle.ps_cases.specs.Expanded.{statements_text, SetInputs, end_point, case_text, cases_text, expanded};
+ghost use Rattle.ps_cases.specs.Alone.{alone};
 ghost use Rattle.ps_cases.specs.Writing.{Wrote};
 
 use crate::case::{Act, Case, CaseFile, Pace, Statement};
@@ -61,6 +62,26 @@ pub fn expand<S: Sink>(
     let mut point = Point::new(alloc, usize::from(app.input_count()), room_of_file(file))?;
     put_header(out, app)?;
     put_cases(out, &mut point, file)
+}
+
+/// Writes the trace of one case of a file of this application, as if the file had this case alone: from time 0 on.
+///
+/// All else is as with `expand`.
+pub fn expand_alone<S: Sink>(
+    out: &mut S,
+    alloc: Global,
+    app: &App,
+    file: &CaseFile,
+    case: &Case,
+) -> Result<(), ExpandFail>
+    requires { IsRunnable app.now (whole_case file.now case.now) }
+    ensures { Wrote S.tells S.taken S.faults (expanded app.now (alone file.now case.now)) out.old out.new result }
+{
+    let begin = file.begin.as_slice();
+    let room = room_of_faults(begin).saturating_add(room_of_faults(case.statements.as_slice()));
+    let mut point = Point::new(alloc, usize::from(app.input_count()), room)?;
+    put_header(out, app)?;
+    put_case(out, &mut point, 0, begin, case)
 }
 
 // Room enough for the lines of the faults of each scan of a file: for those of the case that has most.

@@ -3,16 +3,17 @@
 //! - `case` has what a file says: statements, their scans, faults and expectations, in lists (`lists`). `rule` has why
 //!   it
 //!   has no answer.
-//! - `line` reads a line: its words (`words`), the names and values that they are (`names`), settings and checks
-//!   (`checks`), what it asks for (`deed`, `deeds`) and faults (`strike`); `parts` puts together what is right and what
-//!   breaks a rule.
+//! - `line` reads a line: the numbers and settings that its words are (`numbers`, `settings`), checks (`checks`), what
+//!   it asks for (`deed`, `deeds`) and faults (`strike`); `parts` puts together what is right and what breaks a rule.
 //! - `settling` has what a line does behind the lines before it (`stand`), `draft` a file as far as it was read,
 //!   `measured` the room that its trace has left (`room`), and `reading` reads it, within `limits`. `laws` has what
 //!   holds
 //!   of all case files.
-//! - `expanding` writes one trace of all cases, and `point` is how it stands between two lines of a case.
+//! - `expanding` writes one trace of all cases, or of one of them, and `point` is how it stands between two lines of a
+//!   case. `alone` finds the case that has a line.
 #![tactic(auto)]
 
+mod alone;
 mod case;
 mod checks;
 mod deed;
@@ -25,19 +26,20 @@ pub mod limits;
 mod line;
 mod lists;
 mod measured;
-mod names;
+mod numbers;
 mod parts;
 mod point;
 mod reading;
 mod room;
 mod rule;
+mod settings;
 mod settling;
 mod stand;
 mod strike;
-mod words;
 
-pub use case::{Act, Case, CaseFile, Check, Expectation, Name, Pace, Setting, Statement, Window};
-pub use expanding::{ExpandFail, expand};
-pub use lists::{Cases, Checks, Settings, Statements, Values};
+pub use alone::case_with_line;
+pub use case::{Act, Case, CaseFile, Check, Expectation, Pace, Statement, Window};
+pub use expanding::{ExpandFail, expand, expand_alone};
+pub use lists::{Cases, Checks, Statements};
 pub use reading::read_cases;
 pub use rule::{CaseRefusal, CaseRule, CasesFail};

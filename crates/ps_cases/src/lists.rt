@@ -1,51 +1,9 @@
 // Lists of what a case file says.
 
-use crate::case::{Case, Check, Setting, Statement};
+use crate::case::{Case, Check, Statement};
 use ps_base::Memory;
 use std::alloc::Global;
 use std::marker::Model;
-
-/// The values of a check, which contracts see as a list.
-#[derive(Drop, Debug)]
-pub struct Values {
-    items: Vec<u16>,
-}
-
-impl Model for Values {
-    ghost use Rattle.std.specs.Prelude.{List, ℕ};
-
-    ghost Value = { List ℕ };
-
-    ghost view = { λ x. x.items.items };
-}
-
-impl Values {
-    ghost use Rattle.std.specs.Prelude.{◌≡◌, [], ◌∷◌, ◌++◌, OnOk};
-
-    /// There are no values. It takes no memory.
-    pub fn new(alloc: Global) -> Values
-        ensures { result ≡ [] }
-    {
-        Values {
-            items: Vec::new(alloc),
-        }
-    }
-
-    /// One more value at the end. `Err` comes only where memory is wanting.
-    pub fn push(&mut self, value: u16) -> Result<(), Memory>
-        ensures { OnOk result (self.new ≡ self.old ++ value ∷ []) }
-    {
-        self.items.push(value)?;
-        Ok(())
-    }
-
-    /// All of them, as a slice.
-    pub fn as_slice(&self) -> &[u16]
-        ensures { result.now ≡ self.now }
-    {
-        self.items.as_slice()
-    }
-}
 
 /// The checks of an expectation, which contracts see as a list.
 #[derive(Drop, Debug)]
@@ -84,49 +42,6 @@ impl Checks {
 
     /// All of them, as a slice.
     pub fn as_slice(&self) -> &[Check]
-        ensures { result.now ≡ self.now }
-    {
-        self.items.as_slice()
-    }
-}
-
-/// The settings of a line, which contracts see as a list.
-#[derive(Drop, Debug)]
-pub struct Settings {
-    items: Vec<Setting>,
-}
-
-impl Model for Settings {
-    ghost use Rattle.std.specs.Prelude.{List};
-    ghost use Rattle.ps_cases.specs.declared.case.Setting.{Setting};
-
-    ghost Value = { List Setting };
-
-    ghost view = { λ x. x.items.items };
-}
-
-impl Settings {
-    ghost use Rattle.std.specs.Prelude.{◌≡◌, [], ◌∷◌, ◌++◌, OnOk};
-
-    /// There are no settings. It takes no memory.
-    pub fn new(alloc: Global) -> Settings
-        ensures { result ≡ [] }
-    {
-        Settings {
-            items: Vec::new(alloc),
-        }
-    }
-
-    /// One more setting at the end. `Err` comes only where memory is wanting.
-    pub fn push(&mut self, setting: Setting) -> Result<(), Memory>
-        ensures { OnOk result (self.new ≡ self.old ++ setting ∷ []) }
-    {
-        self.items.push(setting)?;
-        Ok(())
-    }
-
-    /// All of them, as a slice.
-    pub fn as_slice(&self) -> &[Setting]
         ensures { result.now ≡ self.now }
     {
         self.items.as_slice()

@@ -2,7 +2,7 @@
 
 ghost use Rattle.std.specs.Prelude.{◌≡◌, ◌+◌, ◌<◌, ◌^◌, ℕ, List, Some, IfOk, IfNone, OnOk, length};
 ghost use Rattle.ps_model.specs.Network.{input_count};
-ghost use Rattle.ps_cases.specs.declared.case.Setting.{Setting};
+ghost use Rattle.ps_terms.specs.declared.name.Setting.{Setting};
 ghost use Rattle.ps_cases.specs.declared.draft.Head.{Head};
 ghost use Rattle.ps_cases.specs.LineSays.{said_by};
 ghost use Rattle.ps_cases.specs.Stands.{deed_settled, unless_over};
@@ -15,12 +15,12 @@ use crate::case::{Act, CaseFile};
 use crate::deed::Deed;
 use crate::draft::{Draft, at};
 use crate::line::{LineSays, case_name};
-use crate::lists::Settings;
 use crate::room::{Base, Room, behind_header};
 use crate::rule::{CaseRefusal, CaseRule};
 use crate::settling::settle;
 use ps_base::Memory;
 use ps_model::{App, ImageSizes};
+use ps_terms::Settings;
 use std::alloc::Global;
 
 // A case file as far as it was read, and the room that its expanded trace has left. None: the trace is too large.

@@ -3,10 +3,11 @@
 ghost use Rattle.std.specs.Prelude.{◌≡◌, IfOk};
 ghost use Rattle.ps_cases.specs.Parts.{both, and_then};
 
-use crate::case::{Check, Setting};
-use crate::lists::{Checks, Settings};
+use crate::case::Check;
+use crate::lists::Checks;
 use crate::rule::CaseRule;
 use ps_base::Memory;
+use ps_terms::{Setting, Settings};
 
 // Two parts of a line together.
 pub(crate) fn both<A: Drop, B: Drop>(

@@ -3,15 +3,16 @@
 ghost use Rattle.std.specs.Prelude.{◌≡◌, ◌<◌, ◌≤◌, ◌+◌, ◌++◌, ◌∷◌, ◌/◌, ◌%◌, ◌^◌, [], ℕ, All, IfOk, OnOk};
 ghost use Rattle.std.specs.Prelude.{decimal, length, slice_index};
 ghost use Rattle.hex.specs.Hex.{encode_lower, lower_digits};
-ghost use Rattle.ps_cases.specs.declared.case.Setting.{Setting};
+ghost use Rattle.ps_terms.specs.declared.name.Setting.{Setting};
 ghost use Rattle.ps_cases.specs.Meant.{set_by, time_at};
 ghost use Rattle.ps_cases.specs.Expanded.{turn_text, region_text, fault_line, begin_point, point_set, point_after};
 
-use crate::case::{Act, Pace, Setting};
+use crate::case::{Act, Pace};
 use crate::held::Held;
 use itoa::Buffer;
 use ps_base::Memory;
 use ps_model::{Bits, Channel, Fault, Region};
+use ps_terms::Setting;
 use std::alloc::Global;
 
 // How the trace stands: when the case begins, the time of its last scan within the case, the values of the inputs, and

@@ -4,18 +4,19 @@ ghost use Rattle.std.specs.Prelude.{◌≡◌, ◌≤◌, length, drop, Ok, IfOk
 ghost use Rattle.std.specs.Option.{ok_or};
 ghost use Rattle.ps_trace.specs.Words.{words};
 ghost use Rattle.ps_trace.specs.Faults.{channel_of, region_of, bytes_said};
-ghost use Rattle.ps_cases.specs.Words.{counted};
+ghost use Rattle.ps_terms.specs.Words.{counted};
 ghost use Rattle.ps_cases.specs.Line.{strike_of, struck_said, target_said, fault_said};
 ghost use Rattle.ps_cases.specs.declared.rule.CaseRule.TheVariants.{K1};
 ghost use Rattle.ps_cases.specs.Parts.{both};
 
 use crate::deed::Deed;
+use crate::numbers::{count_said, number_said};
 use crate::parts::both;
 use crate::rule::CaseRule;
-use crate::words::{count_said, is_none_left, number_said, take_word};
 use ps_base::limits::MOST_FAULT_BYTES;
 use ps_base::{Bytes, Memory};
 use ps_model::{Channel, Fault, Region};
+use ps_terms::{is_none_left, take_word};
 use ps_trace::Target;
 use std::alloc::Global;
 

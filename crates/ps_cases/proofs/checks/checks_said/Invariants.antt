@@ -1,7 +1,7 @@
 use Rattle.std.proofs.Common.{◌≡◌, ◌≤◌, ◌-◌, length, drop, fold, Ok, []}
 use Rattle.ps_trace.specs.Words.{words}
 use Rattle.ps_cases.specs.Parts.{and_then}
-use Rattle.ps_cases.specs.Words.{counted}
+use Rattle.ps_terms.specs.Words.{counted}
 use Rattle.ps_cases.specs.Line.{check_said}
 use Rattle.ps_cases.proofs.checks.checks_said.Given as goal
 

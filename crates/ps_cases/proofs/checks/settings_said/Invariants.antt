@@ -1,7 +1,8 @@
 use Rattle.std.proofs.Common.{◌≡◌, ◌≤◌, ◌-◌, length, drop, fold}
 use Rattle.ps_trace.specs.Words.{words}
 use Rattle.ps_cases.specs.Parts.{and_then}
-use Rattle.ps_cases.specs.Words.{counted, setting_said}
+use Rattle.ps_terms.specs.Words.{counted}
+use Rattle.ps_cases.specs.Words.{setting_said}
 use Rattle.ps_cases.specs.Line.{settings_said}
 use Rattle.ps_cases.proofs.checks.settings_said.Given as goal
 

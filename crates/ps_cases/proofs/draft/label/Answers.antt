@@ -1,4 +1,4 @@
-use Rattle.ps_cases.proofs.CaseNames.{name_is_utf8}
+use Rattle.ps_terms.proofs.CaseNames.{name_is_utf8}
 use Rattle.ps_cases.proofs.draft.label.Goals as goal
 
 pub returns-in-Err : goal.returns-in-Err

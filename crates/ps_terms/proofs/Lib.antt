@@ -1,0 +1,4 @@
+pub mod Naming
+pub mod Counting
+pub mod Cutting
+pub mod CaseNames

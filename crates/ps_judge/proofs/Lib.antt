@@ -2,13 +2,3 @@
 pub mod Windows
 -- tests of failures, told and left
 pub mod Passing
--- the step at which a signal gets its value
-pub mod Steps
--- what statements ask for, in parts
-pub mod Tasks
--- how a rig and its judge come from one place of a run to another
-pub mod Going
--- what was told of a whole case
-pub mod Judged
--- the turns of its loops
-pub mod Turns

@@ -6,7 +6,7 @@ use Rattle.std.proofs.lemmas.Iterator.Adapters.{position_from-zero}
 use Rattle.std.proofs.lemmas.Option.{none-some}
 use Rattle.ps_model.specs.Network.{Network}
 use Rattle.ps_cases.specs.declared.case.Check.{Check}
-use Rattle.ps_judge.specs.Moments.{Moment}
+use Rattle.ps_seen.specs.Moments.{Moment}
 use Rattle.ps_judge.specs.Holding.{AreFrom, all_hold, broken_in, check_holds, failure_by, failure_in, first_failure, first_of, for_failure, in_window, last_failure, last_time, unless_ended, within_failure}
 use Rattle.ps_judge.specs.declared.checks.Failure.{Failure}
 

@@ -10,8 +10,8 @@ use Rattle.ps_cases.specs.declared.case.Check.{Check}
 use Rattle.ps_cases.specs.declared.case.Check.TheVariants.{Trip, NoTrip, Among, Not}
 use Rattle.ps_cases.specs.declared.case.Window.{Window}
 use Rattle.ps_cases.specs.declared.case.Window.TheVariants.{Now, Within, For}
-use Rattle.ps_judge.specs.Moments.{Moment, is_stopped, trips}
-use Rattle.ps_judge.specs.Named.{value_in}
+use Rattle.ps_seen.specs.Moments.{Moment, is_stopped, trips}
+use Rattle.ps_seen.specs.Named.{value_in}
 use Rattle.ps_judge.specs.declared.checks.Failure.{Failure}
 use Rattle.ps_judge.specs.declared.checks.Why.TheVariants.{Broken, Ended, Tripped}
 

@@ -3,7 +3,7 @@ use Rattle.std.specs.Prelude.{ℕ, Bool, ◌&&◌, List, Option, Some, None}
 use Rattle.std.specs.List.{list_all}
 use Rattle.ps_cases.specs.declared.case.Check.{Check}
 use Rattle.ps_model.specs.Network.{Network}
-use Rattle.ps_judge.specs.Moments.{Moment}
+use Rattle.ps_seen.specs.Moments.{Moment}
 use Rattle.ps_judge.specs.Holding.{Event, failures_behind, for_failure, listed, moments, trip_follows, unless}
 use Rattle.ps_judge.specs.Holding.{within_failure}
 use Rattle.ps_judge.specs.declared.checks.Failure.{Failure}

@@ -3,12 +3,11 @@
 ghost use Rattle.std.specs.Prelude.{◌≡◌, ◌<◌, Some, None, IfSome, length, slice_get};
 ghost use Rattle.ps_model.specs.Stored.{bit};
 ghost use Rattle.ps_judge.specs.Holding.{broken_in, check_holds, failure_in, is_among, shown};
-ghost use Rattle.ps_judge.specs.Moments.{moment_of};
+ghost use Rattle.ps_seen.specs.Moments.{moment_of};
 
-use crate::seen::{Seen, is_stopped};
-use crate::values::value_of;
 use ps_cases::Check;
 use ps_model::App;
+use ps_seen::{Seen, is_stopped, value_of};
 
 /// Why an expectation fails.
 #[derive(Clone, Copy, Debug, PartialEq, Eq)]

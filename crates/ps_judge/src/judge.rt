@@ -5,15 +5,15 @@ ghost use Rattle.std.specs.List.{list_all};
 ghost use Rattle.ps_model.specs.Network.{Network};
 ghost use Rattle.ps_judge.specs.Holding as holding;
 ghost use Rattle.ps_judge.specs.Holding.{AreFrom, Event, expects, failures, moments, no_scan, scanned, sudden_failure};
-ghost use Rattle.ps_judge.specs.Moments.{Moment, moment_of};
+ghost use Rattle.ps_seen.specs.Moments.{Moment, moment_of};
 ghost use Rattle.ps_judge.specs.Owing.{open_pass, outcome_left, owed, passes, sudden_left};
 
 use crate::checks::{Failure, Why};
-use crate::seen::{Seen, is_trip};
 use crate::watch::{Outcome, Watch, begun};
 use ps_base::Memory;
 use ps_cases::{Check, Expectation, Window};
 use ps_model::App;
+use ps_seen::{Seen, is_trip};
 use std::alloc::Global;
 
 /// What judges a case: it is shown each scan and each expectation in their order, and tells the failures. It keeps no

@@ -3,13 +3,13 @@
 ghost use Rattle.std.specs.Prelude.{◌≡◌, ◌+◌, ◌∷◌, [], ℕ, List};
 ghost use Rattle.ps_model.specs.Network.{Network};
 ghost use Rattle.ps_judge.specs.Holding.{AreFrom, ended, failure_of, for_failure, within_failure};
-ghost use Rattle.ps_judge.specs.Moments.{Moment, moment_of};
+ghost use Rattle.ps_seen.specs.Moments.{Moment, moment_of};
 ghost use Rattle.ps_judge.specs.Owing.{left, left_by, outcome_left};
 
 use crate::checks::{Failure, Why, failure_in};
-use crate::seen::Seen;
 use ps_cases::{Check, Window};
 use ps_model::App;
+use ps_seen::Seen;
 
 // In which scans of a window the checks are to hold.
 #[derive(Clone, Copy)]

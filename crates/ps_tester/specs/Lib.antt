@@ -1,10 +1,4 @@
--- what is told of results, in its three forms: what a reader of the clauses has to believe
-pub mod Failing
-pub mod Lines
-pub mod Tap
-pub mod Junit
-pub mod Report
--- what `test` runs, tells and answers
+-- what `test` runs, tells and answers: what a reader of the clauses has to believe
 pub mod Testing
 -- what calls leave that stop
 pub mod Stopping

@@ -9,18 +9,18 @@ use Rattle.ps_cases.specs.declared.case.Case.{Case}
 use Rattle.ps_cases.specs.declared.case.CaseFile.{CaseFile}
 use Rattle.ps_cases.specs.declared.case.Statement.{Statement}
 use Rattle.ps_cases.specs.Meant.{items_of, whole_case}
-use Rattle.ps_judge.specs.CaseRuns.{IsJudged, failures_of}
+use Rattle.ps_rig.specs.CaseRuns.{IsJudged, failures_of}
 use Rattle.ps_judge.specs.declared.checks.Failure.{Failure}
-use Rattle.ps_judge.specs.declared.run.CaseOutcome.{CaseOutcome}
+use Rattle.ps_rig.specs.declared.run.CaseOutcome.{CaseOutcome}
 use Rattle.ps_model.specs.Meaning.{Meaning}
 use Rattle.ps_model.specs.Network.{Network}
 use Rattle.ps_model.specs.Scanning.{State}
 use Rattle.ps_world.specs.Whole.{IsSetupOf, Setup}
-use Rattle.ps_tester.specs.Lines.{Ran, passes}
-use Rattle.ps_tester.specs.Report.{case_text, counted, file_foot_text, file_head_text, foot_text, head_text, none_told}
+use Rattle.ps_results.specs.Lines.{Ran, passes}
+use Rattle.ps_results.specs.Report.{case_text, counted, file_foot_text, file_head_text, foot_text, head_text, none_told}
 use Rattle.ps_bench_base.specs.declared.ending.Status.{Status}
 use Rattle.ps_bench_base.specs.declared.ending.Status.TheVariants.{Done, Failed}
-use Rattle.ps_tester.specs.declared.report.Tally.{Tally}
+use Rattle.ps_results.specs.declared.report.Tally.{Tally}
 
 -- failures stand in the order of their lines, and neighbours of one line in the order of their times
 pub record AreToldInOrder (failures : List Failure) : Type 0 where

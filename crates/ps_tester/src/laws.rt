@@ -2,7 +2,7 @@
 
 ghost use Rattle.std.specs.Prelude.{List};
 ghost use Rattle.ps_cases.specs.declared.case.Statement.{Statement};
-ghost use Rattle.ps_judge.specs.declared.run.CaseOutcome.{CaseOutcome};
+ghost use Rattle.ps_rig.specs.declared.run.CaseOutcome.{CaseOutcome};
 ghost use Rattle.ps_model.specs.Network.{Network};
 ghost use Rattle.ps_tester.specs.Testing.{IsOutcome, IsToldExactly};
 

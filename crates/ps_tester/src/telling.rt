@@ -1,10 +1,10 @@
 // What a person reads on standard error of a case that expects nothing.
 
-use crate::report::CaseRun;
 use ps_base::{Bytes, Memory};
 use ps_bench_base::pieces::add_place;
 use ps_cases::{Act, Statement};
 use ps_edge::{Listener, hear_bytes};
+use ps_results::report::CaseRun;
 use std::alloc::Global;
 
 // Whether one of these statements expects something.

@@ -14,24 +14,25 @@ ghost use Rattle.ps_bench_base.specs.Stopping.{AreRefused, StopsAtCases, StopsIn
 ghost use Rattle.ps_outside.specs.Outside.{Rose};
 ghost use Rattle.ps_model.specs.Typing.{Accepted};
 ghost use Rattle.ps_bench_words.specs.Seen.{seen};
-ghost use Rattle.ps_tester.specs.Lines.{Ran, passes, ran_of};
-ghost use Rattle.ps_tester.specs.Report.{case_text, counted, none_told, refused_text};
+ghost use Rattle.ps_results.specs.Lines.{Ran, passes, ran_of};
+ghost use Rattle.ps_results.specs.Report.{case_text, counted, none_told, refused_text};
 ghost use Rattle.ps_tester.specs.Stopping.{StopsAmong, StopsInFile, StopsRunning, StopsTesting, StopsTold};
 ghost use Rattle.ps_tester.specs.Testing.{AreToldInOrder, AreRan, AreRanFiles, FileRan, IsOutcome, IsRan};
 ghost use Rattle.ps_tester.specs.Testing.{IsRanFile};
 ghost use Rattle.ps_tester.specs.Testing.{cases_text, file_text, files_text, tally_of, tally_of_files};
 ghost use Rattle.ps_tester.specs.Testing.{test_status, test_text};
 
-use crate::report::{self, CaseRun, Tally};
 use crate::telling::tell_of_nothing;
 use ps_base::Memory;
 use ps_bench_base::{Opened, Status, Stop, open_app, open_cases};
 use ps_bench_words::Format;
 use ps_cases::{Case, CaseFile, CaseRefusal};
 use ps_edge::Listener;
-use ps_judge::{CaseOutcome, Failure, run_case};
+use ps_judge::Failure;
 use ps_model::App;
 use ps_outside::{Files, Output, write_all};
+use ps_results::report::{self, CaseRun, Tally};
+use ps_rig::{CaseOutcome, run_case};
 use std::alloc::Global;
 
 // What the cases of a call are run on, and how they are told.

@@ -1,7 +1,7 @@
 use Rattle.std.proofs.Common.{◌≡◌, ◌&&◌, ℕ, Bool, List, ◌∷◌, take}
 use Rattle.std.specs.List.{list_all}
 use Rattle.ps_judge.specs.Holding.{AreFrom}
-use Rattle.ps_judge.specs.Moments.{Moment, moment_of}
+use Rattle.ps_seen.specs.Moments.{Moment, moment_of}
 use Rattle.ps_judge.specs.Owing.{open_pass}
 use Rattle.ps_judge.specs.declared.checks.Failure.{Failure}
 use Rattle.ps_judge.proofs.judge.sift.Given as goal

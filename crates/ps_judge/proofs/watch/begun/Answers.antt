@@ -1,6 +1,6 @@
 use Rattle.std.proofs.Common.{◌∙◌, ap}
 use Rattle.ps_judge.specs.Holding.{failure_of}
-use Rattle.ps_judge.specs.Moments.{moment_of}
+use Rattle.ps_seen.specs.Moments.{moment_of}
 use Rattle.ps_judge.proofs.watch.begun.Goals as goal
 
 pub returns-in-Within : goal.returns-in-Within

@@ -1,4 +1,4 @@
-use Rattle.ps_judge.specs.CaseRuns.{failures_of}
+use Rattle.ps_rig.specs.CaseRuns.{failures_of}
 use Rattle.ps_tester.proofs.Ordering.{passes_as}
 use Rattle.ps_tester.proofs.laws.passes_are_told_exactly.Goals as goal
 

@@ -6,9 +6,9 @@ use Rattle.ps_bench_base.specs.Stopping.{StopsIn}
 use Rattle.ps_cases.specs.Meant.{whole_case}
 use Rattle.ps_cases.specs.Runnable.{IsRunnable}
 use Rattle.ps_cases.specs.declared.case.Case.{Case}
-use Rattle.ps_tester.specs.Report.{file_foot_text, file_head_text}
+use Rattle.ps_results.specs.Report.{file_foot_text, file_head_text}
 use Rattle.ps_tester.specs.Testing.{AreRan, cases_text}
-use Rattle.ps_tester.proofs.Joining.{two_more}
+use Rattle.ps_results.proofs.Joining.{two_more}
 use Rattle.ps_tester.proofs.Stopped.{err_is, stops_behind, stops_longer, took_nothing}
 use Rattle.ps_tester.proofs.testing.test_cases.Goals as goal
 

@@ -4,10 +4,10 @@ use Rattle.ps_bench_base.specs.Opening.{source}
 use Rattle.ps_bench_base.specs.Stopping.{StopsIn}
 use Rattle.ps_bench_base.specs.declared.ending.Stop.TheVariants.{NoMemory}
 use Rattle.ps_bench_words.specs.Seen.{seen}
-use Rattle.ps_tester.specs.Report.{foot_text, head_text, none_told}
+use Rattle.ps_results.specs.Report.{foot_text, head_text, none_told}
 use Rattle.ps_tester.specs.Stopping.{StopsAmong}
 use Rattle.ps_tester.specs.Testing.{files_text, tally_of_files}
-use Rattle.ps_tester.proofs.Joining.{two_more}
+use Rattle.ps_results.proofs.Joining.{two_more}
 use Rattle.ps_tester.proofs.Stopped.{among_from, err_is, stops_behind, stops_longer, took_all}
 use Rattle.ps_tester.proofs.testing.test_told.Goals as goal
 

@@ -1,5 +1,5 @@
 use Rattle.std.proofs.Common.{◌∙◌, ◌∷◌, ap}
-use Rattle.ps_judge.specs.Moments.{moment_of}
+use Rattle.ps_seen.specs.Moments.{moment_of}
 use Rattle.ps_judge.specs.Owing.{left_by}
 use Rattle.ps_judge.proofs.watch.Watch.see.Goals as goal
 

@@ -1,5 +1,5 @@
 use Rattle.std.proofs.Common.{arith}
-use Rattle.ps_judge.specs.Moments.{moment_of}
+use Rattle.ps_seen.specs.Moments.{moment_of}
 use Rattle.ps_judge.proofs.Windows.{for_past}
 use Rattle.ps_judge.proofs.watch.Watch.see_each.Goals as goal
 

@@ -1,5 +1,5 @@
 use Rattle.std.proofs.Common.{◌∙◌, sym, ap, arith}
-use Rattle.ps_judge.specs.Moments.{moment_of}
+use Rattle.ps_seen.specs.Moments.{moment_of}
 use Rattle.ps_judge.specs.Owing.{left}
 use Rattle.ps_judge.proofs.Windows.{within_met, within_missed, within_past}
 use Rattle.ps_judge.proofs.watch.Watch.see_one.Goals as goal

@@ -1,0 +1,2 @@
+-- texts that are written one behind the other
+pub mod Joining

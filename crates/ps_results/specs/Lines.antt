@@ -1,0 +1,49 @@
+-- Results in lines for a person.
+use Rattle.std.specs.Prelude.{ℕ, Bool, ◌==◌, ◌-◌, List, ◌++◌, codes, decimal, length, if◌then◌else◌}
+use Rattle.ps_cases.specs.declared.case.Case.{Case}
+use Rattle.ps_cases.specs.declared.case.CaseFile.{CaseFile}
+use Rattle.ps_rig.specs.declared.run.CaseOutcome.{CaseOutcome}
+use Rattle.ps_model.specs.Network.{Network}
+use Rattle.ps_results.specs.Failing.{failures_text}
+use Rattle.ps_bench_base.specs.Pieces.{count_text, place_text}
+use Rattle.ps_results.specs.declared.report.CaseRun.{CaseRun}
+use Rattle.ps_results.specs.declared.report.Tally.{Tally}
+
+-- A case that was run: the application, the name of its file, what the file says, the case, and what came of it, with
+-- the failures in the order of their lines.
+pub record Ran : Type 0 where
+  pub net : Network
+  pub name : List ℕ
+  pub file : CaseFile
+  pub case : Case
+  pub outcome : CaseOutcome
+
+-- how the code has it
+abbrev pub ran_of : CaseRun → Ran
+ran_of r = record { net = r.app.now; name = r.name.now; file = r.file.now; case = r.case.now; outcome = r.outcome.now }
+
+-- A case is told as passed exactly where its failures are none.
+abbrev pub passes : CaseOutcome → Bool
+passes outcome = length outcome.failures.items == 0
+
+-- a case in a line, as `PASS press.cases:7 the guard stops the ram (56 scans)`
+abbrev pub case_line : Ran → List ℕ
+case_line r =
+    (if passes r.outcome then codes "PASS " else codes "FAIL ") ++ place_text r.name r.case.line ++ codes " "
+    ++ r.case.name ++ codes " (" ++ count_text r.outcome.scans (codes "scan") ++ codes ")\n"
+
+-- the failures of a case, each in a line behind a mark: those of lines before the first case, and then its own
+abbrev pub all_failures : (mark : List ℕ) → Ran → List ℕ
+all_failures mark r =
+    failures_text r.net mark r.file.begin r.outcome.failures.items
+    ++ failures_text r.net mark r.case.statements r.outcome.failures.items
+
+-- a case in a line, and below it its failures
+abbrev pub case_lines : Ran → List ℕ
+case_lines r = case_line r ++ all_failures (codes "  ") r
+
+-- how many cases passed and failed, as `2 cases, 1 passed, 1 failed`
+abbrev pub total_line : Tally → List ℕ
+total_line t =
+    count_text t.cases (codes "case") ++ codes ", " ++ decimal (t.cases - t.failed) ++ codes " passed, "
+    ++ decimal t.failed ++ codes " failed\n"

@@ -3,7 +3,7 @@ use Rattle.std.proofs.Common.{◌≡◌, ◌∙◌, ◌+◌, ℕ, Bool, List, []
 use Rattle.std.proofs.lemmas.List.Elements.{All-map}
 use Rattle.std.proofs.lemmas.List.Sums.{sum_by-cons}
 use Rattle.std.specs.Prelude.{All}
-use Rattle.ps_judge.specs.Moments.{Moment}
+use Rattle.ps_seen.specs.Moments.{Moment}
 use Rattle.ps_model.specs.Network.{Network}
 use Rattle.ps_watch.specs.Room.{IsKeyed, column_room, columns_room, renewed}
 use Rattle.ps_watch.specs.declared.column.Column.{Column}

@@ -1,8 +1,8 @@
 -- What a watcher writes of the items of a trace, by what its world answers and what the items mean.
 use Rattle.std.proofs.Common.{◌≡◌, ◌∙◌, ℕ, Bool, true, false, List, [], ◌∷◌, Option, Some, None, Result, map, refl, sym, ap, ap₂, subst, arith}
-use Rattle.ps_cases.specs.declared.case.Name.{Name}
-use Rattle.ps_judge.specs.Moments.{Moment}
-use Rattle.ps_judge.specs.Named.{value_in}
+use Rattle.ps_terms.specs.declared.name.Name.{Name}
+use Rattle.ps_seen.specs.Moments.{Moment}
+use Rattle.ps_seen.specs.Named.{value_in}
 use Rattle.ps_model.specs.Meaning.{Runs, nothing}
 use Rattle.ps_model.specs.Network.{Network}
 use Rattle.ps_model.specs.Scanning.{State}

@@ -3,8 +3,8 @@
 use Rattle.std.proofs.Common.{◌≡◌, ◌≤◌, ◌∙◌, ◌++◌, ℕ, suc, Bool, List, [], ◌∷◌, Result, Ok, Err, length, refl, sym, ap, subst, take, drop, append_assoc, arith}
 use Rattle.std.proofs.lemmas.List.{take-append-drop}
 use Rattle.ps_base.specs.declared.failing.Refusal.{Refusal}
-use Rattle.ps_judge.specs.CaseRuns.{moments_of, seen_as}
-use Rattle.ps_judge.specs.Moments.{Moment}
+use Rattle.ps_seen.specs.Runs.{moments_of, seen_as}
+use Rattle.ps_seen.specs.Moments.{Moment}
 use Rattle.ps_model.specs.declared.channel.Fault.{Fault}
 use Rattle.ps_model.specs.declared.channel.Verdict.{Verdict}
 use Rattle.ps_model.specs.declared.report.Report.{Report}

@@ -3,9 +3,9 @@ use Rattle.std.specs.Prelude.{ℕ, ◌==◌, Bool, false, List, [], ◌∷◌, �
 use Rattle.std.specs.Prelude.{if◌then◌else◌, Option, Some, None}
 use Rattle.std.specs.List.{flat_map}
 use Rattle.csv.specs.Writing.{default_writer, row_text}
-use Rattle.ps_cases.specs.declared.case.Name.{Name}
-use Rattle.ps_cases.specs.declared.case.Name.TheVariants.{Signal, Code, Pin}
-use Rattle.ps_judge.specs.Moments.{is_stopped, trips}
+use Rattle.ps_terms.specs.declared.name.Name.{Name}
+use Rattle.ps_terms.specs.declared.name.Name.TheVariants.{Signal, Code, Pin}
+use Rattle.ps_seen.specs.Moments.{is_stopped, trips}
 use Rattle.ps_model.specs.declared.channel.Verdict.{Verdict}
 use Rattle.ps_model.specs.Network.{Network}
 use Rattle.ps_model.specs.Stored.{bit}

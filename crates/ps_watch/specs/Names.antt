@@ -3,9 +3,9 @@ use Rattle.std.specs.Prelude.{ℕ, List, [], ◌∷◌, ◌++◌, map, length, i
 use Rattle.std.specs.List.{flat_map, range_with_len}
 use Rattle.std.specs.Option.{option_map_or}
 use Rattle.std.specs.Prelude.{slice_get}
-use Rattle.ps_cases.specs.declared.case.Name.{Name}
-use Rattle.ps_cases.specs.declared.case.Name.TheVariants.{Signal, Code, Pin}
-use Rattle.ps_cases.specs.Words.{is_time}
+use Rattle.ps_terms.specs.declared.name.Name.{Name}
+use Rattle.ps_terms.specs.declared.name.Name.TheVariants.{Signal, Code, Pin}
+use Rattle.ps_terms.specs.Names.{is_time}
 use Rattle.ps_model.specs.declared.kind.Kind.{Kind}
 use Rattle.ps_model.specs.declared.pins.PinRow.{PinRow}
 use Rattle.ps_model.specs.Network.{Network, declared_count, input_count, instance_count, kind_at}

@@ -1,8 +1,8 @@
 -- Columns as the code has them, a line in the room that was taken for it, and the room that suffices.
 use Rattle.std.specs.Prelude.{◌≡◌, ℕ, ◌+◌, Bool, List, length, map, sum_by, if◌then◌else◌, Some, None}
-use Rattle.ps_judge.specs.Moments.{Moment}
-use Rattle.ps_judge.specs.Named.{value_in}
-use Rattle.ps_cases.specs.declared.case.Name.{Name}
+use Rattle.ps_seen.specs.Moments.{Moment}
+use Rattle.ps_seen.specs.Named.{value_in}
+use Rattle.ps_terms.specs.declared.name.Name.{Name}
 use Rattle.ps_model.specs.Network.{Network}
 use Rattle.ps_watch.specs.Lines.{Cell}
 use Rattle.ps_watch.specs.Shown.{json_key, label}

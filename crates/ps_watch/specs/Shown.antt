@@ -2,8 +2,8 @@
 use Rattle.std.specs.Prelude.{ℕ, ◌==◌, List, [], ◌++◌, codes, nat_lt, if◌then◌else◌, slice_get, unwrap_or}
 use Rattle.std.specs.Prelude.{Option, Some, None}
 use Rattle.json.specs.Print.{quoted}
-use Rattle.ps_cases.specs.declared.case.Name.{Name}
-use Rattle.ps_cases.specs.declared.case.Name.TheVariants.{Signal, Code, Pin}
+use Rattle.ps_terms.specs.declared.name.Name.{Name}
+use Rattle.ps_terms.specs.declared.name.Name.TheVariants.{Signal, Code, Pin}
 use Rattle.ps_model.specs.Network.{Network, declared_count, instance_count, instance_name, kind_at, signal_name}
 use Rattle.ps_model.specs.Pins.{pin_names}
 use Rattle.ps_report.specs.Lines.{code_text}

@@ -1,7 +1,7 @@
 -- What is written of the scans of a trace, by what they answer and mean.
 use Rattle.std.specs.Prelude.{◌≡◌, ℕ, Bool, true, false, IsTrue, List, ◌++◌, map, Result}
-use Rattle.ps_cases.specs.declared.case.Name.{Name}
-use Rattle.ps_judge.specs.CaseRuns.{moments_of}
+use Rattle.ps_terms.specs.declared.name.Name.{Name}
+use Rattle.ps_seen.specs.Runs.{moments_of}
 use Rattle.ps_model.specs.Meaning.{Item, Meaning, nothing}
 use Rattle.ps_model.specs.Network.{Network}
 use Rattle.ps_model.specs.Scanning.{State}

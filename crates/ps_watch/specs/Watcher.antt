@@ -1,6 +1,6 @@
 -- What a watcher has, and what it makes of an outcome.
 use Rattle.std.specs.Prelude.{◌≡◌, ◌≤◌, ◌+◌, ℕ, true, false, All, List, [], map}
-use Rattle.ps_judge.specs.Moments.{Moment}
+use Rattle.ps_seen.specs.Moments.{Moment}
 use Rattle.ps_model.specs.declared.channel.Verdict.{Verdict}
 use Rattle.ps_model.specs.declared.report.Report.{Report}
 use Rattle.ps_model.specs.Network.{Network}

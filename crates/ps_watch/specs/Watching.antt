@@ -1,9 +1,9 @@
 -- What is written of a whole run.
 use Rattle.std.specs.Prelude.{ℕ, Bool, true, false, List, [], ◌∷◌, ◌++◌, map, Option, Some, None, option_map}
-use Rattle.ps_cases.specs.declared.case.Name.{Name}
-use Rattle.ps_judge.specs.CaseRuns.{moments_of}
-use Rattle.ps_judge.specs.Moments.{Moment}
-use Rattle.ps_judge.specs.Named.{value_in}
+use Rattle.ps_terms.specs.declared.name.Name.{Name}
+use Rattle.ps_seen.specs.Runs.{moments_of}
+use Rattle.ps_seen.specs.Moments.{Moment}
+use Rattle.ps_seen.specs.Named.{value_in}
 use Rattle.ps_model.specs.Meaning.{Item, nothing}
 use Rattle.ps_model.specs.Meaning.Item.{scan, restart}
 use Rattle.ps_model.specs.Network.{Network}

@@ -2,16 +2,16 @@
 
 ghost use Rattle.std.specs.Prelude.{◌≡◌, ◌+◌, ◌≤◌, ◌++◌, All, IfOk, IfSome, map, string_bytes};
 ghost use Rattle.json.specs.Print.{quoted};
-ghost use Rattle.ps_judge.specs.Moments.{moment_of};
+ghost use Rattle.ps_seen.specs.Moments.{moment_of};
 ghost use Rattle.ps_watch.specs.Room.{IsKeyed, columns_room, frame_room, key_text, renewed};
 
 use crate::format::Format;
 use crate::shown::label_of;
 use json::Writer;
 use ps_base::{Bytes, Memory};
-use ps_cases::Name;
-use ps_judge::{Seen, value_of};
 use ps_model::App;
+use ps_seen::{Seen, value_of};
+use ps_terms::Name;
 use std::alloc::Global;
 
 /// The most bytes of a column beside what stands for its name.

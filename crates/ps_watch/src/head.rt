@@ -10,8 +10,8 @@ use crate::format::Format;
 use crate::shown::label_of;
 use csv::{ByteRecord, WriterBuilder};
 use ps_base::{Bytes, Memory};
-use ps_cases::Name;
 use ps_model::App;
+use ps_terms::Name;
 use std::alloc::Global;
 
 // Puts what stands for names behind fields.

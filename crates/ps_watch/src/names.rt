@@ -8,8 +8,8 @@ ghost use Rattle.ps_watch.specs.Names.{all_names, main_names, names_of_instance,
 
 use crate::format::Format;
 use ps_base::Memory;
-use ps_cases::Name;
 use ps_model::{App, Kind, Ty, pin_count, pin_row};
+use ps_terms::Name;
 use std::alloc::Global;
 
 // Puts a pin of an instance of a kind behind names, where it is BOOL or SAFEBOOL.

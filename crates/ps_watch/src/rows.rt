@@ -1,7 +1,7 @@
 // The row of a scan in CSV, and its object in JSON.
 
 ghost use Rattle.std.specs.Prelude.{◌≡◌, ◌+◌, ◌≤◌, ◌++◌, All, length};
-ghost use Rattle.ps_judge.specs.Moments.{is_stopped};
+ghost use Rattle.ps_seen.specs.Moments.{is_stopped};
 ghost use Rattle.ps_model.specs.Stored.{bit};
 ghost use Rattle.ps_watch.specs.Lines.{csv_row, fields_text, json_line, members_text};
 ghost use Rattle.ps_watch.specs.Room.{IsKeyed, cells_of, columns_room, frame_room};

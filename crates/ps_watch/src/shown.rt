@@ -9,9 +9,9 @@ ghost use Rattle.ps_watch.specs.Shown.{state_text, truth_text, value_text};
 
 use crate::line::Line;
 use ps_base::Memory;
-use ps_cases::Name;
 use ps_model::{App, Kind, pin_count, pin_name};
 use ps_states::state_words;
+use ps_terms::Name;
 use std::alloc::Global;
 
 // The name of an instance.

@@ -1,7 +1,7 @@
 // The line of a scan in words: what changed.
 
 ghost use Rattle.std.specs.Prelude.{◌≡◌, ◌+◌, ◌≤◌, ◌++◌, All, length};
-ghost use Rattle.ps_judge.specs.Moments.{trips};
+ghost use Rattle.ps_seen.specs.Moments.{trips};
 ghost use Rattle.ps_watch.specs.Lines as lines;
 ghost use Rattle.ps_watch.specs.Lines.{change_text, changes_told, line_unless_none, time_text, told};
 ghost use Rattle.ps_watch.specs.Room.{IsKeyed, cells_of, column_room, columns_room, frame_room};
@@ -10,8 +10,8 @@ ghost use Rattle.ps_watch.specs.declared.format.Format.TheVariants.{Text};
 use crate::column::Column;
 use crate::line::Line;
 use crate::shown::put_value;
-use ps_cases::Name;
 use ps_model::{App, Verdict};
+use ps_terms::Name;
 
 // What stands between the value before and the value now.
 fn arrow(name: Name) -> &'static [u8]

@@ -11,11 +11,11 @@ use crate::line::Line;
 use crate::rows::{make_csv_row, make_json_line};
 use crate::telling::make_text_line;
 use ps_base::Memory;
-use ps_cases::Name;
-use ps_judge::Seen;
 use ps_model::{App, Report, Verdict};
 use ps_outside::{Sink, Stopped, write_all};
 use ps_runs::{StruckWorld, Taker, Watched};
+use ps_seen::Seen;
+use ps_terms::Name;
 use std::alloc::Global;
 
 /// Who watches the scans of a run: names and how they are written. It keeps the values of the last scan, and no other.
@@ -56,7 +56,7 @@ fn make_line(
 }
 
 impl Watcher {
-    ghost use Rattle.ps_judge.specs.Moments.{moment_of};
+    ghost use Rattle.ps_seen.specs.Moments.{moment_of};
     ghost use Rattle.ps_watch.specs.Watcher.{IsWatcherFor, TakesScan};
 
     /// Who watches these names, before the first scan. It takes all memory that it will use.

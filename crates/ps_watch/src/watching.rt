@@ -1,7 +1,7 @@
 // The loop over the scans of a trace that are watched.
 
 ghost use Rattle.std.specs.Prelude.{◌≡◌, ◌≤◌, ℕ, List, IsTrue, Some};
-ghost use Rattle.ps_cases.specs.declared.case.Name.{Name};
+ghost use Rattle.ps_terms.specs.declared.name.Name.{Name};
 ghost use Rattle.ps_model.specs.Network.{input_count};
 ghost use Rattle.ps_runs.specs.Cutting.{TellsFailures};
 ghost use Rattle.ps_runs.specs.Performing.{IsStruckWorldFor};

@@ -5,7 +5,7 @@ use Rattle.std.proofs.lemmas.Option.{slice_get-get_or, slice_get-map}
 use Rattle.std.specs.Prelude.{option_map}
 use Rattle.std.specs.Borrow.{Bor}
 use Rattle.ps_bench_words.specs.Seen.{seen}
-use Rattle.ps_cases.specs.declared.case.Name.{Name}
+use Rattle.ps_terms.specs.declared.name.Name.{Name}
 use Rattle.ps_model.specs.Network.{Network}
 use Rattle.ps_watch.specs.Names.{all_names}
 use Rattle.ps_watching.specs.Naming.{Adds, HasUnnamed, called_among, name_called}

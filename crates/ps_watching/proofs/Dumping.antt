@@ -2,9 +2,9 @@
 use Rattle.std.proofs.Common.{◌≡◌, ◌∙◌, ◌++◌, ◌+◌, ℕ, Bool, true, false, List, [], ◌∷◌, Result, Ok, Err, length, refl, sym, ap, subst, arith}
 use Rattle.std.specs.Prelude.{OnOk, codes, decimal}
 use Rattle.std.proofs.lemmas.List.{length-map, length-replicate}
-use Rattle.ps_cases.specs.declared.case.Name.{Name}
-use Rattle.ps_judge.specs.CaseRuns.{moments_of}
-use Rattle.ps_judge.specs.Moments.{Moment}
+use Rattle.ps_terms.specs.declared.name.Name.{Name}
+use Rattle.ps_seen.specs.Runs.{moments_of}
+use Rattle.ps_seen.specs.Moments.{Moment}
 use Rattle.ps_model.specs.Meaning.{Runs, nothing}
 use Rattle.ps_model.specs.Network.{Network}
 use Rattle.ps_model.specs.Scanning.{State}

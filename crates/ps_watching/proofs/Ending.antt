@@ -9,7 +9,8 @@ use Rattle.ps_top.specs.Program.{end_line}
 use Rattle.ps_bench_base.specs.declared.ending.Input.TheVariants.{Trace}
 use Rattle.ps_bench_base.specs.declared.ending.Stop.{Stop}
 use Rattle.ps_bench_base.specs.declared.ending.Stop.TheVariants.{Unwritten}
-use Rattle.ps_watching.specs.Stopping.{EndsBehind, SaysRefusal}
+use Rattle.ps_traced.specs.Opening.{SaysRefusal}
+use Rattle.ps_watching.specs.Stopping.{EndsBehind}
 
 -- behind a line that is refused the line of its refusal is written, or a beginning of it
 ends_refusal : (tells : Bool) (before after : List ℕ) (refusal : Refusal) (stop : Stop) →

@@ -1,6 +1,6 @@
 mod Ending
 mod Dumping
-mod Dots
 mod Playing
 mod Called
 mod Coming
+mod Rereading

@@ -1,21 +1,26 @@
 -- What `watch` is asked, and what it writes by that.
 use Rattle.std.specs.Prelude.{◌≡◌, ◌⊎◌, ℕ, Bool, IsTrue, List, ◌++◌, Option, Some, None, option_map, Result, Ok, Err}
-use Rattle.ps_bench_base.specs.Opening.{IsOfApp, source}
-use Rattle.ps_bench_base.specs.Stopping.{StopsAtApp}
+use Rattle.ps_bench_base.specs.Ending.{IsOfRun}
+use Rattle.ps_bench_base.specs.Meant.{file_meant}
+use Rattle.ps_bench_base.specs.Opening.{IsOfApp, Source, source}
+use Rattle.ps_bench_base.specs.Refusing.{refused_line}
+use Rattle.ps_bench_base.specs.Stopping.{StopsAtApp, StopsAtCases}
 use Rattle.ps_bench_base.specs.declared.ending.Status.{Status}
 use Rattle.ps_bench_base.specs.declared.ending.Status.TheVariants.{Done, Usage}
 use Rattle.ps_bench_base.specs.declared.ending.Stop.{Stop}
 use Rattle.ps_bench_words.specs.Seen.{seen}
 use Rattle.ps_bench_words.specs.declared.asking.Layout.{Layout}
 use Rattle.ps_bench_words.specs.declared.asking.Layout.TheVariants.{Text as AsText, Csv as AsCsv, Json as AsJson, Vcd}
-use Rattle.ps_cases.specs.declared.case.Name.{Name}
-use Rattle.ps_judge.specs.CaseRuns.{moments_of}
-use Rattle.ps_judge.specs.Moments.{Moment}
+use Rattle.ps_terms.specs.declared.name.Name.{Name}
+use Rattle.ps_seen.specs.Runs.{moments_of}
+use Rattle.ps_seen.specs.Moments.{Moment}
 use Rattle.ps_model.specs.Meaning.{Item, nothing}
 use Rattle.ps_model.specs.Network.{Network}
 use Rattle.ps_model.specs.Scanning.{State}
 use Rattle.ps_model.specs.declared.channel.ImageSizes.{ImageSizes}
 use Rattle.ps_outside.specs.Outside.{Rose}
+use Rattle.ps_traced.specs.Opening.{RosesIn}
+use Rattle.ps_traced.specs.Playing.{LacksCase}
 use Rattle.ps_watch.specs.Lines.{head_text}
 use Rattle.ps_watch.specs.Names.{all_names, default_names}
 use Rattle.ps_watch.specs.Watching.{at_first, items_text}
@@ -67,45 +72,49 @@ abbrev pub text_in : Network → Layout → Run → List Item → List State →
 text_in net layout run items ws =
     head_in net layout run.names ++ body_in net layout run.names items (seen_of_run net run items ws)
 
--- What `watch` answers of an application: the run that is wanted was written to the end of its trace; or a word names
--- nothing, and nothing was written.
-abbrev pub Answered : Network → Layout → Wanted → (reading : Bool) (held : List ℕ → Option (List ℕ)) →
-    (tells : Bool) → (before after : List ℕ) → Status → Type 0
-Answered net layout wanted reading held tells before after status =
-    ((status ≡ Done)
-    × ComesOfRun net (text_in net layout) (default_in net layout) reading held wanted tells before after (Ok tt))
-    ⊎ ((status ≡ Usage) × (word : List ℕ) × HasUnnamed net wanted.words word × (IsTrue tells → after ≡ before))
+-- a word for what is watched names nothing, or the one for the trace means a line that is in no case
+abbrev pub IsUnmeant : Source → Wanted → Type 0
+IsUnmeant from wanted =
+    ((word : List ℕ) × HasUnnamed from.net wanted.words word) ⊎ LacksCase from wanted.trace
 
--- the same, or what comes of the run where the call stops
-abbrev pub AnswersIn : Network → Layout → Wanted → (reading : Bool) (held : List ℕ → Option (List ℕ)) →
-    (tells : Bool) → (before after : List ℕ) → Result Status Stop → Type 0
-AnswersIn net layout wanted reading held tells before after (Ok status) =
-    Answered net layout wanted reading held tells before after status
-AnswersIn net layout wanted reading held tells before after (Err stop) =
-    ComesOfRun net (text_in net layout) (default_in net layout) reading held wanted tells before after (Err stop)
+-- What `watch` answers of an application: the run that is wanted was written to the end of its trace; or a word names
+-- nothing, or a line that is in no case, and nothing was written.
+abbrev pub Answered : Source → Layout → Wanted → (tells : Bool) → (before after : List ℕ) → Status → Type 0
+Answered from layout wanted tells before after status =
+    ((status ≡ Done)
+    × ComesOfRun from (text_in from.net layout) (default_in from.net layout) wanted tells before after (Ok tt))
+    ⊎ ((status ≡ Usage) × IsUnmeant from wanted × (IsTrue tells → after ≡ before))
+
+-- what comes of the run where the call stops
+abbrev pub StopsIn : Source → Layout → Wanted → (tells : Bool) → (before after : List ℕ) → Stop → Type 0
+StopsIn from layout wanted tells before after stop =
+    StopsAtCases from (file_meant wanted.trace) refused_line stop tells before after
+    ⊎ (IsOfRun stop
+    × ComesOfRun from (text_in from.net layout) (default_in from.net layout) wanted tells before after (Err stop))
+
+-- what `watch` answers of an application, or why it stops
+abbrev pub AnswersIn : Source → Layout → Wanted → (tells : Bool) → (before after : List ℕ) → Result Status Stop → Type 0
+AnswersIn from layout wanted tells before after (Ok status) = Answered from layout wanted tells before after status
+AnswersIn from layout wanted tells before after (Err stop) = StopsIn from layout wanted tells before after stop
 
 -- what `watch` answers of the application of this name
 abbrev pub AnswersWatch : (app : List ℕ) → Layout → Wanted → (reading : Bool) (held : List ℕ → Option (List ℕ)) →
     (tells : Bool) → (before after : List ℕ) → Status → Type 0
 AnswersWatch app layout wanted reading held tells before after status =
     (net : Network) × (sizes : ImageSizes) × IsOfApp (source net sizes reading held) app
-    × Answered net layout wanted reading held tells before after status
+    × Answered (source net sizes reading held) layout wanted tells before after status
 
--- Why `watch` stops before all is done: it gets no application of this name; or the faults or the trace stop it, and
--- where a line of the trace is refused, all was written that comes before it, and then the line of the refusal.
+-- Why `watch` stops before all is done: it gets no application of this name; or none of the cases of the file that the
+-- word for the trace names; or the faults or the trace stop it, and where a line of the trace is refused, all was
+-- written that comes before it, and then the line of the refusal.
 abbrev pub StopsWatch : (app : List ℕ) → Layout → Wanted → (reading : Bool) (held : List ℕ → Option (List ℕ)) →
     (tells : Bool) → (before after : List ℕ) → Stop → Type 0
 StopsWatch app layout wanted reading held tells before after stop =
     StopsAtApp reading held app stop tells before after
     ⊎ ((net : Network) × (sizes : ImageSizes) × IsOfApp (source net sizes reading held) app
-    × ComesOfRun net (text_in net layout) (default_in net layout) reading held wanted tells before after (Err stop))
+    × StopsIn (source net sizes reading held) layout wanted tells before after stop)
 
--- the count of failed reads rose of a file, where one is named
-abbrev pub RosesIn : (reads reads' : List ℕ → ℕ) → Option (List ℕ) → Type 0
-RosesIn reads reads' (Some name) = Rose (reads name) (reads' name)
-RosesIn reads reads' None = ⊥
-
--- the count of failed reads rose of the trace, or of the fault file
+-- the count of failed reads rose of the file that the word for the trace names, or of the fault file
 abbrev pub IsRisen : Wanted → (reads reads' : List ℕ → ℕ) → Type 0
 IsRisen wanted reads reads' =
-    Rose (reads wanted.trace) (reads' wanted.trace) ⊎ RosesIn reads reads' wanted.file
+    Rose (reads (file_meant wanted.trace)) (reads' (file_meant wanted.trace)) ⊎ RosesIn reads reads' wanted.file

@@ -1,7 +1,7 @@
 -- The value changes of a whole run.
 use Rattle.std.specs.Prelude.{ℕ, Bool, true, false, List, [], map, length, replicate}
-use Rattle.ps_cases.specs.declared.case.Name.{Name}
-use Rattle.ps_judge.specs.Moments.{Moment}
+use Rattle.ps_terms.specs.declared.name.Name.{Name}
+use Rattle.ps_seen.specs.Moments.{Moment}
 use Rattle.ps_model.specs.Meaning.{Item}
 use Rattle.ps_model.specs.Network.{Network}
 use Rattle.ps_vcd.specs.Declarations.{header_text}

@@ -1,6 +1,6 @@
 -- What a writer of value changes has, and what it makes of an outcome.
 use Rattle.std.specs.Prelude.{◌≡◌, ℕ, true, false, List, [], length, map}
-use Rattle.ps_judge.specs.Moments.{Moment}
+use Rattle.ps_seen.specs.Moments.{Moment}
 use Rattle.ps_model.specs.Network.{Network}
 use Rattle.ps_model.specs.declared.channel.Verdict.{Verdict}
 use Rattle.ps_runs.specs.Counting.{with_more}

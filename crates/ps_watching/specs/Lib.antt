@@ -10,3 +10,5 @@ pub mod Dumped
 -- apparatus: the line of a refusal, and a run before its first scan
 pub mod Stopping
 pub mod Prepared
+-- what a reader of value changes is to see
+pub mod Reread

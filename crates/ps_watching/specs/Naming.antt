@@ -2,7 +2,7 @@
 use Rattle.std.specs.Prelude.{◌≡◌, slice_get, ℕ, Bool, true, false, List}
 use Rattle.std.specs.Prelude.{[], ◌∷◌, ◌++◌, map, Option, Some, None, if◌then◌else◌}
 use Rattle.ps_base.specs.LetterCase.{is_same_name}
-use Rattle.ps_cases.specs.declared.case.Name.{Name}
+use Rattle.ps_terms.specs.declared.name.Name.{Name}
 use Rattle.ps_model.specs.Network.{Network}
 use Rattle.ps_watch.specs.Names.{all_names}
 use Rattle.ps_watch.specs.Shown.{label}

@@ -1,10 +1,10 @@
 -- What the wires of a run are about, and what they have in a scan.
 use Rattle.std.specs.Prelude.{ℕ, ◌==◌, not, List, [], ◌∷◌, Option, Some, None, nat_lt, if◌then◌else◌}
 use Rattle.std.specs.List.{flat_map}
-use Rattle.ps_cases.specs.declared.case.Name.{Name}
-use Rattle.ps_cases.specs.declared.case.Name.TheVariants as names
-use Rattle.ps_judge.specs.Moments.{Moment, is_stopped}
-use Rattle.ps_judge.specs.Named.{value_in}
+use Rattle.ps_terms.specs.declared.name.Name.{Name}
+use Rattle.ps_terms.specs.declared.name.Name.TheVariants as names
+use Rattle.ps_seen.specs.Moments.{Moment, is_stopped}
+use Rattle.ps_seen.specs.Named.{value_in}
 use Rattle.ps_model.specs.Network.{Network, instance_count, kind_at}
 use Rattle.ps_states.specs.States.{state_words}
 use Rattle.ps_vcd.specs.Values.{Held, shortened}

@@ -2,8 +2,8 @@
 use Rattle.std.specs.Prelude.{◌≡◌, ℕ, false, Bool, IsTrue, List, ◌++◌, length, Result}
 use Rattle.ps_bench_words.specs.declared.asking.Layout.{Layout}
 use Rattle.ps_bench_words.specs.declared.asking.Layout.TheVariants.{Text as AsText, Csv as AsCsv, Json as AsJson, Vcd}
-use Rattle.ps_cases.specs.declared.case.Name.{Name}
-use Rattle.ps_judge.specs.CaseRuns.{moments_of}
+use Rattle.ps_terms.specs.declared.name.Name.{Name}
+use Rattle.ps_seen.specs.Runs.{moments_of}
 use Rattle.ps_model.specs.Meaning.{Meaning, nothing}
 use Rattle.ps_model.specs.Network.{Network}
 use Rattle.ps_model.specs.Scanning.{State}

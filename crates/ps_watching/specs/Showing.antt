@@ -1,16 +1,17 @@
 -- What `watch` writes of a run.
-use Rattle.std.specs.Prelude.{◌≡◌, ◌⊎◌, ℕ, Bool, IsTrue, List, [], ◌++◌, Option, Some, None, Result, Ok, Err}
+use Rattle.std.specs.Prelude.{◌≡◌, ◌⊎◌, ℕ, Bool, IsTrue, List, ◌++◌, Option, Some, None, Result, Ok, Err}
 use Rattle.ps_base.specs.declared.failing.Refusal.{Refusal}
-use Rattle.ps_cases.specs.declared.case.Name.{Name}
+use Rattle.ps_terms.specs.declared.name.Name.{Name}
 use Rattle.ps_model.specs.declared.channel.Fault.{Fault}
-use Rattle.ps_model.specs.declared.channel.ImageSizes.{ImageSizes}
 use Rattle.ps_model.specs.Meaning.{Item, Meaning}
 use Rattle.ps_model.specs.Network.{Network}
 use Rattle.ps_model.specs.Scanning.{State}
 use Rattle.ps_report.specs.Short.{refusal_text}
 use Rattle.ps_runs.specs.Written.{IsBeginningOf}
 use Rattle.ps_top.specs.Program.{end_line, region_sizes}
-use Rattle.ps_trace.specs.Faults.{faults_of}
+use Rattle.ps_bench_base.specs.Opening.{Source}
+use Rattle.ps_traced.specs.Opening.{AreFaults}
+use Rattle.ps_traced.specs.Playing.{IsPlay}
 use Rattle.ps_trace.specs.Reading.{only_refused}
 use Rattle.ps_trace.specs.Scans.{End, Scans, scans_of}
 use Rattle.ps_trace.specs.Scans.End.{whole, refused}
@@ -20,12 +21,6 @@ use Rattle.ps_bench_base.specs.declared.ending.Input.TheVariants.{Trace}
 use Rattle.ps_bench_base.specs.declared.ending.InputStop.TheVariants.{Refused, Unread}
 use Rattle.ps_bench_base.specs.declared.ending.Stop.{Stop}
 use Rattle.ps_bench_base.specs.declared.ending.Stop.TheVariants.{Input, Unwritten}
-
--- the faults that strike: those of the file, where one is named, and else none
-abbrev pub AreFaults : (held : List ℕ → Option (List ℕ)) → ImageSizes → (file : Option (List ℕ)) → List Fault → Type 0
-AreFaults held sizes None faults = faults ≡ []
-AreFaults held sizes (Some name) faults =
-    (text : List ℕ) × (held name ≡ Some text) × (faults_of text sizes ≡ record { faults = faults; refusal = None })
 
 -- What was written of a run that has this text, and ends at the end of its trace or at a refusal, by how the call
 -- ended: the text, and the line of the refusal behind it; or a beginning of both, where a read or a write failed.
@@ -44,19 +39,17 @@ pub record Run : Type 0 where
   pub names : List Name
   pub faults : List Fault
 
--- What `watch` is asked of an application: the name of a trace, the words for what is watched, and the name of a fault
+-- What `watch` is asked of an application: the word in the place of a trace, the words for what is watched, and the name of a fault
 -- file, if faults are to strike.
 pub record Wanted : Type 0 where
   pub trace : List ℕ
   pub words : List (List ℕ)
   pub file : Option (List ℕ)
 
--- a run is the one that is wanted, where the files tell what they hold
-pub record IsWanted (net : Network) (by_default : List Name) (reading : Bool) (held : List ℕ → Option (List ℕ))
-    (wanted : Wanted) (run : Run) : Type 0 where
+-- a run is the one that is wanted, but for its trace and its faults
+pub record IsWanted (net : Network) (by_default : List Name) (wanted : Wanted) (run : Run) : Type 0 where
   pub world : IsSetupOf net run.setup
   pub names : AreWatched net by_default wanted.words run.names
-  pub faults : IsTrue reading → AreFaults held (region_sizes run.setup) wanted.file run.faults
 
 -- A run over the scans of a trace, with this text, was written, up to how the call ended: whichever states the scans
 -- mean, of which there is one list.
@@ -66,35 +59,41 @@ pub record Shows (net : Network) (text : List Item → List State → List ℕ) 
   pub written : IsTrue tells → after ≡ before ++ bytes
   pub ends : (ws : List State) → Meaning net scans.items ws → EndsRun (text scans.items ws) scans.end bytes ended
 
--- the trace that is held is run, and what is to be written of it was, up to how the call ended
-abbrev pub ShowsHeld : Network → (text : List Item → List State → List ℕ) → (held : Option (List ℕ)) → (tells : Bool) →
-    (before after : List ℕ) → Result (Unit {0}) Stop → Type 0
-ShowsHeld net text held tells before after ended =
-    (trace : List ℕ) × (held ≡ Some trace) × Shows net text (scans_of trace net) tells before after ended
-
--- the header of the trace that is held is refused: nothing was written but the line of the refusal
-abbrev pub RefusesHeader : Network → (held : Option (List ℕ)) → Refusal → (tells : Bool) →
-    (before after : List ℕ) → Type 0
-RefusesHeader net held refusal tells before after =
-    (trace : List ℕ) × (held ≡ Some trace) × (scans_of trace net ≡ only_refused refusal)
-    × (IsTrue tells → after ≡ before ++ refusal_text refusal)
+-- the header of a trace is refused: nothing was written but the line of the refusal
+abbrev pub RefusesHeader : Network → (trace : List ℕ) → Refusal → (tells : Bool) → (before after : List ℕ) → Type 0
+RefusesHeader net trace refusal tells before after =
+    (scans_of trace net ≡ only_refused refusal) × (IsTrue tells → after ≡ before ++ refusal_text refusal)
 
 -- a run came to the end of its trace, or to a line of it that is refused
 abbrev pub IsRunEnd : Result (Unit {0}) Stop → Type 0
 IsRunEnd ended = (ended ≡ Ok tt) ⊎ (refusal : Refusal) × (ended ≡ Err (Input (Refused Trace refusal)))
 
--- What came of the run of a trace: it was made, up to its end or to the refusal of a line; or its header is refused.
-abbrev pub ComesOf : Network → (text : List Item → List State → List ℕ) → (held : Option (List ℕ)) → (tells : Bool) →
+-- What came of the run of this trace: it was made, up to its end or to the refusal of a line; or its header is refused.
+abbrev pub ComesOf : Network → (text : List Item → List State → List ℕ) → (trace : List ℕ) → (tells : Bool) →
     (before after : List ℕ) → Result (Unit {0}) Stop → Type 0
-ComesOf net text held tells before after ended =
-    ShowsHeld net text held tells before after ended
+ComesOf net text trace tells before after ended =
+    Shows net text (scans_of trace net) tells before after ended
     ⊎ (refusal : Refusal) × (ended ≡ Err (Input (Refused Trace refusal)))
-    × RefusesHeader net held refusal tells before after
+    × RefusesHeader net trace refusal tells before after
 
--- the same of a run that is wanted
-abbrev pub ComesOfRun : Network → (text : Run → List Item → List State → List ℕ) → (by_default : List Name) →
-    (reading : Bool) (held : List ℕ → Option (List ℕ)) → Wanted → (tells : Bool) → (before after : List ℕ) →
-    Result (Unit {0}) Stop → Type 0
-ComesOfRun net text by_default reading held wanted tells before after ended =
-    IsRunEnd ended → (run : Run) × IsWanted net by_default reading held wanted run
-    × (IsTrue reading → ComesOf net (text run) (held wanted.trace) tells before after ended)
+-- the same of the trace that is held
+abbrev pub ComesOfHeld : Network → (text : List Item → List State → List ℕ) → (held : Option (List ℕ)) → (tells : Bool) →
+    (before after : List ℕ) → Result (Unit {0}) Stop → Type 0
+ComesOfHeld net text held tells before after ended =
+    (trace : List ℕ) × (held ≡ Some trace) × ComesOf net text trace tells before after ended
+
+-- the same of what a word means in the place of a trace, where the faults strike that are wanted, or else those that it
+-- brings
+abbrev pub ComesOfPlay : Source → (text : List Item → List State → List ℕ) → Wanted → Run → (tells : Bool) →
+    (before after : List ℕ) → Result (Unit {0}) Stop → Type 0
+ComesOfPlay from text wanted run tells before after ended =
+    (trace : List ℕ) × (brought : List Fault) × IsPlay from wanted.trace trace brought
+    × AreFaults from.held (region_sizes run.setup) wanted.file brought run.faults
+    × ComesOf from.net text trace tells before after ended
+
+-- the same of a run that is wanted, where the files tell
+abbrev pub ComesOfRun : Source → (text : Run → List Item → List State → List ℕ) → (by_default : List Name) → Wanted →
+    (tells : Bool) → (before after : List ℕ) → Result (Unit {0}) Stop → Type 0
+ComesOfRun from text by_default wanted tells before after ended =
+    IsRunEnd ended → (run : Run) × IsWanted from.net by_default wanted run
+    × (IsTrue from.tells → ComesOfPlay from (text run) wanted run tells before after ended)

@@ -1,4 +1,4 @@
--- How a call ends that is refused what a run is made of, and one whose run came to its end.
+-- How a call ends whose run came to its end.
 use Rattle.std.specs.Prelude.{◌≡◌, ◌⊎◌, ℕ, Bool, IsTrue, List, ◌++◌, take, Result}
 use Rattle.ps_base.specs.declared.failing.Refusal.{Refusal}
 use Rattle.ps_report.specs.Short.{refusal_text}
@@ -10,12 +10,6 @@ use Rattle.ps_bench_base.specs.declared.ending.Input.{Input}
 use Rattle.ps_bench_base.specs.declared.ending.InputStop.TheVariants.{Refused}
 use Rattle.ps_bench_base.specs.declared.ending.Stop.{Stop}
 use Rattle.ps_bench_base.specs.declared.ending.Stop.TheVariants.{Input as StopsAt, Unwritten}
-
--- the line of a refusal was written, or a beginning of it, and the call stops by that
-abbrev pub SaysRefusal : Input → Refusal → (tells : Bool) → (before after : List ℕ) → Stop → Type 0
-SaysRefusal input refusal tells before after stop =
-    ((stop ≡ StopsAt (Refused input refusal)) × (IsTrue tells → after ≡ before ++ refusal_text refusal))
-    ⊎ ((stop ≡ Unwritten) × (n : ℕ) × (IsTrue tells → after ≡ before ++ take n (refusal_text refusal)))
 
 -- Behind a run that ended so a call wrote more, and ended.
 pub record EndsBehind (ran : Result (Unit {0}) Cut) (tells : Bool) (before after : List ℕ)

@@ -1,7 +1,7 @@
 -- What the wires of a run are called.
 use Rattle.std.specs.Prelude.{ℕ, List, Option, Some, None, codes}
 use Rattle.std.specs.Path.{rsplit_once}
-use Rattle.ps_cases.specs.declared.case.Name.TheVariants as names
+use Rattle.ps_terms.specs.declared.name.Name.TheVariants as names
 use Rattle.ps_model.specs.Network.{Network}
 use Rattle.ps_vcd.specs.declared.wire.Shape.{Shape}
 use Rattle.ps_vcd.specs.declared.wire.Shape.TheVariants as shape

@@ -1,17 +1,17 @@
 // Who writes the value changes of a run.
 
 ghost use Rattle.std.specs.Prelude.{◌≡◌, IfOk, map, length, false};
-ghost use Rattle.ps_judge.specs.Moments.{moment_of};
+ghost use Rattle.ps_seen.specs.Moments.{moment_of};
 ghost use Rattle.ps_vcd.specs.Dumping.{has_begun, wire_count};
 ghost use Rattle.ps_vcd.specs.Values.{held};
 ghost use Rattle.ps_watching.specs.Parts.{part_held};
 
 use crate::parts::{Count, Part, value_of_part};
 use ps_base::Memory;
-use ps_judge::Seen;
 use ps_model::{App, Report, Verdict};
 use ps_outside::{Sink, Stopped};
 use ps_runs::{StruckWorld, Taker, Watched};
+use ps_seen::Seen;
 use ps_vcd::{Dump, Value};
 use std::alloc::Global;
 

@@ -9,8 +9,8 @@ ghost use Rattle.ps_watching.specs.Naming.{Adds, AreWatched, HasUnnamed, called_
 
 use ps_base::Memory;
 use ps_bench_words::Layout;
-use ps_cases::Name;
 use ps_model::App;
+use ps_terms::Name;
 use ps_watch::{Format, all_names, default_names, label_of};
 use std::alloc::Global;
 

@@ -1,17 +1,17 @@
 // What the wires of a run are about, one for each.
 
 ghost use Rattle.std.specs.Prelude.{◌≡◌, ◌++◌, IfOk, OnOk, map};
-ghost use Rattle.ps_judge.specs.Moments.{is_stopped, moment_of};
+ghost use Rattle.ps_seen.specs.Moments.{is_stopped, moment_of};
 ghost use Rattle.ps_states.specs.States as states;
 ghost use Rattle.ps_vcd.specs.Values.{held};
 ghost use Rattle.ps_watching.specs.Parts as wires;
 ghost use Rattle.ps_watching.specs.Parts.{part_held, parts_of_name, state_text, text_of};
 
 use ps_base::Memory;
-use ps_cases::Name;
-use ps_judge::{Seen, value_of};
 use ps_model::{App, Kind, Verdict};
+use ps_seen::{Seen, value_of};
 use ps_states::state_words;
+use ps_terms::Name;
 use ps_vcd::Value;
 use std::alloc::Global;
 

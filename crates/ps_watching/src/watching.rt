@@ -3,7 +3,9 @@
 ghost use Rattle.std.specs.Prelude.{◌≡◌, ◌≢◌, ◌≤◌, ◌⊎◌, ℕ, List, IsTrue, Some, Err, option_map};
 ghost use Rattle.std.specs.Prelude.{IfOk, IfErr, IsErrOf, OnOk};
 ghost use Rattle.ps_base.specs.declared.failing.Refusal.{Refusal as RefusalOf};
-ghost use Rattle.ps_bench_base.specs.Ending.{IsUnread};
+ghost use Rattle.ps_bench_base.specs.Ending.{IsOfRun, IsUnread};
+ghost use Rattle.ps_bench_base.specs.Meant.{file_meant};
+ghost use Rattle.ps_bench_base.specs.Opening.{source};
 ghost use Rattle.ps_bench_words.specs.Seen.{seen};
 ghost use Rattle.ps_bench_words.specs.declared.asking.Layout.{Layout as LayoutOf};
 ghost use Rattle.ps_bench_words.specs.declared.asking.Layout.TheVariants.{Vcd};
@@ -11,29 +13,32 @@ ghost use Rattle.ps_model.specs.Network.{input_count};
 ghost use Rattle.ps_outside.specs.Outside.{Rose};
 ghost use Rattle.ps_model.specs.Typing.{Accepted};
 ghost use Rattle.ps_runs.specs.Running.{IsBeginning};
+ghost use Rattle.ps_trace.specs.FaultOrder.{AreInOrder, AreOfOneChannel};
 ghost use Rattle.ps_trace.specs.Reading.{IsReadingTrace, file_of, input_count_of, items_left};
 ghost use Rattle.ps_top.specs.Program.{region_sizes};
-ghost use Rattle.ps_watching.specs.Asking.{AnswersIn, AnswersWatch, IsRisen, RosesIn, StopsWatch};
+ghost use Rattle.ps_traced.specs.Opening.{AreFaults, RosesIn};
+ghost use Rattle.ps_traced.specs.Playing.{MeansPlay, trace_held};
+ghost use Rattle.ps_watching.specs.Asking.{AnswersIn, AnswersWatch, IsRisen, StopsWatch};
 ghost use Rattle.ps_watching.specs.Asking.{default_in, head_in, text_in, wanted_by};
 ghost use Rattle.ps_watching.specs.Naming.{AreWatched};
 ghost use Rattle.ps_watching.specs.Prepared.{IsPlayerFor, IsPlayerOf, IsPrepared, layout_of, performer_of};
-ghost use Rattle.ps_watching.specs.Showing.{AreFaults, ComesOf, ComesOfRun, IsRunEnd, Run, Shows};
+ghost use Rattle.ps_watching.specs.Showing.{ComesOfHeld, ComesOfRun, IsRunEnd, Run, Shows};
 ghost use Rattle.ps_watching.specs.Stopping.{EndsBehind};
 
 use crate::naming::watched_names;
-use crate::opening::{open_faults, open_trace, refuse};
 use crate::parts::parts_of;
 use crate::player::{Player, changes_of, lines_of};
 use crate::wires::wires_of;
 use ps_base::{Bytes, Memory};
-use ps_bench_base::{Input, InputStop, Status, Stop, open_app, tell_no_name};
+use ps_bench_base::{Input, InputStop, Opened, Status, Stop, open_app, tell_no_name, word_of};
 use ps_bench_words::Layout;
-use ps_cases::Name;
 use ps_edge::Listener;
 use ps_model::App;
 use ps_outside::{Files, Output, write_all};
 use ps_runs::{Cut, StruckWorld};
-use ps_trace::TraceReader;
+use ps_terms::Name;
+use ps_trace::{Faults, TraceReader};
+use ps_traced::{Expansion, Play, open_faults, open_play, open_trace, refuse_input};
 use ps_vcd::header_of;
 use ps_watch::{Format, head_of};
 use ps_world::World;
@@ -44,7 +49,7 @@ use std::alloc::Global;
 pub struct Asked<'a> {
     /// The name of the application.
     pub app: &'a str,
-    /// The name of the trace.
+    /// The word in the place of a trace.
     pub trace: &'a str,
     /// What is to be watched; none: what the format has by default.
     pub names: &'a [&'a str],
@@ -126,13 +131,14 @@ fn prepare(
 // Why a call stops whose run was cut short.
 fn stop_behind<O: Output>(out: &mut O, cut: Cut) -> Stop
     ensures ends { EndsBehind (Err cut) (O.tells out.old) (O.taken out.old) (O.taken out.new) (Err result) }
+    ensures of_run { IsOfRun result }
     ensures unread { IsUnread result → cut ≡ Cut.Unread }
     ensures unwritten { result ≡ Stop.Unwritten → (cut ≡ Cut.Unwritten) ⊎ Rose (O.faults out.old) (O.faults out.new) }
     ensures writes { O.faults out.old ≤ O.faults out.new }
     ensures telling { O.tells out.new ≡ O.tells out.old }
 {
     match cut {
-        Cut::Refused(refusal) => refuse(out, Input::Trace, refusal),
+        Cut::Refused(refusal) => refuse_input(out, Input::Trace, refusal),
         Cut::Unread => Stop::Input(InputStop::Unread(Input::Trace)),
         Cut::Unwritten => Stop::Unwritten,
     }
@@ -141,6 +147,7 @@ fn stop_behind<O: Output>(out: &mut O, cut: Cut) -> Stop
 // How a call ends whose run ended so.
 fn ended<O: Output>(out: &mut O, ran: Result<(), Cut>) -> Result<(), Stop>
     ensures ends { EndsBehind ran (O.tells out.old) (O.taken out.old) (O.taken out.new) result }
+    ensures of_run { IfErr result IsOfRun }
     ensures unread { IfErr result (λ stop. IsUnread stop → ran ≡ Err Cut.Unread) }
     ensures unwritten { IsErrOf result Stop.Unwritten →
         (ran ≡ Err Cut.Unwritten) ⊎ Rose (O.faults out.old) (O.faults out.new) }
@@ -169,6 +176,7 @@ fn show<F: Files, O: Output>(
         (layout : LayoutOf) (run : Run) → IsPrepared app.now layout run prepared.old →
         Shows app.now (text_in app.now layout run) (items_left trace.old text) (O.tells out.old) (O.taken out.old)
         (O.taken out.new) result }
+    ensures of_run { IfErr result IsOfRun }
     ensures unread { IfErr result (λ stop. IsUnread stop →
         Rose (F.faults files.old (file_of trace.old)) (F.faults files.new (file_of trace.old))) }
     ensures unwritten { IsErrOf result Stop.Unwritten → Rose (O.faults out.old) (O.faults out.new) }
@@ -198,8 +206,9 @@ fn show_named<F: Files, O: Output>(
     requires first { (performer_of prepared.old.player).performer.world.state.last ≡ 0 }
     ensures comes { IsTrue (F.tells files.old) → (layout : LayoutOf) (run : Run) →
         IsPrepared app.now layout run prepared.old → IsRunEnd result →
-        ComesOf app.now (text_in app.now layout run) (F.held files.old name.now) (O.tells out.old) (O.taken out.old)
-        (O.taken out.new) result }
+        ComesOfHeld app.now (text_in app.now layout run) (F.held files.old name.now) (O.tells out.old)
+        (O.taken out.old) (O.taken out.new) result }
+    ensures of_run { IfErr result IsOfRun }
     ensures unread { IfErr result (λ stop. IsUnread stop →
         Rose (F.faults files.old name.now) (F.faults files.new name.now)) }
     ensures unwritten { IsErrOf result Stop.Unwritten → Rose (O.faults out.old) (O.faults out.new) }
@@ -213,19 +222,55 @@ fn show_named<F: Files, O: Output>(
     }
 }
 
-// The world of an application before the first scan, which the faults of a file will strike, if one is named.
+// Makes the run of the trace of these cases, or else of the file that a word names, and writes what is watched of it.
+fn show_play<F: Files, O: Output>(
+    alloc: Global,
+    files: &mut F,
+    out: &mut O,
+    app: &App,
+    word: &str,
+    cases: Option<Expansion>,
+    prepared: &mut Prepared,
+) -> Result<(), Stop>
+    requires fits { IsPlayerFor app.now prepared.old.player }
+    requires first { (performer_of prepared.old.player).performer.world.state.last ≡ 0 }
+    ensures comes { IsTrue (F.tells files.old) → (layout : LayoutOf) (run : Run) →
+        IsPrepared app.now layout run prepared.old → IsRunEnd result →
+        ComesOfHeld app.now (text_in app.now layout run) (trace_held cases (F.held files.old (file_meant word.now)))
+        (O.tells out.old) (O.taken out.old) (O.taken out.new) result }
+    ensures of_run { IfErr result IsOfRun }
+    ensures unread { IfErr result (λ stop. IsUnread stop →
+        Rose (F.faults files.old (file_meant word.now)) (F.faults files.new (file_meant word.now))) }
+    ensures unwritten { IsErrOf result Stop.Unwritten → Rose (O.faults out.old) (O.faults out.new) }
+    ensures reads { (other : List ℕ) → F.faults files.old other ≤ F.faults files.new other }
+    ensures writes { O.faults out.old ≤ O.faults out.new }
+    ensures telling { O.tells out.new ≡ O.tells out.old }
+{
+    let word = word_of(word);
+    match cases {
+        Some(mut cases) => show_named(alloc, &mut cases, out, app, word.file, prepared),
+        None => show_named(alloc, files, out, app, word.file, prepared),
+    }
+}
+
+// The world of an application before the first scan, which faults will strike: those of a file, if one is named, and
+// else these.
 fn struck_world<F: Files, O: Output>(
     alloc: Global,
     files: &mut F,
     out: &mut O,
     app: &App,
     name: Option<&str>,
+    brought: Faults,
 ) -> Result<StruckWorld, Stop>
-    requires { Accepted app.now }
+    requires accepted { Accepted app.now }
+    requires ordered { AreInOrder brought }
+    requires one_channel { AreOfOneChannel brought }
     ensures begins { IfOk result (IsBeginning app.now) }
     ensures faults { IsTrue (F.tells files.old) → IfOk result (λ world. AreFaults (F.held files.old)
-        (region_sizes world.world.setup) (option_map (λ n. n.now) name.entry) world.faults) }
+        (region_sizes world.world.setup) (option_map (λ n. n.now) name.entry) brought world.faults) }
     ensures unsaid { OnOk result (O.taken out.new ≡ O.taken out.old) }
+    ensures of_run { IfErr result IsOfRun }
     ensures of_faults { (refusal : RefusalOf) → result ≢ Err (Stop.Input (InputStop.Refused Input.Trace refusal)) }
     ensures unread { IfErr result (λ stop. IsUnread stop →
         RosesIn (F.faults files.old) (F.faults files.new) (option_map (λ n. n.now) name.entry)) }
@@ -237,24 +282,32 @@ fn struck_world<F: Files, O: Output>(
     ensures telling { O.tells out.new ≡ O.tells out.old }
 {
     let world = World::build(alloc, app)?;
-    let faults = open_faults(alloc, files, out, name, &world.sizes())?;
+    let faults = open_faults(alloc, files, out, name, &world.sizes(), brought)?;
     Ok(StruckWorld::new(world, faults))
 }
 
-// Writes what is watched, of these names, of the run that is asked for.
-fn watch_names<F: Files, O: Output>(
+// Writes what is watched, of these names, of the run that is asked for, where the word for its trace means this.
+fn watch_play<F: Files, O: Output>(
     alloc: Global,
     files: &mut F,
     out: &mut O,
-    app: &App,
+    opened: &Opened,
     asked: &Asked<'_>,
     names: &[Name],
+    play: Play,
 ) -> Result<(), Stop>
-    requires accepted { Accepted app.now }
-    requires names { AreWatched app.now (default_in app.now asked.now.layout) (seen asked.now.names.now) names.now }
-    ensures comes { ComesOfRun app.now (text_in app.now asked.now.layout) (default_in app.now asked.now.layout)
-        (F.tells files.old) (F.held files.old) (wanted_by asked.now) (O.tells out.old) (O.taken out.old)
-        (O.taken out.new) result }
+    requires accepted { Accepted opened.now.app }
+    requires names { AreWatched opened.now.app (default_in opened.now.app asked.now.layout)
+        (seen asked.now.names.now) names.now }
+    requires means { MeansPlay
+        (source opened.now.app opened.now.sizes (F.tells files.old) (F.held files.old)) asked.now.trace.now
+        play.cases play.faults }
+    requires ordered { AreInOrder play.faults }
+    requires one_channel { AreOfOneChannel play.faults }
+    ensures comes { ComesOfRun (source opened.now.app opened.now.sizes (F.tells files.old) (F.held files.old))
+        (text_in opened.now.app asked.now.layout) (default_in opened.now.app asked.now.layout) (wanted_by asked.now)
+        (O.tells out.old) (O.taken out.old) (O.taken out.new) result }
+    ensures of_run { IfErr result IsOfRun }
     ensures unread { IfErr result (λ stop. IsUnread stop →
         IsRisen (wanted_by asked.now) (F.faults files.old) (F.faults files.new)) }
     ensures unwritten { IsErrOf result Stop.Unwritten → Rose (O.faults out.old) (O.faults out.new) }
@@ -262,28 +315,63 @@ fn watch_names<F: Files, O: Output>(
     ensures writes { O.faults out.old ≤ O.faults out.new }
     ensures telling { O.tells out.new ≡ O.tells out.old }
 {
-    let world = match struck_world(alloc, files, out, app, asked.faults) {
+    let Play { cases, faults } = play;
+    let app = &opened.app;
+    let world = match struck_world(alloc, files, out, app, asked.faults, faults) {
         Ok(world) => world,
         Err(stop) => return Err(stop),
     };
     match prepare(alloc, app, asked.layout, names, world) {
-        Ok(mut prepared) => show_named(alloc, files, out, app, asked.trace, &mut prepared),
+        Ok(mut prepared) => { show_play(alloc, files, out, app, asked.trace, cases, &mut prepared) }
         Err(Memory) => Err(Stop::NoMemory),
     }
 }
 
-// Writes what is watched of the run that is asked for, of an application; or tells which word names nothing.
+// Writes what is watched, of these names, of the run that is asked for; or tells that no case has the line that is
+// asked for.
+fn watch_names<F: Files, O: Output, L: Listener>(
+    alloc: Global,
+    files: &mut F,
+    out: &mut O,
+    listener: &mut L,
+    opened: &Opened,
+    asked: &Asked<'_>,
+    names: &[Name],
+) -> Result<Status, Stop>
+    requires accepted { Accepted opened.now.app }
+    requires names { AreWatched opened.now.app (default_in opened.now.app asked.now.layout)
+        (seen asked.now.names.now) names.now }
+    ensures answers { AnswersIn (source opened.now.app opened.now.sizes (F.tells files.old) (F.held files.old))
+        asked.now.layout (wanted_by asked.now) (O.tells out.old) (O.taken out.old) (O.taken out.new) result }
+    ensures unread { IfErr result (λ stop. IsUnread stop →
+        IsRisen (wanted_by asked.now) (F.faults files.old) (F.faults files.new)) }
+    ensures unwritten { IsErrOf result Stop.Unwritten → Rose (O.faults out.old) (O.faults out.new) }
+    ensures reads { (other : List ℕ) → F.faults files.old other ≤ F.faults files.new other }
+    ensures writes { O.faults out.old ≤ O.faults out.new }
+    ensures telling { O.tells out.new ≡ O.tells out.old }
+{
+    match open_play(alloc, files, out, listener, opened, asked.trace) {
+        Ok(Some(play)) => match watch_play(alloc, files, out, opened, asked, names, play) {
+            Ok(()) => Ok(Status::Done),
+            Err(stop) => Err(stop),
+        },
+        Ok(None) => Ok(Status::Usage),
+        Err(stop) => Err(stop),
+    }
+}
+
+// Writes what is watched of the run that is asked for, of an application; or tells which word means nothing.
 fn watch_app<F: Files, O: Output, L: Listener>(
     alloc: Global,
     files: &mut F,
     out: &mut O,
     listener: &mut L,
-    app: &App,
+    opened: &Opened,
     asked: &Asked<'_>,
 ) -> Result<Status, Stop>
-    requires { Accepted app.now }
-    ensures answers { AnswersIn app.now asked.now.layout (wanted_by asked.now) (F.tells files.old)
-        (F.held files.old) (O.tells out.old) (O.taken out.old) (O.taken out.new) result }
+    requires { Accepted opened.now.app }
+    ensures answers { AnswersIn (source opened.now.app opened.now.sizes (F.tells files.old) (F.held files.old))
+        asked.now.layout (wanted_by asked.now) (O.tells out.old) (O.taken out.old) (O.taken out.new) result }
     ensures unread { IfErr result (λ stop. IsUnread stop →
         IsRisen (wanted_by asked.now) (F.faults files.old) (F.faults files.new)) }
     ensures unwritten { IsErrOf result Stop.Unwritten → Rose (O.faults out.old) (O.faults out.new) }
@@ -291,11 +379,8 @@ fn watch_app<F: Files, O: Output, L: Listener>(
     ensures writes { O.faults out.old ≤ O.faults out.new }
     ensures telling { O.tells out.new ≡ O.tells out.old }
 {
-    match watched_names(alloc, app, asked.layout, asked.names)? {
-        Ok(names) => match watch_names(alloc, files, out, app, asked, names.as_slice()) {
-            Ok(()) => Ok(Status::Done),
-            Err(stop) => Err(stop),
-        },
+    match watched_names(alloc, &opened.app, asked.layout, asked.names)? {
+        Ok(names) => watch_names(alloc, files, out, listener, opened, asked, names.as_slice()),
         Err(word) => {
             tell_no_name(alloc, listener, asked.app, word);
             Ok(Status::Usage)
@@ -304,12 +389,13 @@ fn watch_app<F: Files, O: Output, L: Listener>(
 }
 
 /// `watch APP TRACE [NAME..]`: writes what is watched of the run of a trace, where the faults of a file strike it if
-/// one is named.
+/// one is named. In the place of a trace may stand a case file, for the trace of all of its cases, or a case file and
+/// a line of it, for the case that has this line: then its own faults strike where no fault file is named.
 ///
-/// The status is Done where the run was written to the end of its trace, and Usage where a word names nothing: that is
-/// told, and nothing is written. Where the application, the faults or the header of the trace are refused, the line of
-/// the refusal is written in their place, and where a later line of the trace is, behind what comes before it. The run
-/// takes no memory.
+/// The status is Done where the run was written to the end of its trace, and Usage where a word names nothing, or a
+/// line in no case: that is told, and nothing is written. Where the application, the case file, the faults or the
+/// header of the trace are refused, the line of the refusal is written in their place, and where a later line of the
+/// trace is, behind what comes before it. The run takes no memory.
 pub fn watch<F: Files, O: Output, L: Listener>(
     alloc: Global,
     files: &mut F,
@@ -329,7 +415,7 @@ pub fn watch<F: Files, O: Output, L: Listener>(
     ensures telling { O.tells out.new ≡ O.tells out.old }
 {
     match open_app(alloc, files, out, asked.app) {
-        Ok(opened) => watch_app(alloc, files, out, listener, &opened.app, asked),
+        Ok(opened) => watch_app(alloc, files, out, listener, &opened, asked),
         Err(stop) => Err(stop),
     }
 }

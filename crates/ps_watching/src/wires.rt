@@ -1,14 +1,14 @@
 // What the wires of a run are called.
 
 ghost use Rattle.std.specs.Prelude.{◌≡◌, IfOk, map};
-ghost use Rattle.ps_cases.specs.declared.case.Name.TheVariants as names;
+ghost use Rattle.ps_terms.specs.declared.name.Name.TheVariants as names;
 ghost use Rattle.ps_watch.specs.Shown.{label};
 ghost use Rattle.ps_watching.specs.Wires as wires;
 
 use crate::parts::Part;
 use ps_base::{Label, Memory};
-use ps_cases::Name;
 use ps_model::App;
+use ps_terms::Name;
 use ps_vcd::{Shape, Wire};
 use ps_watch::label_of;
 use std::alloc::Global;

@@ -1,7 +1,7 @@
 use Rattle.std.proofs.Common.{◌∙◌, ap, sym}
 use Rattle.std.proofs.Math.ListN.{set}
 use Rattle.std.proofs.lemmas.List.Edits.{map_over_more}
-use Rattle.ps_judge.specs.Moments.{moment_of}
+use Rattle.ps_seen.specs.Moments.{moment_of}
 use Rattle.ps_watch.specs.Room.{renewed}
 use Rattle.ps_watch.specs.declared.column.Column.{Column}
 use Rattle.ps_watch.proofs.column.renew.Goals as goal

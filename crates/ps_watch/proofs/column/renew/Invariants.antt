@@ -1,5 +1,5 @@
 use Rattle.std.proofs.Common.{◌≡◌, ◌++◌, map, take, drop}
-use Rattle.ps_judge.specs.Moments.{moment_of}
+use Rattle.ps_seen.specs.Moments.{moment_of}
 use Rattle.ps_watch.specs.Room.{renewed}
 use Rattle.ps_watch.proofs.column.renew.Given as goal
 

@@ -1,6 +1,6 @@
 use Rattle.std.proofs.Common.{◌∙◌, ◌++◌, List, ap, sym, append_assoc}
 use Rattle.std.specs.List.{flat_map, range_with_len}
-use Rattle.ps_cases.specs.declared.case.Name.{Name}
+use Rattle.ps_terms.specs.declared.name.Name.{Name}
 use Rattle.ps_watch.specs.Names.{pin_of}
 use Rattle.ps_watch.proofs.Ranges.{flat_map_more}
 use Rattle.ps_watch.proofs.names.add_pins.Goals as goal

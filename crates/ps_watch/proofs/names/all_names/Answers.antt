@@ -1,8 +1,8 @@
 use Rattle.std.proofs.Common.{◌∙◌, ◌++◌, ◌∷◌, [], List, ap, sym, append_assoc, arith, map}
 use Rattle.std.specs.List.{flat_map, range_with_len}
 use Rattle.std.proofs.lemmas.List.FromFn.{map-range_with_len_more}
-use Rattle.ps_cases.specs.declared.case.Name.{Name}
-use Rattle.ps_cases.specs.declared.case.Name.TheVariants.{Signal}
+use Rattle.ps_terms.specs.declared.name.Name.{Name}
+use Rattle.ps_terms.specs.declared.name.Name.TheVariants.{Signal}
 use Rattle.ps_model.specs.Network.{declared_count}
 use Rattle.ps_watch.specs.Names.{names_of_instance}
 use Rattle.ps_watch.proofs.Ranges.{flat_map_more}

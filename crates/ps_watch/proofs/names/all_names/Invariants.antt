@@ -1,6 +1,6 @@
 use Rattle.std.proofs.Common.{◌≡◌, ◌++◌, map}
 use Rattle.std.specs.List.{flat_map, range_with_len}
-use Rattle.ps_cases.specs.declared.case.Name.TheVariants.{Signal}
+use Rattle.ps_terms.specs.declared.name.Name.TheVariants.{Signal}
 use Rattle.ps_model.specs.Network.{declared_count}
 use Rattle.ps_watch.specs.Names.{names_of_instance}
 use Rattle.ps_watch.proofs.names.all_names.Given as goal

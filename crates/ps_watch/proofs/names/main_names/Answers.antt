@@ -1,8 +1,8 @@
 use Rattle.std.proofs.Common.{◌∙◌, ◌++◌, ◌+◌, ◌∷◌, [], List, ap, sym, append_assoc, arith, length, map, refl}
 use Rattle.std.specs.List.{range_with_len}
 use Rattle.std.proofs.lemmas.List.FromFn.{map-range_with_len_more}
-use Rattle.ps_cases.specs.declared.case.Name.{Name}
-use Rattle.ps_cases.specs.declared.case.Name.TheVariants.{Code, Signal}
+use Rattle.ps_terms.specs.declared.name.Name.{Name}
+use Rattle.ps_terms.specs.declared.name.Name.TheVariants.{Code, Signal}
 use Rattle.ps_model.specs.Network.{input_count}
 use Rattle.ps_watch.proofs.names.main_names.Goals as goal
 

@@ -1,6 +1,6 @@
 use Rattle.std.proofs.Common.{◌≡◌, ◌++◌, length, map}
 use Rattle.std.specs.List.{range_with_len}
-use Rattle.ps_cases.specs.declared.case.Name.TheVariants.{Code, Signal}
+use Rattle.ps_terms.specs.declared.name.Name.TheVariants.{Code, Signal}
 use Rattle.ps_model.specs.Network.{input_count}
 use Rattle.ps_watch.proofs.names.main_names.Given as goal
 

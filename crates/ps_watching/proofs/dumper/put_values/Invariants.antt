@@ -1,5 +1,5 @@
 use Rattle.std.proofs.Common.{◌≡◌, map, length, take}
-use Rattle.ps_judge.specs.Moments.{moment_of}
+use Rattle.ps_seen.specs.Moments.{moment_of}
 use Rattle.ps_vcd.specs.Values.{held}
 use Rattle.ps_watching.specs.Parts.{part_held}
 use Rattle.ps_watching.proofs.dumper.put_values.Given as goal

@@ -1,6 +1,6 @@
 use Rattle.std.proofs.Common.{◌≡◌, Some, map, take}
 use Rattle.ps_bench_words.specs.Seen.{seen}
-use Rattle.ps_cases.specs.declared.case.Name.{Name}
+use Rattle.ps_terms.specs.declared.name.Name.{Name}
 use Rattle.ps_watching.specs.Naming.{name_called}
 use Rattle.ps_watching.proofs.naming.names_called.Given as goal
 

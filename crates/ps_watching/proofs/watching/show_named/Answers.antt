@@ -12,7 +12,7 @@ returns-in-Err-clause-comes g c = λ tells layout run prepared end.
     (λ refusal is.
     let refuses = c.open_trace.ensures.refuses refusal (c.in-Err.is ∙ ap Err is) in
     let held = refuses.0 tells in
-    (held.0, held.1, held.2, refuses.1)) end
+    (held.0, held.1, (held.2, refuses.1))) end
 
 pub returns-in-Ok-clause-comes : goal.returns-in-Ok-clause-comes
 returns-in-Ok-clause-comes g c = λ tells layout run prepared end.
@@ -23,11 +23,10 @@ returns-in-Ok-clause-comes g c = λ tells layout run prepared end.
     ((λ i. c.in-Ok.ensures.kept i (opened.file i)) ∙ opens.1) opens.2 layout run prepared in
     let left = items_left c.in-Ok.trace opens.0 in
     let T = text_in net layout run in
-    let after = g.O.Sink.taken c.show.new.out in
-    inl (
+    let after = g.O.Sink.taken c.show.new.out in (
       opens.0,
       opens.1,
-      subst (λ (s : Scans). Shows net T s (g.O.Sink.tells c.args.out.now) (g.O.Sink.taken c.args.out.now) after c.show.result) opens.3
+      inl (subst (λ (s : Scans). Shows net T s (g.O.Sink.tells c.args.out.now) (g.O.Sink.taken c.args.out.now) after c.show.result) opens.3
           (subst (λ (b : List ℕ). Shows net T left (g.O.Sink.tells c.args.out.now) b after c.show.result) c.in-Ok.ensures.unsaid
-          (subst (λ (t : Bool). Shows net T left t (g.O.Sink.taken c.open_trace.new.out) after c.show.result) c.in-Ok.ensures.telling shows)),
+          (subst (λ (t : Bool). Shows net T left t (g.O.Sink.taken c.open_trace.new.out) after c.show.result) c.in-Ok.ensures.telling shows))),
     )

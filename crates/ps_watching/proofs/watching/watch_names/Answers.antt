@@ -1,32 +1,25 @@
-use Rattle.std.proofs.Common.{ℕ, Bool, IsTrue, List, Option, sym, ap, subst}
-use Rattle.ps_runs.specs.declared.striking.StruckWorld.{StruckWorld}
-use Rattle.ps_watching.specs.Asking.{text_in}
-use Rattle.ps_watching.specs.Showing.{ComesOf, Run}
+use Rattle.std.proofs.Common.{Err, inl, inr, refl}
+use Rattle.ps_watching.specs.Asking.{default_in, text_in, wanted_by}
+use Rattle.ps_watching.proofs.Coming.{moved_run}
 use Rattle.ps_watching.proofs.watching.watch_names.Goals as goal
 
-pub returns-in-Ok-prepare-clause-comes : goal.returns-in-Ok-prepare-clause-comes
-returns-in-Ok-prepare-clause-comes g c = λ end.
-    let net = c.args.app.now in
-    let trace = c.args.asked.now.trace.now in
-    let world = c.in-Ok.world in
-    let run : Run = record { setup = world.world.setup; names = c.args.names.now; faults = world.faults } in
-    let T = text_in net c.args.asked.now.layout run in
-    let after = g.O.Sink.taken c.show_named.new.out in (
-      run,
-      record {
-        world = c.in-Ok.ensures.begins.world.setup;
-        names = c.requires.names;
-        faults = λ reading. c.in-Ok.ensures.faults reading;
-      },
-      λ reading.
-          subst (λ (held : List ℕ → Option (List ℕ)). ComesOf net T (held trace) (g.O.Sink.tells c.args.out.now) (g.O.Sink.taken c.args.out.now) after c.show_named.result) c.in-Ok.ensures.kept
-          (subst (λ (before : List ℕ). ComesOf net T (g.F.Files.held c.struck_world.new.files trace) (g.O.Sink.tells c.args.out.now) before after c.show_named.result) c.in-Ok.ensures.unsaid
-          (subst (λ (tells : Bool). ComesOf net T (g.F.Files.held c.struck_world.new.files trace) tells (g.O.Sink.taken c.struck_world.new.out) after c.show_named.result) c.in-Ok.ensures.telling
-          (c.show_named.ensures.comes (subst IsTrue (sym c.in-Ok.ensures.reading) reading) c.args.asked.now.layout run
-          (record {
-            head = c.in-Ok-prepare.ensures.head;
-            player = c.in-Ok-prepare.ensures.player;
-            setup = ap (λ (w : StruckWorld). w.world.setup) c.in-Ok-prepare.ensures.world;
-            faults = ap (λ (w : StruckWorld). w.faults) c.in-Ok-prepare.ensures.world;
-          }) end))),
+pub returns-in-Ok-clause-answers : goal.returns-in-Ok-clause-answers
+returns-in-Ok-clause-answers g c =
+    let net = c.args.opened.now.app in
+    let layout = c.args.asked.now.layout in
+    inl (
+      refl,
+      moved_run net c.args.opened.now.sizes (text_in net layout) (default_in net layout) (wanted_by c.args.asked.now) _ _ _ _ _ _ _ _ _ _
+          c.in-Ok-Some.ensures.reading c.in-Ok-Some.ensures.kept c.in-Ok-Some.ensures.telling c.in-Ok-Some.ensures.unsaid c.in-Ok.ensures.comes,
+    )
+
+pub returns-in-Err-watch_play-clause-answers : goal.returns-in-Err-watch_play-clause-answers
+returns-in-Err-watch_play-clause-answers g c =
+    let net = c.args.opened.now.app in
+    let layout = c.args.asked.now.layout in
+    inr (
+      c.in-Err-watch_play.ensures.of_run,
+      moved_run net c.args.opened.now.sizes (text_in net layout) (default_in net layout) (wanted_by c.args.asked.now) _ _ _ _ _ _ _ _ _ _
+          c.in-Ok-Some.ensures.reading c.in-Ok-Some.ensures.kept c.in-Ok-Some.ensures.telling c.in-Ok-Some.ensures.unsaid
+          c.in-Err-watch_play.ensures.comes,
     )

@@ -3,7 +3,7 @@ use Rattle.std.specs.Borrow.{Bor}
 use Rattle.std.specs.Prelude.{option_map}
 use Rattle.std.proofs.lemmas.Result.{IfOk-weaker}
 use Rattle.ps_watching.specs.Wires.{dot, parted_wire}
-use Rattle.ps_watching.proofs.Dots.{rsplit_once_char}
+use Rattle.ps_bench_base.proofs.Dots.{rsplit_once_char}
 use Rattle.ps_watching.proofs.wires.bit_wire.Goals as goal
 
 pub returns-in-Some : goal.returns-in-Some

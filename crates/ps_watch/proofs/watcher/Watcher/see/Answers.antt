@@ -1,4 +1,4 @@
-use Rattle.ps_judge.specs.Moments.{moment_of}
+use Rattle.ps_seen.specs.Moments.{moment_of}
 use Rattle.ps_watch.proofs.Renewing.{still_fits}
 use Rattle.ps_watch.proofs.watcher.Watcher.see.Goals as goal
 

@@ -3,7 +3,7 @@
 ghost use Rattle.std.specs.Prelude.{◌≡◌, ◌≢◌, ◌≤◌, ◌++◌, ℕ, List, IsTrue, Some, Err, option_map};
 ghost use Rattle.std.specs.Prelude.{IfOk, IfErr, IsErrOf, OnOk};
 ghost use Rattle.ps_base.specs.declared.failing.Refusal.{Refusal as RefusalOf};
-ghost use Rattle.ps_bench_base.specs.Ending.{IsUnread};
+ghost use Rattle.ps_bench_base.specs.Ending.{IsOfRun, IsUnread};
 ghost use Rattle.ps_bench_base.specs.declared.ending.Input.{Input as InputOf};
 ghost use Rattle.ps_outside.specs.Outside.{Rose};
 ghost use Rattle.ps_report.specs.Short.{refusal_text};
@@ -11,9 +11,7 @@ ghost use Rattle.ps_top.specs.Opening.{IsOpened};
 ghost use Rattle.ps_trace.specs.FaultOrder.{AreInOrder, AreOfOneChannel};
 ghost use Rattle.ps_trace.specs.Reading.{IsReadingTrace, items_left, only_refused};
 ghost use Rattle.ps_trace.specs.Scans.{scans_of};
-ghost use Rattle.ps_watching.specs.Asking.{RosesIn};
-ghost use Rattle.ps_watching.specs.Showing.{AreFaults};
-ghost use Rattle.ps_watching.specs.Stopping.{SaysRefusal};
+ghost use Rattle.ps_traced.specs.Opening.{AreFaults, RosesIn, SaysRefusal};
 
 use ps_base::Refusal;
 use ps_bench_base::{Input, InputStop, Stop};
@@ -24,9 +22,10 @@ use ps_trace::{Faults, TraceReader, read_faults};
 use std::alloc::Global;
 
 /// Ends a call at a refusal of what a run is made of: its line is written.
-pub(crate) fn refuse<O: Output>(out: &mut O, input: Input, refusal: Refusal) -> Stop
+pub fn refuse_input<O: Output>(out: &mut O, input: Input, refusal: Refusal) -> Stop
     ensures telling { O.tells out.new ≡ O.tells out.old }
     ensures says { SaysRefusal input refusal (O.tells out.old) (O.taken out.old) (O.taken out.new) result }
+    ensures of_run { IsOfRun result }
     ensures read { ¬ IsUnread result }
     ensures unwritten { result ≡ Stop.Unwritten → Rose (O.faults out.old) (O.faults out.new) }
     ensures writes { O.faults out.old ≤ O.faults out.new }
@@ -40,6 +39,7 @@ pub(crate) fn refuse<O: Output>(out: &mut O, input: Input, refusal: Refusal) -> 
 // Ends a call that gets nothing of what a run is made of.
 fn end_without<O: Output>(out: &mut O, input: Input, why: TextFail) -> Stop
     ensures telling { O.tells out.new ≡ O.tells out.old }
+    ensures of_run { IsOfRun result }
     ensures of_input { (other : InputOf) (refusal : RefusalOf) →
         result ≡ Stop.Input (InputStop.Refused other refusal) → other ≡ input }
     ensures unread { IsUnread result → why ≡ TextFail.Fault }
@@ -50,26 +50,30 @@ fn end_without<O: Output>(out: &mut O, input: Input, why: TextFail) -> Stop
         × (IsTrue (O.tells out.old) → O.taken out.new ≡ O.taken out.old ++ refusal_text refusal) }
 {
     match why {
-        TextFail::Refused(refusal) => refuse(out, input, refusal),
+        TextFail::Refused(refusal) => refuse_input(out, input, refusal),
         TextFail::Fault => Stop::Input(InputStop::Unread(input)),
         TextFail::Memory => Stop::NoMemory,
     }
 }
 
-/// The faults of the file of this name, or none where no file is named. Where the file is refused the line of the
-/// refusal is written.
-pub(crate) fn open_faults<F: Files, O: Output>(
+/// The faults that strike in a run: those of the file of this name, or those that are brought where no file is named.
+/// Where the file is refused the line of the refusal is written.
+pub fn open_faults<F: Files, O: Output>(
     alloc: Global,
     files: &mut F,
     out: &mut O,
     name: Option<&str>,
     sizes: &ImageSizes,
+    brought: Faults,
 ) -> Result<Faults, Stop>
+    requires ordered { AreInOrder brought }
+    requires one_channel { AreOfOneChannel brought }
     ensures gives { IsTrue (F.tells files.old) → IfOk result (λ faults.
-        AreFaults (F.held files.old) sizes.now (option_map (λ n. n.now) name.entry) faults) }
+        AreFaults (F.held files.old) sizes.now (option_map (λ n. n.now) name.entry) brought faults) }
     ensures ordered { IfOk result AreInOrder }
     ensures one_channel { IfOk result AreOfOneChannel }
     ensures unsaid { OnOk result (O.taken out.new ≡ O.taken out.old) }
+    ensures of_run { IfErr result IsOfRun }
     ensures of_faults { (refusal : RefusalOf) → result ≢ Err (Stop.Input (InputStop.Refused Input.Trace refusal)) }
     ensures unread { IfErr result (λ stop. IsUnread stop →
         RosesIn (F.faults files.old) (F.faults files.new) (option_map (λ n. n.now) name.entry)) }
@@ -80,17 +84,17 @@ pub(crate) fn open_faults<F: Files, O: Output>(
     ensures reading { F.tells files.new ≡ F.tells files.old }
     ensures telling { O.tells out.new ≡ O.tells out.old }
 {
-    let Some(name) = name else {
-        return Ok(Faults::new(alloc));
-    };
-    match read_faults(alloc, files, name, sizes) {
-        Ok(faults) => Ok(faults),
-        Err(why) => Err(end_without(out, Input::Faults, why)),
+    match name {
+        Some(name) => match read_faults(alloc, files, name, sizes) {
+            Ok(faults) => Ok(faults),
+            Err(why) => Err(end_without(out, Input::Faults, why)),
+        },
+        None => Ok(brought),
     }
 }
 
 /// The trace of this name, behind its header. Where that is refused the line of the refusal is written.
-pub(crate) fn open_trace<F: Files, O: Output>(
+pub fn open_trace<F: Files, O: Output>(
     alloc: Global,
     files: &mut F,
     out: &mut O,
@@ -101,6 +105,7 @@ pub(crate) fn open_trace<F: Files, O: Output>(
         (text : List ℕ) × (F.held files.old name.now ≡ Some text) × IsReadingTrace reader text
         × (items_left reader text ≡ scans_of text app.now)) }
     ensures opened { IfOk result (IsOpened app.now name.now) }
+    ensures of_run { IfErr result IsOfRun }
     ensures refuses { (refusal : RefusalOf) → result ≡ Err (Stop.Input (InputStop.Refused Input.Trace refusal)) →
         (IsTrue (F.tells files.old) → (text : List ℕ) × (F.held files.old name.now ≡ Some text)
         × (scans_of text app.now ≡ only_refused refusal))

@@ -6,7 +6,7 @@ use Rattle.ps_outside.specs.declared.text_fail.TextFail.TheVariants as text_fail
 use Rattle.ps_source.proofs.Sourced.{some_of}
 use Rattle.ps_trace.specs.Reading.{IsRead}
 use Rattle.ps_trace.specs.Scans.{scans_behind}
-use Rattle.ps_watching.proofs.opening.open_trace.Goals as goal
+use Rattle.ps_traced.proofs.opening.open_trace.Goals as goal
 
 pub returns-in-Err-clause-refuses : goal.returns-in-Err-clause-refuses
 returns-in-Err-clause-refuses g c = λ refusal is.

@@ -1,0 +1,4 @@
+-- what is run where a word stands in the place of a trace
+pub mod Playing
+-- the faults that strike, and how a call ends that is refused
+pub mod Opening

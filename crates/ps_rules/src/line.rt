@@ -1,0 +1,234 @@
+// What a line says.
+
+ghost use Rattle.std.specs.Prelude.{◌≡◌, ◌≤◌, ℕ, List, length, drop, IfOk};
+ghost use Rattle.ps_trace.specs.Words.{words};
+ghost use Rattle.ps_terms.specs.Names.{number_named, signal_names};
+ghost use Rattle.ps_terms.specs.Words.{counted};
+ghost use Rattle.ps_rules.specs.Line.{follow_of, follow_said, followed, is_setting, line_said, pace_of_word, pace_said};
+ghost use Rattle.ps_rules.specs.Line.{rule_begins, rule_name, setting_line, some_settings};
+ghost use Rattle.ps_rules.specs.Saying.{said_by};
+
+use crate::flaw::Flaw;
+use crate::lists::Conditions;
+use crate::rules::{Follow, Pace, Purpose};
+use crate::words::{conditions_said, settings_said};
+use ps_base::Memory;
+use ps_model::App;
+use ps_terms::{
+    Settings, before_blanks, behind_blanks, input_named, is_digits, is_none_left, next_counted,
+    signal_named, take_word,
+};
+use ps_trace::number;
+use std::alloc::Global;
+
+// What a line says. The name of a rule is read apart.
+#[derive(Drop)]
+pub(crate) enum LineSays {
+    Nothing,
+    Paces(Pace),
+    Fixes(Settings),
+    Ties(Follow),
+    Starts(Settings),
+    Begins,
+    Asks(Conditions),
+    Broken(Flaw),
+}
+
+// What a line says, by whether a rule has begun.
+pub(crate) fn read_line(
+    alloc: Global,
+    app: &App,
+    purpose: Purpose,
+    begun: bool,
+    line: &[u8],
+) -> Result<LineSays, Memory>
+    ensures { IfOk result (λ says. line_said app.now purpose begun line.now ≡ said_by says line.now) }
+{
+    let Some((from, upto)) = next_counted(line, 0) else {
+        return Ok(LineSays::Nothing);
+    };
+    let word = &line[from..upto];
+    if word == b"never".as_slice() {
+        return Ok(rule_line(purpose));
+    }
+    let is_setting = is_setting(word);
+    if is_setting == begun {
+        return Ok(LineSays::Broken(Flaw::R1));
+    }
+    if is_setting {
+        return setting_line(alloc, app, purpose, line, word, upto);
+    }
+    match conditions_said(alloc, app, line, 0)? {
+        Ok(conditions) => Ok(LineSays::Asks(conditions)),
+        Err(flaw) => Ok(LineSays::Broken(flaw)),
+    }
+}
+
+// A rule begins; a comparison has none.
+fn rule_line(purpose: Purpose) -> LineSays
+    ensures { (line : List ℕ) → rule_begins purpose line ≡ said_by result line }
+{
+    match purpose {
+        Purpose::Never => LineSays::Begins,
+        Purpose::Same => LineSays::Broken(Flaw::R1),
+    }
+}
+
+// Whether a word begins a setting.
+fn is_setting(word: &[u8]) -> bool
+    ensures { result ≡ is_setting word.now }
+{
+    word == b"every".as_slice()
+        || word == b"fixed".as_slice()
+        || word == b"follows".as_slice()
+        || word == b"first".as_slice()
+}
+
+// What a setting says: its first word, and those from `at` on.
+fn setting_line(
+    alloc: Global,
+    app: &App,
+    purpose: Purpose,
+    line: &[u8],
+    word: &[u8],
+    at: usize,
+) -> Result<LineSays, Memory>
+    requires { at ≤ length line.now }
+    ensures { IfOk result (λ says.
+        setting_line app.now purpose word.now (counted (words (drop at line.now))) ≡ said_by says line.now) }
+{
+    if word == b"every".as_slice() {
+        return Ok(match pace_said(line, at) {
+            Ok(pace) => LineSays::Paces(pace),
+            Err(flaw) => LineSays::Broken(flaw),
+        });
+    }
+    if word == b"follows".as_slice() {
+        return Ok(match follow_said(app, purpose, line, at) {
+            Ok(follow) => LineSays::Ties(follow),
+            Err(flaw) => LineSays::Broken(flaw),
+        });
+    }
+    match some_settings(alloc, app, line, at)? {
+        Ok(settings) if word == b"fixed".as_slice() => Ok(LineSays::Fixes(settings)),
+        Ok(settings) => Ok(LineSays::Starts(settings)),
+        Err(flaw) => Ok(LineSays::Broken(flaw)),
+    }
+}
+
+// How scans come, by one word.
+fn pace_said(line: &[u8], at: usize) -> Result<Pace, Flaw>
+    requires { at ≤ length line.now }
+    ensures { result ≡ pace_said (counted (words (drop at line.now))) }
+{
+    let (word, next) = take_word(line, at);
+    if is_none_left(line, next) {
+        pace_of_word(word)
+    } else {
+        Err(Flaw::R1)
+    }
+}
+
+// A number of ms, or `any`.
+fn pace_of_word(word: &[u8]) -> Result<Pace, Flaw>
+    ensures { result ≡ pace_of_word word.now }
+{
+    if word == b"any".as_slice() {
+        return Ok(Pace::Any);
+    }
+    if !is_digits(word) {
+        return Err(Flaw::R1);
+    }
+    match number(word) {
+        None => Err(Flaw::R5),
+        Some(0) => Err(Flaw::R1),
+        Some(step) => Ok(Pace::Every(step)),
+    }
+}
+
+// Settings, of which there is one at least.
+fn some_settings(
+    alloc: Global,
+    app: &App,
+    line: &[u8],
+    at: usize,
+) -> Result<Result<Settings, Flaw>, Memory>
+    requires { at ≤ length line.now }
+    ensures { IfOk result (λ settings. settings ≡ some_settings app.now (counted (words (drop at line.now)))) }
+{
+    if is_none_left(line, at) {
+        return Ok(Err(Flaw::R1));
+    }
+    settings_said(alloc, app, line, at)
+}
+
+// An input and a signal, perhaps with NOT between them.
+fn follow_said(app: &App, purpose: Purpose, line: &[u8], at: usize) -> Result<Follow, Flaw>
+    requires { at ≤ length line.now }
+    ensures { result ≡ follow_said app.now purpose (counted (words (drop at line.now))) }
+{
+    let (input, next) = take_word(line, at);
+    if is_none_left(line, next) {
+        return Err(Flaw::R1);
+    }
+    let (middle, next) = take_word(line, next);
+    if is_none_left(line, next) {
+        return follow_of(app, purpose, false, input, middle);
+    }
+    let (signal, next) = take_word(line, next);
+    if middle.eq_ignore_ascii_case(b"NOT") && is_none_left(line, next) {
+        follow_of(app, purpose, true, input, signal)
+    } else {
+        Err(Flaw::R1)
+    }
+}
+
+// The input of this name follows the signal of this name.
+fn follow_of(
+    app: &App,
+    purpose: Purpose,
+    denied: bool,
+    input: &[u8],
+    signal: &[u8],
+) -> Result<Follow, Flaw>
+    ensures { result ≡ follow_of app.now purpose denied input.now signal.now }
+{
+    let Some(input) = input_named(app, input) else {
+        return Err(Flaw::R2);
+    };
+    let Some(signal) = followed(app, purpose, signal) else {
+        return Err(Flaw::R2);
+    };
+    Ok(Follow {
+        input,
+        signal,
+        denied,
+    })
+}
+
+// The signal of this name, if it may be followed: of a comparison an input or an output.
+fn followed(app: &App, purpose: Purpose, word: &[u8]) -> Option<u16>
+    ensures { result ≡ followed app.now purpose (number_named (signal_names app.now) word.now) }
+{
+    let signal = signal_named(app, word)?;
+    match purpose {
+        Purpose::Never => Some(signal),
+        Purpose::Same
+            if u32::from(signal) < u32::from(app.input_count()) + u32::from(app.output_count()) => {
+            Some(signal)
+        }
+        Purpose::Same => None,
+    }
+}
+
+// The name of a `never` line.
+pub(crate) fn rule_name(line: &[u8]) -> &[u8]
+    ensures { result.now ≡ rule_name line.now }
+{
+    let words = behind_blanks(line);
+    let rest = match words {
+        [_, _, _, _, _, rest @ ..] => rest,
+        _ => &[],
+    };
+    before_blanks(behind_blanks(rest))
+}

@@ -1,0 +1,17 @@
+use Rattle.std.proofs.Common.{◌≡◌, ◌≤◌, ◌<◌, ◌+◌, ◌∙◌, length, sym, ap, subst, arith}
+use Rattle.ps_model.specs.Blocks.{block, output_count}
+use Rattle.ps_model.specs.Network.{first_pin, kind_at}
+use Rattle.ps_model.proofs.FirstPinBound.{first_pin-bound}
+use Rattle.ps_terms.specs.Names.{IsNameOf}
+use Rattle.ps_ruling.proofs.Pins.{pins_counted}
+use Rattle.ps_ruling.proofs.asking.subject_of.Goals as goal
+
+pub overflow_add-result : goal.overflow_add-result
+overflow_add-result c =
+    let net = c.args.app.now in
+    let kind = kind_at net c.in-Pin.instance in
+    let stands = subst (IsNameOf net) c.in-Pin.is c.requires in
+    let bound = first_pin-bound net c.in-Pin.instance stands.0 in
+    let pins = pins_counted kind in
+    let inputs : c.input_count-inputs.result ≡ length (block kind).inputs = c.input_count-inputs.ensures ∙ ap (λ k. length (block k).inputs) c.instance_kind.ensures in
+    omega (arith, stands.1, bound, pins, inputs, c.first_pin.ensures, c.from.ensures, c.saturating_sub.ensures, c.sound.ensures.few_signals)

@@ -2,3 +2,4 @@
 pub mod Capitals
 -- what an output took of a text whose writing stopped
 pub mod Stopped
+pub mod Dots

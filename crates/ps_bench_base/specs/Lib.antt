@@ -1,6 +1,8 @@
 -- pieces of what is told, and the line of a refusal: what a reader of the clauses has to believe
 pub mod Pieces
 pub mod Refusing
+-- what a word means in the place of a trace
+pub mod Meant
 -- what a command takes its application and its case files from
 pub mod Opening
 -- how a call ends, and what it leaves that stops

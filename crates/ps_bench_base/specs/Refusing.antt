@@ -1,8 +1,14 @@
--- The line of a case file that is refused.
+-- The line of a case file or of a rules file that is refused.
 use Rattle.std.specs.Prelude.{ℕ, List, ◌++◌, codes, decimal}
 use Rattle.ps_cases.specs.declared.rule.CaseRefusal.{CaseRefusal}
 use Rattle.ps_cases.specs.Parts.{rank}
+use Rattle.ps_rules.specs.Parts.{rank as flaw_rank}
+use Rattle.ps_rules.specs.declared.flaw.RulesRefusal.{RulesRefusal}
 
 -- the line of a refusal, as `refused K2 line 3`
 abbrev pub refused_line : CaseRefusal → List ℕ
 refused_line r = codes "refused K" ++ decimal (rank r.rule) ++ codes " line " ++ decimal r.line ++ codes "\n"
+
+-- the line of a refusal of a rules file, as `refused R2 line 3`
+abbrev pub rules_refused_line : RulesRefusal → List ℕ
+rules_refused_line r = codes "refused R" ++ decimal (flaw_rank r.flaw) ++ codes " line " ++ decimal r.line ++ codes "\n"

@@ -6,19 +6,20 @@ ghost use Rattle.ps_bench_base.specs.Ending.{exit_number, input_stop_status, sto
 use ps_base::{Memory, Refusal};
 use ps_cases::CaseRefusal;
 use ps_outside::{Failed, Stopped};
+use ps_rules::RulesRefusal;
 
 /// How a call of the program ended.
 #[derive(Clone, Copy, Debug, PartialEq, Eq)]
 pub enum Status {
-    /// All was done; of `test`, every case passed.
+    /// All was done; of `test`, every case passed, and of `never` every rule holds.
     Done,
     /// The application is refused, by a rule L, P, B, N or S.
     Refused,
     /// The words are not taken.
     Usage,
-    /// A case file, a trace or a fault file is refused, by a rule K, T or F.
+    /// A case file, a trace, a fault file or a rules file is refused, by a rule K, T, F or R.
     BadInput,
-    /// A case failed, and all were run.
+    /// A case failed, and all were run; of `never`, a rule fails or stays open.
     Failed,
     /// A file could not be read.
     ReadFault,
@@ -44,20 +45,24 @@ pub fn exit_code(status: Status) -> u8
     }
 }
 
-/// What a run is made of beside the application.
+/// What a run or a search is made of beside the application.
 #[derive(Clone, Copy, Debug, PartialEq, Eq)]
 pub enum Input {
     /// A trace.
     Trace,
     /// A fault file.
     Faults,
+    /// A rules file.
+    Rules,
 }
 
-/// Why a call stops at what a run is made of.
+/// Why a call stops at what a run or a search is made of.
 #[derive(Clone, Copy)]
 pub enum InputStop {
     /// A rule T refuses the trace, or a rule F the fault file.
     Refused(Input, Refusal),
+    /// A rule R refuses the rules file.
+    RulesRefused(RulesRefusal),
     /// It cannot be read.
     Unread(Input),
 }
@@ -68,7 +73,7 @@ impl InputStop {
         ensures { result ≡ input_stop_status self }
     {
         match self {
-            InputStop::Refused(..) => Status::BadInput,
+            InputStop::Refused(..) | InputStop::RulesRefused(_) => Status::BadInput,
             InputStop::Unread(_) => Status::ReadFault,
         }
     }

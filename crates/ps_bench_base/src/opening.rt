@@ -1,6 +1,6 @@
 // How a command comes to an application, and to the cases of a file.
 
-ghost use Rattle.std.specs.Prelude.{◌≡◌, ◌≤◌, ◌++◌, ℕ, List, Bool, Option, All, IsTrue, Err, IfOk, IfErr, IsErrOf};
+ghost use Rattle.std.specs.Prelude.{◌≡◌, ◌≤◌, ◌++◌, ℕ, List, Bool, Option, All, IsTrue, IsSome, Err, IfOk, IfErr, IsErrOf};
 ghost use Rattle.std.specs.Prelude.{OnOk, length};
 ghost use Rattle.ps_bench_base.specs.Ending.{IsUnread};
 ghost use Rattle.ps_bench_base.specs.Opening.{GivesNet, IsOfApp, IsOfText, Source, source};
@@ -122,6 +122,7 @@ pub fn open_cases<F: Files>(
         (source opened.now.app opened.now.sizes (F.tells files.old) (F.held files.old)) name.now) }
     ensures why { IfErr result (IsWhyNoCases
         (source opened.now.app opened.now.sizes (F.tells files.old) (F.held files.old)) name.now) }
+    ensures found { IsTrue (F.tells files.old) → OnOk result (IsSome (F.held files.old name.now)) }
     ensures runnable { IfOk result (λ file.
         All (λ (case : CaseOf). IsRunnable opened.now.app (whole_case file case)) file.cases) }
     ensures few { IfOk result (λ file. length file.cases ≤ MOST_CASES) }
@@ -174,6 +175,7 @@ pub fn open_written_cases<F: Files, O: Output>(
     ensures stops { IfErr result (λ stop. StopsAtCases
         (source opened.now.app opened.now.sizes (F.tells files.old) (F.held files.old)) name.now refused_line stop
         (O.tells out.old) (O.taken out.old) (O.taken out.new)) }
+    ensures found { IsTrue (F.tells files.old) → OnOk result (IsSome (F.held files.old name.now)) }
     ensures runnable { IfOk result (λ file.
         All (λ (case : CaseOf). IsRunnable opened.now.app (whole_case file case)) file.cases) }
     ensures few { IfOk result (λ file. length file.cases ≤ MOST_CASES) }
@@ -183,6 +185,8 @@ pub fn open_written_cases<F: Files, O: Output>(
     ensures unsaid { OnOk result (O.taken out.new ≡ O.taken out.old) }
     ensures reads { (other : List ℕ) → F.faults files.old other ≤ F.faults files.new other }
     ensures writes { O.faults out.old ≤ O.faults out.new }
+    ensures kept { F.held files.new ≡ F.held files.old }
+    ensures reading { F.tells files.new ≡ F.tells files.old }
     ensures telling { O.tells out.new ≡ O.tells out.old }
 {
     match open_cases(alloc, files, opened, 0, name) {

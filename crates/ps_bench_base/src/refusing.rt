@@ -1,11 +1,12 @@
-// The line of a case file that is refused.
+// The line of a case file or of a rules file that is refused.
 
 ghost use Rattle.std.specs.Prelude.{◌≡◌, ◌++◌, IfOk, OnOk};
-ghost use Rattle.ps_bench_base.specs.Refusing.{refused_line};
+ghost use Rattle.ps_bench_base.specs.Refusing.{refused_line, rules_refused_line};
 
 use crate::pieces::add_short;
 use ps_base::{Bytes, Memory};
 use ps_cases::CaseRefusal;
+use ps_rules::RulesRefusal;
 use std::alloc::Global;
 
 /// The line of a refusal at the end of a text, as `refused K2 line 3`.
@@ -25,5 +26,18 @@ pub fn refused_line(alloc: Global, refusal: CaseRefusal) -> Result<Bytes, Memory
 {
     let mut text = Bytes::new(alloc);
     add_refusal(&mut text, refusal)?;
+    Ok(text)
+}
+
+/// The line of a refusal of a rules file, as `refused R2 line 3`.
+pub fn rules_refused_line(alloc: Global, refusal: RulesRefusal) -> Result<Bytes, Memory>
+    ensures { IfOk result (λ bytes. bytes ≡ rules_refused_line refusal) }
+{
+    let mut text = Bytes::new(alloc);
+    text.extend_from_slice(b"refused R")?;
+    add_short(&mut text, u32::from(refusal.flaw.number()))?;
+    text.extend_from_slice(b" line ")?;
+    add_short(&mut text, refusal.line)?;
+    text.extend_from_slice(b"\n")?;
     Ok(text)
 }

@@ -2,14 +2,23 @@
 
 use crate::advising::{MOST_LOOKED_AT, case_message};
 use crate::ending::{Input, InputStop, Stop};
+use crate::meant::word_of;
 use crate::pieces::add_shown;
+use crate::ruled::rules_message;
 use ps_base::limits::{LARGEST_SOURCE, LARGEST_TRACE, LONGEST_FAULT_LINE, MOST_FAULT_LINES};
-use ps_base::{Bytes, Memory, Refusal, Rule};
+use ps_base::{Bytes, Fail, Memory, Refusal, Rule};
 use ps_cases::CaseRefusal;
-use ps_detail::{detail_on, header_told, inputs_told};
+use ps_detail::{RegionSizes, detail_on, header_told, inputs_told, past_told};
 use ps_edge::{Listener, hear_bytes, refusal_of_app};
 use ps_message::{NO_MEMORY, UNWRITTEN, message as refusal_message, unread_message};
+use ps_model::ImageSizes;
+use ps_source::accept_text;
+use ps_world::World;
 use std::alloc::Global;
+
+// What is told where scans at any times are asked for.
+const ANY_TIMES: &str =
+    "scans at any times are not searched: write a number of ms behind every (docs/never.md)\n";
 
 /// The names of the files of a call, and what it is to watch.
 #[derive(Clone, Copy)]
@@ -18,10 +27,12 @@ pub struct Names<'a> {
     pub app: &'a str,
     /// The case files.
     pub cases: &'a [&'a str],
-    /// The trace.
+    /// The word in the place of a trace.
     pub trace: &'a str,
     /// The fault file.
     pub faults: &'a str,
+    /// The rules file.
+    pub rules: &'a str,
 }
 
 impl<'a> Names<'a> {
@@ -32,6 +43,7 @@ impl<'a> Names<'a> {
             cases: &[],
             trace: "",
             faults: "",
+            rules: "",
         }
     }
 }
@@ -83,11 +95,22 @@ fn name_at<'a>(names: &[&'a str], place: usize) -> &'a str {
     }
 }
 
+// The name of the case file at a place of the words; of a call that names none, the file that its word in the place of a
+// trace names.
+fn case_file<'a>(names: &Names<'a>, place: usize) -> &'a str {
+    if names.cases.is_empty() {
+        word_of(names.trace).file
+    } else {
+        name_at(names.cases, place)
+    }
+}
+
 // The name of what a run is made of.
 fn input_name<'a>(names: &Names<'a>, input: Input) -> &'a str {
     match input {
         Input::Trace => names.trace,
         Input::Faults => names.faults,
+        Input::Rules => names.rules,
     }
 }
 
@@ -96,15 +119,54 @@ fn most_of(input: Input) -> u32 {
     match input {
         Input::Trace => LARGEST_TRACE,
         Input::Faults => MOST_FAULT_LINES * (LONGEST_FAULT_LINE + 1),
+        Input::Rules => MOST_LOOKED_AT,
     }
 }
 
+// The lengths in bytes of the regions of the channels of an application of this text. None: it is refused.
+fn sizes_of(alloc: Global, source: &[u8]) -> Result<Option<ImageSizes>, Memory> {
+    match accept_text(alloc, source) {
+        Ok(accepted) => {
+            let (app, _) = accepted.into_parts();
+            Ok(Some(World::build(alloc, &app)?.sizes()))
+        }
+        Err(Fail::Memory) => Err(Memory),
+        Err(Fail::Refused(_)) => Ok(None),
+    }
+}
+
+// What is told of a fault whose bytes pass the end of its region: how long that is.
+fn region_told(
+    alloc: Global,
+    source: &[u8],
+    text: &[u8],
+    refusal: &Refusal,
+) -> Result<Bytes, Memory> {
+    let Some(sizes) = sizes_of(alloc, source)? else {
+        return Ok(Bytes::new(alloc));
+    };
+    let channels = [
+        RegionSizes {
+            channel: b'A',
+            code: sizes.a_code,
+            memory: sizes.a_cells,
+        },
+        RegionSizes {
+            channel: b'B',
+            code: sizes.b_code,
+            memory: sizes.b_cells,
+        },
+    ];
+    past_told(alloc, text, refusal.place.line, &channels)
+}
+
 // What is told of a refusal besides its rule: where a trace has not the inputs of the application of this text, what
-// these are, or what the line tells.
+// these are; how long a region is; or what the line tells.
 fn told_on(alloc: Global, source: &[u8], text: &[u8], refusal: &Refusal) -> Result<Bytes, Memory> {
     match refusal.rule {
         Rule::T2 => inputs_told(alloc, source),
         Rule::T3 => header_told(alloc, source, text),
+        Rule::F3 => region_told(alloc, source, text, refusal),
         _ => detail_on(alloc, text, refusal),
     }
 }
@@ -130,7 +192,7 @@ fn input_refused<L: Listener>(
     )
 }
 
-// What is told of a call that stopped at what a run is made of.
+// What is told of a call that stopped at what a run or a search is made of.
 fn input_message<L: Listener>(
     alloc: Global,
     listener: &L,
@@ -140,6 +202,10 @@ fn input_message<L: Listener>(
     match why {
         InputStop::Refused(input, refusal) => {
             input_refused(alloc, listener, names, input, &refusal)
+        }
+        InputStop::RulesRefused(refusal) => {
+            let text = listener.text_of(alloc, names.rules, MOST_LOOKED_AT);
+            rules_message(alloc, names.rules.as_bytes(), text.as_slice(), refusal)
         }
         InputStop::Unread(input) => unread(alloc, listener, input_name(names, input)),
     }
@@ -155,16 +221,10 @@ fn message<L: Listener>(
     match stop {
         Stop::App(refusal) => app_refused(alloc, listener, names.app, &refusal),
         Stop::Cases(place, refusal) => {
-            cases_refused(
-                alloc,
-                listener,
-                names.app,
-                name_at(names.cases, place),
-                refusal,
-            )
+            cases_refused(alloc, listener, names.app, case_file(names, place), refusal)
         }
         Stop::UnreadApp => unread(alloc, listener, names.app),
-        Stop::UnreadCases(place) => unread(alloc, listener, name_at(names.cases, place)),
+        Stop::UnreadCases(place) => unread(alloc, listener, case_file(names, place)),
         Stop::Input(why) => input_message(alloc, listener, names, why),
         Stop::Unwritten => Bytes::from_slice(alloc, UNWRITTEN.as_bytes()),
         Stop::NoMemory => Err(Memory),
@@ -202,5 +262,12 @@ pub fn tell_no_name<L: Listener>(alloc: Global, listener: &mut L, app: &str, wor
     match no_name(alloc, app, word) {
         Ok(text) => hear_bytes(listener, text.as_slice()),
         Err(Memory) => listener.hear(NO_MEMORY),
+    }
+}
+
+/// Tells a listener that scans at any times are not searched.
+pub fn tell_any_times<L: Listener>(listener: &mut L) {
+    if !listener.is_quiet() {
+        listener.hear(ANY_TIMES);
     }
 }

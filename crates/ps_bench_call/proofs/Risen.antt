@@ -2,7 +2,7 @@
 use Rattle.std.proofs.Common.{◌≡◌, ◌<◌, ◌⊎◌, ℕ, List, [], ◌∷◌, Any, Option, Some, None, length, refl, inl, inr, arith}
 use Rattle.ps_outside.specs.Outside.{Rose}
 use Rattle.ps_bench_call.specs.Answering.{file_of}
-use Rattle.ps_watching.specs.Asking.{RosesIn}
+use Rattle.ps_traced.specs.Opening.{RosesIn}
 
 -- that of one of the files of `watch`
 pub risen_any : (app trace : List ℕ) (file : Option (List ℕ)) (reads reads' : List ℕ → ℕ) →

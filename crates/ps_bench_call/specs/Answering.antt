@@ -1,9 +1,10 @@
 -- What a call does: one that did what its words ask, and one that stopped before.
 use Rattle.std.specs.Prelude.{◌≡◌, ◌⊎◌, ℕ, Bool, IsTrue, List, [], ◌∷◌, ◌++◌, Option, Some, None}
 use Rattle.ps_bench_words.specs.Asking.{Asked}
-use Rattle.ps_bench_words.specs.Asking.Asked.{Test, Expand, Watch, Page, NotTaken}
+use Rattle.ps_bench_words.specs.Asking.Asked.{Test, Expand, Watch, Never, Page, NotTaken}
 use Rattle.ps_cases.specs.Expanded.{expanded}
 use Rattle.ps_cases.specs.declared.case.CaseFile.{CaseFile}
+use Rattle.ps_forbidding.specs.Asking.{AnswersNever, StopsNever}
 use Rattle.ps_model.specs.Network.{Network}
 use Rattle.ps_model.specs.declared.channel.ImageSizes.{ImageSizes}
 use Rattle.ps_tester.specs.Stopping.{StopsExpanding, StopsTesting}
@@ -11,6 +12,7 @@ use Rattle.ps_tester.specs.Testing.{AreRanFiles, FileRan, test_status, test_text
 use Rattle.ps_watching.specs.Asking.{AnswersWatch, StopsWatch}
 use Rattle.ps_watching.specs.Showing.{Wanted}
 use Rattle.ps_bench_base.specs.Ending.{stop_status}
+use Rattle.ps_bench_base.specs.Meant.{file_meant}
 use Rattle.ps_bench_base.specs.Opening.{IsOfApp, IsOfText, source}
 use Rattle.ps_bench_base.specs.declared.ending.Status.{Status}
 use Rattle.ps_bench_base.specs.declared.ending.Status.TheVariants.{Done, Failed, Usage, WriteFault}
@@ -40,6 +42,8 @@ Answers (Expand app cases) reading held status tells before after =
     × (IsTrue tells → after ≡ before ++ expanded net file)
 Answers (Watch app trace names faults layout) reading held status tells before after =
     AnswersWatch app layout (wanted_of trace names faults) reading held tells before after status
+Answers (Never app rules states) reading held status tells before after =
+    AnswersNever app rules states reading held tells before after status
 Answers Page reading held status tells before after = status ≡ Done
 Answers NotTaken reading held status tells before after = (status ≡ Usage) × (IsTrue tells → after ≡ before)
 
@@ -52,6 +56,8 @@ Stops (Expand app cases) reading held stop tells before after =
     StopsExpanding reading held app cases stop tells before after
 Stops (Watch app trace names faults layout) reading held stop tells before after =
     StopsWatch app layout (wanted_of trace names faults) reading held tells before after stop
+Stops (Never app rules states) reading held stop tells before after =
+    StopsNever app rules states reading held tells before after stop
 Stops Page reading held stop tells before after = stop ≡ Unwritten
 Stops NotTaken reading held stop tells before after = ⊥
 
@@ -73,6 +79,7 @@ file_of None = []
 abbrev pub names_of : Asked → List (List ℕ)
 names_of (Test app cases format) = app ∷ cases
 names_of (Expand app cases) = app ∷ cases ∷ []
-names_of (Watch app trace names faults layout) = app ∷ trace ∷ file_of faults
+names_of (Watch app trace names faults layout) = app ∷ file_meant trace ∷ file_of faults
+names_of (Never app rules states) = app ∷ rules ∷ []
 names_of Page = []
 names_of NotTaken = []

@@ -14,6 +14,7 @@ use ps_base::Memory;
 use ps_bench_base::{Names, Status, Stop, exit_code, tell};
 use ps_bench_words::{Asked, asked_of, texts_of};
 use ps_edge::Listener;
+use ps_forbidding::{NeverAsked, never};
 use ps_outside::{Files, Output, write_all};
 use ps_tester::{TestAsked, expand, test};
 use ps_watching::{WatchAsked, watch};
@@ -76,6 +77,14 @@ fn do_asked<F: Files, O: Output, L: Listener>(
             };
             watch(alloc, files, out, listener, &asked)
         }
+        Asked::Never { app, rules, states } => {
+            let asked = NeverAsked {
+                app: *app,
+                rules: *rules,
+                states: *states,
+            };
+            never(alloc, files, out, listener, &asked)
+        }
         Asked::Page { text } => {
             write_all(out, text.as_bytes())?;
             Ok(Status::Done)
@@ -105,8 +114,11 @@ fn names_in<'a>(asked: &'a Asked<'a>) -> Names<'a> {
             ..
         } => Names {
             trace: *trace,
-            cases: std::slice::from_ref(trace),
             faults: faults.unwrap_or(""),
+            ..Names::of_app(*app)
+        },
+        Asked::Never { app, rules, .. } => Names {
+            rules: *rules,
             ..Names::of_app(*app)
         },
         Asked::Page { .. } | Asked::NotTaken { .. } => Names::of_app(""),
@@ -216,7 +228,7 @@ pub fn exit_of_call<F: Files, O: Output, L: Listener>(
     listener: &mut L,
 ) -> u8
     // The number is that of a status. Where nothing stopped the call, the status and what was written are those of what
-    // the words ask: of `test`, 0 exactly where every case passed, and else 4. Where the call did not do all, why it
+    // the words ask: of `test`, 0 exactly where every case passed, and else 4; of `never`, 0 where every rule holds. Where the call did not do all, why it
     // stopped and what was written up to there are those of what the words ask, unless memory was wanting before that;
     // of a file that could not be read, and of an output that could not be written, the count rose.
     ensures does { (status : StatusOf) × (result ≡ exit_number status)

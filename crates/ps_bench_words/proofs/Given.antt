@@ -7,7 +7,7 @@ use Rattle.clap.specs.Matches.{first_value, matched_of, raw_values}
 use Rattle.clap.specs.Walk.{all_of, first_of, rows_of}
 use Rattle.clap.specs.declared.parser.matches.Found.{Found}
 use Rattle.ps_bench_words.specs.Asking.{Asked, Asks, IsForm}
-use Rattle.ps_bench_words.specs.Asking.Asked.{Test, Expand, Watch, Page, NotTaken}
+use Rattle.ps_bench_words.specs.Asking.Asked.{Test, Expand, Watch, Never, Page, NotTaken}
 use Rattle.ps_bench_words.specs.Seen.{seen}
 
 -- the value that a getter gives
@@ -26,5 +26,6 @@ pub form_asks : (words : List (List ℕ)) (asked : Asked) → IsForm words asked
 form_asks words (Test app cases format) is = is
 form_asks words (Expand app cases) is = is
 form_asks words (Watch app trace names faults layout) is = is
+form_asks words (Never app rules states) is = is
 form_asks words Page is = inl is
 form_asks words NotTaken is = inl is

@@ -1,6 +1,6 @@
 -- What the words of a call ask of the program. They are read as `clap` reads words: options stand before, between and
 -- behind the others, `--` ends them, `--format=tap` and `--format tap` are the same.
-use Rattle.std.specs.Prelude.{◌≡◌, ◌⊎◌, ℕ, Bool, ◌||◌, List, [], Option, Some, None, codes}
+use Rattle.std.specs.Prelude.{◌≡◌, ◌⊎◌, ℕ, Bool, ◌||◌, ◌==◌, List, [], Option, Some, None, codes}
 use Rattle.std.specs.Prelude.{if◌then◌else◌, unwrap_or}
 use Rattle.std.specs.Option.{option_map_or}
 use Rattle.std.specs.Str.{bytes_eq}
@@ -15,12 +15,14 @@ use Rattle.ps_bench_words.specs.declared.asking.Format.{Format}
 use Rattle.ps_bench_words.specs.declared.asking.Format.TheVariants.{Text, Tap, Junit}
 use Rattle.ps_bench_words.specs.declared.asking.Layout.{Layout}
 use Rattle.ps_bench_words.specs.declared.asking.Layout.TheVariants.{Text as AsText, Csv, Json, Vcd}
+use Rattle.ps_trace.specs.Words.{number_of}
 
 -- What the words ask: a command with the names of its files, a page to be shown, or nothing that is taken.
 pub data Asked : Type 0 where
   Test : (app : List ℕ) (cases : List (List ℕ)) (format : Format) → Asked
   Expand : (app cases : List ℕ) → Asked
   Watch : (app trace : List ℕ) (names : List (List ℕ)) (faults : Option (List ℕ)) (layout : Layout) → Asked
+  Never : (app rules : List ℕ) (states : ℕ) → Asked
   Page : Asked
   NotTaken : Asked
 
@@ -61,6 +63,21 @@ abbrev pub watch_in : Option Layout → (app trace : List ℕ) (names : List (Li
 watch_in (Some layout) app trace names faults = Watch app trace names faults layout
 watch_in None app trace names faults = NotTaken
 
+-- a number that is 1 at least
+abbrev pub some_said : Option ℕ → Option ℕ
+some_said None = None
+some_said (Some n) = if n == 0 then None else Some n
+
+-- how many states may be held: a million where it is not said
+abbrev pub states_of : Option (List ℕ) → Option ℕ
+states_of None = Some 1000000
+states_of (Some word) = some_said (number_of word)
+
+-- `never` with a number of states
+abbrev pub never_in : Option ℕ → (app rules : List ℕ) → Asked
+never_in (Some states) app rules = Never app rules states
+never_in None app rules = NotTaken
+
 -- the values of an argument, none where it was not given
 abbrev pub values_of : List ℕ → List Row → List (List ℕ)
 values_of id rows = unwrap_or (all_of id rows) []
@@ -73,7 +90,7 @@ value_of id rows = unwrap_or (first_of id rows) []
 abbrev pub is_command : List ℕ → Bool
 is_command name =
     bytes_eq name (codes "test") || (bytes_eq name (codes "expand") || (bytes_eq name (codes "watch")
-    || bytes_eq name (codes "help")))
+    || (bytes_eq name (codes "never") || bytes_eq name (codes "help"))))
 
 -- `help`: the page of a command that there is, or of the program
 abbrev pub help_asks : Option (List ℕ) → Asked
@@ -94,6 +111,8 @@ command_asks name rows =
     else if bytes_eq name (codes "watch") then
     watch_in (layout_of (first_of (codes "format") rows)) (value_of (codes "APP") rows) (value_of (codes "TRACE") rows)
     (values_of (codes "NAME") rows) (first_of (codes "faults") rows)
+    else if bytes_eq name (codes "never") then
+    never_in (states_of (first_of (codes "states") rows)) (value_of (codes "APP") rows) (value_of (codes "RULES") rows)
     else if bytes_eq name (codes "help") then help_asks (first_of (codes "COMMAND") rows)
     else NotTaken
 
@@ -122,5 +141,6 @@ abbrev pub Asks : List (List ℕ) → Asked → Type 0
 Asks words (Test app cases format) = IsForm words (Test app cases format)
 Asks words (Expand app cases) = IsForm words (Expand app cases)
 Asks words (Watch app trace names faults layout) = IsForm words (Watch app trace names faults layout)
+Asks words (Never app rules states) = IsForm words (Never app rules states)
 Asks words Page = IsForm words Page ⊎ AsksPage words
 Asks words NotTaken = IsForm words NotTaken ⊎ IsFaulty words

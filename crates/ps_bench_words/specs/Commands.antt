@@ -24,6 +24,10 @@ files = record (new_rule (codes "CASES")) {
 abbrev pub items : Rule
 items = record (new_rule (codes "TRACE")) { required = true }
 
+-- RULES, which is required
+abbrev pub rules : Rule
+rules = record (new_rule (codes "RULES")) { required = true }
+
 -- NAMEs, which may be left out
 abbrev pub names : Rule
 names = record (new_rule (codes "NAME")) {
@@ -37,6 +41,10 @@ faults = record (new_rule (codes "faults")) { long = Some (codes "faults"); valu
 -- `--format FORMAT`, which may be left out
 abbrev pub format : Rule
 format = record (new_rule (codes "format")) { long = Some (codes "format"); value_names = 1 }
+
+-- `--states N`, which may be left out
+abbrev pub states : Rule
+states = record (new_rule (codes "states")) { long = Some (codes "states"); value_names = 1 }
 
 -- COMMAND, which may be left out
 abbrev pub topic : Rule
@@ -61,6 +69,10 @@ watch_words = command (codes "watch") (app ∷ items ∷ names ∷ [])
 -- `watch APP TRACE [NAME..] [--faults FAULTS] [--format FORMAT]`
 abbrev pub watch : Shape
 watch = command (codes "watch") (app ∷ items ∷ names ∷ faults ∷ format ∷ [])
+
+-- `never APP RULES [--states N]`
+abbrev pub never : Shape
+never = command (codes "never") (app ∷ rules ∷ states ∷ [])
 
 -- `help [COMMAND]`
 abbrev pub help : Shape
@@ -87,6 +99,10 @@ with_commands commands = record { top = record bare.top { is_leaf = false }; sub
 abbrev pub cases_workbench : App
 cases_workbench = with_commands (test ∷ expand ∷ [])
 
+-- the program with the commands that are about runs and rules besides
+abbrev pub runs_workbench : App
+runs_workbench = with_commands (test ∷ expand ∷ watch ∷ never ∷ [])
+
 -- the program
 abbrev pub workbench : App
-workbench = with_commands (test ∷ expand ∷ watch ∷ help ∷ [])
+workbench = with_commands (test ∷ expand ∷ watch ∷ never ∷ help ∷ [])

@@ -11,6 +11,7 @@ ghost use Rattle.ps_bench_words.specs.Seen.{asked_seen, seen};
 
 use crate::command::{help_command, program, test_command, watch_command};
 use crate::pages;
+use crate::ruling::never_in;
 use clap::error::ErrorKind;
 use clap::{ArgMatches, Command, Error};
 use ps_base::Memory;
@@ -62,6 +63,13 @@ pub enum Asked<'a> {
         names: Vec<&'a str>,
         faults: Option<&'a str>,
         layout: Layout,
+    },
+    /// `never APP RULES [--states N]`
+    Never {
+        app: &'a str,
+        rules: &'a str,
+        /// From 1 on; a million where it is not said.
+        states: u32,
     },
     /// Help or the version was asked for: the page, for standard output.
     Page {
@@ -137,7 +145,7 @@ fn given_in<'a>(values: &ArgMatches<'a>, id: &str) -> Option<&'a str>
 }
 
 // The first value of an argument, the empty text where it was not given.
-fn value_in<'a>(values: &ArgMatches<'a>, id: &str) -> &'a str
+pub(crate) fn value_in<'a>(values: &ArgMatches<'a>, id: &str) -> &'a str
     ensures { result.now ≡ asking.value_of id.now (rows_of (found_of values.now)) }
 {
     match values.get_str(id) {
@@ -171,7 +179,11 @@ fn text_of(alloc: Global, error: &Error) -> Result<String, Memory> {
 }
 
 // What is wrong with the value of an argument, with the usage of its command.
-fn wrong_value(alloc: Global, command: Command<'_>, message: &str) -> Result<String, Memory> {
+pub(crate) fn wrong_value(
+    alloc: Global,
+    command: Command<'_>,
+    message: &str,
+) -> Result<String, Memory> {
     let mut command = command;
     let error = command.error(ErrorKind::InvalidValue, message)?;
     text_of(alloc, &error)
@@ -258,6 +270,7 @@ fn page_named(alloc: Global, name: Option<&str>) -> Result<Option<String>, Memor
         Some("test") => shown_page(alloc, &["test", "--help"])?,
         Some("expand") => shown_page(alloc, &["expand", "--help"])?,
         Some("watch") => shown_page(alloc, &["watch", "--help"])?,
+        Some("never") => shown_page(alloc, &["never", "--help"])?,
         Some("help") => shown_page(alloc, &["help", "--help"])?,
         Some(_) => return Ok(None),
     };
@@ -285,6 +298,7 @@ fn command_in<'a>(alloc: Global, name: &str, values: &ArgMatches<'a>) -> Result<
         "test" => test_in(alloc, values),
         "expand" => Ok(expand_in(values)),
         "watch" => watch_in(alloc, values),
+        "never" => never_in(alloc, values),
         "help" => help_in(alloc, values),
         _ => Ok(Asked::NotTaken {
             text: no_command(alloc)?,

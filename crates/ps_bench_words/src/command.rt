@@ -45,6 +45,14 @@ fn trace_arg<'a>(alloc: Global) -> Arg<'a>
     Arg::new(alloc, "TRACE").required(true).help(pages::ITEMS)
 }
 
+// A rules file.
+fn rules_arg<'a>(alloc: Global) -> Arg<'a>
+    ensures rule { rule_of result ≡ commands.rules }
+    ensures local { result.global ≡ false }
+{
+    Arg::new(alloc, "RULES").required(true).help(pages::RULES)
+}
+
 // Names that are watched.
 fn names_arg<'a>(alloc: Global) -> Arg<'a>
     ensures rule { rule_of result ≡ commands.names }
@@ -73,6 +81,17 @@ fn format_arg<'a>(alloc: Global, help: &'a str) -> Arg<'a>
         .long("format")
         .value_name("FORMAT")
         .help(help)
+}
+
+// How many states may be held.
+fn states_arg<'a>(alloc: Global) -> Arg<'a>
+    ensures rule { rule_of result ≡ commands.states }
+    ensures local { result.global ≡ false }
+{
+    Arg::new(alloc, "states")
+        .long("states")
+        .value_name("N")
+        .help(pages::STATES)
 }
 
 // The command that help is asked for.
@@ -139,6 +158,19 @@ pub(crate) fn watch_command<'a>(alloc: Global) -> Result<Command<'a>, AllocError
     with_arg(command, format_arg(alloc, pages::LAYOUT))
 }
 
+// `never APP RULES [--states N]`
+pub(crate) fn never_command<'a>(alloc: Global) -> Result<Command<'a>, AllocError>
+    ensures app { IfOk result (λ c. app_of c ≡ commands.leaf commands.never) }
+    ensures local { IfOk result (λ c. (fields_of c).has_globals ≡ false) }
+{
+    let command = Command::new(alloc, "never")
+        .about(pages::NEVER)
+        .after_help(pages::NEVER_EXAMPLE);
+    let command = with_arg(command, app_arg(alloc))?;
+    let command = with_arg(command, rules_arg(alloc))?;
+    with_arg(command, states_arg(alloc))
+}
+
 // `help [COMMAND]`
 pub(crate) fn help_command<'a>(alloc: Global) -> Result<Command<'a>, AllocError>
     ensures app { IfOk result (λ c. app_of c ≡ commands.leaf commands.help) }
@@ -179,10 +211,17 @@ fn cases_program<'a>(alloc: Global) -> Result<Command<'a>, AllocError>
     with_command(program, expand_command(alloc)?)
 }
 
+// The program with the commands that are about runs and rules besides.
+fn runs_program<'a>(alloc: Global) -> Result<Command<'a>, AllocError>
+    ensures { IfOk result (λ c. app_of c ≡ commands.runs_workbench) }
+{
+    let program = with_command(cases_program(alloc)?, watch_command(alloc)?)?;
+    with_command(program, never_command(alloc)?)
+}
+
 /// The program with its commands, as `clap` reads them.
 pub(crate) fn program<'a>(alloc: Global) -> Result<Command<'a>, AllocError>
     ensures { IfOk result (λ c. app_of c ≡ commands.workbench) }
 {
-    let program = with_command(cases_program(alloc)?, watch_command(alloc)?)?;
-    with_command(program, help_command(alloc)?)
+    with_command(runs_program(alloc)?, help_command(alloc)?)
 }

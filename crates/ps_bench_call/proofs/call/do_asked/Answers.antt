@@ -2,6 +2,7 @@ use Rattle.std.proofs.Common.{ℕ, List, Any, Bor, Err, IfErr, refl, ap, sym, su
 use Rattle.std.specs.Prelude.{IfOk, option_map}
 use Rattle.std.proofs.lemmas.Result.{IfErr-weaker, err_from_is_err_and}
 use Rattle.ps_bench_base.specs.Ending.{IsUnread}
+use Rattle.ps_bench_base.specs.Meant.{file_meant}
 use Rattle.ps_bench_base.specs.declared.ending.Status.TheVariants.{Done}
 use Rattle.ps_bench_words.specs.Seen.{asked_seen, seen}
 use Rattle.ps_bench_words.specs.declared.asking.Asked.{Asked}
@@ -66,6 +67,22 @@ pub returns-in-Watch-clause-unread : goal.returns-in-Watch-clause-unread
 returns-in-Watch-clause-unread g c =
     subst (λ (asked : Asked). IfErr c.watch.result (λ stop. IsUnread stop → Any (λ (name : List ℕ).
     Rose (g.F.Files.faults c.args.files.now name) (g.F.Files.faults c.watch.new.files name)) (names_of (asked_seen asked)))) (sym c.in-Watch.is)
-    (IfErr-weaker c.watch.result _ _ (λ stop unread is. risen_any c.in-Watch.app.now c.in-Watch.trace.now
+    (IfErr-weaker c.watch.result _ _ (λ stop unread is. risen_any c.in-Watch.app.now (file_meant c.in-Watch.trace.now)
     (option_map (λ (name : Bor (List ℕ)). name.now) c.in-Watch.faults) (g.F.Files.faults c.args.files.now) (g.F.Files.faults c.watch.new.files) (unread is))
     c.watch.ensures.unread)
+
+pub returns-in-Never-clause-answers : goal.returns-in-Never-clause-answers
+returns-in-Never-clause-answers g c =
+    subst (λ (asked : Asked). IfOk c.never.result (λ status. Answers (asked_seen asked) (g.F.Files.tells c.args.files.now) (g.F.Files.held c.args.files.now)
+    status (g.O.Sink.tells c.args.out.now) (g.O.Sink.taken c.args.out.now) (g.O.Sink.taken c.never.new.out))) (sym c.in-Never.is) c.never.ensures.answers
+
+pub returns-in-Never-clause-stops : goal.returns-in-Never-clause-stops
+returns-in-Never-clause-stops g c =
+    subst (λ (asked : Asked). IfErr c.never.result (λ stop. Stops (asked_seen asked) (g.F.Files.tells c.args.files.now) (g.F.Files.held c.args.files.now)
+    stop (g.O.Sink.tells c.args.out.now) (g.O.Sink.taken c.args.out.now) (g.O.Sink.taken c.never.new.out))) (sym c.in-Never.is) c.never.ensures.stops
+
+pub returns-in-Never-clause-unread : goal.returns-in-Never-clause-unread
+returns-in-Never-clause-unread g c =
+    subst (λ (asked : Asked). IfErr c.never.result (λ stop. IsUnread stop → Any (λ (name : List ℕ).
+    Rose (g.F.Files.faults c.args.files.now name) (g.F.Files.faults c.never.new.files name)) (names_of (asked_seen asked)))) (sym c.in-Never.is)
+    c.never.ensures.unread

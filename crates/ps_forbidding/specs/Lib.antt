@@ -1,0 +1,2 @@
+-- what `never` is asked, what it writes by that, and how it stops
+pub mod Asking

@@ -1,0 +1,8 @@
+//! `never` of the program `plcsafe-bench`, over any files, any output, and whoever is told.
+//!
+//! `forbidding` is `never APP RULES`.
+#![tactic(auto)]
+
+mod forbidding;
+
+pub use forbidding::{Asked as NeverAsked, never};

@@ -38,6 +38,7 @@ CANNOT = {
     "tools/refusals": [[], ["nothing"], ["N2", "Z9"]],
     "tools/release": [[], MANY, ["one"], ["--verify"], ["--verify", "GONE"], ["--verify", "FOLDER"], ["--verify", "RECORDS"], ["--try", "a"], ["1.0", "FOLDER"], ["1.0", "EMPTY"]],
     "tools/rows.py": [[], MANY, ["GONE"], ["FOLDER"], ["BYTES", "no_row"]],
+    "tools/rules.py": [[], MANY, ["BYTES"], ["BYTES", "plcsafe-bench=GONE"], ["plcsafe-bench=FOLDER"], ["plcsafe-bench=BYTES"]],
     "tools/shared": [["nothing"], MANY],
     "tools/timing.py": [[], ["nothing"], MANY],
     "tools/waves.py": [[], ["BYTES"], ["BYTES", "plcsafe-bench=GONE"], ["GONE", "plcsafe-bench=BYTES"], ["FOLDER", "plcsafe-bench=FOLDER"]],

@@ -4,12 +4,12 @@ use Rattle.std.specs.List.{flat_map}
 use Rattle.std.specs.Str.{bytes_eq}
 use Rattle.ps_base.specs.declared.failing.Refusal.{Refusal}
 use Rattle.ps_detail.specs.declared.usage.TheConstants.{HELP, VERSION}
-use Rattle.ps_message.specs.Also.{also_text}
-use Rattle.ps_message.specs.Ending.{again_text, trip_text, unread_text, usage_text}
+use Rattle.ps_quoted.specs.Also.{also_text}
+use Rattle.ps_statuses.specs.Ending.{again_text, trip_text, unread_text, usage_text}
 use Rattle.ps_message.specs.Message.{Says}
-use Rattle.ps_message.specs.NoteLine.{note_text, odd_text}
-use Rattle.ps_message.specs.declared.statuses.Unread.{Unread}
-use Rattle.ps_message.specs.declared.statuses.TheConstants.{NO_MEMORY, UNWRITTEN}
+use Rattle.ps_noted.specs.NoteLine.{note_text, odd_text}
+use Rattle.ps_statuses.specs.declared.statuses.Unread.{Unread}
+use Rattle.ps_statuses.specs.declared.statuses.TheConstants.{NO_MEMORY, UNWRITTEN}
 use Rattle.ps_model.specs.Network.{Network}
 use Rattle.ps_notes.specs.Notes.{notes}
 use Rattle.ps_notes.specs.declared.note.OddComment.{OddComment}

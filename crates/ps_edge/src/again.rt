@@ -6,7 +6,7 @@ ghost use Rattle.ps_edge.specs.Telling.{Carries, IsOfAgain, IsOfBadInput, IsOfRe
 use crate::spoken::Spoken;
 use crate::telling::Message;
 use ps_base::{Bytes, Memory};
-use ps_message::again_message;
+use ps_statuses::again_message;
 use ps_top::{Left, Words};
 use ps_vote::Seat;
 use std::alloc::Global;

@@ -4,7 +4,7 @@ ghost use Rattle.std.specs.Prelude.{◌≡◌, ℕ, List, Bool, IsTrue};
 ghost use Rattle.ps_edge.specs.Telling.{Hears};
 
 use ps_base::Bytes;
-use ps_message::Unread;
+use ps_statuses::Unread;
 use std::alloc::Global;
 
 /// Who is told, in words, why a call did not do all. Nothing of the answer and the status rests on it.

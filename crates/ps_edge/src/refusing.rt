@@ -2,7 +2,7 @@
 
 ghost use Rattle.std.specs.Prelude.{◌≡◌, ◌++◌, ℕ, List, IfOk, IfSome};
 ghost use Rattle.ps_base.specs.declared.failing.Refusal.{Refusal as RefusalOf};
-ghost use Rattle.ps_message.specs.Also.{also_text};
+ghost use Rattle.ps_quoted.specs.Also.{also_text};
 ghost use Rattle.ps_message.specs.Message.{Says};
 ghost use Rattle.ps_edge.specs.Telling.{Carries, IsOfRefusal};
 
@@ -13,7 +13,8 @@ use ps_base::{Bytes, Fail, Memory, Refusal, Rule};
 use ps_detail::{
     RegionSizes, detail_on, dirty_told, further_refusals, header_told, inputs_told, past_told,
 };
-use ps_message::{also_lines, message};
+use ps_message::message;
+use ps_quoted::also_lines;
 use ps_source::accept_text;
 use ps_top::{Left, Words};
 use ps_vote::{Seat, VoteSizes, VoteWorld};

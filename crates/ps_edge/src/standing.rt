@@ -4,8 +4,8 @@ ghost use Rattle.std.specs.Prelude.{[], false};
 
 use crate::listening::Listener;
 use ps_base::Bytes;
-use ps_message::Unread;
 use ps_outside::{DiskFiles, read_upto};
+use ps_statuses::Unread;
 use std::alloc::Global;
 use std::fs::File;
 use std::io::{Eprint, ErrorKind, Read, Seek, SeekFrom};

@@ -11,7 +11,7 @@ use crate::refusing::refusal_on;
 use crate::spoken::Spoken;
 use ps_base::{Bytes, Memory};
 use ps_detail::field_told;
-use ps_message::{NO_MEMORY, UNWRITTEN, trip_message, unread_message};
+use ps_statuses::{NO_MEMORY, UNWRITTEN, trip_message, unread_message};
 use ps_top::{Left, Status, Trip, Words};
 use std::alloc::Global;
 

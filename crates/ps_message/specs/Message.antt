@@ -1,12 +1,14 @@
 -- The message of a refusal.
-use Rattle.std.specs.Prelude.{◌≡◌, ◌≢◌, ℕ, Bool, nat_le, ◌==◌, ◌||◌, ◌&&◌, List, [], ◌++◌, codes, decimal, length, if◌then◌else◌}
+use Rattle.std.specs.Prelude.{◌≡◌, ◌≢◌, ℕ, Bool, nat_le, ◌==◌, ◌||◌, ◌&&◌, List, [], ◌++◌, codes, decimal, length}
+use Rattle.std.specs.Prelude.{if◌then◌else◌}
 use Rattle.ps_base.specs.declared.failing.Rule.{Rule}
 use Rattle.ps_base.specs.declared.failing.Place.{Place}
 use Rattle.ps_base.specs.declared.failing.Refusal.{Refusal}
 use Rattle.ps_report.specs.Short.{rule_text}
 use Rattle.ps_message.specs.declared.advice.Advice.{Advice}
-use Rattle.ps_message.specs.Shown.{first_shown, last_shown}
-use Rattle.ps_message.specs.Quoted.{line_of, behind, name_at, quoted}
+use Rattle.ps_quoted.specs.Shown.{first_shown, last_shown}
+use Rattle.ps_quoted.specs.Quoted.{line_of, behind, name_at, quoted}
+use Rattle.ps_quoted.specs.Further.{AreGiven}
 
 -- where the refusal is and by which rule, as `motor.st:4:15: N2: `; of a longer name of a file the last 255 bytes
 abbrev pub heading : (file : List ℕ) → Place → Advice → List ℕ
@@ -14,7 +16,8 @@ heading file place advice =
     last_shown 255 file ++ codes ":" ++ decimal place.line ++ (if place.column == 0 then [] else codes ":" ++ decimal place.column)
     ++ codes ": " ++ advice.name.now ++ codes ": "
 
--- what is wrong: the name at the place with what is said of it, or the sentence where there is no name or nothing to say of it
+-- what is wrong: the name at the place with what is said of it, or the sentence where there is no name or nothing to
+-- say of it
 abbrev pub reason : Advice → (name : List ℕ) → List ℕ
 reason advice name =
     if length name == 0 || length advice.of_name.now == 0 then advice.sentence.now else name ++ advice.of_name.now
@@ -51,15 +54,8 @@ abbrev pub is_short : Advice → Bool
 is_short advice =
     are_few 3 advice.name.now && are_few 200 advice.sentence.now && are_few 200 advice.of_name.now && are_few 200 advice.remedy.now
 
--- where words are given, these are they
-abbrev pub AreGiven : (given words : List ℕ) → Type 0
-AreGiven given words = given ≢ [] → words ≡ given
-
--- these bytes are the message of a refusal, with an advice on its rule, and with further words: those that are given, where there are any
+-- these bytes are the message of a refusal, with an advice on its rule, and with further words: those that are given,
+-- where there are any
 abbrev pub Says : (file text : List ℕ) → Refusal → (given : List ℕ) → List ℕ → Type 0
 Says file text refusal given bytes =
     (advice : Advice) × IsOf refusal.rule advice × (words : List ℕ) × AreGiven given words × (bytes ≡ message_text advice words file text refusal.place)
-
--- the last byte is a line feed
-abbrev pub IsEnded : List ℕ → Type 0
-IsEnded bytes = (front : List ℕ) × (bytes ≡ front ++ codes "\n")

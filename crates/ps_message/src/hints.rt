@@ -5,10 +5,10 @@ ghost use Rattle.ps_message.specs.Message.{IsOf, is_short};
 
 use crate::advice::{Advice, advice_on};
 use crate::hint::{Hint, hinted};
-use crate::words::{
+use ps_base::Rule;
+use ps_quoted::{
     before_last_word, first_word, is_of_word, last_word, without_blanks, without_front_blanks,
 };
-use ps_base::Rule;
 
 // Words that the language has not, each with what is said of it.
 const OTHER_WORDS: &[(&str, Hint)] = &[

@@ -1,36 +1,25 @@
 // The whole message.
 
 ghost use Rattle.std.specs.Prelude.{◌≡◌, ◌<◌, ◌≤◌, ◌^◌, ◌++◌, codes, decimal, length, IfOk, IsTrue, OnOk};
-ghost use Rattle.ps_message.specs.Message.{further, heading, reason, reference, remedy, message_text, IsOf, Says, IsEnded, is_short};
-ghost use Rattle.ps_message.specs.Quoted.{line_of, behind, name_at, quoted};
+ghost use Rattle.ps_message.specs.Message.{further, heading, reason, reference, remedy, message_text, IsOf, Says};
+ghost use Rattle.ps_message.specs.Message.{is_short};
+ghost use Rattle.ps_quoted.specs.Lines.{IsEnded};
+ghost use Rattle.ps_quoted.specs.Quoted.{line_of, behind, name_at, quoted};
 
 use crate::advice::Advice;
-use crate::further::{further_on, line_before};
 use crate::hints::{advice_at, advice_behind, advice_on_none};
-use crate::quoted::{add_quoted, cut_at, line_at, name_of};
-use crate::shown::{add_first, add_last};
-use crate::words::is_bare;
-use itoa::Buffer;
 use ps_base::{Bytes, Memory, Place, Refusal, Rule};
+use ps_quoted::{
+    MOST_OF_FILE, add_first, add_last, add_number, add_quoted, cut_at, further_on, is_bare,
+    line_at, line_before, name_of,
+};
 use std::alloc::Global;
 
 /// The most bytes of a message.
 pub const LONGEST_MESSAGE: usize = 3_000;
 
-// The most bytes of a file's name that are shown.
-pub(crate) const MOST_OF_FILE: usize = 255;
-
 // The most bytes of further words that are shown.
 const MOST_FURTHER: usize = 200;
-
-// A mark and a number at the end of a message.
-pub(crate) fn add_number(message: &mut Bytes, mark: &[u8], number: u32) -> Result<(), Memory>
-    ensures { OnOk result (message.new ≡ message.old ++ mark.now ++ decimal number) }
-{
-    let mut digits = Buffer::new();
-    message.extend_from_slice(mark)?;
-    message.extend_from_slice(digits.format(number).as_bytes())
-}
 
 // Where the refusal is and by which rule.
 fn add_heading(
@@ -134,14 +123,14 @@ fn advice_of(rule: Rule, text: &[u8], place: &Place) -> Advice
     advice_at(rule, place.line, front, back)
 }
 
-/// The message of a refusal of this text from a file of this name: where and by which rule, what is wrong, the line of the place
-/// with a caret under it, and what helps. Where the bytes at the place tell what was meant, as a word of another language, the
-/// message speaks of that. Where the text could not be read it is empty here. Every byte of the file's name and of the line that is no printable ASCII character
-/// stands as an escape, as `\x1b`. Of a long name the last 255 bytes are shown, and of a line up to 40 bytes before the place
-/// and 60 from it on. A place with column 0 is a line alone, and has no caret; a line without bytes, or one that there is not,
-/// is not quoted. Below it stand further words: those that are given,
-/// or a second line that the refusal rests on, as the header of a trace. The message has at most
-/// `LONGEST_MESSAGE` bytes, however long the text is, and takes time linear in the text.
+/// The message of a refusal of this text from a file of this name: where and by which rule, what is wrong, the line of
+/// the place with a caret under it, and what helps. Where the bytes at the place tell what was meant, as a word of
+/// another language, the message speaks of that. Where the text could not be read it is empty here. Every byte of the
+/// file's name and of the line that is no printable ASCII character stands as an escape, as `\x1b`. Of a long name the
+/// last 255 bytes are shown, and of a line up to 40 bytes before the place and 60 from it on. A place with column 0 is
+/// a line alone, and has no caret; a line without bytes, or one that there is not, is not quoted. Below it stand
+/// further words: those that are given, or a second line that the refusal rests on, as the header of a trace. The
+/// message has at most `LONGEST_MESSAGE` bytes, however long the text is, and takes time linear in the text.
 pub fn message(
     alloc: Global,
     file: &[u8],

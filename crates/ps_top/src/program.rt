@@ -22,8 +22,9 @@ use crate::saying::say;
 use crate::verifying::verify;
 use crate::voting::vote;
 use ps_base::Memory;
+use ps_command::command_of;
 use ps_outside::{Files, Sink};
-use ps_words::{Command, USAGE, Words, command_of};
+use ps_words::{Command, USAGE, Words};
 use std::alloc::Global;
 
 // Does what the words ask.

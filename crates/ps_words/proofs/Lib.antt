@@ -1,6 +1,2 @@
--- what `clap` makes of the words of each command
-pub mod GivenBack
 -- the number of `load`
 pub mod Numbers
--- the subcommands, as they are added
-pub mod Adding

@@ -1,6 +1,4 @@
 -- what words ask: what a reader of the clauses has to believe
 pub mod Command
--- what `clap` is asked to read
-pub mod Parsing
 -- how the code has it
 pub mod Seen

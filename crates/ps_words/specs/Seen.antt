@@ -2,9 +2,12 @@
 use Rattle.std.specs.Prelude.{ℕ, List, map}
 use Rattle.std.specs.Borrow.{Bor}
 use Rattle.ps_words.specs.Command as asked
-use Rattle.ps_words.specs.Command.Command.{Run as RunOf, Fault as FaultOf, Check as CheckOf, Cert as CertOf, Verify as VerifyOf, Image as ImageOf, Load as LoadOf, Demand as DemandOf, Vote as VoteOf, Heal as HealOf, NotTaken as NotTakenOf}
+use Rattle.ps_words.specs.Command.Command.{Run as RunOf, Fault as FaultOf, Check as CheckOf, Cert as CertOf}
+use Rattle.ps_words.specs.Command.Command.{Verify as VerifyOf, Image as ImageOf, Load as LoadOf, Demand as DemandOf}
+use Rattle.ps_words.specs.Command.Command.{Vote as VoteOf, Heal as HealOf, NotTaken as NotTakenOf}
 use Rattle.ps_words.specs.declared.command.Command.{Command}
-use Rattle.ps_words.specs.declared.command.Command.TheVariants.{Run, Fault, Check, Cert, Verify, Image, Load, Demand, Vote, Heal, NotTaken}
+use Rattle.ps_words.specs.declared.command.Command.TheVariants.{Run, Fault, Check, Cert, Verify, Image, Load, Demand}
+use Rattle.ps_words.specs.declared.command.Command.TheVariants.{Vote, Heal, NotTaken}
 
 -- what a command of the code asks
 abbrev pub command_seen : Command → asked.Command

@@ -5,7 +5,6 @@ ghost use Rattle.std.specs.List.{list_all};
 ghost use Rattle.ps_words.specs.Command as asked;
 ghost use Rattle.ps_words.specs.Seen.{command_seen, seen};
 
-use crate::parsing::is_parsed;
 use crate::words::Words;
 use ps_base::Memory;
 use std::alloc::Global;
@@ -79,8 +78,9 @@ fn is_plain(word: &str) -> bool
     }
 }
 
-// The texts of the words, where each of them is neither empty nor begins with a hyphen.
-fn plain_texts(alloc: Global, words: &Words) -> Result<Option<Vec<&str>>, Memory>
+/// The texts of the words, where each of them is neither empty nor begins with a hyphen; None: one is or does. An
+/// error: memory is wanting.
+pub fn plain_texts(alloc: Global, words: &Words) -> Result<Option<Vec<&str>>, Memory>
     ensures { IfOk result (λ texts. MatchOption texts (list_all asked.is_plain words.now ≡ false)
         (λ v. (seen v.items ≡ words.now) × (list_all asked.is_plain words.now ≡ true))) }
 {
@@ -174,8 +174,8 @@ fn three_words<'a>(name: &str, app: &'a str, trace: &'a str, faults: &'a str) ->
     }
 }
 
-// The form of a command that words have.
-fn form_of<'a>(words: &[&'a str]) -> Command<'a>
+/// The form of a command that words have, whatever their bytes; `NotTaken`: they have that of none. It takes no memory.
+pub fn form_of<'a>(words: &[&'a str]) -> Command<'a>
     ensures asked { command_seen result ≡ asked.form_of (seen words.now) }
     ensures bounded { asked.IsBounded (command_seen result) }
 {
@@ -188,19 +188,4 @@ fn form_of<'a>(words: &[&'a str]) -> Command<'a>
     } else {
         Command::NotTaken
     }
-}
-
-/// What the words ask of the program. `NotTaken` comes exactly where the words are no command with its further words, each
-/// neither empty nor beginning with a hyphen. The words are read by `clap`; an error: memory is wanting.
-pub fn command_of(alloc: Global, words: &Words) -> Result<Command<'_>, Memory>
-    ensures asked { IfOk result (λ command. command_seen command ≡ asked.command_of words.now) }
-    ensures bounded { IfOk result (λ command. asked.IsBounded (command_seen command)) }
-{
-    let Some(texts) = plain_texts(alloc, words)? else {
-        return Ok(Command::NotTaken);
-    };
-    if !is_parsed(alloc, texts.as_slice())? {
-        return Ok(Command::NotTaken);
-    }
-    Ok(form_of(texts.as_slice()))
 }

@@ -1,12 +1,11 @@
 //! The words of a call, and what they ask of the program.
 //!
-//! `words` is the list of words, `parsing` has `clap` read them, and `command` says which command they are, with the line of
-//! usage for words that are none.
+//! `words` is the list of words, and `command` says which form of a command they have, with the line of usage for words
+//! that have none. That `clap` takes them too, and which command they are so, is known a crate above.
 #![tactic(auto)]
 
 mod command;
-mod parsing;
 mod words;
 
-pub use command::{Command, USAGE, command_of};
+pub use command::{Command, USAGE, form_of, plain_texts};
 pub use words::Words;

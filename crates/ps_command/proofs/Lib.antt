@@ -1,0 +1,4 @@
+-- what `clap` makes of the words of each command
+pub mod GivenBack
+-- the subcommands, as they are added
+pub mod Adding

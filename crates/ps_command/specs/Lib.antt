@@ -1,0 +1,2 @@
+-- what `clap` is asked to read
+pub mod Parsing

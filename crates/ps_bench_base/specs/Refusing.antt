@@ -1,7 +1,9 @@
--- The line of a case file or of a rules file that is refused.
+-- The line of a case file, of a rules file or of a log that is refused.
 use Rattle.std.specs.Prelude.{ℕ, List, ◌++◌, codes, decimal}
 use Rattle.ps_cases.specs.declared.rule.CaseRefusal.{CaseRefusal}
 use Rattle.ps_cases.specs.Parts.{rank}
+use Rattle.ps_logs.specs.Log.{rank as log_rank}
+use Rattle.ps_logs.specs.declared.flaw.LogRefusal.{LogRefusal}
 use Rattle.ps_rules.specs.Parts.{rank as flaw_rank}
 use Rattle.ps_rules.specs.declared.flaw.RulesRefusal.{RulesRefusal}
 
@@ -12,3 +14,7 @@ refused_line r = codes "refused K" ++ decimal (rank r.rule) ++ codes " line " ++
 -- the line of a refusal of a rules file, as `refused R2 line 3`
 abbrev pub rules_refused_line : RulesRefusal → List ℕ
 rules_refused_line r = codes "refused R" ++ decimal (flaw_rank r.flaw) ++ codes " line " ++ decimal r.line ++ codes "\n"
+
+-- the line of a refusal of a log, as `refused V2 line 1`
+abbrev pub log_refused_line : LogRefusal → List ℕ
+log_refused_line r = codes "refused V" ++ decimal (log_rank r.flaw) ++ codes " line " ++ decimal r.line ++ codes "\n"

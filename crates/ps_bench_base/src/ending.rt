@@ -1,25 +1,27 @@
 // How a call of the program ends.
 
 ghost use Rattle.std.specs.Prelude.{◌≡◌};
-ghost use Rattle.ps_bench_base.specs.Ending.{exit_number, input_stop_status, stop_status};
+ghost use Rattle.ps_bench_base.specs.Ending.{exit_number, input_at, input_stop_at, input_stop_status, stop_at, stop_status};
 
 use ps_base::{Memory, Refusal};
 use ps_cases::CaseRefusal;
+use ps_logs::LogRefusal;
 use ps_outside::{Failed, Stopped};
 use ps_rules::RulesRefusal;
 
 /// How a call of the program ended.
 #[derive(Clone, Copy, Debug, PartialEq, Eq)]
 pub enum Status {
-    /// All was done; of `test`, every case passed, and of `never` every rule holds.
+    /// All was done; of `test`, every case passed, of `never` every rule holds, and of `same` no output differs.
     Done,
-    /// The application is refused, by a rule L, P, B, N or S.
+    /// An application is refused, by a rule L, P, B, N or S; of `same`, or both have not the same inputs and outputs.
     Refused,
     /// The words are not taken.
     Usage,
-    /// A case file, a trace, a fault file or a rules file is refused, by a rule K, T, F or R.
+    /// A case file, a trace, a fault file, a rules file or a log is refused, by a rule K, T, F, R or V.
     BadInput,
-    /// A case failed, and all were run; of `never`, a rule fails or stays open.
+    /// A case failed, and all were run; of `never`, a rule fails or stays open, and of `same`, an output differs or it
+    /// stays open.
     Failed,
     /// A file could not be read.
     ReadFault,
@@ -50,10 +52,31 @@ pub fn exit_code(status: Status) -> u8
 pub enum Input {
     /// A trace.
     Trace,
+    /// The trace at this place of the words, counted from 0, of a call that names several.
+    TraceAt(usize),
     /// A fault file.
     Faults,
     /// A rules file.
     Rules,
+    /// A recorded log.
+    Log,
+    /// The application with which another one is compared.
+    Other,
+}
+
+impl Input {
+    // The same where a trace is the one at a place of the words.
+    fn at_place(self, place: usize) -> Input
+        ensures { result ≡ input_at place self }
+    {
+        match self {
+            Input::Trace | Input::TraceAt(_) => Input::TraceAt(place),
+            Input::Faults => Input::Faults,
+            Input::Rules => Input::Rules,
+            Input::Log => Input::Log,
+            Input::Other => Input::Other,
+        }
+    }
 }
 
 /// Why a call stops at what a run or a search is made of.
@@ -63,6 +86,12 @@ pub enum InputStop {
     Refused(Input, Refusal),
     /// A rule R refuses the rules file.
     RulesRefused(RulesRefusal),
+    /// A rule V refuses the log.
+    LogRefused(LogRefusal),
+    /// A rule refuses the application with which another one is compared.
+    OtherRefused(Refusal),
+    /// The applications that are compared have not the same inputs and outputs, which is told.
+    Unlike,
     /// It cannot be read.
     Unread(Input),
 }
@@ -73,8 +102,28 @@ impl InputStop {
         ensures { result ≡ input_stop_status self }
     {
         match self {
-            InputStop::Refused(..) | InputStop::RulesRefused(_) => Status::BadInput,
+            InputStop::Refused(..) | InputStop::RulesRefused(_) | InputStop::LogRefused(_) => {
+                Status::BadInput
+            }
+            InputStop::OtherRefused(_) | InputStop::Unlike => Status::Refused,
             InputStop::Unread(_) => Status::ReadFault,
+        }
+    }
+
+    // The same where a trace is the one at a place of the words.
+    fn at_place(self, place: usize) -> InputStop
+        ensures { result ≡ input_stop_at place self }
+    {
+        match self {
+            InputStop::Refused(input, refusal) => InputStop::Refused(
+                input.at_place(place),
+                refusal,
+            ),
+            InputStop::RulesRefused(refusal) => InputStop::RulesRefused(refusal),
+            InputStop::LogRefused(refusal) => InputStop::LogRefused(refusal),
+            InputStop::OtherRefused(refusal) => InputStop::OtherRefused(refusal),
+            InputStop::Unlike => InputStop::Unlike,
+            InputStop::Unread(input) => InputStop::Unread(input.at_place(place)),
         }
     }
 }
@@ -110,6 +159,22 @@ impl Stop {
             Stop::UnreadApp | Stop::UnreadCases(_) => Status::ReadFault,
             Stop::Unwritten => Status::WriteFault,
             Stop::NoMemory => Status::Memory,
+        }
+    }
+
+    /// The same of a call that names several traces, where it stops at the one at this place of the words, counted
+    /// from 0: a case file or a trace is that one.
+    pub fn at_place(self, place: usize) -> Stop
+        ensures { result ≡ stop_at place self }
+    {
+        match self {
+            Stop::Cases(_, refusal) => Stop::Cases(place, refusal),
+            Stop::UnreadCases(_) => Stop::UnreadCases(place),
+            Stop::Input(why) => Stop::Input(why.at_place(place)),
+            Stop::App(refusal) => Stop::App(refusal),
+            Stop::UnreadApp => Stop::UnreadApp,
+            Stop::Unwritten => Stop::Unwritten,
+            Stop::NoMemory => Stop::NoMemory,
         }
     }
 }

@@ -48,8 +48,8 @@ fn accepted_app<F: Files>(alloc: Global, files: &mut F, name: &str) -> Result<Ap
     Ok(app)
 }
 
-// An application with the sizes of the regions of its channels.
-fn sized(alloc: Global, app: App) -> Result<Opened, Memory>
+/// An application with the sizes of the regions of its channels.
+pub fn sized(alloc: Global, app: App) -> Result<Opened, Memory>
     requires { Accepted app }
     ensures { IfOk result (λ opened. opened.app ≡ app) }
 {
@@ -57,8 +57,10 @@ fn sized(alloc: Global, app: App) -> Result<Opened, Memory>
     Ok(Opened { app, sizes })
 }
 
-// Ends a call that gets no application: its refusal is written.
-fn refuse_app<O: Output>(out: &mut O, why: TextFail) -> Stop
+/// Ends a call that gets no application: its refusal is written.
+///
+/// `UnreadApp` comes only of a read that failed, `Unwritten` only where the output's count rose.
+pub fn refuse_app<O: Output>(out: &mut O, why: TextFail) -> Stop
     ensures stops { (reading : Bool) (held : List ℕ → Option (List ℕ)) (name : List ℕ) →
         (IsTrue reading → Reads GivesNet IsAcceptedAs (held name) (Err why)) →
         StopsAtApp reading held name result (O.tells out.old) (O.taken out.old) (O.taken out.new) }

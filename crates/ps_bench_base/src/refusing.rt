@@ -1,11 +1,12 @@
-// The line of a case file or of a rules file that is refused.
+// The line of a case file, of a rules file or of a log that is refused.
 
 ghost use Rattle.std.specs.Prelude.{◌≡◌, ◌++◌, IfOk, OnOk};
-ghost use Rattle.ps_bench_base.specs.Refusing.{refused_line, rules_refused_line};
+ghost use Rattle.ps_bench_base.specs.Refusing.{log_refused_line, refused_line, rules_refused_line};
 
 use crate::pieces::add_short;
 use ps_base::{Bytes, Memory};
 use ps_cases::CaseRefusal;
+use ps_logs::LogRefusal;
 use ps_rules::RulesRefusal;
 use std::alloc::Global;
 
@@ -35,6 +36,19 @@ pub fn rules_refused_line(alloc: Global, refusal: RulesRefusal) -> Result<Bytes,
 {
     let mut text = Bytes::new(alloc);
     text.extend_from_slice(b"refused R")?;
+    add_short(&mut text, u32::from(refusal.flaw.number()))?;
+    text.extend_from_slice(b" line ")?;
+    add_short(&mut text, refusal.line)?;
+    text.extend_from_slice(b"\n")?;
+    Ok(text)
+}
+
+/// The line of a refusal of a log, as `refused V2 line 1`.
+pub fn log_refused_line(alloc: Global, refusal: LogRefusal) -> Result<Bytes, Memory>
+    ensures { IfOk result (λ bytes. bytes ≡ log_refused_line refusal) }
+{
+    let mut text = Bytes::new(alloc);
+    text.extend_from_slice(b"refused V")?;
     add_short(&mut text, u32::from(refusal.flaw.number()))?;
     text.extend_from_slice(b" line ")?;
     add_short(&mut text, refusal.line)?;

@@ -1,13 +1,11 @@
 -- What was given to a command, as the getters of a parse say it.
-use Rattle.std.proofs.Common.{◌≡◌, ◌∙◌, ℕ, List, Option, inl}
+use Rattle.std.proofs.Common.{◌≡◌, ◌∙◌, ℕ, List, Option}
 use Rattle.std.specs.Prelude.{option_map, map}
 use Rattle.std.specs.Borrow.{Bor}
 use Rattle.clap.proofs.WalkLemmas.{first_value-rows, raw_values-rows}
 use Rattle.clap.specs.Matches.{first_value, matched_of, raw_values}
 use Rattle.clap.specs.Walk.{all_of, first_of, rows_of}
 use Rattle.clap.specs.declared.parser.matches.Found.{Found}
-use Rattle.ps_bench_words.specs.Asking.{Asked, Asks, IsForm}
-use Rattle.ps_bench_words.specs.Asking.Asked.{Test, Expand, Watch, Never, Page, NotTaken}
 use Rattle.ps_bench_words.specs.Seen.{seen}
 
 -- the value that a getter gives
@@ -20,12 +18,3 @@ pub values_given : (f : Found) (id : List ℕ) (got : Option (Bor (List (Bor (Li
     option_map (λ s. map (λ v. v.now) s.now) got ≡ option_map raw_values (matched_of f id) →
     option_map (λ s. seen s.now) got ≡ all_of id (rows_of f)
 values_given f id got is = is ∙ raw_values-rows f id
-
--- what a form asks is asked
-pub form_asks : (words : List (List ℕ)) (asked : Asked) → IsForm words asked → Asks words asked
-form_asks words (Test app cases format) is = is
-form_asks words (Expand app cases) is = is
-form_asks words (Watch app trace names faults layout) is = is
-form_asks words (Never app rules states) is = is
-form_asks words Page is = inl is
-form_asks words NotTaken is = inl is

@@ -1,20 +1,23 @@
 -- What the words of a call ask of the program. They are read as `clap` reads words: options stand before, between and
 -- behind the others, `--` ends them, `--format=tap` and `--format tap` are the same.
-use Rattle.std.specs.Prelude.{◌≡◌, ◌⊎◌, ℕ, Bool, ◌||◌, ◌==◌, List, [], Option, Some, None, codes}
+use Rattle.std.specs.Prelude.{◌≡◌, ◌⊎◌, ℕ, Bool, ◌==◌, List, [], Option, Some, None, codes, nat_le, nat_lt}
 use Rattle.std.specs.Prelude.{if◌then◌else◌, unwrap_or}
+use Rattle.std.specs.List.{list_any}
 use Rattle.std.specs.Option.{option_map_or}
 use Rattle.std.specs.Str.{bytes_eq}
 use Rattle.clap.specs.Kinds.{IsAmong}
 use Rattle.clap.specs.Faults.{fault_of}
-use Rattle.clap.specs.Simple.{subcommand_of}
-use Rattle.clap.specs.Walk.{Row, all_of, first_of}
+use Rattle.clap.specs.Simple.{Shape, subcommand_of}
+use Rattle.clap.specs.Walk.{Row, all_of, count_of, first_of}
 use Rattle.clap.specs.declared.error.kind.ErrorKind.{ErrorKind}
 use Rattle.clap.specs.declared.error.kind.ErrorKind.TheVariants.{DisplayHelp, DisplayVersion}
-use Rattle.ps_bench_words.specs.Commands.{workbench}
+use Rattle.ps_bench_words.specs.Commands.{commands, workbench}
 use Rattle.ps_bench_words.specs.declared.asking.Format.{Format}
 use Rattle.ps_bench_words.specs.declared.asking.Format.TheVariants.{Text, Tap, Junit}
 use Rattle.ps_bench_words.specs.declared.asking.Layout.{Layout}
 use Rattle.ps_bench_words.specs.declared.asking.Layout.TheVariants.{Text as AsText, Csv, Json, Vcd}
+use Rattle.ps_coverage.specs.declared.format.Format.{Format as Output}
+use Rattle.ps_coverage.specs.declared.format.Format.TheVariants.{Text as InText, Json as InJson}
 use Rattle.ps_trace.specs.Words.{number_of}
 
 -- What the words ask: a command with the names of its files, a page to be shown, or nothing that is taken.
@@ -22,9 +25,13 @@ pub data Asked : Type 0 where
   Test : (app : List ℕ) (cases : List (List ℕ)) (format : Format) → Asked
   Expand : (app cases : List ℕ) → Asked
   Watch : (app trace : List ℕ) (names : List (List ℕ)) (faults : Option (List ℕ)) (layout : Layout) → Asked
+  Trace : (app csv : List ℕ) → Asked
+  Cover : (app : List ℕ) (traces : List (List ℕ)) (output : Output) (least : Option ℕ) (ideas : Bool) → Asked
   Never : (app rules : List ℕ) (states : ℕ) → Asked
   Page : Asked
   NotTaken : Asked
+
+-- ---- the values of options
 
 -- the format of a name
 abbrev pub format_named : List ℕ → Option Format
@@ -38,11 +45,6 @@ format_named name =
 abbrev pub format_of : Option (List ℕ) → Option Format
 format_of None = Some Text
 format_of (Some name) = format_named name
-
--- `test` with a format that there is
-abbrev pub test_in : Option Format → (app : List ℕ) (cases : List (List ℕ)) → Asked
-test_in (Some format) app cases = Test app cases format
-test_in None app cases = NotTaken
 
 -- the layout of a name
 abbrev pub layout_named : List ℕ → Option Layout
@@ -58,10 +60,17 @@ abbrev pub layout_of : Option (List ℕ) → Option Layout
 layout_of None = Some AsText
 layout_of (Some name) = layout_named name
 
--- `watch` with a layout that there is
-abbrev pub watch_in : Option Layout → (app trace : List ℕ) (names : List (List ℕ)) (faults : Option (List ℕ)) → Asked
-watch_in (Some layout) app trace names faults = Watch app trace names faults layout
-watch_in None app trace names faults = NotTaken
+-- the output of a name
+abbrev pub output_named : List ℕ → Option Output
+output_named name =
+    if bytes_eq name (codes "text") then Some InText
+    else if bytes_eq name (codes "json") then Some InJson
+    else None
+
+-- what is told is told as text where nothing else is named
+abbrev pub output_of : Option (List ℕ) → Option Output
+output_of None = Some InText
+output_of (Some name) = output_named name
 
 -- a number that is 1 at least
 abbrev pub some_said : Option ℕ → Option ℕ
@@ -73,10 +82,17 @@ abbrev pub states_of : Option (List ℕ) → Option ℕ
 states_of None = Some 1000000
 states_of (Some word) = some_said (number_of word)
 
--- `never` with a number of states
-abbrev pub never_in : Option ℕ → (app rules : List ℕ) → Asked
-never_in (Some states) app rules = Never app rules states
-never_in None app rules = NotTaken
+-- a number that is 100 at most
+abbrev pub percent_said : Option ℕ → Option (Option ℕ)
+percent_said None = None
+percent_said (Some n) = if nat_le n 100 then Some (Some n) else None
+
+-- a percentage, where one is said
+abbrev pub percentage_of : Option (List ℕ) → Option (Option ℕ)
+percentage_of None = Some None
+percentage_of (Some word) = percent_said (number_of word)
+
+-- ---- what each command asks with what was given to it
 
 -- the values of an argument, none where it was not given
 abbrev pub values_of : List ℕ → List Row → List (List ℕ)
@@ -86,39 +102,67 @@ values_of id rows = unwrap_or (all_of id rows) []
 abbrev pub value_of : List ℕ → List Row → List ℕ
 value_of id rows = unwrap_or (first_of id rows) []
 
+-- what is asked with a value that an option has to have: nothing is taken where it has none
+abbrev pub asks_by : {X : Type 0} → Option X → (X → Asked) → Asked
+asks_by said asks = option_map_or asks said NotTaken
+
+-- `test`
+abbrev pub test_asks : List Row → Asked
+test_asks rows = asks_by (format_of (first_of (codes "format") rows))
+    (Test (value_of (codes "APP") rows) (values_of (codes "CASES") rows))
+
+-- `expand`
+abbrev pub expand_asks : List Row → Asked
+expand_asks rows = Expand (value_of (codes "APP") rows) (value_of (codes "CASES") rows)
+
+-- `watch`
+abbrev pub watch_asks : List Row → Asked
+watch_asks rows = asks_by (layout_of (first_of (codes "format") rows))
+    (Watch (value_of (codes "APP") rows) (value_of (codes "TRACE") rows) (values_of (codes "NAME") rows)
+    (first_of (codes "faults") rows))
+
+-- `trace`
+abbrev pub trace_asks : List Row → Asked
+trace_asks rows = Trace (value_of (codes "APP") rows) (value_of (codes "CSV") rows)
+
+-- `cover`
+abbrev pub cover_asks : List Row → Asked
+cover_asks rows = asks_by (output_of (first_of (codes "format") rows)) (λ output.
+    asks_by (percentage_of (first_of (codes "least") rows)) (λ least.
+    Cover (value_of (codes "APP") rows) (values_of (codes "TRACE") rows) output least
+    (nat_lt 0 (count_of (codes "ideas") rows))))
+
+-- `never`
+abbrev pub never_asks : List Row → Asked
+never_asks rows = asks_by (states_of (first_of (codes "states") rows))
+    (Never (value_of (codes "APP") rows) (value_of (codes "RULES") rows))
+
 -- the program has a command of this name
 abbrev pub is_command : List ℕ → Bool
-is_command name =
-    bytes_eq name (codes "test") || (bytes_eq name (codes "expand") || (bytes_eq name (codes "watch")
-    || (bytes_eq name (codes "never") || bytes_eq name (codes "help"))))
+is_command name = list_any (λ (s : Shape). bytes_eq s.name name) commands
 
 -- `help`: the page of a command that there is, or of the program
 abbrev pub help_asks : Option (List ℕ) → Asked
 help_asks None = Page
 help_asks (Some name) = if is_command name then Page else NotTaken
 
--- a page is there exactly for what `help` shows
-abbrev pub PageAsked : {T : Type 0} → Option (List ℕ) → Option T → Type 0
-PageAsked name (Some page) = help_asks name ≡ Page
-PageAsked name None = help_asks name ≡ NotTaken
-
 -- what a command asks with what was given to it
 abbrev pub command_asks : List ℕ → List Row → Asked
 command_asks name rows =
-    if bytes_eq name (codes "test") then
-    test_in (format_of (first_of (codes "format") rows)) (value_of (codes "APP") rows) (values_of (codes "CASES") rows)
-    else if bytes_eq name (codes "expand") then Expand (value_of (codes "APP") rows) (value_of (codes "CASES") rows)
-    else if bytes_eq name (codes "watch") then
-    watch_in (layout_of (first_of (codes "format") rows)) (value_of (codes "APP") rows) (value_of (codes "TRACE") rows)
-    (values_of (codes "NAME") rows) (first_of (codes "faults") rows)
-    else if bytes_eq name (codes "never") then
-    never_in (states_of (first_of (codes "states") rows)) (value_of (codes "APP") rows) (value_of (codes "RULES") rows)
+    if bytes_eq name (codes "test") then test_asks rows
+    else if bytes_eq name (codes "expand") then expand_asks rows
+    else if bytes_eq name (codes "watch") then watch_asks rows
+    else if bytes_eq name (codes "trace") then trace_asks rows
+    else if bytes_eq name (codes "cover") then cover_asks rows
+    else if bytes_eq name (codes "never") then never_asks rows
     else if bytes_eq name (codes "help") then help_asks (first_of (codes "COMMAND") rows)
     else NotTaken
 
 -- what the command that was named asks
 abbrev pub matched_asks : Option (List ℕ × List Row) → Asked
 matched_asks met = option_map_or (λ p. command_asks p.0 p.1) met NotTaken
+
+-- ---- what the words ask
 
 -- `clap` finds no fault in the words, and the command that they name asks this
 abbrev pub IsForm : List (List ℕ) → Asked → Type 0
@@ -136,11 +180,12 @@ AsksPage words = (kind : ErrorKind) × IsAmong kind (fault_of workbench words) �
 abbrev pub IsFaulty : List (List ℕ) → Type 0
 IsFaulty words = (kind : ErrorKind) × IsAmong kind (fault_of workbench words) × ¬ IsRequest kind
 
+-- what is asked where `clap` finds a fault: the page that was asked for, or nothing that is taken
+abbrev pub IsTurnedAway : List (List ℕ) → Asked → Type 0
+IsTurnedAway words Page = AsksPage words
+IsTurnedAway words NotTaken = IsFaulty words
+IsTurnedAway words asked = ⊥
+
 -- the words ask this
 abbrev pub Asks : List (List ℕ) → Asked → Type 0
-Asks words (Test app cases format) = IsForm words (Test app cases format)
-Asks words (Expand app cases) = IsForm words (Expand app cases)
-Asks words (Watch app trace names faults layout) = IsForm words (Watch app trace names faults layout)
-Asks words (Never app rules states) = IsForm words (Never app rules states)
-Asks words Page = IsForm words Page ⊎ AsksPage words
-Asks words NotTaken = IsForm words NotTaken ⊎ IsFaulty words
+Asks words asked = IsForm words asked ⊎ IsTurnedAway words asked

@@ -4,79 +4,71 @@ use Rattle.std.specs.Prelude.{ℕ, true, false, List, [], ◌∷◌, codes, Some
 use Rattle.clap.specs.Lexer.{usize_max}
 use Rattle.clap.specs.Walk.{Rule}
 use Rattle.clap.specs.Simple.{App, Shape, new_rule, new_shape}
+use Rattle.clap.specs.declared.builder.action.ArgAction.TheVariants.{Count}
 
--- APP, which is required
+-- a word
+abbrev pub word : List ℕ → Rule
+word id = new_rule id
+
+-- words, one at least where there are any
+abbrev pub words : List ℕ → Rule
+words id = record (new_rule id) {
+  range = Some (record { start_inclusive = 1; end_inclusive = usize_max });
+}
+
+-- `--NAME VALUE`
+abbrev pub option : List ℕ → Rule
+option name = record (new_rule name) { long = Some name; value_names = 1 }
+
+-- `--NAME`, which may be given more than once
+abbrev pub flag : List ℕ → Rule
+flag name = record (new_rule name) { long = Some name; action = Some Count }
+
+-- what may not be left out; all else may
+abbrev pub required : Rule → Rule
+required rule = record rule { required = true }
+
+-- APP, which each command but `help` has
 abbrev pub app : Rule
-app = record (new_rule (codes "APP")) { required = true }
+app = required (word (codes "APP"))
 
--- one case file, which is required
-abbrev pub file : Rule
-file = record (new_rule (codes "CASES")) { required = true }
-
--- case files, of which one is required
-abbrev pub files : Rule
-files = record (new_rule (codes "CASES")) {
-  required = true;
-  range = Some (record { start_inclusive = 1; end_inclusive = usize_max });
-}
-
--- TRACE, which is required
-abbrev pub items : Rule
-items = record (new_rule (codes "TRACE")) { required = true }
-
--- RULES, which is required
-abbrev pub rules : Rule
-rules = record (new_rule (codes "RULES")) { required = true }
-
--- NAMEs, which may be left out
-abbrev pub names : Rule
-names = record (new_rule (codes "NAME")) {
-  range = Some (record { start_inclusive = 1; end_inclusive = usize_max });
-}
-
--- `--faults FAULTS`, which may be left out
-abbrev pub faults : Rule
-faults = record (new_rule (codes "faults")) { long = Some (codes "faults"); value_names = 1 }
-
--- `--format FORMAT`, which may be left out
-abbrev pub format : Rule
-format = record (new_rule (codes "format")) { long = Some (codes "format"); value_names = 1 }
-
--- `--states N`, which may be left out
-abbrev pub states : Rule
-states = record (new_rule (codes "states")) { long = Some (codes "states"); value_names = 1 }
-
--- COMMAND, which may be left out
-abbrev pub topic : Rule
-topic = new_rule (codes "COMMAND")
-
--- a command of this name, with these arguments
+-- a command of this name, with these words and options
 abbrev pub command : List ℕ → List Rule → Shape
 command name rules = record (new_shape name) { rules = rules }
 
 -- `test APP CASES.. [--format FORMAT]`
 abbrev pub test : Shape
-test = command (codes "test") (app ∷ files ∷ format ∷ [])
+test = command (codes "test") (app ∷ required (words (codes "CASES")) ∷ option (codes "format") ∷ [])
 
 -- `expand APP CASES`
 abbrev pub expand : Shape
-expand = command (codes "expand") (app ∷ file ∷ [])
-
--- `watch APP TRACE [NAME..]`, without its options
-abbrev pub watch_words : Shape
-watch_words = command (codes "watch") (app ∷ items ∷ names ∷ [])
+expand = command (codes "expand") (app ∷ required (word (codes "CASES")) ∷ [])
 
 -- `watch APP TRACE [NAME..] [--faults FAULTS] [--format FORMAT]`
 abbrev pub watch : Shape
-watch = command (codes "watch") (app ∷ items ∷ names ∷ faults ∷ format ∷ [])
+watch = command (codes "watch") (app ∷ required (word (codes "TRACE")) ∷ words (codes "NAME")
+    ∷ option (codes "faults") ∷ option (codes "format") ∷ [])
+
+-- `trace APP CSV`
+abbrev pub trace : Shape
+trace = command (codes "trace") (app ∷ required (word (codes "CSV")) ∷ [])
+
+-- `cover APP TRACE.. [--format FORMAT] [--least PERCENT] [--ideas]`
+abbrev pub cover : Shape
+cover = command (codes "cover") (app ∷ required (words (codes "TRACE")) ∷ option (codes "format")
+    ∷ option (codes "least") ∷ flag (codes "ideas") ∷ [])
 
 -- `never APP RULES [--states N]`
 abbrev pub never : Shape
-never = command (codes "never") (app ∷ rules ∷ states ∷ [])
+never = command (codes "never") (app ∷ required (word (codes "RULES")) ∷ option (codes "states") ∷ [])
 
 -- `help [COMMAND]`
 abbrev pub help : Shape
-help = command (codes "help") (topic ∷ [])
+help = command (codes "help") (word (codes "COMMAND") ∷ [])
+
+-- the commands of the program
+unfoldable pub commands : List Shape
+commands = test ∷ expand ∷ watch ∷ trace ∷ cover ∷ never ∷ help ∷ []
 
 -- a command without subcommands
 abbrev pub leaf : Shape → App
@@ -91,18 +83,6 @@ bare = leaf (record (new_shape (codes "plcsafe-bench")) {
   has_version = true;
 })
 
--- the program with these commands
-abbrev pub with_commands : List Shape → App
-with_commands commands = record { top = record bare.top { is_leaf = false }; subs = commands }
-
--- the program with the commands that are about case files alone
-abbrev pub cases_workbench : App
-cases_workbench = with_commands (test ∷ expand ∷ [])
-
--- the program with the commands that are about runs and rules besides
-abbrev pub runs_workbench : App
-runs_workbench = with_commands (test ∷ expand ∷ watch ∷ never ∷ [])
-
 -- the program
-abbrev pub workbench : App
-workbench = with_commands (test ∷ expand ∷ watch ∷ never ∷ help ∷ [])
+unfoldable pub workbench : App
+workbench = record { top = record bare.top { is_leaf = false }; subs = commands }

@@ -1,22 +1,30 @@
 // What the words of a call ask of the program.
 
-ghost use Rattle.std.specs.Prelude.{◌≡◌, ◌≤◌, IfOk, List, ℕ, Some, None, option_map, map, codes, unwrap_or};
+ghost use Rattle.std.specs.Prelude.{◌≡◌, IfOk, List, ℕ, option_map};
+ghost use Rattle.std.specs.List.{list_any};
 ghost use Rattle.std.specs.Str.{bytes_eq};
-ghost use Rattle.clap.specs.Words.{kind_of, rows_of, found_of, first_of, all_of, subcommand_rows_of};
+ghost use Rattle.clap.specs.Words.{found_of, rows_of, subcommand_rows_of};
 ghost use Rattle.clap.specs.Faults.{fault_of};
 ghost use Rattle.clap.specs.Kinds.{HasKind};
+ghost use Rattle.clap.specs.Walk.{first_of};
 ghost use Rattle.ps_bench_words.specs.Asking as asking;
+ghost use Rattle.ps_bench_words.specs.Asking.{Asked as AskedOf};
 ghost use Rattle.ps_bench_words.specs.Commands as commands;
-ghost use Rattle.ps_bench_words.specs.Seen.{asked_seen, seen};
+ghost use Rattle.ps_bench_words.specs.Seen.{IsAsked, asked_seen, seen};
+ghost use Rattle.ps_bench_words.specs.declared.forms.Form.{Form as FormOf};
 
-use crate::command::{help_command, program, test_command, watch_command};
+use crate::command::{command_of, program};
+use crate::forms::{FORMS, Form};
 use crate::pages;
-use crate::ruling::never_in;
+use crate::reading::{
+    Unread, cover_in, expand_in, given_in, never_in, test_in, trace_in, watch_in,
+};
 use clap::error::ErrorKind;
 use clap::{ArgMatches, Command, Error};
 use ps_base::Memory;
+use ps_coverage::Format as Output;
 use ps_words::Words;
-use std::alloc::Global;
+use std::alloc::{AllocError, Global};
 
 /// How `test` tells its results.
 #[derive(Clone, Copy, Debug, PartialEq, Eq)]
@@ -56,13 +64,27 @@ pub enum Asked<'a> {
         app: &'a str,
         cases: &'a str,
     },
-    /// `watch APP TRACE [NAME..] [--faults FAULTS] [--format LAYOUT]`
+    /// `watch APP TRACE [NAME..] [--faults FAULTS] [--format FORMAT]`
     Watch {
         app: &'a str,
         trace: &'a str,
         names: Vec<&'a str>,
         faults: Option<&'a str>,
         layout: Layout,
+    },
+    /// `trace APP CSV`
+    Trace {
+        app: &'a str,
+        csv: &'a str,
+    },
+    /// `cover APP TRACE.. [--format FORMAT] [--least PERCENT] [--ideas]`
+    Cover {
+        app: &'a str,
+        traces: Vec<&'a str>,
+        output: Output,
+        /// In percent, from 0 to 100, where it is said.
+        least: Option<u32>,
+        ideas: bool,
     },
     /// `never APP RULES [--states N]`
     Never {
@@ -92,165 +114,26 @@ pub fn texts_of(alloc: Global, words: &Words) -> Result<Vec<&str>, Memory>
     Ok(texts)
 }
 
-// The format of a name.
-fn format_named(name: &str) -> Option<Format>
-    ensures { result ≡ asking.format_named name.now }
-{
-    match name {
-        "text" => Some(Format::Text),
-        "tap" => Some(Format::Tap),
-        "junit" => Some(Format::Junit),
-        _ => None,
-    }
-}
-
-// The format that was asked for.
-fn format_in(values: &ArgMatches<'_>) -> Option<Format>
-    ensures { result ≡ asking.format_of (first_of (codes "format") (rows_of (found_of values.now))) }
-{
-    match values.get_str("format") {
-        Some(name) => format_named(name),
-        None => Some(Format::Text),
-    }
-}
-
-// The layout of a name.
-fn layout_named(name: &str) -> Option<Layout>
-    ensures { result ≡ asking.layout_named name.now }
-{
-    match name {
-        "text" => Some(Layout::Text),
-        "csv" => Some(Layout::Csv),
-        "json" => Some(Layout::Json),
-        "vcd" => Some(Layout::Vcd),
-        _ => None,
-    }
-}
-
-// The layout that was asked for.
-fn layout_in(values: &ArgMatches<'_>) -> Option<Layout>
-    ensures { result ≡ asking.layout_of (first_of (codes "format") (rows_of (found_of values.now))) }
-{
-    match values.get_str("format") {
-        Some(name) => layout_named(name),
-        None => Some(Layout::Text),
-    }
-}
-
-// The first value of an argument, where it was given.
-fn given_in<'a>(values: &ArgMatches<'a>, id: &str) -> Option<&'a str>
-    ensures { option_map (λ s. s.now) result ≡ first_of id.now (rows_of (found_of values.now)) }
-{
-    values.get_str(id)
-}
-
-// The first value of an argument, the empty text where it was not given.
-pub(crate) fn value_in<'a>(values: &ArgMatches<'a>, id: &str) -> &'a str
-    ensures { result.now ≡ asking.value_of id.now (rows_of (found_of values.now)) }
-{
-    match values.get_str(id) {
-        Some(value) => value,
-        None => "",
-    }
-}
-
-// A list of its own of texts.
-fn copied<'a>(alloc: Global, texts: &[&'a str]) -> Result<Vec<&'a str>, Memory>
-    ensures { IfOk result (λ copy. seen copy.items ≡ seen texts.now) }
-{
-    let mut copy = Vec::new(alloc);
-    copy.extend_from_slice(texts)?;
-    Ok(copy)
-}
-
-// The values of an argument, none where it was not given.
-fn values_in<'a>(alloc: Global, values: &ArgMatches<'a>, id: &str) -> Result<Vec<&'a str>, Memory>
-    ensures { IfOk result (λ all. seen all.items ≡ asking.values_of id.now (rows_of (found_of values.now))) }
-{
-    match values.get_strs(id) {
-        Some(all) => copied(alloc, all),
-        None => Ok(Vec::new(alloc)),
-    }
-}
-
 // The text of an error, which is a page or what is wrong.
 fn text_of(alloc: Global, error: &Error) -> Result<String, Memory> {
     Ok(format!(in alloc; "{error}")?)
 }
 
-// What is wrong with the value of an argument, with the usage of its command.
-pub(crate) fn wrong_value(
-    alloc: Global,
-    command: Command<'_>,
-    message: &str,
-) -> Result<String, Memory> {
-    let mut command = command;
-    let error = command.error(ErrorKind::InvalidValue, message)?;
+// The command of this name as a program of its own, or the program where there is none.
+fn command_named<'a>(alloc: Global, name: &str) -> Result<Command<'a>, AllocError> {
+    for form in &FORMS {
+        if form.name == name {
+            return command_of(alloc, form)?.bin_name(form.call);
+        }
+    }
+    program(alloc)
+}
+
+// What is wrong with a value that was given to a command, with the usage of the command.
+fn wrong_value(alloc: Global, name: &str, why: &str) -> Result<String, Memory> {
+    let mut command = command_named(alloc, name)?;
+    let error = command.error(ErrorKind::InvalidValue, why)?;
     text_of(alloc, &error)
-}
-
-// What is wrong where there is no such format.
-fn no_format(alloc: Global) -> Result<String, Memory> {
-    let command = test_command(alloc)?.bin_name("plcsafe-bench test")?;
-    wrong_value(alloc, command, pages::NO_FORMAT)
-}
-
-// What is wrong where a run cannot be written so.
-fn no_layout(alloc: Global) -> Result<String, Memory> {
-    let command = watch_command(alloc)?.bin_name("plcsafe-bench watch")?;
-    wrong_value(alloc, command, pages::NO_LAYOUT)
-}
-
-// What is wrong where there is no such command.
-fn no_command(alloc: Global) -> Result<String, Memory> {
-    let command = help_command(alloc)?.bin_name("plcsafe-bench help")?;
-    wrong_value(alloc, command, pages::NO_COMMAND)
-}
-
-// What `test` asks with what was given to it.
-fn test_in<'a>(alloc: Global, values: &ArgMatches<'a>) -> Result<Asked<'a>, Memory>
-    ensures { IfOk result (λ asked. asked_seen asked ≡
-        asking.command_asks (codes "test") (rows_of (found_of values.now))) }
-{
-    match format_in(values) {
-        Some(format) => Ok(Asked::Test {
-            app: value_in(values, "APP"),
-            cases: values_in(alloc, values, "CASES")?,
-            format,
-        }),
-        None => Ok(Asked::NotTaken {
-            text: no_format(alloc)?,
-        }),
-    }
-}
-
-// What `expand` asks with what was given to it.
-fn expand_in<'a>(values: &ArgMatches<'a>) -> Asked<'a>
-    ensures { asked_seen result ≡ asking.command_asks (codes "expand") (rows_of (found_of values.now)) }
-{
-    Asked::Expand {
-        app: value_in(values, "APP"),
-        cases: value_in(values, "CASES"),
-    }
-}
-
-// What `watch` asks with what was given to it.
-fn watch_in<'a>(alloc: Global, values: &ArgMatches<'a>) -> Result<Asked<'a>, Memory>
-    ensures { IfOk result (λ asked. asked_seen asked ≡
-        asking.command_asks (codes "watch") (rows_of (found_of values.now))) }
-{
-    match layout_in(values) {
-        Some(layout) => Ok(Asked::Watch {
-            app: value_in(values, "APP"),
-            trace: value_in(values, "TRACE"),
-            names: values_in(alloc, values, "NAME")?,
-            faults: given_in(values, "faults"),
-            layout,
-        }),
-        None => Ok(Asked::NotTaken {
-            text: no_layout(alloc)?,
-        }),
-    }
 }
 
 // The page that `--help` shows behind these words.
@@ -261,47 +144,62 @@ fn shown_page(alloc: Global, words: &[&str]) -> Result<String, Memory> {
     }
 }
 
-// The page of a command, or of the program. None: there is no such command.
-fn page_named(alloc: Global, name: Option<&str>) -> Result<Option<String>, Memory>
-    ensures { IfOk result (λ page. asking.PageAsked (option_map (λ n. n.now) name.entry) page) }
+// Whether one of these forms has this name.
+fn is_among(forms: &[Form], name: &str) -> bool
+    ensures { result ≡ list_any (λ (f : FormOf). bytes_eq f.name.now name.now) forms.now }
 {
-    let page = match name {
-        None => shown_page(alloc, &["--help"])?,
-        Some("test") => shown_page(alloc, &["test", "--help"])?,
-        Some("expand") => shown_page(alloc, &["expand", "--help"])?,
-        Some("watch") => shown_page(alloc, &["watch", "--help"])?,
-        Some("never") => shown_page(alloc, &["never", "--help"])?,
-        Some("help") => shown_page(alloc, &["help", "--help"])?,
-        Some(_) => return Ok(None),
-    };
-    Ok(Some(page))
+    forms.iter().any(|form| form.name == name)
 }
 
-// What `help` asks with what was given to it.
-fn help_in<'a>(alloc: Global, values: &ArgMatches<'a>) -> Result<Asked<'a>, Memory>
-    ensures { IfOk result (λ asked. asked_seen asked ≡
-        asking.command_asks (codes "help") (rows_of (found_of values.now))) }
+// Whether the program has a command of this name.
+#[tactic(auto, unfolding(crate::specs::Commands::commands))]
+fn is_command(name: &str) -> bool
+    ensures { result ≡ asking.is_command name.now }
 {
-    match page_named(alloc, values.get_str("COMMAND"))? {
-        Some(text) => Ok(Asked::Page { text }),
-        None => Ok(Asked::NotTaken {
-            text: no_command(alloc)?,
-        }),
-    }
+    is_among(&FORMS, name)
+}
+
+// What `help` asks about a command, or about the program.
+fn help_in<'a>(alloc: Global, name: Option<&str>) -> Result<Asked<'a>, Unread>
+    ensures { IsAsked result (asking.help_asks (option_map (λ n. n.now) name.entry)) }
+{
+    let text = match name {
+        None => shown_page(alloc, &["--help"])?,
+        Some(name) if is_command(name) => shown_page(alloc, &[name, "--help"])?,
+        Some(_) => return Err(Unread::Wrong(pages::NO_COMMAND)),
+    };
+    Ok(Asked::Page { text })
 }
 
 // What a command asks with what was given to it.
-fn command_in<'a>(alloc: Global, name: &str, values: &ArgMatches<'a>) -> Result<Asked<'a>, Memory>
-    ensures { IfOk result (λ asked. asked_seen asked ≡ asking.command_asks name.now (rows_of (found_of values.now))) }
+fn command_in<'a>(alloc: Global, name: &str, values: &ArgMatches<'a>) -> Result<Asked<'a>, Unread>
+    ensures { IsAsked result (asking.command_asks name.now (rows_of (found_of values.now))) }
 {
     match name {
         "test" => test_in(alloc, values),
         "expand" => Ok(expand_in(values)),
         "watch" => watch_in(alloc, values),
-        "never" => never_in(alloc, values),
-        "help" => help_in(alloc, values),
-        _ => Ok(Asked::NotTaken {
-            text: no_command(alloc)?,
+        "trace" => Ok(trace_in(values)),
+        "cover" => cover_in(alloc, values),
+        "never" => never_in(values),
+        "help" => help_in(alloc, given_in(values, "COMMAND")),
+        _ => Err(Unread::Wrong(pages::NO_COMMAND)),
+    }
+}
+
+// What a command asks, with its words for what is wrong where nothing is taken.
+fn told<'a>(
+    alloc: Global,
+    name: &str,
+    asked: Result<Asked<'a>, Unread>,
+) -> Result<Asked<'a>, Memory>
+    ensures { (wanted : AskedOf) → IsAsked asked.entry wanted → IfOk result (λ a. asked_seen a ≡ wanted) }
+{
+    match asked {
+        Ok(asked) => Ok(asked),
+        Err(Unread::NoMemory) => Err(Memory),
+        Err(Unread::Wrong(why)) => Ok(Asked::NotTaken {
+            text: wrong_value(alloc, name, why)?,
         }),
     }
 }
@@ -311,17 +209,15 @@ fn matched<'a>(alloc: Global, matches: &ArgMatches<'a>) -> Result<Asked<'a>, Mem
     ensures { IfOk result (λ asked. asked_seen asked ≡ asking.matched_asks (subcommand_rows_of matches.now)) }
 {
     match matches.subcommand() {
-        Some((name, values)) => command_in(alloc, name, values),
-        None => Ok(Asked::NotTaken {
-            text: no_command(alloc)?,
-        }),
+        Some((name, values)) => told(alloc, name, command_in(alloc, name, values)),
+        None => told(alloc, "", Err(Unread::Wrong(pages::NO_COMMAND))),
     }
 }
 
 // What an error of a parse asks: a page, or nothing that is taken.
 fn refused<'a>(alloc: Global, error: Error) -> Result<Asked<'a>, Memory>
     ensures { (words : List (List ℕ)) → HasKind (fault_of commands.workbench words) error →
-        IfOk result (λ asked. asking.Asks words (asked_seen asked)) }
+        IfOk result (λ asked. asking.IsTurnedAway words (asked_seen asked)) }
 {
     match error.kind() {
         ErrorKind::OutOfMemory => Err(Memory),

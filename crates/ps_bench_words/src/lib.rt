@@ -1,12 +1,15 @@
 //! The words of a call of `plcsafe-bench`, and what they ask.
 //!
-//! `command` is what `clap` is asked to read, with its help, its version and its errors; `asking` says what the words
-//! ask of the program, with what `never` asks in `ruling`.
+//! `forms` is the table of the commands, with what their pages say; `command` makes of it what `clap` is asked to read,
+//! with its help, its version and its errors; `reading` reads what was given to a command, and `asking` says what the
+//! words ask of the program.
 #![tactic(auto)]
 
 mod asking;
 mod command;
+mod forms;
 mod pages;
-mod ruling;
+mod reading;
 
 pub use asking::{Asked, Format, Layout, asked_of, texts_of};
+pub use ps_coverage::Format as Output;

@@ -14,4 +14,3 @@ pub mod TraceBack
 pub mod OneLines
 pub mod LegibleFiles
 pub mod HexPairs
-pub mod CaseWith

@@ -157,7 +157,7 @@ abbrev lines : ℕ → List ℕ → List Line
 lines at text = lines_from LARGEST_TRACE LONGEST_TRACE_LINE at (raw_lines text)
 
 -- items before others
-abbrev onto : List Item → Scans → Scans
+abbrev pub onto : List Item → Scans → Scans
 onto items s = record { items = items ++ s.items; end = s.end }
 
 -- a line that is kept, and what is behind it
@@ -177,19 +177,19 @@ line_front at line kept rest one short is fits =
 
 module _ (inputs : ℕ) where
   -- what is read from an offset on
-  abbrev scans_at : (number last at : ℕ) → List ℕ → Scans
+  abbrev pub scans_at : (number last at : ℕ) → List ℕ → Scans
   scans_at number last at text = scans_from (range_with_len 0 inputs) number last (lines at text)
 
   -- in front of any text these bytes are read as these items, and leave this time as the last
-  abbrev Gives : List ℕ → List Item → (last after : ℕ) → Type 0
+  abbrev pub Gives : List ℕ → List Item → (last after : ℕ) → Type 0
   Gives bytes items last after =
       (number at : ℕ) (rest : List ℕ) → at + length (bytes ++ rest) ≤ LARGEST_TRACE →
       (next : ℕ) × (scans_at number last at (bytes ++ rest) ≡ onto items (scans_at next after (at + length bytes) rest))
 
-  gives_nothing : (last : ℕ) → Gives [] [] last last
+  pub gives_nothing : (last : ℕ) → Gives [] [] last last
   gives_nothing last number at rest fits = (number, ap (λ (n : ℕ). scans_at number last n rest) (omega arith))
 
-  gives_both : (a b : List ℕ) (is js : List Item) (l m n : ℕ) → Gives a is l m → Gives b js m n → Gives (a ++ b) (is ++ js) l n
+  pub gives_both : (a b : List ℕ) (is js : List Item) (l m n : ℕ) → Gives a is l m → Gives b js m n → Gives (a ++ b) (is ++ js) l n
   gives_both a b is js l m n first second number at rest fits =
       let whole : (a ++ b) ++ rest ≡ a ++ (b ++ rest) = append_assoc a b rest in
       let sizes : length (a ++ (b ++ rest)) ≡ length a + length (b ++ rest) = length-append a (b ++ rest) in
@@ -222,11 +222,11 @@ module _ (inputs : ℕ) where
       subst (λ (t : List ℕ). Gives t [] last last) (sym is)
       (λ number at behind fits. (number + 1, said_front skips number last at line (strip_carriage_return line) behind one short refl (ap (line_said inputs last) (comment_passed line b c rest hash begins)) fits))
 
-  gives_restart : (last : ℕ) → Gives restart_line (restart ∷ []) last last
+  pub gives_restart : (last : ℕ) → Gives restart_line (restart ∷ []) last last
   gives_restart last number at rest fits =
       (number + 1, said_front restarts number last at (codes "restart") (codes "restart") rest refl (omega arith) refl refl fits)
 
-  gives_scan : (now last : ℕ) (ins : List Bool) → length ins ≡ inputs → inputs ≤ 512 → now ≤ LARGEST_TIME → last ≤ now → Gives (scan_line now ins) (scan now ins ∷ []) last now
+  pub gives_scan : (now last : ℕ) (ins : List Bool) → length ins ≡ inputs → inputs ≤ 512 → now ≤ LARGEST_TIME → last ≤ now → Gives (scan_line now ins) (scan now ins ∷ []) last now
   gives_scan now last ins size few small on =
       let body = decimal now ++ flat_map value_text ins in
       let fits64 : now < 2 ^ 64 = omega (arith, small) in
@@ -425,29 +425,37 @@ plain_names (s ∷ ss) each =
 
 -- ---- The whole trace.
 
+-- a header, and behind it bytes that are read as items
+pub read_behind : (net : Network) (bytes : List ℕ) (items : List Item) (after : ℕ) → IsSound net → All IsSeen (input_names net) →
+    length (header_line net) ≤ LONGEST_TRACE_LINE + 1 → length (header_line net ++ bytes) ≤ LARGEST_TRACE → Gives (input_count net) bytes items 0 after →
+    scans_of (header_line net ++ bytes) net ≡ record { items = items; end = whole }
+read_behind net bytes items after sound seen long fits_all gives =
+    let n = input_count net in
+    let names = flat_map (λ (s : Signal). 32 ∷ s.name) net.inputs in
+    let body = codes "time" ++ names in
+    let found = range_with_len 0 n in
+    let header : header_line net ≡ body ++ codes "\n" = sym (append_assoc (codes "time") names (codes "\n")) in
+    let whole_text : header_line net ++ bytes ≡ (body ++ codes "\n") ++ bytes = ap (λ (h : List ℕ). h ++ bytes) header in
+    let plain : is_plain body ≡ true = plain_names net.inputs seen in
+    let size : length (header_line net) ≡ length (body ++ codes "\n") = ap (λ (h : List ℕ). length h) header in
+    let short : length body ≤ LONGEST_TRACE_LINE = omega (arith, long, size, length-append body (codes "\n")) in
+    let off = 0 + length (body ++ codes "\n") in
+    let fits : 0 + length ((body ++ codes "\n") ++ bytes) ≤ LARGEST_TRACE = omega (arith, fits_all, ap (λ (t : List ℕ). length t) whole_text) in
+    let all_lines : lines 0 (header_line net ++ bytes) ≡ Kept body ∷ lines off bytes = ap (lines 0) whole_text ∙ line_front 0 body body bytes (no_feed body plain) short (stripped body plain) fits in
+    let said : header_said (input_names net) (fields body) ≡ places found = header_back net sound (has_words (input_names net) seen) in
+    let nil : bytes ++ [] ≡ bytes = append-nil bytes in
+    let ends : off + length (bytes ++ []) ≤ LARGEST_TRACE = omega (arith, fits, length-append (body ++ codes "\n") bytes, ap (λ (t : List ℕ). length t) nil) in
+    let read = gives 2 off [] ends in
+    ap (λ (ls : List Line). scans_behind (header_from (input_names net) 1 ls)) all_lines
+    ∙ ap (λ (h : Header). scans_behind (onto_headed h 1 2 (lines off bytes) (header_from (input_names net) 2 (lines off bytes)))) said
+    ∙ ap (λ (t : List ℕ). scans_at n 2 0 off t) (sym nil)
+    ∙ read.1
+    ∙ ap (λ (is : List Item). record { items = is; end = whole }) (append-nil items)
+
 pub trace_back : (net : Network) (file : CaseFile) → IsSound net → All (λ (c : Case). IsRunnable net (whole_case file c)) file.cases → IsLegible net file →
     scans_of (expanded net file) net ≡ record { items = items_of_file net file; end = whole }
 trace_back net file sound runs legible =
     let n = input_count net in
-    let names = flat_map (λ (s : Signal). 32 ∷ s.name) net.inputs in
-    let body = codes "time" ++ names in
     let text = cases_text n file.begin [] 0 file.cases in
-    let found = range_with_len 0 n in
-    let header : header_line net ≡ body ++ codes "\n" = sym (append_assoc (codes "time") names (codes "\n")) in
-    let whole_text : expanded net file ≡ (body ++ codes "\n") ++ text = ap (λ (h : List ℕ). h ++ text) header in
-    let plain : is_plain body ≡ true = plain_names net.inputs legible.inputs in
-    let size : length (header_line net) ≡ length (body ++ codes "\n") = ap (λ (h : List ℕ). length h) header in
-    let short : length body ≤ LONGEST_TRACE_LINE = omega (arith, legible.header, size, length-append body (codes "\n")) in
-    let off = 0 + length (body ++ codes "\n") in
-    let fits : 0 + length ((body ++ codes "\n") ++ text) ≤ LARGEST_TRACE = omega (arith, legible.size, ap (λ (t : List ℕ). length t) whole_text) in
-    let all_lines : lines 0 (expanded net file) ≡ Kept body ∷ lines off text = ap (lines 0) whole_text ∙ line_front 0 body body text (no_feed body plain) short (stripped body plain) fits in
-    let said : header_said (input_names net) (fields body) ≡ places found = header_back net sound (has_words (input_names net) legible.inputs) in
     let gives = gives_cases net sound.few_inputs file.begin file.cases [] [] 0 (gives_nothing n 0) (runs, legible.names, legible.faults) (in_time (items_of_file net file) legible.times) in
-    let nil : text ++ [] ≡ text = append-nil text in
-    let ends : off + length (text ++ []) ≤ LARGEST_TRACE = omega (arith, fits, length-append (body ++ codes "\n") text, ap (λ (t : List ℕ). length t) nil) in
-    let read = gives.1 2 off [] ends in
-    ap (λ (ls : List Line). scans_behind (header_from (input_names net) 1 ls)) all_lines
-    ∙ ap (λ (h : Header). scans_behind (onto_headed h 1 2 (lines off text) (header_from (input_names net) 2 (lines off text)))) said
-    ∙ ap (λ (t : List ℕ). scans_at n 2 0 off t) (sym nil)
-    ∙ read.1
-    ∙ ap (λ (items : List Item). record { items = items; end = whole }) (append-nil (items_of_file net file))
+    read_behind net text (items_of_file net file) gives.0 sound legible.inputs legible.header legible.size gives.1

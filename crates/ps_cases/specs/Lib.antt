@@ -7,7 +7,6 @@ pub mod Line
 pub mod Stands
 pub mod File
 pub mod Expanded
-pub mod Alone
 pub mod Joined
 pub mod Traced
 pub mod Legible

@@ -1,25 +1,19 @@
-// One trace of all cases of a file.
+// The parts of the trace of cases.
 
-ghost use Rattle.std.specs.Prelude.{◌≡◌, ◌≤◌, ◌<◌, ◌+◌, ◌++◌, ◌∷◌, [], ◌^◌, All, OnOk, length, fold, flat_map, decimal};
-ghost use Rattle.ps_model.specs.Network.{input_count};
-ghost use Rattle.ps_cases.specs.declared.limits.TheConstants.{MOST_CASES};
+ghost use Rattle.std.specs.Prelude.{◌≡◌, ◌<◌, ◌+◌, ◌++◌, ◌∷◌, ◌^◌, All, OnOk, length, fold, flat_map, decimal};
 ghost use Rattle.ps_terms.specs.declared.name.Setting.{Setting};
-ghost use Rattle.ps_cases.specs.declared.case.Case.{Case};
-ghost use Rattle.ps_cases.specs.Meant.{times_of, whole_case};
-ghost use Rattle.ps_cases.specs.Runnable.{IsRunnable};
+ghost use Rattle.ps_cases.specs.Meant.{times_of};
 ghost use Rattle.ps_cases.specs.Expanded.{header_line, value_text, scan_line, name_line, act_text, point_set};
 ghost use Rattle.ps_cases.specs.Expanded.{next_point};
-ghost use Rattle.ps_cases.specs.Expanded.{statements_text, SetInputs, end_point, case_text, cases_text, expanded};
-ghost use Rattle.ps_cases.specs.Alone.{alone};
+ghost use Rattle.ps_cases.specs.Expanded.{statements_text, SetInputs, end_point, case_text};
 ghost use Rattle.ps_cases.specs.Writing.{Wrote};
 
-use crate::case::{Act, Case, CaseFile, Pace, Statement};
-use crate::point::{Point, room_of};
+use crate::case::{Act, Case, Pace, Statement};
+use crate::point::Point;
 use itoa::Buffer;
 use ps_base::Memory;
 use ps_model::{App, Bits};
 use ps_outside::{Sink, write_all};
-use std::alloc::Global;
 
 /// Why a trace was not written to its end. What was written is a beginning of it.
 #[derive(Clone, Copy, Debug, PartialEq, Eq)]
@@ -40,90 +34,10 @@ impl From<Memory> for ExpandFail {
     }
 }
 
-/// Writes one trace of all cases of a file of this application.
-///
-/// The header has the inputs in order of declaration. Each case begins with the line `# case NAME`, behind a restart
-/// but for the first one, and at the last time in ms of the case before it. A fault is a line `# fault ..` before the
-/// scan that it strikes. `read_cases` gives files that may be asked for.
-///
-/// `Fault` comes only where the output's count rose in this call, at the one write that failed. Memory does not grow
-/// with the scans: it has a value for each input, and room for the lines of the faults of a case. All of it is taken
-/// before the first line.
-pub fn expand<S: Sink>(
-    out: &mut S,
-    alloc: Global,
-    app: &App,
-    file: &CaseFile,
-) -> Result<(), ExpandFail>
-    requires runnable { All (λ (case : Case). IsRunnable app.now (whole_case file.now case)) file.now.cases }
-    requires few { length file.now.cases ≤ MOST_CASES }
-    ensures { Wrote S.tells S.taken S.faults (expanded app.now file.now) out.old out.new result }
-{
-    let mut point = Point::new(alloc, usize::from(app.input_count()), room_of_file(file))?;
-    put_header(out, app)?;
-    put_cases(out, &mut point, file)
-}
-
-/// Writes the trace of one case of a file of this application, as if the file had this case alone: from time 0 on.
-///
-/// All else is as with `expand`.
-pub fn expand_alone<S: Sink>(
-    out: &mut S,
-    alloc: Global,
-    app: &App,
-    file: &CaseFile,
-    case: &Case,
-) -> Result<(), ExpandFail>
-    requires { IsRunnable app.now (whole_case file.now case.now) }
-    ensures { Wrote S.tells S.taken S.faults (expanded app.now (alone file.now case.now)) out.old out.new result }
-{
-    let begin = file.begin.as_slice();
-    let room = room_of_faults(begin).saturating_add(room_of_faults(case.statements.as_slice()));
-    let mut point = Point::new(alloc, usize::from(app.input_count()), room)?;
-    put_header(out, app)?;
-    put_case(out, &mut point, 0, begin, case)
-}
-
-// Room enough for the lines of the faults of each scan of a file: for those of the case that has most.
-fn room_of_file(file: &CaseFile) -> usize {
-    let mut most = 0;
-    for case in file.cases.as_slice() {
-        most = room_of_faults(case.statements.as_slice()).max(most);
-    }
-    room_of_faults(file.begin.as_slice()).saturating_add(most)
-}
-
-// Room enough for the lines of the faults of statements.
-fn room_of_faults(statements: &[Statement]) -> usize {
-    let mut room: usize = 0;
-    for statement in statements {
-        if let Act::Fault(fault) = &statement.act {
-            room = room.saturating_add(room_of(fault));
-        }
-    }
-    room
-}
-
-// All cases.
-fn put_cases<S: Sink>(out: &mut S, point: &mut Point, file: &CaseFile) -> Result<(), ExpandFail>
-    requires inputs { All (λ (c : Case). SetInputs (length point.old.ins) (whole_case file.now c)) file.now.cases }
-    requires few { length file.now.cases ≤ MOST_CASES }
-    ensures { Wrote S.tells S.taken S.faults
-        (cases_text (length point.old.ins) file.now.begin [] 0 file.now.cases) out.old out.new result }
-{
-    let mut base = 0;
-    let mut lead: &[u8] = b"";
-    for case in file.cases.as_slice() {
-        put(out, lead)?;
-        put_case(out, point, base, file.begin.as_slice(), case)?;
-        base += u64::from(point.time);
-        lead = b"restart\n";
-    }
-    Ok(())
-}
-
-// A case that begins at this time, behind the statements before the first one.
-fn put_case<S: Sink>(
+/// Writes a case that begins at this time in ms, behind the statements before the first one: its name, and the lines of
+/// its statements. The point is behind it then. `Fault`: a write failed, and what was written is a beginning of it;
+/// Memory: there was no room for the line of a fault.
+pub fn put_case<S: Sink>(
     out: &mut S,
     point: &mut Point,
     base: u64,
@@ -211,8 +125,8 @@ fn put_pace<S: Sink>(out: &mut S, base: u64, ins: &Bits, pace: &Pace) -> Result<
     Ok(())
 }
 
-// A scan.
-fn put_scan<S: Sink>(out: &mut S, now: u64, ins: &Bits) -> Result<(), ExpandFail>
+/// Writes the line of a scan at this time in ms, with these values of the inputs. `Fault`: a write failed.
+pub fn put_scan<S: Sink>(out: &mut S, now: u64, ins: &Bits) -> Result<(), ExpandFail>
     ensures { Wrote S.tells S.taken S.faults (scan_line now ins.now) out.old out.new result }
 {
     put_number(out, now)?;
@@ -254,8 +168,8 @@ fn put_name<S: Sink>(out: &mut S, name: &str) -> Result<(), ExpandFail>
     put(out, b"\n")
 }
 
-// The header.
-fn put_header<S: Sink>(out: &mut S, app: &App) -> Result<(), ExpandFail>
+/// Writes the header: `time`, and the inputs in order of declaration. `Fault`: a write failed.
+pub fn put_header<S: Sink>(out: &mut S, app: &App) -> Result<(), ExpandFail>
     ensures { Wrote S.tells S.taken S.faults (header_line app.now) out.old out.new result }
 {
     put(out, b"time")?;
@@ -282,8 +196,8 @@ fn put_input<S: Sink>(out: &mut S, name: &str) -> Result<(), ExpandFail>
     put(out, name.as_bytes())
 }
 
-// A piece of the trace.
-fn put<S: Sink>(out: &mut S, piece: &[u8]) -> Result<(), ExpandFail>
+/// Writes a piece of the trace. `Fault`: the write failed, and a beginning of the piece was written.
+pub fn put<S: Sink>(out: &mut S, piece: &[u8]) -> Result<(), ExpandFail>
     ensures { Wrote S.tells S.taken S.faults piece.now out.old out.new result }
 {
     match write_all(out, piece) {

@@ -6,9 +6,9 @@ use ps_base::Memory;
 use std::alloc::Global;
 use std::marker::Model;
 
-// Bytes that keep their room where they are cleared. Contracts see them as their list.
+/// Bytes that keep their room where they are cleared. Contracts see them as their list.
 #[derive(Drop)]
-pub(crate) struct Held {
+pub struct Held {
     items: Vec<u8>,
 }
 

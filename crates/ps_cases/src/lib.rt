@@ -9,11 +9,10 @@
 //!   `measured` the room that its trace has left (`room`), and `reading` reads it, within `limits`. `laws` has what
 //!   holds
 //!   of all case files.
-//! - `expanding` writes one trace of all cases, or of one of them, and `point` is how it stands between two lines of a
-//!   case. `alone` finds the case that has a line.
+//! - `expanding` writes the parts of its trace: the header and a case; `point` is how the trace stands between two
+//!   lines of a case.
 #![tactic(auto)]
 
-mod alone;
 mod case;
 mod checks;
 mod deed;
@@ -37,9 +36,10 @@ mod settling;
 mod stand;
 mod strike;
 
-pub use alone::case_with_line;
 pub use case::{Act, Case, CaseFile, Check, Expectation, Pace, Statement, Window};
-pub use expanding::{ExpandFail, expand, expand_alone};
+pub use expanding::{ExpandFail, put, put_case, put_header, put_scan};
+pub use held::Held;
 pub use lists::{Cases, Checks, Statements};
+pub use point::{Point, room_of};
 pub use reading::read_cases;
 pub use rule::{CaseRefusal, CaseRule, CasesFail};

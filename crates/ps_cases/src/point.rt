@@ -15,19 +15,23 @@ use ps_model::{Bits, Channel, Fault, Region};
 use ps_terms::Setting;
 use std::alloc::Global;
 
-// How the trace stands: when the case begins, the time of its last scan within the case, the values of the inputs, and
-// the lines of the faults of its next scan.
+/// How the trace stands between two lines of a case.
 #[derive(Drop)]
-pub(crate) struct Point {
-    pub(crate) base: u64,
-    pub(crate) time: u32,
-    pub(crate) ins: Bits,
-    pub(crate) held: Held,
+pub struct Point {
+    /// When the case begins, in ms.
+    pub base: u64,
+    /// The time of its last scan within the case, in ms.
+    pub time: u32,
+    /// The values of the inputs.
+    pub ins: Bits,
+    /// The lines of the faults of its next scan.
+    pub held: Held,
 }
 
 impl Point {
-    // With so many inputs, before the first case. There is room for so many bytes of the lines of faults.
-    pub(crate) fn new(alloc: Global, inputs: usize, room: usize) -> Result<Point, Memory>
+    /// With so many inputs, before the first case. There is room for so many bytes of the lines of faults. `Err`:
+    /// memory is wanting.
+    pub fn new(alloc: Global, inputs: usize, room: usize) -> Result<Point, Memory>
         ensures { IfOk result (λ point. point ≡ begin_point inputs 0) }
     {
         Ok(Point {
@@ -85,8 +89,8 @@ fn last_time(pace: &Pace) -> u32
     time.min(u64::from(pace.upto)) as u32
 }
 
-// Room enough for the line of a fault: twice its bytes, and all else.
-pub(crate) fn room_of(fault: &Fault) -> usize {
+/// Room enough for the line of a fault, in bytes: twice its bytes, and all else.
+pub fn room_of(fault: &Fault) -> usize {
     fault
         .bytes
         .as_slice()

@@ -3,7 +3,8 @@ use Rattle.std.specs.Prelude.{ℕ, ◌==◌, List, [], ◌∷◌, ◌++◌, code
 use Rattle.std.specs.List.{flat_map}
 use Rattle.ps_cases.specs.declared.rule.CaseRefusal.{CaseRefusal}
 use Rattle.ps_bench_base.specs.Refusing.{refused_line}
-use Rattle.ps_results.specs.Lines.{Ran, all_failures, passes}
+use Rattle.ps_results.specs.Lines.{all_failures}
+use Rattle.ps_told.specs.Outcome.{Ran, passes}
 use Rattle.ps_bench_base.specs.Pieces.{count_text}
 
 -- a byte of a text or an attribute: what has a meaning of its own is escaped, and what XML cannot hold is `?`

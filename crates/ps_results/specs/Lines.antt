@@ -1,30 +1,9 @@
 -- Results in lines for a person.
-use Rattle.std.specs.Prelude.{ℕ, Bool, ◌==◌, ◌-◌, List, ◌++◌, codes, decimal, length, if◌then◌else◌}
-use Rattle.ps_cases.specs.declared.case.Case.{Case}
-use Rattle.ps_cases.specs.declared.case.CaseFile.{CaseFile}
-use Rattle.ps_rig.specs.declared.run.CaseOutcome.{CaseOutcome}
-use Rattle.ps_model.specs.Network.{Network}
+use Rattle.std.specs.Prelude.{ℕ, ◌-◌, List, ◌++◌, codes, decimal, if◌then◌else◌}
 use Rattle.ps_results.specs.Failing.{failures_text}
 use Rattle.ps_bench_base.specs.Pieces.{count_text, place_text}
-use Rattle.ps_results.specs.declared.report.CaseRun.{CaseRun}
-use Rattle.ps_results.specs.declared.report.Tally.{Tally}
-
--- A case that was run: the application, the name of its file, what the file says, the case, and what came of it, with
--- the failures in the order of their lines.
-pub record Ran : Type 0 where
-  pub net : Network
-  pub name : List ℕ
-  pub file : CaseFile
-  pub case : Case
-  pub outcome : CaseOutcome
-
--- how the code has it
-abbrev pub ran_of : CaseRun → Ran
-ran_of r = record { net = r.app.now; name = r.name.now; file = r.file.now; case = r.case.now; outcome = r.outcome.now }
-
--- A case is told as passed exactly where its failures are none.
-abbrev pub passes : CaseOutcome → Bool
-passes outcome = length outcome.failures.items == 0
+use Rattle.ps_told.specs.Outcome.{Ran, passes}
+use Rattle.ps_told.specs.declared.outcome.Tally.{Tally}
 
 -- a case in a line, as `PASS press.cases:7 the guard stops the ram (56 scans)`
 abbrev pub case_line : Ran → List ℕ

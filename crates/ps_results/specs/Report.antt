@@ -1,25 +1,14 @@
 -- What is told of results, in one of three forms.
-use Rattle.std.specs.Prelude.{ℕ, List, [], ◌+◌, min, Bool, if◌then◌else◌}
+use Rattle.std.specs.Prelude.{ℕ, List, []}
 use Rattle.ps_bench_words.specs.declared.asking.Format.{Format}
 use Rattle.ps_bench_words.specs.declared.asking.Format.TheVariants.{Text, Tap, Junit}
 use Rattle.ps_cases.specs.declared.rule.CaseRefusal.{CaseRefusal}
 use Rattle.ps_results.specs.Junit.{junit_case, junit_foot, junit_head, junit_refused, suite_foot, suite_head}
 use Rattle.ps_bench_base.specs.Refusing.{refused_line}
-use Rattle.ps_results.specs.Lines.{Ran, case_lines, total_line}
+use Rattle.ps_results.specs.Lines.{case_lines, total_line}
 use Rattle.ps_results.specs.Tap.{tap_case, tap_head, tap_plan, tap_refused}
-use Rattle.ps_results.specs.declared.report.Tally.{Tally}
-
--- the number behind a number; the largest one stays
-abbrev pub next : ℕ → ℕ
-next n = min (n + 1) 18446744073709551615
-
--- no case was told yet
-abbrev pub none_told : Tally
-none_told = record { cases = 0; failed = 0 }
-
--- one more case was told, which passed or failed
-abbrev pub counted : Tally → (passed : Bool) → Tally
-counted t passed = record { cases = next t.cases; failed = if passed then t.failed else next t.failed }
+use Rattle.ps_told.specs.Outcome.{Ran, next}
+use Rattle.ps_told.specs.declared.outcome.Tally.{Tally}
 
 -- what stands before all results
 abbrev pub head_text : Format → List ℕ

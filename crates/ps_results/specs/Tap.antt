@@ -3,9 +3,10 @@ use Rattle.std.specs.Prelude.{ℕ, ◌==◌, List, [], ◌∷◌, ◌++◌, code
 use Rattle.std.specs.List.{flat_map}
 use Rattle.ps_cases.specs.declared.rule.CaseRefusal.{CaseRefusal}
 use Rattle.ps_bench_base.specs.Refusing.{refused_line}
-use Rattle.ps_results.specs.Lines.{Ran, all_failures, passes}
+use Rattle.ps_results.specs.Lines.{all_failures}
+use Rattle.ps_told.specs.Outcome.{Ran, passes}
 use Rattle.ps_bench_base.specs.Pieces.{place_text}
-use Rattle.ps_results.specs.declared.report.Tally.{Tally}
+use Rattle.ps_told.specs.declared.outcome.Tally.{Tally}
 
 -- a byte of a description, in which `#` would begin a directive
 abbrev pub tap_byte : ℕ → List ℕ

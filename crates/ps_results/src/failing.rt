@@ -1,128 +1,19 @@
 // The failures of a case, each in a sentence.
 
-ghost use Rattle.std.specs.Prelude.{◌≡◌, ◌++◌, [], OnOk, decimal, codes, unwrap_or, slice_get, nat_lt, option_map};
-ghost use Rattle.std.specs.Prelude.{if◌then◌else◌};
+ghost use Rattle.std.specs.Prelude.{◌≡◌, ◌++◌, [], OnOk, decimal, codes, slice_get};
 ghost use Rattle.std.specs.List.{flat_map};
 ghost use Rattle.std.specs.Option.{option_map_or};
-ghost use Rattle.ps_model.specs.Network.{instance_count, kind_at};
-ghost use Rattle.ps_model.specs.Pins.{pin_names};
-ghost use Rattle.ps_states.specs.States.{state_words};
-ghost use Rattle.ps_results.specs.Failing.{broken_text, check_text, failure_text, failures_text, found_text, from_line};
-ghost use Rattle.ps_results.specs.Failing.{instance_text, marked, name_text, over_text, pin_text, signal_text};
-ghost use Rattle.ps_results.specs.Failing.{state_text, words_text};
-ghost use Rattle.ps_results.specs.Failing.{unmet_text, value_text, values_text, why_text, window_text};
+ghost use Rattle.ps_results.specs.Failing.{broken_text, check_text, failure_text, failures_text, found_text};
+ghost use Rattle.ps_results.specs.Failing.{marked, over_text, unmet_text, values_text, why_text, window_text};
+ghost use Rattle.ps_told.specs.Naming.{value_text};
 
 use ps_base::{Bytes, Memory};
-use ps_bench_base::pieces::{add_code, add_short};
+use ps_bench_base::pieces::add_short;
 use ps_cases::{Act, Check, Expectation, Statement, Window};
 use ps_judge::{Failure, Why};
-use ps_model::{App, Kind, pin_count, pin_name};
-use ps_states::state_words;
+use ps_model::App;
 use ps_terms::Name;
-
-// The name of an instance.
-fn instance_text(app: &App, instance: u16) -> &[u8]
-    ensures { result.now ≡ instance_text app.now instance }
-{
-    if instance < app.instance_count() {
-        app.instance_name(instance).as_bytes()
-    } else {
-        &[]
-    }
-}
-
-// The name of a pin of a kind, nothing past its pins.
-fn kind_pin_text(kind: Kind, pin: u8) -> &'static [u8]
-    ensures { result.now ≡ unwrap_or (slice_get (pin_names kind) pin) [] }
-{
-    if pin < pin_count(kind) {
-        pin_name(kind, pin).as_bytes()
-    } else {
-        &[]
-    }
-}
-
-// The name of a pin of an instance.
-fn pin_text(app: &App, instance: u16, pin: u8) -> &'static [u8]
-    ensures { result.now ≡ pin_text app.now instance pin }
-{
-    if instance < app.instance_count() {
-        kind_pin_text(app.instance_kind(instance), pin)
-    } else {
-        &[]
-    }
-}
-
-// The name of an input, output or local.
-fn signal_text(app: &App, signal: u16) -> &[u8]
-    ensures { result.now ≡ signal_text app.now signal }
-{
-    if signal < app.declared_count() {
-        app.signal_name(signal).as_bytes()
-    } else {
-        &[]
-    }
-}
-
-// A name, as a check has it.
-fn add_name(text: &mut Bytes, app: &App, name: Name) -> Result<(), Memory>
-    ensures { OnOk result (text.new ≡ text.old ++ name_text app.now name) }
-{
-    match name {
-        Name::Signal(signal) => text.extend_from_slice(signal_text(app, signal)),
-        Name::Code(instance) => text.extend_from_slice(instance_text(app, instance)),
-        Name::Pin { instance, pin } => {
-            text.extend_from_slice(instance_text(app, instance))?;
-            text.extend_from_slice(b".")?;
-            text.extend_from_slice(pin_text(app, instance, pin))
-        }
-    }
-}
-
-// The words of a state behind its code, where there are any.
-fn add_words(text: &mut Bytes, words: Option<&'static str>) -> Result<(), Memory>
-    ensures { OnOk result (text.new ≡ text.old ++ words_text (option_map (λ w. w.now) words.entry)) }
-{
-    match words {
-        Some(words) => {
-            text.extend_from_slice(b" ")?;
-            text.extend_from_slice(words.as_bytes())
-        }
-        None => Ok(()),
-    }
-}
-
-// The words of a code of an instance.
-fn words_of(app: &App, instance: u16, code: u16) -> Option<&'static str>
-    ensures { words_text (option_map (λ w. w.now) result) ≡
-        (if nat_lt instance (instance_count app.now) then words_text (state_words (kind_at app.now instance) code)
-        else []) }
-{
-    if instance < app.instance_count() {
-        state_words(app.instance_kind(instance), code)
-    } else {
-        None
-    }
-}
-
-// A code of an instance with the words of its state, as `8000 enabled`.
-fn add_state(text: &mut Bytes, app: &App, instance: u16, code: u16) -> Result<(), Memory>
-    ensures { OnOk result (text.new ≡ text.old ++ state_text app.now instance code) }
-{
-    add_code(text, code)?;
-    add_words(text, words_of(app, instance, code))
-}
-
-// A value of a name: of an instance its code, of others 0 or 1.
-fn add_value(text: &mut Bytes, app: &App, name: Name, value: u16) -> Result<(), Memory>
-    ensures { OnOk result (text.new ≡ text.old ++ value_text app.now name value) }
-{
-    match name {
-        Name::Code(instance) => add_state(text, app, instance, value),
-        Name::Signal(_) => add_short(text, u32::from(value)),
-        Name::Pin { .. } => add_short(text, u32::from(value)),
-    }
-}
+use ps_told::{add_name, add_value, from_line};
 
 // One more value of which one is expected.
 fn add_other_value(text: &mut Bytes, app: &App, name: Name, value: u16) -> Result<(), Memory>
@@ -309,20 +200,6 @@ fn add_failure(
     add_duration(text, b"line ", failure.line, b": ")?;
     add_why(text, app, &statement.act, failure.why)?;
     add_duration(text, b" (at ", failure.now, b" ms)\n")
-}
-
-// Statements from a line on.
-fn from_line(statements: &[Statement], line: u32) -> &[Statement]
-    ensures { result.now ≡ from_line line statements.now }
-{
-    let mut rest = statements;
-    'lines: while let [first, others @ ..] = rest {
-        if first.line >= line {
-            return rest;
-        }
-        rest = others;
-    }
-    rest
 }
 
 // A failure behind a mark, where its line is the first of these statements.

@@ -3,14 +3,15 @@
 ghost use Rattle.std.specs.Prelude.{◌≡◌, ◌++◌, [], IfOk, OnOk};
 ghost use Rattle.ps_results.specs.Junit.{attribute, case_head, case_name, failed_element, failed_head, junit_case};
 ghost use Rattle.ps_results.specs.Junit.{junit_refused, outcome_element, suite_head, xml_byte, xml_escaped};
-ghost use Rattle.ps_results.specs.Lines.{all_failures, ran_of};
+ghost use Rattle.ps_results.specs.Lines.{all_failures};
+ghost use Rattle.ps_told.specs.Outcome.{ran_of};
 
 use crate::lines::add_failures_of;
-use crate::report::CaseRun;
 use ps_base::{Bytes, Memory};
 use ps_bench_base::add_refusal;
 use ps_bench_base::pieces::{add_count, add_number};
 use ps_cases::CaseRefusal;
+use ps_told::CaseRun;
 use std::alloc::Global;
 
 // What stands before all results.

@@ -2,12 +2,13 @@
 
 ghost use Rattle.std.specs.Prelude.{◌≡◌, ◌++◌, IfOk, OnOk, codes, if◌then◌else◌};
 ghost use Rattle.ps_bench_base.specs.Pieces.{count_text};
-ghost use Rattle.ps_results.specs.Lines.{all_failures, case_line, case_lines, passes, ran_of, total_line};
+ghost use Rattle.ps_results.specs.Lines.{all_failures, case_line, case_lines, total_line};
+ghost use Rattle.ps_told.specs.Outcome.{passes, ran_of};
 
 use crate::failing::add_failures;
-use crate::report::{CaseRun, Tally};
 use ps_base::{Bytes, Memory};
 use ps_bench_base::pieces::{add_count, add_number, add_place, add_short};
+use ps_told::{CaseRun, Tally};
 use std::alloc::Global;
 
 // Whether a case passed or failed.

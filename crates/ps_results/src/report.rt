@@ -1,77 +1,17 @@
 // What is told of results, in one of three forms, piece by piece.
 
 ghost use Rattle.std.specs.Prelude.{◌≡◌, IfOk};
-ghost use Rattle.ps_results.specs.Lines.{passes, ran_of};
-ghost use Rattle.ps_results.specs.Report.{case_text, counted, file_foot_text, file_head_text, foot_text, head_text};
-ghost use Rattle.ps_results.specs.Report.{next, none_told, refused_text};
+ghost use Rattle.ps_results.specs.Report.{case_text, file_foot_text, file_head_text, foot_text, head_text};
+ghost use Rattle.ps_results.specs.Report.{refused_text};
+ghost use Rattle.ps_told.specs.Outcome.{next, ran_of};
 
 use crate::{junit, lines, tap};
 use ps_base::{Bytes, Memory};
 use ps_bench_base::refused_line;
 use ps_bench_words::Format;
-use ps_cases::{Case, CaseFile, CaseRefusal};
-use ps_model::App;
-use ps_rig::CaseOutcome;
+use ps_cases::CaseRefusal;
+use ps_told::{CaseRun, Tally};
 use std::alloc::Global;
-
-/// A case that was run: what is told of it.
-#[derive(Clone, Copy)]
-pub struct CaseRun<'a> {
-    /// The application that it ran on.
-    pub app: &'a App,
-    /// The name of its file.
-    pub name: &'a str,
-    /// What its file says.
-    pub file: &'a CaseFile,
-    /// The case.
-    pub case: &'a Case,
-    /// What came of it: its failures in the order of their lines.
-    pub outcome: &'a CaseOutcome,
-}
-
-impl<'a> CaseRun<'a> {
-    /// Whether the case passed.
-    pub fn passed(&self) -> bool
-        ensures { result ≡ passes (ran_of self.now).outcome }
-    {
-        self.outcome.failures.as_slice().is_empty()
-    }
-}
-
-/// How many cases were told, and how many of them failed. Both counts stay at their largest value.
-#[derive(Clone, Copy)]
-pub struct Tally {
-    /// How many cases were told.
-    pub cases: u64,
-    /// How many of them failed.
-    pub failed: u64,
-}
-
-impl Tally {
-    /// No case was told yet.
-    pub fn none() -> Tally
-        ensures { result ≡ none_told }
-    {
-        Tally {
-            cases: 0,
-            failed: 0,
-        }
-    }
-
-    /// One more case was told, which passed or failed.
-    pub fn and(self, passed: bool) -> Tally
-        ensures { result ≡ counted self passed }
-    {
-        Tally {
-            cases: self.cases.saturating_add(1),
-            failed: if passed {
-                self.failed
-            } else {
-                self.failed.saturating_add(1)
-            },
-        }
-    }
-}
 
 /// What stands before all results.
 pub fn head(format: Format) -> &'static [u8]

@@ -1,16 +1,16 @@
 // Results as TAP, the Test Anything Protocol, version 13.
 
 ghost use Rattle.std.specs.Prelude.{◌≡◌, ◌++◌, IfOk, OnOk, codes, if◌then◌else◌, decimal};
-ghost use Rattle.ps_results.specs.Lines.{Ran, passes, ran_of};
+ghost use Rattle.ps_told.specs.Outcome.{Ran, passes, ran_of};
 ghost use Rattle.ps_bench_base.specs.Pieces.{place_text};
 ghost use Rattle.ps_results.specs.Tap.{tap_byte, tap_case, tap_escaped, tap_plan, tap_refused};
 
 use crate::lines::add_failures_of;
-use crate::report::{CaseRun, Tally};
 use ps_base::{Bytes, Memory};
 use ps_bench_base::add_refusal;
 use ps_bench_base::pieces::{add_number, add_place};
 use ps_cases::CaseRefusal;
+use ps_told::{CaseRun, Tally};
 use std::alloc::Global;
 
 // What stands before all results.

@@ -6,7 +6,7 @@ use Rattle.std.specs.List.Sorted.{IsPermutation}
 use Rattle.std.specs.Prelude.{◌||◌, ◌↔◌}
 use Rattle.ps_judge.specs.declared.checks.Failure.{Failure}
 use Rattle.ps_rig.specs.declared.run.CaseOutcome.{CaseOutcome}
-use Rattle.ps_results.specs.Lines.{passes}
+use Rattle.ps_told.specs.Outcome.{passes}
 use Rattle.std.proofs.lemmas.List.Sorted.{list_any-IsPermutation}
 
 by_first : (b c : Bool) → (b && not c) ≡ not (not b || c)

@@ -8,11 +8,12 @@ use Rattle.ps_bench_words.specs.declared.asking.Format.{Format}
 use Rattle.ps_cases.specs.declared.case.Case.{Case}
 use Rattle.ps_cases.specs.declared.case.CaseFile.{CaseFile}
 use Rattle.ps_model.specs.Network.{Network}
-use Rattle.ps_results.specs.Lines.{Ran, passes}
-use Rattle.ps_results.specs.Report.{case_text, counted, none_told}
+use Rattle.ps_told.specs.Outcome.{Ran, passes}
+use Rattle.ps_results.specs.Report.{case_text}
+use Rattle.ps_told.specs.Outcome.{counted, none_told}
 use Rattle.ps_bench_base.specs.Opening.{Source}
 use Rattle.ps_tester.specs.Testing.{AreRan, AreRanFiles, FileRan, all_passed, IsRan, IsRanFile, cases_text, file_text, files_text, tally_of, tally_of_files}
-use Rattle.ps_results.specs.declared.report.Tally.{Tally}
+use Rattle.ps_told.specs.declared.outcome.Tally.{Tally}
 
 pub are_more : (net : Network) (name : List ℕ) (file : CaseFile) (cs : List Case) (c : Case) (rs : List Ran) (r : Ran) →
     AreRan net name file cs rs → IsRan net name file c r → AreRan net name file (cs ++ c ∷ []) (rs ++ r ∷ [])

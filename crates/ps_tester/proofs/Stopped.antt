@@ -14,11 +14,12 @@ use Rattle.ps_cases.specs.Writing.{TookBeginning, Wrote}
 use Rattle.ps_cases.specs.declared.expanding.ExpandFail.{ExpandFail}
 use Rattle.ps_cases.specs.declared.expanding.ExpandFail.TheVariants.{Memory as NotThere, Fault as NotWritten}
 use Rattle.ps_model.specs.Network.{Network}
-use Rattle.ps_results.specs.Lines.{Ran}
-use Rattle.ps_results.specs.Report.{case_text, none_told, refused_text}
+use Rattle.ps_told.specs.Outcome.{Ran}
+use Rattle.ps_results.specs.Report.{case_text, refused_text}
+use Rattle.ps_told.specs.Outcome.{none_told}
 use Rattle.ps_tester.specs.Stopping.{StopsAmong, StopsInFile}
 use Rattle.ps_tester.specs.Testing.{AreRan, IsRan, cases_text, file_text, files_text, tally_of, tally_of_files}
-use Rattle.ps_results.specs.declared.report.Tally.{Tally}
+use Rattle.ps_told.specs.declared.outcome.Tally.{Tally}
 use Rattle.ps_tester.proofs.Running.{are_more, cases_more, item_more}
 
 -- what holds of an error holds of a result that is one

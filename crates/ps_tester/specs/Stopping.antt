@@ -9,10 +9,11 @@ use Rattle.ps_cases.specs.Expanded.{expanded}
 use Rattle.ps_cases.specs.declared.case.CaseFile.{CaseFile}
 use Rattle.ps_model.specs.Network.{Network}
 use Rattle.ps_model.specs.declared.channel.ImageSizes.{ImageSizes}
-use Rattle.ps_results.specs.Lines.{Ran}
-use Rattle.ps_results.specs.Report.{head_text, none_told, refused_text}
+use Rattle.ps_told.specs.Outcome.{Ran}
+use Rattle.ps_results.specs.Report.{head_text, refused_text}
+use Rattle.ps_told.specs.Outcome.{none_told}
 use Rattle.ps_tester.specs.Testing.{AreRan, AreRanFiles, FileRan, file_text, files_text, tally_of_files, test_text}
-use Rattle.ps_results.specs.declared.report.Tally.{Tally}
+use Rattle.ps_told.specs.declared.outcome.Tally.{Tally}
 
 -- How a call of `expand` stops: without its application, without its cases, or in the trace that it writes.
 abbrev pub StopsExpanding : (reading : Bool) (held : List ℕ → Option (List ℕ)) → (app cases : List ℕ) → Stop →

@@ -16,11 +16,12 @@ use Rattle.ps_model.specs.Meaning.{Meaning}
 use Rattle.ps_model.specs.Network.{Network}
 use Rattle.ps_model.specs.Scanning.{State}
 use Rattle.ps_world.specs.Whole.{IsSetupOf, Setup}
-use Rattle.ps_results.specs.Lines.{Ran, passes}
-use Rattle.ps_results.specs.Report.{case_text, counted, file_foot_text, file_head_text, foot_text, head_text, none_told}
+use Rattle.ps_told.specs.Outcome.{Ran, passes}
+use Rattle.ps_results.specs.Report.{case_text, file_foot_text, file_head_text, foot_text, head_text}
+use Rattle.ps_told.specs.Outcome.{counted, none_told}
 use Rattle.ps_bench_base.specs.declared.ending.Status.{Status}
 use Rattle.ps_bench_base.specs.declared.ending.Status.TheVariants.{Done, Failed}
-use Rattle.ps_results.specs.declared.report.Tally.{Tally}
+use Rattle.ps_told.specs.declared.outcome.Tally.{Tally}
 
 -- failures stand in the order of their lines, and neighbours of one line in the order of their times
 pub record AreToldInOrder (failures : List Failure) : Type 0 where

@@ -11,7 +11,8 @@ ghost use Rattle.ps_bench_base.specs.Opening.{IsOfApp, IsOfText, source};
 ghost use Rattle.ps_tester.specs.Stopping.{StopsExpanding};
 
 use ps_bench_base::{Stop, open_app, open_written_cases};
-use ps_cases::{ExpandFail, expand as write_expanded};
+use ps_cases::ExpandFail;
+use ps_expand::expand as write_expanded;
 use ps_outside::{Files, Output};
 use std::alloc::Global;
 

@@ -14,8 +14,9 @@ ghost use Rattle.ps_bench_base.specs.Stopping.{AreRefused, StopsAtCases, StopsIn
 ghost use Rattle.ps_outside.specs.Outside.{Rose};
 ghost use Rattle.ps_model.specs.Typing.{Accepted};
 ghost use Rattle.ps_bench_words.specs.Seen.{seen};
-ghost use Rattle.ps_results.specs.Lines.{Ran, passes, ran_of};
-ghost use Rattle.ps_results.specs.Report.{case_text, counted, none_told, refused_text};
+ghost use Rattle.ps_told.specs.Outcome.{Ran, passes, ran_of};
+ghost use Rattle.ps_results.specs.Report.{case_text, refused_text};
+ghost use Rattle.ps_told.specs.Outcome.{counted, none_told};
 ghost use Rattle.ps_tester.specs.Stopping.{StopsAmong, StopsInFile, StopsRunning, StopsTesting, StopsTold};
 ghost use Rattle.ps_tester.specs.Testing.{AreToldInOrder, AreRan, AreRanFiles, FileRan, IsOutcome, IsRan};
 ghost use Rattle.ps_tester.specs.Testing.{IsRanFile};
@@ -31,8 +32,9 @@ use ps_edge::Listener;
 use ps_judge::Failure;
 use ps_model::App;
 use ps_outside::{Files, Output, write_all};
-use ps_results::report::{self, CaseRun, Tally};
+use ps_results::report;
 use ps_rig::{CaseOutcome, run_case};
+use ps_told::{CaseRun, Tally};
 use std::alloc::Global;
 
 // What the cases of a call are run on, and how they are told.

@@ -4,7 +4,7 @@ use Rattle.ps_bench_base.specs.Meant.{file_meant, word_meant}
 use Rattle.ps_bench_base.specs.Opening.{Source}
 use Rattle.ps_bench_base.specs.declared.meant.Part.{Part}
 use Rattle.ps_bench_base.specs.declared.meant.Part.TheVariants.{Trace, Cases, Case}
-use Rattle.ps_cases.specs.Alone.{alone, case_with}
+use Rattle.ps_expand.specs.Alone.{alone, case_with}
 use Rattle.ps_cases.specs.Expanded.{expanded}
 use Rattle.ps_cases.specs.File.{cases_of}
 use Rattle.ps_cases.specs.Meant.{faults_in, whole_case}

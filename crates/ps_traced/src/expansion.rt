@@ -1,7 +1,7 @@
 // The trace of cases, held in memory.
 
 ghost use Rattle.std.specs.Prelude.{◌≡◌, ◌≤◌, [], true, ℕ, List, Some, IfOk, OnOk, IsOk, All, length};
-ghost use Rattle.ps_cases.specs.Alone.{alone};
+ghost use Rattle.ps_expand.specs.Alone.{alone};
 ghost use Rattle.ps_cases.specs.Expanded.{expanded};
 ghost use Rattle.ps_cases.specs.Meant.{whole_case};
 ghost use Rattle.ps_cases.specs.Runnable.{IsRunnable};
@@ -10,7 +10,8 @@ ghost use Rattle.ps_cases.specs.declared.limits.TheConstants.{MOST_CASES};
 ghost use Rattle.ps_outside.specs.Outside.{Reads};
 
 use ps_base::Memory;
-use ps_cases::{Case, CaseFile, ExpandFail, expand, expand_alone};
+use ps_cases::{Case, CaseFile, ExpandFail};
+use ps_expand::{expand, expand_alone};
 use ps_model::App;
 use ps_outside::{Failed, Files, Sink};
 use std::alloc::Global;

@@ -1,5 +1,5 @@
 use Rattle.std.proofs.Common.{codes}
-use Rattle.ps_results.specs.Failing.{name_text, value_text}
+use Rattle.ps_told.specs.Naming.{name_text, value_text}
 use Rattle.ps_results.proofs.Joining.{four_more}
 use Rattle.ps_results.proofs.failing.add_found.Goals as goal
 

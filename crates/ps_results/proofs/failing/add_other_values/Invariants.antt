@@ -1,5 +1,5 @@
 use Rattle.std.proofs.Common.{◌≡◌, ◌++◌, take, flat_map, codes}
-use Rattle.ps_results.specs.Failing.{value_text}
+use Rattle.ps_told.specs.Naming.{value_text}
 use Rattle.ps_results.proofs.failing.add_other_values.Given as goal
 
 abbrev pub invariant-loop-value : goal.invariant-loop-value

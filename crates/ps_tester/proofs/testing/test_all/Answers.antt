@@ -1,14 +1,14 @@
 use Rattle.std.proofs.Common.{◌⊎◌, ◌<◌, Bool, Err, ◌++◌, ◌∷◌, [], IsTrue, take, length, ap, sym, subst, ◌∙◌, arith}
 use Rattle.ps_cases.specs.Meant.{whole_case}
 use Rattle.ps_cases.specs.Runnable.{IsRunnable}
-use Rattle.ps_results.specs.Lines.{passes}
-use Rattle.ps_results.specs.Report.{counted}
+use Rattle.ps_told.specs.Outcome.{passes}
+use Rattle.ps_told.specs.Outcome.{counted}
 use Rattle.ps_tester.specs.Testing.{AreRan}
 use Rattle.ps_tester.proofs.Running.{are_more, item_more, tally_more, told_more}
 use Rattle.std.proofs.lemmas.Result.{err_from_is_err_and}
 use Rattle.ps_bench_base.specs.Stopping.{StopsIn}
 use Rattle.ps_bench_base.proofs.Stopped.{rose_since}
-use Rattle.ps_results.specs.Lines.{Ran}
+use Rattle.ps_told.specs.Outcome.{Ran}
 use Rattle.ps_results.specs.Report.{case_text}
 use Rattle.ps_tester.specs.Testing.{IsRan}
 use Rattle.ps_tester.proofs.Stopped.{err_is, stops_more}

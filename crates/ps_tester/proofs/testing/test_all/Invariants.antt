@@ -1,5 +1,5 @@
 use Rattle.std.proofs.Common.{◌≡◌, ◌≤◌, ◌++◌, IsTrue, List, take}
-use Rattle.ps_results.specs.Lines.{Ran}
+use Rattle.ps_told.specs.Outcome.{Ran}
 use Rattle.ps_tester.specs.Testing.{AreRan, cases_text, tally_of}
 use Rattle.ps_tester.proofs.testing.test_all.Given as goal
 

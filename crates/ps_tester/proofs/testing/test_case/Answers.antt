@@ -1,6 +1,6 @@
 use Rattle.std.proofs.Common.{Err, inr, refl, ap, ◌∙◌}
 use Rattle.std.proofs.lemmas.Result.{err_from_is_err_and}
-use Rattle.ps_results.specs.Report.{counted}
+use Rattle.ps_told.specs.Outcome.{counted}
 use Rattle.ps_tester.proofs.Stopped.{err_is}
 use Rattle.ps_tester.proofs.testing.test_case.Goals as goal
 

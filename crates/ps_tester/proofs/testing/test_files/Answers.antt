@@ -1,6 +1,6 @@
 use Rattle.std.proofs.Common.{Option, Bool, Err, drop, ℕ, List, Bor, ◌<◌, ◌+◌, ◌++◌, ◌∷◌, [], IsTrue, take, length, get_or, ap, sym, subst, ◌∙◌, arith}
 use Rattle.ps_bench_words.specs.Seen.{seen}
-use Rattle.ps_results.specs.Report.{none_told}
+use Rattle.ps_told.specs.Outcome.{none_told}
 use Rattle.ps_tester.specs.Testing.{AreRanFiles, IsRanFile, tally_of}
 use Rattle.ps_bench_base.specs.Opening.{source}
 use Rattle.ps_tester.proofs.Running.{are_more_files, seen_more, tally_more_files, told_more_files}
@@ -9,7 +9,7 @@ use Rattle.ps_outside.specs.Outside.{Rose}
 use Rattle.ps_bench_base.proofs.Stopped.{rose_since}
 use Rattle.ps_tester.specs.Stopping.{StopsInFile}
 use Rattle.ps_tester.specs.Testing.{files_text, tally_of_files}
-use Rattle.ps_results.specs.declared.report.Tally.{Tally}
+use Rattle.ps_told.specs.declared.outcome.Tally.{Tally}
 use Rattle.ps_tester.proofs.Stopped.{err_is, in_file_from, seen_at, word_any}
 use Rattle.ps_tester.proofs.testing.test_files.Goals as goal
 

@@ -1,6 +1,6 @@
 use Rattle.std.proofs.Common.{◌≡◌, ◌≤◌, ◌++◌, ℕ, IsTrue, List, take}
 use Rattle.ps_bench_words.specs.Seen.{seen}
-use Rattle.ps_results.specs.Report.{none_told}
+use Rattle.ps_told.specs.Outcome.{none_told}
 use Rattle.ps_tester.specs.Testing.{AreRanFiles, FileRan, files_text, tally_of_files}
 use Rattle.ps_bench_base.specs.Opening.{source}
 use Rattle.ps_tester.proofs.testing.test_files.Given as goal

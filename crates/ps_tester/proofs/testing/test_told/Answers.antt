@@ -4,7 +4,8 @@ use Rattle.ps_bench_base.specs.Opening.{source}
 use Rattle.ps_bench_base.specs.Stopping.{StopsIn}
 use Rattle.ps_bench_base.specs.declared.ending.Stop.TheVariants.{NoMemory}
 use Rattle.ps_bench_words.specs.Seen.{seen}
-use Rattle.ps_results.specs.Report.{foot_text, head_text, none_told}
+use Rattle.ps_results.specs.Report.{foot_text, head_text}
+use Rattle.ps_told.specs.Outcome.{none_told}
 use Rattle.ps_tester.specs.Stopping.{StopsAmong}
 use Rattle.ps_tester.specs.Testing.{files_text, tally_of_files}
 use Rattle.ps_results.proofs.Joining.{two_more}

@@ -1,6 +1,6 @@
 use Rattle.std.proofs.Common.{List, ℕ}
 use Rattle.ps_source.proofs.Sourced.{some_of}
-use Rattle.ps_cases.specs.Alone.{alone}
+use Rattle.ps_expand.specs.Alone.{alone}
 use Rattle.ps_cases.specs.Expanded.{expanded}
 use Rattle.ps_traced.proofs.Plays.{of_some, same_trace}
 use Rattle.ps_traced.proofs.playing.open_one.Goals as goal

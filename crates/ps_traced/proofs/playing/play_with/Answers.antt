@@ -1,10 +1,10 @@
 use Rattle.std.proofs.Common.{◌≡◌, ◌∙◌, List, Some, Bor, sym, ap, subst}
 use Rattle.std.specs.Prelude.{option_map}
-use Rattle.ps_cases.specs.Alone.{case_with}
+use Rattle.ps_expand.specs.Alone.{case_with}
 use Rattle.ps_cases.specs.Meant.{whole_case}
 use Rattle.ps_cases.specs.Runnable.{IsRunnable}
 use Rattle.ps_cases.specs.declared.case.Case.{Case}
-use Rattle.ps_cases.proofs.CaseWith.{has_case_with}
+use Rattle.ps_expand.proofs.CaseWith.{has_case_with}
 use Rattle.ps_model.specs.declared.channel.Fault.{Fault}
 use Rattle.ps_trace.specs.FaultOrder.{AreInOrder, AreOfOneChannel}
 use Rattle.ps_traced.proofs.playing.play_with.Goals as goal

@@ -1,0 +1,27 @@
+use Rattle.std.proofs.Common.{◌≡◌, ◌∙◌, ℕ, List, [], sym, ap, arith, get_or}
+use Rattle.std.specs.Borrow.{Bor}
+use Rattle.clap.specs.Simple.{App}
+use Rattle.ps_bench_words.specs.Commands.{bare}
+use Rattle.ps_bench_words.specs.Seen.{with_form}
+use Rattle.ps_bench_words.specs.declared.forms.Form.{Form}
+use Rattle.ps_bench_words.proofs.Growing.{one_more}
+use Rattle.ps_bench_words.proofs.command.program_of.Goals as goal
+
+-- a text and a form, where there is none
+abbrev no_text : Bor (List ℕ)
+no_text = record { ref_ptr = (0, 0); now = [] }
+
+abbrev no_form : Form
+no_form = record {
+  name = no_text;
+  call = no_text;
+  about = no_text;
+  example = no_text;
+  arguments = record { ref_ptr = (0, 0); now = [] };
+}
+
+pub loop-form-preserved : goal.loop-form-preserved
+loop-form-preserved c =
+    c.in_ok-program.ensures
+    ∙ ap (λ (program : App). with_form program (get_or c.args.forms.now c.loop-form.form-index no_form)) c.loop-form.invariant
+    ∙ sym (one_more with_form bare c.args.forms.now c.loop-form.form-index no_form (omega arith))

@@ -1,0 +1,220 @@
+// The forms of the commands: which words and options each has, and what its page says.
+
+/// How an argument is given.
+#[derive(Clone, Copy)]
+pub(crate) enum Given {
+    /// As a word.
+    Word,
+    /// As one word or several.
+    Words,
+    /// As an option with a value, which usage calls so.
+    Value(&'static str),
+    /// As an option without a value, which may be given more than once.
+    Flag,
+}
+
+/// An argument of a command.
+#[derive(Clone, Copy)]
+pub(crate) struct Argument {
+    /// By what it is read back: what usage calls a word, or the name of an option behind its `--`.
+    pub(crate) id: &'static str,
+    /// Whether it may not be left out.
+    pub(crate) required: bool,
+    /// How it is given.
+    pub(crate) given: Given,
+    /// What the page of its command says of it.
+    pub(crate) help: &'static str,
+}
+
+/// The form of a command.
+#[derive(Clone, Copy)]
+pub(crate) struct Form {
+    /// Its name.
+    pub(crate) name: &'static str,
+    /// Its name behind that of the program.
+    pub(crate) call: &'static str,
+    /// What it does.
+    pub(crate) about: &'static str,
+    /// An example of it.
+    pub(crate) example: &'static str,
+    /// Its words and options, in the order of its usage.
+    pub(crate) arguments: &'static [Argument],
+}
+
+// An argument of a table: by what it is read back, how it is given, and what its page says.
+macro_rules! argument {
+    ($id:expr, $given:expr, $help:expr) => {
+        Argument {
+            id: $id,
+            required: false,
+            given: $given,
+            help: $help,
+        }
+    };
+}
+
+// The same, which may not be left out.
+macro_rules! required {
+    ($id:expr, $given:expr, $help:expr) => {
+        Argument {
+            id: $id,
+            required: true,
+            given: $given,
+            help: $help,
+        }
+    };
+}
+
+// The application.
+const APP: Argument = required!("APP", Given::Word, "The application's text");
+
+// One case file.
+const FILE: Argument = required!("CASES", Given::Word, "The case file");
+
+// Case files.
+const FILES: Argument = required!(
+    "CASES",
+    Given::Words,
+    "The case files, in the order in which they are run"
+);
+
+// How results are told.
+const FORMAT: Argument = argument!(
+    "format",
+    Given::Value("FORMAT"),
+    "How the results are told: text, tap (TAP version 13) or junit (XML). Left out it is text"
+);
+
+// A trace, or what means one.
+const TRACE: Argument = required!(
+    "TRACE",
+    Given::Word,
+    "The trace, FILE.cases for all cases of a file, or FILE.cases:LINE for the case that has this line"
+);
+
+// Traces, or what means them.
+const TRACES: Argument = required!(
+    "TRACE",
+    Given::Words,
+    "The traces, each begun anew. FILE.cases and FILE.cases:LINE are taken too"
+);
+
+// Names that are watched.
+const NAMES: Argument = argument!(
+    "NAME",
+    Given::Words,
+    "What is watched: inputs, outputs, locals, INSTANCE for its state, INSTANCE.PIN. Left out, as text all outputs\n\
+    and instances, and in the other formats all that there is"
+);
+
+// A fault file.
+const FAULTS: Argument = argument!(
+    "faults",
+    Given::Value("FAULTS"),
+    "The faults that strike; outputs and codes are then those that are released"
+);
+
+// How a run is written.
+const LAYOUT: Argument = argument!(
+    "format",
+    Given::Value("FORMAT"),
+    "How the run is written: text (what changes), csv, json (an object a line) or vcd. Left out it is text"
+);
+
+// A log.
+const CSV: Argument = required!(
+    "CSV",
+    Given::Word,
+    "The log: a column time (or @time) in ms, and one for each input"
+);
+
+// How something is told.
+const OUTPUT: Argument = argument!(
+    "format",
+    Given::Value("FORMAT"),
+    "How it is told: text or json. Left out it is text"
+);
+
+// How much has to be covered.
+const LEAST: Argument = argument!(
+    "least",
+    Given::Value("PERCENT"),
+    "How much has to be covered, from 0 to 100: the status is 4 where one of the four is below"
+);
+
+// Whether ideas for cases are told.
+const IDEAS: Argument = argument!(
+    "ideas",
+    Given::Flag,
+    "Adds for each way that was never taken lines with which a case may begin"
+);
+
+// A rules file.
+const RULES: Argument = required!(
+    "RULES",
+    Given::Word,
+    "How scans come, and what must never be"
+);
+
+// How many states may be held.
+const STATES: Argument = argument!(
+    "states",
+    Given::Value("N"),
+    "How many states may be held, from 1. Left out they are 1000000"
+);
+
+// The command that help is asked for.
+const TOPIC: Argument = argument!("COMMAND", Given::Word, "The command whose page is written");
+
+/// The forms of the commands, in the order of the program's page.
+pub(crate) static FORMS: [Form; 7] = [
+    Form {
+        name: "test",
+        call: "plcsafe-bench test",
+        about: "Runs each case in a world of its own, with its faults, and tells which expectations fail",
+        example: "Example: plcsafe-bench test press.st press.cases --format tap",
+        arguments: &[APP, FILES, FORMAT],
+    },
+    Form {
+        name: "expand",
+        call: "plcsafe-bench expand",
+        about: "Writes one trace of all cases of a case file, which plcsafe runs",
+        example: "Example: plcsafe-bench expand press.st press.cases > press.trace",
+        arguments: &[APP, FILE],
+    },
+    Form {
+        name: "watch",
+        call: "plcsafe-bench watch",
+        about: "Shows what happens in a run, by name: changes in words, or each scan in CSV, JSON or VCD",
+        example: "Example: plcsafe-bench watch press.st press.trace S_Ram Guard --faults press.faults",
+        arguments: &[APP, TRACE, NAMES, FAULTS, LAYOUT],
+    },
+    Form {
+        name: "trace",
+        call: "plcsafe-bench trace",
+        about: "Writes the trace of a log in CSV, whose columns are named as the inputs",
+        example: "Example: plcsafe-bench trace press.st machine.csv > machine.trace",
+        arguments: &[APP, CSV],
+    },
+    Form {
+        name: "cover",
+        call: "plcsafe-bench cover",
+        about: "Tells which states, ways, values and decisions traces have shown, and which never",
+        example: "Example: plcsafe-bench cover press.st press.cases --least 80",
+        arguments: &[APP, TRACES, OUTPUT, LEAST, IDEAS],
+    },
+    Form {
+        name: "never",
+        call: "plcsafe-bench never",
+        about: "Searches all scans that can come for one that a rule forbids, and shows a shortest",
+        example: "Example: plcsafe-bench never press.st press.rules",
+        arguments: &[APP, RULES, STATES],
+    },
+    Form {
+        name: "help",
+        call: "plcsafe-bench help",
+        about: "Writes this page, or the page of a command",
+        example: "Example: plcsafe-bench help test",
+        arguments: &[TOPIC],
+    },
+];

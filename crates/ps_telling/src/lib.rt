@@ -1,0 +1,12 @@
+//! What a person reads on standard error of a call of `plcsafe-bench` that stopped.
+//!
+//! `telling` tells it to whoever listens, `advising` has what is told of a case file that is refused, `ruled` what of a
+//! rules file, and `logged` what of a log.
+#![tactic(auto)]
+
+mod advising;
+mod logged;
+mod ruled;
+mod telling;
+
+pub use telling::{Names, tell, tell_any_times, tell_no_name};

@@ -1,0 +1,20 @@
+// Statements by their lines.
+
+ghost use Rattle.std.specs.Prelude.{◌≡◌};
+ghost use Rattle.ps_told.specs.Placing.{from_line};
+
+use ps_cases::Statement;
+
+/// The statements from a line on, where they stand in the order of their lines. It takes no memory.
+pub fn from_line(statements: &[Statement], line: u32) -> &[Statement]
+    ensures { result.now ≡ from_line line statements.now }
+{
+    let mut rest = statements;
+    'lines: while let [first, others @ ..] = rest {
+        if first.line >= line {
+            return rest;
+        }
+        rest = others;
+    }
+    rest
+}

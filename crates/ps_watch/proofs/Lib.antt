@@ -1,6 +1,3 @@
-mod Quoting
-mod Ranges
-mod Renewing
 -- what any taker writes that sees each scan
 pub mod Seeing
 mod Running

@@ -30,7 +30,7 @@ use Rattle.ps_runs.specs.declared.items.Cut.TheVariants.{Refused, Unread, Unwrit
 use Rattle.ps_runs.specs.declared.striking.StruckWorld.{StruckWorld}
 use Rattle.ps_runs.specs.declared.watching.Watched.{Watched}
 use Rattle.ps_runs.proofs.ToCome.{Stands, due_of_scan, stands_behind}
-use Rattle.ps_watch.specs.Watcher.{seen_behind}
+use Rattle.ps_watcher.specs.Watcher.{seen_behind}
 use Rattle.ps_watch.specs.Watching.{written_of}
 
 -- ---- what was written, by how it ended

@@ -1,11 +1,3 @@
--- What a reader of the promise has to believe: what stands for a name, how a value is shown, what is watched, the lines
--- of the formats, and what is written of a whole run.
-pub mod Shown
-pub mod Names
-pub mod Lines
+-- What a reader of the promise has to believe: what is written of a whole run.
 pub mod Watching
 pub mod Watched
--- Apparatus: a line in its room, and columns.
-pub mod LineTexts
-pub mod Room
-pub mod Watcher

@@ -9,14 +9,14 @@ ghost use Rattle.ps_runs.specs.Running.{Fits};
 ghost use Rattle.ps_runs.specs.Watching.{IsWatchedFor};
 ghost use Rattle.ps_trace.specs.Reading.{IsReadingTrace, file_of, input_count_of, items_left, last_of};
 ghost use Rattle.ps_watch.specs.Watched.{IsBegun, WritesWatched};
-ghost use Rattle.ps_watch.specs.Watcher.{IsWatcherFor};
-ghost use Rattle.ps_watch.specs.declared.format.Format.{Format};
+ghost use Rattle.ps_watcher.specs.Watcher.{IsWatcherFor};
+ghost use Rattle.ps_shown.specs.declared.format.Format.{Format};
 
-use crate::watcher::Watcher;
 use ps_model::App;
 use ps_outside::{Files, Sink};
 use ps_runs::{Cut, Runner, StruckWorld, Watched, do_items};
 use ps_trace::TraceReader;
+use ps_watcher::Watcher;
 
 /// Does the items of a trace that are left, and writes what is watched of them. It takes no memory, and what it keeps
 /// does not grow with the scans.

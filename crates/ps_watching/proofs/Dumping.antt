@@ -1,6 +1,6 @@
 -- What a writer of value changes writes of the items of a trace.
-use Rattle.std.proofs.Common.{◌≡◌, ◌∙◌, ◌++◌, ◌+◌, ℕ, Bool, true, false, List, [], ◌∷◌, Result, Ok, Err, length, refl, sym, ap, subst, arith}
-use Rattle.std.specs.Prelude.{OnOk, codes, decimal}
+use Rattle.std.proofs.Common.{◌≡◌, ◌∙◌, ◌++◌, ◌+◌, ℕ, Bool, true, false, List, [], ◌∷◌, Result, length, refl, sym, ap, subst, arith}
+use Rattle.std.specs.Prelude.{codes, decimal}
 use Rattle.std.proofs.lemmas.List.{length-map, length-replicate}
 use Rattle.ps_terms.specs.declared.name.Name.{Name}
 use Rattle.ps_seen.specs.Runs.{moments_of}
@@ -24,17 +24,12 @@ use Rattle.ps_vcd.specs.Text.{change_text, changes, lines_text, scan_text}
 use Rattle.ps_vcd.specs.Values.{Held, held}
 use Rattle.ps_vcd.specs.Values.Held.{bit}
 use Rattle.ps_watch.proofs.Seeing.{watched}
-use Rattle.ps_watch.specs.Watcher.{seen_behind}
-use Rattle.ps_watching.specs.Dumped.{Dumped, dump_text, dump_told, dumped_anew, dumped_then, none_dumped}
-use Rattle.ps_watching.specs.Dumping.{TakesRestart, TakesScan, dumper_said, dumper_takes, next_count, wires_held}
-use Rattle.ps_watching.specs.Parts.{parts_of}
+use Rattle.ps_watcher.specs.Watcher.{seen_behind}
+use Rattle.ps_dumping.specs.Dumped.{Dumped, dump_text, dump_told, dumped_anew, dumped_then, none_dumped}
+use Rattle.ps_dumping.specs.Dumping.{TakesRestart, TakesScan, dumper_said, dumper_takes, next_count, wires_held}
+use Rattle.ps_dumping.specs.Parts.{parts_of}
 use Rattle.ps_watching.specs.Prepared.{IsDumpBegun}
-use Rattle.ps_watching.specs.declared.dumper.Dumper.{Dumper}
-
--- what holds in any case holds where there is no error
-pub on_any : {A E : Type 0} (r : Result A E) (X : Type 0) → X → OnOk r X
-on_any (Ok a) X x = x
-on_any (Err e) X x = tt
+use Rattle.ps_dumping.specs.declared.dumper.Dumper.{Dumper}
 
 -- where all lines are written, it does not matter what the wires had before
 all_changes : (wire : ℕ) (last other now : List Held) → length last ≡ length other →

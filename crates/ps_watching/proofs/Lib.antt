@@ -3,4 +3,3 @@ mod Dumping
 mod Playing
 mod Called
 mod Coming
-mod Rereading

@@ -1,14 +1,17 @@
 -- What the wires of a run are called.
-use Rattle.std.specs.Prelude.{ℕ, List, Option, Some, None, codes}
+use Rattle.std.specs.Prelude.{ℕ, List, Option, Some, None, codes, map}
 use Rattle.std.specs.Path.{rsplit_once}
+use Rattle.ps_terms.specs.declared.name.Name.{Name}
 use Rattle.ps_terms.specs.declared.name.Name.TheVariants as names
 use Rattle.ps_model.specs.Network.{Network}
+use Rattle.ps_vcd.specs.Declarations.{header_text}
 use Rattle.ps_vcd.specs.declared.wire.Shape.{Shape}
 use Rattle.ps_vcd.specs.declared.wire.Shape.TheVariants as shape
 use Rattle.ps_vcd.specs.declared.wire.Wire.{Wire}
-use Rattle.ps_watch.specs.Shown.{label}
-use Rattle.ps_watching.specs.declared.parts.Part.{Part}
-use Rattle.ps_watching.specs.declared.parts.Part.TheVariants.{Restart, Trip, Scan, Bit, Code, State}
+use Rattle.ps_shown.specs.Shown.{label}
+use Rattle.ps_dumping.specs.Parts.{parts_of}
+use Rattle.ps_dumping.specs.declared.parts.Part.{Part}
+use Rattle.ps_dumping.specs.declared.parts.Part.TheVariants.{Restart, Trip, Scan, Bit, Code, State}
 
 -- the character `.`
 abbrev pub dot : ℕ
@@ -36,3 +39,7 @@ wire_of_part net Scan = wire (codes "@run") (codes "Scan") shape.Count
 wire_of_part net (Bit name) = bit_wire (label net name)
 wire_of_part net (Code i) = wire (label net (names.Code i)) (codes "DiagCode") shape.Code
 wire_of_part net (State i) = wire (label net (names.Code i)) (codes "State") shape.Words
+
+-- the declarations that stand before the value changes of a run
+abbrev pub dump_head : Network → List Name → List ℕ
+dump_head net names = header_text (map (wire_of_part net) (parts_of names))

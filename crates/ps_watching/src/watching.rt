@@ -26,21 +26,22 @@ ghost use Rattle.ps_watching.specs.Showing.{ComesOfHeld, ComesOfRun, IsRunEnd, R
 ghost use Rattle.ps_watching.specs.Stopping.{EndsBehind};
 
 use crate::naming::watched_names;
-use crate::parts::parts_of;
 use crate::player::{Player, changes_of, lines_of};
 use crate::wires::wires_of;
 use ps_base::{Bytes, Memory};
-use ps_bench_base::{Input, InputStop, Opened, Status, Stop, open_app, tell_no_name, word_of};
+use ps_bench_base::{Input, InputStop, Opened, Status, Stop, open_app, word_of};
 use ps_bench_words::Layout;
+use ps_dumping::parts_of;
 use ps_edge::Listener;
 use ps_model::App;
 use ps_outside::{Files, Output, write_all};
 use ps_runs::{Cut, StruckWorld};
+use ps_shown::{Format, head_of};
+use ps_telling::tell_no_name;
 use ps_terms::Name;
 use ps_trace::{Faults, TraceReader};
 use ps_traced::{Expansion, Play, open_faults, open_play, open_trace, refuse_input};
 use ps_vcd::header_of;
-use ps_watch::{Format, head_of};
 use ps_world::World;
 use std::alloc::Global;
 

@@ -7,11 +7,13 @@ use Rattle.ps_model.specs.Network.{Network}
 use Rattle.ps_model.specs.Scanning.{State}
 use Rattle.ps_model.specs.Sound.{IsSound}
 use Rattle.ps_model.proofs.OneSolution.{has_one_solution}
-use Rattle.ps_trace.specs.Scans.{End, Scans, whole}
+use Rattle.ps_base.specs.declared.failing.Refusal.{Refusal}
+use Rattle.ps_trace.specs.Scans.{End, Scans, whole, refused as end_refused}
 use Rattle.ps_runs.specs.Doing.{Did, IsDue, time_behind, all, refused, unread, refused_item, unwritten, next}
-use Rattle.ps_runs.specs.Outcomes.{Outcome}
+use Rattle.ps_runs.specs.Outcomes.{Outcome, performed, refuses, anew}
 use Rattle.ps_runs.specs.Watching.{EvaluatesAs, StandsAt}
 use Rattle.ps_runs.specs.declared.items.Cut.{Cut}
+use Rattle.ps_runs.specs.declared.items.Cut.TheVariants.{Refused}
 use Rattle.ps_runs.specs.declared.watching.Evaluated.{Evaluated}
 use Rattle.ps_alone.specs.Applying.{scans_of}
 use Rattle.ps_cover.specs.Covers.{IsAt, Knows, Renews}
@@ -32,6 +34,26 @@ done_whole performs said takes _ _ _ _ _ _ _ _ (unwritten time p t scans item re
 done_whole performs said takes _ _ _ _ _ _ _ _ (next time p t scans item rest outcome p' t' bytes ended p'' t'' begins is_due done took did) =
     subst (λ (e : End). OnOk ended (e ≡ whole)) (sym (ap (λ (s : Scans). s.end) begins))
     (done_whole performs said takes (time_behind time item) p' t' rest bytes ended p'' t'' did)
+
+-- the evaluator refuses no item
+refuses_none : (net : Network) (e : Evaluated) (item : Item) (refusal : Refusal) (e' : Evaluated) →
+    EvaluatesAs net e item (refuses refusal) e' → ⊥
+refuses_none net e (scan now ins) refusal e' done = let no : refuses refusal ≡ performed now tt done.0 = done.1 in cc
+refuses_none net e restart refusal e' done = let no : refuses refusal ≡ anew = done.0 in cc
+
+-- a refusal is that of the trace
+pub done_refused : {T : Type 0} (net : Network) (said : T → Evaluated → Outcome (Unit {0}) → List ℕ) (takes : T → Evaluated → Outcome (Unit {0}) → T → Type 0)
+    (time : ℕ) (p : Evaluated) (t : T) (scans : Scans) (bytes : List ℕ) (ended : Result (Unit {0}) Cut) (p'' : Evaluated) (t'' : T) (refusal : Refusal) →
+    Did (EvaluatesAs net) said takes time p t scans bytes ended p'' t'' → ended ≡ Err (Refused refusal) → scans.end ≡ end_refused refusal
+done_refused net said takes _ _ _ _ _ _ _ _ refusal (all time p t scans is) ended = cc
+done_refused net said takes _ _ _ _ _ _ _ _ refusal (refused time p t scans r is) ended =
+    let same : r ≡ refusal = cc in
+    ap (λ (s : Scans). s.end) is ∙ ap end_refused same
+done_refused net said takes _ _ _ _ _ _ _ _ refusal (unread time p t scans) ended = cc
+done_refused net said takes _ _ _ _ _ _ _ _ refusal (refused_item time p t scans item rest r p' begins is_due done) ended = absurd (refuses_none net p item r p' done)
+done_refused net said takes _ _ _ _ _ _ _ _ refusal (unwritten time p t scans item rest outcome p' t' n begins is_due done) ended = cc
+done_refused net said takes _ _ _ _ _ _ _ _ refusal (next time p t scans item rest outcome p' t' bytes e p'' t'' begins is_due done took did) ended =
+    ap (λ (s : Scans). s.end) begins ∙ done_refused net said takes (time_behind time item) p' t' rest bytes e p'' t'' refusal did ended
 
 module _ (net : Network) (sound : IsSound net) where
   -- what was done of items is known, where all were done

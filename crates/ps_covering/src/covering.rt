@@ -1,6 +1,7 @@
 // The loop over the scans of a trace of which it is kept what they show.
 
-ghost use Rattle.std.specs.Prelude.{◌≡◌, ◌≤◌, ℕ, List, IsTrue, OnOk, Some};
+ghost use Rattle.std.specs.Prelude.{◌≡◌, ◌≤◌, ℕ, List, IsTrue, OnOk, Some, Err};
+ghost use Rattle.ps_base.specs.declared.failing.Refusal.{Refusal as RefusalOf};
 ghost use Rattle.ps_alone.specs.Applying.{scans_of};
 ghost use Rattle.ps_cover.specs.Covers.{IsAt, IsCoverFor, Knows};
 ghost use Rattle.ps_model.specs.Meaning.{Meaning, nothing};
@@ -9,7 +10,7 @@ ghost use Rattle.ps_model.specs.Scanning.{State};
 ghost use Rattle.ps_runs.specs.Cutting.{TellsFailures};
 ghost use Rattle.ps_runs.specs.Running.{Fits};
 ghost use Rattle.ps_runs.specs.Watching.{IsEvaluatorFor, StandsAt};
-ghost use Rattle.ps_trace.specs.Scans.End.{whole};
+ghost use Rattle.ps_trace.specs.Scans.End.{whole, refused};
 ghost use Rattle.ps_trace.specs.Reading.{IsReadingTrace, file_of, input_count_of, items_left, last_of};
 
 use ps_cover::Cover;
@@ -90,6 +91,11 @@ pub fn cover_items<F: Files, S: Sink>(
     ensures whole { IsTrue (F.tells files.old) → (text : List ℕ) →
         F.held files.old (file_of trace.old) ≡ Some text → IsReadingTrace trace.old text →
         OnOk result ((items_left trace.old text).end ≡ whole) }
+    // A refusal is that of the trace.
+    ensures refuses { IsTrue (F.tells files.old) → (text : List ℕ) →
+        F.held files.old (file_of trace.old) ≡ Some text → IsReadingTrace trace.old text →
+        (refusal : RefusalOf) → result ≡ Err (Cut.Refused refusal) →
+        (items_left trace.old text).end ≡ refused refusal }
     ensures failures { TellsFailures (file_of trace.old) (F.faults files.old) (F.faults files.new)
         (S.faults out.old) (S.faults out.new) result }
     ensures kept { F.held files.new ≡ F.held files.old }

@@ -1,6 +1,7 @@
 // What the scans of one trace show, begun anew, and added to what others have shown.
 
-ghost use Rattle.std.specs.Prelude.{◌≡◌, ◌≤◌, ◌∷◌, ◌++◌, [], ℕ, List, IsTrue, IfOk, OnOk, Some};
+ghost use Rattle.std.specs.Prelude.{◌≡◌, ◌≤◌, ◌∷◌, ◌++◌, [], ℕ, List, IsTrue, IfOk, OnOk, Some, Ok, Err};
+ghost use Rattle.ps_base.specs.declared.failing.Refusal.{Refusal as RefusalOf};
 ghost use Rattle.ps_alone.specs.Applying.{ScanStep, scans_of};
 ghost use Rattle.ps_cover.specs.Tallied.{IsWhole, KnowsTraces};
 ghost use Rattle.ps_cover.specs.declared.cover.Cover.{Cover as CoverOf};
@@ -9,7 +10,7 @@ ghost use Rattle.ps_model.specs.Network.{input_count};
 ghost use Rattle.ps_model.specs.Scanning.{State};
 ghost use Rattle.ps_runs.specs.Cutting.{TellsFailures};
 ghost use Rattle.ps_trace.specs.Reading.{IsReadingTrace, file_of, input_count_of, items_left};
-ghost use Rattle.ps_trace.specs.Scans.End.{whole};
+ghost use Rattle.ps_trace.specs.Scans.End.{whole, refused};
 
 use crate::covering::{Shown, cover_items};
 use crate::nothing::Nothing;
@@ -44,6 +45,11 @@ pub fn add_trace<F: Files>(
     ensures whole { IsTrue (F.tells files.old) → (text : List ℕ) →
         F.held files.old (file_of trace.old) ≡ Some text → IsReadingTrace trace.old text →
         IfOk result (λ ran. OnOk ran ((items_left trace.old text).end ≡ whole)) }
+    // A refusal is that of the trace.
+    ensures refuses { IsTrue (F.tells files.old) → (text : List ℕ) →
+        F.held files.old (file_of trace.old) ≡ Some text → IsReadingTrace trace.old text →
+        (refusal : RefusalOf) → result ≡ Ok (Err (Cut.Refused refusal)) →
+        (items_left trace.old text).end ≡ refused refusal }
     ensures failures { IfOk result (TellsFailures (file_of trace.old) (F.faults files.old) (F.faults files.new) 0 0) }
     ensures reads { (other : List ℕ) → F.faults files.old other ≤ F.faults files.new other }
     ensures kept { F.held files.new ≡ F.held files.old }

@@ -1,0 +1,22 @@
+use Rattle.std.proofs.Common.{◌≡◌, ◌≤◌, ℕ, IsTrue, List, take}
+use Rattle.ps_alone.specs.Applying.{ScanStep}
+use Rattle.ps_bench_base.specs.Opening.{source}
+use Rattle.ps_cover.specs.Tallied.{KnowsTraces}
+use Rattle.ps_accounting.specs.Adding.{AreScansAll}
+use Rattle.ps_accounting.proofs.Words.{words_in}
+use Rattle.ps_accounting.proofs.adding.add_words.Given as goal
+
+abbrev pub invariant-loop-word : goal.invariant-loop-word
+invariant-loop-word g l =
+    record {
+      adds : IsTrue (g.F.Files.tells l.fn.files) → (traces : List (List ScanStep))
+          × AreScansAll (source l.opened.app l.opened.sizes (g.F.Files.tells l.fn.files) (g.F.Files.held l.fn.files)) (words_in (take l.word-index l.words)) traces
+          × KnowsTraces l.opened.app traces l.fn.total l.total;
+      place : l.place ≡ l.word-index;
+      unsaid : g.O.Sink.taken l.out ≡ g.O.Sink.taken l.fn.out;
+      kept : g.F.Files.held l.files ≡ g.F.Files.held l.fn.files;
+      reading : g.F.Files.tells l.files ≡ g.F.Files.tells l.fn.files;
+      reads : (other : List ℕ) → g.F.Files.faults l.fn.files other ≤ g.F.Files.faults l.files other;
+      writes : g.O.Sink.faults l.fn.out ≤ g.O.Sink.faults l.out;
+      telling : g.O.Sink.tells l.out ≡ g.O.Sink.tells l.fn.out;
+    }

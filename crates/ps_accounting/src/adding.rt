@@ -1,0 +1,202 @@
+// The traces that are named, one after another: what their scans show is added up.
+
+ghost use Rattle.std.specs.Prelude.{◌≡◌, ◌≢◌, ◌≤◌, ◌⊎◌, ℕ, List, Any, IsTrue, Some, Ok, Err, map, true, false};
+ghost use Rattle.std.specs.Prelude.{IfOk, IfErr, IsErrOf, OnOk};
+ghost use Rattle.ps_alone.specs.Applying.{ScanStep};
+ghost use Rattle.ps_base.specs.declared.failing.Refusal.{Refusal as RefusalOf};
+ghost use Rattle.ps_bench_base.specs.Ending.{IsOfRun, IsUnread};
+ghost use Rattle.ps_bench_base.specs.Meant.{file_meant};
+ghost use Rattle.ps_bench_base.specs.Opening.{source};
+ghost use Rattle.ps_bench_base.specs.Stopping.{Took};
+ghost use Rattle.ps_cover.specs.Tallied.{IsWhole, KnowsTraces};
+ghost use Rattle.ps_model.specs.Typing.{Accepted};
+ghost use Rattle.ps_outside.specs.Outside.{Rose};
+ghost use Rattle.ps_report.specs.Short.{refusal_text};
+ghost use Rattle.ps_traced.specs.Playing.{LacksCase, trace_held};
+ghost use Rattle.ps_accounting.specs.Adding.{AddsHeld, AddsWord, AreScansAll, RefusesHeld, RefusesWord, StopsAmong};
+ghost use Rattle.ps_accounting.specs.Adding.{StopsAtTrace, StopsAtWord};
+
+use ps_base::Memory;
+use ps_bench_base::{Input, InputStop, Opened, Stop, word_of};
+use ps_cover::Cover;
+use ps_covering::add_trace;
+use ps_edge::Listener;
+use ps_model::App;
+use ps_outside::{Files, Output};
+use ps_runs::Cut;
+use ps_traced::{Expansion, Play, open_play, open_trace, refuse_input};
+use std::alloc::Global;
+
+// Why a call stops whose trace was cut short, by which nothing was to be written.
+fn stop_behind<O: Output>(out: &mut O, cut: Cut) -> Stop
+    requires { cut ≢ Cut.Unwritten }
+    ensures refuses { (refusal : RefusalOf) → result ≡ Stop.Input (InputStop.Refused Input.Trace refusal) →
+        (cut ≡ Cut.Refused refusal)
+        × Took (refusal_text refusal) (O.tells out.old) (O.taken out.old) (O.taken out.new) }
+    ensures of_run { IsOfRun result }
+    ensures unread { IsUnread result → cut ≡ Cut.Unread }
+    ensures unwritten { result ≡ Stop.Unwritten → Rose (O.faults out.old) (O.faults out.new) }
+    ensures writes { O.faults out.old ≤ O.faults out.new }
+    ensures telling { O.tells out.new ≡ O.tells out.old }
+{
+    match cut {
+        Cut::Refused(refusal) => refuse_input(out, Input::Trace, refusal),
+        Cut::Unread => Stop::Input(InputStop::Unread(Input::Trace)),
+        Cut::Unwritten => unreachable!(),
+    }
+}
+
+// Adds what the scans of the trace of this name show.
+fn add_named<F: Files, O: Output>(
+    alloc: Global,
+    files: &mut F,
+    out: &mut O,
+    app: &App,
+    name: &str,
+    total: &mut Cover<'_>,
+) -> Result<(), Stop>
+    ensures adds { IsTrue (F.tells files.old) →
+        OnOk result (AddsHeld app.now (F.held files.old name.now) total.old total.new) }
+    ensures stops { IfErr result (λ stop. StopsAtTrace
+        (λ refusal. IsTrue (F.tells files.old) → RefusesHeld app.now (F.held files.old name.now) refusal) stop
+        (O.tells out.old) (O.taken out.old) (O.taken out.new)) }
+    ensures unsaid { OnOk result (O.taken out.new ≡ O.taken out.old) }
+    ensures unread { IfErr result (λ stop. IsUnread stop →
+        Rose (F.faults files.old name.now) (F.faults files.new name.now)) }
+    ensures unwritten { IsErrOf result Stop.Unwritten → Rose (O.faults out.old) (O.faults out.new) }
+    ensures reads { (other : List ℕ) → F.faults files.old other ≤ F.faults files.new other }
+    ensures writes { O.faults out.old ≤ O.faults out.new }
+    ensures kept { F.held files.new ≡ F.held files.old }
+    ensures reading { F.tells files.new ≡ F.tells files.old }
+    ensures telling { O.tells out.new ≡ O.tells out.old }
+{
+    app.sound();
+    let mut trace = match open_trace(alloc, files, out, name, app) {
+        Ok(trace) => trace,
+        Err(stop) => return Err(stop),
+    };
+    match add_trace(alloc, app, &mut trace, files, total) {
+        Ok(Ok(())) => Ok(()),
+        Ok(Err(cut)) => Err(stop_behind(out, cut)),
+        Err(Memory) => Err(Stop::NoMemory),
+    }
+}
+
+// Adds what the scans show of the trace of these cases, or else of the file that a word names.
+fn add_play<F: Files, O: Output>(
+    alloc: Global,
+    files: &mut F,
+    out: &mut O,
+    app: &App,
+    word: &str,
+    cases: Option<Expansion>,
+    total: &mut Cover<'_>,
+) -> Result<(), Stop>
+    ensures adds { IsTrue (F.tells files.old) → OnOk result (AddsHeld app.now
+        (trace_held cases (F.held files.old (file_meant word.now))) total.old total.new) }
+    ensures stops { IfErr result (λ stop. StopsAtTrace
+        (λ refusal. IsTrue (F.tells files.old) →
+        RefusesHeld app.now (trace_held cases (F.held files.old (file_meant word.now))) refusal) stop
+        (O.tells out.old) (O.taken out.old) (O.taken out.new)) }
+    ensures unsaid { OnOk result (O.taken out.new ≡ O.taken out.old) }
+    ensures unread { IfErr result (λ stop. IsUnread stop →
+        Rose (F.faults files.old (file_meant word.now)) (F.faults files.new (file_meant word.now))) }
+    ensures unwritten { IsErrOf result Stop.Unwritten → Rose (O.faults out.old) (O.faults out.new) }
+    ensures reads { (other : List ℕ) → F.faults files.old other ≤ F.faults files.new other }
+    ensures writes { O.faults out.old ≤ O.faults out.new }
+    ensures kept { F.held files.new ≡ F.held files.old }
+    ensures reading { F.tells files.new ≡ F.tells files.old }
+    ensures telling { O.tells out.new ≡ O.tells out.old }
+{
+    let word = word_of(word);
+    match cases {
+        Some(mut cases) => add_named(alloc, &mut cases, out, app, word.file, total),
+        None => add_named(alloc, files, out, app, word.file, total),
+    }
+}
+
+// Adds what the scans show of what a word means in the place of a trace, and says whether it means one: FALSE where no
+// case has the line of the word, which the listener was told.
+fn add_word<F: Files, O: Output, L: Listener>(
+    alloc: Global,
+    files: &mut F,
+    out: &mut O,
+    listener: &mut L,
+    opened: &Opened,
+    word: &str,
+    total: &mut Cover<'_>,
+) -> Result<bool, Stop>
+    ensures adds { IsTrue (F.tells files.old) → IfOk result (λ means. means ≡ true → AddsWord
+        (source opened.now.app opened.now.sizes (F.tells files.old) (F.held files.old)) word.now total.old total.new) }
+    ensures lacks { IfOk result (λ means. means ≡ false → LacksCase
+        (source opened.now.app opened.now.sizes (F.tells files.old) (F.held files.old)) word.now) }
+    ensures stops { IfErr result (λ stop. StopsAtWord
+        (source opened.now.app opened.now.sizes (F.tells files.old) (F.held files.old)) word.now stop
+        (O.tells out.old) (O.taken out.old) (O.taken out.new)) }
+    ensures unsaid { OnOk result (O.taken out.new ≡ O.taken out.old) }
+    ensures unread { IfErr result (λ stop. IsUnread stop →
+        Rose (F.faults files.old (file_meant word.now)) (F.faults files.new (file_meant word.now))) }
+    ensures unwritten { IsErrOf result Stop.Unwritten → Rose (O.faults out.old) (O.faults out.new) }
+    ensures reads { (other : List ℕ) → F.faults files.old other ≤ F.faults files.new other }
+    ensures writes { O.faults out.old ≤ O.faults out.new }
+    ensures kept { F.held files.new ≡ F.held files.old }
+    ensures reading { F.tells files.new ≡ F.tells files.old }
+    ensures telling { O.tells out.new ≡ O.tells out.old }
+{
+    match open_play(alloc, files, out, listener, opened, word) {
+        Ok(Some(play)) => {
+            let Play { cases, faults: _ } = play;
+            match add_play(alloc, files, out, &opened.app, word, cases, total) {
+                Ok(()) => Ok(true),
+                Err(stop) => Err(stop),
+            }
+        }
+        Ok(None) => Ok(false),
+        Err(stop) => Err(stop),
+    }
+}
+
+/// Adds what the scans of the traces show that these words mean, in order, each begun anew. FALSE: the line of a word
+/// is in no case of its file, which the listener was told. A trace or a case file that is refused ends it: its line is
+/// written, and the stop has the place of the word.
+pub(crate) fn add_words<F: Files, O: Output, L: Listener>(
+    alloc: Global,
+    files: &mut F,
+    out: &mut O,
+    listener: &mut L,
+    opened: &Opened,
+    words: &[&str],
+    total: &mut Cover<'_>,
+) -> Result<bool, Stop>
+    requires { IsWhole opened.now.app total.old }
+    ensures adds { IsTrue (F.tells files.old) → IfOk result (λ mean. mean ≡ true →
+        (traces : List (List ScanStep)) × AreScansAll
+        (source opened.now.app opened.now.sizes (F.tells files.old) (F.held files.old))
+        (map (λ word. word.now) words.now) traces × KnowsTraces opened.now.app traces total.old total.new) }
+    ensures lacks { IfOk result (λ mean. mean ≡ false → Any (LacksCase
+        (source opened.now.app opened.now.sizes (F.tells files.old) (F.held files.old)))
+        (map (λ word. word.now) words.now)) }
+    ensures stops { IfErr result (λ stop. StopsAmong
+        (source opened.now.app opened.now.sizes (F.tells files.old) (F.held files.old))
+        (map (λ word. word.now) words.now) stop (O.tells out.old) (O.taken out.old) (O.taken out.new)) }
+    ensures unsaid { OnOk result (O.taken out.new ≡ O.taken out.old) }
+    ensures unread { IfErr result (λ stop. IsUnread stop →
+        Any (λ (name : List ℕ). Rose (F.faults files.old name) (F.faults files.new name))
+        (map (λ word. file_meant word.now) words.now)) }
+    ensures unwritten { IsErrOf result Stop.Unwritten → Rose (O.faults out.old) (O.faults out.new) }
+    ensures reads { (other : List ℕ) → F.faults files.old other ≤ F.faults files.new other }
+    ensures writes { O.faults out.old ≤ O.faults out.new }
+    ensures kept { F.held files.new ≡ F.held files.old }
+    ensures reading { F.tells files.new ≡ F.tells files.old }
+    ensures telling { O.tells out.new ≡ O.tells out.old }
+{
+    let mut place = 0;
+    for word in words {
+        match add_word(alloc, files, out, listener, opened, *word, total) {
+            Ok(true) => place += 1,
+            Ok(false) => return Ok(false),
+            Err(stop) => return Err(stop.at_place(place)),
+        }
+    }
+    Ok(true)
+}

@@ -1,0 +1,2 @@
+-- what a text gives, by what its bytes give
+pub mod Giving

@@ -1,0 +1,2 @@
+-- what a text gives besides its application
+pub mod Sourcing

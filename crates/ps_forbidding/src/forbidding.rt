@@ -9,13 +9,12 @@ ghost use Rattle.ps_forbidding.specs.Asking.{AnswersIn, AnswersNever, StopsNever
 ghost use Rattle.ps_forbidding.specs.Asking.{IsRefusedRules, StopsRefusing, at_least_one, status_of};
 
 use ps_base::Memory;
-use ps_bench_base::{
-    Input, InputStop, Opened, Status, Stop, open_app, rules_refused_line, tell_any_times,
-};
+use ps_bench_base::{Input, InputStop, Opened, Status, Stop, open_app, rules_refused_line};
 use ps_edge::Listener;
 use ps_never::{NeverFail, Told, answer};
 use ps_outside::{Files, Output, write_all};
 use ps_rules::RulesRefusal;
+use ps_telling::tell_any_times;
 use std::alloc::Global;
 
 /// What `never` is asked.

@@ -1,11 +1,12 @@
 // What is asked, as the search takes it.
 
-ghost use Rattle.std.specs.Prelude.{◌≡◌, IfOk};
+ghost use Rattle.std.specs.Prelude.{◌≡◌, ◌||◌, IfOk};
+ghost use Rattle.ps_model.specs.Network.{input_count as count_of_inputs};
 ghost use Rattle.std.specs.List.{All};
 ghost use Rattle.ps_rules.specs.Standing.{IsOfApplication, IsOfName, IsOfNames};
 ghost use Rattle.ps_terms.specs.Names.{IsNameOf};
 ghost use Rattle.ps_ruling.specs.Asked.{AreAlike, IsAskedBy, IsCheckOf, IsRuleOf, followed_by, input_rules};
-ghost use Rattle.ps_ruling.specs.Asked.{rule_by, source_by, subject_of, value_given};
+ghost use Rattle.ps_ruling.specs.Asked.{rule_by, rules_of_two, source_by, subject_of, value_given};
 
 use crate::wanted::wanted_inputs;
 use ps_base::Memory;
@@ -74,6 +75,34 @@ fn input_rules(alloc: Global, app: &App, file: &RulesFile) -> Result<Vec<InputRu
     let mut rules = Vec::with_capacity(alloc, wanted.len())?;
     for i in 0..app.input_count() {
         rules.push(rule_by(file, wanted[i as usize], i))?;
+    }
+    Ok(rules)
+}
+
+// Whether one of two tests holds.
+fn either(one: bool, other: bool) -> bool
+    ensures { result ≡ (one || other) }
+{
+    one || other
+}
+
+/// What a rules file says of the inputs of two applications, of which there are as many: an input that neither reads is
+/// FALSE. It takes time as `asked_of`. `Err` comes only where memory is wanting.
+pub fn inputs_of_two(
+    alloc: Global,
+    app: &App,
+    other: &App,
+    file: &RulesFile,
+) -> Result<Vec<InputRule>, Memory>
+    requires { count_of_inputs other.now ≡ count_of_inputs app.now }
+    ensures { IfOk result (λ rules. rules.items ≡ rules_of_two app.now other.now file.now) }
+{
+    let wanted = wanted_inputs(alloc, app, file)?;
+    let also = wanted_inputs(alloc, other, file)?;
+    let mut rules = Vec::with_capacity(alloc, wanted.len())?;
+    for i in 0..app.input_count() {
+        let is_wanted = either(wanted[i as usize], also[i as usize]);
+        rules.push(rule_by(file, is_wanted, i))?;
     }
     Ok(rules)
 }

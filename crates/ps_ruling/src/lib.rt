@@ -2,10 +2,10 @@
 //! instances.
 //!
 //! - `wanted`: which inputs are read by a step, by a rule, or by an input that follows.
-//! - `asking`: what is asked, as the search takes it.
+//! - `asking`: what is asked, as the search takes it, of one application or of two.
 #![tactic(auto)]
 
 mod asking;
 mod wanted;
 
-pub use asking::asked_of;
+pub use asking::{asked_of, inputs_of_two};

@@ -1,0 +1,9 @@
+pub mod Ranges
+pub mod Sides
+pub mod Outputs
+pub mod Alike
+pub mod Meeting
+pub mod Following
+pub mod Answering
+pub mod Behind
+pub mod Stepping

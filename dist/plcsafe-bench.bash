@@ -1,20 +1,21 @@
-# Completion of plcsafe-bench for bash: a command, the format of results or of a run, and then the names of files.
+# Completion of plcsafe-bench for bash: a command, its options, the formats that it has, and then the names of files.
 _plcsafe_bench() {
-  local word=${COMP_WORDS[COMP_CWORD]}
+  local commands="test expand watch trace cover never help"
+  local word=${COMP_WORDS[COMP_CWORD]} before=${COMP_WORDS[COMP_CWORD - 1]} options=--help formats=
+  case ${COMP_WORDS[1]} in
+    test) options="--format --help" formats="text tap junit" ;;
+    watch) options="--faults --format --help" formats="text csv json vcd" ;;
+    cover) options="--format --least --ideas --help" formats="text json" ;;
+    never) options="--states --help" ;;
+  esac
   if [ "$COMP_CWORD" -eq 1 ]; then
-    mapfile -t COMPREPLY < <(compgen -W "test expand watch never help --help --version" -- "$word")
-  elif [ "${COMP_WORDS[COMP_CWORD - 1]}" = --format ] && [ "${COMP_WORDS[1]}" = watch ]; then
-    mapfile -t COMPREPLY < <(compgen -W "text csv json vcd" -- "$word")
-  elif [ "${COMP_WORDS[COMP_CWORD - 1]}" = --format ]; then
-    mapfile -t COMPREPLY < <(compgen -W "text tap junit" -- "$word")
+    mapfile -t COMPREPLY < <(compgen -W "$commands --help --version" -- "$word")
+  elif [ "$before" = --format ]; then
+    mapfile -t COMPREPLY < <(compgen -W "$formats" -- "$word")
   elif [ "${COMP_WORDS[1]}" = help ]; then
-    mapfile -t COMPREPLY < <(compgen -W "test expand watch never help" -- "$word")
-  elif [[ $word == -* ]] && [ "${COMP_WORDS[1]}" = watch ]; then
-    mapfile -t COMPREPLY < <(compgen -W "--faults --format --help" -- "$word")
-  elif [[ $word == -* ]] && [ "${COMP_WORDS[1]}" = never ]; then
-    mapfile -t COMPREPLY < <(compgen -W "--states --help" -- "$word")
+    mapfile -t COMPREPLY < <(compgen -W "$commands" -- "$word")
   elif [[ $word == -* ]]; then
-    mapfile -t COMPREPLY < <(compgen -W "--format --help" -- "$word")
+    mapfile -t COMPREPLY < <(compgen -W "$options" -- "$word")
   else
     mapfile -t COMPREPLY < <(compgen -f -- "$word")
     compopt -o filenames

@@ -1,14 +1,17 @@
 -- What a call does: one that did what its words ask, and one that stopped before.
-use Rattle.std.specs.Prelude.{◌≡◌, ◌⊎◌, ℕ, Bool, IsTrue, List, [], ◌∷◌, ◌++◌, Option, Some, None}
+use Rattle.std.specs.Prelude.{◌≡◌, ◌⊎◌, ℕ, Bool, IsTrue, List, [], ◌∷◌, ◌++◌, map, Option, Some, None}
 use Rattle.ps_bench_words.specs.Asking.{Asked}
-use Rattle.ps_bench_words.specs.Asking.Asked.{Test, Expand, Watch, Never, Page, NotTaken}
+use Rattle.ps_bench_words.specs.Asking.Asked.{Test, Expand, Watch, Trace, Cover, Never, Page, NotTaken}
+use Rattle.ps_accounting.specs.Asking.{AnswersCover, StopsCover, Wanted as Covered}
 use Rattle.ps_cases.specs.Expanded.{expanded}
 use Rattle.ps_cases.specs.declared.case.CaseFile.{CaseFile}
+use Rattle.ps_coverage.specs.declared.format.Format.{Format}
 use Rattle.ps_forbidding.specs.Asking.{AnswersNever, StopsNever}
 use Rattle.ps_model.specs.Network.{Network}
 use Rattle.ps_model.specs.declared.channel.ImageSizes.{ImageSizes}
 use Rattle.ps_tester.specs.Stopping.{StopsExpanding, StopsTesting}
 use Rattle.ps_tester.specs.Testing.{AreRanFiles, FileRan, test_status, test_text}
+use Rattle.ps_tracing.specs.Asking.{AnswersTrace, StopsTrace}
 use Rattle.ps_watching.specs.Asking.{AnswersWatch, StopsWatch}
 use Rattle.ps_watching.specs.Showing.{Wanted}
 use Rattle.ps_bench_base.specs.Ending.{stop_status}
@@ -27,6 +30,10 @@ IsAnswered status = (status ≡ Done) ⊎ (status ≡ Failed) ⊎ (status ≡ Us
 abbrev pub wanted_of : (trace : List ℕ) (names : List (List ℕ)) (faults : Option (List ℕ)) → Wanted
 wanted_of trace names faults = record { trace = trace; words = names; file = faults }
 
+-- what `cover` is asked to count
+abbrev pub covered_of : (traces : List (List ℕ)) (output : Format) (least : Option ℕ) (ideas : Bool) → Covered
+covered_of traces output least ideas = record { traces = traces; format = output; least = least; ideas = ideas }
+
 -- By what the words ask, over files that tell what they hold or do not: the status, and what an output that tells
 -- took. `test` ran all cases of all of its files, in the order of the words; its status is Done where each passed, and
 -- else Failed.
@@ -42,6 +49,10 @@ Answers (Expand app cases) reading held status tells before after =
     × (IsTrue tells → after ≡ before ++ expanded net file)
 Answers (Watch app trace names faults layout) reading held status tells before after =
     AnswersWatch app layout (wanted_of trace names faults) reading held tells before after status
+Answers (Trace app csv) reading held status tells before after =
+    (status ≡ Done) × AnswersTrace app csv reading held tells before after
+Answers (Cover app traces output least ideas) reading held status tells before after =
+    AnswersCover app (covered_of traces output least ideas) reading held tells before after status
 Answers (Never app rules states) reading held status tells before after =
     AnswersNever app rules states reading held tells before after status
 Answers Page reading held status tells before after = status ≡ Done
@@ -56,6 +67,10 @@ Stops (Expand app cases) reading held stop tells before after =
     StopsExpanding reading held app cases stop tells before after
 Stops (Watch app trace names faults layout) reading held stop tells before after =
     StopsWatch app layout (wanted_of trace names faults) reading held tells before after stop
+Stops (Trace app csv) reading held stop tells before after =
+    StopsTrace app csv reading held tells before after stop
+Stops (Cover app traces output least ideas) reading held stop tells before after =
+    StopsCover app (covered_of traces output least ideas) reading held tells before after stop
 Stops (Never app rules states) reading held stop tells before after =
     StopsNever app rules states reading held tells before after stop
 Stops Page reading held stop tells before after = stop ≡ Unwritten
@@ -80,6 +95,8 @@ abbrev pub names_of : Asked → List (List ℕ)
 names_of (Test app cases format) = app ∷ cases
 names_of (Expand app cases) = app ∷ cases ∷ []
 names_of (Watch app trace names faults layout) = app ∷ file_meant trace ∷ file_of faults
+names_of (Trace app csv) = app ∷ csv ∷ []
+names_of (Cover app traces output least ideas) = app ∷ map file_meant traces
 names_of (Never app rules states) = app ∷ rules ∷ []
 names_of Page = []
 names_of NotTaken = []

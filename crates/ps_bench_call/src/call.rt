@@ -1,6 +1,6 @@
 // One call of the program, from its words to the number with which it exits.
 
-ghost use Rattle.std.specs.Prelude.{◌≡◌, ◌⊎◌, ◌≤◌, ℕ, List, Any, Ok, Err, IfOk, IfErr, IsErrOf, OnErr};
+ghost use Rattle.std.specs.Prelude.{◌≡◌, ◌⊎◌, ◌≤◌, ◌∷◌, [], ℕ, List, Any, Ok, Err, IfOk, IfErr, IsErrOf, OnErr};
 ghost use Rattle.ps_bench_words.specs.Asking as asking;
 ghost use Rattle.ps_bench_words.specs.Asking.{Asks};
 ghost use Rattle.ps_bench_words.specs.Seen.{asked_seen};
@@ -9,14 +9,18 @@ ghost use Rattle.ps_bench_base.specs.Ending.{IsUnread, exit_number, stop_status}
 ghost use Rattle.ps_bench_base.specs.Stopping.{TookNothing};
 ghost use Rattle.ps_bench_base.specs.declared.ending.Status.{Status as StatusOf};
 ghost use Rattle.ps_outside.specs.Outside.{Rose};
+ghost use Rattle.ps_tracing.specs.Asking.{AnswersTrace, StopsTrace};
 
+use ps_accounting::{CoverAsked, cover};
 use ps_base::Memory;
-use ps_bench_base::{Names, Status, Stop, exit_code, tell};
+use ps_bench_base::{Status, Stop, exit_code};
 use ps_bench_words::{Asked, asked_of, texts_of};
 use ps_edge::Listener;
 use ps_forbidding::{NeverAsked, never};
 use ps_outside::{Files, Output, write_all};
+use ps_telling::{Names, tell};
 use ps_tester::{TestAsked, expand, test};
+use ps_tracing::{TraceAsked, trace};
 use ps_watching::{WatchAsked, watch};
 use ps_words::Words;
 use std::alloc::Global;
@@ -25,6 +29,30 @@ use std::alloc::Global;
 fn tell_words<L: Listener>(listener: &mut L, text: &str) {
     if !listener.is_quiet() {
         listener.hear(text);
+    }
+}
+
+// Writes the trace of a log.
+fn do_trace<F: Files, O: Output>(
+    alloc: Global,
+    files: &mut F,
+    out: &mut O,
+    asked: &TraceAsked<'_>,
+) -> Result<Status, Stop>
+    ensures answers { IfOk result (λ status. (status ≡ StatusOf.Done)
+        × AnswersTrace asked.now.app.now asked.now.log.now (F.tells files.old) (F.held files.old)
+        (O.tells out.old) (O.taken out.old) (O.taken out.new)) }
+    ensures stops { IfErr result (λ stop. StopsTrace asked.now.app.now asked.now.log.now (F.tells files.old) (F.held files.old)
+        (O.tells out.old) (O.taken out.old) (O.taken out.new) stop) }
+    ensures unread { IfErr result (λ stop. IsUnread stop → Any (λ (name : List ℕ).
+        Rose (F.faults files.old name) (F.faults files.new name)) (asked.now.app.now ∷ asked.now.log.now ∷ [])) }
+    ensures unwritten { IsErrOf result Stop.Unwritten → Rose (O.faults out.old) (O.faults out.new) }
+    ensures writes { O.faults out.old ≤ O.faults out.new }
+    ensures telling { O.tells out.new ≡ O.tells out.old }
+{
+    match trace(alloc, files, out, asked) {
+        Ok(()) => Ok(Status::Done),
+        Err(stop) => Err(stop),
     }
 }
 
@@ -77,6 +105,29 @@ fn do_asked<F: Files, O: Output, L: Listener>(
             };
             watch(alloc, files, out, listener, &asked)
         }
+        Asked::Trace { app, csv } => {
+            let asked = TraceAsked {
+                app: *app,
+                log: *csv,
+            };
+            do_trace(alloc, files, out, &asked)
+        }
+        Asked::Cover {
+            app,
+            traces,
+            output,
+            least,
+            ideas,
+        } => {
+            let asked = CoverAsked {
+                app: *app,
+                traces: traces.as_slice(),
+                format: *output,
+                least: *least,
+                ideas: *ideas,
+            };
+            cover(alloc, files, out, listener, &asked)
+        }
         Asked::Never { app, rules, states } => {
             let asked = NeverAsked {
                 app: *app,
@@ -115,6 +166,14 @@ fn names_in<'a>(asked: &'a Asked<'a>) -> Names<'a> {
         } => Names {
             trace: *trace,
             faults: faults.unwrap_or(""),
+            ..Names::of_app(*app)
+        },
+        Asked::Trace { app, csv } => Names {
+            log: *csv,
+            ..Names::of_app(*app)
+        },
+        Asked::Cover { app, traces, .. } => Names {
+            traces: traces.as_slice(),
             ..Names::of_app(*app)
         },
         Asked::Never { app, rules, .. } => Names {
@@ -228,9 +287,10 @@ pub fn exit_of_call<F: Files, O: Output, L: Listener>(
     listener: &mut L,
 ) -> u8
     // The number is that of a status. Where nothing stopped the call, the status and what was written are those of what
-    // the words ask: of `test`, 0 exactly where every case passed, and else 4; of `never`, 0 where every rule holds. Where the call did not do all, why it
-    // stopped and what was written up to there are those of what the words ask, unless memory was wanting before that;
-    // of a file that could not be read, and of an output that could not be written, the count rose.
+    // the words ask: of `test`, 0 exactly where every case passed, and else 4; of `never`, 0 where every rule holds, and
+    // of `cover` where no less was shown than was asked for. Where the call did not do all, why it stopped and what was
+    // written up to there are those of what the words ask, unless memory was wanting before that; of a file that could
+    // not be read, and of an output that could not be written, the count rose.
     ensures does { (status : StatusOf) × (result ≡ exit_number status)
         × (IsAnswered status → (asked : asking.Asked) × Asks words.now asked
         × Answers asked (F.tells files.old) (F.held files.old) status

@@ -1,6 +1,7 @@
 use Rattle.std.proofs.Common.{ℕ, List, Any, Bor, Err, IfErr, refl, ap, sym, subst, ◌∷◌, ◌∙◌}
-use Rattle.std.specs.Prelude.{IfOk, option_map}
+use Rattle.std.specs.Prelude.{IfOk, map, option_map}
 use Rattle.std.proofs.lemmas.Result.{IfErr-weaker, err_from_is_err_and}
+use Rattle.std.proofs.lemmas.Simd.{map-map}
 use Rattle.ps_bench_base.specs.Ending.{IsUnread}
 use Rattle.ps_bench_base.specs.Meant.{file_meant}
 use Rattle.ps_bench_base.specs.declared.ending.Status.TheVariants.{Done}
@@ -9,7 +10,8 @@ use Rattle.ps_bench_words.specs.declared.asking.Asked.{Asked}
 use Rattle.ps_outside.specs.Outside.{Rose}
 use Rattle.ps_tester.specs.Stopping.{StopsTesting}
 use Rattle.ps_tester.proofs.Stopped.{err_is}
-use Rattle.ps_bench_call.specs.Answering.{Answers, Stops, names_of, wanted_of}
+use Rattle.ps_accounting.specs.Asking.{AnswersCover, StopsCover}
+use Rattle.ps_bench_call.specs.Answering.{Answers, Stops, covered_of, names_of, wanted_of}
 use Rattle.ps_bench_call.proofs.Risen.{risen_any}
 use Rattle.ps_watching.specs.Asking.{AnswersWatch, StopsWatch}
 use Rattle.ps_bench_call.proofs.call.do_asked.Goals as goal
@@ -86,3 +88,50 @@ returns-in-Never-clause-unread g c =
     subst (λ (asked : Asked). IfErr c.never.result (λ stop. IsUnread stop → Any (λ (name : List ℕ).
     Rose (g.F.Files.faults c.args.files.now name) (g.F.Files.faults c.never.new.files name)) (names_of (asked_seen asked)))) (sym c.in-Never.is)
     c.never.ensures.unread
+
+pub returns-in-Trace-clause-answers : goal.returns-in-Trace-clause-answers
+returns-in-Trace-clause-answers g c =
+    subst (λ (asked : Asked). IfOk c.do_trace.result (λ status. Answers (asked_seen asked) (g.F.Files.tells c.args.files.now) (g.F.Files.held c.args.files.now)
+    status (g.O.Sink.tells c.args.out.now) (g.O.Sink.taken c.args.out.now) (g.O.Sink.taken c.do_trace.new.out))) (sym c.in-Trace.is) c.do_trace.ensures.answers
+
+pub returns-in-Trace-clause-stops : goal.returns-in-Trace-clause-stops
+returns-in-Trace-clause-stops g c =
+    subst (λ (asked : Asked). IfErr c.do_trace.result (λ stop. Stops (asked_seen asked) (g.F.Files.tells c.args.files.now) (g.F.Files.held c.args.files.now)
+    stop (g.O.Sink.tells c.args.out.now) (g.O.Sink.taken c.args.out.now) (g.O.Sink.taken c.do_trace.new.out))) (sym c.in-Trace.is) c.do_trace.ensures.stops
+
+pub returns-in-Trace-clause-unread : goal.returns-in-Trace-clause-unread
+returns-in-Trace-clause-unread g c =
+    subst (λ (asked : Asked). IfErr c.do_trace.result (λ stop. IsUnread stop → Any (λ (name : List ℕ).
+    Rose (g.F.Files.faults c.args.files.now name) (g.F.Files.faults c.do_trace.new.files name)) (names_of (asked_seen asked)))) (sym c.in-Trace.is)
+    c.do_trace.ensures.unread
+
+pub returns-in-Cover-clause-answers : goal.returns-in-Cover-clause-answers
+returns-in-Cover-clause-answers g c =
+    subst (λ (asked : Asked). IfOk c.cover.result (λ status. Answers (asked_seen asked) (g.F.Files.tells c.args.files.now) (g.F.Files.held c.args.files.now)
+    status (g.O.Sink.tells c.args.out.now) (g.O.Sink.taken c.args.out.now) (g.O.Sink.taken c.cover.new.out))) (sym c.in-Cover.is)
+    (subst (λ (traces : List (Bor (List ℕ))). IfOk c.cover.result (λ status. AnswersCover c.in-Cover.app.now
+    (covered_of (seen traces) c.in-Cover.output c.in-Cover.least c.in-Cover.ideas) (g.F.Files.tells c.args.files.now) (g.F.Files.held c.args.files.now)
+    (g.O.Sink.tells c.args.out.now) (g.O.Sink.taken c.args.out.now) (g.O.Sink.taken c.cover.new.out) status))
+    c.as_slice-in-Cover.ensures.value c.cover.ensures.answers)
+
+pub returns-in-Cover-clause-stops : goal.returns-in-Cover-clause-stops
+returns-in-Cover-clause-stops g c =
+    subst (λ (asked : Asked). IfErr c.cover.result (λ stop. Stops (asked_seen asked) (g.F.Files.tells c.args.files.now) (g.F.Files.held c.args.files.now)
+    stop (g.O.Sink.tells c.args.out.now) (g.O.Sink.taken c.args.out.now) (g.O.Sink.taken c.cover.new.out))) (sym c.in-Cover.is)
+    (subst (λ (traces : List (Bor (List ℕ))). IfErr c.cover.result (λ stop. StopsCover c.in-Cover.app.now
+    (covered_of (seen traces) c.in-Cover.output c.in-Cover.least c.in-Cover.ideas) (g.F.Files.tells c.args.files.now) (g.F.Files.held c.args.files.now)
+    (g.O.Sink.tells c.args.out.now) (g.O.Sink.taken c.args.out.now) (g.O.Sink.taken c.cover.new.out) stop))
+    c.as_slice-in-Cover.ensures.value c.cover.ensures.stops)
+
+pub returns-in-Cover-clause-unread : goal.returns-in-Cover-clause-unread
+returns-in-Cover-clause-unread g c =
+    let slice = c.as_slice-in-Cover.result.now in
+    subst (λ (asked : Asked). IfErr c.cover.result (λ stop. IsUnread stop → Any (λ (name : List ℕ).
+    Rose (g.F.Files.faults c.args.files.now name) (g.F.Files.faults c.cover.new.files name)) (names_of (asked_seen asked)))) (sym c.in-Cover.is)
+    (subst (λ (traces : List (Bor (List ℕ))). IfErr c.cover.result (λ stop. IsUnread stop → Any (λ (name : List ℕ).
+    Rose (g.F.Files.faults c.args.files.now name) (g.F.Files.faults c.cover.new.files name))
+    (c.in-Cover.app.now ∷ map file_meant (seen traces))))
+    c.as_slice-in-Cover.ensures.value
+    (subst (λ (names : List (List ℕ)). IfErr c.cover.result (λ stop. IsUnread stop → Any (λ (name : List ℕ).
+    Rose (g.F.Files.faults c.args.files.now name) (g.F.Files.faults c.cover.new.files name)) (c.in-Cover.app.now ∷ names)))
+    (sym (map-map file_meant (λ (word : Bor (List ℕ)). word.now) slice)) c.cover.ensures.unread))

@@ -1,0 +1,2 @@
+-- when a call did all
+pub mod Closing

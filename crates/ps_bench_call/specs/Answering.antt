@@ -37,7 +37,7 @@ abbrev pub Answers : Asked → (reading : Bool) (held : List ℕ → Option (Lis
     (tells : Bool) → (before after : List ℕ) → Type 0
 Answers (Test app cases format) reading held status tells before after =
     (net : Network) × (sizes : ImageSizes) × IsOfApp (source net sizes reading held) app
-    × (fs : List FileRan) × AreRanFiles (source net sizes reading held) cases fs × (status ≡ test_status fs)
+    × (fs : List FileRan) × AreRanFiles (source net sizes reading held) app cases fs × (status ≡ test_status fs)
     × (IsTrue tells → after ≡ before ++ test_text format fs)
 Answers (Expand app cases) reading held status tells before after =
     (status ≡ Done) × (net : Network) × (sizes : ImageSizes) × IsOfApp (source net sizes reading held) app

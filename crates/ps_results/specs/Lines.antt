@@ -1,5 +1,5 @@
 -- Results in lines for a person.
-use Rattle.std.specs.Prelude.{ℕ, ◌-◌, List, ◌++◌, codes, decimal, if◌then◌else◌}
+use Rattle.std.specs.Prelude.{ℕ, ◌-◌, List, [], ◌++◌, codes, decimal, if◌then◌else◌}
 use Rattle.ps_results.specs.Failing.{failures_text}
 use Rattle.ps_bench_base.specs.Pieces.{count_text, place_text}
 use Rattle.ps_told.specs.Outcome.{Ran, passes}
@@ -11,11 +11,19 @@ case_line r =
     (if passes r.outcome then codes "PASS " else codes "FAIL ") ++ place_text r.name r.case.line ++ codes " "
     ++ r.case.name ++ codes " (" ++ count_text r.outcome.scans (codes "scan") ++ codes ")\n"
 
--- the failures of a case, each in a line behind a mark: those of lines before the first case, and then its own
+-- the call that shows a case that failed, in a line behind a mark, as `plcsafe-bench watch press.st press.cases:7`
+abbrev pub shown_text : (mark : List ℕ) → Ran → List ℕ
+shown_text mark r =
+    if passes r.outcome then []
+    else mark ++ codes "plcsafe-bench watch " ++ r.app ++ codes " " ++ place_text r.name r.case.line ++ codes "\n"
+
+-- the failures of a case, each in a line behind a mark: those of lines before the first case, and then its own; and the
+-- call that shows them
 abbrev pub all_failures : (mark : List ℕ) → Ran → List ℕ
 all_failures mark r =
     failures_text r.net mark r.file.begin r.outcome.failures.items
     ++ failures_text r.net mark r.case.statements r.outcome.failures.items
+    ++ shown_text mark r
 
 -- a case in a line, and below it its failures
 abbrev pub case_lines : Ran → List ℕ

@@ -2,7 +2,7 @@
 
 ghost use Rattle.std.specs.Prelude.{◌≡◌, ◌++◌, IfOk, OnOk, codes, if◌then◌else◌};
 ghost use Rattle.ps_bench_base.specs.Pieces.{count_text};
-ghost use Rattle.ps_results.specs.Lines.{all_failures, case_line, case_lines, total_line};
+ghost use Rattle.ps_results.specs.Lines.{all_failures, case_line, case_lines, shown_text, total_line};
 ghost use Rattle.ps_told.specs.Outcome.{passes, ran_of};
 
 use crate::failing::add_failures;
@@ -38,7 +38,22 @@ fn add_case(text: &mut Bytes, run: &CaseRun<'_>) -> Result<(), Memory>
     add_scans(text, run.outcome.scans)
 }
 
-// The failures of a case, each in a line behind a mark.
+// The call that shows a case that failed, in a line behind a mark.
+fn add_shown(text: &mut Bytes, mark: &[u8], run: &CaseRun<'_>) -> Result<(), Memory>
+    ensures { OnOk result (text.new ≡ text.old ++ shown_text mark.now (ran_of run.now)) }
+{
+    if run.passed() {
+        return Ok(());
+    }
+    text.extend_from_slice(mark)?;
+    text.extend_from_slice(b"plcsafe-bench watch ")?;
+    text.extend_from_slice(run.app_name.as_bytes())?;
+    text.extend_from_slice(b" ")?;
+    add_place(text, run.name.as_bytes(), run.case.line)?;
+    text.extend_from_slice(b"\n")
+}
+
+// The failures of a case, each in a line behind a mark, and the call that shows them.
 pub(crate) fn add_failures_of(
     text: &mut Bytes,
     mark: &[u8],
@@ -54,7 +69,8 @@ pub(crate) fn add_failures_of(
         mark,
         run.case.statements.as_slice(),
         failures,
-    )
+    )?;
+    add_shown(text, mark, run)
 }
 
 // A case in a line, and below it its failures.

@@ -15,12 +15,12 @@ use Rattle.ps_bench_base.specs.Opening.{Source}
 use Rattle.ps_tester.specs.Testing.{AreRan, AreRanFiles, FileRan, all_passed, IsRan, IsRanFile, cases_text, file_text, files_text, tally_of, tally_of_files}
 use Rattle.ps_told.specs.declared.outcome.Tally.{Tally}
 
-pub are_more : (net : Network) (name : List ℕ) (file : CaseFile) (cs : List Case) (c : Case) (rs : List Ran) (r : Ran) →
-    AreRan net name file cs rs → IsRan net name file c r → AreRan net name file (cs ++ c ∷ []) (rs ++ r ∷ [])
-are_more net name file [] c [] r done this = (this, tt)
-are_more net name file [] c (q ∷ rs) r done this = absurd done
-are_more net name file (d ∷ cs) c [] r done this = absurd done
-are_more net name file (d ∷ cs) c (q ∷ rs) r done this = (done.0, are_more net name file cs c rs r done.1 this)
+pub are_more : (net : Network) (word name : List ℕ) (file : CaseFile) (cs : List Case) (c : Case) (rs : List Ran) (r : Ran) →
+    AreRan net word name file cs rs → IsRan net word name file c r → AreRan net word name file (cs ++ c ∷ []) (rs ++ r ∷ [])
+are_more net word name file [] c [] r done this = (this, tt)
+are_more net word name file [] c (q ∷ rs) r done this = absurd done
+are_more net word name file (d ∷ cs) c [] r done this = absurd done
+are_more net word name file (d ∷ cs) c (q ∷ rs) r done this = (done.0, are_more net word name file cs c rs r done.1 this)
 
 pub tally_more : (t : Tally) (rs : List Ran) (r : Ran) → tally_of t (rs ++ r ∷ []) ≡ counted (tally_of t rs) (passes r.outcome)
 tally_more t [] r = refl
@@ -33,12 +33,12 @@ cases_more format t (q ∷ rs) r =
     ap (λ (x : List ℕ). case_text format t q ++ x) (cases_more format (counted t (passes q.outcome)) rs r)
     ∙ sym (append_assoc (case_text format t q) (cases_text format (counted t (passes q.outcome)) rs) (case_text format (tally_of (counted t (passes q.outcome)) rs) r))
 
-pub are_more_files : (from : Source) (ns : List (List ℕ)) (n : List ℕ) (fs : List FileRan) (f : FileRan) →
-    AreRanFiles from ns fs → IsRanFile from n f → AreRanFiles from (ns ++ n ∷ []) (fs ++ f ∷ [])
-are_more_files from [] n [] f done this = (this, tt)
-are_more_files from [] n (g ∷ fs) f done this = absurd done
-are_more_files from (m ∷ ns) n [] f done this = absurd done
-are_more_files from (m ∷ ns) n (g ∷ fs) f done this = (done.0, are_more_files from ns n fs f done.1 this)
+pub are_more_files : (from : Source) (word : List ℕ) (ns : List (List ℕ)) (n : List ℕ) (fs : List FileRan) (f : FileRan) →
+    AreRanFiles from word ns fs → IsRanFile from word n f → AreRanFiles from word (ns ++ n ∷ []) (fs ++ f ∷ [])
+are_more_files from word [] n [] f done this = (this, tt)
+are_more_files from word [] n (g ∷ fs) f done this = absurd done
+are_more_files from word (m ∷ ns) n [] f done this = absurd done
+are_more_files from word (m ∷ ns) n (g ∷ fs) f done this = (done.0, are_more_files from word ns n fs f done.1 this)
 
 pub tally_more_files : (t : Tally) (fs : List FileRan) (f : FileRan) →
     tally_of_files t (fs ++ f ∷ []) ≡ tally_of (tally_of_files t fs) f.ran

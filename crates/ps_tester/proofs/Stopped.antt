@@ -106,15 +106,15 @@ at_cases_from from name told UnreadApp tells before mid after same some = some
 at_cases_from from name told (Input why) tells before mid after same some = some
 at_cases_from from name told (UnreadCases place) tells before mid after same some = λ t. some t ∙ same t
 
-pub in_file_from : (from : Source) (format : Format) (t : Tally) (name : List ℕ) (stop : Stop) (tells : Bool) (before mid after : List ℕ) → (IsTrue tells → mid ≡ before) →
-    StopsInFile from format t name stop tells mid after → StopsInFile from format t name stop tells before after
-in_file_from from format t name stop tells before mid after same (inl at) = inl (at_cases_from from name (refused_text format name) stop tells before mid after same at)
-in_file_from from format t name stop tells before mid after same (inr some) =
+pub in_file_from : (from : Source) (word : List ℕ) (format : Format) (t : Tally) (name : List ℕ) (stop : Stop) (tells : Bool) (before mid after : List ℕ) → (IsTrue tells → mid ≡ before) →
+    StopsInFile from word format t name stop tells mid after → StopsInFile from word format t name stop tells before after
+in_file_from from word format t name stop tells before mid after same (inl at) = inl (at_cases_from from name (refused_text format name) stop tells before mid after same at)
+in_file_from from word format t name stop tells before mid after same (inr some) =
     inr (some.0, some.1, (some.2.0, some.2.1, some.2.2, stops_from (file_text format t (record { name = name; file = some.0; ran = some.2.1 })) stop tells before mid after same some.2.3))
 
-pub among_from : (from : Source) (format : Format) (names : List (List ℕ)) (stop : Stop) (tells : Bool) (before mid after : List ℕ) → (IsTrue tells → mid ≡ before) →
-    StopsAmong from format names stop tells mid after → StopsAmong from format names stop tells before after
-among_from from format names stop tells before mid after same some =
+pub among_from : (from : Source) (word : List ℕ) (format : Format) (names : List (List ℕ)) (stop : Stop) (tells : Bool) (before mid after : List ℕ) → (IsTrue tells → mid ≡ before) →
+    StopsAmong from word format names stop tells mid after → StopsAmong from word format names stop tells before after
+among_from from word format names stop tells before mid after same some =
     let told = files_text format none_told some.4 in (
       some.0,
       some.1,
@@ -122,23 +122,23 @@ among_from from format names stop tells before mid after same some =
       some.3,
       some.4,
       some.5,
-      in_file_from from format (tally_of_files none_told some.4) some.2 stop tells (before ++ told) (mid ++ told) after (λ t. ap (λ (old : List ℕ). old ++ told) (same t)) some.6,
+      in_file_from from word format (tally_of_files none_told some.4) some.2 stop tells (before ++ told) (mid ++ told) after (λ t. ap (λ (old : List ℕ). old ++ told) (same t)) some.6,
     )
 
 -- ---- Cases of a file.
 
 -- one case more was run, and told in part, or not run
-pub stops_more : (net : Network) (name : List ℕ) (file : CaseFile) (cases : List Case) (place : ℕ) (c : Case) (format : Format) (first t : Tally) (rs : List Ran)
-    (stop : Stop) (tells : Bool) (before mid after : List ℕ) → place < length cases → c ≡ get_or cases place c → AreRan net name file (take place cases) rs → t ≡ tally_of first rs →
+pub stops_more : (net : Network) (word name : List ℕ) (file : CaseFile) (cases : List Case) (place : ℕ) (c : Case) (format : Format) (first t : Tally) (rs : List Ran)
+    (stop : Stop) (tells : Bool) (before mid after : List ℕ) → place < length cases → c ≡ get_or cases place c → AreRan net word name file (take place cases) rs → t ≡ tally_of first rs →
     (IsTrue tells → mid ≡ before ++ cases_text format first rs) →
-    (StopsIn [] stop tells mid after ⊎ ((r : Ran) × IsRan net name file c r × StopsIn (case_text format t r) stop tells mid after)) →
-    (ran : ℕ) × (qs : List Ran) × AreRan net name file (take ran cases) qs × StopsIn (cases_text format first qs) stop tells before after
-stops_more net name file cases place c format first t rs stop tells before mid after within is are tally took (inl none) =
+    (StopsIn [] stop tells mid after ⊎ ((r : Ran) × IsRan net word name file c r × StopsIn (case_text format t r) stop tells mid after)) →
+    (ran : ℕ) × (qs : List Ran) × AreRan net word name file (take ran cases) qs × StopsIn (cases_text format first qs) stop tells before after
+stops_more net word name file cases place c format first t rs stop tells before mid after within is are tally took (inl none) =
     (place, rs, are, subst (λ (text : List ℕ). StopsIn text stop tells before after) (append-nil (cases_text format first rs)) (stops_behind (cases_text format first rs) [] stop tells before mid after took none))
-stops_more net name file cases place c format first t rs stop tells before mid after within is are tally took (inr (r, ran, some)) = (
+stops_more net word name file cases place c format first t rs stop tells before mid after within is are tally took (inr (r, ran, some)) = (
   place + 1,
   rs ++ r ∷ [],
-  subst (λ (cs : List Case). AreRan net name file cs (rs ++ r ∷ [])) (sym (item_more cases place c within is)) (are_more net name file (take place cases) c rs r are ran),
+  subst (λ (cs : List Case). AreRan net word name file cs (rs ++ r ∷ [])) (sym (item_more cases place c within is)) (are_more net word name file (take place cases) c rs r are ran),
   subst (λ (text : List ℕ). StopsIn text stop tells before after) (sym (cases_more format first rs r))
       (stops_behind (cases_text format first rs) (case_text format (tally_of first rs) r) stop tells before mid after took
       (subst (λ (u : Tally). StopsIn (case_text format u r) stop tells mid after) tally some)),

@@ -27,36 +27,36 @@ StopsExpanding reading held app cases stop tells before after =
 
 -- Cases of a file of this name were run, from the first one on, and a call stops in what it tells of them, behind as
 -- many other cases.
-abbrev pub StopsRunning : Network → Format → Tally → (name : List ℕ) → CaseFile → Stop →
+abbrev pub StopsRunning : Network → (app : List ℕ) → Format → Tally → (name : List ℕ) → CaseFile → Stop →
     (tells : Bool) (before after : List ℕ) → Type 0
-StopsRunning net format t name file stop tells before after =
-    (ran : ℕ) × (rs : List Ran) × AreRan net name file (take ran file.cases) rs
+StopsRunning net app format t name file stop tells before after =
+    (ran : ℕ) × (rs : List Ran) × AreRan net app name file (take ran file.cases) rs
     × StopsIn (file_text format t (record { name = name; file = file; ran = rs })) stop tells before after
 
 -- How a call of `test` stops in the file of this name, behind as many cases of other files: without its cases, or with
 -- some of them run.
-abbrev pub StopsInFile : Source → Format → Tally → (name : List ℕ) → Stop →
+abbrev pub StopsInFile : Source → (app : List ℕ) → Format → Tally → (name : List ℕ) → Stop →
     (tells : Bool) (before after : List ℕ) → Type 0
-StopsInFile from format t name stop tells before after =
+StopsInFile from app format t name stop tells before after =
     StopsAtCases from name (refused_text format name) stop tells before after
-    ⊎ ((file : CaseFile) × IsOfText from name file × StopsRunning from.net format t name file stop tells before after)
+    ⊎ ((file : CaseFile) × IsOfText from name file × StopsRunning from.net app format t name file stop tells before after)
 
 -- How it stops among files: in one of them, behind others all cases of which were run and told.
-abbrev pub StopsAmong : Source → Format → (names : List (List ℕ)) → Stop →
+abbrev pub StopsAmong : Source → (app : List ℕ) → Format → (names : List (List ℕ)) → Stop →
     (tells : Bool) (before after : List ℕ) → Type 0
-StopsAmong from format names stop tells before after =
+StopsAmong from app format names stop tells before after =
     (done left : List (List ℕ)) × (name : List ℕ) × (names ≡ done ++ name ∷ left)
-    × (fs : List FileRan) × AreRanFiles from done fs
-    × StopsInFile from format (tally_of_files none_told fs) name stop tells
+    × (fs : List FileRan) × AreRanFiles from app done fs
+    × StopsInFile from app format (tally_of_files none_told fs) name stop tells
     (before ++ files_text format none_told fs) after
 
 -- How it stops with its application: in what stands before all results, among its files, or behind them.
-abbrev pub StopsTold : Source → Format → (names : List (List ℕ)) → Stop →
+abbrev pub StopsTold : Source → (app : List ℕ) → Format → (names : List (List ℕ)) → Stop →
     (tells : Bool) (before after : List ℕ) → Type 0
-StopsTold from format names stop tells before after =
+StopsTold from app format names stop tells before after =
     StopsIn (head_text format) stop tells before after
-    ⊎ StopsAmong from format names stop tells (before ++ head_text format) after
-    ⊎ ((fs : List FileRan) × AreRanFiles from names fs × StopsIn (test_text format fs) stop tells before after)
+    ⊎ StopsAmong from app format names stop tells (before ++ head_text format) after
+    ⊎ ((fs : List FileRan) × AreRanFiles from app names fs × StopsIn (test_text format fs) stop tells before after)
 
 -- How a call of `test` stops: without its application, or with it.
 abbrev pub StopsTesting : (reading : Bool) (held : List ℕ → Option (List ℕ)) → (app : List ℕ) →
@@ -64,4 +64,4 @@ abbrev pub StopsTesting : (reading : Bool) (held : List ℕ → Option (List ℕ
 StopsTesting reading held app cases format stop tells before after =
     StopsAtApp reading held app stop tells before after
     ⊎ ((net : Network) × (sizes : ImageSizes) × IsOfApp (source net sizes reading held) app
-    × StopsTold (source net sizes reading held) format cases stop tells before after)
+    × StopsTold (source net sizes reading held) app format cases stop tells before after)

@@ -35,20 +35,21 @@ pub record IsOutcome (net : Network) (statements : List Statement) (outcome : Ca
   pub judged : IsJudged net statements outcome.failures.items
   pub in_order : AreToldInOrder outcome.failures.items
 
--- this case of a file of this name was run on an application
-pub record IsRan (net : Network) (name : List ℕ) (file : CaseFile) (case : Case) (r : Ran) : Type 0 where
+-- this case of a file of this name was run on an application of this name
+pub record IsRan (net : Network) (app name : List ℕ) (file : CaseFile) (case : Case) (r : Ran) : Type 0 where
   pub net_is : r.net ≡ net
+  pub app_is : r.app ≡ app
   pub name_is : r.name ≡ name
   pub file_is : r.file ≡ file
   pub case_is : r.case ≡ case
   pub outcome : IsOutcome net (whole_case file case) r.outcome
 
 -- these cases of a file were run, one after another
-abbrev pub AreRan : Network → (name : List ℕ) → CaseFile → List Case → List Ran → Type 0
-AreRan net name file [] [] = Unit {0}
-AreRan net name file [] (r ∷ rs) = ⊥
-AreRan net name file (c ∷ cs) [] = ⊥
-AreRan net name file (c ∷ cs) (r ∷ rs) = IsRan net name file c r × AreRan net name file cs rs
+abbrev pub AreRan : Network → (app name : List ℕ) → CaseFile → List Case → List Ran → Type 0
+AreRan net app name file [] [] = Unit {0}
+AreRan net app name file [] (r ∷ rs) = ⊥
+AreRan net app name file (c ∷ cs) [] = ⊥
+AreRan net app name file (c ∷ cs) (r ∷ rs) = IsRan net app name file c r × AreRan net app name file cs rs
 
 -- how many cases were told, and failed, behind these
 abbrev pub tally_of : Tally → List Ran → Tally
@@ -66,18 +67,18 @@ pub record FileRan : Type 0 where
   pub file : CaseFile
   pub ran : List Ran
 
--- all cases of the file of this name were run
-pub record IsRanFile (from : Source) (name : List ℕ) (f : FileRan) : Type 0 where
+-- all cases of the file of this name were run, on an application of this name
+pub record IsRanFile (from : Source) (app name : List ℕ) (f : FileRan) : Type 0 where
   pub name_is : f.name ≡ name
   pub of_text : IsOfText from name f.file
-  pub ran : AreRan from.net name f.file f.file.cases f.ran
+  pub ran : AreRan from.net app name f.file f.file.cases f.ran
 
 -- these files were run, all cases of each, one after another
-abbrev pub AreRanFiles : Source → (names : List (List ℕ)) → List FileRan → Type 0
-AreRanFiles from [] [] = Unit {0}
-AreRanFiles from [] (f ∷ fs) = ⊥
-AreRanFiles from (name ∷ names) [] = ⊥
-AreRanFiles from (name ∷ names) (f ∷ fs) = IsRanFile from name f × AreRanFiles from names fs
+abbrev pub AreRanFiles : Source → (app : List ℕ) → (names : List (List ℕ)) → List FileRan → Type 0
+AreRanFiles from app [] [] = Unit {0}
+AreRanFiles from app [] (f ∷ fs) = ⊥
+AreRanFiles from app (name ∷ names) [] = ⊥
+AreRanFiles from app (name ∷ names) (f ∷ fs) = IsRanFile from app name f × AreRanFiles from app names fs
 
 -- how many cases were told, and failed, behind these files
 abbrev pub tally_of_files : Tally → List FileRan → Tally

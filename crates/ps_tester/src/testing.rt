@@ -37,11 +37,12 @@ use ps_rig::{CaseOutcome, run_case};
 use ps_told::{CaseRun, Tally};
 use std::alloc::Global;
 
-// What the cases of a call are run on, and how they are told.
+// What the cases of a call are run on, with its name, and how they are told.
 #[derive(Clone, Copy)]
 pub(crate) struct Bench<'a> {
     alloc: Global,
     opened: &'a Opened,
+    name: &'a str,
     format: Format,
     names: &'a [&'a str],
 }
@@ -132,12 +133,12 @@ fn test_case<O: Output, L: Listener>(
     requires accepted { Accepted bench.now.opened.now.app }
     requires runnable { IsRunnable bench.now.opened.now.app (whole_case named.now.file.now case.now) }
     ensures ran { IfOk result (λ tally. (r : Ran)
-        × IsRan bench.now.opened.now.app named.now.name.now named.now.file.now case.now r
+        × IsRan bench.now.opened.now.app bench.now.name.now named.now.name.now named.now.file.now case.now r
         × (tally ≡ counted before (passes r.outcome))
         × (IsTrue (O.tells out.old) → O.taken out.new ≡ O.taken out.old ++ case_text bench.now.format before r)) }
     ensures stops { IfErr result (λ stop. StopsIn [] stop
         (O.tells out.old) (O.taken out.old) (O.taken out.new)
-        ⊎ ((r : Ran) × IsRan bench.now.opened.now.app named.now.name.now named.now.file.now case.now r
+        ⊎ ((r : Ran) × IsRan bench.now.opened.now.app bench.now.name.now named.now.name.now named.now.file.now case.now r
         × StopsIn (case_text bench.now.format before r) stop
         (O.tells out.old) (O.taken out.old) (O.taken out.new))) }
     ensures unwritten { IsErrOf result Stop.Unwritten → Rose (O.faults out.old) (O.faults out.new) }
@@ -148,6 +149,7 @@ fn test_case<O: Output, L: Listener>(
     let outcome = outcome_of(bench.alloc, app, named.file, case)?;
     let run = CaseRun {
         app,
+        app_name: bench.name,
         name: named.name,
         file: named.file,
         case,
@@ -170,11 +172,11 @@ fn test_all<O: Output, L: Listener>(
     requires runnable { All (λ (case : CaseOf).
         IsRunnable bench.now.opened.now.app (whole_case named.now.file.now case)) cases.now }
     ensures ran { IfOk result (λ tally. (rs : List Ran)
-        × AreRan bench.now.opened.now.app named.now.name.now named.now.file.now cases.now rs
+        × AreRan bench.now.opened.now.app bench.now.name.now named.now.name.now named.now.file.now cases.now rs
         × (tally ≡ tally_of before rs)
         × (IsTrue (O.tells out.old) → O.taken out.new ≡ O.taken out.old ++ cases_text bench.now.format before rs)) }
     ensures stops { IfErr result (λ stop. (ran : ℕ) × (rs : List Ran)
-        × AreRan bench.now.opened.now.app named.now.name.now named.now.file.now (take ran cases.now) rs
+        × AreRan bench.now.opened.now.app bench.now.name.now named.now.name.now named.now.file.now (take ran cases.now) rs
         × StopsIn (cases_text bench.now.format before rs) stop
         (O.tells out.old) (O.taken out.old) (O.taken out.new)) }
     ensures unwritten { IsErrOf result Stop.Unwritten → Rose (O.faults out.old) (O.faults out.new) }
@@ -200,11 +202,11 @@ fn test_cases<O: Output, L: Listener>(
     requires runnable { All (λ (case : CaseOf).
         IsRunnable bench.now.opened.now.app (whole_case named.now.file.now case)) named.now.file.now.cases }
     ensures ran { IfOk result (λ tally. (rs : List Ran)
-        × AreRan bench.now.opened.now.app named.now.name.now named.now.file.now named.now.file.now.cases rs
+        × AreRan bench.now.opened.now.app bench.now.name.now named.now.name.now named.now.file.now named.now.file.now.cases rs
         × (tally ≡ tally_of before rs)
         × (IsTrue (O.tells out.old) → O.taken out.new ≡ O.taken out.old ++ file_text bench.now.format before
         (record { name = named.now.name.now; file = named.now.file.now; ran = rs }))) }
-    ensures stops { IfErr result (λ stop. StopsRunning bench.now.opened.now.app bench.now.format before
+    ensures stops { IfErr result (λ stop. StopsRunning bench.now.opened.now.app bench.now.name.now bench.now.format before
         named.now.name.now named.now.file.now stop
         (O.tells out.old) (O.taken out.old) (O.taken out.new)) }
     ensures unwritten { IsErrOf result Stop.Unwritten → Rose (O.faults out.old) (O.faults out.new) }
@@ -288,14 +290,14 @@ fn test_file<F: Files, O: Output, L: Listener>(
     requires { Accepted bench.now.opened.now.app }
     ensures ran { IfOk result (λ tally. (f : FileRan)
         × IsRanFile (source bench.now.opened.now.app bench.now.opened.now.sizes (F.tells files.old) (F.held files.old))
-        at.entry.name.now f
+        bench.now.name.now at.entry.name.now f
         × (tally ≡ tally_of before f.ran)
         × (IsTrue (O.tells out.old) → O.taken out.new ≡ O.taken out.old ++ file_text bench.now.format before f)) }
     ensures kept { F.held files.new ≡ F.held files.old }
     ensures reading { F.tells files.new ≡ F.tells files.old }
     ensures stops { IfErr result (λ stop. StopsInFile
         (source bench.now.opened.now.app bench.now.opened.now.sizes (F.tells files.old) (F.held files.old))
-        bench.now.format before at.entry.name.now stop
+        bench.now.name.now bench.now.format before at.entry.name.now stop
         (O.tells out.old) (O.taken out.old) (O.taken out.new)) }
     ensures unread { IfErr result (λ stop. IsUnread stop →
         Rose (F.faults files.old at.entry.name.now) (F.faults files.new at.entry.name.now)) }
@@ -324,14 +326,14 @@ fn test_files<F: Files, O: Output, L: Listener>(
     ensures ran { IfOk result (λ tally. (fs : List FileRan)
         × AreRanFiles
         (source bench.now.opened.now.app bench.now.opened.now.sizes (F.tells files.old) (F.held files.old))
-        (seen bench.now.names.now) fs
+        bench.now.name.now (seen bench.now.names.now) fs
         × (tally ≡ tally_of_files none_told fs)
         × (IsTrue (O.tells out.old) → O.taken out.new ≡ O.taken out.old ++ files_text bench.now.format none_told fs)) }
     ensures kept { F.held files.new ≡ F.held files.old }
     ensures reading { F.tells files.new ≡ F.tells files.old }
     ensures stops { IfErr result (λ stop. StopsAmong
         (source bench.now.opened.now.app bench.now.opened.now.sizes (F.tells files.old) (F.held files.old))
-        bench.now.format (seen bench.now.names.now) stop
+        bench.now.name.now bench.now.format (seen bench.now.names.now) stop
         (O.tells out.old) (O.taken out.old) (O.taken out.new)) }
     ensures unread { IfErr result (λ stop. IsUnread stop →
         Any (λ (name : List ℕ). Rose (F.faults files.old name) (F.faults files.new name)) (seen bench.now.names.now)) }
@@ -360,12 +362,12 @@ fn test_told<F: Files, O: Output, L: Listener>(
     ensures ran { IfOk result (λ tally. (fs : List FileRan)
         × AreRanFiles
         (source bench.now.opened.now.app bench.now.opened.now.sizes (F.tells files.old) (F.held files.old))
-        (seen bench.now.names.now) fs
+        bench.now.name.now (seen bench.now.names.now) fs
         × (tally ≡ tally_of_files none_told fs)
         × (IsTrue (O.tells out.old) → O.taken out.new ≡ O.taken out.old ++ test_text bench.now.format fs)) }
     ensures stops { IfErr result (λ stop. StopsTold
         (source bench.now.opened.now.app bench.now.opened.now.sizes (F.tells files.old) (F.held files.old))
-        bench.now.format (seen bench.now.names.now) stop
+        bench.now.name.now bench.now.format (seen bench.now.names.now) stop
         (O.tells out.old) (O.taken out.old) (O.taken out.new)) }
     ensures unread { IfErr result (λ stop. IsUnread stop →
         Any (λ (name : List ℕ). Rose (F.faults files.old name) (F.faults files.new name)) (seen bench.now.names.now)) }
@@ -412,7 +414,8 @@ pub fn test<F: Files, O: Output, L: Listener>(
     ensures ran { IfOk result (λ status. (net : Network) × (sizes : ImageSizes)
         × IsOfApp (source net sizes (F.tells files.old) (F.held files.old)) asked.now.app.now
         × (fs : List FileRan)
-        × AreRanFiles (source net sizes (F.tells files.old) (F.held files.old)) (seen asked.now.cases.now) fs
+        × AreRanFiles (source net sizes (F.tells files.old) (F.held files.old)) asked.now.app.now
+        (seen asked.now.cases.now) fs
         × (status ≡ test_status fs)
         × (IsTrue (O.tells out.old) → O.taken out.new ≡ O.taken out.old ++ test_text asked.now.format fs)) }
     ensures stops { IfErr result (λ stop. StopsTesting (F.tells files.old) (F.held files.old)
@@ -429,6 +432,7 @@ pub fn test<F: Files, O: Output, L: Listener>(
     let bench = Bench {
         alloc,
         opened: &opened,
+        name: asked.app,
         format: asked.format,
         names: asked.cases,
     };

@@ -7,10 +7,11 @@ use Rattle.ps_model.specs.Network.{Network}
 use Rattle.ps_told.specs.declared.outcome.CaseRun.{CaseRun}
 use Rattle.ps_told.specs.declared.outcome.Tally.{Tally}
 
--- A case that was run: the application, the name of its file, what the file says, the case, and what came of it, with
--- the failures in the order of their lines.
+-- A case that was run: the application and its name, the name of the case's file, what the file says, the case, and what
+-- came of it, with the failures in the order of their lines.
 pub record Ran : Type 0 where
   pub net : Network
+  pub app : List ℕ
   pub name : List ℕ
   pub file : CaseFile
   pub case : Case
@@ -18,7 +19,14 @@ pub record Ran : Type 0 where
 
 -- how the code has it
 abbrev pub ran_of : CaseRun → Ran
-ran_of r = record { net = r.app.now; name = r.name.now; file = r.file.now; case = r.case.now; outcome = r.outcome.now }
+ran_of r = record {
+  net = r.app.now;
+  app = r.app_name.now;
+  name = r.name.now;
+  file = r.file.now;
+  case = r.case.now;
+  outcome = r.outcome.now;
+}
 
 -- A case is told as passed exactly where its failures are none.
 abbrev pub passes : CaseOutcome → Bool

@@ -12,6 +12,8 @@ use ps_rig::CaseOutcome;
 pub struct CaseRun<'a> {
     /// The application that it ran on.
     pub app: &'a App,
+    /// The name of the application.
+    pub app_name: &'a str,
     /// The name of its file.
     pub name: &'a str,
     /// What its file says.

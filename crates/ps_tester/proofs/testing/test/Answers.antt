@@ -27,10 +27,10 @@ returns-in_err-tally-clause-stops g c =
       app,
       sizes,
       opened.app,
-      subst (λ (old : List ℕ). StopsTold (source app sizes reading held) format names stop (g.O.Sink.tells c.args.out.now) old new) opened.unsaid
-          (subst (λ (t : Bool). StopsTold (source app sizes reading held) format names stop t (g.O.Sink.taken out) new) opened.telling
-          (subst (λ (r : Bool). StopsTold (source app sizes r held) format names stop (g.O.Sink.tells out) (g.O.Sink.taken out) new) opened.reading
-          (subst (λ (h : List ℕ → Option (List ℕ)). StopsTold (source app sizes (g.F.Files.tells files) h) format names stop (g.O.Sink.tells out) (g.O.Sink.taken out) new) opened.kept
+      subst (λ (old : List ℕ). StopsTold (source app sizes reading held) c.args.asked.now.app.now format names stop (g.O.Sink.tells c.args.out.now) old new) opened.unsaid
+          (subst (λ (t : Bool). StopsTold (source app sizes reading held) c.args.asked.now.app.now format names stop t (g.O.Sink.taken out) new) opened.telling
+          (subst (λ (r : Bool). StopsTold (source app sizes r held) c.args.asked.now.app.now format names stop (g.O.Sink.tells out) (g.O.Sink.taken out) new) opened.reading
+          (subst (λ (h : List ℕ → Option (List ℕ)). StopsTold (source app sizes (g.F.Files.tells files) h) c.args.asked.now.app.now format names stop (g.O.Sink.tells out) (g.O.Sink.taken out) new) opened.kept
           c.in_err-tally.ensures.stops))),
     ))
 

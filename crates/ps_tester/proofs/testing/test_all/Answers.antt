@@ -17,6 +17,7 @@ use Rattle.ps_tester.proofs.testing.test_all.Goals as goal
 pub loop-case-preserved : goal.loop-case-preserved
 loop-case-preserved g c =
     let net = c.args.bench.now.opened.now.app in
+    let word = c.args.bench.now.name.now in
     let name = c.args.named.now.name.now in
     let file = c.args.named.now.file.now in
     let place = c.loop-case.case-index in
@@ -26,9 +27,9 @@ loop-case-preserved g c =
     record {
       ran = (
         old.0 ++ new.0 ∷ [],
-        subst (λ cs. AreRan net name file cs (old.0 ++ new.0 ∷ []))
+        subst (λ cs. AreRan net word name file cs (old.0 ++ new.0 ∷ []))
             (sym (item_more c.args.cases.now place c.case-item.result below c.case-item.is))
-            (are_more net name file (take place c.args.cases.now) c.case-item.result old.0 new.0 old.1 new.1),
+            (are_more net word name file (take place c.args.cases.now) c.case-item.result old.0 new.0 old.1 new.1),
         new.2 ∙ ap (λ t. counted t (passes new.0.outcome)) old.2 ∙ sym (tally_more c.args.before old.0 new.0),
         λ tells. told_more c.args.bench.now.format c.args.before c.loop-case.tally old.0 new.0 (g.O.Sink.taken c.args.out.now)
             (g.O.Sink.taken c.loop-case.out) (g.O.Sink.taken c.test_case.new.out) old.2 (old.3 tells)
@@ -48,6 +49,7 @@ pub returns-in_err-tally-clause-stops : goal.returns-in_err-tally-clause-stops
 returns-in_err-tally-clause-stops g c =
     let p = err_from_is_err_and c.from_residual.result c.from_residual.ensures.1 in
     let net = c.args.bench.now.opened.now.app in
+    let word = c.args.bench.now.name.now in
     let name = c.args.named.now.name.now in
     let file = c.args.named.now.file.now in
     let format = c.args.bench.now.format in
@@ -59,9 +61,9 @@ returns-in_err-tally-clause-stops g c =
     let new = g.O.Sink.taken c.test_case.new.out in
     let below : place < length c.args.cases.now = omega arith in
     err_is _ c.from_residual.result _ (p.1 ∙ ap Err p.2)
-    (stops_more net name file c.args.cases.now place case format c.args.before c.loop-case.tally old.0 stop
+    (stops_more net word name file c.args.cases.now place case format c.args.before c.loop-case.tally old.0 stop
     (g.O.Sink.tells c.args.out.now) (g.O.Sink.taken c.args.out.now) mid new below c.case-item.is old.1 old.2 old.3
-    (subst (λ (tells : Bool). StopsIn [] stop tells mid new ⊎ ((r : Ran) × IsRan net name file case r × StopsIn (case_text format c.loop-case.tally r) stop tells mid new))
+    (subst (λ (tells : Bool). StopsIn [] stop tells mid new ⊎ ((r : Ran) × IsRan net word name file case r × StopsIn (case_text format c.loop-case.tally r) stop tells mid new))
     c.loop-case.invariant.telling c.in_err-tally.ensures.stops))
 
 pub returns-in_err-tally-clause-unwritten : goal.returns-in_err-tally-clause-unwritten

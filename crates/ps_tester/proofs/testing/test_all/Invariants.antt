@@ -7,7 +7,7 @@ abbrev pub invariant-loop-case : goal.invariant-loop-case
 invariant-loop-case g l =
     record {
       ran : (rs : List Ran)
-          × AreRan l.bench.opened.now.app l.named.name.now l.named.file.now (take l.case-index l.cases) rs
+          × AreRan l.bench.opened.now.app l.bench.name.now l.named.name.now l.named.file.now (take l.case-index l.cases) rs
           × (l.tally ≡ tally_of l.fn.before rs)
           × (IsTrue (g.O.Sink.tells l.fn.out) → g.O.Sink.taken l.out ≡ g.O.Sink.taken l.fn.out ++ cases_text l.bench.format l.fn.before rs);
       writes : g.O.Sink.faults l.fn.out ≤ g.O.Sink.faults l.out;

@@ -8,12 +8,13 @@ pub returns-clause-ran : goal.returns-clause-ran
 returns-clause-ran g c = (
   record {
     net = c.args.bench.now.opened.now.app;
+    app = c.args.bench.now.name.now;
     name = c.args.named.now.name.now;
     file = c.args.named.now.file.now;
     case = c.args.case.now;
     outcome = c.in_ok-outcome.outcome;
   },
-  record { net_is = refl; name_is = refl; file_is = refl; case_is = refl; outcome = c.in_ok-outcome.ensures },
+  record { net_is = refl; app_is = refl; name_is = refl; file_is = refl; case_is = refl; outcome = c.in_ok-outcome.ensures },
   c.and.ensures ∙ ap (counted c.args.before) c.passed.ensures,
   c.in_ok-tell_case.ensures.says,
 )
@@ -25,11 +26,12 @@ returns-in_err-tell_case-clause-stops g c =
     (inr (
       record {
         net = c.args.bench.now.opened.now.app;
+        app = c.args.bench.now.name.now;
         name = c.args.named.now.name.now;
         file = c.args.named.now.file.now;
         case = c.args.case.now;
         outcome = c.in_ok-outcome.outcome;
       },
-      record { net_is = refl; name_is = refl; file_is = refl; case_is = refl; outcome = c.in_ok-outcome.ensures },
+      record { net_is = refl; app_is = refl; name_is = refl; file_is = refl; case_is = refl; outcome = c.in_ok-outcome.ensures },
       c.in_err-tell_case.ensures.stops,
     ))

@@ -48,6 +48,7 @@ returns-in_err-tally-clause-stops g c =
     let p = err_from_is_err_and c.from_residual-in_err-tally.result c.from_residual-in_err-tally.ensures.1 in
     let format = c.args.bench.now.format in
     let net = c.args.bench.now.opened.now.app in
+    let word = c.args.bench.now.name.now in
     let name = c.args.named.now.name.now in
     let file = c.args.named.now.file.now in
     let head = file_head_text format name (length file.cases) in
@@ -64,7 +65,7 @@ returns-in_err-tally-clause-stops g c =
     err_is _ c.from_residual-in_err-tally.result _ (p.1 ∙ ap Err p.2) (
       it.0,
       it.1,
-      subst (λ (cs : List Case). AreRan net name file (take it.0 cs) it.1) c.as_slice-cases.ensures it.2,
+      subst (λ (cs : List Case). AreRan net word name file (take it.0 cs) it.1) c.as_slice-cases.ensures it.2,
       stops_longer (head ++ text) (file_foot_text format) stop tells old new (stops_behind head text stop tells old mid new took
           (subst (λ (t : Bool). StopsIn text stop t mid new) c.in_ok-say.ensures.telling it.3)),
     )
@@ -74,6 +75,7 @@ returns-in_err-say-2-clause-stops g c =
     let p = err_from_is_err_and c.from_residual-in_err-say-2.result c.from_residual-in_err-say-2.ensures.1 in
     let format = c.args.bench.now.format in
     let net = c.args.bench.now.opened.now.app in
+    let word = c.args.bench.now.name.now in
     let name = c.args.named.now.name.now in
     let file = c.args.named.now.file.now in
     let head = file_head_text format name (length file.cases) in
@@ -94,7 +96,7 @@ returns-in_err-say-2-clause-stops g c =
     err_is _ c.from_residual-in_err-say-2.result _ (p.1 ∙ ap Err p.2) (
       length file.cases,
       it.0,
-      subst (λ (cs : List Case). AreRan net name file cs it.0) (c.as_slice-cases.ensures ∙ sym all) it.1,
+      subst (λ (cs : List Case). AreRan net word name file cs it.0) (c.as_slice-cases.ensures ∙ sym all) it.1,
       stops_behind (head ++ text) foot stop tells old told new took
           (subst (λ (t : Bool). StopsIn foot stop t told new) (c.in_ok-tally.ensures.telling ∙ c.in_ok-say.ensures.telling)
           (subst (λ (x : List ℕ). StopsIn x stop (g.O.Sink.tells c.test_all.new.out) told new) c.file_foot.ensures c.in_err-say-2.ensures.stops)),

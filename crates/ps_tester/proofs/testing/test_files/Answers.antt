@@ -16,6 +16,7 @@ use Rattle.ps_tester.proofs.testing.test_files.Goals as goal
 pub loop-name-preserved : goal.loop-name-preserved
 loop-name-preserved g c =
     let app = c.args.bench.now.opened.now.app in
+    let word = c.args.bench.now.name.now in
     let sizes = c.args.bench.now.opened.now.sizes in
     let from = source app sizes (g.F.Files.tells c.args.files.now) (g.F.Files.held c.args.files.now) in
     let names = c.args.bench.now.names.now in
@@ -27,11 +28,11 @@ loop-name-preserved g c =
     record {
       ran = (
         old.0 ++ new.0 ∷ [],
-        subst (λ ns. AreRanFiles from ns (old.0 ++ new.0 ∷ [])) (sym (seen_more names place none below))
-            (are_more_files from (seen (take place names)) (get_or names place none).now old.0 new.0 old.1
-            (subst (λ tells. IsRanFile (source app sizes tells (g.F.Files.held c.args.files.now)) (get_or names place none).now new.0)
+        subst (λ ns. AreRanFiles from word ns (old.0 ++ new.0 ∷ [])) (sym (seen_more names place none below))
+            (are_more_files from word (seen (take place names)) (get_or names place none).now old.0 new.0 old.1
+            (subst (λ tells. IsRanFile (source app sizes tells (g.F.Files.held c.args.files.now)) word (get_or names place none).now new.0)
             c.loop-name.invariant.reading
-            (subst (λ held. IsRanFile (source app sizes (g.F.Files.tells c.loop-name.files) held) (get_or names place none).now new.0)
+            (subst (λ held. IsRanFile (source app sizes (g.F.Files.tells c.loop-name.files) held) word (get_or names place none).now new.0)
             c.loop-name.invariant.kept new.1))),
         new.2 ∙ ap (λ t. tally_of t new.0.ran) old.2 ∙ sym (tally_more_files none_told old.0 new.0),
         λ tells. told_more_files c.args.bench.now.format none_told c.loop-name.tally old.0 new.0
@@ -50,6 +51,7 @@ pub returns-in_err-tally-clause-stops : goal.returns-in_err-tally-clause-stops
 returns-in_err-tally-clause-stops g c =
     let p = err_from_is_err_and c.from_residual.result c.from_residual.ensures.1 in
     let app = c.args.bench.now.opened.now.app in
+    let word = c.args.bench.now.name.now in
     let sizes = c.args.bench.now.opened.now.sizes in
     let format = c.args.bench.now.format in
     let from = source app sizes (g.F.Files.tells c.args.files.now) (g.F.Files.held c.args.files.now) in
@@ -71,12 +73,12 @@ returns-in_err-tally-clause-stops g c =
       seen_at names place none below,
       old.0,
       old.1,
-      in_file_from from format (tally_of_files none_told old.0) name stop tells (before ++ files_text format none_told old.0) mid new old.3
-          (subst (λ (t : Tally). StopsInFile from format t name stop tells mid new) old.2
-          (subst (λ (told : Bool). StopsInFile from format c.loop-name.tally name stop told mid new) c.loop-name.invariant.telling
-          (subst (λ (reading : Bool). StopsInFile (source app sizes reading (g.F.Files.held c.args.files.now)) format c.loop-name.tally name stop (g.O.Sink.tells c.loop-name.out) mid new)
+      in_file_from from word format (tally_of_files none_told old.0) name stop tells (before ++ files_text format none_told old.0) mid new old.3
+          (subst (λ (t : Tally). StopsInFile from word format t name stop tells mid new) old.2
+          (subst (λ (told : Bool). StopsInFile from word format c.loop-name.tally name stop told mid new) c.loop-name.invariant.telling
+          (subst (λ (reading : Bool). StopsInFile (source app sizes reading (g.F.Files.held c.args.files.now)) word format c.loop-name.tally name stop (g.O.Sink.tells c.loop-name.out) mid new)
           c.loop-name.invariant.reading
-          (subst (λ (held : List ℕ → Option (List ℕ)). StopsInFile (source app sizes (g.F.Files.tells c.loop-name.files) held) format c.loop-name.tally name stop (g.O.Sink.tells c.loop-name.out) mid new)
+          (subst (λ (held : List ℕ → Option (List ℕ)). StopsInFile (source app sizes (g.F.Files.tells c.loop-name.files) held) word format c.loop-name.tally name stop (g.O.Sink.tells c.loop-name.out) mid new)
           c.loop-name.invariant.kept c.in_err-tally.ensures.stops)))),
     )
 

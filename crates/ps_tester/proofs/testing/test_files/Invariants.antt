@@ -9,7 +9,7 @@ abbrev pub invariant-loop-name : goal.invariant-loop-name
 invariant-loop-name g l =
     record {
       ran : (fs : List FileRan)
-          × AreRanFiles (source l.bench.opened.now.app l.bench.opened.now.sizes (g.F.Files.tells l.fn.files) (g.F.Files.held l.fn.files)) (seen (take l.name-index l.bench.names.now)) fs
+          × AreRanFiles (source l.bench.opened.now.app l.bench.opened.now.sizes (g.F.Files.tells l.fn.files) (g.F.Files.held l.fn.files)) l.bench.name.now (seen (take l.name-index l.bench.names.now)) fs
           × (l.tally ≡ tally_of_files none_told fs)
           × (IsTrue (g.O.Sink.tells l.fn.out) → g.O.Sink.taken l.out ≡ g.O.Sink.taken l.fn.out ++ files_text l.bench.format none_told fs);
       kept : g.F.Files.held l.files ≡ g.F.Files.held l.fn.files;

@@ -15,6 +15,7 @@ use Rattle.ps_tester.proofs.testing.test_told.Goals as goal
 pub returns-in_err-tally-clause-stops : goal.returns-in_err-tally-clause-stops
 returns-in_err-tally-clause-stops g c =
     let p = err_from_is_err_and c.from_residual-in_err-tally.result c.from_residual-in_err-tally.ensures.1 in
+    let word = c.args.bench.now.name.now in
     let format = c.args.bench.now.format in
     let from = source c.args.bench.now.opened.now.app c.args.bench.now.opened.now.sizes (g.F.Files.tells c.args.files.now) (g.F.Files.held c.args.files.now) in
     let names = seen c.args.bench.now.names.now in
@@ -24,9 +25,9 @@ returns-in_err-tally-clause-stops g c =
     let mid = g.O.Sink.taken c.say.new.out in
     let new = g.O.Sink.taken c.test_files.new.out in
     err_is _ c.from_residual-in_err-tally.result _ (p.1 ∙ ap Err p.2)
-    (inr (inl (among_from from format names stop tells (old ++ head_text format) mid new
+    (inr (inl (among_from from word format names stop tells (old ++ head_text format) mid new
     (λ t. c.in_ok-say.ensures.all t ∙ ap (λ (x : List ℕ). old ++ x) c.head.ensures)
-    (subst (λ (t : Bool). StopsAmong from format names stop t mid new) c.in_ok-say.ensures.telling c.in_err-tally.ensures.stops))))
+    (subst (λ (t : Bool). StopsAmong from word format names stop t mid new) c.in_ok-say.ensures.telling c.in_err-tally.ensures.stops))))
 
 pub returns-in_err-foot-clause-stops : goal.returns-in_err-foot-clause-stops
 returns-in_err-foot-clause-stops g c =

@@ -11,11 +11,17 @@ case_line r =
     (if passes r.outcome then codes "PASS " else codes "FAIL ") ++ place_text r.name r.case.line ++ codes " "
     ++ r.case.name ++ codes " (" ++ count_text r.outcome.scans (codes "scan") ++ codes ")\n"
 
--- the call that shows a case that failed, in a line behind a mark, as `plcsafe-bench watch press.st press.cases:7`
+-- the command that shows a run of an application of this name, behind a mark
+abbrev pub command_text : (mark app : List ℕ) → List ℕ
+command_text mark app = mark ++ codes "plcsafe-bench watch " ++ app
+
+-- the call that shows the run of a case, in a line behind a mark, as `plcsafe-bench watch press.st press.cases:7`
+abbrev pub call_text : (mark : List ℕ) → Ran → List ℕ
+call_text mark r = command_text mark r.app ++ codes " " ++ place_text r.name r.case.line ++ codes "\n"
+
+-- the same of a case that failed; nothing of one that passed
 abbrev pub shown_text : (mark : List ℕ) → Ran → List ℕ
-shown_text mark r =
-    if passes r.outcome then []
-    else mark ++ codes "plcsafe-bench watch " ++ r.app ++ codes " " ++ place_text r.name r.case.line ++ codes "\n"
+shown_text mark r = if passes r.outcome then [] else call_text mark r
 
 -- the failures of a case, each in a line behind a mark: those of lines before the first case, and then its own; and the
 -- call that shows them

@@ -2,7 +2,8 @@
 
 ghost use Rattle.std.specs.Prelude.{◌≡◌, ◌++◌, IfOk, OnOk, codes, if◌then◌else◌};
 ghost use Rattle.ps_bench_base.specs.Pieces.{count_text};
-ghost use Rattle.ps_results.specs.Lines.{all_failures, case_line, case_lines, shown_text, total_line};
+ghost use Rattle.ps_results.specs.Lines.{all_failures, call_text, case_line, case_lines, command_text};
+ghost use Rattle.ps_results.specs.Lines.{shown_text, total_line};
 ghost use Rattle.ps_told.specs.Outcome.{passes, ran_of};
 
 use crate::failing::add_failures;
@@ -38,19 +39,34 @@ fn add_case(text: &mut Bytes, run: &CaseRun<'_>) -> Result<(), Memory>
     add_scans(text, run.outcome.scans)
 }
 
-// The call that shows a case that failed, in a line behind a mark.
+// The command that shows a run of an application of this name, behind a mark.
+fn add_command(text: &mut Bytes, mark: &[u8], app: &str) -> Result<(), Memory>
+    ensures { OnOk result (text.new ≡ text.old ++ command_text mark.now app.now) }
+{
+    text.extend_from_slice(mark)?;
+    text.extend_from_slice(b"plcsafe-bench watch ")?;
+    text.extend_from_slice(app.as_bytes())
+}
+
+// The call that shows the run of a case, in a line behind a mark.
+fn add_call(text: &mut Bytes, mark: &[u8], run: &CaseRun<'_>) -> Result<(), Memory>
+    ensures { OnOk result (text.new ≡ text.old ++ call_text mark.now (ran_of run.now)) }
+{
+    add_command(text, mark, run.app_name)?;
+    text.extend_from_slice(b" ")?;
+    add_place(text, run.name.as_bytes(), run.case.line)?;
+    text.extend_from_slice(b"\n")
+}
+
+// The same of a case that failed; nothing of one that passed.
 fn add_shown(text: &mut Bytes, mark: &[u8], run: &CaseRun<'_>) -> Result<(), Memory>
     ensures { OnOk result (text.new ≡ text.old ++ shown_text mark.now (ran_of run.now)) }
 {
     if run.passed() {
-        return Ok(());
+        Ok(())
+    } else {
+        add_call(text, mark, run)
     }
-    text.extend_from_slice(mark)?;
-    text.extend_from_slice(b"plcsafe-bench watch ")?;
-    text.extend_from_slice(run.app_name.as_bytes())?;
-    text.extend_from_slice(b" ")?;
-    add_place(text, run.name.as_bytes(), run.case.line)?;
-    text.extend_from_slice(b"\n")
 }
 
 // The failures of a case, each in a line behind a mark, and the call that shows them.

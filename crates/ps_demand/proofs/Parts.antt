@@ -5,19 +5,11 @@ use Rattle.std.specs.List.{list_any}
 use Rattle.std.proofs.lemmas.Bool.{cases_Bool, and_right, or_right, or_from, true≢false, false≢true, cond-true, cond-false}
 use Rattle.std.proofs.lemmas.List.{map-append}
 use Rattle.indexmap.specs.IndexSet.{insert_key}
-use Rattle.ps_demand.specs.declared.join.Join.{Join}
-use Rattle.ps_demand.specs.declared.join.Join.TheVariants.{And}
-use Rattle.ps_demand.specs.Requirement.{Requirement, requirements, parts, group, same, same_parts}
-use Rattle.ps_demand.specs.Passes.{slim_together}
-use Rattle.ps_demand.specs.Slim.{neutral, parts_within, telling, gathered, joined}
-
--- lists of different lengths are not the same
-pub lengths_differ : (ds es : List Requirement) → length ds ≢ length es → same_parts (requirements ds) (requirements es) ≡ false
-lengths_differ [] [] h = absurd (h refl)
-lengths_differ [] (e ∷ es) h = refl
-lengths_differ (d ∷ ds) [] h = refl
-lengths_differ (d ∷ ds) (e ∷ es) h =
-    and_right (same d e) (same_parts (requirements ds) (requirements es)) (lengths_differ ds es (λ equal. h (ap suc equal)))
+use Rattle.ps_required.specs.declared.join.Join.{Join}
+use Rattle.ps_required.specs.declared.join.Join.TheVariants.{And}
+use Rattle.ps_required.specs.Requirement.{Requirement, requirements, parts, group, same, same_parts}
+use Rattle.ps_required.specs.Passes.{slim_together}
+use Rattle.ps_required.specs.Slim.{neutral, parts_within, telling, gathered, joined}
 
 -- more than one part is a group
 pub gathered_many : (join : Join) (ds : List Requirement) → 1 < length ds → gathered join ds ≡ group join (requirements ds)

@@ -3,18 +3,18 @@
 ghost use Rattle.std.specs.Prelude.{◌≡◌, ◌<◌, ◌≤◌, ◌+◌, ◌++◌, true, IfOk, IfNone, IfSome, OnOk, length};
 ghost use Rattle.ps_model.specs.Network.{input_count, signal_count, declared_count};
 ghost use Rattle.ps_model.specs.Typing.{Accepted, is_safe_signal};
-ghost use Rattle.ps_demand.specs.Demand.{demand as demanded};
+ghost use Rattle.ps_required.specs.Demand.{demand as demanded};
 ghost use Rattle.ps_demand.specs.Lines.{AreDemandLines, IsFirstLarge, NoneIsLarge, demand_line, demand_lines};
-ghost use Rattle.ps_demand.specs.Passes.{AreCounts, HasSlim};
-ghost use Rattle.ps_demand.specs.Slim.{slim};
-ghost use Rattle.ps_demand.specs.Views.{requirement};
+ghost use Rattle.ps_required.specs.Passes.{AreCounts, HasSlim};
+ghost use Rattle.ps_required.specs.Slim.{slim};
+ghost use Rattle.ps_required.specs.Views.{requirement};
 
-use crate::counting::count_signals;
-use crate::demand::{Demand, MOST_LEAVES};
 use crate::slimming::slim_signals;
-use crate::text::write_demand;
 use ps_base::{Bytes, Memory};
 use ps_model::{App, is_safe};
+use ps_required::counting::count_signals;
+use ps_required::demand::{Demand, MOST_LEAVES};
+use ps_required::text::write_demand;
 use std::alloc::Global;
 use thiserror::Error;
 

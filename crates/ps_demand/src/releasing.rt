@@ -1,11 +1,11 @@
 // Demands that are wanted no more.
 
 ghost use Rattle.std.specs.Prelude.{◌≡◌, ◌<◌, ◌+◌, length};
-ghost use Rattle.ps_demand.specs.Passes.{KeepsWanted};
+ghost use Rattle.ps_required.specs.Passes.{KeepsWanted};
 
-use crate::demand::Demand;
-use crate::wanted::is_wanted_behind;
 use ps_model::{App, Arg, Args, Expr, Step, safe_count};
+use ps_required::demand::Demand;
+use ps_required::wanted::is_wanted_behind;
 
 // Lets the demand of a signal go, where no step behind step k wants it.
 fn release_signal(signal: u16, k: u16, last: &[Option<u16>], rows: &mut Vec<Demand>)

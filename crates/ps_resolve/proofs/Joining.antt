@@ -1,24 +1,14 @@
 -- Operands that are joined.
-use Rattle.std.proofs.Common.{◌≡◌, ◌≢◌, ℕ, List, [], ◌∷◌, ◌++◌, ◌+◌, ◌<◌, ◌≤◌, map, take, get_or, length, refl, ap, sym, ◌∙◌}
+use Rattle.std.proofs.Common.{◌≡◌, ℕ, List, [], ◌∷◌, ◌++◌, ◌+◌, ◌<◌, ◌≤◌, map, take, get_or, length, refl, ap, sym, ◌∙◌}
 use Rattle.std.proofs.lemmas.List.{map_more, map-append, take_all}
 use Rattle.ps_names.specs.declared.entry.Entry.{Entry}
 use Rattle.ps_parser.specs.declared.expression.Factor as code
 use Rattle.ps_parser.specs.declared.expression.Product as code_product
-use Rattle.ps_model.specs.Formula.{Formula, all_of, any_of, operand}
+use Rattle.ps_model.specs.Formula.{operand}
 use Rattle.ps_model.specs.Exprs.{operands}
 use Rattle.ps_parser.specs.SumView.{factor_tree, product_tree}
 use Rattle.ps_parser.specs.Tree.{product_of, sum_of}
-use Rattle.ps_names.specs.Stands.{all_joined, any_joined, factor_formula, factor_formulas, product_formula, product_formulas}
-
-pub all_many : (es : List Formula) → length es ≢ 1 → all_joined (operands es) ≡ all_of (operands es)
-all_many [] h = refl
-all_many (e ∷ []) h = absurd (h refl)
-all_many (e ∷ f ∷ es) h = refl
-
-pub any_many : (es : List Formula) → length es ≢ 1 → any_joined (operands es) ≡ any_of (operands es)
-any_many [] h = refl
-any_many (e ∷ []) h = absurd (h refl)
-any_many (e ∷ f ∷ es) h = refl
+use Rattle.ps_names.specs.Stands.{factor_formula, factor_formulas, product_formula, product_formulas}
 
 pub factors_joined : (es : List Entry) (fs : List code.Factor) →
     operands (map (λ f. factor_formula es (factor_tree f)) fs) ≡ factor_formulas es (product_of (map factor_tree fs))

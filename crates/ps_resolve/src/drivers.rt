@@ -8,13 +8,14 @@ ghost use Rattle.ps_parser.specs.StatementView.{statement_tree};
 ghost use Rattle.ps_base.specs.declared.failing.Rule.TheVariants.{N5, N7, N9};
 ghost use Rattle.ps_names.specs.Offences.{noted};
 ghost use Rattle.ps_names.specs.Uses.{assigned, called, named_pins};
-ghost use Rattle.ps_names.specs.Rules.{repeated, pins_twice, assigned_twice, called_twice, untyped, untyped_as, undriven, undriven_as, uncalled, uncalled_as};
+ghost use Rattle.ps_names.specs.Rules.{repeated, pins_twice, assigned_twice, called_twice, untyped, undriven, uncalled};
 ghost use Rattle.ps_names.specs.Tables.{Has};
 
-use ps_base::{Memory, Place, Refusal, Rule};
-use ps_names::{Entry, Sort, note, note_again, note_if};
+use ps_base::{Memory, Refusal, Rule};
+use ps_names::{Entry, note_again};
 use ps_parser::{Argument, Name, Statement, Target};
 use ps_table::Table;
+use ps_uses::{check_type, note_uncalled, note_undriven};
 use std::alloc::Global;
 
 // ---- N5
@@ -135,16 +136,6 @@ pub fn calls(
 
 // ---- N3, N8 and N10
 
-// What a type breaks.
-fn check_type(found: Option<Refusal>, place: Place, sort: Sort) -> Option<Refusal>
-    ensures { result ≡ noted found (untyped_as place sort) }
-{
-    match sort {
-        Sort::Nothing => note(found, Rule::N3, place),
-        _ => found,
-    }
-}
-
 /// Notes the types of declared names that are none or do not fit their section (N3).
 pub fn check_types(entries: &[Entry], found: Option<Refusal>) -> Option<Refusal>
     ensures { result ≡ noted found (flat_map untyped entries.now) }
@@ -154,23 +145,6 @@ pub fn check_types(entries: &[Entry], found: Option<Refusal>) -> Option<Refusal>
         found = check_type(found, e.ty, e.sort);
     }
     found
-}
-
-// What a declared name breaks that is assigned or not, and read or not.
-fn note_undriven(
-    found: Option<Refusal>,
-    name: &Name,
-    sort: Sort,
-    is_assigned: bool,
-    is_read: bool,
-) -> Option<Refusal>
-    ensures { result ≡ noted found (undriven_as sort is_assigned is_read name.now) }
-{
-    match sort {
-        Sort::OutputSignal(_) => note_if(found, !is_assigned, Rule::N8, name.place),
-        Sort::LocalSignal(_) => note_if(found, !is_assigned && is_read, Rule::N8, name.place),
-        _ => found,
-    }
 }
 
 /// Notes outputs, and locals that are read, to which nothing is assigned (N8).
@@ -190,16 +164,6 @@ pub fn check_driven(
         found = note_undriven(found, &e.name, e.sort, is_assigned, is_read);
     }
     Ok(found)
-}
-
-// What a declared name breaks that is called or not.
-fn note_uncalled(found: Option<Refusal>, name: &Name, sort: Sort, has_call: bool) -> Option<Refusal>
-    ensures { result ≡ noted found (uncalled_as sort has_call name.now) }
-{
-    match sort {
-        Sort::Instance(_) => note_if(found, !has_call, Rule::N10, name.place),
-        _ => found,
-    }
 }
 
 /// Notes instances that nothing calls (N10).

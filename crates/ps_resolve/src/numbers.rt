@@ -3,18 +3,17 @@
 ghost use Rattle.std.specs.Prelude.{◌≡◌, ◌<◌, ◌≤◌, ◌+◌, IfOk, Some, slice_get};
 ghost use Rattle.ps_names.specs.Names.{is_input, is_output, is_local, is_instance};
 ghost use Rattle.ps_names.specs.Limits.{inputs, outputs, locals, instances, signals};
-ghost use Rattle.ps_names.specs.Stands.{output_at, outputs_before, number_at, number, pin_number_as, pin_number_at, pin_number};
+ghost use Rattle.ps_names.specs.Stands.{outputs_before, number_at, number, pin_number_as, pin_number_at, pin_number};
 ghost use Rattle.ps_names.specs.declared.entry.Entry.{Entry};
 ghost use Rattle.ps_resolve.specs.Numbering.{number_in, AreNumbers, IsNumbered};
 
 use crate::limits::{Counts, count, count_one, outputs_of};
-use crate::uses::{pin_of, sort_at};
 use ps_base::Memory;
 use ps_base::limits::{MOST_INSTANCES, MOST_SIGNALS};
-use ps_model::{Kind, input_count};
 use ps_names::{Entry, Sort};
 use ps_parser::Name;
 use ps_table::Table;
+use ps_uses::{output_at, sort_at};
 use std::alloc::Global;
 
 /// The number of a declared name, and the number of the first output of the instances from there on.
@@ -100,16 +99,6 @@ pub fn number(alloc: Global, numbering: &Numbering, name: &Name) -> Result<u16, 
     match numbering.table.place_of(alloc, name)? {
         Some(k) => Ok(number_at(numbering, k)),
         None => Ok(0),
-    }
-}
-
-// The place of an output among those of its kind.
-fn output_at(kind: Kind, pin: &Name) -> u8
-    ensures { result ≡ output_at kind pin.now }
-{
-    match pin_of(kind, pin) {
-        Some(j) => j.saturating_sub(input_count(kind)),
-        None => 0,
     }
 }
 

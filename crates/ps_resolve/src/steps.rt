@@ -1,62 +1,26 @@
 // The steps of an application, from the statements of its source.
 
-ghost use Rattle.std.specs.Prelude.{◌≡◌, ◌≢◌, ◌<◌, [], ◌∷◌, ◌++◌, IfOk, IfErr, OnOk, length, map, Some, slice_get, string_bytes};
+ghost use Rattle.std.specs.Prelude.{◌≡◌, ◌<◌, IfOk, length, map, Some, slice_get};
 ghost use Rattle.ps_model.specs.Args.{actual};
 ghost use Rattle.ps_model.specs.Blocks.{Pin, block};
 ghost use Rattle.ps_model.specs.Steps as model;
-ghost use Rattle.ps_model.specs.Exprs.{formula, operands};
+ghost use Rattle.ps_model.specs.Exprs.{formula};
 ghost use Rattle.ps_parser.specs.SumView.{factor_tree, product_tree, sum_tree};
 ghost use Rattle.ps_parser.specs.ArgumentView.{argument_tree};
 ghost use Rattle.ps_parser.specs.StatementView.{statement_tree};
 ghost use Rattle.ps_names.specs.Names.{sort_of};
-ghost use Rattle.ps_names.specs.Stands.{all_joined, any_joined, factor_formula, product_formula, sum_formula, actual_of, actual_at, actuals, kind_of, sort_or, target_number, action};
+ghost use Rattle.ps_names.specs.Stands.{factor_formula, product_formula, sum_formula, actual_of, actual_at, actuals, kind_of, sort_or, target_number, action};
 ghost use Rattle.ps_resolve.specs.Numbering.{IsNumbered};
 
 use crate::declared::is_word;
 use crate::literal::{Literal, literal_of};
 use crate::numbers::{Numbering, number, pin_number};
-use crate::uses::sort_at;
 use ps_base::Memory;
 use ps_model::{Arg, Args, Expr, Exprs, Kind, Step, Steps, input_count, pin_name};
 use ps_names::Sort;
 use ps_parser::{Argument, Factor, Name, Product, Statement, Sum, Target};
+use ps_uses::{all_of, any_of, sort_at};
 use std::alloc::Global;
-
-// The item of a list of one, or the list.
-fn single(items: Vec<Expr>) -> Result<Expr, Vec<Expr>>
-    ensures one { IfOk result (λ e. items.items ≡ e ∷ []) }
-    ensures same { IfErr result (λ v. v.items ≡ items.items) }
-    ensures many { IfErr result (λ v. length v.items ≢ 1) }
-{
-    let mut items = items;
-    if items.len() != 1 {
-        return Err(items);
-    }
-    match items.pop() {
-        Some(e) => Ok(e),
-        None => Err(items),
-    }
-}
-
-// The one operand, or the AND of all.
-fn all_of(items: Vec<Expr>) -> Expr
-    ensures { formula result ≡ all_joined (operands (map formula items.items)) }
-{
-    match single(items) {
-        Ok(e) => e,
-        Err(items) => Expr::And(Exprs { items }),
-    }
-}
-
-// The one operand, or the OR of all.
-fn any_of(items: Vec<Expr>) -> Expr
-    ensures { formula result ≡ any_joined (operands (map formula items.items)) }
-{
-    match single(items) {
-        Ok(e) => e,
-        Err(items) => Expr::Or(Exprs { items }),
-    }
-}
 
 // The expression that a sum stands for.
 #[cycle(expression)]

@@ -9,7 +9,7 @@ use Rattle.ps_model.specs.Network.{Network, input_count}
 use Rattle.ps_model.specs.Typing.{is_safe_signal}
 use Rattle.ps_parser.specs.Places.{step_place}
 use Rattle.ps_parser.specs.Tree.{SourceTree}
-use Rattle.ps_demand.specs.declared.demand.TheConstants.{MOST_LEAVES}
+use Rattle.ps_required.specs.declared.demand.TheConstants.{MOST_LEAVES}
 use Rattle.ps_demand.specs.Demand.{demand}
 use Rattle.ps_demand.specs.Lines.{IsSafeOutput, IsLarge, NoneIsLarge, IsFirstLarge}
 use Rattle.ps_demand.specs.Requirement.{leaf_count}

@@ -14,7 +14,7 @@ use Rattle.ps_model.specs.Table.{Conditions, decided, row_at}
 use Rattle.ps_model.specs.declared.demands.Need.{Need}
 use Rattle.ps_model.specs.declared.demands.Need.TheVariants.{On, Off}
 use Rattle.ps_model.specs.declared.kind.Kind.{Kind}
-use Rattle.ps_demand.proofs.SafeOutputs.{safe_shown}
+use Rattle.ps_required.proofs.SafeOutputs.{safe_shown}
 use Rattle.ps_ways.specs.Tables.{ways_of}
 use Rattle.ps_ways.specs.declared.way.Ask.{Ask}
 use Rattle.ps_why.specs.Explained.{IsOfBefore}

@@ -1,0 +1,17 @@
+pub mod Joined
+pub mod SlimHolds
+pub mod SafeOutputs
+pub mod DemandHolds
+pub mod RunsHold
+pub mod Operands
+pub mod Lengths
+pub mod NeedPins
+pub mod Tables
+pub mod Counted
+pub mod CallFacts
+pub mod DriverStands
+pub mod Lasting
+pub mod Slimmed
+pub mod PinPlaces
+pub mod Writing
+pub mod SafeLeaves

@@ -1,5 +1,3 @@
-mod FewPins
-mod Bitwise
 mod Going
 mod Ending
 mod Showing

@@ -3,12 +3,9 @@
 //!
 //! - `scanner`: what is kept between scans, and a scan.
 //! - `steps`: the steps of a scan.
-//! - `pins`: the pins of a call, and what its step shows.
-//! - `instance`: the state of an instance's block, by its kind.
+//! - The instances, their steps and the pins of a call stand in ps_instances.
 #![tactic(auto)]
 
-mod instance;
-mod pins;
 mod scanner;
 mod steps;
 

@@ -4,7 +4,7 @@ ghost use Rattle.std.specs.Prelude.{◌≡◌};
 ghost use Rattle.ps_model.specs.Kept.{fresh, stepped_at};
 ghost use Rattle.ps_model.specs.PinBits.{pin_of};
 ghost use Rattle.ps_block.specs.Shown.{Shows};
-ghost use Rattle.ps_scan.specs.Instances.{kept_instance, instance_of};
+ghost use Rattle.ps_instances.specs.Instances.{kept_instance, instance_of};
 
 use ps_actuators::{Edm, EdmState, OutControl, OutControlState, SafetyRequest, SafetyRequestState};
 use ps_block::{Outs, Pins, SafetyBlock};
@@ -18,25 +18,38 @@ use ps_sensors::{Antivalent, ContactsState, EmergencyStop, Equivalent, Espe, Sto
 
 /// The state of an instance's block, by its kind.
 #[derive(Clone, Copy)]
-pub(crate) enum Instance {
+pub enum Instance {
+    /// That of SF_Equivalent.
     Equivalent(ContactsState),
+    /// That of SF_Antivalent.
     Antivalent(ContactsState),
+    /// That of SF_EmergencyStop.
     EmergencyStop(StopState),
+    /// That of SF_ESPE.
     Espe(StopState),
+    /// That of SF_ModeSelector.
     ModeSelector(ModeSelectorState),
+    /// That of SF_TwoHandControlTypeII.
     TwoHandTwo(TwoHandTwoState),
+    /// That of SF_TwoHandControlTypeIII.
     TwoHandThree(TwoHandThreeState),
+    /// That of SF_GuardMonitoring.
     GuardMonitoring(GuardMonitoringState),
+    /// That of SF_GuardLocking.
     GuardLocking(GuardLockingState),
+    /// That of SF_EnableSwitch.
     EnableSwitch(EnableSwitchState),
+    /// That of SF_SafetyRequest.
     SafetyRequest(SafetyRequestState),
+    /// That of SF_OutControl.
     OutControl(OutControlState),
+    /// That of SF_EDM.
     Edm(EdmState),
 }
 
 impl Instance {
     /// An instance of a kind before its first step.
-    pub(crate) fn fresh(kind: Kind) -> Instance
+    pub fn fresh(kind: Kind) -> Instance
         ensures { instance_of result ≡ kept_instance kind fresh }
     {
         match kind {
@@ -57,7 +70,7 @@ impl Instance {
     }
 
     /// One step of the instance's block.
-    pub(crate) fn step(&mut self, pins: Pins) -> Outs
+    pub fn step(&mut self, pins: Pins) -> Outs
         ensures moves { instance_of self.new ≡ kept_instance (instance_of self.old).kind (stepped_at (instance_of self.old).kind pins.limit (pin_of pins.bits) pins.now (instance_of self.old).kept) }
         ensures shows { Shows (instance_of self.old).kind result (instance_of self.new).kept }
     {

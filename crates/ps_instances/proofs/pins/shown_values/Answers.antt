@@ -3,7 +3,7 @@ use Rattle.std.specs.List.{range_with_len}
 use Rattle.std.proofs.lemmas.List.{take_more_set, length-set}
 use Rattle.std.proofs.lemmas.List.FromFn.{map-range_with_len_more}
 use Rattle.ps_model.specs.PinBits.{pin_of}
-use Rattle.ps_scan.proofs.pins.shown_values.Goals as goal
+use Rattle.ps_instances.proofs.pins.shown_values.Goals as goal
 
 pub loop-j-preserved : goal.loop-j-preserved
 loop-j-preserved c =

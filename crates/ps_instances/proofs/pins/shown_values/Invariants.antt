@@ -1,7 +1,7 @@
 use Rattle.std.proofs.Common.{◌≡◌, take, map, length}
 use Rattle.std.specs.List.{range_with_len}
 use Rattle.ps_model.specs.PinBits.{pin_of}
-use Rattle.ps_scan.proofs.pins.shown_values.Given as goal
+use Rattle.ps_instances.proofs.pins.shown_values.Given as goal
 
 abbrev pub invariant-loop-j : goal.invariant-loop-j
 invariant-loop-j l = record {

@@ -1,6 +1,6 @@
 use Rattle.std.proofs.Common.{◌≡◌, ℕ, ◌+◌, ◌-◌, ◌&&◌, cond, get_or, false, length}
 use Rattle.std.specs.Prelude.{nat_le, nat_lt}
-use Rattle.ps_scan.proofs.pins.write_at.Given as goal
+use Rattle.ps_instances.proofs.pins.write_at.Given as goal
 
 abbrev pub invariant-loop-j : goal.invariant-loop-j
 invariant-loop-j l = record {

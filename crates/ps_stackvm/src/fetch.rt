@@ -68,7 +68,7 @@ pub(crate) fn fetch(code: &[u8], pc: usize) -> Result<Instruction, Trap>
     requires fits { pc < 2 ^ 32 }
     ensures { result ≡ fetched code.now pc }
 {
-    if pc + 10 <= code.len() {
+    if pc < code.len().saturating_sub(9) {
         fetch_inside(code, pc)
     } else {
         fetch_near_end(code, pc)

@@ -18,9 +18,13 @@ use Rattle.ps_bench_base.specs.Ending.{stop_status}
 use Rattle.ps_bench_base.specs.Meant.{file_meant}
 use Rattle.ps_bench_base.specs.Opening.{IsOfApp, IsOfText, source}
 use Rattle.ps_bench_base.specs.declared.ending.Status.{Status}
-use Rattle.ps_bench_base.specs.declared.ending.Status.TheVariants.{Done, Usage, WriteFault}
+use Rattle.ps_bench_base.specs.declared.ending.Status.TheVariants.{Done, Failed, Usage, WriteFault}
 use Rattle.ps_bench_base.specs.declared.ending.Stop.{Stop}
 use Rattle.ps_bench_base.specs.declared.ending.Stop.TheVariants.{Unwritten}
+
+-- the call was not stopped before all was done
+abbrev pub IsAnswered : Status → Type 0
+IsAnswered status = (status ≡ Done) ⊎ (status ≡ Failed) ⊎ (status ≡ Usage)
 
 -- the run that `watch` is asked for
 abbrev pub wanted_of : (trace : List ℕ) (names : List (List ℕ)) (faults : Option (List ℕ)) → Wanted

@@ -1,3 +1,2 @@
 -- what a call does that did what its words ask: what a reader of the clauses has to believe
 pub mod Answering
-pub use Rattle.ps_closing.specs.Closing

@@ -4,8 +4,7 @@ ghost use Rattle.std.specs.Prelude.{◌≡◌, ◌⊎◌, ◌≤◌, ◌∷◌, 
 ghost use Rattle.ps_bench_words.specs.Asking as asking;
 ghost use Rattle.ps_bench_words.specs.Asking.{Asks};
 ghost use Rattle.ps_bench_words.specs.Seen.{asked_seen};
-ghost use Rattle.ps_bench_call.specs.Answering.{Answers, IsCutOff, Stops, names_of};
-ghost use Rattle.ps_closing.specs.Closing.{IsAnswered};
+ghost use Rattle.ps_bench_call.specs.Answering.{Answers, IsAnswered, IsCutOff, Stops, names_of};
 ghost use Rattle.ps_bench_base.specs.Ending.{IsUnread, exit_number, stop_status};
 ghost use Rattle.ps_bench_base.specs.Stopping.{TookNothing};
 ghost use Rattle.ps_bench_base.specs.declared.ending.Status.{Status as StatusOf};
@@ -16,7 +15,6 @@ use ps_accounting::{CoverAsked, cover};
 use ps_base::Memory;
 use ps_bench_base::{Status, Stop, exit_code};
 use ps_bench_words::{Asked, asked_of, texts_of};
-use ps_closing::{finished, stopped};
 use ps_edge::Listener;
 use ps_forbidding::{NeverAsked, never};
 use ps_outside::{Files, Output, write_all};
@@ -184,6 +182,38 @@ fn names_in<'a>(asked: &'a Asked<'a>) -> Names<'a> {
         },
         Asked::Page { .. } | Asked::NotTaken { .. } => Names::of_app(""),
     }
+}
+
+// How a call ended whose output was to hand on the rest at its end: a handing on that failed is a write that failed.
+fn finished<O: Output>(done: Result<Status, Stop>, out: &mut O) -> Result<Status, Stop>
+    ensures done { IfOk result (λ status. done ≡ Ok status) }
+    ensures stopped { IfErr result (λ stop. (done ≡ Err stop) ⊎ (stop ≡ Stop.Unwritten)) }
+    ensures unwritten { OnErr result ((done ≡ result) ⊎ Rose (O.faults out.old) (O.faults out.new)) }
+    ensures writes { O.faults out.old ≤ O.faults out.new }
+    ensures kept { O.taken out.new ≡ O.taken out.old }
+    ensures telling { O.tells out.new ≡ O.tells out.old }
+{
+    match out.finish() {
+        Ok(()) => done,
+        Err(_) => Err(Stop::Unwritten),
+    }
+}
+
+// The status of a call that stopped, and tells why unless nobody reads the output any more.
+fn stopped<O: Output, L: Listener>(
+    alloc: Global,
+    out: &O,
+    listener: &mut L,
+    names: &Names<'_>,
+    stop: Stop,
+) -> Status
+    ensures status { result ≡ stop_status stop }
+    ensures unanswered { ¬ IsAnswered result }
+{
+    if !out.is_closed() {
+        tell(alloc, listener, names, stop);
+    }
+    stop.status()
 }
 
 // Does what is asked, has the output hand on what it holds back, and tells why it stopped, where it did.

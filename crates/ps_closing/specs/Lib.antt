@@ -1,2 +1,0 @@
--- when a call did all
-pub mod Closing

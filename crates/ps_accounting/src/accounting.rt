@@ -18,7 +18,7 @@ use ps_base::{Bytes, Memory};
 use ps_bench_base::{Status, Stop};
 use ps_cover::{Cover, Exclusions, Sort, percent_of};
 use ps_coverage::{Format, Told, coverage_text};
-use ps_edge::Listener;
+use ps_hearing::Listener;
 use ps_ideas::add_ideas;
 use ps_operands::operand_places;
 use ps_outside::{Files, Output, write_all};

@@ -20,7 +20,7 @@ use ps_base::Memory;
 use ps_bench_base::{Input, InputStop, Opened, Stop, word_of};
 use ps_cover::Cover;
 use ps_covering::add_trace;
-use ps_edge::Listener;
+use ps_hearing::Listener;
 use ps_model::App;
 use ps_outside::{Files, Output};
 use ps_runs::Cut;

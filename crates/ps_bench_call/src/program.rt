@@ -4,7 +4,8 @@ ghost use Rattle.std.specs.Prelude.{◌≤◌};
 
 use crate::call::exit_of_call;
 use ps_bench_base::{Status, exit_code};
-use ps_edge::{StandardError, words_given};
+use ps_edge::words_given;
+use ps_hearing::StandardError;
 use ps_outside::{DiskFiles, StdSink};
 use ps_words::Words;
 use std::io::{BufWriter, Eprint, Print};

@@ -1,31 +1,13 @@
 -- What is told of a refusal.
-use Rattle.std.proofs.Common.{◌≡◌, ℕ, List, [], Some, Result, Ok, Err, IfOk, IfSome, ◌++◌, sym, subst, ◌∙◌, append-nil}
+use Rattle.std.proofs.Common.{◌≡◌, ℕ, List, [], Some, Result, Ok, Err, IfOk, IfSome, sym, subst, ◌∙◌, append-nil}
 use Rattle.ps_base.specs.declared.failing.Refusal.{Refusal}
-use Rattle.ps_quoted.specs.Also.{also_text}
+use Rattle.ps_refused.proofs.Refused.{IsWithFurther}
 use Rattle.ps_message.specs.Message.{Says}
 use Rattle.ps_top.specs.declared.left.Left.{Left}
 use Rattle.ps_edge.specs.Spoken.{IsNamed, spoken_of}
 use Rattle.ps_edge.specs.Telling.{IsOfRefusal}
 use Rattle.ps_edge.specs.declared.spoken.Spoken.{Spoken}
 use Rattle.ps_edge.specs.declared.spoken.Spoken.TheVariants.{App}
-
--- a message of a refusal with the lines of further ones
-abbrev pub IsWithFurther : (name text : List ℕ) → Refusal → List ℕ → Type 0
-IsWithFurther name text refusal bytes =
-    (given first : List ℕ) × Says name text refusal given first
-    × (further : List Refusal) × (more : ℕ) × (bytes ≡ first ++ also_text name text further more)
-
--- a message, and the lines behind it
-pub with_lines : (file name text given first lines bytes : List ℕ) (refusal : Refusal) → file ≡ name → Says file text refusal given first →
-    ((further : List Refusal) × (more : ℕ) × (lines ≡ also_text file text further more)) → bytes ≡ first ++ lines → IsWithFurther name text refusal bytes
-with_lines file name text given first lines bytes refusal same says also joined = (
-  given,
-  first,
-  subst (λ (f : List ℕ). Says f text refusal given first) same says,
-  also.0,
-  also.1,
-  subst (λ (f : List ℕ). bytes ≡ first ++ also_text f text also.0 also.1) same (subst (λ (l : List ℕ). bytes ≡ first ++ l) also.2 joined),
-)
 
 -- a message of some text with some further words
 pub of_some_text : {E : Type 0} (file name text given : List ℕ) (refusal : Refusal) (made : Result (List ℕ) E) → file ≡ name →

@@ -28,10 +28,6 @@ use Rattle.ps_edge.specs.declared.spoken.Spoken.TheVariants.{App, Trace}
 use Rattle.ps_edge.specs.declared.telling.Message.{Message}
 use Rattle.ps_edge.specs.declared.telling.Message.TheVariants.{Nothing, Fixed, Written}
 
--- Such a text was heard behind what had been heard before, or nothing was.
-abbrev pub Hears : (IsText : List ℕ → Type 0) → (before after : List ℕ) → Type 0
-Hears IsText before after = (after ≡ before) ⊎ ((text : List ℕ) × IsText text × (after ≡ before ++ text))
-
 -- These are the notes of an application in their order, each with a place. Which place is left open.
 abbrev pub ArePlaced : Network → List Placed → Type 0
 ArePlaced net placed = map (λ p. p.note) placed ≡ notes net

@@ -3,14 +3,15 @@
 ghost use Rattle.std.specs.Prelude.{◌≡◌, ◌≢◌, [], IsTrue};
 ghost use Rattle.ps_edge.specs.Doing.{Does};
 ghost use Rattle.ps_edge.specs.Exit.{exit_number};
-ghost use Rattle.ps_edge.specs.Telling.{Hears, IsTold};
+ghost use Rattle.ps_edge.specs.Telling.{IsTold};
+ghost use Rattle.ps_hearing.specs.Hearing.{Hears};
 ghost use Rattle.ps_top.specs.Calls.{files_seen, output_seen};
 ghost use Rattle.ps_top.specs.declared.left.Left.{Left as LeftBehind};
 ghost use Rattle.ps_top.specs.declared.Status.{Status as StatusOf};
 
 use crate::exit::{ended, exit_code};
-use crate::listening::Listener;
 use crate::telling::tell;
+use ps_hearing::Listener;
 use ps_outside::{Files, Output};
 use ps_top::{Left, Status, Words, top};
 use std::alloc::Global;

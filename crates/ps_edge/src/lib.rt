@@ -2,11 +2,10 @@
 //! program exits.
 //!
 //! `call` is one call of the program, over any files, any output and whoever is told: `exit_of_call`. `given` takes
-//! the words that come behind the program's name, and `exit` has the numbers. `listening` is who can be told why a
-//! call did not do all; `telling` what is told: of a refusal (`refusing`), of an application that is accepted and of
+//! the words that come behind the program's name, and `exit` has the numbers. `telling` is what a listener is told: of a refusal (`refusing`), of an application that is accepted and of
 //! comments (`noting`), of a seat that was healed in vain (`again`), and of words that are not taken (`asking`);
 //! `spoken` which word of a call names the text that a rule speaks of. `program` makes the call over the files and the
-//! outputs of the system, and is all that `main` calls; `standing` is who reads the standard error.
+//! outputs of the system, and is all that `main` calls.
 #![tactic(auto)]
 
 mod again;
@@ -14,19 +13,13 @@ mod asking;
 mod call;
 mod exit;
 mod given;
-mod listening;
 mod noting;
 mod program;
 mod refusing;
 mod spoken;
-mod standing;
 mod telling;
 
 pub use call::exit_of_call;
 pub use exit::{NO_WORDS, ended, exit_code, exit_code_without_words};
 pub use given::words_given;
-pub use listening::Listener;
 pub use program::{exit_of_program, exit_of_words};
-pub use refusing::refusal_of_app;
-pub use standing::StandardError;
-pub use telling::hear_bytes;

@@ -7,11 +7,11 @@ ghost use Rattle.ps_edge.specs.Telling.{AreNotes, AreOfDone, AreOfRun, AreOfWhol
 ghost use Rattle.ps_edge.specs.Telling.{asks_run, notes_text, odds_text};
 
 use crate::again::again_on;
-use crate::listening::Listener;
 use crate::spoken::Spoken;
 use crate::telling::Message;
 use ps_base::{Bytes, Memory};
 use ps_detail::{odd_comments, odd_lines, placed_notes};
+use ps_hearing::Listener;
 use ps_model::App;
 use ps_noted::{note_line, odd_line};
 use ps_notes::{OddComment, Placed};

@@ -1,27 +1,20 @@
 // What is told of a refusal.
 
-ghost use Rattle.std.specs.Prelude.{◌≡◌, ◌++◌, ℕ, List, IfOk, IfSome};
-ghost use Rattle.ps_base.specs.declared.failing.Refusal.{Refusal as RefusalOf};
-ghost use Rattle.ps_quoted.specs.Also.{also_text};
+ghost use Rattle.std.specs.Prelude.{◌≡◌, ℕ, List, IfOk, IfSome};
 ghost use Rattle.ps_message.specs.Message.{Says};
 ghost use Rattle.ps_edge.specs.Telling.{Carries, IsOfRefusal};
 
-use crate::listening::Listener;
 use crate::spoken::Spoken;
 use crate::telling::Message;
 use ps_base::{Bytes, Fail, Memory, Refusal, Rule};
-use ps_detail::{
-    RegionSizes, detail_on, dirty_told, further_refusals, header_told, inputs_told, past_told,
-};
+use ps_detail::{RegionSizes, detail_on, dirty_told, header_told, inputs_told, past_told};
+use ps_hearing::Listener;
 use ps_message::message;
-use ps_quoted::also_lines;
+use ps_refused::refusal_of_app;
 use ps_source::accept_text;
 use ps_top::{Left, Words};
 use ps_vote::{Seat, VoteSizes, VoteWorld};
 use std::alloc::Global;
-
-// The most further refusals that are told.
-const MOST_FURTHER: usize = 10;
 
 // The text of the application that is left, or nothing.
 fn source_in(left: &Left) -> &[u8]
@@ -31,36 +24,6 @@ fn source_in(left: &Left) -> &[u8]
         Some(text) => text.as_slice(),
         None => &[],
     }
-}
-
-// The lines of the refusals of an application behind the first one.
-fn further_on(alloc: Global, name: &[u8], source: &[u8], refusal: &Refusal) -> Result<Bytes, Memory>
-    ensures { IfOk result (λ bytes. (further : List RefusalOf) × (more : ℕ)
-        × (bytes ≡ also_text name.now source.now further more)) }
-{
-    let all = further_refusals(alloc, source, refusal)?;
-    let told = all.len().min(MOST_FURTHER);
-    let more = (all.len() - told).min(u32::MAX as usize) as u32;
-    also_lines(alloc, name, source, &all[..told], more)
-}
-
-/// The message of a refusal of the application of this name and this text, and behind it the lines of further refusals
-/// of the same letter. An error: memory is wanting.
-pub fn refusal_of_app(
-    alloc: Global,
-    name: &str,
-    source: &[u8],
-    refusal: &Refusal,
-) -> Result<Bytes, Memory>
-    ensures { IfOk result (λ bytes. (given first : List ℕ) × Says name.now source.now refusal.now given first
-        × (further : List RefusalOf) × (more : ℕ) × (bytes ≡ first ++ also_text name.now source.now further more)) }
-{
-    let file = name.as_bytes();
-    let words = detail_on(alloc, source, refusal)?;
-    let mut bytes = message(alloc, file, source, refusal, words.as_slice())?;
-    let further = further_on(alloc, file, source, refusal)?;
-    bytes.extend_from_slice(further.as_slice())?;
-    Ok(bytes)
 }
 
 // The letter of a seat that is dirty, or a blank.

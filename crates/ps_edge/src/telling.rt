@@ -1,16 +1,17 @@
 // What is told of a call: why it did not do all, and the notes on an application that `check` accepts.
 
 ghost use Rattle.std.specs.Prelude.{◌≡◌, IsTrue, IfOk, true};
-ghost use Rattle.ps_edge.specs.Telling.{Carries, Hears, IsOfTrip, IsOfUnread, IsTold};
+ghost use Rattle.ps_edge.specs.Telling.{Carries, IsOfTrip, IsOfUnread, IsTold};
+ghost use Rattle.ps_hearing.specs.Hearing.{Hears};
 
 use crate::again::refusal_and_again;
 use crate::asking::usage_on;
-use crate::listening::Listener;
 use crate::noting::{comments_on, done_on};
 use crate::refusing::refusal_on;
 use crate::spoken::Spoken;
 use ps_base::{Bytes, Memory};
 use ps_detail::field_told;
+use ps_hearing::{Listener, hear_bytes};
 use ps_statuses::{NO_MEMORY, UNWRITTEN, trip_message, unread_message};
 use ps_top::{Left, Status, Trip, Words};
 use std::alloc::Global;
@@ -99,17 +100,6 @@ fn message_on<L: Listener>(
         Status::ReadFault => unread_on(alloc, words, listener),
         Status::WriteFault => Ok(Message::Fixed(UNWRITTEN)),
         Status::Memory => Ok(Message::Fixed(NO_MEMORY)),
-    }
-}
-
-/// Has a listener hear bytes, where they are UTF-8, and else nothing.
-pub fn hear_bytes<L: Listener>(listener: &mut L, bytes: &[u8])
-    ensures heard { IsTrue (L.tells listener.old) →
-        Hears (λ heard. heard ≡ bytes.now) (L.heard listener.old) (L.heard listener.new) }
-    ensures telling { L.tells listener.new ≡ L.tells listener.old }
-{
-    if let Ok(text) = std::str::from_utf8(bytes) {
-        listener.hear(text);
     }
 }
 

@@ -10,7 +10,7 @@ ghost use Rattle.ps_forbidding.specs.Asking.{IsRefusedRules, StopsRefusing, at_l
 
 use ps_base::Memory;
 use ps_bench_base::{Input, InputStop, Opened, Status, Stop, open_app, rules_refused_line};
-use ps_edge::Listener;
+use ps_hearing::Listener;
 use ps_never::{NeverFail, Told, answer};
 use ps_outside::{Files, Output, write_all};
 use ps_rules::RulesRefusal;

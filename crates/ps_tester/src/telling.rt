@@ -3,7 +3,7 @@
 use ps_base::{Bytes, Memory};
 use ps_bench_base::pieces::add_place;
 use ps_cases::{Act, Statement};
-use ps_edge::{Listener, hear_bytes};
+use ps_hearing::{Listener, hear_bytes};
 use ps_told::CaseRun;
 use std::alloc::Global;
 

@@ -28,7 +28,7 @@ use ps_base::Memory;
 use ps_bench_base::{Opened, Status, Stop, open_app, open_cases};
 use ps_bench_words::Format;
 use ps_cases::{Case, CaseFile, CaseRefusal};
-use ps_edge::Listener;
+use ps_hearing::Listener;
 use ps_judge::Failure;
 use ps_model::App;
 use ps_outside::{Files, Output, write_all};

@@ -1,6 +1,6 @@
 use Rattle.std.proofs.Common.{◌∙◌}
-use Rattle.ps_edge.proofs.Refused.{with_lines}
-use Rattle.ps_edge.proofs.refusing.refusal_of_app.Goals as goal
+use Rattle.ps_refused.proofs.Refused.{with_lines}
+use Rattle.ps_refused.proofs.refusing.refusal_of_app.Goals as goal
 
 pub returns : goal.returns
 returns c =

@@ -1,7 +1,7 @@
 // Who is told, in words, why a call did not do all.
 
 ghost use Rattle.std.specs.Prelude.{◌≡◌, ℕ, List, Bool, IsTrue};
-ghost use Rattle.ps_edge.specs.Telling.{Hears};
+ghost use Rattle.ps_hearing.specs.Hearing.{Hears};
 
 use ps_base::Bytes;
 use ps_statuses::Unread;
@@ -36,4 +36,15 @@ pub trait Listener {
     fn hear(&mut self, text: &str)
         ensures heard { IsTrue (tells self.old) → Hears (λ heard. heard ≡ text.now) (heard self.old) (heard self.new) }
         ensures telling { tells self.new ≡ tells self.old };
+}
+
+/// Has a listener hear bytes, where they are UTF-8, and else nothing.
+pub fn hear_bytes<L: Listener>(listener: &mut L, bytes: &[u8])
+    ensures heard { IsTrue (L.tells listener.old) →
+        Hears (λ heard. heard ≡ bytes.now) (L.heard listener.old) (L.heard listener.new) }
+    ensures telling { L.tells listener.new ≡ L.tells listener.old }
+{
+    if let Ok(text) = std::str::from_utf8(bytes) {
+        listener.hear(text);
+    }
 }

@@ -1,0 +1,2 @@
+-- what a listener heard
+pub mod Hearing

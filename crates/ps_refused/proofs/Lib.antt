@@ -1,0 +1,2 @@
+-- what is told of a refusal
+pub mod Refused

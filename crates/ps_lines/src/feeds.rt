@@ -9,8 +9,8 @@ use std::simd::prelude::*;
 // How many bytes are looked at at once.
 const LANES: usize = 16;
 
-// The place of the first line feed.
-pub(crate) fn line_feed(bytes: &[u8]) -> Option<usize>
+/// The place of the first line feed, and None where there is none.
+pub fn line_feed(bytes: &[u8]) -> Option<usize>
     ensures found { IfSome result (λ n. (n < length bytes.now) × (slice_index bytes.now n ≡ 10) × HasNoLineFeed (take n bytes.now)) }
     ensures none { IfNone result (HasNoLineFeed bytes.now) }
 {

@@ -10,4 +10,5 @@
 mod feeds;
 mod reader;
 
-pub use reader::{Got, Limits, LineReader};
+pub use feeds::line_feed;
+pub use reader::{Got, Limits, LineReader, stripped};

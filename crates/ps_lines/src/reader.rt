@@ -344,8 +344,8 @@ impl LineReader {
     }
 }
 
-// How many bytes of a line are left without a carriage return at its end.
-fn stripped(line: &[u8]) -> usize
+/// How many bytes of a line are left without a carriage return at its end.
+pub fn stripped(line: &[u8]) -> usize
     ensures within { result ≤ length line.now }
     ensures stripped { take result line.now ≡ strip_carriage_return line.now }
 {

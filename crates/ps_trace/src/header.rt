@@ -13,17 +13,20 @@ use ps_base::{Memory, Rule};
 use ps_model::App;
 use std::alloc::Global;
 
-// What a line says as a header: nothing; for each input the place of its value on a scan line; or a rule refuses it.
+/// What a line says as a header: nothing; for each input the place of its value on a scan line; or a rule refuses it.
 #[derive(Drop)]
-pub(crate) enum HeaderSays {
+pub enum HeaderSays {
+    /// It is skipped.
     Nothing,
+    /// The place of each input's value.
     Places(Vec<usize>),
+    /// A rule refuses it.
     Broken(Rule),
 }
 
-// Reads a line as the header. Each of its words is compared with the names of the inputs, of which there are 512 at
-// most, once in a trace.
-pub(crate) fn read_header(alloc: Global, line: &[u8], app: &App) -> Result<HeaderSays, Memory>
+/// Reads a line as the header. Each of its words is compared with the names of the inputs, of which there are 512 at
+/// most, once in a trace.
+pub fn read_header(alloc: Global, line: &[u8], app: &App) -> Result<HeaderSays, Memory>
     ensures says { IfOk result (λ says. header_said (input_names app.now) (fields line.now) ≡ header_by says) }
     ensures sized { IfOk result (IsSized (input_count app.now)) }
 {

@@ -10,12 +10,16 @@ use crate::plain_line::read_plain;
 use crate::words::{first_field, next_word, number};
 use ps_base::Rule;
 
-// What a line says. A scan's values are written aside.
+/// What a line after the header says. A scan's values are written aside.
 #[derive(Clone, Copy, PartialEq, Eq)]
-pub(crate) enum LineSays {
+pub enum LineSays {
+    /// It is skipped.
     Nothing,
+    /// A restart.
     Restart,
+    /// A scan at a time in ms.
     Scan(u32),
+    /// A rule refuses it.
     Broken(Rule),
 }
 
@@ -26,9 +30,9 @@ struct Values {
     proper: bool,
 }
 
-// What a line after the header says, where the header has a name for each place of `values` and `last` is the time of
-// the scan before. The values of a scan are put there, in the header's order.
-pub(crate) fn read_line(line: &[u8], last: u32, values: &mut [bool]) -> LineSays
+/// What a line after the header says, where the header has a name for each place of `values` and `last` is the time of
+/// the scan before. The values of a scan are put there, in the header's order.
+pub fn read_line(line: &[u8], last: u32, values: &mut [bool]) -> LineSays
     ensures says { line_said (length values.old) last (fields line.now) ≡ said_by result values.new }
     ensures rises { (now : ℕ) → result ≡ LineSays.Scan now → last ≤ now }
 {

@@ -287,8 +287,8 @@ impl TraceReader {
     }
 }
 
-// A refusal by a rule at a line.
-pub(crate) fn at_line(rule: Rule, line: u32) -> Refusal
+/// A refusal by a rule at a line, with no column.
+pub fn at_line(rule: Rule, line: u32) -> Refusal
     ensures { result ≡ at_line rule line }
 {
     Refusal {
@@ -311,8 +311,8 @@ pub(crate) fn feeds(got: Got) -> Result<u32, Rule>
     }
 }
 
-// The scan with this time, and with each input's value at the input's place.
-fn fill(into: &mut Scan, now: u32, places: &[usize], values: &[bool])
+/// The scan with this time, and with each input's value at the input's place.
+pub fn fill(into: &mut Scan, now: u32, places: &[usize], values: &[bool])
     requires { length into.old.ins ≡ length places.now }
     ensures { into.new ≡ record { now = now; ins = inputs_of places.now values.now } }
 {

@@ -68,7 +68,8 @@ impl Drop for Feed {
 }
 
 impl Feed {
-    ghost use Rattle.ps_fed.specs.Feeding.{Breaks, Gives, IsBehind, IsHeadless, inputs_of_feed, last_of, lines_left, waiting};
+    ghost use Rattle.ps_fed.specs.Feeding.{Breaks, Gives, IsBehind, IsHeadless};
+    ghost use Rattle.ps_fed.specs.Feeding.{inputs_of_feed, last_of, lines_left, waiting};
     ghost use Rattle.ps_fed.specs.Streaming.{fed_lines};
 
     /// A reader of the trace of an application that this stream gives, behind its header.
@@ -114,9 +115,9 @@ impl Feed {
 
     /// What the next line gives, as soon as it is there. It takes no memory.
     ///
-    /// With `Fed::Scan` the scan stands in `into`; with every other answer `into` is as before. `Fault` comes only where
-    /// the stream's count rose in this call, at the one read that failed: every whole line that was read has come, and
-    /// a later call goes on with the same line. Every other answer leaves the count as it was.
+    /// With `Fed::Scan` the scan stands in `into`; with every other answer `into` is as before. `Fault` comes only
+    /// where the stream's count rose in this call, at the one read that failed: every whole line that was read has
+    /// come, and a later call goes on with the same line. Every other answer leaves the count as it was.
     pub fn next_item<S: Stream>(&mut self, input: &mut S, into: &mut Scan) -> Result<Fed, TraceStop>
         requires sizes { length into.old.ins ≡ inputs_of_feed self.old }
         ensures gives { IsTrue (S.tells input.old) → IfOk result (λ fed. Gives fed self.old self.new into.old into.new
@@ -158,7 +159,8 @@ impl Feed {
         ensures says { IfOk result (λ fed. Says fed self.old.places.items self.old.last self.new.last into.old into.new
             (said_of (length self.old.places.items) self.old.last (line_came came (line_of self.old.lines)))) }
         ensures breaks { (refusal : Refusal) → result ≡ Err (TraceStop.Refused refusal) →
-            IsBroken (length self.old.places.items) self.old.last self.old.number (line_came came (line_of self.old.lines)) refusal }
+            IsBroken (length self.old.places.items) self.old.last self.old.number
+            (line_came came (line_of self.old.lines)) refusal }
         ensures shown { OnOk result ((number : ℕ) → self.old.number ≡ told_number number →
             self.new.number ≡ told_number (number_after (line_came came (line_of self.old.lines)) number)) }
         ensures ended { OnOk result (self.new.ended ≡ is_last came) }
@@ -228,7 +230,8 @@ fn header_of(
 
 // The number of the line behind one, up to the largest one of 32 bits.
 fn number_behind(number: u32, came: Came) -> u32
-    ensures { (n : ℕ) (bytes : List ℕ) → number ≡ told_number n → result ≡ told_number (number_after (line_came came bytes) n) }
+    ensures { (n : ℕ) (bytes : List ℕ) → number ≡ told_number n →
+        result ≡ told_number (number_after (line_came came bytes) n) }
 {
     match came {
         Came::Line => number.saturating_add(1),

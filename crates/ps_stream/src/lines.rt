@@ -148,7 +148,8 @@ impl StreamLines {
         requires held { feed < self.old.upto }
         requires feed { slice_index self.old.bytes.items feed ≡ 10 }
         requires first { HasNoLineFeed (take (feed - self.old.from) (drop self.old.from self.old.bytes.items)) }
-        ensures gives { (coming : List ℕ) → Gives (left self.old coming) result (line_of self.new) (left self.new coming) }
+        ensures gives { (coming : List ℕ) →
+            Gives (left self.old coming) result (line_of self.new) (left self.new coming) }
         ensures longest { self.new.longest ≡ self.old.longest }
     {
         let from = self.from;

@@ -41,7 +41,13 @@ impl Model for MemStream {
 
     ghost Value = { StreamInMemory };
 
-    ghost view = { λ s. record { coming = drop s.at s.bytes; sizes = s.sizes.items; failing = s.failing.items; calls = s.calls; faults = s.faults } };
+    ghost view = { λ s. record {
+      coming = drop s.at s.bytes;
+      sizes = s.sizes.items;
+      failing = s.failing.items;
+      calls = s.calls;
+      faults = s.faults;
+    } };
 
     ghost invariant = { λ s. s.at ≤ length s.bytes };
 }
@@ -49,7 +55,8 @@ impl Model for MemStream {
 impl MemStream {
     /// A stream of a copy of these bytes, which come as one piece. No read of it is chosen to fail.
     pub fn new(alloc: Global, bytes: &[u8]) -> Result<MemStream, Memory>
-        ensures { IfOk result (λ s. s ≡ record { coming = bytes.now; sizes = []; failing = []; calls = 0; faults = 0 }) }
+        ensures { IfOk result
+            (λ s. s ≡ record { coming = bytes.now; sizes = []; failing = []; calls = 0; faults = 0 }) }
     {
         Ok(MemStream {
             bytes: Bytes::from_slice(alloc, bytes)?,

@@ -26,7 +26,8 @@ pub trait Stream {
     /// call; nothing was then read. A read that succeeds leaves the count as it was.
     fn read_some(&mut self, buf: &mut [u8]) -> Result<usize, Failed>
         ensures fits { IfOk result (λ n. n ≤ length buf.new) }
-        ensures gives { IsTrue (tells self.old) → IfOk result (λ n. coming self.old ≡ take n buf.new ++ coming self.new) }
+        ensures gives { IsTrue (tells self.old) →
+            IfOk result (λ n. coming self.old ≡ take n buf.new ++ coming self.new) }
         ensures end { IsTrue (tells self.old) → 0 < length buf.new → result ≡ Ok 0 → coming self.new ≡ [] }
         ensures unread { IsTrue (tells self.old) → OnErr result (coming self.new ≡ coming self.old) }
         ensures failed { OnErr result (Rose (faults self.old) (faults self.new)) }

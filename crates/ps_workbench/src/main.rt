@@ -1,7 +1,14 @@
-//! The program `plcsafe-bench`, over the system's files and its standard output.
+//! The program `plcsafe-bench`: over any files, any output, and whoever is told in words why a call did not do all; and
+//! over the system's files and its standard output.
+//!
+//! `call` is one call, from its words to the number with which the program exits, and `program` makes it over the
+//! system.
 #![tactic(auto)]
 
-use ps_bench_call::exit_of_program;
+mod call;
+mod program;
+
+use program::exit_of_program;
 use std::process::ExitCode;
 
 fn main(rt: HostRuntime) -> ExitCode {

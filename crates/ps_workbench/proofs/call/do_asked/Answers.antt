@@ -11,10 +11,10 @@ use Rattle.ps_outside.specs.Outside.{Rose}
 use Rattle.ps_tester.specs.Stopping.{StopsTesting}
 use Rattle.ps_tester.proofs.Stopped.{err_is}
 use Rattle.ps_accounting.specs.Asking.{AnswersCover, StopsCover}
-use Rattle.ps_bench_call.specs.Answering.{Answers, Stops, covered_of, names_of, wanted_of}
-use Rattle.ps_bench_call.proofs.Risen.{risen_any}
+use Rattle.ps_workbench.specs.Answering.{Answers, Stops, covered_of, names_of, wanted_of}
+use Rattle.ps_workbench.proofs.Risen.{risen_any}
 use Rattle.ps_watching.specs.Asking.{AnswersWatch, StopsWatch}
-use Rattle.ps_bench_call.proofs.call.do_asked.Goals as goal
+use Rattle.ps_workbench.proofs.call.do_asked.Goals as goal
 
 pub returns-in_ok-expand-in-Expand-clause-answers : goal.returns-in_ok-expand-in-Expand-clause-answers
 returns-in_ok-expand-in-Expand-clause-answers g c =

@@ -1,7 +1,7 @@
 use Rattle.std.proofs.Common.{ap, subst, ◌∙◌}
 use Rattle.ps_bench_words.specs.Asking.{Asks}
 use Rattle.ps_bench_words.specs.Seen.{asked_seen, seen}
-use Rattle.ps_bench_call.proofs.call.do_words.Goals as goal
+use Rattle.ps_workbench.proofs.call.do_words.Goals as goal
 
 pub returns : goal.returns
 returns g c =

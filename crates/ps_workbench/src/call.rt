@@ -4,7 +4,7 @@ ghost use Rattle.std.specs.Prelude.{◌≡◌, ◌⊎◌, ◌≤◌, ◌∷◌, 
 ghost use Rattle.ps_bench_words.specs.Asking as asking;
 ghost use Rattle.ps_bench_words.specs.Asking.{Asks};
 ghost use Rattle.ps_bench_words.specs.Seen.{asked_seen};
-ghost use Rattle.ps_bench_call.specs.Answering.{Answers, IsAnswered, IsCutOff, Stops, names_of};
+ghost use Rattle.ps_workbench.specs.Answering.{Answers, IsAnswered, IsCutOff, Stops, names_of};
 ghost use Rattle.ps_bench_base.specs.Ending.{IsUnread, exit_number, stop_status};
 ghost use Rattle.ps_bench_base.specs.Stopping.{TookNothing};
 ghost use Rattle.ps_bench_base.specs.declared.ending.Status.{Status as StatusOf};

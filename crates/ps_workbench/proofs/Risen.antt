@@ -1,7 +1,7 @@
 -- Which counts of failed reads rose.
 use Rattle.std.proofs.Common.{◌≡◌, ◌<◌, ◌⊎◌, ℕ, List, [], ◌∷◌, Any, Option, Some, None, length, refl, inl, inr, arith}
 use Rattle.ps_outside.specs.Outside.{Rose}
-use Rattle.ps_bench_call.specs.Answering.{file_of}
+use Rattle.ps_workbench.specs.Answering.{file_of}
 use Rattle.ps_traced.specs.Opening.{RosesIn}
 
 -- that of one of the files of `watch`

@@ -1,7 +1,10 @@
 -- Columns of a line of UTF-8: in bytes, and in UTF-16 code units, which editors count.
-use Rattle.std.specs.Prelude.{ℕ, ◌<◌, ◌≤◌, nat_lt, if◌then◌else◌, List, length, take}
+use Rattle.std.specs.Prelude.{ℕ, ◌-◌, ◌<◌, ◌≤◌, min, nat_lt, if◌then◌else◌, List, length, take}
 use Rattle.std.specs.List.{sum_by}
 use Rattle.std.specs.Str.{IsCharBoundary}
+use Rattle.ps_base.specs.declared.failing.Place.{Place}
+use Rattle.ps_quoted.specs.Quoted.{line_of, before}
+use Rattle.ps_columns.specs.declared.positions.Position.{Position}
 
 -- How many code units of UTF-16 a byte of UTF-8 brings. The first byte of a character brings those of the character: two
 -- where it has four bytes, and else one. A byte that goes on with a character brings none. So each byte has its units, in
@@ -20,3 +23,14 @@ pub record IsOffsetOf (line : List ℕ) (column offset : ℕ) : Type 0 where
   pub between : IsCharBoundary line offset
   pub enough : offset < length line → column ≤ units (take offset line)
   pub first : (k : ℕ) → k < offset → IsCharBoundary line k → units (take k line) < column
+
+-- the largest number of a column
+abbrev pub last_column : ℕ
+last_column = 4294967295
+
+-- the position, counted from 0 in lines and code units, of a place of a text, which counts lines and bytes from 1
+abbrev pub position : List ℕ → Place → Position
+position text place = record {
+  line = place.line - 1;
+  character = min (units (before (line_of text place.line) place.column)) last_column;
+}

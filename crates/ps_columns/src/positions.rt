@@ -1,0 +1,50 @@
+// Positions of an editor, and places of a text.
+
+ghost use Rattle.std.specs.Prelude.{◌≡◌};
+ghost use Rattle.ps_columns.specs.Columns.{position};
+
+use crate::columns::{byte_offset, utf16_length};
+use ps_base::Place;
+use ps_quoted::{cut_at, line_at};
+
+/// A position of the Language Server Protocol: line and column, both counted from 0; a column counts UTF-16 code units.
+#[derive(Clone, Copy, Debug, PartialEq, Eq)]
+pub struct Position {
+    pub line: u32,
+    pub character: u32,
+}
+
+/// A piece of a text, from a position up to but without another.
+#[derive(Clone, Copy, Debug, PartialEq, Eq)]
+pub struct Range {
+    pub start: Position,
+    pub end: Position,
+}
+
+// A number, or the largest one where it is larger.
+fn short(number: usize) -> u32 {
+    number.min(u32::MAX as usize) as u32
+}
+
+/// The position of a place of a text. A column 0 is the beginning of the line, and one behind the end its end. It takes
+/// no memory, and time linear in the text.
+pub fn position_of(text: &[u8], place: Place) -> Position
+    ensures { result ≡ position text.now place }
+{
+    let (front, _) = cut_at(line_at(text, place.line), place.column);
+    Position {
+        line: place.line.saturating_sub(1),
+        character: utf16_length(front).min(u32::MAX as usize) as u32,
+    }
+}
+
+/// The place of a position of a text; the end of the line where its column is behind that. It takes no memory, and
+/// time linear in the text.
+pub fn place_at(text: &[u8], position: Position) -> Place {
+    let line = position.line.saturating_add(1);
+    let offset = byte_offset(line_at(text, line), position.character as usize);
+    Place {
+        line,
+        column: short(offset).saturating_add(1),
+    }
+}

@@ -117,7 +117,7 @@ def by_messages(server):
     expect(all(one["severity"] == 3 for one in lists[1]), "the text that is right has no refusal")
     expect("S_EStopIn : SAFEBOOL" in answers(found, 2)["result"]["contents"]["value"], "hover tells the pins of a kind")
     labels = [item["label"] for item in answers(found, 3)["result"]]
-    expect("S_EStopIn" not in labels or "Activate" in labels, "completion leaves out what is given")
+    expect("S_EStopIn" in labels and "Activate" not in labels, "completion leaves out what is given before")
     expect(answers(found, 4)["result"]["range"]["start"] == {"line": 2, "character": 11}, "S_Motor is declared in line 2")
     expect(answers(found, 5)["error"]["code"] == -32601, "an unknown method is answered with MethodNotFound")
     expect([one["name"] for one in answers(found, 6)["result"]] == ["S_Stop", "Reset", "S_Motor", "E"], "the symbols are those of the text")
@@ -179,8 +179,10 @@ local said = {}
 local function say(line) table.insert(said, line) end
 local function finish() vim.fn.writefile(said, out) vim.cmd("qall!") end
 vim.defer_fn(function() say("late") finish() end, 30000)
+local function try()
 vim.cmd("edit " .. file)
-local client = vim.lsp.start({ name = "plcsafe", cmd = { server }, root_dir = vim.fn.fnamemodify(file, ":h") })
+local begun = { name = "plcsafe", cmd = { server }, root_dir = vim.fn.fnamemodify(file, ":h") }
+if vim.lsp.start then vim.lsp.start(begun) else vim.lsp.buf_attach_client(0, vim.lsp.start_client(begun)) end
 vim.wait(10000, function() return #vim.diagnostic.get(0) > 0 end, 20)
 for _, one in ipairs(vim.diagnostic.get(0)) do
   say(("diagnostic %s %d:%d-%d:%d %s"):format(one.code or "-", one.lnum, one.col, one.end_lnum, one.end_col, vim.split(one.message, "\n")[1]))
@@ -195,6 +197,9 @@ local labels = {}
 for _, item in ipairs(ask("completion", 4, 41)) do table.insert(labels, item.label) end
 say("completion " .. table.concat(labels, " "))
 say("definition line " .. ask("definition", 5, 12).range.start.line)
+end
+local ok, why = pcall(try)
+if not ok then say(tostring(why)) end
 finish()
 """
 
@@ -208,7 +213,7 @@ def by_neovim(server):
         (at / "press.st").write_text(TEXT.replace(", );", ", Reset := Reset);").replace("S_Stop, ", "S_Stop, "))
         (at / "try.lua").write_text(SCRIPT)
         env = {**os.environ, "PLCSAFE_TRY": f"{server}\n{at / 'press.st'}\n{at / 'said'}", "XDG_STATE_HOME": folder, "HOME": folder}
-        subprocess.run(["nvim", "--headless", "--clean", "-l", str(at / "try.lua")], cwd=folder, env=env, stdin=subprocess.DEVNULL,
+        subprocess.run(["nvim", "--headless", "--clean", "-c", f"luafile {at / 'try.lua'}"], cwd=folder, env=env, stdin=subprocess.DEVNULL,
                        stdout=subprocess.PIPE, stderr=subprocess.STDOUT, timeout=60)
         said = (at / "said").read_text() if (at / "said").is_file() else ""
     # Neovim counts the columns of a line in bytes

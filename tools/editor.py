@@ -226,7 +226,7 @@ def by_neovim(server):
 
 
 def main(words):
-    if not words:
+    if not words or any(word.startswith("-") for word in words):
         return None
     named = dict(word.split("=", 1) for word in words[1:] if "=" in word)
     server = os.path.abspath(named.get("plcsafe-lsp", words[0]))

@@ -1,6 +1,6 @@
 -- What a trial draws: six words of a generator that is seeded with the trial's number, each taken modulo the number of
 -- its choices.
-use Rattle.std.specs.Prelude.{◌≡◌, ◌≤◌, ◌<◌, ◌+◌, ◌%◌, ◌==◌, if◌then◌else◌, ℕ, max}
+use Rattle.std.specs.Prelude.{◌≡◌, ◌≤◌, ◌<◌, ◌+◌, ◌%◌, ◌==◌, if◌then◌else◌, ℕ, Option, Some, None, max}
 use Rattle.rand_core.specs.Steps.{stream_of, steps_u64_high}
 use Rattle.rand_core.specs.Stream.{Stream, next_u64}
 use Rattle.rand_xoshiro.specs.SplitMix64.{splitmix_seed}
@@ -25,6 +25,11 @@ below word count = word % max count 1
 abbrev pub channel_by : (word : ℕ) → Channel
 channel_by word = if (word % 2) == 0 then A else B
 
+-- the channel that is struck: this one, or the one that a word draws
+abbrev pub channel_in : (only : Option Channel) → (word : ℕ) → Channel
+channel_in (Some channel) word = channel
+channel_in None word = channel_by word
+
 -- the region that a word draws
 abbrev pub region_by : (word : ℕ) → Region
 region_by word = if (word % 2) == 0 then Code else Cells
@@ -44,9 +49,9 @@ bits_by Cells word = below word 256
 -- the trial that six words draw
 abbrev pub drawn : Room → (channel region at bits scan turn : ℕ) → Trial
 drawn room channel region at bits scan turn = record {
-  channel = channel_by channel;
+  channel = channel_in room.channel channel;
   region = region_by region;
-  at = below at (room_in room.sizes (channel_by channel) (region_by region));
+  at = below at (room_in room.sizes (channel_in room.channel channel) (region_by region));
   bits = bits_by (region_by region) bits;
   scan = below scan room.scans + 1;
   turn = turn % (room.budget + 1);

@@ -2,13 +2,14 @@
 
 ghost use Rattle.std.specs.Prelude.{◌≡◌, ◌+◌, ◌%◌};
 ghost use Rattle.rand_core.specs.Stream.{next_u64};
-ghost use Rattle.ps_trials.specs.Trials.{AreInRange, below, bits_by, channel_by, region_by, room_in, trial_by, trial_of};
+ghost use Rattle.ps_trials.specs.Trials.{AreInRange, below, bits_by, channel_by, channel_in, region_by, room_in, trial_by, trial_of};
 
 use ps_model::{Channel, ImageSizes, Region};
 use rand_core::{Rng, SeedableRng};
 use rand_xoshiro::Xoshiro256PlusPlus;
 
-/// What a trial's fault may strike: the regions of the channels, the scans of the run, and the turns of a scan.
+/// What a trial's fault may strike: the regions of the channels, the scans of the run, and the turns of a scan; and, if
+/// one alone is struck, the channel.
 #[derive(Clone, Copy, Debug, PartialEq, Eq)]
 pub struct Room {
     /// The lengths of the regions in bytes.
@@ -17,6 +18,8 @@ pub struct Room {
     pub scans: u32,
     /// The larger of the budgets of turns of the two channels.
     pub budget: u32,
+    /// The channel that every trial strikes, if it is not drawn.
+    pub channel: Option<Channel>,
 }
 
 /// What was drawn for a trial: where and when its fault strikes, and with which bits.
@@ -72,6 +75,16 @@ fn channel_by(word: u64) -> Channel
     if word % 2 == 0 { Channel::A } else { Channel::B }
 }
 
+// The channel that is struck: this one, or the one that a word draws.
+fn channel_in(only: Option<Channel>, word: u64) -> Channel
+    ensures { result ≡ channel_in only word }
+{
+    match only {
+        Some(channel) => channel,
+        None => channel_by(word),
+    }
+}
+
 // The region that a word draws.
 fn region_by(word: u64) -> Region
     ensures { result ≡ region_by word }
@@ -105,7 +118,7 @@ fn bits_by(region: Region, word: u64) -> u8
 fn trial_by<R: Rng>(rng: &mut R, room: &Room) -> Trial
     ensures { result ≡ trial_by room.now (R.stream rng.old) }
 {
-    let channel = channel_by(draw(rng));
+    let channel = channel_in(room.channel, draw(rng));
     let region = region_by(draw(rng));
     let at = below(draw(rng), room_in(&room.sizes, channel, region));
     let bits = bits_by(region, draw(rng));

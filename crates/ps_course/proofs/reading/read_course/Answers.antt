@@ -1,0 +1,87 @@
+use Rattle.std.proofs.Common.{◌≡◌, ◌∙◌, ℕ, Bool, List, IsTrue, Some, Ok, Err, sym, ap, subst, arith}
+use Rattle.ps_course.specs.Courses.{IsCourse, items_in}
+use Rattle.ps_model.specs.Meaning.Item.{scan as scan_item, restart as restart_item}
+use Rattle.ps_outside.specs.Outside.{Rose}
+use Rattle.ps_trace.specs.Reading.{Comes, Fills, GoesOn, file_of, items_left}
+use Rattle.ps_trace.specs.declared.trace.Next.{Next}
+use Rattle.ps_trace.specs.declared.trace.TraceStop.TheVariants.{Fault}
+use Rattle.ps_course.proofs.Leading.{leads_more}
+use Rattle.ps_course.proofs.Recorded.{is_course}
+use Rattle.ps_course.proofs.reading.read_course.Goals as goal
+
+pub items-preserved-in-Continue-branch-3 : goal.items-preserved-in-Continue-branch-3
+items-preserved-in-Continue-branch-3 g c =
+    let inv = c.items.invariant in
+    let took = c.in_ok-take_scan-in-Ok-Scan.ensures in
+    let fills = subst (λ (n : Next). Fills n c.items.trace c.next_scan.new.self c.in_ok-scan.scan c.next_scan.new.into) c.in-Ok-Scan.field-0-is c.in-Ok-Scan.ensures.fills in
+    let on = subst (λ (n : Next). GoesOn n c.items.trace c.next_scan.new.self) c.in-Ok-Scan.field-0-is c.in-Ok-Scan.ensures.goes_on in
+    record {
+      inputs = c.in-Ok-Scan.ensures.inputs ∙ inv.inputs;
+      name = c.in-Ok-Scan.ensures.name ∙ inv.name;
+      recorded = took.recorded;
+      due = omega (arith, took.latest, fills.2);
+      room = omega (arith, took.count, inv.room, on.0);
+      reads = λ ft text is reading.
+          let held = g.F.Files.held in
+          let here : held c.items.files (file_of c.items.trace) ≡ Some text = ap (λ (h : List ℕ → _). h (file_of c.items.trace)) inv.kept ∙ ap (held c.args.files.now) inv.name ∙ is in
+          let ft' : IsTrue (g.F.Files.tells c.items.files) = subst (λ (b : Bool). IsTrue b) (sym inv.telling) ft in
+          c.in-Ok-Scan.ensures.reads ft' text here (inv.reads ft text is reading);
+      leads = λ ft text is reading.
+          let held = g.F.Files.held in
+          let here : held c.items.files (file_of c.items.trace) ≡ Some text = ap (λ (h : List ℕ → _). h (file_of c.items.trace)) inv.kept ∙ ap (held c.args.files.now) inv.name ∙ is in
+          let ft' : IsTrue (g.F.Files.tells c.items.files) = subst (λ (b : Bool). IsTrue b) (sym inv.telling) ft in
+          let comes = subst (λ (n : Next). Comes (items_left c.items.trace text) n c.next_scan.new.into (items_left c.next_scan.new.self text)) c.in-Ok-Scan.field-0-is
+          (c.in-Ok-Scan.ensures.comes ft' text here (inv.reads ft text is reading)) in
+          leads_more (items_left c.args.trace.now text) (items_left c.items.trace text) (items_left c.next_scan.new.self text)
+          (items_in c.items.recorder.course.steps.items) (items_in c.take_scan.new.self.course.steps.items)
+          (scan_item c.next_scan.new.into.now c.next_scan.new.into.ins) (inv.leads ft text is reading) comes took.items;
+      all_read = λ name. c.in-Ok-Scan.ensures.exact (λ is. cc) name ∙ inv.all_read name;
+      kept = c.in-Ok-Scan.ensures.kept ∙ inv.kept;
+      telling = c.in-Ok-Scan.ensures.telling ∙ inv.telling;
+    }
+
+pub items-preserved : goal.items-preserved
+items-preserved g c =
+    let inv = c.items.invariant in
+    let took = c.in_ok-take_restart-in-Ok-Restart.ensures in
+    let fills = subst (λ (n : Next). Fills n c.items.trace c.next_scan.new.self c.in_ok-scan.scan c.next_scan.new.into) c.in-Ok-Restart.field-0-is c.in-Ok-Restart.ensures.fills in
+    let on = subst (λ (n : Next). GoesOn n c.items.trace c.next_scan.new.self) c.in-Ok-Restart.field-0-is c.in-Ok-Restart.ensures.goes_on in
+    record {
+      inputs = c.in-Ok-Restart.ensures.inputs ∙ inv.inputs;
+      name = c.in-Ok-Restart.ensures.name ∙ inv.name;
+      recorded = took.recorded;
+      due = omega (arith, took.latest, fills.1, inv.due);
+      room = omega (arith, took.count, inv.room, on.0);
+      reads = λ ft text is reading.
+          let held = g.F.Files.held in
+          let here : held c.items.files (file_of c.items.trace) ≡ Some text = ap (λ (h : List ℕ → _). h (file_of c.items.trace)) inv.kept ∙ ap (held c.args.files.now) inv.name ∙ is in
+          let ft' : IsTrue (g.F.Files.tells c.items.files) = subst (λ (b : Bool). IsTrue b) (sym inv.telling) ft in
+          c.in-Ok-Restart.ensures.reads ft' text here (inv.reads ft text is reading);
+      leads = λ ft text is reading.
+          let held = g.F.Files.held in
+          let here : held c.items.files (file_of c.items.trace) ≡ Some text = ap (λ (h : List ℕ → _). h (file_of c.items.trace)) inv.kept ∙ ap (held c.args.files.now) inv.name ∙ is in
+          let ft' : IsTrue (g.F.Files.tells c.items.files) = subst (λ (b : Bool). IsTrue b) (sym inv.telling) ft in
+          let comes = subst (λ (n : Next). Comes (items_left c.items.trace text) n c.next_scan.new.into (items_left c.next_scan.new.self text)) c.in-Ok-Restart.field-0-is
+          (c.in-Ok-Restart.ensures.comes ft' text here (inv.reads ft text is reading)) in
+          leads_more (items_left c.args.trace.now text) (items_left c.items.trace text) (items_left c.next_scan.new.self text)
+          (items_in c.items.recorder.course.steps.items) (items_in c.take_restart.new.self.course.steps.items)
+          restart_item (inv.leads ft text is reading) comes took.items;
+      all_read = λ name. c.in-Ok-Restart.ensures.exact (λ is. cc) name ∙ inv.all_read name;
+      kept = c.in-Ok-Restart.ensures.kept ∙ inv.kept;
+      telling = c.in-Ok-Restart.ensures.telling ∙ inv.telling;
+    }
+
+pub returns-in-Ok-End-clause-course : goal.returns-in-Ok-End-clause-course
+returns-in-Ok-End-clause-course g c =
+    subst (IsCourse c.args.app.now) (sym c.finish.ensures)
+    (is_course c.args.app.now c.items.recorder.world c.items.recorder.course c.items.invariant.recorded)
+
+pub returns-in-Err-clause-fault : goal.returns-in-Err-clause-fault
+returns-in-Err-clause-fault g c = λ e.
+    let inv = c.items.invariant in
+    let faults = g.F.Files.faults in
+    let name = file_of c.args.trace.now in
+    let is : c.in-Err.stop ≡ Fault = cc in
+    let rose = c.next_scan.ensures.fault (c.in-Err.is ∙ ap Err is) in
+    subst (λ (n : ℕ). Rose n (faults c.next_scan.new.files name)) (inv.all_read name)
+    (subst (λ (file : List ℕ). Rose (faults c.items.files file) (faults c.next_scan.new.files file)) inv.name rose)

@@ -1,0 +1,2 @@
+-- what the course of a trace is
+pub mod Courses

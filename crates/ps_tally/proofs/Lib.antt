@@ -1,0 +1,2 @@
+-- texts that grow by numbers, one after another
+mod Growing

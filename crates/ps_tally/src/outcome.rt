@@ -1,0 +1,70 @@
+// What a trial comes to, and the line that it counts in.
+
+ghost use Rattle.std.specs.Prelude.{◌≡◌, ◌<◌};
+ghost use Rattle.ps_tally.specs.Outcomes.{channel_number, kind_number, latency_in, place_of, region_number};
+
+use ps_model::{Cause, Channel, Region};
+
+/// What a trial comes to.
+#[derive(Clone, Copy, Debug, PartialEq, Eq)]
+pub enum Outcome {
+    /// Every scan was released as without the fault, up to the end.
+    Silent,
+    /// A scan tripped for this cause, so many ms behind the scan that was struck.
+    Tripped(Cause, u32),
+    /// A scan was released with another report than without the fault.
+    Wrong,
+}
+
+// The number of a channel.
+fn channel_number(channel: Channel) -> usize
+    ensures { result ≡ channel_number channel }
+{
+    match channel {
+        Channel::A => 0,
+        Channel::B => 1,
+    }
+}
+
+// The number of a region.
+fn region_number(region: Region) -> usize
+    ensures { result ≡ region_number region }
+{
+    match region {
+        Region::Code => 0,
+        Region::Cells => 1,
+    }
+}
+
+// The number of a kind of outcomes.
+fn kind_number(outcome: Outcome) -> usize
+    ensures value { result ≡ kind_number outcome }
+    ensures few { result < 6 }
+{
+    match outcome {
+        Outcome::Silent => 0,
+        Outcome::Tripped(Cause::Differ(_), _) => 1,
+        Outcome::Tripped(Cause::Stuck(_), _) => 2,
+        Outcome::Tripped(Cause::Trap(_, _), _) => 3,
+        Outcome::Tripped(Cause::NoReport(_), _) => 4,
+        Outcome::Wrong => 5,
+    }
+}
+
+// The latency of a trip.
+pub(crate) fn latency_in(outcome: Outcome) -> Option<u32>
+    ensures { result ≡ latency_in outcome }
+{
+    match outcome {
+        Outcome::Tripped(_, latency) => Some(latency),
+        _ => None,
+    }
+}
+
+/// The place of the line in which a trial counts: by channel, then by region, then by outcome.
+pub(crate) fn place_of(channel: Channel, region: Region, outcome: Outcome) -> usize
+    ensures place { result ≡ place_of channel region outcome }
+    ensures few { result < 24 }
+{
+    12 * channel_number(channel) + 6 * region_number(region) + kind_number(outcome)
+}

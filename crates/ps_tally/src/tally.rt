@@ -1,0 +1,56 @@
+// The counts of all lines.
+
+ghost use Rattle.ps_tally.specs.Tallies.{counted, none_counted};
+
+use crate::line::Line;
+use crate::outcome::{Outcome, latency_in, place_of};
+use ps_base::Memory;
+use ps_model::{Channel, Region};
+use std::alloc::Global;
+use std::marker::Model;
+
+/// The counts of trials, a line for each channel, region and outcome. Contracts see them as the list of the lines.
+#[derive(Drop, Debug)]
+pub struct Tally {
+    lines: Vec<Line>,
+}
+
+impl Model for Tally {
+    ghost use Rattle.std.specs.Prelude.{◌≡◌, List, length};
+    ghost use Rattle.ps_tally.specs.declared.line.Line.{Line};
+
+    ghost Value = { List Line };
+
+    ghost view = { λ t. t.lines.items };
+
+    ghost invariant = { λ t. length t.lines.items ≡ 24 };
+}
+
+impl Tally {
+    ghost use Rattle.std.specs.Prelude.{◌≡◌, IfOk, length};
+
+    /// No trials.
+    pub fn new(alloc: Global) -> Result<Tally, Memory>
+        ensures { IfOk result (λ tally. tally ≡ none_counted) }
+    {
+        let lines = vec![in alloc; Line::NONE; 24]?;
+        Ok(Tally { lines })
+    }
+
+    /// One trial more. It takes no memory.
+    pub fn count(&mut self, channel: Channel, region: Region, outcome: Outcome)
+        ensures { self.new ≡ counted self.old channel region outcome }
+    {
+        let place = place_of(channel, region, outcome);
+        let line = self.lines[place];
+        self.lines[place] = line.counted(latency_in(outcome));
+    }
+
+    /// The lines.
+    pub fn as_slice(&self) -> &[Line]
+        ensures lines { result.now ≡ self.now }
+        ensures all { length result.now ≡ 24 }
+    {
+        self.lines.as_slice()
+    }
+}

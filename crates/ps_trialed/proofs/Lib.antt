@@ -1,0 +1,8 @@
+-- no trial is wrong
+mod Rightly
+-- how a trial goes on from step to step
+mod Going
+-- trials that are counted
+mod Counting
+-- a trial in a world of its own
+mod Trying

@@ -1,0 +1,38 @@
+-- What a trial comes to in a world of its own is what it comes to by the definition.
+use Rattle.std.proofs.Common.{◌≡◌, ◌∙◌, ℕ, List, [], ◌∷◌, length, sym, subst}
+use Rattle.ps_course.specs.Courses.{quiet_reports}
+use Rattle.ps_eqgen.proofs.SameSizes.{same_sizes}
+use Rattle.ps_model.specs.Meaning.{Item}
+use Rattle.ps_model.specs.Network.{Network, instance_count}
+use Rattle.ps_model.specs.declared.channel.Fault.{Fault}
+use Rattle.ps_model.specs.declared.report.Report.{Report}
+use Rattle.ps_tally.specs.declared.outcome.Outcome.{Outcome}
+use Rattle.ps_world.specs.Answers.{answers}
+use Rattle.ps_world.specs.Whole.{Setup, Whole, IsSetupOf, IsWorldOf, machines_in}
+use Rattle.ps_world.specs.Worlds.{world_0}
+use Rattle.ps_trialed.specs.Showing.{outcome_of, shown, time_in}
+
+-- what never changes of an application's world is one
+one_setup : (net : Network) (s t : Setup) → IsSetupOf net s → IsSetupOf net t → s ≡ t
+one_setup net s t is is' =
+    let sizes_are : s.sizes ≡ t.sizes =
+    same_sizes s.sizes t.sizes (is.sizes.signals ∙ sym is'.sizes.signals) (is.sizes.instances ∙ sym is'.sizes.instances) (is.sizes.inputs ∙ sym is'.sizes.inputs)
+    (is.sizes.outputs ∙ sym is'.sizes.outputs) (is.sizes.first_pins ∙ sym is'.sizes.first_pins) (is.sizes.kinds ∙ sym is'.sizes.kinds) in
+    λ i. record {
+      sizes = sizes_are i;
+      image_a = (is.image_a ∙ sym is'.image_a) i;
+      image_b = (is.image_b ∙ sym is'.image_b) i;
+      budget_a = (is.budget_a ∙ sym is'.budget_a) i;
+      budget_b = (is.budget_b ∙ sym is'.budget_b) i;
+    }
+
+pub outcome_is : (net : Network) (w : Whole) (setup : Setup) (items : List Item) (meant : List Report) (f : Fault) (struck : ℕ) (outcome : Outcome) →
+    IsWorldOf net w → IsSetupOf net setup →
+    ((s : Setup) → IsSetupOf net s → meant ≡ quiet_reports net (machines_in s) items (world_0 (machines_in s))) →
+    struck ≡ time_in f.scan items →
+    outcome ≡ shown struck items meant (answers (machines_in w.setup) (length net.outputs) (instance_count net) (f ∷ []) 1 items w.state) →
+    outcome ≡ outcome_of net (machines_in setup) items f
+outcome_is net w setup items meant f struck outcome is setup_is meant_are struck_is shows =
+    subst (λ (s : Setup). outcome ≡ outcome_of net (machines_in s) items f) (one_setup net w.setup setup is.setup setup_is)
+    (shows ∙ (λ i. shown (struck_is i) items (meant_are w.setup is.setup i)
+    (answers (machines_in w.setup) (length net.outputs) (instance_count net) (f ∷ []) 1 items (is.beginning i))))

@@ -1,0 +1,31 @@
+use Rattle.std.proofs.Common.{◌≡◌, ◌∙◌, ◌+◌}
+use Rattle.ps_course.specs.Courses.{items_in}
+use Rattle.ps_tally.specs.Tallies.{Result_of, counted}
+use Rattle.ps_trials.specs.Faults.{fault_by}
+use Rattle.ps_trials.specs.Trials.{trial_of}
+use Rattle.ps_world.specs.Whole.{machines_in}
+use Rattle.ps_trialed.specs.Campaigns.{result_of}
+use Rattle.ps_trialed.specs.Showing.{outcome_of}
+use Rattle.ps_trialed.proofs.Counting.{one_more}
+use Rattle.ps_trialed.proofs.campaigning.run_campaign.Goals as goal
+
+pub loop-done-preserved : goal.loop-done-preserved
+loop-done-preserved c = record {
+  counts = λ setup is.
+      let net = c.args.app.now in
+      let m = machines_in setup in
+      let items = items_in c.args.course.now.steps.items in
+      let room = c.room_of-room.result in
+      let from = c.args.asked.now.from in
+      let done = c.loop-done.done in
+      let tally = c.loop-done.tally in
+      let trial_is : c.draw_trial-trial.result ≡ trial_of room (from + done) =
+      c.draw_trial-trial.ensures.drawn ∙ (λ i. trial_of room (c.from.ensures i + c.from-in-loop-done.ensures i)) in
+      let outcome_is : c.in_ok-outcome.outcome ≡ (result_of net m items room (from + done)).outcome =
+      c.in_ok-outcome.ensures.outcome setup is
+      ∙ (λ i. outcome_of net m items (fault_by (c.in_ok-codes.ensures.a i) (c.in_ok-codes.ensures.b i) (trial_is i))) in
+      c.count.ensures ∙ (λ i. counted tally (trial_is i).channel (trial_is i).region (outcome_is i))
+      ∙ one_more (result_of net m items room) from done tally (c.loop-done.invariant.counts setup is);
+  outputs = c.in_ok-outcome.ensures.outputs;
+  diagnoses = c.in_ok-outcome.ensures.diagnoses;
+}

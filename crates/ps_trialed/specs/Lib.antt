@@ -1,0 +1,4 @@
+-- what a trial comes to, and that none is wrong; the trials of a campaign
+pub mod Showing
+pub mod Right
+pub mod Campaigns

@@ -1,0 +1,127 @@
+// The trials of a campaign, one after another.
+
+ghost use Rattle.std.specs.Prelude.{◌≡◌, ◌<◌, ◌^◌, ◌+◌, IfOk, length, max};
+ghost use Rattle.ps_course.specs.Courses.{AreStepsFor, IsCourse, items_in};
+ghost use Rattle.ps_eqvm.specs.Code.{code_b};
+ghost use Rattle.ps_model.specs.Network.{instance_count};
+ghost use Rattle.ps_model.specs.Typing.{Accepted};
+ghost use Rattle.ps_stackvm.specs.Code.{code_a};
+ghost use Rattle.ps_trials.specs.Faults.{fault_by};
+ghost use Rattle.ps_world.specs.Whole.{Setup, IsSetupOf, machines_in};
+ghost use Rattle.ps_trialed.specs.Campaigns.{campaign, result_of, room_of};
+ghost use Rattle.ps_trialed.specs.Showing.{outcome_of};
+
+use crate::trialing::{run_trial, time_in};
+use ps_base::Memory;
+use ps_course::Course;
+use ps_eqgen::equation_image;
+use ps_machine::CodeImage;
+use ps_model::{App, Channel, ImageSizes, Report};
+use ps_stackgen::stack_image;
+use ps_tally::{Outcome, Tally};
+use ps_trials::{Room, Trial, draw_trial, fault_of};
+use ps_world::World;
+use std::alloc::Global;
+
+/// What a campaign is made of: which trials, and where they strike.
+#[derive(Clone, Copy, Debug, PartialEq, Eq)]
+pub struct Campaign {
+    /// The number of the first trial.
+    pub from: u32,
+    /// How many there are.
+    pub count: u32,
+    /// The channel that every trial strikes, if it is not drawn.
+    pub channel: Option<Channel>,
+}
+
+/// The codes of both channels as compiled.
+pub struct Codes {
+    /// Of channel A.
+    pub a: CodeImage,
+    /// Of channel B.
+    pub b: CodeImage,
+}
+
+impl Drop for Codes {
+    // One call for whoever owns one, in place of a walk through all that it holds.
+    fn drop(self) {
+        let Codes { a: _, b: _ } = self;
+    }
+}
+
+/// The codes of both channels of an application.
+pub fn codes_of(alloc: Global, app: &App) -> Result<Codes, Memory>
+    requires { Accepted app.now }
+    ensures a { IfOk result (λ codes. codes.a ≡ code_a app.now) }
+    ensures b { IfOk result (λ codes. codes.b ≡ code_b app.now) }
+{
+    let a = stack_image(alloc, app)?;
+    let b = equation_image(alloc, app)?;
+    Ok(Codes { a, b })
+}
+
+/// What the trials of an application may strike in a course.
+pub fn room_of(app: &App, sizes: ImageSizes, scans: u32, channel: Option<Channel>) -> Room
+    ensures { result ≡ room_of app.now sizes scans channel }
+{
+    Room {
+        sizes,
+        scans,
+        budget: app.turns_a().max(app.turns_b()),
+        channel,
+    }
+}
+
+// What a trial comes to, in a world of its own.
+fn try_trial(
+    alloc: Global,
+    app: &App,
+    course: &Course,
+    codes: &Codes,
+    trial: &Trial,
+    report: &mut Report,
+) -> Result<Outcome, Memory>
+    requires accepted { Accepted app.now }
+    requires course { IsCourse app.now course.now }
+    requires outputs { length report.old.outs ≡ length app.now.outputs }
+    requires diagnoses { length report.old.diags ≡ instance_count app.now }
+    ensures outcome { (setup : Setup) → IsSetupOf app.now setup → IfOk result (λ outcome.
+        outcome ≡ outcome_of app.now (machines_in setup) (items_in course.now.steps.items)
+        (fault_by codes.now.a codes.now.b trial.now)) }
+    ensures outputs { length report.new.outs ≡ length app.now.outputs }
+    ensures diagnoses { length report.new.diags ≡ instance_count app.now }
+{
+    let fault = fault_of(alloc, trial, codes.a.as_slice(), codes.b.as_slice())?;
+    let faults = [fault];
+    let mut world = World::build(alloc, app)?;
+    let steps = course.steps.as_slice();
+    let struck = time_in(steps, trial.scan);
+    Ok(run_trial(app, &mut world, steps, &faults, struck, report))
+}
+
+/// Makes the trials of a campaign over a course, each in a world of its own, and counts what they come to. The regions
+/// of the channels have these sizes. `Err` comes only where memory is wanting.
+pub fn run_campaign(
+    alloc: Global,
+    app: &App,
+    sizes: ImageSizes,
+    course: &Course,
+    asked: &Campaign,
+) -> Result<Tally, Memory>
+    requires accepted { Accepted app.now }
+    requires course { IsCourse app.now course.now }
+    ensures counts { (setup : Setup) → IsSetupOf app.now setup → IfOk result (λ tally.
+        tally ≡ campaign app.now (machines_in setup) (items_in course.now.steps.items)
+        (room_of app.now sizes course.now.scans asked.now.channel) asked.now.from asked.now.count) }
+{
+    let codes = codes_of(alloc, app)?;
+    let room = room_of(app, sizes, course.scans, asked.channel);
+    let mut report = Report::for_app(alloc, app)?;
+    let mut tally = Tally::new(alloc)?;
+    for done in 0..asked.count {
+        let trial = draw_trial(u64::from(asked.from) + u64::from(done), &room);
+        let outcome = try_trial(alloc, app, course, &codes, &trial, &mut report)?;
+        tally.count(trial.channel, trial.region, outcome);
+    }
+    Ok(tally)
+}

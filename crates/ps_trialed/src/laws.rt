@@ -1,0 +1,17 @@
+// Laws of trials. Each function computes nothing: its contract is the law.
+
+ghost use Rattle.ps_model.specs.Typing.{Accepted};
+ghost use Rattle.ps_trialed.specs.Right.{NoneIsWrong};
+
+use ps_model::App;
+use ps_model::laws::one_meaning;
+use ps_world::laws::{quiet_runs_release, runs_are_right};
+
+/// No trial is wrong: whatever its one fault is, each report that is released is that of the run without the fault.
+pub fn none_is_wrong(app: &App)
+    ensures { Accepted app.now → NoneIsWrong app.now }
+{
+    one_meaning(app);
+    runs_are_right(app);
+    quiet_runs_release(app);
+}

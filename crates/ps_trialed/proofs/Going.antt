@@ -59,7 +59,7 @@ module _ (net : Network) (faults : List Fault) (struck : ℕ) where
       (v : Verdict) (given : Report)
       (v_is : v ≡ verdict (machines_in w.setup) (at_compare (machines_in w.setup) due s.now s.ins w.state))
       (given_is : given ≡ report_given (machines_in w.setup) w.setup.sizes.outputs w.setup.sizes.instances
-          (at_compare (machines_in w.setup) due s.now s.ins w.state)) where
+      (at_compare (machines_in w.setup) due s.now s.ins w.state)) where
     one : done + 1 ≡ suc done
     one = omega arith
 

@@ -72,7 +72,11 @@ fn turn_by(word: u64, budget: u32) -> u32
 fn channel_by(word: u64) -> Channel
     ensures { result ≡ channel_by word }
 {
-    if word % 2 == 0 { Channel::A } else { Channel::B }
+    if word % 2 == 0 {
+        Channel::A
+    } else {
+        Channel::B
+    }
 }
 
 // The channel that is struck: this one, or the one that a word draws.
@@ -89,7 +93,11 @@ fn channel_in(only: Option<Channel>, word: u64) -> Channel
 fn region_by(word: u64) -> Region
     ensures { result ≡ region_by word }
 {
-    if word % 2 == 0 { Region::Code } else { Region::Cells }
+    if word % 2 == 0 {
+        Region::Code
+    } else {
+        Region::Cells
+    }
 }
 
 // The length of a region of a channel.

@@ -40,12 +40,7 @@ fn one_byte(alloc: Global, byte: u8) -> Result<Bytes, Memory>
 ///
 /// In code the byte that stands at the place before any fault is the compiled one, so some of its bits are turned; in
 /// cells the byte that was drawn is put, whatever stands there.
-pub fn fault_of(
-    alloc: Global,
-    trial: &Trial,
-    code_a: &[u8],
-    code_b: &[u8],
-) -> Result<Fault, Memory>
+pub fn fault_of(alloc: Global, trial: &Trial, code_a: &[u8], code_b: &[u8]) -> Result<Fault, Memory>
     ensures { IfOk result (λ fault. fault ≡ fault_by code_a.now code_b.now trial.now) }
 {
     let code = code_of(code_a, code_b, trial.channel);

@@ -1,7 +1,12 @@
 -- The states of SF_EDM.
 use Rattle.std.specs.Prelude.{ℕ, false}
 use Rattle.ps_actuators.specs.declared.monitoring.Phase.{Phase}
-use Rattle.ps_actuators.specs.declared.monitoring.Phase.TheVariants.{Idle, Init, OutputDisabled, Enabled, ResetError, EdmError11, ResetError11, EdmError12, ResetError12, EdmError13, ResetError13, EdmError21, ResetError21, EdmError22, ResetError22, EdmError23, ResetError23, EdmError31, ResetError31, EdmError32, ResetError32, EdmError33, ResetError33}
+use Rattle.ps_actuators.specs.declared.monitoring.Phase.TheVariants.{Idle, Init, OutputDisabled, Enabled, ResetError}
+use Rattle.ps_actuators.specs.declared.monitoring.Phase.TheVariants.{EdmError11, ResetError11, EdmError12, ResetError12}
+use Rattle.ps_actuators.specs.declared.monitoring.Phase.TheVariants.{EdmError13, ResetError13, EdmError21, ResetError21}
+use Rattle.ps_actuators.specs.declared.monitoring.Phase.TheVariants.{EdmError22, ResetError22, EdmError23, ResetError23}
+use Rattle.ps_actuators.specs.declared.monitoring.Phase.TheVariants.{EdmError31, ResetError31, EdmError32, ResetError32}
+use Rattle.ps_actuators.specs.declared.monitoring.Phase.TheVariants.{EdmError33, ResetError33}
 use Rattle.ps_actuators.specs.declared.monitoring.EdmState.{EdmState}
 use Rattle.ps_model.specs.Kept.{Kept}
 

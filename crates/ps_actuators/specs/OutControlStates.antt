@@ -1,7 +1,9 @@
 -- The states of SF_OutControl.
 use Rattle.std.specs.Prelude.{ℕ}
 use Rattle.ps_actuators.specs.declared.out_control.Phase.{Phase}
-use Rattle.ps_actuators.specs.declared.out_control.Phase.TheVariants.{Idle, Init, WaitForSafeControl, WaitForReset, OutputDisabled, Enabled, ControlError, ResetError1, ResetError2}
+use Rattle.ps_actuators.specs.declared.out_control.Phase.TheVariants.{Idle, Init, WaitForSafeControl, WaitForReset}
+use Rattle.ps_actuators.specs.declared.out_control.Phase.TheVariants.{OutputDisabled, Enabled, ControlError}
+use Rattle.ps_actuators.specs.declared.out_control.Phase.TheVariants.{ResetError1, ResetError2}
 use Rattle.ps_actuators.specs.declared.out_control.OutControlState.{OutControlState}
 use Rattle.ps_model.specs.Kept.{Kept}
 

@@ -1,7 +1,10 @@
 -- The states of SF_SafetyRequest.
 use Rattle.std.specs.Prelude.{ℕ, false}
 use Rattle.ps_actuators.specs.declared.safety_request.Phase.{Phase}
-use Rattle.ps_actuators.specs.declared.safety_request.Phase.TheVariants.{Idle, Init, WaitForReset, Operation, WaitForAcknowledge, Safe, AcknowledgeLost, MonitoringError, ResetError2, ResetError3, WaitForOperation}
+use Rattle.ps_actuators.specs.declared.safety_request.Phase.TheVariants.{Idle, Init, WaitForReset, Operation}
+use Rattle.ps_actuators.specs.declared.safety_request.Phase.TheVariants.{WaitForAcknowledge, Safe, AcknowledgeLost}
+use Rattle.ps_actuators.specs.declared.safety_request.Phase.TheVariants.{MonitoringError, ResetError2, ResetError3}
+use Rattle.ps_actuators.specs.declared.safety_request.Phase.TheVariants.{WaitForOperation}
 use Rattle.ps_actuators.specs.declared.safety_request.SafetyRequestState.{SafetyRequestState}
 use Rattle.ps_model.specs.Kept.{Kept}
 

@@ -1,5 +1,6 @@
 -- Which ways and states a step of a block is of.
-use Rattle.std.specs.Prelude.{◌-◌, ℕ, Bool, false, Option, Some, None, ◌&&◌, ◌==◌, not, length, nat_lt, slice_get, if◌then◌else◌}
+use Rattle.std.specs.Prelude.{◌-◌, ℕ, Bool, false, Option, Some, None, ◌&&◌, ◌==◌, not, length, nat_lt, slice_get}
+use Rattle.std.specs.Prelude.{if◌then◌else◌}
 use Rattle.ps_model.specs.Blocks.{block, next}
 use Rattle.ps_model.specs.Table.{Conditions, row_at}
 use Rattle.ps_model.specs.declared.kind.Kind.{Kind}

@@ -23,8 +23,8 @@ use Rattle.ps_top.specs.Asking.{Answer, IsAnswer}
 use Rattle.ps_top.specs.Program.{run, fault, told, trips_of}
 use Rattle.ps_top.specs.Untripped.{Held, HasFaults}
 
--- The text is spelt as these function blocks and this program, which break no rule on function blocks, and their flat source stands
--- for this application, which is accepted.
+-- The text is spelt as these function blocks and this program, which break no rule on function blocks, and their flat
+-- source stands for this application, which is accepted.
 pub record IsAcceptedText (source : List ℕ) (l : Library) (net : Network) : Type 0 where
   pub text : IsText source l
   pub unbroken : block_offences l ≡ []
@@ -59,8 +59,8 @@ abbrev pub ReportsAreOfMaps : Library → Network → Type 0
 ReportsAreOfMaps l net = (items : List Item) (ws : List State) (maps : List Values) →
     Meaning net items ws → TextMeaning l items maps → map (report net) ws ≡ map (report_in net) maps
 
--- The answer tells all scans of a trace, of which these trip, by the reports of the maps that the scans mean of the text. What is
--- told of a state is its report alone.
+-- The answer tells all scans of a trace, of which these trip, by the reports of the maps that the scans mean of the
+-- text. What is told of a state is its report alone.
 pub record TellsMaps (l : Library) (net : Network) (tripped : List (ℕ × Cause)) (scans : Scans) (said : Answer) : Type 0 where
   pub maps : List Values
   pub meaning : TextMeaning l scans.items maps

@@ -1,5 +1,5 @@
-// Every text, every application and every certificate comes to an answer; the program has exactly one; and what it tells of an
-// accepted text is what the text means by its own names.
+// Every text, every application and every certificate comes to an answer; the program has exactly one; and what it
+// tells of an accepted text is what the text means by its own names.
 
 ghost use Rattle.std.specs.Prelude.{◌⊎◌, ℕ, List, Option, Ok, Err, ◌≡◌, IsSome};
 ghost use Rattle.ps_base.specs.declared.failing.Fail.TheVariants.{Refused};
@@ -25,7 +25,8 @@ ghost use Rattle.ps_source.specs.Source.{Reading, IsResolvedAs, IsAcceptedAs};
 ghost use Rattle.ps_source.specs.Source.Reading.{stands_for};
 ghost use Rattle.ps_top.specs.Asking.{Answer, AsksFor, IsAnswer};
 ghost use Rattle.ps_top.specs.Program.{Ruling, Judges};
-ghost use Rattle.ps_answers.specs.Texts.{IsAcceptedText, HasOneMap, HasOneRun, ReportsAreOfMaps, RunsTellMaps, FaultsTellMaps};
+ghost use Rattle.ps_answers.specs.Texts.{IsAcceptedText, HasOneMap, HasOneRun, ReportsAreOfMaps, RunsTellMaps};
+ghost use Rattle.ps_answers.specs.Texts.{FaultsTellMaps};
 ghost use Rattle.ps_top.specs.Program as program;
 
 use ps_top::laws::{an_answer_exists, one_answer};
@@ -35,8 +36,8 @@ pub fn tokens_or_refused()
     ensures { (text : List ℕ) → ((t : Tokens) × tokens text (Ok t)) ⊎ ((r : Refusal) × tokens text (Err (Refused r))) }
 {}
 
-/// The tokens that a text is read as are what the parser asks for: names and TIME literals within their limits, and no more
-/// tokens than it takes.
+/// The tokens that a text is read as are what the parser asks for: names and TIME literals within their limits, and no
+/// more tokens than it takes.
 pub fn tokens_are_well_formed()
     ensures { (text : List ℕ) (t : Tokens) → tokens text (Ok t) → IsTokenList t.list }
 {}
@@ -77,14 +78,14 @@ pub fn every_certificate_is_judged()
     derived_or_objected();
 }
 
-/// The text of a certificate has one judgement alone for an application: it derives it by one list of lines, or has one first
-/// refusal or objection, and not both.
+/// The text of a certificate has one judgement alone for an application: it derives it by one list of lines, or has one
+/// first refusal or objection, and not both.
 pub fn one_judgement()
     ensures { (net : Network) (certificate : List ℕ) (first second : Ruling) → Judges net certificate first → Judges net certificate second → first ≡ second }
 {}
 
-/// The program has exactly one answer for any words and any texts, where all names that it asks for are held. So a clause on its
-/// answer is never met for want of one, nor by one of several.
+/// The program has exactly one answer for any words and any texts, where all names that it asks for are held. So a
+/// clause on its answer is never met for want of one, nor by one of several.
 pub fn exactly_one_answer()
     ensures { (words : List (List ℕ)) (held : List ℕ → Option (List ℕ)) →
         ((name : List ℕ) → AsksFor (program.text words) held name → IsSome (held name)) →
@@ -103,16 +104,18 @@ pub fn accepted_texts()
     ensures is_accepted { (source : List ℕ) (l : Library) (net : Network) → IsAcceptedText source l net → IsAcceptedAs source (stands_for net) }
 {}
 
-/// By its own names an accepted text means one thing: each scan leaves exactly one map of its signals, and of the states and outputs
-/// of its instances, and each run one list of maps; they are those of the application of its flat source.
+/// By its own names an accepted text means one thing: each scan leaves exactly one map of its signals, and of the
+/// states and outputs of its instances, and each run one list of maps; they are those of the application of its flat
+/// source.
 pub fn one_map()
     ensures scan { (source : List ℕ) (l : Library) (net : Network) → IsAcceptedText source l net → HasOneMap l net }
     ensures run { (source : List ℕ) (l : Library) (net : Network) → IsAcceptedText source l net → (items : List Item) → HasOneRun l net items }
 {}
 
-/// The lines of an accepted text are those of its maps: `S_Motor=` is the program's signal of this name, and `G.E=` what the instance
-/// E in the instance G says of itself. So it is in every line of `run`, and in every line of `fault` up to where it trips; and the
-/// reports of any scans and restarts are those of the maps that they mean, as in `vote`, `heal` and `load`.
+/// The lines of an accepted text are those of its maps: `S_Motor=` is the program's signal of this name, and `G.E=`
+/// what the instance E in the instance G says of itself. So it is in every line of `run`, and in every line of `fault`
+/// up to where it trips; and the reports of any scans and restarts are those of the maps that they mean, as in `vote`,
+/// `heal` and `load`.
 pub fn lines_are_of_the_text()
     ensures fields { (source : List ℕ) (l : Library) (net : Network) → IsAcceptedText source l net → HasFields l net }
     ensures reports { (source : List ℕ) (l : Library) (net : Network) → IsAcceptedText source l net → ReportsAreOfMaps l net }

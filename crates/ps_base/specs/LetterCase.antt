@@ -1,4 +1,5 @@
--- Words without letter case (IEC 61131-3): keywords, names, kinds and pins are told apart by everything but the case of ASCII letters.
+-- Words without letter case (IEC 61131-3): keywords, names, kinds and pins are told apart by everything but the case of
+-- ASCII letters.
 use Rattle.std.specs.Prelude.{◌≡◌, ℕ, Bool, List, map}
 use Rattle.std.specs.Char.{to_ascii_lowercase}
 use Rattle.std.specs.Str.{bytes_eq}

@@ -12,7 +12,8 @@ pub const MOST_INSTANCES: u16 = 400;
 pub const MOST_NODES: u32 = 20_000;
 /// The most groups of a text that are open at one place.
 pub const MOST_GROUPS: u32 = 16;
-/// The most And and Or of an application's expression that are nested: each of 17 levels of sums gives at most one of each.
+/// The most And and Or of an application's expression that are nested: each of 17 levels of sums gives at most one of
+/// each.
 pub const MOST_NESTED: u32 = 34;
 /// The longest name of a text, in bytes.
 pub const LONGEST_NAME: u32 = 64;

@@ -1,9 +1,9 @@
 //! Measures parts of the product alone. It counts the scans of the trace T of the inputs S_In, Ack and Run:
-//! a measure of the reader of traces. Its word, if any, is a number of scans, one each 10 ms, which it makes of a motor behind an
-//! emergency stop through channels A, B and C, one after the other: a measure of the channels.
+//! a measure of the reader of traces. Its word, if any, is a number of scans, one each 10 ms, which it makes of a motor
+//! behind an emergency stop through channels A, B and C, one after the other: a measure of the channels.
 //!
-//! It prints how many scans come before the trace's first restart or its end, or why none is read; and of each channel how
-//! many turns the scans take, and after how many of them the motor is on.
+//! It prints how many scans come before the trace's first restart or its end, or why none is read; and of each channel
+//! how many turns the scans take, and after how many of them the motor is on.
 #![tactic(auto)]
 
 mod channels;

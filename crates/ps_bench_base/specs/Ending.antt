@@ -6,7 +6,8 @@ use Rattle.ps_bench_base.specs.declared.ending.Status.TheVariants.{ReadFault, Wr
 use Rattle.ps_bench_base.specs.declared.ending.Input.{Input as InputOf}
 use Rattle.ps_bench_base.specs.declared.ending.Input.TheVariants.{Trace, TraceAt, Faults, Rules, Log, Other}
 use Rattle.ps_bench_base.specs.declared.ending.InputStop.{InputStop}
-use Rattle.ps_bench_base.specs.declared.ending.InputStop.TheVariants.{Refused as IsRefused, RulesRefused, LogRefused, Unread}
+use Rattle.ps_bench_base.specs.declared.ending.InputStop.TheVariants.{Refused as IsRefused, RulesRefused, LogRefused}
+use Rattle.ps_bench_base.specs.declared.ending.InputStop.TheVariants.{Unread}
 use Rattle.ps_bench_base.specs.declared.ending.InputStop.TheVariants.{OtherRefused, Unlike}
 use Rattle.ps_bench_base.specs.declared.ending.Stop.{Stop}
 use Rattle.ps_bench_base.specs.declared.ending.Stop.TheVariants.{App, Cases, UnreadApp, UnreadCases, Input}

@@ -1,6 +1,7 @@
 -- What a word means that stands in the place of a trace: `FILE` is the trace of that name, `FILE.cases` the cases of a
 -- file in one trace, and `FILE.cases:LINE` the case of that file that has this line.
-use Rattle.std.specs.Prelude.{ℕ, ◌==◌, ◌&&◌, nat_lt, Bool, List, length, if◌then◌else◌, codes, Option, Some, None, unwrap_or}
+use Rattle.std.specs.Prelude.{ℕ, ◌==◌, ◌&&◌, nat_lt, Bool, List, length, if◌then◌else◌, codes, Option, Some, None}
+use Rattle.std.specs.Prelude.{unwrap_or}
 use Rattle.std.specs.Char.{is_ascii_digit}
 use Rattle.std.specs.List.{ends_with, list_all}
 use Rattle.std.specs.Path.{rsplit_once}

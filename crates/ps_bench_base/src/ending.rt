@@ -1,7 +1,8 @@
 // How a call of the program ends.
 
 ghost use Rattle.std.specs.Prelude.{◌≡◌};
-ghost use Rattle.ps_bench_base.specs.Ending.{exit_number, input_at, input_stop_at, input_stop_status, stop_at, stop_status};
+ghost use Rattle.ps_bench_base.specs.Ending.{exit_number, input_at, input_stop_at, input_stop_status, stop_at};
+ghost use Rattle.ps_bench_base.specs.Ending.{stop_status};
 
 use ps_base::{Memory, Refusal};
 use ps_cases::CaseRefusal;

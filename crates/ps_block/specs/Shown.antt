@@ -15,7 +15,8 @@ shown_in code safe = record { safe = safe; diag = record { ready = ready_in code
 abbrev pub shown : ℕ → Outs → List Bool
 shown n o = map (pin_of o.safe) (range_with_len 0 n) ++ (o.diag.ready ∷ o.diag.error ∷ [])
 
--- The answer shows a kept state: its outputs are those of the state, no further bit is set, and the DiagCode is the state's.
+-- The answer shows a kept state: its outputs are those of the state, no further bit is set, and the DiagCode is the
+-- state's.
 pub record Shows (kind : Kind) (o : Outs) (k : Kept) : Type 0 where
   pub outputs : shown (length (block kind).outputs) o ≡ outs kind k.code k.mode
   pub no_more : o.safe < 2 ^ length (block kind).outputs

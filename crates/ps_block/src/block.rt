@@ -88,8 +88,8 @@ pub trait SafetyBlock {
     fn store(state: &Self::State, into: &mut [u8; 16])
         ensures { Loads KIND into.new (kept state.now) };
 
-    /// The state that stores so, and None exactly where none does. There is no further one: what a state keeps is all that
-    /// there is of it.
+    /// The state that stores so, and None exactly where none does. There is no further one: what a state keeps is all
+    /// that there is of it.
     fn load(from: &[u8; 16]) -> Option<Self::State>
         ensures some { IfSome result (λ s. Loads KIND from.now (kept s)) }
         ensures alone { IfSome result (λ s. (other : Self.State) → kept other ≡ kept s → other ≡ s) }

@@ -1,5 +1,5 @@
-//! What the thirteen kinds of function blocks (PLCopen TC5, in the profile of this project) have in common: one step by a
-//! contract, and the sixteen bytes that keep a state.
+//! What the thirteen kinds of function blocks (PLCopen TC5, in the profile of this project) have in common: one step by
+//! a contract, and the sixteen bytes that keep a state.
 //!
 //! - `block`: the trait of a block, its pins and what it shows.
 //! - `image`: the sixteen bytes.

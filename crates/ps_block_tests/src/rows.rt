@@ -21,8 +21,8 @@ fn code_after(
     Some(block.stepped_if_kept(kind, 1, 0, 0)?.code)
 }
 
-// Each row is a kind, a DiagCode, the last Reset, the last auxiliary input, the mode, and what is wanted. They ask first of states,
-// then of last inputs, and then of modes.
+// Each row is a kind, a DiagCode, the last Reset, the last auxiliary input, the mode, and what is wanted. They ask
+// first of states, then of last inputs, and then of modes.
 const STEPS: &[(Kind, u16, bool, bool, u8, Option<u16>)] = &[
     (Kind::EmergencyStop, 0x8001, false, false, 0, Some(0x8002)),
     (Kind::EmergencyStop, 0x8006, false, false, 0, None),

@@ -36,8 +36,8 @@ fn step_both<B: SafetyBlock>(
     (outs, rows)
 }
 
-/// A walk: its name, the limit in ms, and its scans. A scan is its time in ms, the Boolean pins, and what is wanted: the DiagCode
-/// and the safe outputs.
+/// A walk: its name, the limit in ms, and its scans. A scan is its time in ms, the Boolean pins, and what is wanted:
+/// the DiagCode and the safe outputs.
 pub type Walk = (&'static str, u32, &'static [(u32, u32, u16, u16)]);
 
 /// The same, of the DiagCode alone.
@@ -47,8 +47,8 @@ pub type Codes = (&'static str, u32, &'static [(u32, u32, u16)]);
 pub struct Tables {
     pub walks: &'static [Walk],
     pub codes: &'static [Codes],
-    /// Sixteen bytes, and whether they load: the DiagCode, the last Reset, the last auxiliary input, the latched mode, the time, and
-    /// seven bytes that are 0.
+    /// Sixteen bytes, and whether they load: the DiagCode, the last Reset, the last auxiliary input, the latched mode,
+    /// the time, and seven bytes that are 0.
     pub loads: &'static [(u128, bool)],
 }
 

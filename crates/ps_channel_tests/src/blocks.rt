@@ -206,7 +206,8 @@ pub const SAFETY_REQUEST: &str = "\
 200 000 00 C002
 ";
 
-/// The selector of modes, where at Reset, the last of thirteen pins, ORs and ANDs are nested as deep as a text can have them.
+/// The selector of modes, where at Reset, the last of thirteen pins, ORs and ANDs are nested as deep as a text can have
+/// them.
 pub const DEEP_RESET: &str = "PROGRAM Modes
 VAR_INPUT S_A : SAFEBOOL; S_B : SAFEBOOL; S_U : SAFEBOOL; Ack : BOOL; END_VAR
 VAR_OUTPUT S_M1 : SAFEBOOL; END_VAR

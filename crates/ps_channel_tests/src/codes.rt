@@ -16,8 +16,8 @@ const MOTOR_STACK_CODE: [u8; 33] = [
     7,
 ];
 
-// BLOCK, instance 0, kind 3, outputs from 4, limit 0, operands TRUE, S_In, FALSE, FALSE, Ack; SET work cell 0 := E.S_EStopOut;
-// ALL work cell 0 with Run; SET S_Motor := work cell 0; LAST
+// BLOCK, instance 0, kind 3, outputs from 4, limit 0, operands TRUE, S_In, FALSE, FALSE, Ack; SET work cell 0 :=
+// E.S_EStopOut; ALL work cell 0 with Run; SET S_Motor := work cell 0; LAST
 const MOTOR_EQUATION_CODE: [u8; 37] = [
     0xF4, 0, 0, 3, 0, 4, 0, 0, 0, 0, 5, 0xFF, 0xFF, 0, 0, 0xFF, 0xFE, 0xFF, 0xFE, 0, 1, 0xF1, 0xF0,
     0, 0, 4, 0xF2, 0xF0, 0, 0, 2, 0xF1, 0, 3, 0xF0, 0, 0xF0,
@@ -28,8 +28,8 @@ const TIMES_STACK_CODE: [u8; 36] = [
     0, 0, 1, 244, 7,
 ];
 
-// BLOCK, instance 0, kind 2, outputs from 2, limit 50, operands FALSE, S_A, TRUE; BLOCK, instance 1, kind 7, outputs from 5,
-// limit 500, operands TRUE, S_A, S_B; LAST
+// BLOCK, instance 0, kind 2, outputs from 2, limit 50, operands FALSE, S_A, TRUE; BLOCK, instance 1, kind 7, outputs
+// from 5, limit 500, operands TRUE, S_A, S_B; LAST
 const TIMES_EQUATION_CODE: [u8; 35] = [
     0xF4, 0, 0, 2, 0, 2, 0, 0, 0, 50, 3, 0xFF, 0xFE, 0, 0, 0xFF, 0xFF, 0xF4, 0, 1, 7, 0, 5, 0, 0,
     1, 0xF4, 3, 0xFF, 0xFF, 0, 0, 0, 1, 0xF0,
@@ -106,8 +106,8 @@ pub fn has_figures(
     Ok(stack_figures(alloc, &app)? == stack && equation_figures(alloc, &app)? == equation)
 }
 
-// A text, with its figures in channel A and in channel B. In channel A 35 signals of the deepest expression are loaded and 34 ANDs
-// and ORs join them; then STORE and END. In channel B each of the 34 has two operands; then SET and LAST.
+// A text, with its figures in channel A and in channel B. In channel A 35 signals of the deepest expression are loaded
+// and 34 ANDs and ORs join them; then STORE and END. In channel B each of the 34 has two operands; then SET and LAST.
 const FIGURES: &[(&str, Figures, Figures)] = &[
     (
         MOTOR,

@@ -1,9 +1,9 @@
-// What the tests of both channels know of the application M: it has three inputs, one output and one SF_EmergencyStop, so seven
-// signals and one instance.
+// What the tests of both channels know of the application M: it has three inputs, one output and one SF_EmergencyStop,
+// so seven signals and one instance.
 //
-// A table of turns is a text. A row of it is a line: the bytes of a code in hexadecimal; behind a bar the plain bytes of some places
-// of the cells, whose plain bytes are 0 elsewhere, as PLACE=BYTE; and behind ` => ` what comes of one turn: `runs`, `done`, or `trap`
-// and its number.
+// A table of turns is a text. A row of it is a line: the bytes of a code in hexadecimal; behind a bar the plain bytes
+// of some places of the cells, whose plain bytes are 0 elsewhere, as PLACE=BYTE; and behind ` => ` what comes of one
+// turn: `runs`, `done`, or `trap` and its number.
 
 ghost use Rattle.std.specs.Prelude.{◌≡◌, IfOk, length};
 
@@ -64,8 +64,8 @@ fn progress_named(word: &str) -> Option<Progress> {
     }
 }
 
-// How the scan stands after one turn of a code over cells in which these places have these plain bytes. None: these are none, or
-// the scan does not run before the turn.
+// How the scan stands after one turn of a code over cells in which these places have these plain bytes. None: these are
+// none, or the scan does not run before the turn.
 fn after_a_turn<M: Motor>(alloc: Global, code: &str, places: &str) -> Option<Progress> {
     let code = bytes_of(alloc, code)?;
     let mut motor = M::with_code(alloc, code.as_slice())?;

@@ -97,11 +97,12 @@ fn rows_met(alloc: Global, app: &App, rows: &str) -> Result<u32, Memory>
     Ok(met)
 }
 
-/// How many rows of a table the application of a text meets in channel A, in channel B and by the plain evaluator, before
-/// the first that it does not meet in one of them. They make the scans side by side from the start, as behind a restart.
+/// How many rows of a table the application of a text meets in channel A, in channel B and by the plain evaluator,
+/// before the first that it does not meet in one of them. They make the scans side by side from the start, as behind a
+/// restart.
 ///
-/// A row is a line: a scan's time in ms and its inputs, a digit each, and what is to come: the outputs, a digit each, and
-/// the DiagCode of each instance.
+/// A row is a line: a scan's time in ms and its inputs, a digit each, and what is to come: the outputs, a digit each,
+/// and the DiagCode of each instance.
 pub fn met(alloc: Global, text: &str, rows: &str) -> Result<u32, Fail> {
     let app = application(alloc, text)?;
     Ok(rows_met(alloc, &app, rows)?)

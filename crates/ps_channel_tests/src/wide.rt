@@ -27,8 +27,8 @@ fn scan_but(alloc: Global, off: u32) -> Result<Scan, Memory> {
     scan_of(alloc, 0, digits.as_str())
 }
 
-// The output of an accepted application of 512 inputs after a scan. None where the channels and the plain evaluator do not
-// agree on it.
+// The output of an accepted application of 512 inputs after a scan. None where the channels and the plain evaluator do
+// not agree on it.
 fn output_after(alloc: Global, app: &App, scan: &Scan) -> Result<Option<bool>, Memory>
     requires { Accepted app.now }
 {
@@ -39,8 +39,8 @@ fn output_after(alloc: Global, app: &App, scan: &Scan) -> Result<Option<bool>, M
     Ok(all.report().outs.as_slice().first().copied())
 }
 
-// The output of the application of a text of 512 inputs where all of them but one are TRUE. None where the channels and the plain
-// evaluator do not agree on it.
+// The output of the application of a text of 512 inputs where all of them but one are TRUE. None where the channels and
+// the plain evaluator do not agree on it.
 fn output(alloc: Global, text: &str, off: u32) -> Result<Option<bool>, Fail> {
     let scan = scan_but(alloc, off)?;
     let app = application(alloc, text)?;

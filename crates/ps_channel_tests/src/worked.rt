@@ -111,7 +111,8 @@ const TABLES: &[(&str, &str, &str, u32)] = &[
     ("too few inputs", blocks::CONTACTS, TOO_FEW_INPUTS, 0),
 ];
 
-/// All tables: a name, a text, a table of its rows, and how many of these its application meets before the first that it does not.
+/// All tables: a name, a text, a table of its rows, and how many of these its application meets before the first that
+/// it does not.
 pub fn tables() -> &'static [(&'static str, &'static str, &'static str, u32)] {
     TABLES
 }

@@ -1,5 +1,6 @@
 -- Which certificates derive an application.
-use Rattle.std.specs.Prelude.{◌≡◌, ℕ, Bool, true, false, List, [], ◌∷◌, ◌+◌, ◌-◌, ◌<◌, ◌&&◌, ◌==◌, nat_le, length, Some, slice_get, slice_index_or}
+use Rattle.std.specs.Prelude.{◌≡◌, ℕ, Bool, true, false, List, [], ◌∷◌, ◌+◌, ◌-◌, ◌<◌, ◌&&◌, ◌==◌, nat_le, length, Some}
+use Rattle.std.specs.Prelude.{slice_get, slice_index_or}
 use Rattle.std.specs.List.{list_any, list_all}
 use Rattle.ps_model.specs.declared.kind.Ty.{Ty}
 use Rattle.ps_model.specs.declared.kind.Ty.TheVariants.{Time}

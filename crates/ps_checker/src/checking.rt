@@ -1,6 +1,7 @@
 // Whether a certificate derives an application.
 
-ghost use Rattle.std.specs.Prelude.{◌≡◌, ◌+◌, ◌<◌, ◌≤◌, ◌==◌, ℕ, true, false, is_some, IfOk, IfErr, OnOk, OnErr, IfSome, IfNone, length, slice_get, slice_index_or, Some};
+ghost use Rattle.std.specs.Prelude.{◌≡◌, ◌+◌, ◌<◌, ◌≤◌, ◌==◌, ℕ, true, false, is_some, IfOk, IfErr, OnOk, OnErr};
+ghost use Rattle.std.specs.Prelude.{IfSome, IfNone, length, slice_get, slice_index_or, Some};
 ghost use Rattle.std.specs.List.{list_all, list_any, flat_map};
 ghost use Rattle.ps_model.specs.Action.{free};
 ghost use Rattle.ps_model.specs.Args.{actual};
@@ -16,7 +17,8 @@ ghost use Rattle.ps_model.specs.Steps.{action};
 ghost use Rattle.ps_model.specs.Typing.{Accepted};
 ghost use Rattle.ps_flow.specs.declared.certificate.CertLine.{CertLine};
 ghost use Rattle.ps_model.specs.Standing.{StandsAt};
-ghost use Rattle.ps_checker.specs.Derives.{Derives, IsInstance, is_earlier, speak_of, fits, has_line, literal_fits, LiteralsFit};
+ghost use Rattle.ps_checker.specs.Derives.{Derives, IsInstance, is_earlier, speak_of, fits, has_line, literal_fits};
+ghost use Rattle.ps_checker.specs.Derives.{LiteralsFit};
 ghost use Rattle.ps_checker.specs.Fitting.{fits_shape, IsKnown};
 ghost use Rattle.ps_checker.specs.Lawful.{KeepsSkeletons};
 ghost use Rattle.ps_checker.specs.Objections.{Objects, LineBreaks, LiteralMisfits};

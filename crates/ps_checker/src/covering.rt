@@ -1,6 +1,7 @@
 // Whether each obligation has a line.
 
-ghost use Rattle.std.specs.Prelude.{◌≡◌, ◌+◌, ◌<◌, ◌≤◌, ◌==◌, ◌||◌, ℕ, true, false, All, IfSome, IfNone, length, slice_index_or};
+ghost use Rattle.std.specs.Prelude.{◌≡◌, ◌+◌, ◌<◌, ◌≤◌, ◌==◌, ◌||◌, ℕ, true, false, All, IfSome, IfNone, length};
+ghost use Rattle.std.specs.Prelude.{slice_index_or};
 ghost use Rattle.std.specs.List.{list_all, list_any, flat_map};
 ghost use Rattle.ps_base.specs.declared.limits.TheConstants.{MOST_NODES};
 ghost use Rattle.ps_model.specs.Args.{actual};

@@ -6,9 +6,9 @@ use Rattle.ps_base.specs.declared.failing.Place.{Place}
 use Rattle.ps_quoted.specs.Quoted.{line_of, before}
 use Rattle.ps_columns.specs.declared.positions.Position.{Position}
 
--- How many code units of UTF-16 a byte of UTF-8 brings. The first byte of a character brings those of the character: two
--- where it has four bytes, and else one. A byte that goes on with a character brings none. So each byte has its units, in
--- bytes that are no UTF-8 too.
+-- How many code units of UTF-16 a byte of UTF-8 brings. The first byte of a character brings those of the character:
+-- two where it has four bytes, and else one. A byte that goes on with a character brings none. So each byte has its
+-- units, in bytes that are no UTF-8 too.
 abbrev pub unit_width : ℕ → ℕ
 unit_width byte = if nat_lt byte 128 then 1 else (if nat_lt byte 192 then 0 else (if nat_lt byte 240 then 1 else 2))
 

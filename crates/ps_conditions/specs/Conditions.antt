@@ -1,5 +1,6 @@
 -- The conditions of guards in words.
-use Rattle.std.specs.Prelude.{ℕ, Bool, true, false, List, Option, Some, None, codes, find, slice_index_or, if◌then◌else◌, ◌==◌}
+use Rattle.std.specs.Prelude.{ℕ, Bool, true, false, List, Option, Some, None, codes, find, slice_index_or}
+use Rattle.std.specs.Prelude.{if◌then◌else◌, ◌==◌}
 use Rattle.std.specs.Option.{option_map_or}
 use Rattle.ps_model.specs.Blocks.{Pin as PinRow, block}
 use Rattle.ps_model.specs.Pins.{pin_names}

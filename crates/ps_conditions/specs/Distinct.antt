@@ -1,5 +1,6 @@
 -- The conditions of a kind, and that no two have the same words.
-use Rattle.std.specs.Prelude.{ℕ, Bool, true, false, ◌&&◌, ◌++◌, not, nat_lt, List, [], ◌∷◌, codes, flat_map, length, map}
+use Rattle.std.specs.Prelude.{ℕ, Bool, true, false, ◌&&◌, ◌++◌, not, nat_lt, List, [], ◌∷◌, codes, flat_map, length}
+use Rattle.std.specs.Prelude.{map}
 use Rattle.std.specs.List.{list_all, range_with_len}
 use Rattle.std.specs.Str.{bytes_eq}
 use Rattle.ps_model.specs.Blocks.{block}

@@ -42,8 +42,8 @@ fn limit_words(kind: Kind) -> &'static str
     }
 }
 
-/// What a condition of a kind speaks of: a pin by its name, as `S_GuardSwitch1`, `Reset` or `ProcessControl`, the time that
-/// the state waits for by the name of its TIME pin, as `DiscrepancyTime` (`the time of 500 ms` of
+/// What a condition of a kind speaks of: a pin by its name, as `S_GuardSwitch1`, `Reset` or `ProcessControl`, the time
+/// that the state waits for by the name of its TIME pin, as `DiscrepancyTime` (`the time of 500 ms` of
 /// SF_TwoHandControlTypeIII), or modes, as `one mode alone`.
 pub fn subject_of(kind: Kind, condition: Condition) -> &'static str
     ensures { result.now ≡ conditions.subject_words kind condition.ask condition.holds }

@@ -1,5 +1,6 @@
 -- What the code keeps of the scans so far, and when it is so.
-use Rattle.std.specs.Prelude.{◌≡◌, ◌||◌, ℕ, Bool, false, List, Option, Some, None, length, map, option_map, slice_get, slice_index_or}
+use Rattle.std.specs.Prelude.{◌≡◌, ◌||◌, ℕ, Bool, false, List, Option, Some, None, length, map, option_map, slice_get}
+use Rattle.std.specs.Prelude.{slice_index_or}
 use Rattle.ps_model.specs.Action.{Action, assigns, calls}
 use Rattle.ps_model.specs.Exprs.{formula}
 use Rattle.ps_model.specs.Network.{Network, kind_at}

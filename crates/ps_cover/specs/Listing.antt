@@ -1,6 +1,7 @@
 -- All that scans of an application may show, in order: the values of its signals, and then step by step the marks of
 -- its calls and the operands that may decide.
-use Rattle.std.specs.Prelude.{ℕ, ◌-◌, ◌*◌, Bool, true, false, List, [], ◌∷◌, ◌++◌, Option, Some, None, ◌&&◌, ◌==◌, not, length, nat_lt, slice_get, slice_index_or, if◌then◌else◌}
+use Rattle.std.specs.Prelude.{ℕ, ◌-◌, ◌*◌, Bool, true, false, List, [], ◌∷◌, ◌++◌, Option, Some, None, ◌&&◌, ◌==◌, not}
+use Rattle.std.specs.Prelude.{length, nat_lt, slice_get, slice_index_or, if◌then◌else◌}
 use Rattle.std.specs.List.{flat_map, range_with_len}
 use Rattle.ps_model.specs.Action.{Action, Actual, assigns, calls, free, literal, time, wired}
 use Rattle.ps_model.specs.Formula.{Formula, Formulas, all_of, any_of, no_operand, operand, signal}

@@ -1,5 +1,6 @@
 -- How many points were shown, of a sort, and of one step or of all.
-use Rattle.std.specs.Prelude.{ℕ, Bool, true, false, List, Option, Some, None, ◌&&◌, ◌==◌, ◌*◌, ◌/◌, count_by, length, nat_lt, not, slice_get, slice_index_or, if◌then◌else◌}
+use Rattle.std.specs.Prelude.{ℕ, Bool, true, false, List, Option, Some, None, ◌&&◌, ◌==◌, ◌*◌, ◌/◌, count_by, length}
+use Rattle.std.specs.Prelude.{nat_lt, not, slice_get, slice_index_or, if◌then◌else◌}
 use Rattle.std.specs.List.{range_with_len}
 use Rattle.ps_model.specs.Action.{Action, assigns, calls}
 use Rattle.ps_model.specs.Network.{Network, kind_at}

@@ -120,8 +120,8 @@ abbrev pub last_line : Known → Format → List ℕ
 last_line x Text = said_parts (part_of x States) (part_of x Ways) (part_of x Values) (part_of x Decisions)
 last_line x Json = json_parts (part_of x States) (part_of x Ways) (part_of x Values) (part_of x Decisions)
 
--- The whole text: for each instance, in the order of the calls, its counts, and below them the ways and states that were
--- never seen; the counts of values and of decisions with what was never seen of them; the percentages.
+-- The whole text: for each instance, in the order of the calls, its counts, and below them the ways and states that
+-- were never seen; the counts of values and of decisions with what was never seen of them; the percentages.
 abbrev pub coverage_text : Known → Format → List ℕ
 coverage_text x format =
     steps_text x format ++ sort_line x format Values (codes "values") ++ values_text x format

@@ -4,9 +4,12 @@ ghost use Rattle.std.specs.Prelude.{◌≡◌, ◌<◌, ◌++◌, IfOk, OnOk, So
 ghost use Rattle.ps_coverage.specs.Seen.{count_of, part_of};
 ghost use Rattle.ps_coverage.specs.Telling.{known_of};
 ghost use Rattle.ps_coverage.specs.Seen.{known_in};
-ghost use Rattle.ps_coverage.specs.Text.{counts_of, counts_text, coverage_text, decisions_at, decisions_text, excluded_text};
-ghost use Rattle.ps_coverage.specs.Text.{head_line, json_counts, json_head, json_parts, last_line, marks_at, missed_marks};
-ghost use Rattle.ps_coverage.specs.Text.{json_sort, nowhere, place_of, said_counts, said_head, said_parts, said_sort, sort_line, step_text};
+ghost use Rattle.ps_coverage.specs.Text.{counts_of, counts_text, coverage_text, decisions_at, decisions_text};
+ghost use Rattle.ps_coverage.specs.Text.{excluded_text};
+ghost use Rattle.ps_coverage.specs.Text.{head_line, json_counts, json_head, json_parts, last_line, marks_at};
+ghost use Rattle.ps_coverage.specs.Text.{missed_marks};
+ghost use Rattle.ps_coverage.specs.Text.{json_sort, nowhere, place_of, said_counts, said_head, said_parts, said_sort};
+ghost use Rattle.ps_coverage.specs.Text.{sort_line, step_text};
 ghost use Rattle.ps_coverage.specs.Text.{steps_text, values_at, values_text};
 ghost use Rattle.ps_model.specs.Blocks.{block};
 ghost use Rattle.ps_model.specs.Network.{instance_count, instance_name, kind_at};
@@ -394,8 +397,8 @@ fn add_last(text: &mut Bytes, told: &Told<'_>, format: Format) -> Result<(), Mem
 }
 
 /// The text of what was shown of an application, and of what was not: for each instance, in the order of the calls, its
-/// counts, and below them the ways and states that were never seen; the counts of values and of decisions, with what was
-/// never seen of them; the percentages. An error: memory is wanting.
+/// counts, and below them the ways and states that were never seen; the counts of values and of decisions, with what
+/// was never seen of them; the percentages. An error: memory is wanting.
 pub fn coverage_text(alloc: Global, told: &Told<'_>, format: Format) -> Result<Bytes, Memory>
     ensures { IfOk result (λ bytes. bytes ≡ coverage_text (known_of told.entry.now) format) }
 {

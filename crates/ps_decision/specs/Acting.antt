@@ -1,4 +1,5 @@
--- What DECIDE, SET and END leave of the cells (profile). The traps of each are tried in the order in which they are written.
+-- What DECIDE, SET and END leave of the cells (profile). The traps of each are tried in the order in which they are
+-- written.
 use Rattle.std.specs.Prelude.{ℕ, ◌==◌, if◌then◌else◌, List, slice_index, slice_set, Option, Some, None}
 use Rattle.ps_machine.specs.Bytes.{is_no_bit}
 use Rattle.ps_stackvm.specs.declared.trap.Trap.TheVariants.{NotBoolean, NoSignal}

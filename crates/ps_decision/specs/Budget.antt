@@ -1,4 +1,5 @@
--- The budget of channel C: how many rows its code has (profile). A turn does one row, and a scan does each at most once.
+-- The budget of channel C: how many rows its code has (profile). A turn does one row, and a scan does each at most
+-- once.
 use Rattle.std.specs.Prelude.{ℕ, ◌+◌, take, sum_by}
 use Rattle.ps_model.specs.Formula.{Formula, Formulas, signal, all_of, any_of, no_operand, operand}
 use Rattle.ps_model.specs.Action.{Actual, Action, wired, assigns, calls}

@@ -1,5 +1,5 @@
--- What CALL leaves of the cells: one step of an instance (profile). `first` is the instance's first output signal, and `next` is where
--- the following row stands. The traps are tried in the order in which they are written.
+-- What CALL leaves of the cells: one step of an instance (profile). `first` is the instance's first output signal, and
+-- `next` is where the following row stands. The traps are tried in the order in which they are written.
 use Rattle.std.specs.Prelude.{ℕ, ◌+◌, ◌*◌, nat_lt, nat_le, if◌then◌else◌, List, map, Option, Some, None}
 use Rattle.std.specs.List.{list_any}
 use Rattle.ps_model.specs.declared.kind.Kind.{Kind}

@@ -1,10 +1,12 @@
 -- Where channel C's cells have what (profile). All of it is for any bytes.
-use Rattle.std.specs.Prelude.{ℕ, ◌+◌, ◌-◌, ◌&&◌, nat_lt, nat_le, if◌then◌else◌, List, take, drop, slice_index, slice_set, Option, Some, None}
+use Rattle.std.specs.Prelude.{ℕ, ◌+◌, ◌-◌, ◌&&◌, nat_lt, nat_le, if◌then◌else◌, List, take, drop, slice_index}
+use Rattle.std.specs.Prelude.{slice_set, Option, Some, None}
 use Rattle.std.specs.Int.{w32, to_be_bytes}
 use Rattle.ps_machine.specs.Bytes.{be4, replaced, instance_bytes}
 use Rattle.ps_stackvm.specs.declared.trap.Trap.{Trap}
 use Rattle.ps_stackvm.specs.Traps.{trap_number}
-use Rattle.ps_decision.specs.declared.layout.TheConstants.{PROGRESS_AT, TIME_AT, PINS_AT, PIN_CELLS, SIGNALS_AT, FIRST_PIN}
+use Rattle.ps_decision.specs.declared.layout.TheConstants.{PROGRESS_AT, TIME_AT, PINS_AT, PIN_CELLS, SIGNALS_AT}
+use Rattle.ps_decision.specs.declared.layout.TheConstants.{FIRST_PIN}
 
 -- bytes 0 to 3: where in the code the next row stands
 abbrev pub offset_of : List ℕ → ℕ
@@ -26,8 +28,8 @@ pin_bytes n cells = take n (drop PINS_AT cells)
 abbrev pub block_bytes : (signals i : ℕ) → List ℕ → List ℕ
 block_bytes signals i cells = instance_bytes (SIGNALS_AT + signals) i cells
 
--- where the cell of an operand stands: F000 to F00C is pin cell 0 to 12, every other number below that of the signals is a signal,
--- and others are bad
+-- where the cell of an operand stands: F000 to F00C is pin cell 0 to 12, every other number below that of the signals
+-- is a signal, and others are bad
 abbrev pub place_of : (signals operand : ℕ) → Option ℕ
 place_of signals operand =
     if nat_le FIRST_PIN operand && nat_lt operand (FIRST_PIN + PIN_CELLS) then Some (PINS_AT + (operand - FIRST_PIN))

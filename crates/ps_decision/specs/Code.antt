@@ -1,5 +1,5 @@
--- The decision code of an application (profile). A value has a yes place and a no place: where its rows go on if it is TRUE, and if it
--- is FALSE. `at` is where the rows of a part begin.
+-- The decision code of an application (profile). A value has a yes place and a no place: where its rows go on if it is
+-- TRUE, and if it is FALSE. `at` is where the rows of a part begin.
 use Rattle.std.specs.Prelude.{ℕ, ◌+◌, ◌*◌, Bool, List, [], ◌∷◌, ◌++◌, slice_index_or}
 use Rattle.std.specs.List.{range_with_len}
 use Rattle.ps_model.specs.declared.kind.Kind.{Kind}
@@ -30,8 +30,8 @@ abbrev pub if_last : Formulas → (last more : ℕ) → ℕ
 if_last no_operand last more = last
 if_last (operand e es) last more = more
 
--- A signal is one DECIDE. In an AND each operand but the last has the beginning of the next as its yes place and the AND's no place; the
--- last has both of the AND's. An OR is the same with yes and no exchanged.
+-- A signal is one DECIDE. In an AND each operand but the last has the beginning of the next as its yes place and the
+-- AND's no place; the last has both of the AND's. An OR is the same with yes and no exchanged.
 abbrev mutual
   pub value_rows : Formula → (at yes_at no_at : ℕ) → List Row
   value_rows (signal s) at yes_at no_at = Decide s yes_at no_at ∷ []
@@ -48,13 +48,15 @@ abbrev mutual
   any_rows (operand e es) at yes_at no_at =
       value_rows e at yes_at (if_last es no_at (behind_value at e)) ++ any_rows es (behind_value at e) yes_at no_at
 
--- the value's rows, SET of the target with 1, which is their yes place, and SET with 0, which is their no place; both go on behind the second
+-- the value's rows, SET of the target with 1, which is their yes place, and SET with 0, which is their no place; both
+-- go on behind the second
 abbrev pub assigned_rows : (target : ℕ) → Formula → (at : ℕ) → List Row
 assigned_rows target e at =
     let set = behind_value at e in
     value_rows e at set (set + 8) ++ Set target 1 (set + 16) ∷ Set target 0 (set + 16) ∷ []
 
--- one SET of a literal or free value, which goes on behind itself; a value as it is assigned; a TIME literal is FALSE there
+-- one SET of a literal or free value, which goes on behind itself; a value as it is assigned; a TIME literal is FALSE
+-- there
 abbrev pub pin_rows : (target : ℕ) → Bool → Actual → (at : ℕ) → List Row
 pin_rows target default free at = Set target (bit default) (at + 8) ∷ []
 pin_rows target default (literal b) at = Set target (bit b) (at + 8) ∷ []

@@ -9,8 +9,8 @@ ghost use Rattle.ps_decision.specs.Budget.{decisions, count_at_pin, count_of_ste
 
 use ps_model::{App, Arg, Args, Expr, Step, boolean_count};
 
-/// The budget of channel C: the number of rows of an application's code, the one that ends the scan among them. A scan of intact
-/// code is Done after at most so many turns, since a DECIDE passes rows over.
+/// The budget of channel C: the number of rows of an application's code, the one that ends the scan among them. A scan
+/// of intact code is Done after at most so many turns, since a DECIDE passes rows over.
 pub fn turns_c(app: &App) -> u32
     ensures { result ≡ turns_c app.now }
 {

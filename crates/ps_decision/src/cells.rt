@@ -42,7 +42,8 @@ pub(crate) fn time(cells: &[u8]) -> u32
     place_at(cells, TIME_AT)
 }
 
-// What the progress byte says. Channel C reads it by itself: a reader that two channels used could end both too early alike.
+// What the progress byte says. Channel C reads it by itself: a reader that two channels used could end both too early
+// alike.
 pub(crate) fn progress(cells: &[u8]) -> Progress
     requires { SIGNALS_AT ≤ length cells.now }
     ensures { result ≡ progress_said (progress_of cells.now) }

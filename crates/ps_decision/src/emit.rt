@@ -1,5 +1,5 @@
-// The rows of values and of what stands at pins. The compiler knows how many rows a value has before it writes them, so each place
-// is known when the row that names it is written.
+// The rows of values and of what stands at pins. The compiler knows how many rows a value has before it writes them, so
+// each place is known when the row that names it is written.
 
 ghost use Rattle.std.specs.Prelude.{◌≡◌, ◌+◌, ◌*◌, ◌<◌, ◌^◌, ◌++◌, OnOk, length, map, if◌then◌else◌};
 ghost use Rattle.ps_model.specs.Exprs.{formula, operands};
@@ -27,8 +27,8 @@ fn behind(code: &Vec<u8>, e: &Expr) -> u32
     code.len() as u32 + DECIDE_SIZE * decisions(e)
 }
 
-// Where the operand of a group goes on that is written next, if it does not decide the group: at the beginning of the next
-// operand, and where it is the last at the place `last`.
+// Where the operand of a group goes on that is written next, if it does not decide the group: at the beginning of the
+// next operand, and where it is the last at the place `last`.
 fn undecided(code: &Vec<u8>, e: &Expr, is_last: bool, last: u32) -> u32
     requires { length code.now.items + 11 * decisions (formula e.now) < 2 ^ 32 }
     ensures { result ≡ (if is_last then last else behind_value (length code.now.items) (formula e.now)) }

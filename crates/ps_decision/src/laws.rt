@@ -12,9 +12,9 @@ ghost use Rattle.ps_decision.specs.Stands.{StandsC};
 
 use ps_model::App;
 
-/// Decision code keeps the meaning: from cells that stand for any state, a scan that is not earlier is Running up to the last
-/// of at most `turns_c` turns, which makes it Done, and none traps. After it the cells stand for the state that solves the scan,
-/// and their report is its report. Cells of 0 stand for the first state.
+/// Decision code keeps the meaning: from cells that stand for any state, a scan that is not earlier is Running up to
+/// the last of at most `turns_c` turns, which makes it Done, and none traps. After it the cells stand for the state
+/// that solves the scan, and their report is its report. Cells of 0 stand for the first state.
 pub fn decision_code_keeps_the_meaning(app: &App)
     ensures { Accepted app.now → (sizes : Sizes) → AreSizesOf app.now sizes → Keeps app.now (machine_c sizes (code_c app.now) (turns_c app.now)) (StandsC app.now) }
 {

@@ -1,5 +1,5 @@
-//! Channel C: a machine that runs decision code, on any bytes, and the compiler of that code. Where channel A computes a value
-//! on a stack, channel C goes on at one place or at another.
+//! Channel C: a machine that runs decision code, on any bytes, and the compiler of that code. Where channel A computes
+//! a value on a stack, channel C goes on at one place or at another.
 //!
 //! - `channel`: the channel, with its code and its cells; `cells` and `layout` are its cells.
 //! - `turn`: one turn, by `fetch`, `act` and `call`; `pins` is what a call takes from the pin cells.

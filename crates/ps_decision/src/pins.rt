@@ -9,8 +9,8 @@ ghost use Rattle.ps_decision.specs.Cells.{pin_bytes};
 
 use crate::layout::{PINS_AT, SIGNALS_AT};
 
-// The pins that the first pin cells give, so many of them: bit j is TRUE where byte j of them is 1. None where one of them is
-// neither 0 nor 1. The last is read first, and each moves those before it one place up.
+// The pins that the first pin cells give, so many of them: bit j is TRUE where byte j of them is 1. None where one of
+// them is neither 0 nor 1. The last is read first, and each moves those before it one place up.
 pub(crate) fn pins_in_cells(cells: &[u8], count: u8) -> Option<u32>
     requires room { SIGNALS_AT ≤ length cells.now }
     requires few { count ≤ 13 }

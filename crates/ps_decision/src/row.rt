@@ -14,8 +14,8 @@ pub(crate) const CALL: u8 = 3;
 
 pub(crate) const END: u8 = 4;
 
-/// A row of decision code (profile). In code each begins with its opcode, from 1 for DECIDE to 4 for END, and numbers are
-/// big-endian. An operand names a pin cell or a signal; a place is an offset in the code.
+/// A row of decision code (profile). In code each begins with its opcode, from 1 for DECIDE to 4 for END, and numbers
+/// are big-endian. An operand names a pin cell or a signal; a place is an offset in the code.
 #[derive(Clone, Copy, PartialEq, Eq, Debug)]
 pub enum Row {
     /// Goes on at the place `yes_at` where the byte of this operand is 1, and at the place `no_at` where it is 0.
@@ -30,8 +30,8 @@ pub enum Row {
         byte: u8,
         next: u32,
     },
-    /// Steps this instance as the kind with this number, with this limit in ms. Its Boolean pins are the pin cells, and its
-    /// outputs are written from the signal `first` on. The row behind it follows.
+    /// Steps this instance as the kind with this number, with this limit in ms. Its Boolean pins are the pin cells, and
+    /// its outputs are written from the signal `first` on. The row behind it follows.
     Call {
         instance: u16,
         kind: u8,

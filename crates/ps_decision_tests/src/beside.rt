@@ -52,8 +52,8 @@ impl Beside {
         Ok(Beside { others, decision })
     }
 
-    /// Makes a scan of all four. True exactly where the others agree on it, and channel C is done after at most its budget of
-    /// turns and reports what the plain evaluator reports.
+    /// Makes a scan of all four. True exactly where the others agree on it, and channel C is done after at most its
+    /// budget of turns and reports what the plain evaluator reports.
     pub fn scan(&mut self, alloc: Global, app: &App, scan: &Scan) -> Result<bool, Memory>
         requires others { IsOf app.now self.old.others }
         requires decision { AreSizesOf app.now self.old.decision.sizes }
@@ -121,9 +121,9 @@ fn rows_met(alloc: Global, app: &App, rows: &str) -> Result<u32, Memory>
     Ok(met)
 }
 
-/// How many rows of a table the application of a text meets in channels A, B and C and by the plain evaluator, before the first
-/// that it does not meet in one of them. `ps_channel_tests::tables` says what a row is; what is to come stands there for
-/// the plain evaluator, and channel C has to report the same.
+/// How many rows of a table the application of a text meets in channels A, B and C and by the plain evaluator, before
+/// the first that it does not meet in one of them. `ps_channel_tests::tables` says what a row is; what is to come
+/// stands there for the plain evaluator, and channel C has to report the same.
 pub fn met(alloc: Global, text: &str, rows: &str) -> Result<u32, Fail> {
     let others = tables::met(alloc, text, rows)?;
     let app = application(alloc, text)?;

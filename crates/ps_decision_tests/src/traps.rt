@@ -1,8 +1,8 @@
 // Turns of channel C over given bytes: the traps on both sides of every bound, and which comes where two causes meet.
 //
-// A row of a table is a line of four parts with " | " between them: the code in hexadecimal, the bytes of the cells that are
-// not 0 as PLACE=BYTE, the place in decimal and the byte in hexadecimal, the most turns, and what the progress byte then says:
-// run, done, or the number of a trap.
+// A row of a table is a line of four parts with " | " between them: the code in hexadecimal, the bytes of the cells
+// that are not 0 as PLACE=BYTE, the place in decimal and the byte in hexadecimal, the most turns, and what the progress
+// byte then says: run, done, or the number of a trap.
 
 use ps_base::{Fail, Memory};
 use ps_channel_tests::blocks::MODES;
@@ -167,7 +167,8 @@ const LOADING: &str = "\
 03 00 00 03 00 04 00 00 00 00 | 44=1 | 1 | 7
 ";
 
-// A kind with thirteen pins and eleven outputs among sixteen signals: its last pin cell is read, and its last output fits.
+// A kind with thirteen pins and eleven outputs among sixteen signals: its last pin cell is read, and its last output
+// fits.
 const THIRTEEN_PINS: &str = "\
 03 00 00 05 00 05 00 00 00 00 | 21=1 | 1 | run
 03 00 00 05 00 05 00 00 00 00 | 21=2 22=2 | 1 | 4

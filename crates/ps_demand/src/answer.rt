@@ -11,12 +11,12 @@ use ps_required::counting::count_leaves;
 use ps_required::demand::{Demand, DemandFail, MOST_LEAVES};
 use std::alloc::Global;
 
-/// What a SAFEBOOL output of an accepted application demands of the inputs of the same scan and of the signals of the scan before,
-/// made slim: the output is TRUE only where it holds (profile). It answers so for any SAFEBOOL signal.
+/// What a SAFEBOOL output of an accepted application demands of the inputs of the same scan and of the signals of the
+/// scan before, made slim: the output is TRUE only where it holds (profile). It answers so for any SAFEBOOL signal.
 ///
-/// `Large` comes exactly where the demand has over 1,000 leaves before it is made slim, TRUE and FALSE among them. That is decided
-/// by counting, in time linear in the nodes of the application, before anything is built. `Memory` comes only where memory is
-/// wanting.
+/// `Large` comes exactly where the demand has over 1,000 leaves before it is made slim, TRUE and FALSE among them. That
+/// is decided by counting, in time linear in the nodes of the application, before anything is built. `Memory` comes
+/// only where memory is wanting.
 pub fn demand_of(alloc: Global, app: &App, out: u16) -> Result<Demand, DemandFail>
     requires accepted { Accepted app.now }
     requires signal { out < signal_count app.now }

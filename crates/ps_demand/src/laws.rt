@@ -12,8 +12,8 @@ pub fn slim_holds_the_same()
     ensures { SlimHoldsTheSame }
 {}
 
-/// In an accepted application a safe value, as any step reads it, is TRUE only where its demand holds of the scan's inputs and the
-/// signals of the scan before.
+/// In an accepted application a safe value, as any step reads it, is TRUE only where its demand holds of the scan's
+/// inputs and the signals of the scan before.
 pub fn values_meet_demands(app: &App)
     ensures { Accepted app.now → ValuesMeetDemands app.now }
 {
@@ -21,8 +21,8 @@ pub fn values_meet_demands(app: &App)
     each_demands();
 }
 
-/// In an accepted application a safe signal, such as a safe output, is TRUE after a scan only where its demand holds of the scan's inputs
-/// and the signals of the scan before.
+/// In an accepted application a safe signal, such as a safe output, is TRUE after a scan only where its demand holds of
+/// the scan's inputs and the signals of the scan before.
 pub fn scans_meet_demands(app: &App)
     ensures { Accepted app.now → ScansMeetDemands app.now }
 {
@@ -38,8 +38,8 @@ pub fn runs_meet_demands(app: &App)
     each_demands();
 }
 
-/// In an accepted application every leaf of the demand of a safe value or a safe signal is SAFEBOOL, of the slim demand too. So nothing
-/// that an output demands is a BOOL signal.
+/// In an accepted application every leaf of the demand of a safe value or a safe signal is SAFEBOOL, of the slim demand
+/// too. So nothing that an output demands is a BOOL signal.
 pub fn leaves_are_safe(app: &App)
     ensures { Accepted app.now → LeavesAreSafe app.now }
 {}

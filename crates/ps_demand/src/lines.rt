@@ -24,7 +24,8 @@ pub enum NoLines {
     /// Memory is wanting.
     #[error("memory is wanting")]
     Memory,
-    /// The demand of this signal has over 1,000 leaves before it is made slim. It is the first SAFEBOOL output of which that is so.
+    /// The demand of this signal has over 1,000 leaves before it is made slim. It is the first SAFEBOOL output of which
+    /// that is so.
     #[error("the demand of signal {0} has over 1,000 leaves")]
     Large(u16),
 }
@@ -85,13 +86,13 @@ fn write_lines(alloc: Global, app: &App, rows: &[Demand]) -> Result<Bytes, Memor
     Ok(bytes)
 }
 
-/// The lines of what the SAFEBOOL outputs of an accepted application demand, in order of declaration: for each its name, ` needs `,
-/// the text of its demand made slim, and a line feed.
+/// The lines of what the SAFEBOOL outputs of an accepted application demand, in order of declaration: for each its
+/// name, ` needs `, the text of its demand made slim, and a line feed.
 ///
-/// `Large` comes exactly where an output's demand has over 1,000 leaves before it is made slim, with the first such output; that is
-/// decided by counting, before anything is built. Each step is gone through a fixed number of times for all outputs together, and the
-/// work on a demand grows with its leaves. What no output comes to is not built, and what no later step reads is not kept. `Memory`
-/// comes only where memory is wanting.
+/// `Large` comes exactly where an output's demand has over 1,000 leaves before it is made slim, with the first such
+/// output; that is decided by counting, before anything is built. Each step is gone through a fixed number of times for
+/// all outputs together, and the work on a demand grows with its leaves. What no output comes to is not built, and what
+/// no later step reads is not kept. `Memory` comes only where memory is wanting.
 pub fn demand_lines(alloc: Global, app: &App) -> Result<Bytes, NoLines>
     requires { Accepted app.now }
     ensures lines { AreDemandLines app.now result }

@@ -10,7 +10,9 @@ ghost use Rattle.ps_model.specs.Scanning.{pin_at};
 ghost use Rattle.ps_model.specs.Typing.{Accepted, is_safe_signal};
 ghost use Rattle.ps_model.specs.Values.{IsBelow, AreBelow, values_at_pin};
 ghost use Rattle.ps_required.specs.Demand.{constant, negated_signal, negated_at_pin, demand};
-ghost use Rattle.ps_required.specs.Passes.{stands_before, slim_over, safe_slims, all_slims, slim_at_pin, slim_of_need, slim_output, kept_for, saturated, count_in, output_weight, IsNeedOf, AreCounts, AreSlim, AreOutputs, HasSlim};
+ghost use Rattle.ps_required.specs.Passes.{stands_before, slim_over, safe_slims, all_slims, slim_at_pin, slim_of_need};
+ghost use Rattle.ps_required.specs.Passes.{slim_output, kept_for, saturated, count_in, output_weight, IsNeedOf};
+ghost use Rattle.ps_required.specs.Passes.{AreCounts, AreSlim, AreOutputs, HasSlim};
 ghost use Rattle.ps_required.specs.Requirement.{leaf_count};
 ghost use Rattle.ps_required.specs.Slim.{joined, slim};
 ghost use Rattle.ps_required.specs.Views.{requirement};
@@ -50,7 +52,8 @@ fn constant(value: bool) -> Demand
     if value { Demand::True } else { Demand::False }
 }
 
-// "not" of a signal that step k reads, kept where the signal is an input or has no driver before the step, and else TRUE.
+// "not" of a signal that step k reads, kept where the signal is an input or has no driver before the step, and else
+// TRUE.
 fn negated_signal(app: &App, k: u16, signal: u16) -> Demand
     requires { signal < signal_count app.now }
     ensures { requirement result ≡ negated_signal app.now k signal }
@@ -318,8 +321,9 @@ fn first_demands(alloc: Global, app: &App) -> Result<Vec<Demand>, Memory>
     Ok(rows)
 }
 
-// The slim demands of the signals from `first` on to `end` after all steps, where they are not Large. Each step is gone through once,
-// and the demand of a signal is built where one of these comes to it, and kept up to the last step that reads it.
+// The slim demands of the signals from `first` on to `end` after all steps, where they are not Large. Each step is gone
+// through once, and the demand of a signal is built where one of these comes to it, and kept up to the last step that
+// reads it.
 pub(crate) fn slim_signals(
     alloc: Global,
     app: &App,

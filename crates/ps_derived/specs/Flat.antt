@@ -7,10 +7,12 @@ use Rattle.ps_parser.specs.declared.section.Part.TheVariants.{Local}
 use Rattle.ps_parser.specs.declared.section.Declaration.{Declaration}
 use Rattle.ps_parser.specs.declared.section.Section.{Section}
 use Rattle.ps_parser.specs.declared.statement.Target.TheVariants as target
-use Rattle.ps_parser.specs.Tree.{FactorTree, Signal, Pin, Literal, Time, Group, ProductTree, no_factor, factor, SumTree, no_product, product, ArgumentTree, StatementTree, Assign, Call, SourceTree}
+use Rattle.ps_parser.specs.Tree.{FactorTree, Signal, Pin, Literal, Time, Group, ProductTree, no_factor, factor, SumTree}
+use Rattle.ps_parser.specs.Tree.{no_product, product, ArgumentTree, StatementTree, Assign, Call, SourceTree}
 use Rattle.ps_derived.specs.declared.declared.Declared.{Declared}
 use Rattle.ps_derived.specs.declared.library.Library.{Library}
-use Rattle.ps_derived.specs.Bodies.{same, is_input, is_output, is_local, declared_names, first_declared, first_named, type_in, inputs}
+use Rattle.ps_derived.specs.Bodies.{same, is_input, is_output, is_local, declared_names, first_declared, first_named}
+use Rattle.ps_derived.specs.Bodies.{type_in, inputs}
 use Rattle.ps_derived.specs.Dotted.{inside, statement_inside, declaration_inside}
 use Rattle.ps_derived.specs.Spelling.{spelling, spelt_as_declared}
 
@@ -106,7 +108,8 @@ module _ (blocks : List FlatBlock) (ds : List Declared) where
   input_assigned x None = Assign (target.Name x) no_product
   input_assigned x (Some a) = Assign (target.Name (record { text = x.text; place = a.pin.place })) (sum_flat a.value)
 
-  -- a call as it is, or the inputs' assignments and the statements of the copy in the place of a derived instance's call
+  -- a call as it is, or the inputs' assignments and the statements of the copy in the place of a derived instance's
+  -- call
   abbrev pub call_flat : Name → List ArgumentTree → Option DerivedInstance → List StatementTree
   call_flat n args None = Call n (map argument_flat args) ∷ []
   call_flat n args (Some i) =
@@ -137,7 +140,7 @@ abbrev pub blocks_flat : List FlatBlock → List SourceTree → List FlatBlock
 blocks_flat before [] = before
 blocks_flat before (b ∷ bs) = blocks_flat (before ++ block_flat before b ∷ []) bs
 
--- The flat source of a whole text. So each part of a dotted name is spelt as at its own declaration: an instance's name and
--- an output behind its dot in each body, and each other name of a function block before its copies are made.
+-- The flat source of a whole text. So each part of a dotted name is spelt as at its own declaration: an instance's name
+-- and an output behind its dot in each body, and each other name of a function block before its copies are made.
 abbrev pub flat : Library → SourceTree
 flat l = body_flat (blocks_flat [] (map spelt_as_declared l.blocks)) l.program

@@ -4,7 +4,8 @@ use Rattle.ps_parser.specs.declared.name.Name.{Name}
 use Rattle.ps_parser.specs.declared.section.Part.{Part}
 use Rattle.ps_parser.specs.Tree.{SourceTree}
 use Rattle.ps_derived.specs.declared.declared.Declared.{Declared}
-use Rattle.ps_derived.specs.Bodies.{is_input, is_output, declared_names, first_declared, first_named, type_in, made_by, made_of, inputs}
+use Rattle.ps_derived.specs.Bodies.{is_input, is_output, declared_names, first_declared, first_named, type_in, made_by}
+use Rattle.ps_derived.specs.Bodies.{made_of, inputs}
 use Rattle.ps_derived.specs.declared.interface.Interface.{Interface}
 
 -- the name of a function block, what it declares, and its inputs

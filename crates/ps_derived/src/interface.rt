@@ -3,7 +3,8 @@
 ghost use Rattle.std.specs.Prelude.{◌≡◌, ◌∷◌, ◌++◌, [], IfOk, OnOk, if◌then◌else◌};
 ghost use Rattle.std.specs.Option.{option_copied};
 ghost use Rattle.ps_derived.specs.Bodies.{inputs, is_input, is_output};
-ghost use Rattle.ps_derived.specs.Interfaces.{interface_of, interface_named, derived_by, derived_of, is_in, declares_input, declares_output};
+ghost use Rattle.ps_derived.specs.Interfaces.{interface_of, interface_named, derived_by, derived_of, is_in};
+ghost use Rattle.ps_derived.specs.Interfaces.{declares_input, declares_output};
 
 use crate::declared::{Declared, copy_of};
 use crate::scope::Scope;

@@ -11,7 +11,8 @@ use ps_table::Table;
 use std::alloc::Global;
 use std::marker::Model;
 
-/// The declared names of a body in order, with the place of each one's first declaration, which contracts see as a list.
+/// The declared names of a body in order, with the place of each one's first declaration, which contracts see as a
+/// list.
 pub struct Scope {
     declared: Vec<Declared>,
     table: Table,

@@ -7,7 +7,8 @@ ghost use Rattle.ps_parser.specs.StatementView.{statement_tree};
 ghost use Rattle.ps_derived.specs.Bodies.{first_declared};
 ghost use Rattle.ps_derived.specs.Flat.{FlatBlock, block_flat};
 ghost use Rattle.ps_derived.specs.Limits.{IsWithinLimits, counted_to, size_of};
-ghost use Rattle.ps_derived.specs.Counting.{item_at, size_made, names_weight, declared_weight, call_weight, statement_weight};
+ghost use Rattle.ps_derived.specs.Counting.{item_at, size_made, names_weight, declared_weight, call_weight};
+ghost use Rattle.ps_derived.specs.Counting.{statement_weight};
 
 use crate::declared::{Declared, copy_of};
 use crate::interface::Interface;
@@ -19,8 +20,8 @@ use ps_parser::{Name, Part, Source, Statement};
 use ps_table::Table;
 use std::alloc::Global;
 
-/// A function block's name, its number of inputs, and the numbers of declared names and of statements of its flat source.
-/// A number that is over its limit is one more than the limit.
+/// A function block's name, its number of inputs, and the numbers of declared names and of statements of its flat
+/// source. A number that is over its limit is one more than the limit.
 #[derive(Drop)]
 pub struct BlockSize {
     pub name: Name,
@@ -205,7 +206,8 @@ fn is_small(size: &BlockSize) -> bool
 /// Whether a text keeps the limits of rule B4: it has at most `MOST_BLOCKS` function blocks, and its flat source has at
 /// most `MOST_FLAT_NAMES` declared names and `MOST_FLAT_STATEMENTS` statements.
 ///
-/// Time and memory are linear in the text, however many copies the flat source has: each function block is counted once.
+/// Time and memory are linear in the text, however many copies the flat source has: each function block is counted
+/// once.
 pub fn is_within_limits(alloc: Global, library: &Library) -> Result<bool, Memory>
     ensures { IfOk result (λ b. IsTrue b ↔ IsWithinLimits library.now) }
 {

@@ -1,6 +1,7 @@
--- The rules B on function blocks: what breaks each of them, and where. They are tried on every body, also on one that no
--- instance uses. A rule may list a place where a lower rule is broken too, since the lowest rule decides.
-use Rattle.std.specs.Prelude.{Bool, ◌&&◌, ◌||◌, ◌==◌, not, nat_le, List, [], ◌∷◌, ◌++◌, Option, None, Some, map, length, is_some, count_by, codes}
+-- The rules B on function blocks: what breaks each of them, and where. They are tried on every body, also on one that
+-- no instance uses. A rule may list a place where a lower rule is broken too, since the lowest rule decides.
+use Rattle.std.specs.Prelude.{Bool, ◌&&◌, ◌||◌, ◌==◌, not, nat_le, List, [], ◌∷◌, ◌++◌, Option, None, Some, map, length}
+use Rattle.std.specs.Prelude.{is_some, count_by, codes}
 use Rattle.std.specs.List.{flat_map, list_any}
 use Rattle.ps_base.specs.declared.failing.Refusal.{Refusal}
 use Rattle.ps_base.specs.declared.failing.Rule.TheVariants.{B1, B2, B3, B4, B5}
@@ -22,7 +23,8 @@ use Rattle.ps_derived.specs.Bodies.{same, declared_names}
 use Rattle.ps_derived.specs.Flat.{flat}
 use Rattle.ps_derived.specs.Limits.{name_count}
 use Rattle.ps_derived.specs.declared.interface.Interface.{Interface}
-use Rattle.ps_derived.specs.Interfaces.{interface_of, interface_named, derived_by, derived_of, declares_input, declares_output}
+use Rattle.ps_derived.specs.Interfaces.{interface_of, interface_named, derived_by, derived_of, declares_input}
+use Rattle.ps_derived.specs.Interfaces.{declares_output}
 
 -- ---- B1: a function block has the name of an earlier one, of a kind, SAFEBOOL or BOOL
 
@@ -48,7 +50,8 @@ names_signal n = is_same_name n.text (codes "SAFEBOOL") || is_same_name n.text (
 abbrev pub is_one_of : List Name → Name → Bool
 is_one_of names n = list_any (same n) names
 
--- in VAR_INPUT and VAR_OUTPUT a function block has SAFEBOOL and BOOL alone, and the program has none of the function blocks
+-- in VAR_INPUT and VAR_OUTPUT a function block has SAFEBOOL and BOOL alone, and the program has none of the function
+-- blocks
 abbrev pub fits_pin : Heads → List Name → Name → Bool
 fits_pin Block names ty = names_signal ty
 fits_pin Program names ty = not (is_one_of names ty)

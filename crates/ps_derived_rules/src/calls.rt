@@ -55,8 +55,8 @@ fn check_inputs(
     Ok(found)
 }
 
-// Whether some of these inputs is none of the pins. The search ends at the first that is none, so it takes no more steps
-// than there are pins, and one.
+// Whether some of these inputs is none of the pins. The search ends at the first that is none, so it takes no more
+// steps than there are pins, and one.
 fn leaves_out(alloc: Global, inputs: &[Name], pins: &Table) -> Result<bool, Memory>
     ensures { IfOk result (λ b. (ns : List Name) → Has pins.now ns → b ≡ leaves_out inputs.now ns) }
 {

@@ -8,7 +8,8 @@ ghost use Rattle.ps_names.specs.Names.{kind_called};
 ghost use Rattle.ps_names.specs.Offences.{noted, refused};
 ghost use Rattle.ps_names.specs.Rules.{repeated};
 ghost use Rattle.ps_names.specs.Tables.{Has};
-ghost use Rattle.ps_derived_rules.specs.BlockRules.{names_type, names_signal, named_as_type, named_wrongly, block_names};
+ghost use Rattle.ps_derived_rules.specs.BlockRules.{names_type, names_signal, named_as_type, named_wrongly};
+ghost use Rattle.ps_derived_rules.specs.BlockRules.{block_names};
 
 use ps_base::{Memory, Refusal, Rule};
 use ps_model::{Kind, kind_named};

@@ -79,9 +79,9 @@ pub fn check_size(
 /// earliest place. None where the text breaks no rule. Every body is looked at, also one that no instance uses.
 ///
 /// - B1: a function block has the name of an earlier one, of a kind, SAFEBOOL or BOOL; its name;
-/// - B2: a type in VAR_INPUT or VAR_OUTPUT of a function block is neither SAFEBOOL nor BOOL, a function block is a type in
-///   VAR_INPUT or VAR_OUTPUT of the program, or a type in VAR is a function block that does not stand before the body; the
-///   type;
+/// - B2: a type in VAR_INPUT or VAR_OUTPUT of a function block is neither SAFEBOOL nor BOOL, a function block is a type
+///   in VAR_INPUT or VAR_OUTPUT of the program, or a type in VAR is a function block that does not stand before the
+///   body; the type;
 /// - B3: a call of a derived instance names a pin twice or one that is no input, or leaves an input out, or what stands
 ///   behind its dot is no output of it, or is a target; the pin, or the called name where an input is left out;
 /// - B4: there are over `MOST_BLOCKS` function blocks, or the flat source has over `MOST_FLAT_NAMES` declared names or

@@ -4,8 +4,8 @@ use crate::lines::line_at;
 use ps_base::{Bytes, Memory, Place};
 use std::alloc::Global;
 
-// Whether three bytes are a character of no width, or one that turns the direction of a line: U+200B to U+200F, U+202A to U+202E,
-// U+2060 to U+2069, U+FEFF.
+// Whether three bytes are a character of no width, or one that turns the direction of a line: U+200B to U+200F, U+202A
+// to U+202E, U+2060 to U+2069, U+FEFF.
 fn is_unseen(first: u8, second: u8, third: u8) -> bool {
     match (first, second, third) {
         (0xE2, 0x80, 0x8B..=0x8F) | (0xE2, 0x80, 0xAA..=0xAE) => true,

@@ -142,7 +142,8 @@ fn wrong_of(alloc: Global, line: &[u8], parts: &[Part], has_turn: bool) -> Resul
     Ok(list)
 }
 
-/// The first word of a fault line that is not of the form, and what is wanted in its place; empty where each word is of its form.
+/// The first word of a fault line that is not of the form, and what is wanted in its place; empty where each word is of
+/// its form.
 pub(crate) fn fault_told(alloc: Global, line: &[u8]) -> Result<Bytes, Memory> {
     match word_at(line, 2) {
         Some(word) if word.eq_ignore_ascii_case(b"turn") => {

@@ -9,8 +9,8 @@ use std::alloc::Global;
 // As many words of a header as are looked at.
 const MOST_WORDS: usize = 600;
 
-// A walk over the tokens of a text: whether the program has begun, whether the section at hand has inputs, and whether the names at
-// hand are declared.
+// A walk over the tokens of a text: whether the program has begun, whether the section at hand has inputs, and whether
+// the names at hand are declared.
 #[derive(Clone, Copy)]
 struct Walk {
     is_program: bool,
@@ -103,8 +103,8 @@ fn twice_in(alloc: Global, header: &[u8]) -> Result<Bytes, Memory> {
     Ok(list)
 }
 
-/// The inputs of the program of a text that a header has not, or else the names that it has twice, as a list; empty where there is
-/// none.
+/// The inputs of the program of a text that a header has not, or else the names that it has twice, as a list; empty
+/// where there is none.
 pub(crate) fn missing_in(alloc: Global, tokens: &[Token], header: &[u8]) -> Result<Bytes, Memory> {
     let mut list = Bytes::new(alloc);
     let mut walk = BEFORE;

@@ -61,8 +61,8 @@ fn outputs_of(alloc: Global, tokens: &[Token], i: usize, kind: Kind) -> Result<B
     Ok(list)
 }
 
-/// The pins that could stand at a token: the outputs of an instance behind its dot or at its name, and its inputs in its call. Empty
-/// where the token stands at none.
+/// The pins that could stand at a token: the outputs of an instance behind its dot or at its name, and its inputs in
+/// its call. Empty where the token stands at none.
 pub(crate) fn pins_at(alloc: Global, tokens: &[Token], at: usize) -> Result<Bytes, Memory> {
     if at >= 2 && is_dot(tokens, at - 1) {
         if let Some(kind) = kind_at(tokens, at - 2) {

@@ -38,8 +38,8 @@ fn struck(alloc: Global, line: &[u8], number: u32) -> Result<Bytes, Memory> {
     Ok(list)
 }
 
-/// Which of the seats that are still dirty, named by a letter each, was struck last before the line of this number of a fault file,
-/// and in which scan; where none is, the fault before that line.
+/// Which of the seats that are still dirty, named by a letter each, was struck last before the line of this number of a
+/// fault file, and in which scan; where none is, the fault before that line.
 pub fn dirty_told(alloc: Global, text: &[u8], number: u32, seats: &[u8]) -> Result<Bytes, Memory> {
     let mut last: &[u8] = &[];
     let mut found = 0u32;

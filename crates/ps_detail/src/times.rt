@@ -73,8 +73,8 @@ fn wrong_units(alloc: Global, parts: &[u8]) -> Result<Bytes, Memory> {
     )
 }
 
-/// What is wrong with the TIME literal at a place of a text: a fraction, a unit that is missing, unknown or out of order, or a time
-/// that is too long.
+/// What is wrong with the TIME literal at a place of a text: a fraction, a unit that is missing, unknown or out of
+/// order, or a time that is too long.
 pub(crate) fn time_told(alloc: Global, text: &[u8], place: &Place) -> Result<Bytes, Memory> {
     let parts = behind_sign(literal_at(line_at(text, place.line), place.column));
     if parts.contains(&b'.') {

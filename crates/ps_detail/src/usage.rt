@@ -183,8 +183,8 @@ fn wrong_count(alloc: Global, row: &[u8], words: &[&[u8]]) -> Result<Bytes, Memo
     }
 }
 
-/// What is wrong with the first words of a call that are not taken, of which there are at most five: which word, or which one is
-/// missing, and the nearest command or option where the first is none.
+/// What is wrong with the first words of a call that are not taken, of which there are at most five: which word, or
+/// which one is missing, and the nearest command or option where the first is none.
 pub fn wrong_words(alloc: Global, words: &[&[u8]]) -> Result<Bytes, Memory> {
     let Some(first) = words.get(0) else {
         return Ok(Bytes::new(alloc));
@@ -223,7 +223,8 @@ fn add_row(list: &mut Bytes, row: &[u8]) -> Result<(), Memory> {
     Ok(())
 }
 
-/// What helps against words that are not taken: what the command that was meant takes, with an example, or where all commands stand.
+/// What helps against words that are not taken: what the command that was meant takes, with an example, or where all
+/// commands stand.
 pub fn right_words(alloc: Global, words: &[&[u8]]) -> Result<Bytes, Memory> {
     let mut list = Bytes::new(alloc);
     let first = match words.get(0) {

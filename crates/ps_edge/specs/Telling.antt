@@ -1,5 +1,6 @@
 -- What a person is told of a call, besides its answer.
-use Rattle.std.specs.Prelude.{◌≡◌, ◌⊎◌, ◌||◌, ◌++◌, ℕ, Bool, true, false, IsTrue, List, [], Option, Some, None, codes, map, slice_get, IfSome}
+use Rattle.std.specs.Prelude.{◌≡◌, ◌⊎◌, ◌||◌, ◌++◌, ℕ, Bool, true, false, IsTrue, List, [], Option, Some, None, codes}
+use Rattle.std.specs.Prelude.{map, slice_get, IfSome}
 use Rattle.std.specs.List.{flat_map}
 use Rattle.std.specs.Str.{bytes_eq}
 use Rattle.ps_base.specs.declared.failing.Refusal.{Refusal}
@@ -71,8 +72,8 @@ letter_of A = 65
 letter_of B = 66
 letter_of C = 67
 
--- the message of a seat that was outvoted again in the scan behind its healing, by the name of the trace, where there is
--- such a seat, and else nothing
+-- the message of a seat that was outvoted again in the scan behind its healing, by the name of the trace, where there
+-- is such a seat, and else nothing
 abbrev pub IsOfAgain : (words : List (List ℕ)) → Option Again → List ℕ → Type 0
 IsOfAgain words None text = text ≡ []
 IsOfAgain words (Some again) text =
@@ -126,8 +127,8 @@ asks_version None = false
 asks_version (Some word) =
     bytes_eq word (codes "--version") || bytes_eq word (codes "-V") || bytes_eq word (codes "version")
 
--- What is told of words that are not taken: help or the version, where they ask for it, or what is wrong and what helps.
--- In which words the last two are said is left open.
+-- What is told of words that are not taken: help or the version, where they ask for it, or what is wrong and what
+-- helps. In which words the last two are said is left open.
 abbrev pub IsOfWords : (words : List (List ℕ)) → List ℕ → Type 0
 IsOfWords words text =
     (IsTrue (asks_help (slice_get words 0)) × (text ≡ HELP.now))

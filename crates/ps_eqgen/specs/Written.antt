@@ -1,4 +1,5 @@
--- The rows of a group as a loop over its operands writes them, the head of a BLOCK row, and how deep the values of a step are nested.
+-- The rows of a group as a loop over its operands writes them, the head of a BLOCK row, and how deep the values of a
+-- step are nested.
 use Rattle.std.specs.Prelude.{ℕ, ◌+◌, ◌≤◌, List, [], ◌∷◌, ◌++◌, All}
 use Rattle.std.specs.Int.{w16, w32, to_be_bytes}
 use Rattle.ps_base.specs.declared.limits.TheConstants.{MOST_NESTED}

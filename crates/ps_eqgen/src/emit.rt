@@ -89,8 +89,8 @@ pub fn emit_argument(code: &mut Vec<u8>, arg: &Arg, level: u8) -> Result<(), Mem
     }
 }
 
-/// The operand of what stands at a Boolean pin: that of a value which is placed at a level, and a constant for all else.
-/// A TIME literal is FALSE there.
+/// The operand of what stands at a Boolean pin: that of a value which is placed at a level, and a constant for all
+/// else. A TIME literal is FALSE there.
 pub fn argument_operand(arg: &Arg, free: bool, level: u8) -> u16
     requires { level + depth_at_pin (actual arg.now) ≤ WORK_CELLS }
     ensures { result ≡ pin_operand free level (actual arg.now) }

@@ -87,8 +87,8 @@ fn emit_head(
     Ok(())
 }
 
-/// Writes the BLOCK row of a call whose pins are placed: the instance and its kind, its first output signal, the limit of
-/// the call, and the operands of the pins.
+/// Writes the BLOCK row of a call whose pins are placed: the instance and its kind, its first output signal, the limit
+/// of the call, and the operands of the pins.
 pub fn emit_block(
     code: &mut Vec<u8>,
     instance: u16,

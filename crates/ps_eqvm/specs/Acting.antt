@@ -1,6 +1,7 @@
--- What each row leaves of the plain cells. `next` is where the following row stands. The traps of each are tried in the order in which they are
--- written. Profile.
-use Rattle.std.specs.Prelude.{ℕ, ◌+◌, ◌*◌, Bool, true, false, ◌==◌, ◌||◌, not, nat_lt, nat_le, if◌then◌else◌, List, length, map, slice_index, slice_index_or, slice_set, Option, Some, None}
+-- What each row leaves of the plain cells. `next` is where the following row stands. The traps of each are tried in the
+-- order in which they are written. Profile.
+use Rattle.std.specs.Prelude.{ℕ, ◌+◌, ◌*◌, Bool, true, false, ◌==◌, ◌||◌, not, nat_lt, nat_le, if◌then◌else◌, List}
+use Rattle.std.specs.Prelude.{length, map, slice_index, slice_index_or, slice_set, Option, Some, None}
 use Rattle.std.specs.List.{list_any}
 use Rattle.ps_model.specs.declared.kind.Kind.{Kind}
 use Rattle.ps_model.specs.Blocks.{outs, output_count}

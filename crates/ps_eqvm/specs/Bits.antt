@@ -1,5 +1,6 @@
 -- Cells kept as bits: a value bit and an odd bit for each cell, and a byte that counts only where the odd bit is set.
-use Rattle.std.specs.Prelude.{◌≡◌, ℕ, ◌+◌, ◌/◌, ◌%◌, ◌<◌, ◌≤◌, Bool, false, ◌==◌, if◌then◌else◌, nat_lt, Option, Some, None, List, length, map, slice_index}
+use Rattle.std.specs.Prelude.{◌≡◌, ℕ, ◌+◌, ◌/◌, ◌%◌, ◌<◌, ◌≤◌, Bool, false, ◌==◌, if◌then◌else◌, nat_lt, Option, Some}
+use Rattle.std.specs.Prelude.{None, List, length, map, slice_index}
 use Rattle.std.specs.List.{range_with_len}
 use Rattle.std.specs.Int.{bit_at}
 use Rattle.ps_machine.specs.Bytes.{is_no_bit}
@@ -21,8 +22,8 @@ plain_cell value odd counted i = if bit_in odd i == 1 then slice_index counted i
 abbrev pub plain_cells : (value odd counted : List ℕ) → List ℕ
 plain_cells value odd counted = map (plain_cell value odd counted) (range_with_len 0 (length counted))
 
--- A byte that counts is neither 0 nor 1, and the value bit beside it is 0. There are as many words as the cells need, and the bits past the last
--- cell are 0.
+-- A byte that counts is neither 0 nor 1, and the value bit beside it is 0. There are as many words as the cells need,
+-- and the bits past the last cell are 0.
 pub record AreCells (value odd counted : List ℕ) : Type 0 where
   pub value_words : length value ≡ words_for (length counted)
   pub odd_words : length odd ≡ words_for (length counted)

@@ -32,6 +32,7 @@ workings_b sizes = record {
 abbrev pub machine_b : Sizes → (image : List ℕ) → (budget : ℕ) → Machine
 machine_b sizes image budget = machine_of (workings_b sizes) image budget
 
--- the plain bytes of the work cells and signals, in the numbering of the words: work cell k is cell k, and signal s is cell 48 + s
+-- the plain bytes of the work cells and signals, in the numbering of the words: work cell k is cell k, and signal s is
+-- cell 48 + s
 abbrev pub bit_cells : Sizes → List ℕ → List ℕ
 bit_cells sizes cells = take (WORK_CELLS + sizes.signals) (drop WORK_AT (map (λ byte. 255 - byte) cells))

@@ -37,14 +37,15 @@ abbrev pub constant_of : Bool → ℕ
 constant_of true = TRUE
 constant_of false = FALSE
 
--- the operand that has the value of an expression placed at level d: a signal is its own, and an AND or OR has its value in work cell d
+-- the operand that has the value of an expression placed at level d: a signal is its own, and an AND or OR has its
+-- value in work cell d
 abbrev pub operand_at : ℕ → Formula → ℕ
 operand_at d (signal s) = s
 operand_at d (all_of es) = work d
 operand_at d (any_of es) = work d
 
--- The rows that place an expression at level d. A signal needs none. Of an AND or OR each operand is placed at level d + 1; then the first is
--- set into work cell d, and each later one joined to it.
+-- The rows that place an expression at level d. A signal needs none. Of an AND or OR each operand is placed at level d
+-- + 1; then the first is set into work cell d, and each later one joined to it.
 abbrev mutual
   pub expression_rows : ℕ → Formula → List EquationRow
   expression_rows d (signal s) = []
@@ -61,7 +62,8 @@ abbrev mutual
   later_rows d join no_operand = []
   later_rows d join (operand e es) = expression_rows (d + 1) e ++ (join (work d) (operand_at (d + 1) e) ∷ later_rows d join es)
 
--- the rows of what stands at a Boolean pin, at the pin's level: a value is placed, and all else is a constant; a TIME literal is FALSE there
+-- the rows of what stands at a Boolean pin, at the pin's level: a value is placed, and all else is a constant; a TIME
+-- literal is FALSE there
 abbrev pub pin_rows : ℕ → Actual → List EquationRow
 pin_rows d (wired e) = expression_rows d e
 pin_rows d _ = []

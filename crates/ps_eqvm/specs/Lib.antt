@@ -1,5 +1,5 @@
--- What a reader of the promise has to believe: the cells with their plain content, the rows, what each row leaves, the turn, the code of an
--- application, and when cells stand for a state.
+-- What a reader of the promise has to believe: the cells with their plain content, the rows, what each row leaves, the
+-- turn, the code of an application, and when cells stand for a state.
 pub mod Plain
 pub mod Traps
 pub mod Opcodes

@@ -1,11 +1,13 @@
 -- Channel B's cells with their plain content, and the bytes that they are stored as. Profile.
-use Rattle.std.specs.Prelude.{◌≡◌, ℕ, ◌+◌, ◌-◌, ◌*◌, ◌^◌, ◌<◌, List, ◌∷◌, ◌++◌, length, take, drop, map, replicate, slice_index}
+use Rattle.std.specs.Prelude.{◌≡◌, ℕ, ◌+◌, ◌-◌, ◌*◌, ◌^◌, ◌<◌, List, ◌∷◌, ◌++◌, length, take, drop, map, replicate}
+use Rattle.std.specs.Prelude.{slice_index}
 use Rattle.std.specs.Int.{w32, to_be_bytes}
 use Rattle.ps_machine.specs.Bytes.{be4}
-use Rattle.ps_eqvm.specs.declared.layout.TheConstants.{OFFSET_AT, PROGRESS_AT, LAST_AT, PASSED_AT, WORK_AT, WORK_CELLS, SIGNALS_AT, INSTANCE_SIZE}
+use Rattle.ps_eqvm.specs.declared.layout.TheConstants.{OFFSET_AT, PROGRESS_AT, LAST_AT, PASSED_AT, WORK_AT, WORK_CELLS}
+use Rattle.ps_eqvm.specs.declared.layout.TheConstants.{SIGNALS_AT, INSTANCE_SIZE}
 
--- The plain content: where the next row stands in the code, the progress, the time of the last scan that began and the time passed in this
--- one in ms, the 48 work cells and then the signals, and the sixteen bytes of each instance.
+-- The plain content: where the next row stands in the code, the progress, the time of the last scan that began and the
+-- time passed in this one in ms, the 48 work cells and then the signals, and the sixteen bytes of each instance.
 pub record Plain : Type 0 where
   pub offset : ℕ
   pub progress : ℕ

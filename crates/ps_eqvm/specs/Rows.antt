@@ -1,5 +1,6 @@
 -- Rows of equation code, and how one is read. Profile.
-use Rattle.std.specs.Prelude.{ℕ, ◌+◌, ◌-◌, ◌*◌, true, false, ◌==◌, nat_lt, nat_le, if◌then◌else◌, List, length, map, slice_index, Result, Ok, Err}
+use Rattle.std.specs.Prelude.{ℕ, ◌+◌, ◌-◌, ◌*◌, true, false, ◌==◌, nat_lt, nat_le, if◌then◌else◌, List, length, map}
+use Rattle.std.specs.Prelude.{slice_index, Result, Ok, Err}
 use Rattle.std.specs.List.{range_with_len}
 use Rattle.ps_base.specs.declared.limits.TheConstants.{MOST_SIGNALS}
 use Rattle.ps_machine.specs.Bytes.{be2, be4}
@@ -13,8 +14,8 @@ use Rattle.ps_eqvm.specs.declared.operand.Operand.TheVariants.{Cell, Constant, B
 use Rattle.ps_eqvm.specs.declared.trap.Trap.{Trap}
 use Rattle.ps_eqvm.specs.declared.trap.Trap.TheVariants.{UnknownOpcode, PastEnd}
 
--- A row: LAST ends the scan, SET, ALL and ANY give a target the value of an operand or join it, BLOCK steps an instance as a kind, writes its
--- outputs from a signal on, and has a limit in ms and an operand for each pin.
+-- A row: LAST ends the scan, SET, ALL and ANY give a target the value of an operand or join it, BLOCK steps an instance
+-- as a kind, writes its outputs from a signal on, and has a limit in ms and an operand for each pin.
 pub data EquationRow : Type 0 where
   last_row : EquationRow
   set_row : (target operand : ℕ) → EquationRow
@@ -22,7 +23,8 @@ pub data EquationRow : Type 0 where
   any_row : (target operand : ℕ) → EquationRow
   block_row : (instance kind first limit : ℕ) (pins : List ℕ) → EquationRow
 
--- An operand is a signal or a work cell, a constant, or bad. Work cell k is cell k, and signal s is the cell s behind them.
+-- An operand is a signal or a work cell, a constant, or bad. Work cell k is cell k, and signal s is the cell s behind
+-- them.
 abbrev pub operand_of : (signals number : ℕ) → Operand
 operand_of signals number =
     if nat_lt number MOST_SIGNALS then (if nat_lt number signals then Cell (WORK_CELLS + number) else Bad)

@@ -1,7 +1,8 @@
 -- The numbers of the traps. Profile.
 use Rattle.std.specs.Prelude.{ℕ}
 use Rattle.ps_eqvm.specs.declared.trap.Trap.{Trap}
-use Rattle.ps_eqvm.specs.declared.trap.Trap.TheVariants.{UnknownOpcode, PastEnd, PinCount, NotBoolean, OutOfRange, NoInstance, NotLoaded}
+use Rattle.ps_eqvm.specs.declared.trap.Trap.TheVariants.{UnknownOpcode, PastEnd, PinCount, NotBoolean, OutOfRange}
+use Rattle.ps_eqvm.specs.declared.trap.Trap.TheVariants.{NoInstance, NotLoaded}
 
 -- The number of a trap, which means the same in every machine.
 abbrev pub number_of : Trap → ℕ

@@ -1,11 +1,13 @@
--- Channel B (profile): its Begin, one turn, and the report of its cells, for any code and any cells, as the bytes are stored.
+-- Channel B (profile): its Begin, one turn, and the report of its cells, for any code and any cells, as the bytes are
+-- stored.
 use Rattle.std.specs.Prelude.{ℕ, ◌+◌, ◌-◌, Bool, List, map, Result, Ok, Err, Option, bit_and, bit_or}
 use Rattle.ps_model.specs.declared.report.Report.{Report}
 use Rattle.ps_model.specs.declared.sizes.Sizes.{Sizes}
 use Rattle.ps_machine.specs.Bytes.{bit, replaced}
 use Rattle.ps_machine.specs.Reporting.{report_in}
 use Rattle.ps_eqvm.specs.Plain.{Plain, complement, laid_out, parsed}
-use Rattle.ps_eqvm.specs.Rows.{EquationRow, last_row, set_row, all_row, any_row, block_row, operand_of, size_of, fetched}
+use Rattle.ps_eqvm.specs.Rows.{EquationRow, last_row, set_row, all_row, any_row, block_row, operand_of, size_of}
+use Rattle.ps_eqvm.specs.Rows.{fetched}
 use Rattle.ps_eqvm.specs.Acting.{trapped, after_last, byte_of, target_of, after_set, after_join, after_block}
 use Rattle.ps_eqvm.specs.declared.layout.TheConstants.{SIGNALS_AT, WORK_CELLS}
 use Rattle.ps_eqvm.specs.declared.trap.Trap.{Trap}
@@ -27,7 +29,8 @@ carried_out signals instances (Err trap) p = trapped trap p
 abbrev pub turn_plain : (signals instances : ℕ) → List ℕ → Plain → Plain
 turn_plain signals instances code p = carried_out signals instances (fetched code p.offset) p
 
--- the plain cells after the Begin of a scan: offset and progress are 0, the time passed is that since the last scan, and the inputs have their values
+-- the plain cells after the Begin of a scan: offset and progress are 0, the time passed is that since the last scan,
+-- and the inputs have their values
 abbrev pub begin_plain : (now : ℕ) (ins : List Bool) → Plain → Plain
 begin_plain now ins p = record p { offset = 0; progress = 0; last = now; passed = now - p.last; cells = replaced p.cells WORK_CELLS (map bit ins) }
 

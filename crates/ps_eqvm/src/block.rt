@@ -1,6 +1,7 @@
 // BLOCK: one step of an instance.
 
-ghost use Rattle.std.specs.Prelude.{◌≡◌, ◌≢◌, ℕ, ◌+◌, ◌*◌, ◌<◌, ◌≤◌, Option, IfSome, IfNone, if◌then◌else◌, length, false, true};
+ghost use Rattle.std.specs.Prelude.{◌≡◌, ◌≢◌, ℕ, ◌+◌, ◌*◌, ◌<◌, ◌≤◌, Option, IfSome, IfNone, if◌then◌else◌, length};
+ghost use Rattle.std.specs.Prelude.{false, true};
 ghost use Rattle.std.specs.List.{list_any};
 ghost use Rattle.ps_model.specs.Blocks.{output_count};
 ghost use Rattle.ps_model.specs.Budgets.{boolean_count};
@@ -9,7 +10,8 @@ ghost use Rattle.ps_machine.specs.Bytes.{instance_bytes};
 ghost use Rattle.ps_model.specs.PinBits.{pin_of};
 ghost use Rattle.ps_eqvm.specs.Plain.{IsSized};
 ghost use Rattle.ps_eqvm.specs.Rows.{operands};
-ghost use Rattle.ps_eqvm.specs.Acting.{after_block, block_as, trapped, after_step, pin_bytes, pins_on, is_missing, is_odd};
+ghost use Rattle.ps_eqvm.specs.Acting.{after_block, block_as, trapped, after_step, pin_bytes, pins_on, is_missing};
+ghost use Rattle.ps_eqvm.specs.Acting.{is_odd};
 ghost use Rattle.ps_eqvm.specs.Pins.{Reads};
 ghost use Rattle.ps_eqvm.specs.Finding.{found_of};
 

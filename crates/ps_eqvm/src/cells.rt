@@ -1,6 +1,7 @@
 // Cells that are kept as bits.
 
-ghost use Rattle.std.specs.Prelude.{◌≡◌, ℕ, ◌+◌, ◌*◌, ◌/◌, ◌%◌, ◌<◌, ◌≤◌, Bool, List, length, map, slice_index, slice_set};
+ghost use Rattle.std.specs.Prelude.{◌≡◌, ℕ, ◌+◌, ◌*◌, ◌/◌, ◌%◌, ◌<◌, ◌≤◌, Bool, List, length, map, slice_index};
+ghost use Rattle.std.specs.Prelude.{slice_set};
 ghost use Rattle.ps_machine.specs.Bytes.{bit, replaced};
 ghost use Rattle.ps_eqvm.specs.Bits.{bit_in, plain_cell, plain_cells, truth_of, words_for, AreCells};
 ghost use Rattle.ps_eqvm.specs.LowBits.{AreLowBits};

@@ -96,10 +96,10 @@ impl EquationChannel {
         self.plain.clear();
     }
 
-    /// Restores the channel with the code of this image, which has the length of the channel's code, from the plain bytes of the
-    /// signals and instances of another channel, in which a timer is the time since which the state is there: that becomes the
-    /// time that remains of the instance's limit. All times are in ms, and the time of the last scan is this one. `bytes` is
-    /// room for work: what it has then is not said.
+    /// Restores the channel with the code of this image, which has the length of the channel's code, from the plain
+    /// bytes of the signals and instances of another channel, in which a timer is the time since which the state is
+    /// there: that becomes the time that remains of the instance's limit. All times are in ms, and the time of the last
+    /// scan is this one. `bytes` is room for work: what it has then is not said.
     pub fn restore(&mut self, image: &CodeImage, limits: &[u32], time: u32, bytes: &mut [u8])
         requires image { length image.now ≡ length self.old.code }
         requires limits { length limits.now ≡ self.old.sizes.instances }

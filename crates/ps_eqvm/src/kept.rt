@@ -1,6 +1,7 @@
 // The sixteen bytes of an instance, as they are stored: each is 255 less its plain value.
 
-ghost use Rattle.std.specs.Prelude.{◌≡◌, ℕ, ◌+◌, ◌-◌, ◌^◌, ◌<◌, ◌≤◌, IfSome, IfNone, length, slice_index, take, drop, true};
+ghost use Rattle.std.specs.Prelude.{◌≡◌, ℕ, ◌+◌, ◌-◌, ◌^◌, ◌<◌, ◌≤◌, IfSome, IfNone, length, slice_index, take, drop};
+ghost use Rattle.std.specs.Prelude.{true};
 ghost use Rattle.std.specs.Int.{w64, to_be_bytes};
 ghost use Rattle.ps_model.specs.Stored.{stored};
 ghost use Rattle.ps_rows.specs.Counted.{kept_of};

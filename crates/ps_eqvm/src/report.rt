@@ -1,6 +1,7 @@
 // The report that the cells hold.
 
-ghost use Rattle.std.specs.Prelude.{◌≡◌, ◌+◌, ◌-◌, ◌*◌, ◌<◌, ◌≤◌, ◌==◌, ◌&&◌, not, IfOk, length, map, slice_index, slice_index_or, true};
+ghost use Rattle.std.specs.Prelude.{◌≡◌, ◌+◌, ◌-◌, ◌*◌, ◌<◌, ◌≤◌, ◌==◌, ◌&&◌, not, IfOk, length, map, slice_index};
+ghost use Rattle.std.specs.Prelude.{slice_index_or, true};
 ghost use Rattle.std.specs.List.{list_all, range_with_len};
 ghost use Rattle.ps_model.specs.declared.kind.Kind.TheVariants.{Equivalent};
 ghost use Rattle.ps_model.specs.Blocks.{output_count};

@@ -1,6 +1,7 @@
 // The reader of a trace that comes as a stream.
 
-ghost use Rattle.std.specs.Prelude.{◌≡◌, ◌≢◌, ◌≤◌, ◌<◌, ◌+◌, ◌∷◌, [], ℕ, List, IsTrue, Ok, Err, None, length, min, vec_len, IfOk, OnOk, OnErr, IsErrOf};
+ghost use Rattle.std.specs.Prelude.{◌≡◌, ◌≢◌, ◌≤◌, ◌<◌, ◌+◌, ◌∷◌, [], ℕ, List, IsTrue, Ok, Err, None, length, min};
+ghost use Rattle.std.specs.Prelude.{vec_len, IfOk, OnOk, OnErr, IsErrOf};
 ghost use Rattle.ps_base.specs.declared.failing.Refusal.{Refusal};
 ghost use Rattle.ps_base.specs.declared.failing.Rule.{Rule};
 ghost use Rattle.ps_model.specs.Network.{input_count};

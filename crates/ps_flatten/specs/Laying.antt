@@ -1,5 +1,5 @@
--- Function blocks that are laid flat, as the program keeps them: what stands in the place of each declaration and statement,
--- with copies that are named and not written.
+-- Function blocks that are laid flat, as the program keeps them: what stands in the place of each declaration and
+-- statement, with copies that are named and not written.
 use Rattle.std.specs.Prelude.{◌≡◌, ℕ, Bool, List, [], ◌∷◌, ◌++◌, Option, None, Some, map, slice_get, take}
 use Rattle.std.specs.List.{flat_map, AllByRecursion}
 use Rattle.ps_parser.specs.declared.name.Name.{Name}

@@ -36,8 +36,8 @@ fn lay_block(alloc: Global, blocks: &Laids, source: &Source) -> Result<Laid, Mem
     })
 }
 
-/// These function blocks laid flat with their names spelt as they declare them, each over those that stand before it. Time
-/// and memory are linear in the text.
+/// These function blocks laid flat with their names spelt as they declare them, each over those that stand before it.
+/// Time and memory are linear in the text.
 pub fn lay_blocks(alloc: Global, sources: &[Source]) -> Result<Laids, Memory>
     ensures { IfOk result (λ laid. AreLaid (blocks_seen laid) (blocks_flat [] (map spelt_as_declared sources.now))) }
 {

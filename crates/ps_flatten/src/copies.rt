@@ -1,4 +1,5 @@
-// Copies of function blocks, written from the outermost instance inwards: each name is written once, with its whole path.
+// Copies of function blocks, written from the outermost instance inwards: each name is written once, with its whole
+// path.
 
 ghost use Rattle.std.specs.Prelude.{◌≡◌, ◌++◌, IfOk, OnOk, length, map, take};
 ghost use Rattle.std.specs.List.{flat_map};

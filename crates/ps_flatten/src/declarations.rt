@@ -148,7 +148,8 @@ fn add_part(
     Ok(())
 }
 
-/// What stands in the place of the declarations of a function block, in the order of a copy: its inputs, its outputs and its own.
+/// What stands in the place of the declarations of a function block, in the order of a copy: its inputs, its outputs
+/// and its own.
 pub fn declaration_pieces(
     alloc: Global,
     blocks: &Laids,

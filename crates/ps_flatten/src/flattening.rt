@@ -39,13 +39,13 @@ fn build(alloc: Global, library: &Library) -> Result<Source, Memory>
     })
 }
 
-/// The flat source of a text with function blocks: its program, in which copies stand in the place of derived instances.
-/// A program without function blocks is its own flat source, and is handed on as it is.
+/// The flat source of a text with function blocks: its program, in which copies stand in the place of derived
+/// instances. A program without function blocks is its own flat source, and is handed on as it is.
 ///
 /// A call that leaves an input of a derived instance out has no copy; rule B3 refuses such a text.
 ///
-/// Time and memory are in proportion to the text and to the flat source: function blocks are not copied into one another, and each
-/// copy is written once, into the flat source.
+/// Time and memory are in proportion to the text and to the flat source: function blocks are not copied into one
+/// another, and each copy is written once, into the flat source.
 pub fn flatten(alloc: Global, library: Library) -> Result<Source, Memory>
     requires { EachCallGives library }
     ensures flattens { IfOk result (λ s. s ≡ flat library) }

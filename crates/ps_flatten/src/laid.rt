@@ -13,24 +13,24 @@ use ps_table::Table;
 use std::alloc::Global;
 use std::marker::Model;
 
-/// What stands in the place of a declaration: one without derived instances, or what a copy of a function block declares. The
-/// function block is given by its place in the text, and the name is that of the instance.
+/// What stands in the place of a declaration: one without derived instances, or what a copy of a function block
+/// declares. The function block is given by its place in the text, and the name is that of the instance.
 #[derive(Drop)]
 pub enum DeclarationPiece {
     Own(Declaration),
     Copy(Name, usize),
 }
 
-/// What stands in the place of a statement: one without derived instances, or the statements of a copy of a function block. The
-/// function block is given by its place in the text, and the name is that of the instance.
+/// What stands in the place of a statement: one without derived instances, or the statements of a copy of a function
+/// block. The function block is given by its place in the text, and the name is that of the instance.
 #[derive(Drop)]
 pub enum StatementPiece {
     Own(Statement),
     Copy(Name, usize),
 }
 
-/// A function block: what bodies see of it, and what it has in the place of its declarations, in the order of a copy, and of
-/// its statements.
+/// A function block: what bodies see of it, and what it has in the place of its declarations, in the order of a copy,
+/// and of its statements.
 pub struct Laid {
     pub interface: Interface,
     pub declarations: Vec<DeclarationPiece>,

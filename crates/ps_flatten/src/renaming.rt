@@ -4,7 +4,8 @@ ghost use Rattle.std.specs.Prelude.{◌≡◌, IfOk, map};
 ghost use Rattle.ps_parser.specs.SumView.{factor_tree, product_tree, sum_tree};
 ghost use Rattle.ps_parser.specs.ArgumentView.{argument_tree};
 ghost use Rattle.ps_parser.specs.StatementView.{statement_tree};
-ghost use Rattle.ps_derived.specs.Renaming.{factor_renamed, product_renamed, sum_renamed, target_renamed, argument_renamed, statement_renamed};
+ghost use Rattle.ps_derived.specs.Renaming.{factor_renamed, product_renamed, sum_renamed, target_renamed};
+ghost use Rattle.ps_derived.specs.Renaming.{argument_renamed, statement_renamed};
 ghost use Rattle.ps_derived.specs.Dotted.{statement_inside};
 ghost use Rattle.ps_derived.specs.Spelling.{as_declared};
 ghost use Rattle.ps_flatten.specs.Laying.{renamed};
@@ -18,8 +19,8 @@ use ps_parser::{
 };
 use std::alloc::Global;
 
-/// What the names of a body become: names inside an instance, behind its name and a dot; or the same names, spelt as these
-/// declarations spell them.
+/// What the names of a body become: names inside an instance, behind its name and a dot; or the same names, spelt as
+/// these declarations spell them.
 #[derive(Clone, Copy)]
 pub enum Renaming<'a> {
     Inside(&'a Name),

@@ -54,8 +54,8 @@ fn argument_of<'a>(
     }
 }
 
-// The assignment of an input of an instance, at the place of its pin's name. Rule B3 leaves no input without an argument;
-// such a one would be given nothing.
+// The assignment of an input of an instance, at the place of its pin's name. Rule B3 leaves no input without an
+// argument; such a one would be given nothing.
 fn input_assigned(
     alloc: Global,
     body: &Body,

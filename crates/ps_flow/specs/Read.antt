@@ -1,5 +1,6 @@
 -- Which texts are those of a certificate, and where a text first is none.
-use Rattle.std.specs.Prelude.{◌≡◌, ◌≢◌, ℕ, List, [], ◌∷◌, ◌++◌, ◌+◌, ◌<◌, ◌≤◌, ◌==◌, ◌⊎◌, All, Result, Ok, Err, length, map, if◌then◌else◌}
+use Rattle.std.specs.Prelude.{◌≡◌, ◌≢◌, ℕ, List, [], ◌∷◌, ◌++◌, ◌+◌, ◌<◌, ◌≤◌, ◌==◌, ◌⊎◌, All, Result, Ok, Err, length}
+use Rattle.std.specs.Prelude.{map, if◌then◌else◌}
 use Rattle.std.specs.List.{onto_first}
 use Rattle.ps_base.specs.declared.failing.Fail.{Fail}
 use Rattle.ps_base.specs.declared.failing.Fail.TheVariants.{Memory, Refused}
@@ -52,8 +53,8 @@ pub record IsCertificate (text : List ℕ) (lines : List CertLine) : Type 0 wher
   pub numbered : All IsNumbered lines
   pub within : IsWithin text
 
--- What a text is read as: the lines of which it is the certificate, or the refusal of a text that is none. Want of memory
--- is the one free answer.
+-- What a text is read as: the lines of which it is the certificate, or the refusal of a text that is none. Want of
+-- memory is the one free answer.
 abbrev pub ReadsAs : List ℕ → Result (List CertLine) Fail → Type 0
 ReadsAs text (Ok lines) = IsCertificate text lines
 ReadsAs text (Err Memory) = Unit {0}

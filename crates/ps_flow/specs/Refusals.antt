@@ -1,5 +1,6 @@
 -- Where an application breaks a rule of SAFEBOOL flow.
-use Rattle.std.specs.Prelude.{◌≡◌, ◌≢◌, ◌⊎◌, ℕ, true, false, List, ◌<◌, length, slice_get, slice_index_or, Option, Some, None}
+use Rattle.std.specs.Prelude.{◌≡◌, ◌≢◌, ◌⊎◌, ℕ, true, false, List, ◌<◌, length, slice_get, slice_index_or, Option, Some}
+use Rattle.std.specs.Prelude.{None}
 use Rattle.ps_model.specs.declared.kind.Ty.{Ty}
 use Rattle.ps_model.specs.declared.kind.Ty.TheVariants.{Safe, Time}
 use Rattle.ps_model.specs.Action.{Actual, Action, free, literal, time, wired, assigns, calls}

@@ -18,7 +18,8 @@ pub enum LineRule {
     Or,
 }
 
-/// The lines that a line rests on, by their numbers, counted from 1. Contracts see them as a list of numbers of 32 bits.
+/// The lines that a line rests on, by their numbers, counted from 1. Contracts see them as a list of numbers of 32
+/// bits.
 #[derive(Drop, Debug)]
 pub struct Premises {
     items: Vec<u32>,

@@ -19,7 +19,8 @@ pub fn refused_is_not_accepted()
         IsFirstBreach net rule step pin → Accepted net → ⊥ }
 {}
 
-/// `derive` has one answer for an application, but for want of memory: one certificate, or one rule at one step and pin.
+/// `derive` has one answer for an application, but for want of memory: one certificate, or one rule at one step and
+/// pin.
 pub fn one_derivation()
     ensures { (net : Network) → (a b : Result (List CertLine) FlowFail) → Certifies net a → Certifies net b →
         a ≢ Err FlowFail.Memory → b ≢ Err FlowFail.Memory → a ≡ b }
@@ -43,8 +44,8 @@ pub fn one_reading()
         a ≢ Err Fail.Memory → b ≢ Err Fail.Memory → a ≡ b }
 {}
 
-/// What `write_certificate` gives of a certificate is read back by `read_certificate` as that certificate, where the text
-/// is within the limits and memory is not wanting.
+/// What `write_certificate` gives of a certificate is read back by `read_certificate` as that certificate, where the
+/// text is within the limits and memory is not wanting.
 pub fn written_is_read_back()
     ensures { (lines : List CertLine) (a : Result (List CertLine) Fail) → All IsNumbered lines → IsWithin (written lines) →
         ReadsAs (written lines) a → a ≢ Err Fail.Memory → a ≡ Ok lines }

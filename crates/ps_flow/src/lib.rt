@@ -1,4 +1,5 @@
-//! SAFEBOOL flow: which applications are accepted (PLCopen TC5), the certificate of each, and the text of a certificate.
+//! SAFEBOOL flow: which applications are accepted (PLCopen TC5), the certificate of each, and the text of a
+//! certificate.
 //!
 //! Rooms: `flow` derives an application; `certificate` has the lines that it gives, and `refusal` why it gives none;
 //! `text` writes a certificate and `reading` reads one; `laws` says what holds of all answers.

@@ -1,6 +1,7 @@
 // The text of a certificate, as it is read.
 
-ghost use Rattle.std.specs.Prelude.{◌≡◌, ◌≢◌, ◌++◌, IsTrue, false, ◌∷◌, ◌+◌, ◌<◌, ◌≤◌, ◌^◌, ◌==◌, ℕ, List, All, IfOk, IfErr, IfSome, IfNone, OnOk, decimal, length, map, option_copied};
+ghost use Rattle.std.specs.Prelude.{◌≡◌, ◌≢◌, ◌++◌, IsTrue, false, ◌∷◌, ◌+◌, ◌<◌, ◌≤◌, ◌^◌, ◌==◌, ℕ, List, All, IfOk};
+ghost use Rattle.std.specs.Prelude.{IfErr, IfSome, IfNone, OnOk, decimal, length, map, option_copied};
 ghost use Rattle.ps_base.specs.declared.failing.Fail.TheVariants.{Refused};
 ghost use Rattle.ps_flow.specs.declared.certificate.CertLine.{CertLine};
 ghost use Rattle.ps_flow.specs.declared.certificate.LineRule.{LineRule};

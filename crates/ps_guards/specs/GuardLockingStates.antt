@@ -1,7 +1,9 @@
 -- The states of SF_GuardLocking.
 use Rattle.std.specs.Prelude.{ℕ, false}
 use Rattle.ps_guards.specs.declared.guard_locking.Phase.{Phase}
-use Rattle.ps_guards.specs.declared.guard_locking.Phase.TheVariants.{Idle, Init, Locked, WaitForReset, ClosedUnlocked, OpenUnlocked, WaitForOperator, SafetyReturn, ResetError1, ResetError2, ResetError3, SafetyLost}
+use Rattle.ps_guards.specs.declared.guard_locking.Phase.TheVariants.{Idle, Init, Locked, WaitForReset, ClosedUnlocked}
+use Rattle.ps_guards.specs.declared.guard_locking.Phase.TheVariants.{OpenUnlocked, WaitForOperator, SafetyReturn}
+use Rattle.ps_guards.specs.declared.guard_locking.Phase.TheVariants.{ResetError1, ResetError2, ResetError3, SafetyLost}
 use Rattle.ps_guards.specs.declared.guard_locking.GuardLockingState.{GuardLockingState}
 use Rattle.ps_model.specs.Kept.{Kept}
 

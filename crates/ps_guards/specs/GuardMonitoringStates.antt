@@ -1,7 +1,10 @@
 -- The states of SF_GuardMonitoring.
 use Rattle.std.specs.Prelude.{ℕ, false}
 use Rattle.ps_guards.specs.declared.guard_monitoring.Phase.{Phase}
-use Rattle.ps_guards.specs.declared.guard_monitoring.Phase.TheVariants.{Idle, Init, OpenGuardRequest, GuardOpened, WaitForSwitch2, WaitForSwitch1, GuardClosed, WaitForReset, Enabled, ResetError, DiscrepancyError1, DiscrepancyError2}
+use Rattle.ps_guards.specs.declared.guard_monitoring.Phase.TheVariants.{Idle, Init, OpenGuardRequest, GuardOpened}
+use Rattle.ps_guards.specs.declared.guard_monitoring.Phase.TheVariants.{WaitForSwitch2, WaitForSwitch1, GuardClosed}
+use Rattle.ps_guards.specs.declared.guard_monitoring.Phase.TheVariants.{WaitForReset, Enabled, ResetError}
+use Rattle.ps_guards.specs.declared.guard_monitoring.Phase.TheVariants.{DiscrepancyError1, DiscrepancyError2}
 use Rattle.ps_guards.specs.declared.guard_monitoring.GuardMonitoringState.{GuardMonitoringState}
 use Rattle.ps_model.specs.Kept.{Kept}
 

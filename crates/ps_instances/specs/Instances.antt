@@ -14,7 +14,10 @@ use Rattle.ps_actuators.specs.SafetyRequestStates as safety_request
 use Rattle.ps_actuators.specs.OutControlStates as out_control
 use Rattle.ps_actuators.specs.EdmStates as edm
 use Rattle.ps_instances.specs.declared.instance.Instance.{Instance}
-use Rattle.ps_instances.specs.declared.instance.Instance.TheVariants.{Equivalent, Antivalent, EmergencyStop, Espe, ModeSelector, TwoHandTwo, TwoHandThree, GuardMonitoring, GuardLocking, EnableSwitch, SafetyRequest, OutControl, Edm}
+use Rattle.ps_instances.specs.declared.instance.Instance.TheVariants.{Equivalent, Antivalent, EmergencyStop, Espe}
+use Rattle.ps_instances.specs.declared.instance.Instance.TheVariants.{ModeSelector, TwoHandTwo, TwoHandThree}
+use Rattle.ps_instances.specs.declared.instance.Instance.TheVariants.{GuardMonitoring, GuardLocking, EnableSwitch}
+use Rattle.ps_instances.specs.declared.instance.Instance.TheVariants.{SafetyRequest, OutControl, Edm}
 
 -- An instance of a kind, and what is kept of it.
 pub record KeptInstance : Type 0 where

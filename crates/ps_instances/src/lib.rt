@@ -1,4 +1,5 @@
-//! The instances of the plain evaluator: an instance of a block takes a step by its kind, over the pins of its call. None takes memory.
+//! The instances of the plain evaluator: an instance of a block takes a step by its kind, over the pins of its call.
+//! None takes memory.
 //!
 //! - `instance`: the state of an instance's block, by its kind.
 //! - `pins`: the pins of a call, and what its step shows.

@@ -1,5 +1,6 @@
 -- What stands between tokens, and the places of a text.
-use Rattle.std.specs.Prelude.{◌≡◌, ◌==◌, ℕ, ◌+◌, ◌-◌, ◌<◌, ◌≤◌, Bool, ◌||◌, not, List, length, reverse, count_by, codes, slice_index}
+use Rattle.std.specs.Prelude.{◌≡◌, ◌==◌, ℕ, ◌+◌, ◌-◌, ◌<◌, ◌≤◌, Bool, ◌||◌, not, List, length, reverse, count_by, codes}
+use Rattle.std.specs.Prelude.{slice_index}
 use Rattle.std.specs.List.{slice_range, take_while}
 use Rattle.ps_base.specs.declared.failing.Place.{Place}
 

@@ -1,5 +1,6 @@
 -- The tokens of a text, and the rules by which a text has none.
-use Rattle.std.specs.Prelude.{◌≡◌, ℕ, ◌+◌, ◌<◌, ◌≤◌, ◌⊎◌, true, false, List, [], ◌∷◌, Result, Ok, Err, length, slice_index, take}
+use Rattle.std.specs.Prelude.{◌≡◌, ℕ, ◌+◌, ◌<◌, ◌≤◌, ◌⊎◌, true, false, List, [], ◌∷◌, Result, Ok, Err, length}
+use Rattle.std.specs.Prelude.{slice_index, take}
 use Rattle.std.specs.List.{slice_range}
 use Rattle.ps_base.specs.declared.limits.TheConstants.{LARGEST_SOURCE, LONGEST_NAME}
 use Rattle.ps_base.specs.declared.failing.Fail.{Fail}

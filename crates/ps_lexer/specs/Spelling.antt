@@ -43,7 +43,8 @@ pub record IsName (bytes : List ℕ) : Type 0 where
   pub short : length bytes ≤ LONGEST_NAME
   pub no_keyword : (k : Word) → folded bytes ≡ spelling k → ⊥
 
--- where the form is a name, its bytes are a name of the language, and where it is a TIME literal, its value has its limit
+-- where the form is a name, its bytes are a name of the language, and where it is a TIME literal, its value has its
+-- limit
 abbrev pub IsWellFormed : Form → Type 0
 IsWellFormed (form.Name bytes) = IsName bytes
 IsWellFormed (form.Time v) = v ≤ LARGEST_TIME

@@ -1,6 +1,7 @@
 // The tokens of a text.
 
-ghost use Rattle.std.specs.Prelude.{◌≡◌, ℕ, ◌+◌, ◌<◌, ◌≤◌, ◌↔◌, true, false, length, slice_index, MatchOption, IsTrue, IfOk, IfErr, IfSome, IfNone, take, drop};
+ghost use Rattle.std.specs.Prelude.{◌≡◌, ℕ, ◌+◌, ◌<◌, ◌≤◌, ◌↔◌, true, false, length, slice_index, MatchOption, IsTrue};
+ghost use Rattle.std.specs.Prelude.{IfOk, IfErr, IfSome, IfNone, take, drop};
 ghost use Rattle.ps_lexer.specs.Spelling.{folded, spelling, begins_name, continues_name};
 ghost use Rattle.ps_lexer.specs.TimeLiterals.{IsTimeHead, continues_time};
 ghost use Rattle.ps_lexer.specs.Gaps.{is_blank, place_after, IsBlockComment, IsLineComment, IsOpenComment};

@@ -1,5 +1,6 @@
 -- The texts that a load runs over: an application with eight emergency stops, and a trace of it.
-use Rattle.std.specs.Prelude.{ℕ, ◌*◌, ◌+◌, ◌/◌, ◌%◌, ◌^◌, Bool, not, ◌&&◌, ◌==◌, if◌then◌else◌, List, [], ◌∷◌, ◌++◌, map, flat_map, codes, decimal}
+use Rattle.std.specs.Prelude.{ℕ, ◌*◌, ◌+◌, ◌/◌, ◌%◌, ◌^◌, Bool, not, ◌&&◌, ◌==◌, if◌then◌else◌, List, [], ◌∷◌, ◌++◌}
+use Rattle.std.specs.Prelude.{map, flat_map, codes, decimal}
 use Rattle.std.specs.List.{join_by, range_with_len}
 
 -- the numbers of the blocks, each of which has an input of its own

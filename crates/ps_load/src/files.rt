@@ -1,6 +1,7 @@
 // The texts of a load, as files.
 
-ghost use Rattle.std.specs.Prelude.{◌≡◌, ◌≤◌, ◌+◌, ◌-◌, true, ℕ, List, Some, IsSome, IsNone, IsErr, IfOk, OnOk, OnErr, ◌↔◌, length, min};
+ghost use Rattle.std.specs.Prelude.{◌≡◌, ◌≤◌, ◌+◌, ◌-◌, true, ℕ, List, Some, IsSome, IsNone, IsErr, IfOk, OnOk, OnErr};
+ghost use Rattle.std.specs.Prelude.{◌↔◌, length, min};
 ghost use Rattle.ps_load.specs.Holding.{held_of, faults_of};
 ghost use Rattle.ps_outside.specs.Outside.{Rose, Reads, CountsStay, last_count};
 
@@ -8,11 +9,11 @@ use crate::texts::{read_app, read_trace};
 use ps_outside::{Failed, Files};
 use std::marker::Model;
 
-/// The texts that a load runs over, under the names `app` and `trace`. They always tell their bytes, and reading these two
-/// never fails.
+/// The texts that a load runs over, under the names `app` and `trace`. They always tell their bytes, and reading these
+/// two never fails.
 ///
-/// The bytes are made where they are read, and take no memory. The trace of a load N has 1000 N scans, 10 ms apart. There is one
-/// count of faults for all names that are not held.
+/// The bytes are made where they are read, and take no memory. The trace of a load N has 1000 N scans, 10 ms apart.
+/// There is one count of faults for all names that are not held.
 #[derive(Drop)]
 pub struct LoadFiles {
     number: u32,

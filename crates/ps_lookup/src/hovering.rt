@@ -79,8 +79,8 @@ fn told_at(alloc: Global, tokens: &[Token], at: usize) -> Result<Option<Bytes>, 
 }
 
 /// What is told of the name at a place of a text: of a kind its pins, each with its type and the value that it has
-/// where it is free; of a pin the same; of a declared name its type and section. Nothing where no name stands there that
-/// is known, or the text has no tokens.
+/// where it is free; of a pin the same; of a declared name its type and section. Nothing where no name stands there
+/// that is known, or the text has no tokens.
 pub fn hover(alloc: Global, text: &[u8], place: Place) -> Result<Option<Bytes>, Memory> {
     let Some(tokens) = tokens_of(alloc, text)? else {
         return Ok(None);

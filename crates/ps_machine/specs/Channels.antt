@@ -1,4 +1,5 @@
--- One channel: its bytes and turn count, its own events, and when it has ended. Worlds of two and three channels are made of these.
+-- One channel: its bytes and turn count, its own events, and when it has ended. Worlds of two and three channels are
+-- made of these.
 use Rattle.std.specs.Prelude.{ℕ, ◌+◌, Bool, ◌||◌, not, nat_le, List, [], ◌∷◌}
 use Rattle.ps_model.specs.declared.channel.Region.{Region}
 use Rattle.ps_model.specs.declared.channel.Region.TheVariants.{Code, Cells}
@@ -12,8 +13,8 @@ pub record Channel_state : Type 0 where
   pub cells : List ℕ
   pub turns : ℕ
 
--- What concerns one channel: a scan begins, the channel makes a turn, bytes of a region are replaced, the scan closes, the channel starts
--- anew, and it is remade with cells that were made for it.
+-- What concerns one channel: a scan begins, the channel makes a turn, bytes of a region are replaced, the scan closes,
+-- the channel starts anew, and it is remade with cells that were made for it.
 pub data Own : Type 0 where
   begins : (now : ℕ) (ins : List Bool) → Own
   makes_turn : Own

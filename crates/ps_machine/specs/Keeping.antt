@@ -1,5 +1,5 @@
--- That a machine keeps the meaning of an application: what each compiler promises, and all that a world of channels asks of it.
--- `Stands w t cells` says when cells stand for the state w after a scan at time t.
+-- That a machine keeps the meaning of an application: what each compiler promises, and all that a world of channels
+-- asks of it. `Stands w t cells` says when cells stand for the state w after a scan at time t.
 use Rattle.std.specs.Prelude.{◌≡◌, ◌≢◌, ℕ, ◌-◌, ◌^◌, ◌<◌, ◌≤◌, Bool, List, length, Some}
 use Rattle.ps_model.specs.declared.channel.Progress.TheVariants.{Running, Done}
 use Rattle.ps_model.specs.Network.{Network, input_count}
@@ -7,7 +7,8 @@ use Rattle.ps_model.specs.Scanning.{State, Solves, block_in}
 use Rattle.ps_model.specs.Meaning.{first_state, report}
 use Rattle.ps_machine.specs.Machines.{Machine, turned}
 
--- The time that passed is that since the scan of old. Nothing reads the age of an idle block, so where all are idle it may be any.
+-- The time that passed is that since the scan of old. Nothing reads the age of an idle block, so where all are idle it
+-- may be any.
 abbrev pub Passes : (old : State) (t now dt : ℕ) → Type 0
 Passes old t now dt = (i : ℕ) → (block_in old i).code ≢ 0 → dt ≡ now - t
 
@@ -24,8 +25,9 @@ pub record RunsTo (net : Network) (m : Machine) (Stands : State → ℕ → List
   pub within : turns ≤ m.budget
   pub runs : RunsFor net m Stands turns cells w now
 
--- A machine keeps the meaning of an application: blank cells stand for the first state, and from cells that stand for any state a scan
--- that is not earlier ends without a trap within the budget, in cells that stand for the state that solves it.
+-- A machine keeps the meaning of an application: blank cells stand for the first state, and from cells that stand for
+-- any state a scan that is not earlier ends without a trap within the budget, in cells that stand for the state that
+-- solves it.
 pub record Keeps (net : Network) (m : Machine) (Stands : State → ℕ → List ℕ → Type 0) : Type 0 where
   pub blank : Stands (first_state net) 0 m.blank
   pub scan : (old new : State) (ins : List Bool) (t now dt : ℕ) (cells : List ℕ) → t ≤ now → now < 2 ^ 32 → length ins ≡ input_count net →

@@ -3,7 +3,8 @@ use Rattle.std.specs.Prelude.{ℕ, zero, suc, Bool, List, Option}
 use Rattle.ps_model.specs.declared.channel.Progress.{Progress}
 use Rattle.ps_model.specs.declared.report.Report.{Report}
 
--- How the cells of a channel change and what they say, whatever code it has. Cells and code are bytes as they are stored.
+-- How the cells of a channel change and what they say, whatever code it has. Cells and code are bytes as they are
+-- stored.
 pub record Workings : Type 0 where
   -- the cells after the Begin of a scan with this time and these inputs
   pub begin : (now : ℕ) (ins : List Bool) → List ℕ → List ℕ

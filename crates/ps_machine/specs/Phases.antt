@@ -13,7 +13,8 @@ pub record AtRest (net : Network) (m : Machine) (Stands : State → ℕ → List
   pub stands : Stands (old_state net past) (last_time past) s.cells
   pub early : last_time past ≤ latest
 
--- Its code is as compiled and its cells are on their way to the state of the scan that began, by as many turns as are counted.
+-- Its code is as compiled and its cells are on their way to the state of the scan that began, by as many turns as are
+-- counted.
 pub record Midway (net : Network) (m : Machine) (Stands : State → ℕ → List ℕ → Type 0) (latest : ℕ) (s : Channel_state) (past : Past) : Type 0 where
   pub code : s.code ≡ m.image
   pub from : List ℕ

@@ -1,5 +1,6 @@
 -- The report that plain cells hold, where the signal bytes begin at a place and the instances' bytes follow them.
-use Rattle.std.specs.Prelude.{ℕ, ◌+◌, ◌-◌, ◌*◌, Bool, ◌&&◌, ◌==◌, not, if◌then◌else◌, List, map, slice_index, slice_index_or, Option, Some, None}
+use Rattle.std.specs.Prelude.{ℕ, ◌+◌, ◌-◌, ◌*◌, Bool, ◌&&◌, ◌==◌, not, if◌then◌else◌, List, map, slice_index}
+use Rattle.std.specs.Prelude.{slice_index_or, Option, Some, None}
 use Rattle.std.specs.List.{list_all, range_with_len}
 use Rattle.ps_model.specs.declared.kind.Kind.TheVariants.{Equivalent}
 use Rattle.ps_model.specs.declared.report.Diag.{Diag}

@@ -1,6 +1,7 @@
--- When cells stand for a state of an application. `Says i timer age` is how the timer of instance i says an age: `Since t` in channels A and C,
--- and `Remains` of the instance's limit in channel B.
-use Rattle.std.specs.Prelude.{◌≡◌, ℕ, ◌+◌, ◌*◌, ◌<◌, ◌≤◌, ◌==◌, if◌then◌else◌, false, List, [], ◌∷◌, length, slice_index}
+-- When cells stand for a state of an application. `Says i timer age` is how the timer of instance i says an age: `Since
+-- t` in channels A and C, and `Remains` of the instance's limit in channel B.
+use Rattle.std.specs.Prelude.{◌≡◌, ℕ, ◌+◌, ◌*◌, ◌<◌, ◌≤◌, ◌==◌, if◌then◌else◌, false, List, [], ◌∷◌, length}
+use Rattle.std.specs.Prelude.{slice_index}
 use Rattle.ps_model.specs.declared.kind.Kind.{Kind}
 use Rattle.ps_model.specs.Action.{Action, assigns, calls}
 use Rattle.ps_model.specs.Blocks.{Block_state}

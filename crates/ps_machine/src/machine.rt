@@ -1,6 +1,7 @@
 // The trait of a machine.
 
-ghost use Rattle.std.specs.Prelude.{◌≡◌, ℕ, List, ◌+◌, ◌*◌, ◌<◌, ◌≤◌, false, true, IfOk, Some, None, is_err, length, nat_lt};
+ghost use Rattle.std.specs.Prelude.{◌≡◌, ℕ, List, ◌+◌, ◌*◌, ◌<◌, ◌≤◌, false, true, IfOk, Some, None, is_err, length};
+ghost use Rattle.std.specs.Prelude.{nat_lt};
 ghost use Rattle.ps_model.specs.declared.sizes.Sizes.{Sizes};
 ghost use Rattle.ps_machine.specs.Machines.{Workings, turned};
 ghost use Rattle.ps_machine.specs.Progressing.{is_running};
@@ -21,8 +22,8 @@ pub trait ScanMachine: Drop {
     /// How the cells change and what they say, for an application of these sizes.
     ghost workings: { Sizes → Workings };
 
-    /// The cells of a channel that is restored, by the limits of the instances and the time of the last scan in ms, from the
-    /// bytes of the signals and instances of another channel.
+    /// The cells of a channel that is restored, by the limits of the instances and the time of the last scan in ms,
+    /// from the bytes of the signals and instances of another channel.
     ghost restored: { Sizes → (limits : List ℕ) → (time : ℕ) → (bytes : List ℕ) → List ℕ };
 
     /// A channel with its own copy of the code, for an application of these sizes, with blank cells.
@@ -34,9 +35,9 @@ pub trait ScanMachine: Drop {
         requires { length image.now ≡ length (stored self.old).code }
         ensures { stored self.new ≡ as_compiled (workings (stored self.old).sizes) (stored self.old).sizes image.now };
 
-    /// The channel is restored with the code of this image, which has the length of the channel's code, from the bytes of the
-    /// signals and instances of another channel, which are plain and in which a timer is the time since which the state is
-    /// there. `bytes` is room for work: what it has then is not said.
+    /// The channel is restored with the code of this image, which has the length of the channel's code, from the bytes
+    /// of the signals and instances of another channel, which are plain and in which a timer is the time since which
+    /// the state is there. `bytes` is room for work: what it has then is not said.
     fn restore(&mut self, image: &CodeImage, limits: &[u32], time: u32, bytes: &mut [u8])
         requires image { length image.now ≡ length (stored self.old).code }
         requires limits { length limits.now ≡ (stored self.old).sizes.instances }

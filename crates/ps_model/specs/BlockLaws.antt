@@ -1,5 +1,6 @@
 -- Laws of the blocks, over every kind, state and pin.
-use Rattle.std.specs.Prelude.{◌≡◌, ◌≢◌, ℕ, ◌+◌, ◌-◌, ◌<◌, ◌≤◌, ◌^◌, Bool, false, List, length, slice_index_or, slice_index, Some}
+use Rattle.std.specs.Prelude.{◌≡◌, ◌≢◌, ℕ, ◌+◌, ◌-◌, ◌<◌, ◌≤◌, ◌^◌, Bool, false, List, length, slice_index_or}
+use Rattle.std.specs.Prelude.{slice_index, Some}
 use Rattle.ps_model.specs.declared.kind.Kind.{Kind}
 use Rattle.ps_model.specs.Blocks.{Block_state, block, moved, outs, error_in, ready_in}
 use Rattle.ps_model.specs.Kept.{Kept, StandsBy, Since, Remains, stepped, stepped_at, counted_down, aged, healed}

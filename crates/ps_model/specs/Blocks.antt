@@ -1,8 +1,11 @@
 -- The function blocks: their pins, and one step of each. Profile of this project, after PLCopen TC5.
-use Rattle.std.specs.Prelude.{ℕ, Bool, true, false, List, [], ◌∷◌, ◌++◌, ◌+◌, ◌/◌, ◌&&◌, ◌||◌, ◌==◌, not, if◌then◌else◌, length, map, codes, Option, Some, None, nat_le, count_by, slice_index_or}
+use Rattle.std.specs.Prelude.{ℕ, Bool, true, false, List, [], ◌∷◌, ◌++◌, ◌+◌, ◌/◌, ◌&&◌, ◌||◌, ◌==◌, not, if◌then◌else◌}
+use Rattle.std.specs.Prelude.{length, map, codes, Option, Some, None, nat_le, count_by, slice_index_or}
 use Rattle.std.specs.List.{list_any, range_with_len}
 use Rattle.ps_model.specs.declared.kind.Kind.{Kind}
-use Rattle.ps_model.specs.declared.kind.Kind.TheVariants.{Equivalent, Antivalent, EmergencyStop, Espe, ModeSelector, TwoHandTwo, TwoHandThree, GuardMonitoring, GuardLocking, EnableSwitch, SafetyRequest, OutControl, Edm}
+use Rattle.ps_model.specs.declared.kind.Kind.TheVariants.{Equivalent, Antivalent, EmergencyStop, Espe, ModeSelector}
+use Rattle.ps_model.specs.declared.kind.Kind.TheVariants.{TwoHandTwo, TwoHandThree, GuardMonitoring, GuardLocking}
+use Rattle.ps_model.specs.declared.kind.Kind.TheVariants.{EnableSwitch, SafetyRequest, OutControl, Edm}
 use Rattle.ps_model.specs.declared.kind.Ty.{Ty}
 use Rattle.ps_model.specs.declared.kind.Ty.TheVariants.{Safe, Bool as Plain, Time}
 use Rattle.ps_model.specs.EquivalenceTable as equivalent_table
@@ -40,8 +43,8 @@ pub record Output : Type 0 where
   pub name : List ℕ
   pub states : List ℕ
 
--- A kind: its number and name, its input pins in order and its safe outputs, which of its pins are Reset and the auxiliary input,
--- the part of its limit in ms that no TIME pin gives, its first state, and its transition table.
+-- A kind: its number and name, its input pins in order and its safe outputs, which of its pins are Reset and the
+-- auxiliary input, the part of its limit in ms that no TIME pin gives, its first state, and its transition table.
 pub record Block : Type 0 where
   pub number : ℕ
   pub name : List ℕ
@@ -279,7 +282,8 @@ block Edm = edm
 
 -- ---- One step of a block.
 
--- The next state: Activate FALSE leads to Idle before all else, Activate leads from Idle to the first state, and else the table decides.
+-- The next state: Activate FALSE leads to Idle before all else, Activate leads from Idle to the first state, and else
+-- the table decides.
 unfoldable pub next : Kind → ℕ → Conditions → ℕ
 next kind q c =
     if not (c.pin 0) then 0 else
@@ -328,14 +332,15 @@ abbrev pub lowest_on : List ℕ → (ℕ → Bool) → ℕ
 lowest_on [] pins = 0
 lowest_on (m ∷ ms) pins = if pins (m + 1) then m else lowest_on ms pins
 
--- The latched mode after a step from state q to state q': taken where 8005 is left for 8000, kept in 8000 and 8004, and 0 elsewhere.
+-- The latched mode after a step from state q to state q': taken where 8005 is left for 8000, kept in 8000 and 8004, and
+-- 0 elsewhere.
 unfoldable pub latched : Kind → (ℕ → Bool) → ℕ → ℕ → ℕ → ℕ
 latched ModeSelector pins q q' mode =
     if list_any (λ x. x == q') mode_states then (if q == 0x8005 then lowest_on (range_with_len 0 8) pins else mode) else 0
 latched _ pins q q' mode = 0
 
--- The block state after a step with these pins, dt ms after the last one. The age is 0 where the state is entered anew, and where it
--- stays and its restart condition holds; otherwise it grows by dt.
+-- The block state after a step with these pins, dt ms after the last one. The age is 0 where the state is entered anew,
+-- and where it stays and its restart condition holds; otherwise it grows by dt.
 unfoldable pub moved : Kind → ℕ → (ℕ → Bool) → ℕ → Block_state → Block_state
 moved kind limit pins dt s =
     let c = conditions kind limit pins dt s in

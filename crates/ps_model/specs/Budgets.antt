@@ -25,7 +25,8 @@ IsCall net (calls i args) = (i < instance_count net) × (length args ≡ length 
 
 -- ---- channel A
 
--- a signal is loaded; the operands of a group are computed one after another, and each but the first is joined to what stands there
+-- a signal is loaded; the operands of a group are computed one after another, and each but the first is joined to what
+-- stands there
 abbrev mutual
   pub instructions : Formula → ℕ
   instructions (signal s) = 1

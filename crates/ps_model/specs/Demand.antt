@@ -1,14 +1,18 @@
--- What each safe output of a block demands of the pins of its own step. Profile; each formula follows from the transition tables.
+-- What each safe output of a block demands of the pins of its own step. Profile; each formula follows from the
+-- transition tables.
 use Rattle.std.specs.Prelude.{◌≡◌, ℕ, zero, suc, Bool, true, not, List, [], ◌∷◌}
 use Rattle.std.specs.List.{list_all}
 use Rattle.ps_model.specs.declared.kind.Kind.{Kind}
-use Rattle.ps_model.specs.declared.kind.Kind.TheVariants.{Equivalent, Antivalent, EmergencyStop, Espe, ModeSelector, TwoHandTwo, TwoHandThree, GuardMonitoring, GuardLocking, EnableSwitch, SafetyRequest, OutControl, Edm}
+use Rattle.ps_model.specs.declared.kind.Kind.TheVariants.{Equivalent, Antivalent, EmergencyStop, Espe, ModeSelector}
+use Rattle.ps_model.specs.declared.kind.Kind.TheVariants.{TwoHandTwo, TwoHandThree, GuardMonitoring, GuardLocking}
+use Rattle.ps_model.specs.declared.kind.Kind.TheVariants.{EnableSwitch, SafetyRequest, OutControl, Edm}
 use Rattle.ps_model.specs.declared.demands.Need.{Need}
 use Rattle.ps_model.specs.declared.demands.Need.TheVariants.{On, Off}
 use Rattle.ps_model.specs.Table.{Conditions}
 use Rattle.ps_model.specs.Blocks.{next, safe_output}
 
--- The formula of safe output j of a kind, a conjunction of pins that are TRUE and pins that are FALSE; an empty one always holds.
+-- The formula of safe output j of a kind, a conjunction of pins that are TRUE and pins that are FALSE; an empty one
+-- always holds.
 abbrev pub demand : Kind → ℕ → List Need
 -- S_EquivalentOut: S_ChannelA and S_ChannelB
 demand Equivalent j = On 1 ∷ On 2 ∷ []

@@ -1,5 +1,5 @@
--- The transition table of SF_Equivalent, with A = S_ChannelA and B = S_ChannelB, and of SF_Antivalent, with A = S_ChannelNC and
--- B = not S_ChannelNO. Profile of this project, after PLCopen TC5.
+-- The transition table of SF_Equivalent, with A = S_ChannelA and B = S_ChannelB, and of SF_Antivalent, with A =
+-- S_ChannelNC and B = not S_ChannelNO. Profile of this project, after PLCopen TC5.
 use Rattle.std.specs.Prelude.{List, [], ◌∷◌}
 use Rattle.ps_model.specs.Table.{Guard, Row, ◌⇒◌, elapsed, ◌and◌, no, in_state}
 

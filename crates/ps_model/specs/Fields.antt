@@ -1,5 +1,6 @@
 -- The fields of a report, where two reports first differ, and the report of nothing.
-use Rattle.std.specs.Prelude.{ℕ, false, List, [], ◌∷◌, ◌++◌, ◌==◌, nat_eq, length, map, replicate, Option, Some, None, if◌then◌else◌}
+use Rattle.std.specs.Prelude.{ℕ, false, List, [], ◌∷◌, ◌++◌, ◌==◌, nat_eq, length, map, replicate, Option, Some, None}
+use Rattle.std.specs.Prelude.{if◌then◌else◌}
 use Rattle.std.specs.List.{common_prefix_len, flat_map}
 use Rattle.ps_model.specs.declared.report.Diag.{Diag}
 use Rattle.ps_model.specs.declared.report.Report.{Report}
@@ -14,7 +15,8 @@ diag_fields d = bit d.ready ∷ bit d.error ∷ d.code ∷ []
 abbrev pub fields : Report → List ℕ
 fields r = map bit r.outs ++ flat_map diag_fields r.diags
 
--- the first place at which two lists of the same length differ: the length of the front that they share, if that is not all
+-- the first place at which two lists of the same length differ: the length of the front that they share, if that is not
+-- all
 abbrev pub first_unequal : List ℕ → List ℕ → Option ℕ
 first_unequal xs ys =
     let shared = common_prefix_len nat_eq xs ys in

@@ -1,5 +1,7 @@
--- The first step of each number: of each signal the first that assigns it, and of each instance the first that calls it.
-use Rattle.std.specs.Prelude.{◌≡◌, ℕ, ◌<◌, Bool, false, ◌==◌, List, length, Option, None, Some, if◌then◌else◌, position, slice_index_or}
+-- The first step of each number: of each signal the first that assigns it, and of each instance the first that calls
+-- it.
+use Rattle.std.specs.Prelude.{◌≡◌, ℕ, ◌<◌, Bool, false, ◌==◌, List, length, Option, None, Some, if◌then◌else◌, position}
+use Rattle.std.specs.Prelude.{slice_index_or}
 use Rattle.std.specs.Option.{option_or}
 use Rattle.ps_model.specs.Action.{Action, assigns, calls}
 

@@ -61,7 +61,8 @@ stepped kind pins elapsed anew running k =
       timer = if runs_on kind k.code q c then running else anew;
     }
 
--- A step at a time, as channels A and C keep instances: the age is the time less the timer, or 0 where the timer is later.
+-- A step at a time, as channels A and C keep instances: the age is the time less the timer, or 0 where the timer is
+-- later.
 abbrev pub stepped_at : Kind → (limit : ℕ) → (ℕ → Bool) → (now : ℕ) → Kept → Kept
 stepped_at kind limit pins now k = stepped kind pins (nat_le limit (now - k.timer)) now k.timer k
 

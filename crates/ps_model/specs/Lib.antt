@@ -1,5 +1,5 @@
--- What a reader must believe, in the order of docs/model.md: the blocks, the applications and how the program's values are seen as
--- such, what a scan means, and which values are safe.
+-- What a reader must believe, in the order of docs/model.md: the blocks, the applications and how the program's values
+-- are seen as such, what a scan means, and which values are safe.
 pub mod Table
 pub mod EquivalenceTable
 pub mod StopTable
@@ -38,8 +38,9 @@ pub mod Typing
 pub mod Skeleton
 pub mod SkeletonLaws
 pub mod Budgets
--- Apparatus, in which code and proofs meet the above: how formulas are told apart, how nodes and drivers are found by number, where the cells of an
--- application stand, and what the steps of a scan leave one after another. No meaning stands on these.
+-- Apparatus, in which code and proofs meet the above: how formulas are told apart, how nodes and drivers are found by
+-- number, where the cells of an application stand, and what the steps of a scan leave one after another. No meaning
+-- stands on these.
 pub mod FormulaCode
 pub mod NodeList
 pub mod FirstSteps

@@ -16,7 +16,8 @@ pub data Item : Type 0 where
 abbrev pub first_state : Network → State
 first_state net = record { signals = replicate (signal_count net) false; blocks = replicate (instance_count net) idle }
 
--- what a scan starts from: nothing where it is the first one or the first after a restart, and else the time of the scan before and what it left
+-- what a scan starts from: nothing where it is the first one or the first after a restart, and else the time of the
+-- scan before and what it left
 pub data After (W : Type 0) : Type 0 where
   nothing : After W
   last : (now : ℕ) (w : W) → After W

@@ -1,6 +1,8 @@
--- The transition table of SF_ModeSelector. A way from 8005 to 8000 latches the TRUE mode (`latched`). Profile of this project, after PLCopen TC5.
+-- The transition table of SF_ModeSelector. A way from 8005 to 8000 latches the TRUE mode (`latched`). Profile of this
+-- project, after PLCopen TC5.
 use Rattle.std.specs.Prelude.{ℕ, List, [], ◌∷◌, ◌==◌, nat_le}
-use Rattle.ps_model.specs.Table.{Conditions, Guard, Row, ◌⇒◌, pin, edge, static, rise, elapsed, ◌and◌, ◌or◌, no, in_state}
+use Rattle.ps_model.specs.Table.{Conditions, Guard, Row, ◌⇒◌, pin, edge, static, rise, elapsed, ◌and◌, ◌or◌, no}
+use Rattle.ps_model.specs.Table.{in_state}
 
 -- n, how many modes are TRUE
 abbrev pub mode_count : Conditions → ℕ

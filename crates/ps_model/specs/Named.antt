@@ -1,5 +1,6 @@
 -- The signals and instances that an application declares, and the outputs of its instances.
-use Rattle.std.specs.Prelude.{◌≡◌, ◌≢◌, ℕ, ◌+◌, ◌<◌, List, [], ◌∷◌, ◌++◌, map, length, replicate, take, sum_by, slice_index_or}
+use Rattle.std.specs.Prelude.{◌≡◌, ◌≢◌, ℕ, ◌+◌, ◌<◌, List, [], ◌∷◌, ◌++◌, map, length, replicate, take, sum_by}
+use Rattle.std.specs.Prelude.{slice_index_or}
 use Rattle.std.specs.List.{flat_map}
 use Rattle.std.specs.Prelude.{All}
 use Rattle.ps_model.specs.declared.kind.Kind.{Kind}
@@ -35,7 +36,8 @@ owners_from n (x ∷ xs) = replicate (output_count x.kind) n ++ owners_from (n +
 abbrev pub pin_owners : List Instance → List ℕ
 pin_owners instances = owners_from 0 instances
 
--- beside each instance stands how many outputs the instances before it have, and the types and owners are those of all outputs
+-- beside each instance stands how many outputs the instances before it have, and the types and owners are those of all
+-- outputs
 pub record KeepsPlaces (placed : List Placed) (types : List Ty) (owners : List ℕ) : Type 0 where
   pub types_are : types ≡ pin_types (instances_of placed)
   pub owners_are : owners ≡ pin_owners (instances_of placed)

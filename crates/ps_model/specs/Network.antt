@@ -1,5 +1,6 @@
 -- An application as contracts see it, and the numbers of its signals.
-use Rattle.std.specs.Prelude.{ℕ, Bool, false, List, [], ◌++◌, ◌+◌, ◌&&◌, ◌||◌, ◌==◌, length, map, nat_le, nat_lt, sum_by, take, slice_index_or}
+use Rattle.std.specs.Prelude.{ℕ, Bool, false, List, [], ◌++◌, ◌+◌, ◌&&◌, ◌||◌, ◌==◌, length, map, nat_le, nat_lt}
+use Rattle.std.specs.Prelude.{sum_by, take, slice_index_or}
 use Rattle.std.specs.List.{list_any}
 use Rattle.ps_model.specs.declared.kind.Kind.{Kind}
 use Rattle.ps_model.specs.declared.kind.Kind.TheVariants.{Equivalent}
@@ -31,7 +32,8 @@ no_signal = record { name = []; ty = Plain }
 abbrev pub no_instance : Instance
 no_instance = record { name = []; kind = Equivalent }
 
--- Signals are numbered from 0: inputs, outputs, locals, and then each instance's outputs. Instances are numbered from 0.
+-- Signals are numbered from 0: inputs, outputs, locals, and then each instance's outputs. Instances are numbered from
+-- 0.
 module _ (net : Network) where
   -- how many inputs there are
   abbrev pub input_count : ℕ

@@ -1,5 +1,5 @@
--- The nodes of an application: in the order of steps, within a step in the order of pins, and within a value each node before its operands, which stand in order.
--- A literal and a free pin have none.
+-- The nodes of an application: in the order of steps, within a step in the order of pins, and within a value each node
+-- before its operands, which stand in order. A literal and a free pin have none.
 use Rattle.std.specs.Prelude.{ℕ, List, [], ◌∷◌, ◌++◌, ◌+◌, length}
 use Rattle.std.specs.List.{flat_map}
 use Rattle.ps_model.specs.Formula.{Formula, Formulas, signal, all_of, any_of, no_operand, operand}

@@ -1,4 +1,5 @@
--- What the steps leave, one after another. It defines no meaning of its own: machines and evaluators are proved against it, and it solves the equations of the scan.
+-- What the steps leave, one after another. It defines no meaning of its own: machines and evaluators are proved against
+-- it, and it solves the equations of the scan.
 use Rattle.std.specs.Prelude.{ℕ, ◌-◌, Bool, false, cond, List, [], ◌∷◌, slice_index_or, nat_lt, ◌||◌}
 use Rattle.ps_model.specs.Formula.{value}
 use Rattle.ps_model.specs.Blocks.{Block_state, moved, outs}

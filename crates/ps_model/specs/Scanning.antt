@@ -1,11 +1,13 @@
 -- One scan: the equations that the new state solves. Profile.
-use Rattle.std.specs.Prelude.{◌≡◌, ℕ, Bool, false, List, [], ◌∷◌, ◌+◌, ◌<◌, ◌≤◌, length, if◌then◌else◌, slice_index_or, slice_get, Some}
+use Rattle.std.specs.Prelude.{◌≡◌, ℕ, Bool, false, List, [], ◌∷◌, ◌+◌, ◌<◌, ◌≤◌, length, if◌then◌else◌, slice_index_or}
+use Rattle.std.specs.Prelude.{slice_get, Some}
 use Rattle.ps_model.specs.declared.kind.Kind.{Kind}
 use Rattle.ps_model.specs.declared.kind.Ty.{Ty}
 use Rattle.ps_model.specs.declared.kind.Ty.TheVariants.{Bool as Plain, Time}
 use Rattle.ps_model.specs.Formula.{Formula, value}
 use Rattle.ps_model.specs.Blocks.{Block_state, Pin, block, idle, moved, outs, output_count}
-use Rattle.ps_model.specs.Network.{Network, input_count, signal_count, instance_count, kind_at, first_pin, is_new, is_driven}
+use Rattle.ps_model.specs.Network.{Network, input_count, signal_count, instance_count, kind_at, first_pin, is_new}
+use Rattle.ps_model.specs.Network.{is_driven}
 use Rattle.ps_model.specs.Action.{Actual, free, literal, time, wired, assigns, calls}
 
 -- a Boolean for each signal and a block state for each instance

@@ -1,5 +1,6 @@
 -- The safe skeleton of a value: what must be TRUE, whatever its BOOL operands are. Profile.
-use Rattle.std.specs.Prelude.{◌≡◌, ℕ, zero, suc, ◌≤◌, Bool, true, false, ◌&&◌, ◌||◌, ◌==◌, List, length, Option, Some, None, if◌then◌else◌, nat_lt, slice_get}
+use Rattle.std.specs.Prelude.{◌≡◌, ℕ, zero, suc, ◌≤◌, Bool, true, false, ◌&&◌, ◌||◌, ◌==◌, List, length, Option, Some}
+use Rattle.std.specs.Prelude.{None, if◌then◌else◌, nat_lt, slice_get}
 use Rattle.ps_model.specs.Formula.{Formula, Formulas, signal, all_of, any_of, no_operand, operand, value}
 use Rattle.ps_model.specs.Action.{Action, assigns, calls}
 use Rattle.ps_model.specs.Network.{Network, input_count, drives}
@@ -38,13 +39,15 @@ module _ (net : Network) (leaves : ℕ → Skeleton) where
     all_skeletons no_operand = none_left
     all_skeletons (operand e es) = more (skeleton_over e) (all_skeletons es)
 
--- what a step makes of the skeletons of signals: an assigned one has that of its value, an output of a called instance is of this scan
+-- what a step makes of the skeletons of signals: an assigned one has that of its value, an output of a called instance
+-- is of this scan
 abbrev pub after_step : Network → Option Action → (ℕ → Skeleton) → ℕ → Skeleton
 after_step net None leaves s = leaves s
 after_step net (Some (assigns t e)) leaves s = if t == s then skeleton_over net leaves e else leaves s
 after_step net (Some (calls i args)) leaves s = if drives net s (calls i args) then now s else leaves s
 
--- the skeleton of a signal as step k reads it: an input is of this scan, and what no step before k drives is of the one before
+-- the skeleton of a signal as step k reads it: an input is of this scan, and what no step before k drives is of the one
+-- before
 abbrev pub leaf_at : Network → ℕ → ℕ → Skeleton
 leaf_at net zero s = if nat_lt s (input_count net) then now s else before s
 leaf_at net (suc k) s = after_step net (slice_get net.steps k) (leaf_at net k) s

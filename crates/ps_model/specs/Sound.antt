@@ -1,11 +1,13 @@
 -- What holds of every application.
 use Rattle.std.specs.Prelude.{◌≡◌, ℕ, true, length, ◌+◌, ◌<◌, ◌≤◌, List, All, AllPairs, count_by, slice_get, Some}
-use Rattle.ps_base.specs.declared.limits.TheConstants.{MOST_INPUTS, MOST_OUTPUTS, MOST_SIGNALS, MOST_INSTANCES, MOST_NODES, MOST_NESTED}
+use Rattle.ps_base.specs.declared.limits.TheConstants.{MOST_INPUTS, MOST_OUTPUTS, MOST_SIGNALS, MOST_INSTANCES}
+use Rattle.ps_base.specs.declared.limits.TheConstants.{MOST_NODES, MOST_NESTED}
 use Rattle.ps_model.specs.Formula.{Formula}
 use Rattle.ps_model.specs.Action.{Actual, assigns, calls, FitsTime}
 use Rattle.ps_model.specs.Blocks.{block}
 use Rattle.ps_base.specs.LetterCase.{SameName}
-use Rattle.ps_model.specs.Network.{Network, names, input_count, declared_count, declared_signals, instance_count, signal_count, kind_at, drives, is_call_of, is_driven}
+use Rattle.ps_model.specs.Network.{Network, names, input_count, declared_count, declared_signals, instance_count}
+use Rattle.ps_model.specs.Network.{signal_count, kind_at, drives, is_call_of, is_driven}
 use Rattle.ps_model.specs.Named.{AreBoolean}
 use Rattle.ps_model.specs.Values.{values, IsBelow, HasOperands, depth, is_read}
 use Rattle.ps_model.specs.Nodes.{app_nodes}

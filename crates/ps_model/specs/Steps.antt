@@ -13,7 +13,8 @@ abbrev pub action : Step → Action
 action (Assign target value) = assigns target (formula value)
 action (Call instance args) = calls instance args
 
--- beside these steps are kept the list of their nodes, the first step that assigns each signal, and the first that calls each instance
+-- beside these steps are kept the list of their nodes, the first step that assigns each signal, and the first that
+-- calls each instance
 pub record KeepsBeside (steps : List Action) (list : List Node) (assigning calling : List (Option ℕ)) : Type 0 where
   pub nodes : list ≡ listed_of_steps steps
   pub first_assignments : NotesFirst is_assignment_to steps assigning

@@ -1,5 +1,6 @@
 -- The sixteen bytes in which a channel keeps an instance. Profile.
-use Rattle.std.specs.Prelude.{◌≡◌, ℕ, ◌+◌, ◌<◌, ◌^◌, Bool, true, false, ◌&&◌, ◌==◌, nat_le, nat_lt, if◌then◌else◌, List, [], ◌∷◌, ◌++◌, map, drop, replicate, slice_index, Option, Some, None}
+use Rattle.std.specs.Prelude.{◌≡◌, ℕ, ◌+◌, ◌<◌, ◌^◌, Bool, true, false, ◌&&◌, ◌==◌, nat_le, nat_lt, if◌then◌else◌, List}
+use Rattle.std.specs.Prelude.{[], ◌∷◌, ◌++◌, map, drop, replicate, slice_index, Option, Some, None}
 use Rattle.std.specs.List.{list_all, list_any}
 use Rattle.std.specs.Int.{w16, w32, to_be_bytes, from_be_bytes}
 use Rattle.ps_model.specs.declared.kind.Kind.{Kind}
@@ -13,8 +14,8 @@ abbrev pub bit : Bool → ℕ
 bit true = 1
 bit false = 0
 
--- The bytes: 0 and 1 the DiagCode, 2 the last Reset, 3 the last auxiliary input, 4 the latched mode, 5 to 8 the timer, 9 to 15 zero.
--- Numbers are big-endian.
+-- The bytes: 0 and 1 the DiagCode, 2 the last Reset, 3 the last auxiliary input, 4 the latched mode, 5 to 8 the timer,
+-- 9 to 15 zero. Numbers are big-endian.
 abbrev pub stored : Kept → List ℕ
 stored k = to_be_bytes w16 k.code ++ (bit k.last_reset ∷ bit k.last_auxiliary ∷ k.mode ∷ (to_be_bytes w32 k.timer ++ replicate 7 0))
 

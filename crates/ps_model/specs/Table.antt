@@ -1,8 +1,10 @@
--- Transition tables as data: for each state its guards in order, each with the next state. A state is named by its DiagCode.
+-- Transition tables as data: for each state its guards in order, each with the next state. A state is named by its
+-- DiagCode.
 use Rattle.std.specs.Prelude.{ℕ, Bool, true, false, List, [], ◌∷◌, ◌&&◌, ◌||◌, ◌==◌, not, if◌then◌else◌}
 
--- What the guards of a step see: the value of each Boolean input pin; whether Reset rose (`edge`) or is held (`static`), whether the
--- auxiliary input rose, and whether the limit has elapsed; how many modes are TRUE, and whether they are just the latched one.
+-- What the guards of a step see: the value of each Boolean input pin; whether Reset rose (`edge`) or is held
+-- (`static`), whether the auxiliary input rose, and whether the limit has elapsed; how many modes are TRUE, and whether
+-- they are just the latched one.
 pub record Conditions : Type 0 where
   pub pin : ℕ → Bool
   pub edge : Bool

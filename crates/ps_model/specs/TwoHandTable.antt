@@ -1,4 +1,5 @@
--- The transition tables of SF_TwoHandControlTypeII and SF_TwoHandControlTypeIII (EN 574). Profile of this project, after PLCopen TC5.
+-- The transition tables of SF_TwoHandControlTypeII and SF_TwoHandControlTypeIII (EN 574). Profile of this project,
+-- after PLCopen TC5.
 use Rattle.std.specs.Prelude.{List, [], ◌∷◌, ◌++◌}
 use Rattle.ps_model.specs.Table.{Guard, Rule, Row, ◌⇒◌, pin, elapsed, ◌and◌, no, in_state}
 

@@ -1,5 +1,7 @@
--- SAFEBOOL and BOOL: which values are safe, and which applications are accepted. PLCopen TC5 (functional enabling); that an OR is safe where each operand is, is profile.
-use Rattle.std.specs.Prelude.{◌≡◌, ◌≢◌, ℕ, Bool, true, false, List, ◌-◌, ◌&&◌, ◌||◌, ◌<◌, if◌then◌else◌, length, nat_lt, slice_index_or, slice_get, Some}
+-- SAFEBOOL and BOOL: which values are safe, and which applications are accepted. PLCopen TC5 (functional enabling);
+-- that an OR is safe where each operand is, is profile.
+use Rattle.std.specs.Prelude.{◌≡◌, ◌≢◌, ℕ, Bool, true, false, List, ◌-◌, ◌&&◌, ◌||◌, ◌<◌, if◌then◌else◌, length, nat_lt}
+use Rattle.std.specs.Prelude.{slice_index_or, slice_get, Some}
 use Rattle.ps_model.specs.declared.kind.Ty.{Ty}
 use Rattle.ps_model.specs.declared.kind.Ty.TheVariants.{Safe, Bool as Plain, Time}
 use Rattle.ps_model.specs.Formula.{Formula, Formulas, signal, all_of, any_of, no_operand, operand}

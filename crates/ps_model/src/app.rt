@@ -235,8 +235,8 @@ impl App {
         }
     }
 
-    /// What drives a signal: the step that assigns it, or the call of the instance whose output it is. None for an input, and
-    /// for a local that no step assigns.
+    /// What drives a signal: the step that assigns it, or the call of the instance whose output it is. None for an
+    /// input, and for a local that no step assigns.
     pub fn driver(&self, s: u16) -> Option<Driver>
         requires { s < signal_count self.now }
         ensures { result ≡ driver self.now s }

@@ -1,8 +1,12 @@
 // Laws of the blocks. Each function computes nothing: its contract is the law.
 
-ghost use Rattle.ps_model.specs.BlockLaws.{StepsByKeptTime, CountsDown, GoesOn, Heals, OffWhereInactive, ErrorsExactly, StandsForOne, LoadsExactly, StepsAreKept, EachDemands};
+ghost use Rattle.ps_model.specs.BlockLaws.{StepsByKeptTime, CountsDown, GoesOn, Heals, OffWhereInactive, ErrorsExactly};
+ghost use Rattle.ps_model.specs.BlockLaws.{StandsForOne, LoadsExactly, StepsAreKept, EachDemands};
 ghost use Rattle.ps_model.specs.Demand.{Demands};
-ghost use Rattle.ps_model.specs.declared.kind.Kind.TheVariants.{Equivalent, Antivalent, EmergencyStop, Espe, ModeSelector, TwoHandTwo, TwoHandThree, GuardMonitoring, GuardLocking, EnableSwitch, SafetyRequest, OutControl, Edm};
+ghost use Rattle.ps_model.specs.declared.kind.Kind.TheVariants.{Equivalent, Antivalent, EmergencyStop, Espe};
+ghost use Rattle.ps_model.specs.declared.kind.Kind.TheVariants.{ModeSelector, TwoHandTwo, TwoHandThree};
+ghost use Rattle.ps_model.specs.declared.kind.Kind.TheVariants.{GuardMonitoring, GuardLocking, EnableSwitch};
+ghost use Rattle.ps_model.specs.declared.kind.Kind.TheVariants.{SafetyRequest, OutControl, Edm};
 
 /// SF_Equivalent: S_EquivalentOut needs S_ChannelA and S_ChannelB.
 #[tactic(auto, unfolding(crate::specs::Blocks::next, crate::specs::Blocks::block))]

@@ -7,7 +7,8 @@ ghost use Rattle.ps_model.specs.Steps.{action};
 ghost use Rattle.ps_model.specs.Nodes.{nodes, nodes_of_step, nodes_at_pin};
 ghost use Rattle.ps_model.specs.Network.{instance_count};
 ghost use Rattle.ps_model.specs.Action.{assigns, calls};
-ghost use Rattle.ps_model.specs.Budgets.{instructions, instructions_at_pin, instructions_of_step, equation_rows, equation_rows_at_pin, equation_rows_of_step, boolean_count, IsCall};
+ghost use Rattle.ps_model.specs.Budgets.{instructions, instructions_at_pin, instructions_of_step, equation_rows};
+ghost use Rattle.ps_model.specs.Budgets.{equation_rows_at_pin, equation_rows_of_step, boolean_count, IsCall};
 
 use crate::app::App;
 use crate::expr::Expr;

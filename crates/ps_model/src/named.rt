@@ -50,7 +50,8 @@ struct Placed {
 }
 
 /// Instances in order of declaration, which contracts see as a list.
-/// The numbers, the types and the instances of their outputs are kept beside them, so that no reader of an application adds them up.
+/// The numbers, the types and the instances of their outputs are kept beside them, so that no reader of an application
+/// adds them up.
 pub struct Instances {
     items: Vec<Placed>,
     types: Vec<Ty>,
@@ -117,7 +118,8 @@ fn output_types(kind: Kind) -> &'static [Ty]
     }
 }
 
-// The types of the outputs of one more instance, and its number for each of them. Where memory is wanting all is as before.
+// The types of the outputs of one more instance, and its number for each of them. Where memory is wanting all is as
+// before.
 fn push_outputs(
     types: &mut Vec<Ty>,
     owners: &mut Vec<usize>,

@@ -1,5 +1,5 @@
-// The pin tables of the kinds, one line a pin: the Boolean input pins, the TIME pin where there is one, the safe outputs, Ready and
-// Error. Names and types are those of PLCopen TC5, in the profile of this project.
+// The pin tables of the kinds, one line a pin: the Boolean input pins, the TIME pin where there is one, the safe
+// outputs, Ready and Error. Names and types are those of PLCopen TC5, in the profile of this project.
 
 ghost use Rattle.std.specs.Prelude.{◌≡◌, map};
 ghost use Rattle.ps_model.specs.Pins.{pin_names, pin_rows};

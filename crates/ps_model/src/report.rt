@@ -179,8 +179,9 @@ impl Report {
         self.diags.clear();
     }
 
-    /// The number of the first field that differs, and None exactly where the reports are equal. The fields are numbered
-    /// from 0: the outputs in order, then Ready, Error and DiagCode of each instance in order. It takes no memory.
+    /// The number of the first field that differs, and None exactly where the reports are equal. The fields are
+    /// numbered from 0: the outputs in order, then Ready, Error and DiagCode of each instance in order. It takes no
+    /// memory.
     pub fn first_difference(&self, other: &Report) -> Option<u16>
         requires outs { length self.now.outs ≡ length other.now.outs }
         requires diags { length self.now.diags ≡ length other.now.diags }

@@ -8,8 +8,8 @@ use crate::values::{FirstPins, Kinds};
 use ps_base::Memory;
 use std::alloc::Global;
 
-/// The sizes of an application: how many signals, instances, inputs and outputs it has, and where the outputs of each instance
-/// stand.
+/// The sizes of an application: how many signals, instances, inputs and outputs it has, and where the outputs of each
+/// instance stand.
 #[derive(Debug)]
 pub struct Sizes {
     /// How many signals there are, pin outputs among them.

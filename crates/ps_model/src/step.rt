@@ -60,8 +60,8 @@ pub enum Step {
 }
 
 /// The steps in the order of the text, which contracts see as a list.
-/// Beside them are kept the nodes of their values, the first step that assigns each signal and the first that calls each
-/// instance, so that no reader of an application walks its expressions or its steps.
+/// Beside them are kept the nodes of their values, the first step that assigns each signal and the first that calls
+/// each instance, so that no reader of an application walks its expressions or its steps.
 pub struct Steps {
     items: Vec<Step>,
     nodes: Vec<Node>,
@@ -281,8 +281,8 @@ fn note_step(
     }
 }
 
-// Keeps beside the steps what one more at the end gives: its nodes, and its place as the first that assigns a signal or calls
-// an instance. Where memory is wanting, what is kept stays.
+// Keeps beside the steps what one more at the end gives: its nodes, and its place as the first that assigns a signal or
+// calls an instance. Where memory is wanting, what is kept stays.
 fn write_beside(
     step: &Step,
     place: usize,

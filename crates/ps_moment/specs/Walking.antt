@@ -1,5 +1,6 @@
 -- What is kept from scan to scan. Nothing here is part of what is promised.
-use Rattle.std.specs.Prelude.{◌≡◌, ◌≢◌, ◌==◌, ◌||◌, not, ℕ, Bool, false, List, Some, None, length, slice_get, if◌then◌else◌}
+use Rattle.std.specs.Prelude.{◌≡◌, ◌≢◌, ◌==◌, ◌||◌, not, ℕ, Bool, false, List, Some, None, length, slice_get}
+use Rattle.std.specs.Prelude.{if◌then◌else◌}
 use Rattle.ps_model.specs.Meaning.{Past, last, nothing}
 use Rattle.ps_model.specs.Network.{Network, input_count, instance_count}
 use Rattle.ps_reasons.specs.Keeping.{AreKept, StandFor}

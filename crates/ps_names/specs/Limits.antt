@@ -1,8 +1,10 @@
 -- The limits of an application, counted on its source.
 use Rattle.std.specs.Prelude.{ℕ, Bool, ◌+◌, ◌&&◌, nat_le, List, count_by, sum_by}
-use Rattle.ps_base.specs.declared.limits.TheConstants.{MOST_INPUTS, MOST_OUTPUTS, MOST_SIGNALS, MOST_INSTANCES, MOST_NODES}
+use Rattle.ps_base.specs.declared.limits.TheConstants.{MOST_INPUTS, MOST_OUTPUTS, MOST_SIGNALS, MOST_INSTANCES}
+use Rattle.ps_base.specs.declared.limits.TheConstants.{MOST_NODES}
 use Rattle.ps_model.specs.Blocks.{output_count}
-use Rattle.ps_parser.specs.Tree.{FactorTree, Signal, Pin, Literal, Time, Group, ProductTree, no_factor, factor, SumTree, no_product, product, StatementTree, Assign, Call}
+use Rattle.ps_parser.specs.Tree.{FactorTree, Signal, Pin, Literal, Time, Group, ProductTree, no_factor, factor, SumTree}
+use Rattle.ps_parser.specs.Tree.{no_product, product, StatementTree, Assign, Call}
 use Rattle.ps_names.specs.declared.entry.Entry.{Entry}
 use Rattle.ps_names.specs.declared.entry.Sort.{Sort}
 use Rattle.ps_names.specs.declared.entry.Sort.TheVariants.{Instance}

@@ -1,9 +1,11 @@
 -- Offences against rules, and the one that a refusal names: the lowest rule, and then the earliest place.
-use Rattle.std.specs.Prelude.{◌≡◌, ℕ, Bool, false, ◌&&◌, ◌||◌, ◌==◌, nat_lt, List, [], Option, None, Some, if◌then◌else◌, fold, Contains}
+use Rattle.std.specs.Prelude.{◌≡◌, ℕ, Bool, false, ◌&&◌, ◌||◌, ◌==◌, nat_lt, List, [], Option, None, Some}
+use Rattle.std.specs.Prelude.{if◌then◌else◌, fold, Contains}
 use Rattle.ps_base.specs.declared.failing.Place.{Place}
 use Rattle.ps_base.specs.declared.failing.Refusal.{Refusal}
 use Rattle.ps_base.specs.declared.failing.Rule.{Rule}
-use Rattle.ps_base.specs.declared.failing.Rule.TheVariants.{N1, N2, N3, N4, N5, N6, N7, N8, N9, N10, N11, N12, B1, B2, B3, B4, B5}
+use Rattle.ps_base.specs.declared.failing.Rule.TheVariants.{N1, N2, N3, N4, N5, N6, N7, N8, N9, N10, N11, N12, B1, B2}
+use Rattle.ps_base.specs.declared.failing.Rule.TheVariants.{B3, B4, B5}
 
 -- an offence is a rule and a place where it is broken
 abbrev pub offence : Rule → Place → Refusal

@@ -1,6 +1,7 @@
 -- The rules on names and drivers: what breaks each of them, and where.
 -- A rule may list a place where a lower rule is broken too, since the lowest rule decides.
-use Rattle.std.specs.Prelude.{ℕ, Bool, false, not, nat_lt, List, [], ◌∷◌, ◌++◌, Option, None, Some, map, length, position, if◌then◌else◌}
+use Rattle.std.specs.Prelude.{ℕ, Bool, false, not, nat_lt, List, [], ◌∷◌, ◌++◌, Option, None, Some, map, length}
+use Rattle.std.specs.Prelude.{position, if◌then◌else◌}
 use Rattle.std.specs.List.{flat_map, list_any}
 use Rattle.ps_base.specs.declared.failing.Place.{Place}
 use Rattle.ps_base.specs.declared.failing.Refusal.{Refusal}
@@ -17,7 +18,8 @@ use Rattle.ps_names.specs.declared.entry.Sort.TheVariants.{OutputSignal, LocalSi
 use Rattle.ps_names.specs.Offences.{offence, when, unless}
 use Rattle.ps_base.specs.LetterCase.{is_same_name}
 use Rattle.ps_names.specs.Names.{same, entries, sort_of}
-use Rattle.ps_names.specs.Uses.{Use, reads, reads_pin, drives, drives_pin, runs, gives, strays, statement_uses, assigned, called, named_pins, read_names}
+use Rattle.ps_names.specs.Uses.{Use, reads, reads_pin, drives, drives_pin, runs, gives, strays, statement_uses}
+use Rattle.ps_names.specs.Uses.{assigned, called, named_pins, read_names}
 use Rattle.ps_names.specs.Limits.{is_within}
 
 -- ---- names that come again
@@ -27,8 +29,8 @@ abbrev pub repeated : Rule → List Name → List Name → List Refusal
 repeated rule before [] = []
 repeated rule before (n ∷ ns) = when (list_any (same n) before) (offence rule n.place ∷ []) ++ repeated rule (before ++ n ∷ []) ns
 
--- N1: a name is declared again. Each later declaration, in the order of the declared names, is an offence, so a name that is
--- declared three times has two; as of all offences of one rule, the one at the earliest place is named.
+-- N1: a name is declared again. Each later declaration, in the order of the declared names, is an offence, so a name
+-- that is declared three times has two; as of all offences of one rule, the one at the earliest place is named.
 abbrev pub declared_twice : List Entry → List Refusal
 declared_twice es = repeated N1 [] (map (λ e. e.name) es)
 

@@ -1,5 +1,6 @@
 -- The application that a source stands for.
-use Rattle.std.specs.Prelude.{◌≡◌, ℕ, ◌+◌, ◌-◌, List, [], Option, None, Some, map, filter, take, length, count_by, sum_by, unwrap_or}
+use Rattle.std.specs.Prelude.{◌≡◌, ℕ, ◌+◌, ◌-◌, List, [], Option, None, Some, map, filter, take, length, count_by}
+use Rattle.std.specs.Prelude.{sum_by, unwrap_or}
 use Rattle.std.specs.List.{find}
 use Rattle.ps_model.specs.declared.kind.Kind.{Kind}
 use Rattle.ps_model.specs.declared.kind.Kind.TheVariants.{Equivalent}
@@ -14,7 +15,8 @@ use Rattle.ps_model.specs.Network.{Network}
 use Rattle.ps_parser.specs.declared.name.Name.{Name}
 use Rattle.ps_parser.specs.declared.statement.Target.{Target}
 use Rattle.ps_parser.specs.declared.statement.Target.TheVariants.{Name as Whole, Pin as OfPin}
-use Rattle.ps_parser.specs.Tree.{FactorTree, Signal, Pin, Literal, Time, Group, ProductTree, no_factor, factor, SumTree, no_product, product, ArgumentTree, StatementTree, Assign, Call, SourceTree}
+use Rattle.ps_parser.specs.Tree.{FactorTree, Signal, Pin, Literal, Time, Group, ProductTree, no_factor, factor, SumTree}
+use Rattle.ps_parser.specs.Tree.{no_product, product, ArgumentTree, StatementTree, Assign, Call, SourceTree}
 use Rattle.ps_names.specs.declared.entry.Entry.{Entry}
 use Rattle.ps_names.specs.declared.entry.Sort.{Sort}
 use Rattle.ps_names.specs.declared.entry.Sort.TheVariants.{InputSignal, OutputSignal, LocalSignal, Instance, Nothing}
@@ -64,7 +66,8 @@ module _ (es : List Entry) where
   abbrev pub number : Name → ℕ
   number n = number_at (declared_at es n)
 
-  -- the number of the first output of an instance: after the declared signals and the outputs of the instances before it
+  -- the number of the first output of an instance: after the declared signals and the outputs of the instances before
+  -- it
   abbrev pub outputs_before : ℕ → ℕ
   outputs_before k = inputs es + outputs es + locals es + sum_by (λ e. outputs_of e.sort) (take k es)
 

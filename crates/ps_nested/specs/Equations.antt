@@ -1,9 +1,11 @@
--- The equations of the statements of a body, in the copy at a path: those of a scan of an application, with names in the place
--- of numbers, and with what stands before a statement given. The copy of a function block has the equations of its own body.
--- The position of a statement is the list of the numbers of the calls that lead to it and then its own number, and what stands
--- before it is what has a smaller position. So before a statement of a copy stand all that stands before the copy's call, the
--- inputs of the copy, and the statements before it in the body, each with all that its call drives.
-use Rattle.std.specs.Prelude.{◌≡◌, ℕ, Bool, false, List, [], ◌∷◌, ◌++◌, Option, None, Some, codes, map, slice_get, slice_index_or}
+-- The equations of the statements of a body, in the copy at a path: those of a scan of an application, with names in
+-- the place of numbers, and with what stands before a statement given. The copy of a function block has the equations
+-- of its own body. The position of a statement is the list of the numbers of the calls that lead to it and then its own
+-- number, and what stands before it is what has a smaller position. So before a statement of a copy stand all that
+-- stands before the copy's call, the inputs of the copy, and the statements before it in the body, each with all that
+-- its call drives.
+use Rattle.std.specs.Prelude.{◌≡◌, ℕ, Bool, false, List, [], ◌∷◌, ◌++◌, Option, None, Some, codes, map, slice_get}
+use Rattle.std.specs.Prelude.{slice_index_or}
 use Rattle.std.specs.Option.{option_map}
 use Rattle.std.specs.List.{find}
 use Rattle.std.specs.Str.{bytes_eq}
@@ -16,13 +18,15 @@ use Rattle.ps_model.specs.Scanning.{pins_under, limit_of}
 use Rattle.ps_parser.specs.declared.name.Name.{Name}
 use Rattle.ps_parser.specs.declared.statement.Target.{Target}
 use Rattle.ps_parser.specs.declared.statement.Target.TheVariants as target
-use Rattle.ps_parser.specs.Tree.{Time, no_factor, factor, SumTree, no_product, product, ArgumentTree, StatementTree, Assign, Call}
+use Rattle.ps_parser.specs.Tree.{Time, no_factor, factor, SumTree, no_product, product, ArgumentTree, StatementTree}
+use Rattle.ps_parser.specs.Tree.{Assign, Call}
 use Rattle.ps_names.specs.Names.{same}
 use Rattle.ps_nested.specs.Paths.{at, copy_at}
-use Rattle.ps_nested.specs.Reading.{Scan, Before, Reading, nothing, drives, calls, and_then, signal_seen, output_seen, sum_value}
+use Rattle.ps_nested.specs.Reading.{Scan, Before, Reading, nothing, drives, calls, and_then, signal_seen, output_seen}
+use Rattle.ps_nested.specs.Reading.{sum_value}
 
--- A body, as those see it that use it: its name and its inputs, and of a copy of it at a path the instances of the thirteen
--- kinds in it, what its statements drive and call, and what holds of a scan where this stands before them.
+-- A body, as those see it that use it: its name and its inputs, and of a copy of it at a path the instances of the
+-- thirteen kinds in it, what its statements drive and call, and what holds of a scan where this stands before them.
 pub record Body : Type 1 where
   pub name : Name
   pub inputs : List Name
@@ -30,7 +34,8 @@ pub record Body : Type 1 where
   pub leaves : List ℕ → Before
   pub Holds : Scan → List ℕ → Before → Type 0
 
--- What a name of a body is, where it is called or followed by a dot: an instance of one of the thirteen kinds, or one of a function block.
+-- What a name of a body is, where it is called or followed by a dot: an instance of one of the thirteen kinds, or one
+-- of a function block.
 pub data Callee : Type 1 where
   standard : Callee
   derived : Body → Callee
@@ -125,7 +130,8 @@ module _ (callee : Name → Callee) (path : List ℕ) where
     InputsHold before copy args (x ∷ xs) =
         (scan.new.signal (at copy x) ≡ argument_value (reading_at before) (find (λ a. same x a.pin) args)) × InputsHold before copy args xs
 
-    -- a call: the instance moves; or the inputs of the copy have the values of their arguments, and with them driven its body holds
+    -- a call: the instance moves; or the inputs of the copy have the values of their arguments, and with them driven
+    -- its body holds
     abbrev pub CallHolds : Before → Name → List ArgumentTree → Callee → Type 0
     CallHolds before n args standard = Moves scan (at path n) (reading_at before) args (kind_at scan.instances (at path n))
     CallHolds before n args (derived b) =

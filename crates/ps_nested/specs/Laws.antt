@@ -1,4 +1,5 @@
--- By names a source means what its application means; nested is flat, of one scan and of runs of scans; and paths are told apart.
+-- By names a source means what its application means; nested is flat, of one scan and of runs of scans; and paths are
+-- told apart.
 use Rattle.std.specs.Prelude.{◌≡◌, ◌↔◌, ℕ, Bool, List, [], ◌∷◌, ◌++◌, map, length}
 use Rattle.std.specs.List.{AllByRecursion}
 use Rattle.ps_base.specs.LetterCase.{folded}
@@ -24,22 +25,22 @@ pub record HasSizes (net : Network) (w : State) : Type 0 where
   pub signal_each : length w.signals ≡ signal_count net
   pub block_each : length w.blocks ≡ instance_count net
 
--- Of a source that stands for an application: a state solves the equations of the application exactly where it has its sizes
--- and, by its names, is what a scan of the source leaves.
+-- Of a source that stands for an application: a state solves the equations of the application exactly where it has its
+-- sizes and, by its names, is what a scan of the source leaves.
 abbrev pub NamesAreNumbers : Type 0
 NamesAreNumbers = (p : SourceTree) (net : Network) → Stands p net → (old : State) (ins : List Bool) (dt : ℕ) (new : State) →
     Solves net old ins dt new ↔ (HasSizes net new × Scanned (entries p) (plain_body p) (by_name (entries p) old) ins dt (by_name (entries p) new))
 
--- Of a text of the grammar that breaks no rule on function blocks, where its flat source stands for an application: a state
--- solves the equations of the application exactly where it has its sizes and, by its dotted names, is what a scan of the text
--- leaves.
+-- Of a text of the grammar that breaks no rule on function blocks, where its flat source stands for an application: a
+-- state solves the equations of the application exactly where it has its sizes and, by its dotted names, is what a scan
+-- of the text leaves.
 abbrev pub NestedIsFlat : Type 0
 NestedIsFlat = (depth : ℕ) (l : Library) (net : Network) → IsLibraryWithin depth l → block_offences l ≡ [] → Stands (flat l) net →
     (old : State) (ins : List Bool) (dt : ℕ) (new : State) →
     Solves net old ins dt new ↔ (HasSizes net new × Nested l (by_name (entries (flat l)) old) ins dt (by_name (entries (flat l)) new))
 
--- Of such a text: states are what a list of scans and restarts means of the application exactly where they have its sizes and
--- are, by its dotted names, what the list means of the text.
+-- Of such a text: states are what a list of scans and restarts means of the application exactly where they have its
+-- sizes and are, by its dotted names, what the list means of the text.
 abbrev pub NestedRunsAreFlat : Type 0
 NestedRunsAreFlat = (depth : ℕ) (l : Library) (net : Network) → IsLibraryWithin depth l → block_offences l ≡ [] → Stands (flat l) net →
     (items : List Item) (ws : List State) →
@@ -52,8 +53,8 @@ abbrev pub written : List ℕ → List (List ℕ) → List ℕ
 written n [] = n
 written n (m ∷ ms) = n ++ 46 ∷ written m ms
 
--- Two paths of names of the grammar that are written alike without letter case have the same names without letter case. So the
--- path `g.h.e` is that of E in H in G and of nothing else.
+-- Two paths of names of the grammar that are written alike without letter case have the same names without letter case.
+-- So the path `g.h.e` is that of E in H in G and of nothing else.
 abbrev pub PathsAreApart : Type 0
 PathsAreApart = (m : Name) (ms : List Name) (n : Name) (ns : List Name) →
     AllByRecursion (λ (x : Name). IsPlainName x.text) (m ∷ ms) → AllByRecursion (λ (x : Name). IsPlainName x.text) (n ∷ ns) →

@@ -1,11 +1,12 @@
--- What a reader believes: what paths are, what a body reads, the equations of its statements, what a scan of a text means, and how
--- a state is seen by names.
+-- What a reader believes: what paths are, what a body reads, the equations of its statements, what a scan of a text
+-- means, and how a state is seen by names.
 pub mod Paths
 pub mod Reading
 pub mod Equations
 pub mod Texts
 pub mod ByName
--- What a scan of a text with function blocks means, what runs of scans mean, which maps are alike and what they report, and the laws.
+-- What a scan of a text with function blocks means, what runs of scans mean, which maps are alike and what they report,
+-- and the laws.
 pub mod Nested
 pub mod Runs
 pub mod Maps

@@ -20,8 +20,8 @@ use Rattle.ps_nested.specs.Nested.{program_of}
 abbrev pub text_instances : Library → List Instance
 text_instances l = (program_of l).instances []
 
--- Two maps have the same signals, and of each of these instances the same state and the same outputs. What they have at the path
--- of another instance, or at a name that is no output pin, is of no account.
+-- Two maps have the same signals, and of each of these instances the same state and the same outputs. What they have at
+-- the path of another instance, or at a name that is no output pin, is of no account.
 pub record AreAlike (instances : List Instance) (a b : Values) : Type 0 where
   pub signals : (p : List ℕ) → a.signal p ≡ b.signal p
   pub blocks : (k : ℕ) (i : Instance) → slice_get instances k ≡ Some i → a.block i.name ≡ b.block i.name
@@ -37,7 +37,8 @@ AllAlike instances (m ∷ ms) (n ∷ ns) = AreAlike instances m n × AllAlike in
 
 -- ---- reports
 
--- the report that a map gives: the outputs of an application by their names, and what its instances say of themselves by their paths
+-- the report that a map gives: the outputs of an application by their names, and what its instances say of themselves
+-- by their paths
 abbrev pub report_in : Network → Values → Report
 report_in net m = record {
   outs = map (λ (s : Signal). m.signal (folded s.name)) net.outputs;
@@ -48,8 +49,8 @@ report_in net m = record {
 abbrev pub folded_instance : Instance → Instance
 folded_instance i = record { name = folded i.name; kind = i.kind }
 
--- The fields of a report of the application are the outputs of the program as it declares them, and the instances of the text by
--- their paths.
+-- The fields of a report of the application are the outputs of the program as it declares them, and the instances of
+-- the text by their paths.
 pub record HasFields (l : Library) (net : Network) : Type 0 where
   pub outputs : net.outputs ≡ map signal_named (filter (λ (e : Entry). is_output e.sort) (entries l.program))
   pub instances : map folded_instance net.instances ≡ text_instances l

@@ -1,6 +1,6 @@
--- What a scan of a text with function blocks means, by paths, without its flat source. Inside the instance G of a function
--- block each input has the value of its argument, the statements of the body hold of the names behind `g.`, and an output Y
--- that is read behind the dot is the signal `g.y`.
+-- What a scan of a text with function blocks means, by paths, without its flat source. Inside the instance G of a
+-- function block each input has the value of its argument, the statements of the body hold of the names behind `g.`,
+-- and an output Y that is read behind the dot is the signal `g.y`.
 use Rattle.std.specs.Prelude.{ℕ, Bool, true, false, List, [], ◌∷◌, ◌++◌}
 use Rattle.std.specs.List.{flat_map}
 use Rattle.ps_model.specs.declared.named.Instance.{Instance}

@@ -1,5 +1,6 @@
--- Paths: a name behind the names of the instances in which it stands, with a dot behind each and without letter case. So
--- `g.h.e` is the path of E in the copy H in the copy G, and `g.h.` is the path of that copy; the program's path is empty.
+-- Paths: a name behind the names of the instances in which it stands, with a dot behind each and without letter case.
+-- So `g.h.e` is the path of E in the copy H in the copy G, and `g.h.` is the path of that copy; the program's path is
+-- empty.
 use Rattle.std.specs.Prelude.{ℕ, Bool, List, [], ◌∷◌, ◌++◌}
 use Rattle.std.specs.List.{list_any}
 use Rattle.std.specs.Str.{bytes_eq}

@@ -3,18 +3,19 @@ use Rattle.std.specs.Prelude.{ℕ, Bool, true, false, List, [], ◌∷◌, ◌++
 use Rattle.ps_model.specs.declared.named.Instance.{Instance}
 use Rattle.ps_model.specs.Blocks.{Block_state}
 use Rattle.ps_parser.specs.declared.name.Name.{Name}
-use Rattle.ps_parser.specs.Tree.{FactorTree, Signal, Pin, Literal, Time, Group, ProductTree, no_factor, factor, SumTree, no_product, product}
+use Rattle.ps_parser.specs.Tree.{FactorTree, Signal, Pin, Literal, Time, Group, ProductTree, no_factor, factor, SumTree}
+use Rattle.ps_parser.specs.Tree.{no_product, product}
 use Rattle.ps_nested.specs.Paths.{is_among}
 
--- A map: a Boolean for the path of each signal, a Boolean for the path of each instance of one of the thirteen kinds and each
--- name of an output pin, and a state for the path of each such instance.
+-- A map: a Boolean for the path of each signal, a Boolean for the path of each instance of one of the thirteen kinds
+-- and each name of an output pin, and a state for the path of each such instance.
 pub record Values : Type 0 where
   pub signal : List ℕ → Bool
   pub output : List ℕ → List ℕ → Bool
   pub block : List ℕ → Block_state
 
--- A scan: the map before it, the map after it, the time that passed since the scan before in ms, and the instances of the
--- thirteen kinds, each with its path as its name.
+-- A scan: the map before it, the map after it, the time that passed since the scan before in ms, and the instances of
+-- the thirteen kinds, each with its path as its name.
 pub record Scan : Type 0 where
   pub old : Values
   pub new : Values

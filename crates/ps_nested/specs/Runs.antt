@@ -1,4 +1,5 @@
--- Runs of scans of a text with function blocks: what a list of scans and restarts means, with the equations of the text.
+-- Runs of scans of a text with function blocks: what a list of scans and restarts means, with the equations of the
+-- text.
 use Rattle.std.specs.Prelude.{false, List}
 use Rattle.ps_model.specs.Blocks.{idle}
 use Rattle.ps_model.specs.Meaning.{Item, After, nothing, Leaves}
@@ -10,7 +11,8 @@ use Rattle.ps_nested.specs.Nested.{Nested}
 abbrev pub blank : Values
 blank = record { signal = λ p. false; output = λ p pin. false; block = λ p. idle }
 
--- the maps of the scans among these items, each of which is what a scan of the text leaves after the one before, and anew after each restart
+-- the maps of the scans among these items, each of which is what a scan of the text leaves after the one before, and
+-- anew after each restart
 abbrev pub TextRuns : Library → After Values → List Item → List Values → Type 0
 TextRuns l = Leaves blank (Nested l)
 

@@ -52,8 +52,8 @@ begun es = record { driven = map (λ e. folded e.name.text) (inputs_among es); c
 abbrev pub scan_of : Body → Values → ℕ → Values → Scan
 scan_of body old dt new = record { old = old; new = new; dt = dt; instances = body.instances [] }
 
--- The map new is what a scan of a program leaves, which declares these names and has this body: dt ms after the scan that left
--- old, with these values for its inputs.
+-- The map new is what a scan of a program leaves, which declares these names and has this body: dt ms after the scan
+-- that left old, with these values for its inputs.
 pub record Scanned (es : List Entry) (body : Body) (old : Values) (ins : List Bool) (dt : ℕ) (new : Values) : Type 0 where
   -- an input of the program has the scan's value
   pub inputs : (k : ℕ) (e : Entry) → slice_get (inputs_among es) k ≡ Some e → new.signal (folded e.name.text) ≡ slice_index_or ins k false

@@ -1,12 +1,15 @@
 -- The notes of an application: where it is accepted, and most likely not meant so. Profile.
-use Rattle.std.specs.Prelude.{ℕ, ◌+◌, Bool, true, false, not, ◌&&◌, ◌||◌, ◌==◌, nat_lt, List, [], ◌∷◌, ◌++◌, codes, length, Option, Some, None, position, slice_index_or, if◌then◌else◌}
+use Rattle.std.specs.Prelude.{ℕ, ◌+◌, Bool, true, false, not, ◌&&◌, ◌||◌, ◌==◌, nat_lt, List, [], ◌∷◌, ◌++◌, codes}
+use Rattle.std.specs.Prelude.{length, Option, Some, None, position, slice_index_or, if◌then◌else◌}
 use Rattle.std.specs.List.{flat_map, list_any, range_with_len}
 use Rattle.std.specs.Option.{is_some}
 use Rattle.std.specs.Str.{bytes_eq}
 use Rattle.ps_model.specs.declared.driver.Driver.{Driver}
 use Rattle.ps_model.specs.declared.driver.Driver.TheVariants.{Assigned, Output}
 use Rattle.ps_model.specs.declared.kind.Kind.{Kind}
-use Rattle.ps_model.specs.declared.kind.Kind.TheVariants.{Equivalent, Antivalent, EmergencyStop, Espe, TwoHandTwo, TwoHandThree, GuardMonitoring, GuardLocking, EnableSwitch, SafetyRequest, OutControl, Edm}
+use Rattle.ps_model.specs.declared.kind.Kind.TheVariants.{Equivalent, Antivalent, EmergencyStop, Espe, TwoHandTwo}
+use Rattle.ps_model.specs.declared.kind.Kind.TheVariants.{TwoHandThree, GuardMonitoring, GuardLocking, EnableSwitch}
+use Rattle.ps_model.specs.declared.kind.Kind.TheVariants.{SafetyRequest, OutControl, Edm}
 use Rattle.ps_model.specs.declared.kind.Ty.{Ty}
 use Rattle.ps_model.specs.declared.kind.Ty.TheVariants.{Time}
 use Rattle.ps_model.specs.Action.{Actual, Action, free, literal, time, wired, assigns, calls}
@@ -18,7 +21,8 @@ use Rattle.ps_model.specs.Pins.{pin_names}
 use Rattle.ps_model.specs.Scanning.{pin_at}
 use Rattle.ps_model.specs.Values.{reads, values_of_step}
 use Rattle.ps_notes.specs.declared.note.Note.{Note}
-use Rattle.ps_notes.specs.declared.note.Note.TheVariants.{Idle, NoTime, Early, Unread, Unused, Restarts, Off, Zero, Static, Joined, Never, Inverted, Loose}
+use Rattle.ps_notes.specs.declared.note.Note.TheVariants.{Idle, NoTime, Early, Unread, Unused, Restarts, Off, Zero}
+use Rattle.ps_notes.specs.declared.note.Note.TheVariants.{Static, Joined, Never, Inverted, Loose}
 
 -- ---- Who reads a signal.
 
@@ -230,7 +234,8 @@ abbrev pub of_steps : Network → (asked : Bool) → List Action → List Note
 of_steps net asked [] = []
 of_steps net asked (step ∷ steps) = of_step net asked step ++ of_steps net (asked || asks net step) steps
 
--- the notes of an application: of its calls in the order of the text, and then of its signals in the order of their numbers
+-- the notes of an application: of its calls in the order of the text, and then of its signals in the order of their
+-- numbers
 abbrev pub notes : Network → List Note
 notes net =
     of_steps net false net.steps ++ flat_map (λ s. listed (of_signal net s)) (range_with_len 0 (signal_count net))

@@ -5,7 +5,8 @@ ghost use Rattle.ps_model.specs.Args.{actual};
 ghost use Rattle.ps_model.specs.Network.{instance_count};
 ghost use Rattle.ps_model.specs.StepOf.{IsStepOf};
 ghost use Rattle.ps_model.specs.Steps.{action};
-ghost use Rattle.ps_notes.specs.Notes.{at_pin, alone, are_same, of_both, of_channels, is_off, is_stuck, of_enabling, asks_by, asks, is_earlier, driver_of, is_made, is_lost, of_inverted};
+ghost use Rattle.ps_notes.specs.Notes.{at_pin, alone, are_same, of_both, of_channels, is_off, is_stuck, of_enabling};
+ghost use Rattle.ps_notes.specs.Notes.{asks_by, asks, is_earlier, driver_of, is_made, is_lost, of_inverted};
 
 use crate::note::Note;
 use crate::noting::step_of;

@@ -2,8 +2,8 @@
 
 use ps_base::Place;
 
-/// Something in an accepted application that is most likely not meant so. Instances, signals and steps have their numbers in the
-/// application, and pins those of their kind.
+/// Something in an accepted application that is most likely not meant so. Instances, signals and steps have their
+/// numbers in the application, and pins those of their kind.
 #[derive(Clone, Copy, PartialEq, Eq, Debug)]
 pub enum Note {
     /// Nothing stands at the pin Activate of an instance, so the block stays Idle.
@@ -35,7 +35,8 @@ pub enum Note {
         /// The number of the instance.
         instance: u16,
     },
-    /// TRUE stands at the pin S_StartReset or S_AutoReset of an instance, so the block starts or restarts without a Reset.
+    /// TRUE stands at the pin S_StartReset or S_AutoReset of an instance, so the block starts or restarts without a
+    /// Reset.
     Restarts {
         /// The number of the instance.
         instance: u16,

@@ -6,7 +6,8 @@ ghost use Rattle.ps_model.specs.Blocks.{block};
 ghost use Rattle.ps_model.specs.Network.{instance_count, kind_at, signal_count};
 ghost use Rattle.ps_model.specs.StepOf.{IsStepOf};
 ghost use Rattle.ps_model.specs.Steps.{action};
-ghost use Rattle.ps_notes.specs.Notes.{listed, of_pins, of_instance, of_driven, of_signal, of_step, is_local, step_of, notes};
+ghost use Rattle.ps_notes.specs.Notes.{listed, of_pins, of_instance, of_driven, of_signal, of_step, is_local, step_of};
+ghost use Rattle.ps_notes.specs.Notes.{notes};
 ghost use Rattle.ps_notes.specs.Readers.{AreReaders};
 
 use crate::calls::{has_asked, of_channels, of_enabling, of_inverted};

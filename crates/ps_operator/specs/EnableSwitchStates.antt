@@ -1,7 +1,10 @@
 -- The states of SF_EnableSwitch.
 use Rattle.std.specs.Prelude.{ℕ, false}
 use Rattle.ps_operator.specs.declared.enable_switch.Phase.{Phase}
-use Rattle.ps_operator.specs.declared.enable_switch.Phase.TheVariants.{Idle, BasicOperation, SafeOperation, Position1, Enabled, Position3, OperationError1, OperationError2, OperationError3, OperationError4, ResetError1, ResetError2}
+use Rattle.ps_operator.specs.declared.enable_switch.Phase.TheVariants.{Idle, BasicOperation, SafeOperation, Position1}
+use Rattle.ps_operator.specs.declared.enable_switch.Phase.TheVariants.{Enabled, Position3, OperationError1}
+use Rattle.ps_operator.specs.declared.enable_switch.Phase.TheVariants.{OperationError2, OperationError3}
+use Rattle.ps_operator.specs.declared.enable_switch.Phase.TheVariants.{OperationError4, ResetError1, ResetError2}
 use Rattle.ps_operator.specs.declared.enable_switch.EnableSwitchState.{EnableSwitchState}
 use Rattle.ps_model.specs.Kept.{Kept}
 

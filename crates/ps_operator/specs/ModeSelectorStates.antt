@@ -1,9 +1,12 @@
 -- The states of SF_ModeSelector.
 use Rattle.std.specs.Prelude.{ℕ, ◌+◌, ◌^◌}
 use Rattle.ps_operator.specs.declared.mode_selector.Mode.{Mode}
-use Rattle.ps_operator.specs.declared.mode_selector.Mode.TheVariants.{Mode0, Mode1, Mode2, Mode3, Mode4, Mode5, Mode6, Mode7}
+use Rattle.ps_operator.specs.declared.mode_selector.Mode.TheVariants.{Mode0, Mode1, Mode2, Mode3, Mode4, Mode5, Mode6}
+use Rattle.ps_operator.specs.declared.mode_selector.Mode.TheVariants.{Mode7}
 use Rattle.ps_operator.specs.declared.mode_selector.Phase.{Phase}
-use Rattle.ps_operator.specs.declared.mode_selector.Phase.TheVariants.{Idle, ModeChanged, Selected, Locked, ShortCircuit, OpenCircuit, ResetError1, ResetError2}
+use Rattle.ps_operator.specs.declared.mode_selector.Phase.TheVariants.{Idle, ModeChanged, Selected, Locked}
+use Rattle.ps_operator.specs.declared.mode_selector.Phase.TheVariants.{ShortCircuit, OpenCircuit, ResetError1}
+use Rattle.ps_operator.specs.declared.mode_selector.Phase.TheVariants.{ResetError2}
 use Rattle.ps_operator.specs.declared.mode_selector.ModeSelectorState.{ModeSelectorState}
 use Rattle.ps_model.specs.Kept.{Kept}
 

@@ -1,7 +1,10 @@
 -- The states that both types of two-hand control have.
 use Rattle.std.specs.Prelude.{ℕ, Bool, true, false}
 use Rattle.ps_operator.specs.declared.two_hand.CommonPhase.{CommonPhase}
-use Rattle.ps_operator.specs.declared.two_hand.CommonPhase.TheVariants.{Idle, Init, Released, Button1Actuated, Button2Actuated, Enabled, Button2Released, Button1Released, LockedOff, LockedOn, ErrorB1, ErrorB2, ErrorBoth}
+use Rattle.ps_operator.specs.declared.two_hand.CommonPhase.TheVariants.{Idle, Init, Released, Button1Actuated}
+use Rattle.ps_operator.specs.declared.two_hand.CommonPhase.TheVariants.{Button2Actuated, Enabled, Button2Released}
+use Rattle.ps_operator.specs.declared.two_hand.CommonPhase.TheVariants.{Button1Released, LockedOff, LockedOn, ErrorB1}
+use Rattle.ps_operator.specs.declared.two_hand.CommonPhase.TheVariants.{ErrorB2, ErrorBoth}
 
 -- The DiagCode of each state.
 abbrev pub code_of : CommonPhase → ℕ

@@ -1,8 +1,8 @@
 //! The blocks of an operator (PLCopen TC5, in the profile of this project).
 //!
 //! - `mode_selector`: SF_ModeSelector.
-//! - `two_hand_two`, `two_hand_three`: SF_TwoHandControlTypeII and SF_TwoHandControlTypeIII, and `two_hand`: what both have in
-//!   common.
+//! - `two_hand_two`, `two_hand_three`: SF_TwoHandControlTypeII and SF_TwoHandControlTypeIII, and `two_hand`: what both
+//!   have in common.
 //! - `enable_switch`: SF_EnableSwitch.
 #![tactic(auto)]
 

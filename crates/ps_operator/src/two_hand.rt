@@ -3,7 +3,8 @@
 ghost use Rattle.std.specs.Prelude.{◌≡◌, ◌&&◌, true, false, IfSome, IfNone, ◌≤◌, ◌≢◌};
 ghost use Rattle.ps_model.specs.Blocks.{next};
 ghost use Rattle.ps_model.specs.Stored.{is_state};
-ghost use Rattle.ps_model.specs.declared.kind.Kind.TheVariants.{TwoHandTwo as TwoHandTwoKind, TwoHandThree as TwoHandThreeKind};
+ghost use Rattle.ps_model.specs.declared.kind.Kind.TheVariants.{TwoHandTwo as TwoHandTwoKind};
+ghost use Rattle.ps_model.specs.declared.kind.Kind.TheVariants.{TwoHandThree as TwoHandThreeKind};
 ghost use Rattle.ps_block.specs.Seeing.{conditions_of};
 ghost use Rattle.ps_model.specs.PinBits.{pin_of};
 ghost use Rattle.ps_operator.specs.TwoHandStates.{code_of, waits_for_second};

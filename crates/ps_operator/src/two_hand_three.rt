@@ -11,7 +11,8 @@ use crate::two_hand::CommonPhase;
 use ps_block::{Image, Outs, Pins, SafetyBlock, Seen};
 use ps_model::Kind;
 
-/// A state of the table, one for each DiagCode: those of type II, and three in which the second button came late or not at all.
+/// A state of the table, one for each DiagCode: those of type II, and three in which the second button came late or not
+/// at all.
 #[derive(Clone, Copy, PartialEq, Eq, Debug)]
 pub enum Phase {
     Common(CommonPhase),

@@ -1,6 +1,7 @@
 // Files in memory, whose failures are chosen beforehand.
 
-ghost use Rattle.std.specs.Prelude.{◌≡◌, ◌≢◌, ◌<◌, ◌≤◌, ◌+◌, ◌∷◌, ◌++◌, ◌↔◌, [], true, ℕ, List, Some, None, IsSome, IsErr, OnOk, OnErr, IfOk, length, min, take, drop};
+ghost use Rattle.std.specs.Prelude.{◌≡◌, ◌≢◌, ◌<◌, ◌≤◌, ◌+◌, ◌∷◌, ◌++◌, ◌↔◌, [], true, ℕ, List, Some, None, IsSome};
+ghost use Rattle.std.specs.Prelude.{IsErr, OnOk, OnErr, IfOk, length, min, take, drop};
 ghost use Rattle.ps_outside.specs.InMemory.{ReadFails, ShareCount, given_count};
 ghost use Rattle.ps_outside.specs.Outside.{Rose, Reads, CountsStay, last_count};
 

@@ -1,6 +1,7 @@
 // A sink in memory, whose failures are chosen beforehand.
 
-ghost use Rattle.std.specs.Prelude.{◌≡◌, ◌≤◌, ◌<◌, ◌+◌, ◌∷◌, ◌++◌, ◌↔◌, [], true, ℕ, List, length, min, IsErr, IfOk, OnOk, OnErr};
+ghost use Rattle.std.specs.Prelude.{◌≡◌, ◌≤◌, ◌<◌, ◌+◌, ◌∷◌, ◌++◌, ◌↔◌, [], true, ℕ, List, length, min, IsErr, IfOk};
+ghost use Rattle.std.specs.Prelude.{OnOk, OnErr};
 ghost use Rattle.ps_outside.specs.InMemory.{WriteFails};
 ghost use Rattle.ps_outside.specs.Outside.{Rose, last_count};
 

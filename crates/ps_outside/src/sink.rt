@@ -1,6 +1,7 @@
 // An output that takes bytes.
 
-ghost use Rattle.std.specs.Prelude.{◌≡◌, ◌≤◌, ◌<◌, ◌++◌, [], ℕ, List, Bool, IsTrue, length, take, IfOk, OnOk, OnErr, IfErr};
+ghost use Rattle.std.specs.Prelude.{◌≡◌, ◌≤◌, ◌<◌, ◌++◌, [], ℕ, List, Bool, IsTrue, length, take, IfOk, OnOk, OnErr};
+ghost use Rattle.std.specs.Prelude.{IfErr};
 ghost use Rattle.ps_outside.specs.Outside.{Rose};
 
 use crate::Failed;
@@ -50,7 +51,8 @@ pub trait Output: Sink {
         ensures kept { Self.taken self.new ≡ Self.taken self.old }
         ensures telling { Self.tells self.new ≡ Self.tells self.old };
 
-    /// Whether the last write, or the last handing on, failed since nobody reads the output any more, as behind `| head`.
+    /// Whether the last write, or the last handing on, failed since nobody reads the output any more, as behind `|
+    /// head`.
     fn is_closed(&self) -> bool;
 }
 

@@ -10,7 +10,8 @@ use Rattle.ps_parser.specs.declared.statement.Target.TheVariants as target
 use Rattle.ps_parser.specs.declared.sign.Sign.TheVariants as sign
 use Rattle.ps_parser.specs.declared.heads.Heads.{Heads}
 use Rattle.ps_parser.specs.Symbol.{Symbol, Mark, Named, Truth, Duration, is_mark, is_named}
-use Rattle.ps_parser.specs.Tree.{FactorTree, Signal, Pin, Literal, Time, Group, ProductTree, SumTree, ArgumentTree, StatementTree, Assign, Call, SourceTree, factors, products}
+use Rattle.ps_parser.specs.Tree.{FactorTree, Signal, Pin, Literal, Time, Group, ProductTree, SumTree, ArgumentTree}
+use Rattle.ps_parser.specs.Tree.{StatementTree, Assign, Call, SourceTree, factors, products}
 use Rattle.ps_parser.specs.Spelt.{factor_spelt, target_spelt, part_sign, head_sign, foot_sign}
 use Rattle.ps_parser.specs.Phrase.{Phrase, ◌then◌, just, finish, many, JoinedFits, joined, optional, either, seen}
 

@@ -1,4 +1,5 @@
--- What a reader believes: which trees there are, how each is spelt, what a language and its refusals are, what the parser answers, and the places of steps.
+-- What a reader believes: which trees there are, how each is spelt, what a language and its refusals are, what the
+-- parser answers, and the places of steps.
 pub mod Names
 pub mod Tree
 pub mod Symbol

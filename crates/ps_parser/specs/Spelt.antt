@@ -13,7 +13,8 @@ use Rattle.ps_parser.specs.declared.sign.Sign.TheVariants as sign
 use Rattle.ps_parser.specs.declared.heads.Heads.{Heads}
 use Rattle.ps_parser.specs.declared.heads.Heads.TheVariants as heads
 use Rattle.ps_parser.specs.Symbol.{Symbol, Mark, Named, Truth, Duration}
-use Rattle.ps_parser.specs.Tree.{FactorTree, Signal, Pin, Literal, Time, Group, ProductTree, no_factor, factor, SumTree, no_product, product, ArgumentTree, StatementTree, Assign, Call, SourceTree}
+use Rattle.ps_parser.specs.Tree.{FactorTree, Signal, Pin, Literal, Time, Group, ProductTree, no_factor, factor, SumTree}
+use Rattle.ps_parser.specs.Tree.{no_product, product, ArgumentTree, StatementTree, Assign, Call, SourceTree}
 
 -- the spellings in order, with the sign between each two
 abbrev pub joined_spell : {X : Type 0} → Symbol → (X → List Symbol) → List X → List Symbol

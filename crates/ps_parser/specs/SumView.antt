@@ -1,13 +1,15 @@
 -- The tree for which a sum of the program stands.
 use Rattle.std.specs.Prelude.{List}
 use Rattle.ps_parser.specs.declared.expression.Factor.TheOpen.{Factor-F, Factors-F, Product-F, Products-F, Sum-F}
-use Rattle.ps_parser.specs.declared.expression.Factor.TheFolds.{fold-Factor, fold-Factors, fold-Product, fold-Products, fold-Sum}
+use Rattle.ps_parser.specs.declared.expression.Factor.TheFolds.{fold-Factor, fold-Factors, fold-Product, fold-Products}
+use Rattle.ps_parser.specs.declared.expression.Factor.TheFolds.{fold-Sum}
 use Rattle.ps_parser.specs.declared.expression.Factor.{Factor}
 use Rattle.ps_parser.specs.declared.expression.Factors.{Factors}
 use Rattle.ps_parser.specs.declared.expression.Product.{Product}
 use Rattle.ps_parser.specs.declared.expression.Products.{Products}
 use Rattle.ps_parser.specs.declared.expression.Sum.{Sum}
-use Rattle.ps_parser.specs.Tree.{FactorTree, Signal, Pin, Literal, Time, Group, ProductTree, SumTree, product_of, sum_of}
+use Rattle.ps_parser.specs.Tree.{FactorTree, Signal, Pin, Literal, Time, Group, ProductTree, SumTree, product_of}
+use Rattle.ps_parser.specs.Tree.{sum_of}
 
 -- one level, with what stands inside already seen
 abbrev pub factor_step : Factor-F FactorTree (List FactorTree) ProductTree (List ProductTree) SumTree → FactorTree

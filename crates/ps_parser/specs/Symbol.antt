@@ -1,4 +1,5 @@
--- The tokens as a spelling lists them: each with what is free in its spelling, and with the place of a name and of a literal.
+-- The tokens as a spelling lists them: each with what is free in its spelling, and with the place of a name and of a
+-- literal.
 use Rattle.std.specs.Prelude.{◌==◌, ◌≤◌, ℕ, Bool, true, false, List, Option, Some, None, map}
 use Rattle.std.specs.List.{AllByRecursion}
 use Rattle.ps_base.specs.declared.failing.Place.{Place}
@@ -9,7 +10,9 @@ use Rattle.ps_lexer.specs.declared.token.Form.TheVariants as form
 use Rattle.ps_lexer.specs.declared.token.Word.TheVariants as word
 use Rattle.ps_parser.specs.declared.name.Name.{Name}
 use Rattle.ps_parser.specs.declared.sign.Sign.{Sign}
-use Rattle.ps_parser.specs.declared.sign.Sign.TheVariants.{Program, EndProgram, FunctionBlock, EndFunctionBlock, VarInput, VarOutput, Var, EndVar, And, Or, Assign, Colon, Semicolon, Comma, LeftBracket, RightBracket, Dot}
+use Rattle.ps_parser.specs.declared.sign.Sign.TheVariants.{Program, EndProgram, FunctionBlock, EndFunctionBlock}
+use Rattle.ps_parser.specs.declared.sign.Sign.TheVariants.{VarInput, VarOutput, Var, EndVar, And, Or, Assign, Colon}
+use Rattle.ps_parser.specs.declared.sign.Sign.TheVariants.{Semicolon, Comma, LeftBracket, RightBracket, Dot}
 use Rattle.ps_parser.specs.Names.{block_word, IsPlainName}
 
 -- A token that is always spelt alike, a name, a Boolean literal, or a TIME literal with its value in ms.

@@ -5,7 +5,8 @@ use Rattle.std.proofs.Common.{ap}
 use base.Stored.{Coded, Gv, gnil, gnum, gcons}
 use Rattle.ps_base.specs.declared.failing.Place.{Place}
 use Rattle.ps_parser.specs.declared.name.Name.{Name}
-use Rattle.ps_parser.specs.Tree.{FactorTree, Signal, Pin, Literal, Time, Group, ProductTree, no_factor, factor, SumTree, no_product, product}
+use Rattle.ps_parser.specs.Tree.{FactorTree, Signal, Pin, Literal, Time, Group, ProductTree, no_factor, factor, SumTree}
+use Rattle.ps_parser.specs.Tree.{no_product, product}
 
 -- a place as two numbers
 abbrev pub place_code : Coded Place

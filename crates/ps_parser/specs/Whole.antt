@@ -9,7 +9,8 @@ use Rattle.ps_parser.specs.declared.section.Declaration.{Declaration}
 use Rattle.ps_parser.specs.declared.section.Section.{Section}
 use Rattle.ps_parser.specs.declared.statement.Target.{Target}
 use Rattle.ps_parser.specs.declared.statement.Target.TheVariants as target
-use Rattle.ps_parser.specs.Tree.{FactorTree, Signal, Pin, Literal, Time, Group, ProductTree, no_factor, factor, SumTree, no_product, product, ArgumentTree, StatementTree, Assign, Call, SourceTree}
+use Rattle.ps_parser.specs.Tree.{FactorTree, Signal, Pin, Literal, Time, Group, ProductTree, no_factor, factor, SumTree}
+use Rattle.ps_parser.specs.Tree.{no_product, product, ArgumentTree, StatementTree, Assign, Call, SourceTree}
 
 -- Each name is named as asked for, and each TIME literal has its limit. No product, no sum and no declaration is empty.
 module _ (IsNamed : List ℕ → Type 0) where

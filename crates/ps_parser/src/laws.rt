@@ -39,7 +39,8 @@ pub fn one_answer()
         → r ≢ Err Fail.Memory → q ≢ Err Fail.Memory → r ≡ q }
 {}
 
-/// From a number on, tokens have one answer of `parse_from`: two answers, neither of which is want of memory, are equal.
+/// From a number on, tokens have one answer of `parse_from`: two answers, neither of which is want of memory, are
+/// equal.
 pub fn one_answer_from()
     ensures { (h : Heads) (tokens : Tokens) (at : ℕ) (r q : Result (SourceTree × ℕ) Fail)
         → AnswersFrom h tokens at r → AnswersFrom h tokens at q → r ≢ Err Fail.Memory → q ≢ Err Fail.Memory → r ≡ q }

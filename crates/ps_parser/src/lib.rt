@@ -1,9 +1,10 @@
 //! The parser: from the tokens of a text to its source tree, exactly by the grammar.
 //!
-//! Rooms: `source`, `section`, `statement`, `expression` and `name` have the tree that the calls above take; `heads` and
-//! `sign` its words; `read_source`, `read_section`, `read_statement` and `read_expression` read it, one function for each
-//! phrase of the grammar, with `peek` for what stands next and `stop` for why nothing is read; `laws` says that tokens
-//! have one answer. What a reader believes stands in specs: `Names`, `Tree`, `Symbol`, `Spelt`, `Whole`, `Parsing`, `Places`.
+//! Rooms: `source`, `section`, `statement`, `expression` and `name` have the tree that the calls above take; `heads`
+//! and `sign` its words; `read_source`, `read_section`, `read_statement` and `read_expression` read it, one function
+//! for each phrase of the grammar, with `peek` for what stands next and `stop` for why nothing is read; `laws` says
+//! that tokens have one answer. What a reader believes stands in specs: `Names`, `Tree`, `Symbol`, `Spelt`, `Whole`,
+//! `Parsing`, `Places`.
 #![tactic(auto)]
 
 mod expression;

@@ -85,7 +85,8 @@ fn place(tokens: &Tokens, at: usize) -> Place
     }
 }
 
-/// Whether the word that begins a source stands at the token with the number `at`: PROGRAM or FUNCTION_BLOCK, by `heads`.
+/// Whether the word that begins a source stands at the token with the number `at`: PROGRAM or FUNCTION_BLOCK, by
+/// `heads`.
 pub fn is_head_at(tokens: &Tokens, at: u32, heads: Heads) -> bool
     requires { at ≤ length tokens.now.list }
     ensures { IsTrue result ↔ (next (symbols (drop at tokens.now.list)) ≡ Some (Mark (head_sign heads))) }
@@ -124,8 +125,8 @@ pub fn parse_from(
     }
 }
 
-/// The program that the tokens spell, from PROGRAM to END_PROGRAM, with nothing behind it. Its groups are nested at most
-/// `MOST_GROUPS` deep. Time is linear in the number of tokens.
+/// The program that the tokens spell, from PROGRAM to END_PROGRAM, with nothing behind it. Its groups are nested at
+/// most `MOST_GROUPS` deep. Time is linear in the number of tokens.
 ///
 /// Otherwise the refusal P1 or P2 at the earliest token, as `parse_from` says; P1 also at the first token behind
 /// END_PROGRAM.

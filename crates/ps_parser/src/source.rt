@@ -13,8 +13,9 @@ use std::marker::Model;
 
 /// A program or a function block: its name, its sections and its statements, which contracts see as a `SourceTree`.
 ///
-/// Groups are nested at most `MOST_GROUPS` deep. Each TIME literal is at most `LARGEST_TIME` ms. Each name in it is a name of the language, or several names joined by
-/// dots as one name. The names of a declaration, the factors of a product and the products of a sum are one at least.
+/// Groups are nested at most `MOST_GROUPS` deep. Each TIME literal is at most `LARGEST_TIME` ms. Each name in it is a
+/// name of the language, or several names joined by dots as one name. The names of a declaration, the factors of a
+/// product and the products of a sum are one at least.
 pub struct Source {
     pub name: Name,
     pub sections: Sections,
@@ -56,9 +57,9 @@ impl Source {
         let _ = &self.name;
     }
 
-    /// The place of a step, which is that of its assignment's target or of its called name; where a pin's name is given,
-    /// that of the pin's first mention in the call. The step has to exist, and with a pin's name it has to be a call that
-    /// names this pin, without letter case. It takes no memory.
+    /// The place of a step, which is that of its assignment's target or of its called name; where a pin's name is
+    /// given, that of the pin's first mention in the call. The step has to exist, and with a pin's name it has to be a
+    /// call that names this pin, without letter case. It takes no memory.
     pub fn place(&self, step: u16, pin: Option<&str>) -> Place
         requires { IsSome (step_place self.now step (pin_text pin)) }
         ensures { Some result ≡ step_place self.now step (pin_text pin.entry) }

@@ -66,7 +66,8 @@ pub fn call_step(app: &App, i: u16) -> u16
     }
 }
 
-/// The value at input pin j of an instance, as its call reads it in a scan; FALSE at a pin for a TIME and past the pins.
+/// The value at input pin j of an instance, as its call reads it in a scan; FALSE at a pin for a TIME and past the
+/// pins.
 pub fn input_pin(app: &App, i: u16, j: u8, signals: &Signals<'_>) -> bool
     requires { i < instance_count app.now }
     ensures { result ≡ input_pin app.now signals.entry.now.before.now signals.entry.now.behind.now i j }

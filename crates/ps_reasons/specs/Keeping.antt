@@ -26,8 +26,8 @@ stepped_as k b passed after = record {
   block = after;
 }
 
--- Where a block stands for an instance before a scan with these signals, before which so many ms passed, what is seen is
--- so in the scan, and the block behind it stands for the instance behind.
+-- Where a block stands for an instance before a scan with these signals, before which so many ms passed, what is seen
+-- is so in the scan, and the block behind it stands for the instance behind.
 abbrev pub StepsSo : Network → (i : ℕ) → CountedBlock → (passed : ℕ) → Signals → Stepped → Type 0
 StepsSo net i b passed x s = (old : State) (ins : List Bool) (since : ℕ) (new : State) → Solves net old ins since new →
     x.before.now ≡ old.signals → x.behind.now ≡ new.signals →

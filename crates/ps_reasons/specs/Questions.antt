@@ -1,5 +1,6 @@
 -- What is asked of a scan, and when it is answered.
-use Rattle.std.specs.Prelude.{◌≡◌, ◌⊎◌, ℕ, ◌+◌, ◌<◌, Bool, false, List, Contains, Some, length, slice_get, slice_index_or}
+use Rattle.std.specs.Prelude.{◌≡◌, ◌⊎◌, ℕ, ◌+◌, ◌<◌, Bool, false, List, Contains, Some, length, slice_get}
+use Rattle.std.specs.Prelude.{slice_index_or}
 use Rattle.ps_model.specs.Blocks.{block}
 use Rattle.ps_model.specs.Network.{Network, first_pin, instance_count, kind_at}
 use Rattle.ps_model.specs.Scanning.{Solves, State}
@@ -37,8 +38,8 @@ IsOf net (Signal s) = Unit {0}
 IsOf net (Instance i) = i < instance_count net
 IsOf net (Pin i j) = i < instance_count net
 
--- What is asked for is told: the value of a signal; the state of an instance, and the values of its safe outputs; what is
--- read at a pin.
+-- What is asked for is told: the value of a signal; the state of an instance, and the values of its safe outputs; what
+-- is read at a pin.
 abbrev pub IsAnswered : Network → Scene → Question → (told : Fact → Type 0) → Type 0
 IsAnswered net x (Signal s) told = told (value_of x s)
 IsAnswered net x (Instance i) told =

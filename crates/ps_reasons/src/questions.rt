@@ -6,7 +6,8 @@ ghost use Rattle.ps_model.specs.Network.{first_pin, instance_count, kind_at};
 ghost use Rattle.ps_why.specs.Telling.{Adds};
 ghost use Rattle.ps_why.specs.declared.fact.Fact.TheVariants.{PinIs, StateIs};
 ghost use Rattle.ps_pins.specs.Calls as pins;
-ghost use Rattle.ps_reasons.specs.Questions.{AreRoots, IsAnswered, IsAnsweredThere, IsOf, IsPinOfCall, IsRoot, IsValue, value_of};
+ghost use Rattle.ps_reasons.specs.Questions.{AreRoots, IsAnswered, IsAnsweredThere, IsOf, IsPinOfCall, IsRoot, IsValue};
+ghost use Rattle.ps_reasons.specs.Questions.{value_of};
 ghost use Rattle.ps_reasons.specs.Scenes.{IsSceneFor};
 
 use crate::explaining::{Explanation, explain};

@@ -1,6 +1,7 @@
 // On what the value of a signal rests.
 
-ghost use Rattle.std.specs.Prelude.{◌≡◌, ◌<◌, ℕ, false, true, length, slice_get, Contains, IfOk, OnOk, Some, MatchOption};
+ghost use Rattle.std.specs.Prelude.{◌≡◌, ◌<◌, ℕ, false, true, length, slice_get, Contains, IfOk, OnOk, Some};
+ghost use Rattle.std.specs.Prelude.{MatchOption};
 ghost use Rattle.ps_model.specs.Action.{assigns};
 ghost use Rattle.ps_model.specs.Blocks.{block};
 ghost use Rattle.ps_model.specs.Demand.{demand};

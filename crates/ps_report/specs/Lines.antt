@@ -1,5 +1,6 @@
 -- The lines of a run, each ended by a line feed.
-use Rattle.std.specs.Prelude.{ℕ, Bool, false, List, [], ◌∷◌, ◌++◌, ◌+◌, codes, decimal, map, sum_by, length, Option, Some, None}
+use Rattle.std.specs.Prelude.{ℕ, Bool, false, List, [], ◌∷◌, ◌++◌, ◌+◌, codes, decimal, map, sum_by, length, Option}
+use Rattle.std.specs.Prelude.{Some, None}
 use Rattle.std.specs.List.{flat_map}
 use Rattle.std.specs.Int.{to_be_bytes, w16}
 use Rattle.std.specs.Char.{to_ascii_uppercase}

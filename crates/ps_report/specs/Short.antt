@@ -1,7 +1,10 @@
 -- The short lines: refusals, the counts of an application, and the summary of a load.
 use Rattle.std.specs.Prelude.{ℕ, Bool, true, false, List, [], ◌++◌, codes, decimal, length, if◌then◌else◌}
 use Rattle.ps_base.specs.declared.failing.Rule.{Rule}
-use Rattle.ps_base.specs.declared.failing.Rule.TheVariants.{L1, L2, L3, L4, L5, P1, P2, N1, N2, N3, N4, N5, N6, N7, N8, N9, N10, N11, N12, S1, S2, S3, S4, C1, C2, O1, O2, O3, O4, O5, T1, T2, T3, T4, T5, T6, T7, T8, T9, F1, F2, F3, F4, F5, M1, B1, B2, B3, B4, B5}
+use Rattle.ps_base.specs.declared.failing.Rule.TheVariants.{L1, L2, L3, L4, L5, P1, P2, N1, N2, N3, N4, N5, N6, N7, N8}
+use Rattle.ps_base.specs.declared.failing.Rule.TheVariants.{N9, N10, N11, N12, S1, S2, S3, S4, C1, C2, O1, O2, O3, O4}
+use Rattle.ps_base.specs.declared.failing.Rule.TheVariants.{O5, T1, T2, T3, T4, T5, T6, T7, T8, T9, F1, F2, F3, F4, F5}
+use Rattle.ps_base.specs.declared.failing.Rule.TheVariants.{M1, B1, B2, B3, B4, B5}
 use Rattle.ps_base.specs.declared.failing.Refusal.{Refusal}
 use Rattle.ps_model.specs.Network.{Network, input_count, instance_count}
 use Rattle.ps_model.specs.Nodes.{app_nodes}

@@ -4,7 +4,8 @@ ghost use Rattle.std.specs.Prelude.{◌≡◌, ◌+◌, ◌≤◌, ◌++◌, len
 ghost use Rattle.std.specs.List.{flat_map};
 ghost use Rattle.ps_model.specs.Network.{instance_count};
 ghost use Rattle.ps_report.specs.Image.{channel_letter};
-ghost use Rattle.ps_report.specs.Lines.{cause_text, given_cause, named_value, output_texts, instance_texts, outputs_room, instances_room};
+ghost use Rattle.ps_report.specs.Lines.{cause_text, given_cause, named_value, output_texts, instance_texts};
+ghost use Rattle.ps_report.specs.Lines.{outputs_room, instances_room};
 
 use crate::line::{put, put_byte, put_named_diag, put_named_value, put_number};
 use ps_base::Memory;
@@ -166,8 +167,8 @@ impl LineBuffer {
         })
     }
 
-    /// The line of a scan, as `30 S_Motor=1 E=1,0,8000`: its time in ms, each output, and Ready, Error and DiagCode of each
-    /// instance, in order of declaration, ended by a line feed. It takes no memory.
+    /// The line of a scan, as `30 S_Motor=1 E=1,0,8000`: its time in ms, each output, and Ready, Error and DiagCode of
+    /// each instance, in order of declaration, ended by a line feed. It takes no memory.
     pub fn report_line(&mut self, app: &App, now: u32, report: &Report) -> &[u8]
         requires room { line_room app.now ≤ self.old }
         requires outputs { length report.now.outs ≡ length app.now.outputs }

@@ -6,8 +6,8 @@ ghost use Rattle.ps_report.specs.Short.{check_text, load_text};
 use crate::short::ShortLine;
 use ps_model::App;
 
-/// The summary of a load: `load 1 scans 1000 true 500 errors 0`, with its number, the number of scans, and the numbers of TRUE
-/// outputs and of TRUE Errors. It takes no memory.
+/// The summary of a load: `load 1 scans 1000 true 500 errors 0`, with its number, the number of scans, and the numbers
+/// of TRUE outputs and of TRUE Errors. It takes no memory.
 pub fn load_line(n: u32, scans: u64, trues: u64, errors: u64) -> ShortLine
     ensures { result ≡ load_text n scans trues errors }
 {
@@ -23,7 +23,8 @@ pub fn load_line(n: u32, scans: u64, trues: u64, errors: u64) -> ShortLine
     line
 }
 
-/// The counts of an accepted application: `accepted inputs 3 outputs 1 locals 0 instances 1 steps 2 nodes 5`. It takes no memory.
+/// The counts of an accepted application: `accepted inputs 3 outputs 1 locals 0 instances 1 steps 2 nodes 5`. It takes
+/// no memory.
 pub fn check_line(app: &App) -> ShortLine
     ensures { result ≡ check_text app.now }
 {

@@ -59,8 +59,9 @@ fn add_code_line(alloc: Global, text: &mut Bytes, code: &[u8], i: usize) -> Resu
     Ok(())
 }
 
-/// A channel's part of the text of an image: the line `A code 33 memory 97 turns 11` with the length of the code in bytes, the
-/// length of the cells in bytes and the budget of turns, and then the code in lower-case hexadecimal, 32 bytes a line.
+/// A channel's part of the text of an image: the line `A code 33 memory 97 turns 11` with the length of the code in
+/// bytes, the length of the cells in bytes and the budget of turns, and then the code in lower-case hexadecimal, 32
+/// bytes a line.
 pub fn image_text(
     alloc: Global,
     channel: Channel,

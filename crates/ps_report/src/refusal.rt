@@ -107,8 +107,8 @@ fn put_column(line: &mut ShortLine, refusal: &Refusal)
     }
 }
 
-/// The line of a refusal: `refused L3 line 1 column 1`, or `refused T4 line 4` for the rules C, O, T and F, whose place is a
-/// line alone. It takes no memory.
+/// The line of a refusal: `refused L3 line 1 column 1`, or `refused T4 line 4` for the rules C, O, T and F, whose place
+/// is a line alone. It takes no memory.
 pub fn refusal_line(refusal: &Refusal) -> ShortLine
     ensures { result ≡ refusal_text refusal.now }
 {

@@ -1,5 +1,6 @@
 -- What a safe value demands of the inputs of its scan and of the signals of the scan before. Profile.
-use Rattle.std.specs.Prelude.{ℕ, zero, suc, ◌-◌, Bool, true, false, not, ◌==◌, List, [], ◌∷◌, map, length, Option, Some, None, if◌then◌else◌, nat_lt, slice_get, slice_index_or}
+use Rattle.std.specs.Prelude.{ℕ, zero, suc, ◌-◌, Bool, true, false, not, ◌==◌, List, [], ◌∷◌, map, length, Option, Some}
+use Rattle.std.specs.Prelude.{None, if◌then◌else◌, nat_lt, slice_get, slice_index_or}
 use Rattle.ps_model.specs.declared.kind.Kind.{Kind}
 use Rattle.ps_model.specs.declared.demands.Need.{Need}
 use Rattle.ps_model.specs.declared.demands.Need.TheVariants.{On, Off}
@@ -10,7 +11,8 @@ use Rattle.ps_model.specs.Scanning.{pin_at}
 use Rattle.ps_model.specs.Typing.{safe, is_safe_type}
 use Rattle.ps_model.specs.Demand.{demand as pin_formula}
 use Rattle.ps_required.specs.declared.join.Join.TheVariants.{And, Or}
-use Rattle.ps_required.specs.Requirement.{Requirement, Requirements, always, never, now, before, not_now, not_before, group, no_part, part, requirements}
+use Rattle.ps_required.specs.Requirement.{Requirement, Requirements, always, never, now, before, not_now, not_before}
+use Rattle.ps_required.specs.Requirement.{group, no_part, part, requirements}
 
 -- TRUE or FALSE
 abbrev pub constant : Bool → Requirement
@@ -49,7 +51,8 @@ module _ (net : Network) (leaves : ℕ → Requirement) where
   demand_at_pin default (time t) = never
   demand_at_pin default (wired e) = demand_over e
 
--- "not" of a signal that step k reads is kept where it is an input, or has no driver before step k; else it becomes TRUE
+-- "not" of a signal that step k reads is kept where it is an input, or has no driver before step k; else it becomes
+-- TRUE
 abbrev pub negated_signal : Network → ℕ → ℕ → Requirement
 negated_signal net k s = if nat_lt s (input_count net) then not_now s else if is_new net k s then always else not_before s
 
@@ -74,14 +77,16 @@ module _ (net : Network) (k : ℕ) (leaves : ℕ → Requirement) where
   abbrev pub output_demand : Kind → List Actual → ℕ → Requirement
   output_demand kind args j = conjunction (map (demand_of_need kind args) (pin_formula kind j))
 
--- what step k makes of the demands of signals: an assigned one has that of its value, and an output of a called instance its block's
+-- what step k makes of the demands of signals: an assigned one has that of its value, and an output of a called
+-- instance its block's
 abbrev pub after_step : Network → ℕ → Option Action → (ℕ → Requirement) → ℕ → Requirement
 after_step net k None leaves s = leaves s
 after_step net k (Some (assigns t e)) leaves s = if t == s then demand_over net leaves e else leaves s
 after_step net k (Some (calls i args)) leaves s =
     if drives net s (calls i args) then output_demand net k leaves (kind_at net i) args (s - first_pin net i) else leaves s
 
--- the demand of a safe signal as step k reads it: an input is itself, and what no step before k drives is the value of the scan before
+-- the demand of a safe signal as step k reads it: an input is itself, and what no step before k drives is the value of
+-- the scan before
 abbrev pub demand_read : Network → ℕ → ℕ → Requirement
 demand_read net zero s = if nat_lt s (input_count net) then now s else before s
 demand_read net (suc k) s = after_step net k (slice_get net.steps k) (demand_read net k) s

@@ -1,11 +1,13 @@
--- What a demand gives to a hasher, and that demands which are the same give the same: so the parts that are repeated are found by their hashes.
+-- What a demand gives to a hasher, and that demands which are the same give the same: so the parts that are repeated
+-- are found by their hashes.
 use Rattle.std.proofs.Common.{◌≡◌, true, List, [], ◌++◌, ap, ◌∙◌, refl, subst}
 use Rattle.std.specs.Prelude.{ℕ}
 use Rattle.std.specs.Cmp.{IsEquivalence, both_ways}
 use Rattle.std.specs.Hash.{u8, u16}
 use Rattle.std.proofs.lemmas.Bool.{false≢true, and_parts, and_from, eqb-true, eq-eqb}
 use Rattle.ps_required.specs.declared.join.Join.TheVariants.{And, Or}
-use Rattle.ps_required.specs.Requirement.{Requirement, Requirements, always, never, now, before, not_now, not_before, group, no_part, part, same, same_parts}
+use Rattle.ps_required.specs.Requirement.{Requirement, Requirements, always, never, now, before, not_now, not_before}
+use Rattle.ps_required.specs.Requirement.{group, no_part, part, same, same_parts}
 
 -- what a requirement gives to a hasher: a number of its sort, and that of its signal or what each part gives
 abbrev mutual

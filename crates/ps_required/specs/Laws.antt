@@ -9,7 +9,8 @@ use Rattle.ps_required.specs.Requirement.{Requirement, holds}
 use Rattle.ps_required.specs.Demand.{demand_at, demand}
 use Rattle.ps_required.specs.Slim.{slim}
 
--- a safe value, as step k reads it in any scan, is TRUE only where its demand holds of the scan's inputs and the state of the scan before
+-- a safe value, as step k reads it in any scan, is TRUE only where its demand holds of the scan's inputs and the state
+-- of the scan before
 abbrev pub ValuesMeetDemands : Network → Type 0
 ValuesMeetDemands net =
     (old : State) (ins : List Bool) (dt : ℕ) (new : State) → Solves net old ins dt new →

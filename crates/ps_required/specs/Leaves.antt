@@ -4,7 +4,8 @@ use Rattle.std.specs.List.{AllByRecursion}
 use Rattle.ps_model.specs.Formula.{Formula}
 use Rattle.ps_model.specs.Network.{Network}
 use Rattle.ps_model.specs.Typing.{safe, is_safe_signal}
-use Rattle.ps_required.specs.Requirement.{Requirement, Requirements, always, never, now, before, not_now, not_before, group, no_part, part}
+use Rattle.ps_required.specs.Requirement.{Requirement, Requirements, always, never, now, before, not_now, not_before}
+use Rattle.ps_required.specs.Requirement.{group, no_part, part}
 use Rattle.ps_required.specs.Demand.{demand_at, demand}
 use Rattle.ps_required.specs.Slim.{slim}
 
@@ -28,7 +29,8 @@ abbrev mutual
 abbrev pub HasSafeLeaves : Network → Requirement → Type 0
 HasSafeLeaves net d = AllByRecursion (λ s. is_safe_signal net s ≡ true) (leaf_signals d)
 
--- no leaf of the demand of a safe value, whichever step reads it, or of a safe signal is BOOL, before it is made slim and after
+-- no leaf of the demand of a safe value, whichever step reads it, or of a safe signal is BOOL, before it is made slim
+-- and after
 pub record LeavesAreSafe (net : Network) : Type 0 where
   pub of_values : (k : ℕ) (e : Formula) → safe net e ≡ true → HasSafeLeaves net (demand_at net k e)
   pub of_signals : (s : ℕ) → is_safe_signal net s ≡ true → HasSafeLeaves net (demand net s)

@@ -1,5 +1,6 @@
 -- What the passes over the steps keep for each signal: how many leaves its demand has, and the demand made slim.
-use Rattle.std.specs.Prelude.{◌≡◌, ℕ, ◌+◌, ◌<◌, ◌≤◌, Bool, true, false, nat_lt, Option, Some, None, List, [], ◌∷◌, map, min, sum_by, length, if◌then◌else◌, slice_index_or}
+use Rattle.std.specs.Prelude.{◌≡◌, ℕ, ◌+◌, ◌<◌, ◌≤◌, Bool, true, false, nat_lt, Option, Some, None, List, [], ◌∷◌, map}
+use Rattle.std.specs.Prelude.{min, sum_by, length, if◌then◌else◌, slice_index_or}
 use Rattle.ps_model.specs.declared.kind.Kind.{Kind}
 use Rattle.ps_model.specs.declared.demands.Need.{Need}
 use Rattle.ps_model.specs.declared.demands.Need.TheVariants.{On, Off}
@@ -142,7 +143,8 @@ pub record AreSlim (net : Network) (k : ℕ) (last : List (Option ℕ)) (rows : 
   pub each : (s : ℕ) → s < signal_count net → is_safe_signal net s ≡ true → is_wanted last k s ≡ true → leaf_count (demand_read net k s) ≤ MOST_LEAVES →
       kept_for rows s ≡ slim (demand_read net k s)
 
--- after all steps, for each safe signal from one on to another whose demand is not Large, that demand is kept, made slim
+-- after all steps, for each safe signal from one on to another whose demand is not Large, that demand is kept, made
+-- slim
 pub record HasSlim (net : Network) (first end : ℕ) (rows : List Demand) : Type 0 where
   pub long : length rows ≡ signal_count net
   pub each : (s : ℕ) → first ≤ s → s < end → is_safe_signal net s ≡ true → leaf_count (demand net s) ≤ MOST_LEAVES → kept_for rows s ≡ slim (demand net s)

@@ -5,7 +5,8 @@ use Rattle.ps_required.specs.declared.join.Join.{Join}
 use Rattle.ps_required.specs.declared.join.Join.TheVariants.{And, Or}
 
 mutual
-  -- TRUE, FALSE, an input of this scan, a signal of the scan before, the negation of either, or a conjunction or disjunction of parts
+  -- TRUE, FALSE, an input of this scan, a signal of the scan before, the negation of either, or a conjunction or
+  -- disjunction of parts
   pub data Requirement : Type 0 where
     always : Requirement
     never : Requirement

@@ -3,7 +3,8 @@ use Rattle.std.specs.Prelude.{◌||◌, List, [], ◌∷◌, ◌++◌, if◌then
 use Rattle.std.specs.List.{list_any}
 use Rattle.ps_required.specs.declared.join.Join.{Join}
 use Rattle.ps_required.specs.declared.join.Join.TheVariants.{And, Or}
-use Rattle.ps_required.specs.Requirement.{Requirement, Requirements, always, never, now, before, not_now, not_before, group, no_part, part, requirements, parts, same}
+use Rattle.ps_required.specs.Requirement.{Requirement, Requirements, always, never, now, before, not_now, not_before}
+use Rattle.ps_required.specs.Requirement.{group, no_part, part, requirements, parts, same}
 
 -- what says nothing as a part: TRUE in a conjunction, FALSE in a disjunction
 abbrev pub neutral : Join → Requirement

@@ -1,5 +1,6 @@
 -- How a requirement is written.
-use Rattle.std.specs.Prelude.{ℕ, ◌+◌, Bool, true, false, List, [], ◌++◌, length, codes, Option, Some, if◌then◌else◌, nat_lt, slice_index_or}
+use Rattle.std.specs.Prelude.{ℕ, ◌+◌, Bool, true, false, List, [], ◌++◌, length, codes, Option, Some, if◌then◌else◌}
+use Rattle.std.specs.Prelude.{nat_lt, slice_index_or}
 use Rattle.ps_model.specs.declared.driver.Driver.{Driver}
 use Rattle.ps_model.specs.declared.driver.Driver.TheVariants.{Output}
 use Rattle.ps_model.specs.Blocks.{block}
@@ -8,7 +9,8 @@ use Rattle.ps_model.specs.Drivers.{driver}
 use Rattle.ps_model.specs.Pins.{pin_names}
 use Rattle.ps_required.specs.declared.join.Join.{Join}
 use Rattle.ps_required.specs.declared.join.Join.TheVariants.{And, Or}
-use Rattle.ps_required.specs.Requirement.{Requirement, Requirements, always, never, now, before, not_now, not_before, group, no_part, part}
+use Rattle.ps_required.specs.Requirement.{Requirement, Requirements, always, never, now, before, not_now, not_before}
+use Rattle.ps_required.specs.Requirement.{group, no_part, part}
 
 -- the name of an output of an instance: the instance, a point, and the pin of its kind
 abbrev pub output_name : Network → Option Driver → List ℕ

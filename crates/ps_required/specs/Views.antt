@@ -2,7 +2,8 @@
 use Rattle.ps_required.specs.declared.demand.Demand.{Demand, Demand-F, fold-Demand}
 use Rattle.ps_required.specs.declared.demand.Demands.{Demands-F}
 use Rattle.ps_required.specs.declared.join.Join.TheVariants.{And, Or}
-use Rattle.ps_required.specs.Requirement.{Requirement, Requirements, always, never, now, before, not_now, not_before, group, requirements}
+use Rattle.ps_required.specs.Requirement.{Requirement, Requirements, always, never, now, before, not_now, not_before}
+use Rattle.ps_required.specs.Requirement.{group, requirements}
 
 -- one part of a formula, once what it holds is a requirement
 abbrev pub requirement_of_part : Demand-F Requirement Requirements → Requirement

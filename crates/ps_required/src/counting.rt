@@ -8,7 +8,8 @@ ghost use Rattle.ps_model.specs.Exprs.{formula};
 ghost use Rattle.ps_model.specs.Network.{signal_count};
 ghost use Rattle.ps_model.specs.Typing.{Accepted, safe, is_safe_signal};
 ghost use Rattle.ps_model.specs.Values.{IsBelow, values_at_pin};
-ghost use Rattle.ps_required.specs.Passes.{saturated, count_in, weight, weight_at_pin, weight_of_need, output_weight, IsNeedOf, AreCounts};
+ghost use Rattle.ps_required.specs.Passes.{saturated, count_in, weight, weight_at_pin, weight_of_need, output_weight};
+ghost use Rattle.ps_required.specs.Passes.{IsNeedOf, AreCounts};
 ghost use Rattle.ps_required.specs.Demand.{demand};
 ghost use Rattle.ps_required.specs.Requirement.{leaf_count};
 
@@ -173,8 +174,8 @@ pub fn first_counts(alloc: Global, app: &App) -> Result<Vec<u32>, Memory>
     Ok(counts)
 }
 
-/// How many leaves the demands of all signals have after all steps. It builds nothing, and visits each node of the application a
-/// bounded number of times.
+/// How many leaves the demands of all signals have after all steps. It builds nothing, and visits each node of the
+/// application a bounded number of times.
 pub fn count_signals(alloc: Global, app: &App) -> Result<Vec<u32>, Memory>
     requires { Accepted app.now }
     ensures { IfOk result (λ counts. AreCounts app.now (length app.now.steps) counts.items) }

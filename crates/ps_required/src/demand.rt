@@ -11,8 +11,8 @@ use std::alloc::Global;
 use std::hash::{Hash, Hasher};
 use thiserror::Error;
 
-/// What a safe output demands: a formula over the inputs of the same scan and the signals of the scan before, which stand by
-/// their numbers.
+/// What a safe output demands: a formula over the inputs of the same scan and the signals of the scan before, which
+/// stand by their numbers.
 #[derive(Drop)]
 #[cycle(demand)]
 pub enum Demand {

@@ -8,7 +8,8 @@ ghost use Rattle.ps_model.specs.Network.{instance_count, kind_at};
 ghost use Rattle.ps_required.specs.Demand.{demand as demanded};
 ghost use Rattle.ps_required.specs.Requirement.{requirements};
 ghost use Rattle.ps_required.specs.Slim.{slim};
-ghost use Rattle.ps_required.specs.Texts.{full_name, output_name, joining_word, is_group, where_wanted, text as demand_words, parts_text};
+ghost use Rattle.ps_required.specs.Texts.{full_name, output_name, joining_word, is_group, where_wanted};
+ghost use Rattle.ps_required.specs.Texts.{text as demand_words, parts_text};
 ghost use Rattle.ps_required.specs.Views.{requirement};
 
 use crate::demand::{Demand, Demands};
@@ -127,10 +128,10 @@ fn write_parts(app: &App, join: Join, parts: &Demands, bytes: &mut Bytes) -> Res
     Ok(())
 }
 
-/// The text of a demand: names, and behind a signal of the scan before `@before`; `NOT ` before a negation; ` AND ` and ` OR `
-/// between parts, with brackets round a disjunction in a conjunction and the reverse; `TRUE` and `FALSE`. Signals have the spelling
-/// of their declarations, pins that of PLCopen TC5. The condition is that the demand is that of the output, made slim. `Err` comes
-/// only where memory is wanting.
+/// The text of a demand: names, and behind a signal of the scan before `@before`; `NOT ` before a negation; ` AND ` and
+/// ` OR ` between parts, with brackets round a disjunction in a conjunction and the reverse; `TRUE` and `FALSE`.
+/// Signals have the spelling of their declarations, pins that of PLCopen TC5. The condition is that the demand is that
+/// of the output, made slim. `Err` comes only where memory is wanting.
 pub fn demand_text(alloc: Global, app: &App, out: u16, demand: &Demand) -> Result<Bytes, Memory>
     requires { requirement demand.now ≡ slim (demanded app.now out) }
     ensures { IfOk result (λ bytes. bytes ≡ demand_words app.now (requirement demand.now)) }

@@ -107,8 +107,8 @@ fn wanted_after(alloc: Global, app: &App, first: u16, end: u16) -> Result<Vec<Op
     Ok(last)
 }
 
-/// The last step that wants the demand of each signal, where those of the signals from `first` on to `end` are asked for. Each step
-/// is gone through once, from the last to the first. `Err` comes only where memory is wanting.
+/// The last step that wants the demand of each signal, where those of the signals from `first` on to `end` are asked
+/// for. Each step is gone through once, from the last to the first. `Err` comes only where memory is wanting.
 pub fn last_readers(
     alloc: Global,
     app: &App,

@@ -1,5 +1,6 @@
 -- What a reader of a run's JSON is to see of its scans, and what it gives of a text.
-use Rattle.std.specs.Prelude.{ℕ, ◌==◌, not, Bool, true, false, List, [], ◌∷◌, Option, codes, decimal, if◌then◌else◌, map}
+use Rattle.std.specs.Prelude.{ℕ, ◌==◌, not, Bool, true, false, List, [], ◌∷◌, Option, codes, decimal, if◌then◌else◌}
+use Rattle.std.specs.Prelude.{map}
 use Rattle.json.specs.Json.{Json, Members, boolean, number, string, object, no_members, member, document}
 use Rattle.ps_terms.specs.declared.name.Name.{Name}
 use Rattle.ps_terms.specs.declared.name.Name.TheVariants.{Signal, Code, Pin}

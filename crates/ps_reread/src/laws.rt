@@ -32,8 +32,8 @@ pub fn value_changes_are_read()
 }
 
 /// A reader of the CSV that is written of a run gives its table back: the names of the columns, and of each scan its
-/// time, whether it is the first behind a restart, whether it tripped, and the value of each name that is watched; and no
-/// other row. Times of 32 bits and DiagCodes of 16 are what every run has.
+/// time, whether it is the first behind a restart, whether it tripped, and the value of each name that is watched; and
+/// no other row. Times of 32 bits and DiagCodes of 16 are what every run has.
 pub fn rows_are_read()
     ensures { (net : Network) (names : List Name) (items : List Item) (ms : List Moment) →
         AllByRecursion (IsInBits net) ms →

@@ -3,8 +3,8 @@
 //!
 //! Rooms: `declared` lists the declared names; `uses`, `drivers` and `limits` try the rules, with
 //! `reads` for the names that are read; `numbers`, `parts` and `steps`, with `literal`, build the application;
-//! `resolution` puts them together. The checks are public one by one, each with the offences that it looks for, for whoever
-//! lists more of them than the first.
+//! `resolution` puts them together. The checks are public one by one, each with the offences that it looks for, for
+//! whoever lists more of them than the first.
 #![tactic(auto)]
 
 mod declared;

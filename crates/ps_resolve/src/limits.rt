@@ -6,7 +6,8 @@ ghost use Rattle.ps_parser.specs.ArgumentView.{argument_tree};
 ghost use Rattle.ps_parser.specs.StatementView.{statement_tree};
 ghost use Rattle.ps_names.specs.Names.{is_input, is_output, is_local, is_instance};
 ghost use Rattle.ps_names.specs.Offences.{noted};
-ghost use Rattle.ps_names.specs.Limits.{outputs_of, signals, factor_nodes, product_nodes, sum_nodes, statement_nodes, is_within};
+ghost use Rattle.ps_names.specs.Limits.{outputs_of, signals, factor_nodes, product_nodes, sum_nodes, statement_nodes};
+ghost use Rattle.ps_names.specs.Limits.{is_within};
 ghost use Rattle.ps_names.specs.Rules.{too_large};
 ghost use Rattle.ps_resolve.specs.Counting.{counts_of, signals_of, extra_of};
 

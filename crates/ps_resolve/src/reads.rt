@@ -6,7 +6,8 @@ ghost use Rattle.ps_parser.specs.declared.name.Name.{Name};
 ghost use Rattle.ps_parser.specs.SumView.{factor_tree, product_tree, sum_tree};
 ghost use Rattle.ps_parser.specs.ArgumentView.{argument_tree};
 ghost use Rattle.ps_parser.specs.StatementView.{statement_tree};
-ghost use Rattle.ps_names.specs.Uses.{read, read_names, factor_uses, product_uses, sum_uses, argument_uses, statement_uses};
+ghost use Rattle.ps_names.specs.Uses.{read, read_names, factor_uses, product_uses, sum_uses, argument_uses};
+ghost use Rattle.ps_names.specs.Uses.{statement_uses};
 ghost use Rattle.ps_names.specs.Tables.{Has};
 
 use ps_base::Memory;

@@ -9,7 +9,8 @@ ghost use Rattle.ps_parser.specs.SumView.{factor_tree, product_tree, sum_tree};
 ghost use Rattle.ps_parser.specs.ArgumentView.{argument_tree};
 ghost use Rattle.ps_parser.specs.StatementView.{statement_tree};
 ghost use Rattle.ps_names.specs.Names.{sort_of};
-ghost use Rattle.ps_names.specs.Stands.{factor_formula, product_formula, sum_formula, actual_of, actual_at, actuals, kind_of, sort_or, target_number, action};
+ghost use Rattle.ps_names.specs.Stands.{factor_formula, product_formula, sum_formula, actual_of, actual_at, actuals};
+ghost use Rattle.ps_names.specs.Stands.{kind_of, sort_or, target_number, action};
 ghost use Rattle.ps_resolve.specs.Numbering.{IsNumbered};
 
 use crate::declared::is_word;

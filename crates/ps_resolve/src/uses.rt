@@ -7,7 +7,8 @@ ghost use Rattle.ps_parser.specs.ArgumentView.{argument_tree};
 ghost use Rattle.ps_parser.specs.StatementView.{statement_tree};
 ghost use Rattle.ps_names.specs.Names.{sort_of};
 ghost use Rattle.ps_names.specs.Offences.{noted};
-ghost use Rattle.ps_names.specs.Uses.{factor_uses, product_uses, sum_uses, value_uses, argument_uses, statement_uses, target_use};
+ghost use Rattle.ps_names.specs.Uses.{factor_uses, product_uses, sum_uses, value_uses, argument_uses, statement_uses};
+ghost use Rattle.ps_names.specs.Uses.{target_use};
 ghost use Rattle.ps_names.specs.Rules.{broken_by};
 ghost use Rattle.ps_names.specs.Tables.{IndexesDeclared};
 

@@ -16,8 +16,8 @@ abbrev pub bit_of : Option ℕ → ℕ
 bit_of None = 0
 bit_of (Some j) = 2 ^ j
 
--- The mode after a step with this action to state q: that of SF_ModeSelector is latched, kept in 8000 and 8004, and 0 elsewhere;
--- that of other kinds is 0.
+-- The mode after a step with this action to state q: that of SF_ModeSelector is latched, kept in 8000 and 8004, and 0
+-- elsewhere; that of other kinds is 0.
 abbrev pub mode_after : Kind → (action q : ℕ) → (ℕ → Bool) → (mode : ℕ) → ℕ
 mode_after ModeSelector action q pins mode =
     if bit_and action 2 == 2 then lowest_on (range_with_len 0 8) pins else if list_any (λ x. x == q) mode_states then mode else 0

@@ -1,5 +1,6 @@
 -- Mask rows: which row fits, what the first that fits gives, and where the rows of a state stand. Profile.
-use Rattle.std.specs.Prelude.{◌≡◌, ℕ, ◌≤◌, ◌<◌, ◌↔◌, List, [], ◌∷◌, Bool, ◌&&◌, ◌==◌, if◌then◌else◌, bit_and, length, slice_get, Option, Some, None}
+use Rattle.std.specs.Prelude.{◌≡◌, ℕ, ◌≤◌, ◌<◌, ◌↔◌, List, [], ◌∷◌, Bool, ◌&&◌, ◌==◌, if◌then◌else◌, bit_and, length}
+use Rattle.std.specs.Prelude.{slice_get, Option, Some, None}
 use Rattle.ps_rows.specs.declared.mask_row.MaskRow.{MaskRow}
 use Rattle.ps_rows.specs.declared.mask_row.RowRange.{RowRange}
 

@@ -1,5 +1,5 @@
--- What a reader of the promise has to believe: which row fits first, the rows themselves, the conditions that they are masks over, what they
--- are to decide, and what a step leaves.
+-- What a reader of the promise has to believe: which row fits first, the rows themselves, the conditions that they are
+-- masks over, what they are to decide, and what a step leaves.
 pub mod Fitting
 pub mod Rows
 pub mod Names

@@ -2,7 +2,9 @@
 use Rattle.std.specs.Prelude.{ℕ, ◌+◌, ◌*◌, Bool, List, [], ◌∷◌, ◌++◌, ◌&&◌, ◌||◌, ◌==◌, not, map}
 use Rattle.std.specs.List.{range_with_len}
 use Rattle.ps_model.specs.declared.kind.Kind.{Kind}
-use Rattle.ps_model.specs.declared.kind.Kind.TheVariants.{Equivalent, Antivalent, EmergencyStop, Espe, ModeSelector, TwoHandTwo, TwoHandThree, GuardMonitoring, GuardLocking, EnableSwitch, SafetyRequest, OutControl, Edm}
+use Rattle.ps_model.specs.declared.kind.Kind.TheVariants.{Equivalent, Antivalent, EmergencyStop, Espe, ModeSelector}
+use Rattle.ps_model.specs.declared.kind.Kind.TheVariants.{TwoHandTwo, TwoHandThree, GuardMonitoring, GuardLocking}
+use Rattle.ps_model.specs.declared.kind.Kind.TheVariants.{EnableSwitch, SafetyRequest, OutControl, Edm}
 use Rattle.ps_model.specs.Blocks.{modes_on, exactly_on}
 use Rattle.ps_model.specs.Kept.{Kept}
 use Rattle.ps_model.specs.Stored.{bit}
@@ -16,10 +18,10 @@ complemented (b ∷ bs) = bit (not b) + 2 * complemented bs
 abbrev pub first_pins : ℕ → (ℕ → Bool) → List Bool
 first_pins n pins = map pins (range_with_len 0 n)
 
--- The Boolean pins in order, then the last Reset and the last auxiliary input where the kind has them, then `elapsed` where a
--- guard reads it. SF_Antivalent has its third pin negated, and so the names of SF_Equivalent. SF_ModeSelector names what its
--- guards ask of the modes: Activate, no mode, one mode, exactly the latched one, S_Unlock, AutoSetMode or a rise of S_SetMode,
--- Reset, the last Reset, `elapsed`.
+-- The Boolean pins in order, then the last Reset and the last auxiliary input where the kind has them, then `elapsed`
+-- where a guard reads it. SF_Antivalent has its third pin negated, and so the names of SF_Equivalent. SF_ModeSelector
+-- names what its guards ask of the modes: Activate, no mode, one mode, exactly the latched one, S_Unlock, AutoSetMode
+-- or a rise of S_SetMode, Reset, the last Reset, `elapsed`.
 abbrev pub names : Kind → (ℕ → Bool) → Bool → Kept → List Bool
 names Equivalent pins elapsed k = first_pins 3 pins ++ (elapsed ∷ [])
 names Antivalent pins elapsed k = first_pins 2 pins ++ (not (pins 2) ∷ elapsed ∷ [])

@@ -1,7 +1,9 @@
 -- The mask rows of the kinds. They stand once, in the code, and are read here.
 use Rattle.std.specs.Prelude.{List}
 use Rattle.ps_model.specs.declared.kind.Kind.{Kind}
-use Rattle.ps_model.specs.declared.kind.Kind.TheVariants.{Equivalent, Antivalent, EmergencyStop, Espe, ModeSelector, TwoHandTwo, TwoHandThree, GuardMonitoring, GuardLocking, EnableSwitch, SafetyRequest, OutControl, Edm}
+use Rattle.ps_model.specs.declared.kind.Kind.TheVariants.{Equivalent, Antivalent, EmergencyStop, Espe, ModeSelector}
+use Rattle.ps_model.specs.declared.kind.Kind.TheVariants.{TwoHandTwo, TwoHandThree, GuardMonitoring, GuardLocking}
+use Rattle.ps_model.specs.declared.kind.Kind.TheVariants.{EnableSwitch, SafetyRequest, OutControl, Edm}
 use Rattle.ps_rows.specs.declared.mask_row.MaskRow.{MaskRow}
 use Rattle.ps_rows.specs.declared.equivalent.TheConstants.{EQUIVALENT}
 use Rattle.ps_rows.specs.declared.stop.TheConstants.{STOP}

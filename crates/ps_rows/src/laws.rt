@@ -1,7 +1,10 @@
 // Laws: the rows of each kind decide as its table does, over the named conditions of any step. Each
 // function computes nothing: its contract is the law.
 
-ghost use Rattle.ps_model.specs.declared.kind.Kind.TheVariants.{Equivalent, Antivalent, EmergencyStop, Espe, ModeSelector, TwoHandTwo, TwoHandThree, GuardMonitoring, GuardLocking, EnableSwitch, SafetyRequest, OutControl, Edm};
+ghost use Rattle.ps_model.specs.declared.kind.Kind.TheVariants.{Equivalent, Antivalent, EmergencyStop, Espe};
+ghost use Rattle.ps_model.specs.declared.kind.Kind.TheVariants.{ModeSelector, TwoHandTwo, TwoHandThree};
+ghost use Rattle.ps_model.specs.declared.kind.Kind.TheVariants.{GuardMonitoring, GuardLocking, EnableSwitch};
+ghost use Rattle.ps_model.specs.declared.kind.Kind.TheVariants.{SafetyRequest, OutControl, Edm};
 ghost use Rattle.ps_rows.specs.Decision.{RowsDecide};
 
 /// The rows of SF_Equivalent.

@@ -1,7 +1,9 @@
 -- Requests and answers, after JSON-RPC 2.0: what a message asks, and what its answer is.
-use Rattle.std.specs.Prelude.{◌≡◌, ◌⊎◌, ℕ, ℤ, negsuc, List, Option, Some, None, Bool, true, false, codes, cond, option_map, option_and_then}
+use Rattle.std.specs.Prelude.{◌≡◌, ◌⊎◌, ℕ, ℤ, negsuc, List, Option, Some, None, Bool, true, false, codes, cond}
+use Rattle.std.specs.Prelude.{option_map, option_and_then}
 use Rattle.std.specs.Str.{IsUtf8}
-use Rattle.serde_json.specs.Data.{Data, null, boolean, number, string, array, object, Items, Members, member, no_members}
+use Rattle.serde_json.specs.Data.{Data, null, boolean, number, string, array, object, Items, Members, member}
+use Rattle.serde_json.specs.Data.{no_members}
 use Rattle.serde_json.specs.Find.{get, as_str, of_integer}
 use Rattle.serde_json.specs.Read.{read}
 use Rattle.serde_json.specs.View.{view}

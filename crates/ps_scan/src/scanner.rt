@@ -63,8 +63,8 @@ fn put_outputs(outs: &mut Bits, signals: &[bool], first: usize)
     }
 }
 
-/// What an application keeps between its scans: a value of each signal and a state of each instance. All memory that its
-/// scans use is taken by `new`.
+/// What an application keeps between its scans: a value of each signal and a state of each instance. All memory that
+/// its scans use is taken by `new`.
 pub struct Scanner {
     signals: Vec<bool>,
     instances: Vec<Instance>,

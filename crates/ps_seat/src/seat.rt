@@ -150,9 +150,9 @@ impl<C: ScanMachine> Seat<C> {
         self.turns = 0;
     }
 
-    /// Restores the channel with the code as compiled, by the limits of the instances and at this time of the last scan, all
-    /// in ms, from the bytes of the signals and instances of another channel; the turn count stays. `bytes` is room for work:
-    /// what it has then is not said.
+    /// Restores the channel with the code as compiled, by the limits of the instances and at this time of the last
+    /// scan, all in ms, from the bytes of the signals and instances of another channel; the turn count stays. `bytes`
+    /// is room for work: what it has then is not said.
     pub fn restore(&mut self, limits: &[u32], time: u32, bytes: &mut [u8])
         requires limits { length limits.now ≡ self.old.sizes.instances }
         requires bytes { length bytes.old ≡ self.old.sizes.signals + 16 * self.old.sizes.instances }
@@ -161,9 +161,10 @@ impl<C: ScanMachine> Seat<C> {
         self.channel.restore(&self.image, limits, time, bytes);
     }
 
-    /// Writes the report of a channel that has ended into a blank one of the application's sizes, or answers why there is
-    /// none, and then `into` is still blank. A caller hands over a blank report, every Boolean FALSE and every code 0, so
-    /// that a channel that writes nothing, as by a compiler's or a processor's fault, releases nothing that stood there.
+    /// Writes the report of a channel that has ended into a blank one of the application's sizes, or answers why there
+    /// is none, and then `into` is still blank. A caller hands over a blank report, every Boolean FALSE and every code
+    /// 0, so that a channel that writes nothing, as by a compiler's or a processor's fault, releases nothing that stood
+    /// there.
     #[inline(always)]
     pub fn outcome_into(&self, into: &mut Report) -> Result<(), Failing>
         requires blank { into.old ≡ blank_report self.now.sizes.outputs self.now.sizes.instances }

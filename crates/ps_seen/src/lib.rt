@@ -2,8 +2,8 @@
 //!
 //! - `seen`: the scan's time, what the comparator said of it, the report that was released, and the signals before and
 //!   behind it, as the networks mean them.
-//! - `values`: the value of a name. Outputs, Ready, Error and DiagCodes are those that were released, and all other values
-//!   what the networks mean.
+//! - `values`: the value of a name. Outputs, Ready, Error and DiagCodes are those that were released, and all other
+//!   values what the networks mean.
 #![tactic(auto)]
 
 mod seen;

@@ -1,7 +1,8 @@
 -- The states of SF_Equivalent and SF_Antivalent.
 use Rattle.std.specs.Prelude.{ℕ, false}
 use Rattle.ps_sensors.specs.declared.contacts.Phase.{Phase}
-use Rattle.ps_sensors.specs.declared.contacts.Phase.TheVariants.{Idle, Init, WaitForB, WaitForA, Enabled, FromActiveWait, Error1, Error2, Error3}
+use Rattle.ps_sensors.specs.declared.contacts.Phase.TheVariants.{Idle, Init, WaitForB, WaitForA, Enabled}
+use Rattle.ps_sensors.specs.declared.contacts.Phase.TheVariants.{FromActiveWait, Error1, Error2, Error3}
 use Rattle.ps_sensors.specs.declared.contacts.ContactsState.{ContactsState}
 use Rattle.ps_model.specs.Kept.{Kept}
 

@@ -1,7 +1,8 @@
 -- The states of SF_EmergencyStop and SF_ESPE.
 use Rattle.std.specs.Prelude.{ℕ, false}
 use Rattle.ps_sensors.specs.declared.stop.Phase.{Phase}
-use Rattle.ps_sensors.specs.declared.stop.Phase.TheVariants.{Idle, Init, WaitForIn1, WaitForReset1, Enabled, WaitForIn2, WaitForReset2, ResetError1, ResetError2}
+use Rattle.ps_sensors.specs.declared.stop.Phase.TheVariants.{Idle, Init, WaitForIn1, WaitForReset1, Enabled, WaitForIn2}
+use Rattle.ps_sensors.specs.declared.stop.Phase.TheVariants.{WaitForReset2, ResetError1, ResetError2}
 use Rattle.ps_sensors.specs.declared.stop.StopState.{StopState}
 use Rattle.ps_model.specs.Kept.{Kept}
 

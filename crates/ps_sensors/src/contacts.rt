@@ -4,7 +4,8 @@ ghost use Rattle.std.specs.Prelude.{◌≡◌, true, false, IfSome, IfNone, not}
 ghost use Rattle.ps_model.specs.Blocks.{next};
 ghost use Rattle.ps_model.specs.Kept.{fresh};
 ghost use Rattle.ps_model.specs.Stored.{is_state, Loads};
-ghost use Rattle.ps_model.specs.declared.kind.Kind.TheVariants.{Equivalent as EquivalentKind, Antivalent as AntivalentKind};
+ghost use Rattle.ps_model.specs.declared.kind.Kind.TheVariants.{Equivalent as EquivalentKind};
+ghost use Rattle.ps_model.specs.declared.kind.Kind.TheVariants.{Antivalent as AntivalentKind};
 ghost use Rattle.ps_block.specs.Seeing.{conditions_of};
 ghost use Rattle.ps_block.specs.Stepping.{IsStep};
 ghost use Rattle.ps_model.specs.PinBits.{pin_of};

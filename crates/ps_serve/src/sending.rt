@@ -29,8 +29,8 @@ fn send<O: Output>(alloc: Global, out: &mut O, value: Option<&Value>) -> Result<
     }
 }
 
-/// Writes what comes of a message with this body: its answer, once where it asks for one, and then a notice, where there
-/// is one; and hands all of it on.
+/// Writes what comes of a message with this body: its answer, once where it asks for one, and then a notice, where
+/// there is one; and hands all of it on.
 pub fn serve_one<O: Output>(
     alloc: Global,
     server: &mut Server,

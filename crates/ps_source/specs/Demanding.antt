@@ -25,8 +25,8 @@ pub record IsPlaceOfOutput (tree : SourceTree) (net : Network) (output : ℕ) (a
   pub assigned : slice_get net.steps step ≡ Some (assigns output value)
   pub place : step_place tree step None ≡ Some at
 
--- The application of the text is accepted, and a SAFEBOOL output has a demand of over 1,000 leaves: the first such output, at the
--- target of the step that assigns it. Profile.
+-- The application of the text is accepted, and a SAFEBOOL output has a demand of over 1,000 leaves: the first such
+-- output, at the target of the step that assigns it. Profile.
 pub record BreaksDemand (source : List ℕ) (refusal : Refusal) : Type 0 where
   pub tree : SourceTree
   pub net : Network

@@ -9,7 +9,8 @@ ghost use Rattle.ps_flow.specs.Written.{written};
 ghost use Rattle.ps_names.specs.Stands.{Stands};
 ghost use Rattle.ps_parser.specs.Places.{step_place};
 ghost use Rattle.ps_source.specs.Source.{pin_name};
-ghost use Rattle.ps_source.specs.Answering.{IsResolution, IsChecked, IsSourcedAcceptance, app_of, certificate_of, checked_of, source_of};
+ghost use Rattle.ps_source.specs.Answering.{IsResolution, IsChecked, IsSourcedAcceptance, app_of, certificate_of};
+ghost use Rattle.ps_source.specs.Answering.{checked_of, source_of};
 
 use crate::flattening::flat_source;
 use ps_base::{Bytes, Fail, Memory, Place, Refusal};
@@ -126,7 +127,8 @@ fn with_check(source: Source, app: App, certificate: Certificate) -> Accepted
     }
 }
 
-// The accepted application of a text with its flat source and its certificate, by the rules L, P, B, N and S, tried in this order.
+// The accepted application of a text with its flat source and its certificate, by the rules L, P, B, N and S, tried in
+// this order.
 pub(crate) fn accept_source(alloc: Global, text: &[u8]) -> Result<Accepted, Fail>
     ensures { IsSourcedAcceptance text.now result }
 {

@@ -21,7 +21,8 @@ pub fn resolve_text(alloc: Global, text: &[u8]) -> Result<App, Fail>
 }
 
 /// The accepted application of the text that begins with these bytes, by the rules L, P, B, N and S, tried in this
-/// order, with its flat source and its certificate. The bytes are all of the text, or one more than the largest source has.
+/// order, with its flat source and its certificate. The bytes are all of the text, or one more than the largest source
+/// has.
 pub fn accept_text(alloc: Global, text: &[u8]) -> Result<Accepted, Fail>
     ensures decides { (whole : List ℕ) → IsFrontOf text.now whole → IsAcceptance whole result }
     ensures checked { IfOk result IsChecked }

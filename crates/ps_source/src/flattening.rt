@@ -9,7 +9,8 @@ use ps_flatten::flatten;
 use ps_parser::Source;
 use std::alloc::Global;
 
-/// The flat source of a text with function blocks: its program, in which copies stand in the place of derived instances.
+/// The flat source of a text with function blocks: its program, in which copies stand in the place of derived
+/// instances.
 ///
 /// It is Ok exactly where none of the rules B1 to B5 refuses the text, as `first_offence` says. Otherwise the answer is
 /// the lowest rule that does, at the earliest of its places. A program without function blocks is its own flat source.

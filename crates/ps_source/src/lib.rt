@@ -1,9 +1,10 @@
 //! From the text of a source to its application: what each command does before it does its own.
 //!
-//! `flattening` tries the rules B on a text with function blocks before it is laid flat; `accepting` takes a text through
-//! the rules, letter by letter, to an application with a certificate that was checked, and `demanding` goes on to the
-//! demands of its outputs, by the rule M1. `deciding` has what of this is public: what the bytes that decide of a text give. `reading` reads these bytes by the name of the text's file, alone or with
-//! what they give. `laws` says that a text has one reading.
+//! `flattening` tries the rules B on a text with function blocks before it is laid flat; `accepting` takes a text
+//! through the rules, letter by letter, to an application with a certificate that was checked, and `demanding` goes on
+//! to the demands of its outputs, by the rule M1. `deciding` has what of this is public: what the bytes that decide of
+//! a text give. `reading` reads these bytes by the name of the text's file, alone or with what they give. `laws` says
+//! that a text has one reading.
 #![tactic(auto)]
 
 mod accepting;

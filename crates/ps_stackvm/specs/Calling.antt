@@ -1,6 +1,7 @@
--- What CALL leaves of the cells: one step of an instance (profile). `first` is the instance's first output signal, and `next` is where
--- the following instruction stands. The traps are tried in the order in which they are written.
-use Rattle.std.specs.Prelude.{ℕ, ◌+◌, ◌-◌, ◌*◌, ◌==◌, ◌||◌, nat_lt, nat_le, if◌then◌else◌, Bool, List, map, take, drop, slice_index, Option, Some, None}
+-- What CALL leaves of the cells: one step of an instance (profile). `first` is the instance's first output signal, and
+-- `next` is where the following instruction stands. The traps are tried in the order in which they are written.
+use Rattle.std.specs.Prelude.{ℕ, ◌+◌, ◌-◌, ◌*◌, ◌==◌, ◌||◌, nat_lt, nat_le, if◌then◌else◌, Bool, List, map, take, drop}
+use Rattle.std.specs.Prelude.{slice_index, Option, Some, None}
 use Rattle.std.specs.List.{list_any}
 use Rattle.ps_model.specs.declared.kind.Kind.{Kind}
 use Rattle.ps_model.specs.Blocks.{output_count, outs}

@@ -27,7 +27,8 @@ encoded End = 7 ∷ []
 abbrev pub bytes_of : List Instruction → List ℕ
 bytes_of is = flat_map encoded is
 
--- a signal is loaded; the operands of an AND or OR are computed one after another, and each but the first is joined to what stands there
+-- a signal is loaded; the operands of an AND or OR are computed one after another, and each but the first is joined to
+-- what stands there
 abbrev mutual
   pub expression_code : Formula → List Instruction
   expression_code (signal s) = Load s ∷ []

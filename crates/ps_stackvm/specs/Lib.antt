@@ -1,4 +1,5 @@
--- What a reader must believe: what channel A's bytes are, what a turn does, what the compiler writes, and when cells stand for a state.
+-- What a reader must believe: what channel A's bytes are, what a turn does, what the compiler writes, and when cells
+-- stand for a state.
 pub mod Traps
 pub mod Cells
 pub mod Instructions

@@ -21,7 +21,8 @@ pub record IsStepInBytes (kind : Kind) (pins : Pins) (before after : List ℕ) (
 abbrev pub stepped_in : Kind → (place first : ℕ) → Kept → List ℕ → List ℕ
 stepped_in kind place first kept cells = replaced (replaced cells place (stored kept)) first (map bit (outs kind kept.code kept.mode))
 
--- The sixteen bytes at a place load, and the cells after are those before with what the step makes of it, and with its outputs.
+-- The sixteen bytes at a place load, and the cells after are those before with what the step makes of it, and with its
+-- outputs.
 pub record HasStepped (kind : Kind) (pins : Pins) (place first : ℕ) (before after : List ℕ) : Type 0 where
   pub kept : Kept
   pub loads : loaded kind (take 16 (drop place before)) ≡ Some kept

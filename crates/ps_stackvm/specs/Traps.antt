@@ -1,7 +1,8 @@
 -- Traps by their numbers (profile).
 use Rattle.std.specs.Prelude.{ℕ}
 use Rattle.ps_stackvm.specs.declared.trap.Trap.{Trap}
-use Rattle.ps_stackvm.specs.declared.trap.Trap.TheVariants.{NoOpcode, CodeEnd, StackHeight, NotBoolean, NoSignal, NoInstance, NoState}
+use Rattle.ps_stackvm.specs.declared.trap.Trap.TheVariants.{NoOpcode, CodeEnd, StackHeight, NotBoolean, NoSignal}
+use Rattle.ps_stackvm.specs.declared.trap.Trap.TheVariants.{NoInstance, NoState}
 
 -- the number of a trap
 abbrev pub trap_number : Trap → ℕ

@@ -37,7 +37,8 @@ turn_of signals instances code cells = carried_out signals instances (fetched co
 abbrev pub turn_a : Sizes → (code cells : List ℕ) → List ℕ
 turn_a sizes code cells = turn_of sizes.signals sizes.instances code cells
 
--- the cells after the Begin of a scan: pc, height and progress are 0, the time is the scan's, and the inputs have their values
+-- the cells after the Begin of a scan: pc, height and progress are 0, the time is the scan's, and the inputs have their
+-- values
 abbrev pub begin_a : (now : ℕ) (ins : List Bool) → List ℕ → List ℕ
 begin_a now ins cells = replaced (replaced (replaced cells 0 (replicate TIME_AT 0)) TIME_AT (to_be_bytes w32 now)) SIGNALS_AT (map bit ins)
 

@@ -93,8 +93,8 @@ fn call_block<B: SafetyBlock>(cells: &mut [u8], site: Site)
     );
 }
 
-// The same, with a code of its own for each kind, in which the counts of pins and outputs are constants. It is kept out of
-// the turn, so that the short instructions do not save the registers that a step of a block needs.
+// The same, with a code of its own for each kind, in which the counts of pins and outputs are constants. It is kept out
+// of the turn, so that the short instructions do not save the registers that a step of a block needs.
 #[inline(never)]
 #[tactic(auto, using(crate::proofs::Calls::has_pins))]
 fn call_apart<B: SafetyBlock>(

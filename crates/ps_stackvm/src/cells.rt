@@ -39,7 +39,8 @@ pub(crate) fn time(cells: &[u8]) -> u32
     ])
 }
 
-// What the progress byte says. Channel A reads it by itself: a reader that both channels used could end both too early alike.
+// What the progress byte says. Channel A reads it by itself: a reader that both channels used could end both too early
+// alike.
 pub(crate) fn progress(cells: &[u8]) -> Progress
     requires { SIGNALS_AT ≤ length cells.now }
     ensures { result ≡ progress_said (progress_of cells.now) }

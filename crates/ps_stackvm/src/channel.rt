@@ -67,8 +67,8 @@ impl StackChannel {
         self.frame.renew(image);
     }
 
-    /// Restores the channel with the code of this image, which has the length of the channel's code: all cells are 0 but the
-    /// time of the last scan in ms, and the signals and instances, whose bytes are these.
+    /// Restores the channel with the code of this image, which has the length of the channel's code: all cells are 0
+    /// but the time of the last scan in ms, and the signals and instances, whose bytes are these.
     pub fn restore(&mut self, image: &CodeImage, time: u32, bytes: &[u8])
         requires image { length image.now ≡ length self.old.code }
         requires bytes { length bytes.now ≡ self.old.sizes.signals + 16 * self.old.sizes.instances }

@@ -61,8 +61,8 @@ fn fetch_near_end(code: &[u8], pc: usize) -> Result<Instruction, Trap>
     }
 }
 
-// The instruction at a place of the code, or the trap that reading it gives. One test says for almost all places that the whole
-// instruction is there.
+// The instruction at a place of the code, or the trap that reading it gives. One test says for almost all places that
+// the whole instruction is there.
 pub(crate) fn fetch(code: &[u8], pc: usize) -> Result<Instruction, Trap>
     requires short { length code.now < 2 ^ 32 }
     requires fits { pc < 2 ^ 32 }

@@ -7,8 +7,9 @@ use crate::cells::{pc, set_pc, trap};
 use crate::layout::{HEIGHT_AT, PROGRESS_AT, SIGNALS_AT};
 use crate::trap::Trap;
 
-// The head of the cells: where the next instruction stands in the code, and the height of the stack. A run of turns keeps it
-// apart, and writes it to its bytes when it ends. Whether the scan has ended stands in the progress byte as well.
+// The head of the cells: where the next instruction stands in the code, and the height of the stack. A run of turns
+// keeps it apart, and writes it to its bytes when it ends. Whether the scan has ended stands in the progress byte as
+// well.
 #[derive(Clone, Copy)]
 pub(crate) struct Head {
     pub pc: usize,

@@ -1,5 +1,5 @@
-//! One step of an instance in the cells of a machine. The CALLs of channels A and C make it by this one function, each in its own
-//! cells, with pins and a time that it reads by itself.
+//! One step of an instance in the cells of a machine. The CALLs of channels A and C make it by this one function, each
+//! in its own cells, with pins and a time that it reads by itself.
 
 ghost use Rattle.std.specs.Prelude.{◌≡◌, ◌+◌, ◌≤◌, true, false, None, IfSome, IfNone, length, map, take, drop};
 ghost use Rattle.ps_model.specs.Blocks.{output_count};
@@ -14,9 +14,9 @@ use ps_block::{Outs, Pins, SafetyBlock};
 use ps_model::block_laws::loads_exactly;
 use ps_model::safe_count;
 
-/// Steps an instance as a block with these pins. Its sixteen bytes stand at `place`: what they load to is stepped and stored
-/// there. From `first` on the outputs are written, a byte 0 or 1 each: safe outputs in order, Ready, Error. False where the
-/// sixteen bytes are of no state of the block's kind, and then nothing is written.
+/// Steps an instance as a block with these pins. Its sixteen bytes stand at `place`: what they load to is stepped and
+/// stored there. From `first` on the outputs are written, a byte 0 or 1 each: safe outputs in order, Ready, Error.
+/// False where the sixteen bytes are of no state of the block's kind, and then nothing is written.
 pub fn step_instance<B: SafetyBlock>(
     cells: &mut [u8],
     place: usize,
@@ -38,7 +38,8 @@ pub fn step_instance<B: SafetyBlock>(
     }
 }
 
-// A step of a block whose sixteen bytes are these: load, step, store. None where they load for no state, and then they stay.
+// A step of a block whose sixteen bytes are these: load, step, store. None where they load for no state, and then they
+// stay.
 fn step_here<B: SafetyBlock>(bytes: &mut [u8], pins: Pins) -> Option<Outs>
     requires { length bytes.old ≡ 16 }
     ensures steps { IfSome result (IsStepInBytes B.KIND pins bytes.old bytes.new) }

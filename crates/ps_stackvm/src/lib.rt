@@ -1,9 +1,10 @@
 //! Channel A: a machine that runs stack code, on any bytes. It steps each instance as a typed block.
 //!
 //! - `channel`: the channel, with its code and its cells; `cells` and `layout` are its cells.
-//! - `turn`: one turn and a run of them, by `fetch`, `stack` and `call`; a run keeps the `head` of the cells apart; `pins` is what
-//!   a call takes from the stack.
-//! - `instance` and `report`: the step of an instance in the cells, and the report that they hold; channel C has them too.
+//! - `turn`: one turn and a run of them, by `fetch`, `stack` and `call`; a run keeps the `head` of the cells apart;
+//!   `pins` is what a call takes from the stack.
+//! - `instance` and `report`: the step of an instance in the cells, and the report that they hold; channel C has them
+//!   too.
 //! - `instruction` and `trap`: the instructions and the traps with their numbers.
 //!
 //! What the bytes are and what a turn does is defined in specs/, for any code and any cells.

@@ -8,9 +8,9 @@ ghost use Rattle.ps_stackvm.specs.Calling.{pins_in, topmost};
 
 use crate::layout::{HEIGHT_AT, SIGNALS_AT, STACK_AT, STACK_SIZE};
 
-// The pins that the last bytes give, at most eight: bit j is TRUE where byte j of them is 1. None where one of them is neither 0
-// nor 1. They are read as one number, with one test for all, and gathered by one multiplication, which puts the lowest bit of
-// byte j at bit j of the highest byte.
+// The pins that the last bytes give, at most eight: bit j is TRUE where byte j of them is 1. None where one of them is
+// neither 0 nor 1. They are read as one number, with one test for all, and gathered by one multiplication, which puts
+// the lowest bit of byte j at bit j of the highest byte.
 fn few_pins(bytes: &[u8], count: u8) -> Option<u32>
     requires long { 8 ≤ length bytes.now }
     requires some { 1 ≤ count }

@@ -1,7 +1,8 @@
-//! The report that the cells of a machine hold. The signals' bytes begin at a place, and the instances' bytes stand behind them.
-//! Channels A and C have their reports by it.
+//! The report that the cells of a machine hold. The signals' bytes begin at a place, and the instances' bytes stand
+//! behind them. Channels A and C have their reports by it.
 
-ghost use Rattle.std.specs.Prelude.{◌≡◌, ◌+◌, ◌-◌, ◌*◌, ◌<◌, ◌≤◌, ◌==◌, ◌&&◌, not, true, false, Some, None, length, map, slice_index_or};
+ghost use Rattle.std.specs.Prelude.{◌≡◌, ◌+◌, ◌-◌, ◌*◌, ◌<◌, ◌≤◌, ◌==◌, ◌&&◌, not, true, false, Some, None, length};
+ghost use Rattle.std.specs.Prelude.{map, slice_index_or};
 ghost use Rattle.std.specs.List.{list_all, range_with_len};
 ghost use Rattle.ps_model.specs.declared.kind.Kind.TheVariants.{Equivalent};
 ghost use Rattle.ps_model.specs.Blocks.{output_count};
@@ -106,9 +107,9 @@ fn write_diags(cells: &[u8], signals_at: usize, sizes: &Sizes, diags: &mut Diags
     }
 }
 
-/// Writes the report that cells hold into a report of the application's sizes: the value of each output, and Ready, Error and
-/// the DiagCode of each instance. The signals' bytes begin at `signals_at`. False where an output, Ready or Error byte is
-/// neither 0 nor 1, and then the report is as before.
+/// Writes the report that cells hold into a report of the application's sizes: the value of each output, and Ready,
+/// Error and the DiagCode of each instance. The signals' bytes begin at `signals_at`. False where an output, Ready or
+/// Error byte is neither 0 nor 1, and then the report is as before.
 #[inline(always)]
 pub fn read_report(cells: &[u8], signals_at: usize, sizes: &Sizes, into: &mut Report) -> bool
     requires room { signals_at + sizes.now.signals + INSTANCE_SIZE * sizes.now.instances ≤ length cells.now }

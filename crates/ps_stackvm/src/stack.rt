@@ -1,5 +1,5 @@
-// The instructions that move bytes between the stack and the signals, in a scan that runs. `next` is where the following
-// instruction stands.
+// The instructions that move bytes between the stack and the signals, in a scan that runs. `next` is where the
+// following instruction stands.
 
 ghost use Rattle.std.specs.Prelude.{◌≡◌, ◌≢◌, ◌+◌, ◌<◌, ◌≤◌, ◌^◌, true, false, length, bit_and, bit_or};
 ghost use Rattle.ps_stackvm.specs.Cells.{progress_of, with_head};

@@ -1,6 +1,7 @@
 // The reader of the lines of a stream. The bytes that it holds are those of its line, and of lines behind it.
 
-ghost use Rattle.std.specs.Prelude.{◌≡◌, ◌≤◌, ◌<◌, ◌+◌, ◌-◌, ◌++◌, [], ℕ, List, IsTrue, Ok, length, take, drop, vec_len, slice_index, IfOk, OnOk, OnErr, IfSome, IfNone};
+ghost use Rattle.std.specs.Prelude.{◌≡◌, ◌≤◌, ◌<◌, ◌+◌, ◌-◌, ◌++◌, [], ℕ, List, IsTrue, Ok, length, take, drop};
+ghost use Rattle.std.specs.Prelude.{vec_len, slice_index, IfOk, OnOk, OnErr, IfSome, IfNone};
 ghost use Rattle.ps_lines.specs.Lines.{HasNoLineFeed};
 ghost use Rattle.ps_outside.specs.Outside.{Rose};
 

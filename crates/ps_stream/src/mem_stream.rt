@@ -1,6 +1,7 @@
 // A stream in memory, whose pieces and failures are chosen beforehand.
 
-ghost use Rattle.std.specs.Prelude.{◌≡◌, ◌≤◌, ◌<◌, ◌++◌, ◌∷◌, [], true, IsTrue, Ok, length, take, drop, vec_len, IfOk, OnOk, OnErr, Contains, IsErr, ◌↔◌};
+ghost use Rattle.std.specs.Prelude.{◌≡◌, ◌≤◌, ◌<◌, ◌++◌, ◌∷◌, [], true, IsTrue, Ok, length, take, drop, vec_len, IfOk};
+ghost use Rattle.std.specs.Prelude.{OnOk, OnErr, Contains, IsErr, ◌↔◌};
 ghost use Rattle.ps_outside.specs.Outside.{Rose};
 
 use crate::Stream;

@@ -1,5 +1,6 @@
 -- What is counted in a line.
-use Rattle.std.specs.Prelude.{ℕ, ◌+◌, ◌-◌, Option, Some, None, count_by, max, min, nat_le, replicate, slice_index, slice_set}
+use Rattle.std.specs.Prelude.{ℕ, ◌+◌, ◌-◌, Option, Some, None, count_by, max, min, nat_le, replicate, slice_index}
+use Rattle.std.specs.Prelude.{slice_set}
 use Rattle.ps_outside.specs.Outside.{last_count}
 use Rattle.ps_tally.specs.declared.line.Line.{Line}
 use Rattle.ps_tally.specs.declared.line.TheConstants.{FLOORS}

@@ -1,5 +1,6 @@
 -- The counts as text: a line for each channel, region and outcome that has a trial.
-use Rattle.std.specs.Prelude.{ℕ, Bool, List, [], ◌++◌, ◌==◌, ◌&&◌, ◌%◌, codes, decimal, if◌then◌else◌, nat_lt, slice_index, slice_index_or}
+use Rattle.std.specs.Prelude.{ℕ, Bool, List, [], ◌++◌, ◌==◌, ◌&&◌, ◌%◌, codes, decimal, if◌then◌else◌, nat_lt}
+use Rattle.std.specs.Prelude.{slice_index, slice_index_or}
 use Rattle.std.specs.List.{flat_map, range_with_len}
 use Rattle.ps_tally.specs.declared.line.Line.{Line}
 use Rattle.ps_tally.specs.declared.line.TheConstants.{FLOORS}

@@ -1,7 +1,8 @@
-//! What trials come to, counted: by channel, region and outcome, with the latencies of trips; and the lines that tell it.
+//! What trials come to, counted: by channel, region and outcome, with the latencies of trips; and the lines that tell
+//! it.
 //!
-//! - `outcome`: what a trial comes to, and the line that it counts in. `line`: the counts of a line. `tally`: those of all
-//!   lines, which take one trial more, or those of another tally.
+//! - `outcome`: what a trial comes to, and the line that it counts in. `line`: the counts of a line. `tally`: those of
+//!   all lines, which take one trial more, or those of another tally.
 //! - `telling`: the lines as text.
 #![tactic(auto)]
 

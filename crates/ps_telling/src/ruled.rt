@@ -73,8 +73,8 @@ fn column_of(refusal: RulesRefusal, app: &[u8], line: &[u8]) -> u32 {
     unknown_column(app, line)
 }
 
-/// The message of a refusal of a rules file of this name and text, for an application of this text. Of an unknown name it
-/// says which.
+/// The message of a refusal of a rules file of this name and text, for an application of this text. Of an unknown name
+/// it says which.
 pub(crate) fn rules_message(
     alloc: Global,
     app: &[u8],

@@ -1,6 +1,8 @@
 -- The names and values that words are.
-use Rattle.std.specs.Prelude.{ℕ, ◌<◌, ◌+◌, ◌-◌, ◌*◌, List, [], ◌∷◌, ◌==◌, ◌||◌, Bool, true, false, nat_lt, if◌then◌else◌, length, map}
-use Rattle.std.specs.Prelude.{codes, slice_get, slice_index_or, Option, Some, None, is_some, option_map, Result, Ok, Err}
+use Rattle.std.specs.Prelude.{ℕ, ◌<◌, ◌+◌, ◌-◌, ◌*◌, List, [], ◌∷◌, ◌==◌, ◌||◌, Bool, true, false, nat_lt}
+use Rattle.std.specs.Prelude.{if◌then◌else◌, length, map}
+use Rattle.std.specs.Prelude.{codes, slice_get, slice_index_or, Option, Some, None, is_some, option_map, Result, Ok}
+use Rattle.std.specs.Prelude.{Err}
 use Rattle.std.specs.List.{list_all, list_any, filter_map, position_from, before_first, after_first, before_last}
 use Rattle.std.specs.List.{after_last, slice_split}
 use Rattle.std.specs.Str.{bytes_eq}

@@ -1,9 +1,11 @@
-//! Tests of what reads and writes texts, by its public calls: tokens, sources, certificates, traces, fault files, the lines
-//! of files, the outside world and the lines of a report. And the application of three inputs that the tests of traces use.
+//! Tests of what reads and writes texts, by its public calls: tokens, sources, certificates, traces, fault files, the
+//! lines of files, the outside world and the lines of a report. And the application of three inputs that the tests of
+//! traces use.
 //!
-//! - `tokens`, `sources`, `libraries`, `certificates`: the texts of applications, of function blocks and of certificates.
-//! - `traces`, `long_traces`, `fault_files`, `words`: the texts of traces and fault files, told in words by `telling` and
-//!   `saying`. `inputs`: the application that they are of.
+//! - `tokens`, `sources`, `libraries`, `certificates`: the texts of applications, of function blocks and of
+//!   certificates.
+//! - `traces`, `long_traces`, `fault_files`, `words`: the texts of traces and fault files, told in words by `telling`
+//!   and `saying`. `inputs`: the application that they are of.
 //! - `lines`, `outside`: how texts are read, and where from. `report`: the lines that are written.
 #![tactic(auto)]
 

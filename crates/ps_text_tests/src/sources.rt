@@ -106,8 +106,8 @@ static CHANGES: &[(&str, &str, u32, u32)] = &[
 // A function block and a program.
 const BOTH: &str = "FUNCTION_BLOCK F END_FUNCTION_BLOCK PROGRAM P a := b; END_PROGRAM";
 
-// A number of a token of that text, the words of a source that is read from there on, and the number of the token behind it; or
-// where P1 refuses it.
+// A number of a token of that text, the words of a source that is read from there on, and the number of the token
+// behind it; or where P1 refuses it.
 static TURNS: &[(u32, Heads, Result<u32, Place>)] = &[
     (0, Heads::Block, Ok(3)),
     (3, Heads::Program, Ok(10)),

@@ -1,5 +1,5 @@
-// Texts, and their tokens or refusals. What is asked of a text is answered by yes or no, and each table is gone through in one
-// place, so that the proof of a test has little to say.
+// Texts, and their tokens or refusals. What is asked of a text is answered by yes or no, and each table is gone through
+// in one place, so that the proof of a test has little to say.
 
 use crate::telling::repeated;
 use ps_base::{Fail, Memory, Place, Refusal, Rule};

@@ -7,8 +7,8 @@ use Rattle.ps_model.specs.Network.{Network}
 use Rattle.ps_told.specs.declared.outcome.CaseRun.{CaseRun}
 use Rattle.ps_told.specs.declared.outcome.Tally.{Tally}
 
--- A case that was run: the application and its name, the name of the case's file, what the file says, the case, and what
--- came of it, with the failures in the order of their lines.
+-- A case that was run: the application and its name, the name of the case's file, what the file says, the case, and
+-- what came of it, with the failures in the order of their lines.
 pub record Ran : Type 0 where
   pub net : Network
   pub app : List ℕ

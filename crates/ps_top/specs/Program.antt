@@ -1,5 +1,6 @@
 -- What the program writes, for its words and the texts that are held.
-use Rattle.std.specs.Prelude.{◌≡◌, ◌⊎◌, ℕ, suc, Bool, true, false, ◌==◌, ◌||◌, if◌then◌else◌, List, [], ◌∷◌, ◌++◌, Option, Some, None, is_some, length, map, count_by, sum_by}
+use Rattle.std.specs.Prelude.{◌≡◌, ◌⊎◌, ℕ, suc, Bool, true, false, ◌==◌, ◌||◌, if◌then◌else◌, List, [], ◌∷◌, ◌++◌}
+use Rattle.std.specs.Prelude.{Option, Some, None, is_some, length, map, count_by, sum_by}
 use Rattle.ps_base.specs.declared.failing.Refusal.{Refusal}
 use Rattle.ps_model.specs.declared.channel.Cause.{Cause}
 use Rattle.ps_model.specs.declared.channel.Channel.TheVariants.{A, B}
@@ -30,13 +31,15 @@ use Rattle.ps_vote.specs.Faults.{vote_faults_of, heal_faults_of}
 use Rattle.ps_vote.specs.Votes.{vote as vote_in}
 use Rattle.ps_vote.specs.Orders.{Course, course}
 use Rattle.ps_vote.specs.Worlds.{world_0 as seats_0}
-use Rattle.ps_vote.specs.Whole.{Setup as SeatSetup, Whole as WholeSeats, machines_in as seats_in, after_events as seats_after, IsSetupOf as IsSeatSetupOf}
+use Rattle.ps_vote.specs.Whole.{Setup as SeatSetup, Whole as WholeSeats, machines_in as seats_in}
+use Rattle.ps_vote.specs.Whole.{after_events as seats_after, IsSetupOf as IsSeatSetupOf}
 use Rattle.ps_demand.specs.Lines.{demand_lines}
 use Rattle.ps_report.specs.Image.{image_part}
 use Rattle.ps_report.specs.Lines.{report_text, trip_text}
 use Rattle.ps_report.specs.Short.{refusal_text, check_text, load_text}
 use Rattle.ps_words.specs.Command.{Command, command_of, usage_line}
-use Rattle.ps_words.specs.Command.Command.{Run, Fault as FaultWords, Check, Cert, Verify, Image, Load, Demand, Vote as VoteWords, Heal as HealWords, NotTaken}
+use Rattle.ps_words.specs.Command.Command.{Run, Fault as FaultWords, Check, Cert, Verify, Image, Load, Demand}
+use Rattle.ps_words.specs.Command.Command.{Vote as VoteWords, Heal as HealWords, NotTaken}
 use Rattle.ps_top.specs.Asking.{Answer, Asking, Worked}
 use Rattle.ps_top.specs.Asking.Asking.{Says, Asks, Finds, Leaves}
 use Rattle.ps_runs.specs.Counting.{true_outputs, true_errors}

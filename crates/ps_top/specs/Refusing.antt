@@ -7,7 +7,8 @@ use Rattle.ps_report.specs.Short.{refusal_text}
 use Rattle.ps_source.specs.Source.{Reading}
 use Rattle.ps_source.specs.Source.Reading.{is_refused}
 use Rattle.ps_outside.specs.declared.text_fail.TextFail.{TextFail}
-use Rattle.ps_outside.specs.declared.text_fail.TextFail.TheVariants.{Memory as NoMemory, Fault as IsFault, Refused as IsRefused}
+use Rattle.ps_outside.specs.declared.text_fail.TextFail.TheVariants.{Memory as NoMemory, Fault as IsFault}
+use Rattle.ps_outside.specs.declared.text_fail.TextFail.TheVariants.{Refused as IsRefused}
 use Rattle.ps_top.specs.Calls.{CallSeen, LeavesRefusal, Passes, ReadsName, SaysAnswer}
 use Rattle.ps_top.specs.Program.{answer}
 use Rattle.ps_top.specs.declared.Status.{Status}

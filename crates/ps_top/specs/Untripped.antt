@@ -17,7 +17,8 @@ use Rattle.ps_top.specs.Program.{run, fault, region_sizes, told, trips_of}
 abbrev pub Held : Type 0
 Held = List ℕ → Option (List ℕ)
 
--- Under one name an accepted source is held, which stands for this application, and under the other the text of a trace.
+-- Under one name an accepted source is held, which stands for this application, and under the other the text of a
+-- trace.
 pub record AreHeld (held : Held) (app trace : List ℕ) (net : Network) (text : List ℕ) : Type 0 where
   pub source : List ℕ
   pub source_is : held app ≡ Some source
@@ -31,8 +32,8 @@ pub record HasFaults (held : Held) (name : List ℕ) (net : Network) (setup : Se
   pub text_is : held name ≡ Some text
   pub faults_are : faults_of text (region_sizes setup) ≡ record { faults = faults; refusal = None }
 
--- The answer tells every scan of a trace, to its end or its refused line: these trip, and have their TRIP lines, as have those
--- behind a trip up to a restart; and each other one has the report line of the state that it means.
+-- The answer tells every scan of a trace, to its end or its refused line: these trip, and have their TRIP lines, as
+-- have those behind a trip up to a restart; and each other one has the report line of the state that it means.
 pub record TellsScans (net : Network) (tripped : List (ℕ × Cause)) (scans : Scans) (said : Answer) : Type 0 where
   pub states : List State
   pub meaning : Meaning net scans.items states

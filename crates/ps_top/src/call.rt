@@ -1,6 +1,7 @@
 //! A call of the program: the files that it reads, the output that it writes, and what it leaves behind, as one value.
 
-ghost use Rattle.std.specs.Prelude.{◌≡◌, ◌≤◌, ◌++◌, ℕ, List, IsTrue, Some, IsErr, IfOk, IfErr, OnOk, Err, take, length, false, IsErrOf};
+ghost use Rattle.std.specs.Prelude.{◌≡◌, ◌≤◌, ◌++◌, ℕ, List, IsTrue, Some, IsErr, IfOk, IfErr, OnOk, Err, take, length};
+ghost use Rattle.std.specs.Prelude.{false, IsErrOf};
 ghost use Rattle.ps_model.specs.Network.{input_count};
 ghost use Rattle.ps_outside.specs.Outside.{Rose};
 ghost use Rattle.ps_runs.specs.Doing.{DoesItems};

@@ -34,14 +34,14 @@ pub fn lines_meet_demands()
     each_demands();
 }
 
-/// The scans of a trace come in order of time, also across restarts: no time is earlier than that of the scan before, and each has
-/// 32 bits. Each scan has a value for each input.
+/// The scans of a trace come in order of time, also across restarts: no time is earlier than that of the scan before,
+/// and each has 32 bits. Each scan has a value for each input.
 pub fn scans_in_order()
     ensures { (text : List ℕ) (net : Network) → AreTimely (input_count net) 0 (scans_of text net).items }
 {}
 
-/// Without faults no scan trips, of any trace, whole or refused at a line: `run`, and `fault` with a file that has no faults, tell
-/// every scan by its report line.
+/// Without faults no scan trips, of any trace, whole or refused at a line: `run`, and `fault` with a file that has no
+/// faults, tell every scan by its report line.
 pub fn no_fault_no_trip()
     ensures trips { NoFaultNoTrip }
     ensures run { RunsTellAll }

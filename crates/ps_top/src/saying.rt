@@ -1,6 +1,7 @@
 // Short answers, answers of several lines, and how a call ends that gets no text.
 
-ghost use Rattle.std.specs.Prelude.{◌≡◌, ◌≢◌, ◌<◌, ◌≤◌, ◌-◌, ◌++◌, IsTrue, IsErr, IfErr, OnOk, drop, length, slice_index, take};
+ghost use Rattle.std.specs.Prelude.{◌≡◌, ◌≢◌, ◌<◌, ◌≤◌, ◌-◌, ◌++◌, IsTrue, IsErr, IfErr, OnOk, drop, length};
+ghost use Rattle.std.specs.Prelude.{slice_index, take};
 ghost use Rattle.ps_report.specs.Short.{refusal_text};
 ghost use Rattle.ps_top.specs.Asking.{worked};
 ghost use Rattle.ps_top.specs.Calls.{LeavesRefusal, SaysAnswer, Writes};

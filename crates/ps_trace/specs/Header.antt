@@ -1,5 +1,6 @@
 -- The header of a trace.
-use Rattle.std.specs.Prelude.{ℕ, Bool, List, [], ◌∷◌, not, ◌==◌, if◌then◌else◌, Option, is_none, unwrap_or, length, map, count_by, codes}
+use Rattle.std.specs.Prelude.{ℕ, Bool, List, [], ◌∷◌, not, ◌==◌, if◌then◌else◌, Option, is_none, unwrap_or, length, map}
+use Rattle.std.specs.Prelude.{count_by, codes}
 use Rattle.std.specs.List.{list_any, filter_map, position_from, range_with_len}
 use Rattle.std.specs.Str.{bytes_eq}
 use Rattle.ps_base.specs.LetterCase.{is_same_name}

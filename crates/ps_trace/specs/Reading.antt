@@ -11,7 +11,8 @@ use Rattle.ps_trace.specs.Scans.End.{whole, refused}
 use Rattle.ps_trace.specs.Scans.Headed.{begins, fails}
 use Rattle.ps_trace.specs.declared.trace.TraceReader.{TraceReader}
 use Rattle.ps_outside.specs.declared.text_fail.TextFail.{TextFail}
-use Rattle.ps_outside.specs.declared.text_fail.TextFail.TheVariants.{Memory as NoMemory, Fault as IsFault, Refused as IsRefused}
+use Rattle.ps_outside.specs.declared.text_fail.TextFail.TheVariants.{Memory as NoMemory, Fault as IsFault}
+use Rattle.ps_outside.specs.declared.text_fail.TextFail.TheVariants.{Refused as IsRefused}
 use Rattle.ps_trace.specs.declared.trace.Next.{Next}
 use Rattle.ps_trace.specs.declared.trace.Next.TheVariants.{Scan as NextScan, Restart as NextRestart, End as NextEnd}
 
@@ -59,7 +60,8 @@ Comes items NextScan into rest = Begins items (scan into.now into.ins) rest
 Comes items NextRestart into rest = Begins items restart rest
 Comes items NextEnd into rest = (items ≡ record { items = []; end = whole }) × (rest ≡ items)
 
--- with a scan its inputs are as many as before, and its time is not less than the last; with anything else nothing changes
+-- with a scan its inputs are as many as before, and its time is not less than the last; with anything else nothing
+-- changes
 abbrev pub Fills : Next → TraceReader → TraceReader → Scan → Scan → Type 0
 Fills NextScan old new before after = (length after.ins ≡ length before.ins) × (last_of old ≤ after.now) × (last_of new ≡ after.now)
 Fills NextRestart old new before after = (after ≡ before) × (last_of new ≡ last_of old)

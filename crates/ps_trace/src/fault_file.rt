@@ -51,9 +51,9 @@ pub(crate) enum FaultSays<W> {
 ///
 /// A line is `before <scan> <who> <code|memory> <offset> <bytes>`, or has `turn <turn>` behind the scan. The first
 /// refused line decides: it is line 1,001 (F5); it has over 600 bytes or not this form (F1); its scan or turn is less
-/// than an earlier line's (F2); it passes the region's end (F3); where `one_alone` is asked, it strikes another one than
-/// the first fault (F4). `Fault` comes only where the files' count of the name rose in this call; every other answer
-/// leaves the counts as they were.
+/// than an earlier line's (F2); it passes the region's end (F3); where `one_alone` is asked, it strikes another one
+/// than the first fault (F4). `Fault` comes only where the files' count of the name rose in this call; every other
+/// answer leaves the counts as they were.
 pub fn read_faults_of<W: Target, F: Files>(
     alloc: Global,
     files: &mut F,

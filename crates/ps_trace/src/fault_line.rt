@@ -2,7 +2,8 @@
 
 ghost use Rattle.std.specs.Prelude.{◌≡◌, ◌≤◌, ◌-◌, ◌∷◌, length, take, drop, IfOk};
 ghost use Rattle.ps_trace.specs.Words.{number_of, words};
-ghost use Rattle.ps_trace.specs.Faults.{above_zero, bytes_said, fault_said, first_of, line_of_parts, others_of, region_of, target_said};
+ghost use Rattle.ps_trace.specs.Faults.{above_zero, bytes_said, fault_said, first_of, line_of_parts, others_of};
+ghost use Rattle.ps_trace.specs.Faults.{region_of, target_said};
 
 use crate::target::{FaultLine, Target};
 use crate::words::{next_word, number};
@@ -11,7 +12,8 @@ use ps_base::{Bytes, Memory};
 use ps_model::Region;
 use std::alloc::Global;
 
-// The parts of the fault that a line is, whose first word stands from `from` to `upto`. None: it does not have the form of one.
+// The parts of the fault that a line is, whose first word stands from `from` to `upto`. None: it does not have the form
+// of one.
 pub(crate) fn read_fault<W: Target>(
     alloc: Global,
     line: &[u8],

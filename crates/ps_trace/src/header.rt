@@ -1,11 +1,13 @@
 // The header of a trace.
 
-ghost use Rattle.std.specs.Prelude.{◌≡◌, ◌≤◌, ◌<◌, ◌+◌, ◌==◌, ◌^◌, ℕ, IsTrue, Some, length, drop, not, replicate, slice_index, slice_set, if◌then◌else◌, IfOk, IfSome, codes};
+ghost use Rattle.std.specs.Prelude.{◌≡◌, ◌≤◌, ◌<◌, ◌+◌, ◌==◌, ◌^◌, ℕ, IsTrue, Some, length, drop, not, replicate};
+ghost use Rattle.std.specs.Prelude.{slice_index, slice_set, if◌then◌else◌, IfOk, IfSome, codes};
 ghost use Rattle.std.specs.Str.{bytes_eq};
 ghost use Rattle.std.specs.List.{list_all, position_from};
 ghost use Rattle.ps_model.specs.Network.{input_count};
 ghost use Rattle.ps_trace.specs.Words.{fields, words};
-ghost use Rattle.ps_trace.specs.Header.{input_names, input_named, inputs_named, names_another, times_named, names_said, header_said};
+ghost use Rattle.ps_trace.specs.Header.{input_names, input_named, inputs_named, names_another, times_named, names_said};
+ghost use Rattle.ps_trace.specs.Header.{header_said};
 ghost use Rattle.ps_trace.specs.HeaderSays.{header_by, names_by, IsSized};
 
 use crate::words::{first_field, next_word};

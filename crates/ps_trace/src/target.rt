@@ -26,8 +26,8 @@ pub struct FaultLine<W> {
 
 /// Who the faults of a file strike, as the channels of a world of two, and what a fault is that strikes one.
 ///
-/// Contracts know of it who a word names, whether two are the same, the lengths of regions, the fault of a line with its
-/// number, and the parts of a fault.
+/// Contracts know of it who a word names, whether two are the same, the lengths of regions, the fault of a line with
+/// its number, and the parts of a fault.
 pub trait Target: Copy {
     /// The lengths of all regions.
     type Sizes;

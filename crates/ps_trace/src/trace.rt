@@ -1,6 +1,7 @@
 // The reader of a trace.
 
-ghost use Rattle.std.specs.Prelude.{◌≡◌, ◌≢◌, ◌≤◌, ◌<◌, ◌+◌, ℕ, List, IsTrue, Some, None, IsSome, false, length, vec_len, IfOk, OnOk, OnErr, Ok, Err, IsErrOf};
+ghost use Rattle.std.specs.Prelude.{◌≡◌, ◌≢◌, ◌≤◌, ◌<◌, ◌+◌, ℕ, List, IsTrue, Some, None, IsSome, false, length};
+ghost use Rattle.std.specs.Prelude.{vec_len, IfOk, OnOk, OnErr, Ok, Err, IsErrOf};
 ghost use Rattle.ps_outside.specs.Outside.{Rose, CountsStay};
 ghost use Rattle.ps_base.specs.declared.limits.TheConstants.{LARGEST_TRACE, LONGEST_TRACE_LINE};
 ghost use Rattle.ps_lines.specs.Reader.{begin_of, limits_of, line_of};

@@ -1,6 +1,7 @@
 // The words of a line, and the numbers that words are.
 
-ghost use Rattle.std.specs.Prelude.{◌≡◌, ◌≤◌, ◌<◌, ◌-◌, ℕ, [], ◌∷◌, length, slice_index, take, drop, IfSome, IfNone, not};
+ghost use Rattle.std.specs.Prelude.{◌≡◌, ◌≤◌, ◌<◌, ◌-◌, ℕ, [], ◌∷◌, length, slice_index, take, drop, IfSome, IfNone};
+ghost use Rattle.std.specs.Prelude.{not};
 ghost use Rattle.ps_trace.specs.Words.{is_blank, number_of, words, fields, IsNextWord, AreBlank};
 
 /// The first word among the bytes of `line` from `at` on: the place at which it begins, and the place after its last

@@ -2,7 +2,8 @@
 
 ghost use Rattle.std.specs.Prelude.{◌≡◌, ◌+◌, ◌%◌};
 ghost use Rattle.rand_core.specs.Stream.{next_u64};
-ghost use Rattle.ps_trials.specs.Trials.{AreInRange, below, bits_by, channel_by, channel_in, region_by, room_in, trial_by, trial_of};
+ghost use Rattle.ps_trials.specs.Trials.{AreInRange, below, bits_by, channel_by, channel_in, region_by, room_in};
+ghost use Rattle.ps_trials.specs.Trials.{trial_by, trial_of};
 
 use ps_model::{Channel, ImageSizes, Region};
 use rand_core::{Rng, SeedableRng};

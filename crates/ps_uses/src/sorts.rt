@@ -3,7 +3,8 @@
 ghost use Rattle.std.specs.Prelude.{◌≡◌, Some};
 ghost use Rattle.ps_names.specs.Names.{sort_at};
 ghost use Rattle.ps_names.specs.Offences.{noted};
-ghost use Rattle.ps_names.specs.Rules.{pin_at, has_input, has_output, at_read, at_read_pin, at_drive, at_drive_pin, at_call, at_argument};
+ghost use Rattle.ps_names.specs.Rules.{pin_at, has_input, has_output, at_read, at_read_pin, at_drive, at_drive_pin};
+ghost use Rattle.ps_names.specs.Rules.{at_call, at_argument};
 
 use ps_base::{Refusal, Rule};
 use ps_model::{Kind, input_count, pin_named};

@@ -30,8 +30,8 @@ AnswerRight net (a ∷ later) [] = ⊥
 AnswerRight net (a ∷ later) (w ∷ ws) = (a.vote ≢ Split) × (a.report ≡ report net w) × AnswerRight net later ws
 
 module _ (net : Network) (m : Machines) where
-  -- A run is right over items that mean these states: each scan that was closed answers right, and where the run ends at no fault
-  -- all items were done.
+  -- A run is right over items that mean these states: each scan that was closed answers right, and where the run ends
+  -- at no fault all items were done.
   pub record IsRight (run : Course) (items : List Item) (ws : List State) : Type 0 where
     pub answers_right : AnswerRight net (answers m (length net.outputs) (instance_count net) run.votes) ws
     pub whole : run.refused ≡ None → (run.done ≡ items) × (length run.votes ≡ length ws)

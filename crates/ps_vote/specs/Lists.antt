@@ -2,7 +2,8 @@
 use Rattle.std.specs.Prelude.{◌≡◌, true, false, List, [], ◌∷◌}
 use Rattle.ps_model.specs.Meaning.{Item, scan, restart}
 use Rattle.ps_vote.specs.declared.seat.Seat.{Seat}
-use Rattle.ps_vote.specs.Worlds.{Machines, World_state, Event, Begin, Turn, Spoil, TakeVote, Restart, Heal, is_same, channel, mark}
+use Rattle.ps_vote.specs.Worlds.{Machines, World_state, Event, Begin, Turn, Spoil, TakeVote, Restart, Heal, is_same}
+use Rattle.ps_vote.specs.Worlds.{channel, mark}
 use Rattle.ps_vote.specs.Steps.{is_in_region, world_step}
 
 -- all Spoils of the list name one seat

@@ -1,6 +1,8 @@
--- The order of events in which `vote` and `heal` make their scans. Where a run `heals`, as that of `heal` does, a seat that a vote
--- outvotes is healed right after the vote, and a fault that is reached while another seat is dirty is not done and ends the run.
-use Rattle.std.specs.Prelude.{ℕ, zero, suc, ◌+◌, Bool, ◌==◌, ◌&&◌, if◌then◌else◌, List, [], ◌∷◌, ◌++◌, map, Option, Some, None, Result, Ok, Err}
+-- The order of events in which `vote` and `heal` make their scans. Where a run `heals`, as that of `heal` does, a seat
+-- that a vote outvotes is healed right after the vote, and a fault that is reached while another seat is dirty is not
+-- done and ends the run.
+use Rattle.std.specs.Prelude.{ℕ, zero, suc, ◌+◌, Bool, ◌==◌, ◌&&◌, if◌then◌else◌, List, [], ◌∷◌, ◌++◌, map, Option}
+use Rattle.std.specs.Prelude.{Some, None, Result, Ok, Err}
 use Rattle.std.specs.List.{filter}
 use Rattle.ps_model.specs.Meaning.{Item, scan, restart}
 use Rattle.ps_machine.specs.Channels.{ended}
@@ -9,7 +11,8 @@ use Rattle.ps_vote.specs.declared.seat.Seat.{Seat}
 use Rattle.ps_vote.specs.declared.seat.Seat.TheVariants.{A, B, C}
 use Rattle.ps_vote.specs.declared.seat.Vote.{Vote}
 use Rattle.ps_vote.specs.declared.seat.Vote.TheVariants.{All, Two, Split}
-use Rattle.ps_vote.specs.Worlds.{Machines, World_state, Event, Begin, Turn, Spoil, TakeVote, Restart, Heal, machine, channel, is_another_dirty, world_0}
+use Rattle.ps_vote.specs.Worlds.{Machines, World_state, Event, Begin, Turn, Spoil, TakeVote, Restart, Heal, machine}
+use Rattle.ps_vote.specs.Worlds.{channel, is_another_dirty, world_0}
 use Rattle.ps_vote.specs.Votes.{vote}
 use Rattle.ps_vote.specs.Steps.{world_step, after, all_ended}
 
@@ -51,7 +54,8 @@ followed m x p later = unless_refused p.refused p.events (later (after m p.event
 
 -- ---- A scan.
 
--- the Spoils that these faults ask for, in their order; a run that heals ends at a fault that is reached while another seat is dirty
+-- the Spoils that these faults ask for, in their order; a run that heals ends at a fault that is reached while another
+-- seat is dirty
 abbrev pub spoils : (heals : Bool) → Machines → List VoteFault → World_state → Path
 spoils heals m [] x = no_more
 spoils heals m (f ∷ faults) x =
@@ -64,7 +68,8 @@ seat_after A = B
 seat_after B = C
 seat_after C = A
 
--- the seat from which the rotation is counted: A where the scan had no turn, and else the one after the seat that had the last turn
+-- the seat from which the rotation is counted: A where the scan had no turn, and else the one after the seat that had
+-- the last turn
 abbrev pub in_turn : Option Seat → Seat
 in_turn None = A
 in_turn (Some seat) = seat_after seat
@@ -81,8 +86,8 @@ next_from m seat x = unless_ended m x seat (unless_ended m x (seat_after seat) (
 abbrev pub next_turn : Machines → (last : Option Seat) → World_state → Seat
 next_turn m last x = next_from m (in_turn last) x
 
--- The turns of a scan of which so many are done, the last one by this seat: the Spoils before the next turn, and that turn, until all
--- three seats have ended. At most so many turns are left.
+-- The turns of a scan of which so many are done, the last one by this seat: the Spoils before the next turn, and that
+-- turn, until all three seats have ended. At most so many turns are left.
 abbrev pub turns : (heals : Bool) → Machines → List VoteFault → (left done : ℕ) → (last : Option Seat) → World_state → Path
 turns heals m faults zero done last x = spoils heals m (of_turn (done + 1) faults) x
 turns heals m faults (suc left) done last x = followed m x (spoils heals m (of_turn (done + 1) faults) x) (λ y.
@@ -129,8 +134,8 @@ scan_answer (Some f) v = Err f.line
 
 -- ---- A run.
 
--- What a run comes to: the world at the vote of each scan that was closed, the items that were done, the events, and the fault at
--- which it ends, if there is one.
+-- What a run comes to: the world at the vote of each scan that was closed, the items that were done, the events, and
+-- the fault at which it ends, if there is one.
 pub record Course : Type 0 where
   pub votes : List World_state
   pub done : List Item

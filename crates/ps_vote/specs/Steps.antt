@@ -1,11 +1,13 @@
 -- What each event makes of a world of three seats, and under which condition it may come.
-use Rattle.std.specs.Prelude.{◌≡◌, ◌≤◌, ◌<◌, ◌^◌, ◌+◌, ℕ, Bool, true, false, not, nat_lt, if◌then◌else◌, ◌&&◌, List, [], ◌∷◌, length, Some, None}
+use Rattle.std.specs.Prelude.{◌≡◌, ◌≤◌, ◌<◌, ◌^◌, ◌+◌, ℕ, Bool, true, false, not, nat_lt, if◌then◌else◌, ◌&&◌, List, []}
+use Rattle.std.specs.Prelude.{◌∷◌, length, Some, None}
 use Rattle.ps_model.specs.declared.channel.Region.{Region}
 use Rattle.ps_model.specs.declared.channel.Region.TheVariants.{Code, Cells}
 use Rattle.ps_machine.specs.Channels.{Channel_state, at_begin, after_turn, after_strike, new_channel, remade, ended}
 use Rattle.ps_vote.specs.declared.seat.Seat.{Seat}
 use Rattle.ps_vote.specs.declared.seat.Seat.TheVariants.{A, B, C}
-use Rattle.ps_vote.specs.Worlds.{Machines, World_state, Event, Begin, Turn, Spoil, TakeVote, Restart, Heal, is_same, machine, channel, source, rebuilt, mark, marked, none_dirty}
+use Rattle.ps_vote.specs.Worlds.{Machines, World_state, Event, Begin, Turn, Spoil, TakeVote, Restart, Heal, is_same}
+use Rattle.ps_vote.specs.Worlds.{machine, channel, source, rebuilt, mark, marked, none_dirty}
 use Rattle.ps_vote.specs.Votes.{vote, outvoted_by}
 
 -- the world with another state of one seat's channel, and all else as it was

@@ -19,8 +19,8 @@ use Rattle.ps_vote.specs.Worlds.{Machines, World_state, Event, machine, channel,
 use Rattle.ps_vote.specs.Steps.{with_channel, healing, world_step, after}
 use Rattle.ps_vote.specs.Healing.{rebuilt_a, rebuilt_b, rebuilt_c}
 
--- what never changes of a world: the sizes of the application and the limits of its instances in ms, the code of the seats as
--- compiled, and their budgets of turns
+-- what never changes of a world: the sizes of the application and the limits of its instances in ms, the code of the
+-- seats as compiled, and their budgets of turns
 pub record Setup : Type 0 where
   pub sizes : Sizes
   pub limits : List ℕ
@@ -65,7 +65,8 @@ with_rebuilt seat w =
 abbrev pub limits_of : Network → List ℕ
 limits_of net = map (limit_in net) (range_with_len 0 (instance_count net))
 
--- This never changes of an application's world: its sizes and limits, its code as the three compilers make it, and the budgets of its seats.
+-- This never changes of an application's world: its sizes and limits, its code as the three compilers make it, and the
+-- budgets of its seats.
 pub record IsSetupOf (net : Network) (s : Setup) : Type 0 where
   pub sizes : AreSizesOf net s.sizes
   pub limits : s.limits ≡ limits_of net

@@ -16,8 +16,8 @@ pub record Machines : Type 0 where
   pub rebuilt_b : (t : ℕ) → (source : List ℕ) → List ℕ
   pub rebuilt_c : (t : ℕ) → (source : List ℕ) → List ℕ
 
--- a world at one moment: the channels of the seats and which of them are dirty, the time of the last scan in ms, whether a scan is
--- begun, and the outvoted seat or none
+-- a world at one moment: the channels of the seats and which of them are dirty, the time of the last scan in ms,
+-- whether a scan is begun, and the outvoted seat or none
 pub record World_state : Type 0 where
   pub a : Channel_state
   pub b : Channel_state

@@ -119,9 +119,9 @@ pub fn read_vote_faults<F: Files>(
     }
 }
 
-/// The faults of a fault file of `heal`: as those of `vote`, but they may strike any seats, so the file is not refused by
-/// F4. `Fault` comes only where the files' count of the name rose in this call; every other answer leaves the counts as
-/// they were.
+/// The faults of a fault file of `heal`: as those of `vote`, but they may strike any seats, so the file is not refused
+/// by F4. `Fault` comes only where the files' count of the name rose in this call; every other answer leaves the counts
+/// as they were.
 pub fn read_heal_faults<F: Files>(
     alloc: Global,
     files: &mut F,

@@ -6,7 +6,8 @@ ghost use Rattle.ps_vote.specs.Worlds.{machine, channel};
 ghost use Rattle.ps_vote.specs.Steps.{all_ended};
 ghost use Rattle.ps_vote.specs.Votes.{vote, report_given};
 ghost use Rattle.ps_vote.specs.Whole.{machines_in, after_events};
-ghost use Rattle.ps_vote.specs.Orders.{of_turn, spoils, next_turn, turns, most_turns, path_to_vote, at_vote, closing, path_of_scan, path_answer, scan_answer};
+ghost use Rattle.ps_vote.specs.Orders.{of_turn, spoils, next_turn, turns, most_turns, path_to_vote, at_vote, closing};
+ghost use Rattle.ps_vote.specs.Orders.{path_of_scan, path_answer, scan_answer};
 
 use crate::faults::VoteFault;
 use crate::seat::{Seat, Vote};
@@ -14,12 +15,12 @@ use crate::world::VoteWorld;
 use ps_model::{Report, Scan};
 
 impl VoteWorld {
-    /// Makes a scan by the order of events of `vote`, or of `heal` where it `heals`. `faults` are those of the scan in the
-    /// order of the fault file: the Spoils before it, Begin, turns of A, B and C in rotation with the Spoils before each, and
-    /// the vote, whose answer and report are given; where it heals, the Heal of a seat that is outvoted.
+    /// Makes a scan by the order of events of `vote`, or of `heal` where it `heals`. `faults` are those of the scan in
+    /// the order of the fault file: the Spoils before it, Begin, turns of A, B and C in rotation with the Spoils before
+    /// each, and the vote, whose answer and report are given; where it heals, the Heal of a seat that is outvoted.
     ///
-    /// Err comes only where it heals, and exactly where a fault is reached while another seat is dirty, with the line of the
-    /// fault: it is not done, and the scan is not closed. It takes no memory.
+    /// Err comes only where it heals, and exactly where a fault is reached while another seat is dirty, with the line
+    /// of the fault: it is not done, and the scan is not closed. It takes no memory.
     pub fn make_scan(
         &mut self,
         scan: &Scan,
@@ -102,7 +103,8 @@ impl VoteWorld {
         self.take_turns(faults, heals)
     }
 
-    // The Spoils of these faults that come before a turn, up to a fault that is not done. One out of its region changes nothing.
+    // The Spoils of these faults that come before a turn, up to a fault that is not done. One out of its region changes
+    // nothing.
     fn strike(&mut self, faults: &[VoteFault], heals: bool, turn: u64) -> Result<(), u32>
         ensures events { self.new ≡ after_events (spoils heals (machines_in self.old.setup) (of_turn turn faults.now) self.old.state).events self.old }
         ensures refused { result ≡ path_answer (spoils heals (machines_in self.old.setup) (of_turn turn faults.now) self.old.state).refused }
@@ -146,7 +148,8 @@ impl VoteWorld {
         }
     }
 
-    // The turns of a scan that is begun, with the Spoils before each, until all seats have ended, or up to a fault that is not done.
+    // The turns of a scan that is begun, with the Spoils before each, until all seats have ended, or up to a fault that
+    // is not done.
     fn take_turns(&mut self, faults: &[VoteFault], heals: bool) -> Result<(), u32>
         requires begun { self.old.state.begun ≡ true }
         ensures events { self.new ≡ after_events (turns heals (machines_in self.old.setup) faults.now (most_turns (machines_in self.old.setup)) 0 None self.old.state).events self.old }

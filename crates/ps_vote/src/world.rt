@@ -1,6 +1,7 @@
 // The world of three seats, event by event.
 
-ghost use Rattle.std.specs.Prelude.{◌≡◌, ◌≤◌, ◌<◌, ◌^◌, ◌&&◌, ◌+◌, ◌*◌, Bool, false, true, is_err, length, nat_lt, IfOk, None, Some, [], ◌∷◌};
+ghost use Rattle.std.specs.Prelude.{◌≡◌, ◌≤◌, ◌<◌, ◌^◌, ◌&&◌, ◌+◌, ◌*◌, Bool, false, true, is_err, length, nat_lt};
+ghost use Rattle.std.specs.Prelude.{IfOk, None, Some, [], ◌∷◌};
 ghost use Rattle.ps_model.specs.Typing.{Accepted};
 ghost use Rattle.ps_machine.specs.Channels.{ended};
 ghost use Rattle.ps_seat.specs.Seats.{machine_in, new_seat};
@@ -34,8 +35,9 @@ use ps_stackvm::StackChannel;
 use std::alloc::Global;
 use std::marker::Model;
 
-/// Three channels of one application, which make its scans event by event, and whose reports are voted on two out of three. A seat
-/// that was outvoted takes part again, and can be rebuilt from another. Contracts see it as a `Whole`. Only `build` takes memory.
+/// Three channels of one application, which make its scans event by event, and whose reports are voted on two out of
+/// three. A seat that was outvoted takes part again, and can be rebuilt from another. Contracts see it as a `Whole`.
+/// Only `build` takes memory.
 pub struct VoteWorld {
     a: ps_seat::Seat<StackChannel>,
     b: ps_seat::Seat<EquationChannel>,
@@ -99,8 +101,8 @@ impl Model for VoteWorld {
         × (length w.limits.items ≡ w.a.sizes.instances) × (length w.room.bytes.items ≡ w.a.sizes.signals + 16 * w.a.sizes.instances) };
 }
 
-// Writes the report of a seat that has ended into one of the application's sizes, which is made blank before, so that nothing
-// of an earlier scan takes part in a vote; false where it has none.
+// Writes the report of a seat that has ended into one of the application's sizes, which is made blank before, so that
+// nothing of an earlier scan takes part in a vote; false where it has none.
 fn report_into<C: ScanMachine>(seat: &ps_seat::Seat<C>, into: &mut Report) -> bool
     requires outs { length into.old.outs ≡ seat.now.sizes.outputs }
     requires diags { length into.old.diags ≡ seat.now.sizes.instances }
@@ -157,8 +159,8 @@ fn stack_seat(
     ps_seat::Seat::build(alloc, stack_image(alloc, app)?, sizes, app.turns_a())
 }
 
-// Seat B of an application of these sizes, with its equation code. They are counted for it anew: it does not take those of the
-// other seats.
+// Seat B of an application of these sizes, with its equation code. They are counted for it anew: it does not take those
+// of the other seats.
 fn equation_seat(
     alloc: Global,
     app: &App,
@@ -210,8 +212,8 @@ fn few_fields(app: &App)
 }
 
 impl VoteWorld {
-    /// The world of an application at the beginning: the code of the three compilers, which it keeps outside every region, blank
-    /// cells, no scan begun, no seat dirty and none outvoted. It takes the memory for all that is kept.
+    /// The world of an application at the beginning: the code of the three compilers, which it keeps outside every
+    /// region, blank cells, no scan begun, no seat dirty and none outvoted. It takes the memory for all that is kept.
     pub fn build(alloc: Global, app: &App) -> Result<VoteWorld, Memory>
         requires { Accepted app.now }
         ensures { IfOk result (λ world. IsWorldOf app.now world) }
@@ -293,8 +295,8 @@ impl VoteWorld {
         }
     }
 
-    // The turns of a scan that is begun and that nothing strikes: the seats run one after the other, which leads to the world of
-    // turns one by one.
+    // The turns of a scan that is begun and that nothing strikes: the seats run one after the other, which leads to the
+    // world of turns one by one.
     pub(crate) fn finish_all(&mut self)
         requires none_a { self.old.state.a.turns ≡ 0 }
         requires none_b { self.old.state.b.turns ≡ 0 }
@@ -320,8 +322,8 @@ impl VoteWorld {
         self.outvoted = None;
     }
 
-    /// Replaces bytes of a seat's region, at any moment, and the seat is dirty then. OutOfRegion comes exactly where they would
-    /// pass the region's end, and then nothing changed.
+    /// Replaces bytes of a seat's region, at any moment, and the seat is dirty then. OutOfRegion comes exactly where
+    /// they would pass the region's end, and then nothing changed.
     pub fn spoil(
         &mut self,
         seat: Seat,
@@ -341,8 +343,8 @@ impl VoteWorld {
         Ok(())
     }
 
-    /// Closes the scan. `into`, a report of the application's sizes, becomes the shared report, and one with every output, Ready and
-    /// Error FALSE and every code 0 where no two reports are equal.
+    /// Closes the scan. `into`, a report of the application's sizes, becomes the shared report, and one with every
+    /// output, Ready and Error FALSE and every code 0 where no two reports are equal.
     pub fn vote(&mut self, into: &mut Report) -> Vote
         requires begun { self.old.state.begun ≡ true }
         requires over { all_ended (machines_in self.old.setup) self.old.state ≡ true }
@@ -385,14 +387,16 @@ impl VoteWorld {
         vote
     }
 
-    /// The seat that the last vote outvoted: None where no vote came, it was not Two, or a Begin, Restart or Heal came since.
+    /// The seat that the last vote outvoted: None where no vote came, it was not Two, or a Begin, Restart or Heal came
+    /// since.
     pub fn outvoted(&self) -> Option<Seat>
         ensures { result ≡ self.now.state.outvoted }
     {
         self.outvoted
     }
 
-    /// Whether a Spoil in region named the seat since the latest of the beginning, the last Restart and its own last Heal.
+    /// Whether a Spoil in region named the seat since the latest of the beginning, the last Restart and its own last
+    /// Heal.
     pub fn is_dirty(&self, seat: Seat) -> bool
         ensures { result ≡ mark seat self.now.state.dirty }
     {
@@ -414,8 +418,8 @@ impl VoteWorld {
         u64::from(self.a.budget()) + u64::from(self.b.budget()) + u64::from(self.c.budget())
     }
 
-    /// Rebuilds the outvoted seat from another on its bytes as they are: seat A from C, and the others from A. It is not dirty then,
-    /// and none is outvoted.
+    /// Rebuilds the outvoted seat from another on its bytes as they are: seat A from C, and the others from A. It is
+    /// not dirty then, and none is outvoted.
     pub fn heal(&mut self, seat: Seat)
         requires { self.old.state.outvoted ≡ Some seat }
         ensures { self.new ≡ happened (Heal seat) self.old }

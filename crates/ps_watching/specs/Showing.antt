@@ -39,8 +39,8 @@ pub record Run : Type 0 where
   pub names : List Name
   pub faults : List Fault
 
--- What `watch` is asked of an application: the word in the place of a trace, the words for what is watched, and the name of a fault
--- file, if faults are to strike.
+-- What `watch` is asked of an application: the word in the place of a trace, the words for what is watched, and the
+-- name of a fault file, if faults are to strike.
 pub record Wanted : Type 0 where
   pub trace : List ℕ
   pub words : List (List ℕ)

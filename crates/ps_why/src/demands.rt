@@ -38,8 +38,8 @@ fn first_unmet(kind: Kind, output: u8, seen: &StepConditions) -> Option<Need>
 }
 
 /// Tells of a safe output the first pin that its demand names and that is not as the demand asks, if there is one, and
-/// answers whether there is. The output is one of the safe outputs of the kind, from 0. `Err` comes only where memory is
-/// wanting.
+/// answers whether there is. The output is one of the safe outputs of the kind, from 0. `Err` comes only where memory
+/// is wanting.
 pub fn tell_denial(
     kind: Kind,
     output: u8,

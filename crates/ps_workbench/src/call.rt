@@ -287,10 +287,10 @@ pub fn exit_of_call<F: Files, O: Output, L: Listener>(
     listener: &mut L,
 ) -> u8
     // The number is that of a status. Where nothing stopped the call, the status and what was written are those of what
-    // the words ask: of `test`, 0 exactly where every case passed, and else 4; of `never`, 0 where every rule holds, and
-    // of `cover` where no less was shown than was asked for. Where the call did not do all, why it stopped and what was
-    // written up to there are those of what the words ask, unless memory was wanting before that; of a file that could
-    // not be read, and of an output that could not be written, the count rose.
+    // the words ask: of `test`, 0 exactly where every case passed, and else 4; of `never`, 0 where every rule holds,
+    // and of `cover` where no less was shown than was asked for. Where the call did not do all, why it stopped and what
+    // was written up to there are those of what the words ask, unless memory was wanting before that; of a file that
+    // could not be read, and of an output that could not be written, the count rose.
     ensures does { (status : StatusOf) × (result ≡ exit_number status)
         × (IsAnswered status → (asked : asking.Asked) × Asks words.now asked
         × Answers asked (F.tells files.old) (F.held files.old) status

@@ -1,4 +1,5 @@
--- The laws of a world of two machines, over lists of events in any order of turns, with restarts and with Spoils of any bytes at any place.
+-- The laws of a world of two machines, over lists of events in any order of turns, with restarts and with Spoils of any
+-- bytes at any place.
 use Rattle.std.specs.Prelude.{◌≡◌, ◌↔◌, ◌≤◌, ℕ, ◌+◌, Bool, true, false, List, [], ◌∷◌, ◌++◌, length}
 use Rattle.ps_model.specs.declared.channel.Channel.{Channel}
 use Rattle.ps_model.specs.declared.channel.Cause.{Cause}
@@ -16,7 +17,8 @@ use Rattle.ps_world.specs.Verdicts.{verdict, report_given}
 use Rattle.ps_world.specs.Steps.{after, Lawful}
 use Rattle.ps_world.specs.Lists.{OneSided, HasNoSpoil, own_events, items_of, HasNoRestart, IsWithinScan, turn_count}
 
--- Channels are apart: the code, cells and turn count of a channel follow from its own events alone, however these are mixed with the other's.
+-- Channels are apart: the code, cells and turn count of a channel follow from its own events alone, however these are
+-- mixed with the other's.
 abbrev pub ChannelsAreApart : Type 0
 ChannelsAreApart = (m : Machines) (es : List Event) (x : World_state) (ch : Channel) →
     channel ch (after m es x) ≡ alone (machine ch m) (own_events ch es) (channel ch x)
@@ -46,7 +48,8 @@ module _ (net : Network) (m : Machines) where
 pub record Disagree (m : Machines) (x : World_state) : Type 0 where
   pub none_equal : (r : Report) → outcome m.a x.a.cells ≡ gives r → outcome m.b x.b.cells ≡ gives r → ⊥
 
--- Trips exactly: in a world that is not tripped a Compare is Tripped exactly where a channel has no report or the two reports differ.
+-- Trips exactly: in a world that is not tripped a Compare is Tripped exactly where a channel has no report or the two
+-- reports differ.
 abbrev pub TripsExactly : Machines → Type 0
 TripsExactly m = (x : World_state) → x.tripped ≡ false → ((cause : Cause) × (verdict m x ≡ Tripped cause)) ↔ Disagree m x
 

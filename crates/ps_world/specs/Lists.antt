@@ -1,4 +1,5 @@
--- What a list of events says: which channels it spoils, what concerns one channel alone, and which scans and restarts it has.
+-- What a list of events says: which channels it spoils, what concerns one channel alone, and which scans and restarts
+-- it has.
 use Rattle.std.specs.Prelude.{◌≡◌, ℕ, ◌+◌, Bool, true, false, if◌then◌else◌, List, [], ◌∷◌, ◌++◌}
 use Rattle.ps_model.specs.declared.channel.Channel.{Channel}
 use Rattle.ps_model.specs.declared.channel.Channel.TheVariants.{A, B}

@@ -1,5 +1,6 @@
 -- The order of events in which a run makes its scans.
-use Rattle.std.specs.Prelude.{ℕ, zero, suc, ◌+◌, Bool, ◌==◌, if◌then◌else◌, List, [], ◌∷◌, ◌++◌, map, Option, Some, None}
+use Rattle.std.specs.Prelude.{ℕ, zero, suc, ◌+◌, Bool, ◌==◌, if◌then◌else◌, List, [], ◌∷◌, ◌++◌, map, Option, Some}
+use Rattle.std.specs.Prelude.{None}
 use Rattle.std.specs.List.{filter}
 use Rattle.ps_model.specs.declared.channel.Channel.{Channel}
 use Rattle.ps_model.specs.declared.channel.Channel.TheVariants.{A, B}
@@ -9,7 +10,8 @@ use Rattle.ps_model.specs.declared.channel.Verdict.TheVariants.{Released, Trippe
 use Rattle.ps_model.specs.declared.channel.Cause.{Cause}
 use Rattle.ps_model.specs.Meaning.{Item, scan, restart}
 use Rattle.ps_machine.specs.Channels.{ended}
-use Rattle.ps_world.specs.Worlds.{Machines, World_state, Event, Begin, Turn, Spoil, Compare, Restart, machine, channel, world_0}
+use Rattle.ps_world.specs.Worlds.{Machines, World_state, Event, Begin, Turn, Spoil, Compare, Restart, machine, channel}
+use Rattle.ps_world.specs.Worlds.{world_0}
 use Rattle.ps_world.specs.Verdicts.{verdict}
 use Rattle.ps_world.specs.Steps.{world_step, after, both_ended}
 
@@ -39,8 +41,8 @@ in_turn (Some ch) = other ch
 abbrev pub next_turn : Machines → Option Channel → World_state → Channel
 next_turn m last x = if ended (machine (in_turn last) m) (channel (in_turn last) x) then other (in_turn last) else in_turn last
 
--- The events from the moment at which so many turns of the scan are done, up to its Compare: the Spoils before the next turn, and that
--- turn, until both channels have ended. At most so many turns are left.
+-- The events from the moment at which so many turns of the scan are done, up to its Compare: the Spoils before the next
+-- turn, and that turn, until both channels have ended. At most so many turns are left.
 abbrev pub turn_events : Machines → List Fault → (left done : ℕ) → Option Channel → World_state → List Event
 turn_events m faults zero done last x = spoils_before (done + 1) faults
 turn_events m faults (suc left) done last x =

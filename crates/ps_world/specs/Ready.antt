@@ -12,7 +12,8 @@ use Rattle.ps_world.specs.Verdicts.{verdict, report_given}
 use Rattle.ps_world.specs.Whole.{Whole, machines_in, happened, after_events, IsSetupOf, IsWorldOf}
 use Rattle.ps_world.specs.Orders.{at_compare, scan_events}
 
--- It is the application's world, no scan is begun, it is not tripped, and both channels stand for what the next scan starts from.
+-- It is the application's world, no scan is begun, it is not tripped, and both channels stand for what the next scan
+-- starts from.
 pub record IsReady (net : Network) (w : Whole) (past : Past) : Type 0 where
   pub setup : IsSetupOf net w.setup
   pub rest : w.state.begun ≡ false
@@ -26,7 +27,8 @@ pub record ReleasesScan (net : Network) (w : Whole) (now : ℕ) (ins : List Bool
   pub given : report_given (machines_in w.setup) w.setup.sizes.outputs w.setup.sizes.instances (at_compare (machines_in w.setup) [] now ins w.state) ≡ report net new
   pub ready : IsReady net (after_events (scan_events (machines_in w.setup) [] now ins w.state) w) (last now new)
 
--- Worlds are ready at the beginning and after a restart, and every scan with no fault is released with the state that solves it.
+-- Worlds are ready at the beginning and after a restart, and every scan with no fault is released with the state that
+-- solves it.
 pub record QuietWorldsRelease (net : Network) : Type 0 where
   pub beginning : (w : Whole) → IsWorldOf net w → IsReady net w nothing
   pub restart : (w : Whole) → IsSetupOf net w.setup → IsReady net (happened Restart w) nothing

@@ -44,7 +44,8 @@ abbrev pub report_or : Report → Outcome → Report
 report_or other (gives r) = r
 report_or other (lacks failing) = other
 
--- With Released the report is that of the channels. With every other verdict each output, Ready and Error is FALSE and each code 0.
+-- With Released the report is that of the channels. With every other verdict each output, Ready and Error is FALSE and
+-- each code 0.
 abbrev pub given_with : Verdict → (outputs instances : ℕ) → Outcome → Report
 given_with Released outputs instances a = report_or (blank_report outputs instances) a
 given_with (Tripped cause) outputs instances a = blank_report outputs instances

@@ -14,7 +14,8 @@ use Rattle.ps_eqvm.specs.Code.{code_b}
 use Rattle.ps_world.specs.Worlds.{Machines, World_state, Event, channel, world_0}
 use Rattle.ps_world.specs.Steps.{world_step, after}
 
--- what never changes of a world: the sizes of the application, the code of both channels as compiled, and both budgets of turns
+-- what never changes of a world: the sizes of the application, the code of both channels as compiled, and both budgets
+-- of turns
 pub record Setup : Type 0 where
   pub sizes : Sizes
   pub image_a : List ℕ
@@ -43,7 +44,8 @@ happened e w = record { setup = w.setup; state = world_step (machines_in w.setup
 abbrev pub after_events : List Event → Whole → Whole
 after_events es w = record { setup = w.setup; state = after (machines_in w.setup) es w.state }
 
--- This never changes of an application's world: its sizes, its code as the two compilers make it, and the budgets of its channels.
+-- This never changes of an application's world: its sizes, its code as the two compilers make it, and the budgets of
+-- its channels.
 pub record IsSetupOf (net : Network) (s : Setup) : Type 0 where
   pub sizes : AreSizesOf net s.sizes
   pub image_a : s.image_a ≡ code_a net

@@ -11,7 +11,8 @@ pub record Machines : Type 0 where
   pub a : Machine
   pub b : Machine
 
--- a world at one moment: both channels, the time of the last scan in ms, whether a scan is begun, and whether the world is tripped
+-- a world at one moment: both channels, the time of the last scan in ms, whether a scan is begun, and whether the world
+-- is tripped
 pub record World_state : Type 0 where
   pub a : Channel_state
   pub b : Channel_state

@@ -1,6 +1,7 @@
 // The world of two channels, event by event.
 
-ghost use Rattle.std.specs.Prelude.{◌≡◌, ◌≤◌, ◌<◌, ◌^◌, ◌&&◌, ◌||◌, ◌+◌, false, true, is_err, length, nat_lt, None, IfSome, IfNone, IfOk, []};
+ghost use Rattle.std.specs.Prelude.{◌≡◌, ◌≤◌, ◌<◌, ◌^◌, ◌&&◌, ◌||◌, ◌+◌, false, true, is_err, length, nat_lt, None};
+ghost use Rattle.std.specs.Prelude.{IfSome, IfNone, IfOk, []};
 ghost use Rattle.ps_model.specs.Typing.{Accepted};
 ghost use Rattle.ps_model.specs.Budgets.{turns_b};
 ghost use Rattle.ps_model.specs.Sized.{AreSizesOf};
@@ -13,7 +14,8 @@ ghost use Rattle.ps_world.specs.Worlds.Event.{Begin, Turn, Spoil, Compare, Resta
 ghost use Rattle.ps_world.specs.Steps.{both_ended};
 ghost use Rattle.ps_world.specs.Verdicts.{verdict, report_given, judged, cause_of, field_in};
 ghost use Rattle.ps_world.specs.Whole.{machines_in, region_in, happened, after_events, IsWorldOf};
-ghost use Rattle.ps_world.specs.Orders.{spoils_before, next_turn, turn_events, events_before_compare, at_compare, scan_events};
+ghost use Rattle.ps_world.specs.Orders.{spoils_before, next_turn, turn_events, events_before_compare, at_compare};
+ghost use Rattle.ps_world.specs.Orders.{scan_events};
 ghost use Rattle.ps_seat.specs.Outcomes.{outcome};
 ghost use Rattle.ps_seat.specs.Outcomes.Outcome.{gives};
 
@@ -82,7 +84,8 @@ fn cause_of_failing(channel: Channel, failing: Failing) -> Cause
     }
 }
 
-// The seat of channel B of an application of these sizes, which are counted for it anew: it does not take those of channel A.
+// The seat of channel B of an application of these sizes, which are counted for it anew: it does not take those of
+// channel A.
 fn equation_seat(alloc: Global, app: &App, sizes: &Sizes) -> Result<Seat<EquationChannel>, Memory>
     requires accepted { Accepted app.now }
     requires sizes { AreSizesOf app.now sizes.now }
@@ -197,7 +200,8 @@ impl World {
     }
 
     /// Closes the scan, or answers Down in a tripped world. `into`, a report of the application's sizes, becomes the
-    /// report that is released, and one with every output, Ready and Error FALSE and every code 0 with Tripped and Down.
+    /// report that is released, and one with every output, Ready and Error FALSE and every code 0 with Tripped and
+    /// Down.
     pub fn compare(&mut self, into: &mut Report) -> Verdict
         requires closes { (self.old.state.tripped || (self.old.state.begun && both_ended (machines_in self.old.setup) self.old.state)) ≡ true }
         requires outs { length into.old.outs ≡ self.old.setup.sizes.outputs }
@@ -220,8 +224,8 @@ impl World {
         verdict
     }
 
-    // Compares the reports of the two channels, of which that of A is left in `into`. Both are read into blank reports, so that
-    // nothing of an earlier scan is compared or released.
+    // Compares the reports of the two channels, of which that of A is left in `into`. Both are read into blank reports,
+    // so that nothing of an earlier scan is compared or released.
     fn judge(&mut self, into: &mut Report) -> Verdict
         requires outs { length into.old.outs ≡ self.old.setup.sizes.outputs }
         requires diags { length into.old.diags ≡ self.old.setup.sizes.instances }
@@ -269,9 +273,9 @@ impl World {
         self.tripped = false;
     }
 
-    /// Makes a scan by the order of events of a run, where `faults` are those of the scan in the order of the fault file:
-    /// the Spoils before it, Begin, turns of A and B in turn with the Spoils before each, and Compare. In a tripped world it
-    /// is Compare alone. Verdict and report are those of the Compare. It takes no memory.
+    /// Makes a scan by the order of events of a run, where `faults` are those of the scan in the order of the fault
+    /// file: the Spoils before it, Begin, turns of A and B in turn with the Spoils before each, and Compare. In a
+    /// tripped world it is Compare alone. Verdict and report are those of the Compare. It takes no memory.
     pub fn make_scan(&mut self, scan: &Scan, faults: &[Fault], into: &mut Report) -> Verdict
         requires rest { self.old.state.begun ≡ false }
         requires later { self.old.state.last ≤ scan.now.now }

@@ -11,8 +11,8 @@ use ps_resolve::resolve;
 use std::alloc::Global;
 use std::test::Fail;
 
-/// An emergency stop, and a motor behind it. Its codes have 33 bytes in channel A and 37 in channel B, its cells 97 and 84; a
-/// scan without faults has 11 turns of A and 5 of B.
+/// An emergency stop, and a motor behind it. Its codes have 33 bytes in channel A and 37 in channel B, its cells 97 and
+/// 84; a scan without faults has 11 turns of A and 5 of B.
 pub const MOTOR: &str = "\
 PROGRAM M
 VAR_INPUT
@@ -26,7 +26,8 @@ S_Motor := E.S_EStopOut AND Run;
 END_PROGRAM
 ";
 
-/// Two outputs and two emergency stops, so a report has eight fields. A scan without faults has 17 turns of A and 5 of B.
+/// Two outputs and two emergency stops, so a report has eight fields. A scan without faults has 17 turns of A and 5 of
+/// B.
 pub const TWO: &str = "\
 PROGRAM Two
 VAR_INPUT S_1, S_2 : SAFEBOOL; Ack : BOOL; END_VAR

@@ -19,8 +19,8 @@ pub enum Way {
     Before(Channel),
 }
 
-/// Rows over one trace of one application. A row is a fault file with a bar for each line feed, or `none`, and, behind ` => `,
-/// what comes of each scan in words.
+/// Rows over one trace of one application. A row is a fault file with a bar for each line feed, or `none`, and, behind
+/// ` => `, what comes of each scan in words.
 pub struct Table {
     pub text: &'static str,
     pub trace: &'static str,
@@ -114,8 +114,8 @@ fn scan_by_events(
     stage.compare(rt)
 }
 
-// What comes of each scan of a trace with the faults of a row, in words. The scans are counted from 1, and a line `restart`
-// stands for that event.
+// What comes of each scan of a trace with the faults of a row, in words. The scans are counted from 1, and a line
+// `restart` stands for that event.
 fn play(
     rt: &impl Abort,
     alloc: Global,

@@ -45,9 +45,9 @@ fn flags(alloc: Global, stage: &Stage) -> Result<String, Fail> {
     Ok(format!(in alloc; "{begun}{tripped}{a}{b}")?)
 }
 
-/// Asserts what each line of a script answers, from the beginning of the world of a text. A line is an event: `begin` with a
-/// scan, the name of a channel with a number of turns, a line of a fault file, `compare` or `restart`. Behind ` => ` stands the
-/// answer, and the four flags.
+/// Asserts what each line of a script answers, from the beginning of the world of a text. A line is an event: `begin`
+/// with a scan, the name of a channel with a number of turns, a line of a fault file, `compare` or `restart`. Behind `
+/// => ` stands the answer, and the four flags.
 pub fn hold(rt: &impl Abort, alloc: Global, text: &str, script: &str) -> Result<(), Fail> {
     let mut stage = Stage::of(alloc, text)?;
     for row in script.lines() {

@@ -1,5 +1,5 @@
-// Scripts of single events over the motor. The flags say whether a scan is begun, whether the world is tripped, and whether A and
-// B have ended.
+// Scripts of single events over the motor. The flags say whether a scan is begun, whether the world is tripped, and
+// whether A and B have ended.
 
 // A scan, with its turns in blocks, and a restart after it; then one more.
 const SCAN: &str = "\
@@ -53,8 +53,8 @@ before 1 B memory 4 ff => in 1011
 compare => Stuck(B) 0111
 ";
 
-// Spoils at the ends of the regions. Those in region write what stands there at the beginning, and those out of it change
-// nothing, so the scans behind them are as ever.
+// Spoils at the ends of the regions. Those in region write what stands there at the beginning, and those out of it
+// change nothing, so the scans behind them are as ever.
 const ENDS: &str = "\
 before 1 A memory 96 00 => in 0000
 before 1 A memory 97 00 => out 0000

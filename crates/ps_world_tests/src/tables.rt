@@ -4,7 +4,8 @@ use crate::application::{MOTOR, TWO};
 use crate::rows::{Table, Way};
 use ps_model::Channel;
 
-// By `make_scan` alone; also event by event, in the order of a run; with all turns of one channel first; and in every order.
+// By `make_scan` alone; also event by event, in the order of a run; with all turns of one channel first; and in every
+// order.
 const WHOLE: &[Way] = &[Way::Whole];
 
 const BOTH: &[Way] = &[Way::Whole, Way::ByTurns(Channel::A)];
@@ -19,8 +20,8 @@ const EVERY: &[Way] = &[
     Way::Before(Channel::B),
 ];
 
-// The ordinary use of the motor: a scan to a line, with its time in ms and its inputs S_In, Ack and Run. The stop is reset, and
-// pressed.
+// The ordinary use of the motor: a scan to a line, with its time in ms and its inputs S_In, Ack and Run. The stop is
+// reset, and pressed.
 const ORDINARY: &str = "\
 0 101
 10 101
@@ -35,8 +36,8 @@ const QUIET: &str = "\
 none => 0 1,0,8001;0 1,0,8002;0 1,0,8003;1 1,0,8000;0 1,0,8000;0 1,0,8004;
 ";
 
-// Faults that a Compare shows, one on which both channels then agree, one that writes what stands there, and one that is not
-// reached.
+// Faults that a Compare shows, one on which both channels then agree, one that writes what stands there, and one that
+// is not reached.
 const SHOWN: &str = "\
 none => 0 1,0,8001;0 1,0,8002;0 1,0,8003;1 1,0,8000;0 1,0,8000;0 1,0,8004;
 before 3 A memory 81 8000 => 0 1,0,8001;0 1,0,8002;Differ(0);Down;Down;Down;
@@ -61,8 +62,8 @@ before 2 A memory 77 07|before 2 A code 31 02 => 0 1,0,8001;NoReport(A);Down;Dow
 before 2 turn 12 B memory 64 f8 => 0 1,0,8001;NoReport(B);Down;Down;Down;Down;
 ";
 
-// Faults between the turns of a scan. It has 16 turns: B's are 2, 4, 6, 8 and 10, and the rest are A's. A fault before the
-// seventeenth comes before Compare; a later one does nothing.
+// Faults between the turns of a scan. It has 16 turns: B's are 2, 4, 6, 8 and 10, and the rest are A's. A fault before
+// the seventeenth comes before Compare; a later one does nothing.
 const AT_TURNS: &str = "\
 before 3 turn 16 A memory 77 01 => 0 1,0,8001;0 1,0,8002;Differ(0);Down;Down;Down;
 before 3 turn 15 A memory 77 01 => 0 1,0,8001;0 1,0,8002;0 1,0,8003;1 1,0,8000;0 1,0,8000;0 1,0,8004;
@@ -76,8 +77,8 @@ before 2 turn 2 A memory 5 08 => 0 1,0,8001;Trap(A, 7);Down;Down;Down;Down;
 before 2 turn 2 A memory 5 09 => 0 1,0,8001;Trap(A, 0);Down;Down;Down;Down;
 ";
 
-// A channel that has ended and is made Running again goes on where turns are left. Where its budget is spent it has ended; a
-// trap has cost it a turn.
+// A channel that has ended and is made Running again goes on where turns are left. Where its budget is spent it has
+// ended; a trap has cost it a turn.
 const RUNNING_AGAIN: &str = "\
 before 2 turn 11 B memory 4 ff => 0 1,0,8001;Stuck(B);Down;Down;Down;Down;
 before 2 turn 1 A code 0 ff|before 2 turn 2 A code 0 03|before 2 turn 2 A memory 5 00 => 0 1,0,8001;Stuck(A);Down;Down;Down;Down;
@@ -93,14 +94,14 @@ before 3 turn 17 B code 0 00 => 0 1,0,8001;0 1,0,8002;0 1,0,8003;Trap(B, 1);Down
 before 3 turn 17 B memory 83 00 => 0 1,0,8001;0 1,0,8002;0 1,0,8003;Trap(B, 7);Down;Down;
 ";
 
-// One scan of the motor. The faults of the three tables that follow come between its last turn and its Compare, so they are there
-// whatever the order of turns. Faults of both channels are none that a run takes; a world takes them.
+// One scan of the motor. The faults of the three tables that follow come between its last turn and its Compare, so they
+// are there whatever the order of turns. Faults of both channels are none that a run takes; a world takes them.
 const FIRST: &str = "\
 0 101
 ";
 
-// Each cause by itself. Progress is A's byte 5 and B's byte 4, which is stored as 255 less it. S_Motor, Ready and Error are A's bytes 77, 79 and 80,
-// and B's bytes 64, 66 and 67.
+// Each cause by itself. Progress is A's byte 5 and B's byte 4, which is stored as 255 less it. S_Motor, Ready and Error
+// are A's bytes 77, 79 and 80, and B's bytes 64, 66 and 67.
 const ONE: &str = "\
 before 1 turn 17 A memory 5 02 => Trap(A, 1);
 before 1 turn 17 A memory 5 08 => Trap(A, 7);
@@ -138,8 +139,8 @@ before 1 turn 17 A memory 81 8002|before 1 turn 17 B memory 4 ff => Stuck(B);
 before 1 turn 17 A memory 77 01|before 1 turn 17 B memory 64 f8 => NoReport(B);
 ";
 
-// Of one channel a trap is named before a spent budget, and both before cells without a Boolean report. A's budget is spent
-// here, and so is B's.
+// Of one channel a trap is named before a spent budget, and both before cells without a Boolean report. A's budget is
+// spent here, and so is B's.
 const OF_ONE: &str = "\
 before 1 turn 17 A memory 5 02|before 1 turn 17 A memory 77 07 => Trap(A, 1);
 before 1 turn 17 A memory 77 07|before 1 turn 17 A memory 5 00 => Stuck(A);
@@ -152,7 +153,8 @@ const BOTH_PRESSED: &str = "\
 0 110
 ";
 
-// Each field of a report by itself: the outputs, then Ready, Error and DiagCode of each instance. The report is `00 1,0,8001 1,0,8001`. B stores 255 less each byte.
+// Each field of a report by itself: the outputs, then Ready, Error and DiagCode of each instance. The report is `00
+// 1,0,8001 1,0,8001`. B stores 255 less each byte.
 const EACH: &str = "\
 none => 00 1,0,8001 1,0,8001;
 before 1 turn 23 A memory 77 01 => Differ(0);
@@ -173,8 +175,8 @@ before 1 turn 23 B memory 71 fe => Differ(6);
 before 1 turn 23 B memory 88 fffe => Differ(7);
 ";
 
-// Two fields at once, in one channel and in both; what no report has; and a report that is wrong in both channels alike, which
-// no comparison can find.
+// Two fields at once, in one channel and in both; what no report has; and a report that is wrong in both channels
+// alike, which no comparison can find.
 const SEVERAL: &str = "\
 before 1 turn 23 A memory 101 8002|before 1 turn 23 A memory 78 01 => Differ(1);
 before 1 turn 23 A memory 84 01|before 1 turn 23 B memory 67 ff => Differ(2);

@@ -45,8 +45,8 @@ pub fn fault_of(alloc: Global, line: &str) -> Option<Fault> {
     })
 }
 
-/// The scan of a line of a trace: its time in ms and, behind a space, a digit for each input, 1 for TRUE. None: it is none, or
-/// memory is wanting.
+/// The scan of a line of a trace: its time in ms and, behind a space, a digit for each input, 1 for TRUE. None: it is
+/// none, or memory is wanting.
 pub fn scan_of(alloc: Global, line: &str) -> Option<Scan> {
     let (now, digits) = line.split_once(' ')?;
     let mut ins = Bits::new(alloc);
@@ -82,8 +82,8 @@ fn is_blank(report: &str) -> bool {
         .all(|byte| matches!(*byte, b'0' | b',' | b' '))
 }
 
-/// A verdict in words: the report where it is released, and else the cause or `Down`. Behind these comes the report, where it is
-/// not blank as it has to be.
+/// A verdict in words: the report where it is released, and else the cause or `Down`. Behind these comes the report,
+/// where it is not blank as it has to be.
 pub fn told(alloc: Global, verdict: Verdict, report: &Report) -> Result<String, Fail> {
     let report = report_words(alloc, report)?;
     if verdict == Verdict::Released {

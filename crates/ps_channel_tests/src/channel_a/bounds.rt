@@ -1,4 +1,5 @@
-// Heights, pins and bytes of instances, each on both sides of its bounds. The cells are those of M, with the stack's height at
+// Heights, pins and bytes of instances, each on both sides of its bounds. The cells are those of M, with the stack's
+// height at
 // 4. CALL is of M's instance as SF_EmergencyStop.
 
 const HEIGHTS: &str = "\

@@ -1,5 +1,5 @@
-// One CALL of each kind. The cells are those of an application with eleven signals, which are the outputs of its one instance: its
-// bytes stand from byte 85 on.
+// One CALL of each kind. The cells are those of an application with eleven signals, which are the outputs of its one
+// instance: its bytes stand from byte 85 on.
 
 use super::fixtures::{image, is_cell};
 use crate::motor::Motor;
@@ -32,8 +32,8 @@ fn channel_of(alloc: Global, kind: u8) -> Result<StackChannel, Memory> {
     StackChannel::new(alloc, &image, &sizes)
 }
 
-// A turn that calls the instance, with so many pins on the stack, of which the first is Activate and the others are FALSE. Whether
-// the scan runs before it and behind it.
+// A turn that calls the instance, with so many pins on the stack, of which the first is Activate and the others are
+// FALSE. Whether the scan runs before it and behind it.
 fn is_called(channel: &mut StackChannel, pins: u8, activate: u8) -> bool {
     let cells = [
         0, 0, 0, 0, pins, 0, 0, 0, 0, 0, activate, 0, 0, 0, 0, 0, 0, 0, 0, 0, 0, 0, 0,

@@ -1,5 +1,5 @@
-// The traps of a turn, on both sides of every bound, and which comes where two causes meet. The cells are those of M: seven
-// signals from byte 74 on, and one instance from byte 81 on.
+// The traps of a turn, on both sides of every bound, and which comes where two causes meet. The cells are those of M:
+// seven signals from byte 74 on, and one instance from byte 81 on.
 
 const READING: &str = "\
 07 => done
@@ -88,8 +88,8 @@ const PINS: &str = "\
 06 00 00 03 00 04 00 00 00 00 | 4=05 12=02 81=12 => trap 4
 ";
 
-// The DiagCode stands at 81 and 82, and behind it the last Reset, the last auxiliary input, the mode, the timer and seven
-// bytes that are 0.
+// The DiagCode stands at 81 and 82, and behind it the last Reset, the last auxiliary input, the mode, the timer and
+// seven bytes that are 0.
 const BYTES_THAT_DO_NOT_LOAD: &str = "\
 06 00 00 03 00 04 00 00 00 00 | 4=05 81=12 82=34 => trap 7
 06 00 00 03 00 04 00 00 00 00 | 4=05 81=80 82=05 => runs

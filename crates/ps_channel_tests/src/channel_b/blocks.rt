@@ -1,5 +1,6 @@
-// The traps of BLOCK (f4) on both sides of every bound, and which comes where two causes meet. A row is an instance in two bytes,
-// a kind, the first output signal in two bytes, the limit in four, and a number of operands, of two bytes each.
+// The traps of BLOCK (f4) on both sides of every bound, and which comes where two causes meet. A row is an instance in
+// two bytes, a kind, the first output signal in two bytes, the limit in four, and a number of operands, of two bytes
+// each.
 
 // The row of M's SF_EmergencyStop cut short, where so many operands are told.
 const END_OF_A_ROW: &str = "\
@@ -57,8 +58,8 @@ f4 00 00 03 00 04 00 00 00 00 05 ff fe ff fe ff fe f0 2f ff fe ff fe | 60=02 => 
 f4 00 00 03 00 04 00 00 00 00 04 ff fe ff fe ff fe 00 01 ff fe ff fe | 62=02 => trap 3
 ";
 
-// A byte of the instance, from 68 on: DiagCode, last Reset, last auxiliary input, mode, the time that remains, and seven bytes that
-// are 0.
+// A byte of the instance, from 68 on: DiagCode, last Reset, last auxiliary input, mode, the time that remains, and
+// seven bytes that are 0.
 const LOADING: &str = "\
 f4 00 00 03 00 04 00 00 00 00 05 ff fe ff fe ff fe 00 00 ff fe ff fe | 68=80 => runs
 f4 00 00 03 00 04 00 00 00 00 05 ff fe ff fe ff fe 00 00 ff fe ff fe | 68=81 => trap 7

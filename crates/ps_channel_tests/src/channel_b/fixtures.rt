@@ -1,6 +1,6 @@
 // The application M in channel B. Its steps are E(Activate := TRUE, S_EStopIn := S_In, Reset := Ack); and
-// S_Motor := E.S_EStopOut AND Run; its cells have 84 bytes, of which those of the signals begin at 61 and those of the instance
-// at 68.
+// S_Motor := E.S_EStopOut AND Run; its cells have 84 bytes, of which those of the signals begin at 61 and those of the
+// instance at 68.
 
 ghost use Rattle.std.specs.Prelude.{◌≡◌, ◌+◌, ◌<◌, ◌^◌, IfOk, length};
 

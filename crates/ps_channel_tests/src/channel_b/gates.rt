@@ -1,12 +1,14 @@
-// The reading of rows, and the traps of SET (f1), ALL (f2) and ANY (f3) on both sides of every bound, and which comes where two
-// causes meet. A row is an opcode with a target and an operand. There are seven signals, and signal 1 stands at 62.
+// The reading of rows, and the traps of SET (f1), ALL (f2) and ANY (f3) on both sides of every bound, and which comes
+// where two causes meet. A row is an opcode with a target and an operand. There are seven signals, and signal 1 stands
+// at 62.
 
 use super::fixtures::channel;
 use crate::motor::Motor;
 use ps_model::{Kind, Progress};
 use std::alloc::Global;
 
-// The rows at the ends of code: the first bytes of LAST and SET, as many as are told, from an offset whose lowest byte stands at 3.
+// The rows at the ends of code: the first bytes of LAST and SET, as many as are told, from an offset whose lowest byte
+// stands at 3.
 const END_OF_CODE: &str = "\
 f0 | 3=00 => done
  | 3=00 => trap 2

@@ -39,7 +39,8 @@ fn six_scans(rt: HostRuntime) -> Result<(), Fail> {
     Ok(())
 }
 
-// SF_Equivalent with a limit of 50 ms, with the inputs at its channels and one output behind them, and the end of the scan.
+// SF_Equivalent with a limit of 50 ms, with the inputs at its channels and one output behind them, and the end of the
+// scan.
 const EQUIVALENT: [u8; 18] = [
     0xF4, 0, 0, 1, 0, 3, 0, 0, 0, 50, 3, 0xFF, 0xFF, 0, 0, 0, 1, 0xF0,
 ];

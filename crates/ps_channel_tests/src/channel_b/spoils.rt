@@ -48,7 +48,8 @@ pub fn is_renewed(alloc: Global) -> Result<bool, Memory> {
     Ok(is_blank && is_turned && holds(&motor, 0x0020000000000000, 0))
 }
 
-// M's channel after its first scan, with one plain byte of its cells replaced. None: the scan is not done, or there is no such byte.
+// M's channel after its first scan, with one plain byte of its cells replaced. None: the scan is not done, or there is
+// no such byte.
 fn spoiled(alloc: Global, at: u32, plain: u8) -> Option<EquationChannel>
     ensures outputs { IfSome result (λ c. c.sizes.outputs ≡ 1) }
     ensures instances { IfSome result (λ c. c.sizes.instances ≡ 1) }
@@ -71,8 +72,8 @@ fn has_words(alloc: Global, at: u32, plain: u8, values: u64, odd: u64) -> bool {
     }
 }
 
-// The value word and the odd word after each byte of the cells was replaced. After the first scan S_In, Run and Ready are
-// TRUE: bits 48, 50 and 53.
+// The value word and the odd word after each byte of the cells was replaced. After the first scan S_In, Run and Ready
+// are TRUE: bits 48, 50 and 53.
 #[test]
 fn words(rt: HostRuntime) {
     let before: u64 = 0x0025000000000000;
@@ -97,9 +98,9 @@ fn words(rt: HostRuntime) {
 // What is reported after the first scan.
 const FIRST: Option<(bool, u16)> = Some((false, 0x8001));
 
-// A byte of the cells that is replaced after the first scan, its plain value, and the progress and the report behind it. Byte 4 is
-// the progress; those of the signals begin at 61, of which the output is signal 3, Ready is 5 and Error is 6; from 68 on stand the
-// instance's DiagCode, its last Reset, and others up to its last byte.
+// A byte of the cells that is replaced after the first scan, its plain value, and the progress and the report behind
+// it. Byte 4 is the progress; those of the signals begin at 61, of which the output is signal 3, Ready is 5 and Error
+// is 6; from 68 on stand the instance's DiagCode, its last Reset, and others up to its last byte.
 const SPOILS: &[(u32, u8, Progress, Option<(bool, u16)>)] = &[
     (4, 0, Progress::Running, FIRST),
     (4, 1, Progress::Done, FIRST),
@@ -151,7 +152,8 @@ fn progress_and_reports(rt: HostRuntime) {
     }
 }
 
-// Whether a channel whose cells are all replaced by one byte, as it is stored, has these words, this progress and this report.
+// Whether a channel whose cells are all replaced by one byte, as it is stored, has these words, this progress and this
+// report.
 fn is_all(
     alloc: Global,
     stored: u8,

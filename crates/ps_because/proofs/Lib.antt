@@ -1,0 +1,2 @@
+-- lines that are told, one after another
+pub mod Tellings

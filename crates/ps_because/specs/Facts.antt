@@ -1,0 +1,78 @@
+-- A fact of a scan in words.
+use Rattle.std.specs.Prelude.{ℕ, Bool, true, List, [], ◌++◌, Option, Some, None, codes, decimal, nat_lt, if◌then◌else◌}
+use Rattle.std.specs.Prelude.{slice_get, slice_index_or}
+use Rattle.ps_conditions.specs.Conditions.{subject_words}
+use Rattle.ps_cover.specs.Tallying.{called_kind}
+use Rattle.ps_coverage.specs.Lines.{called_name, condition_text, state_text, truth}
+use Rattle.ps_model.specs.Network.{Network, input_count, instance_name, kind_at}
+use Rattle.ps_ways.specs.declared.way.Ask.{Ask}
+use Rattle.ps_ways.specs.declared.way.Ask.TheVariants.{Edge, Rise}
+use Rattle.ps_why.specs.declared.fact.Fact.{Fact}
+use Rattle.ps_why.specs.declared.fact.Fact.TheVariants.{SignalIs, SignalWas, PinIs, AskIs, StateIs, StateWas}
+use Rattle.ps_why.specs.declared.fact.Fact.TheVariants.{ResetWas, AuxiliaryWas, ModeIs, ModeWas}
+use Rattle.ps_because.specs.Moments.{Moment, call_pin_text, signal_text}
+
+-- when something was that was before the scan
+abbrev pub before_text : (before : Option ℕ) → List ℕ
+before_text None = codes " before the first scan"
+before_text (Some ms) = codes " in the scan before, at " ++ decimal ms
+
+-- an input of the application ends a branch
+abbrev pub input_text : Network → (s : ℕ) → List ℕ
+input_text net s = if nat_lt s (input_count net) then codes ", an input" else []
+
+abbrev pub signal_is : Network → (s : ℕ) → Bool → List ℕ
+signal_is net s b = signal_text net s ++ codes " is " ++ truth b ++ input_text net s
+
+abbrev pub signal_was : Moment → (s : ℕ) → Bool → List ℕ
+signal_was m s b = signal_text m.net s ++ codes " was " ++ truth b ++ before_text m.before
+
+abbrev pub pin_is : Network → (k j : ℕ) → Bool → List ℕ
+pin_is net k j b = call_pin_text net k j ++ codes " is " ++ truth b
+
+-- what a guard asks of the instance that a step calls, as `Guard: Reset does not rise`
+abbrev pub ask_is : Network → (k : ℕ) → Ask → Bool → List ℕ
+ask_is net k a b =
+    called_name net (slice_get net.steps k) ++ codes ": "
+    ++ condition_text (called_kind net (slice_get net.steps k)) (record { ask = a; holds = b })
+
+-- a state, and since when it has been entered
+abbrev pub state_is : Moment → (i code : ℕ) → List ℕ
+state_is m i q =
+    instance_name m.net i ++ codes " is in " ++ state_text (kind_at m.net i) q ++ codes " since "
+    ++ decimal (slice_index_or m.since i 0)
+
+-- since when a state before the scan had been entered; before the first scan each instance is idle
+abbrev pub since_text : (since : ℕ) → (before : Option ℕ) → List ℕ
+since_text since None = codes " before the first scan"
+since_text since (Some ms) = codes " since " ++ decimal since ++ codes ", up to this scan"
+
+abbrev pub state_was : Moment → (i code : ℕ) → List ℕ
+state_was m i q =
+    instance_name m.net i ++ codes " was in " ++ state_text (kind_at m.net i) q
+    ++ since_text (slice_index_or m.since_before i 0) m.before
+
+-- a pin of an instance in its last step: Reset, or the auxiliary input
+abbrev pub edge_was : Moment → (i : ℕ) → Ask → Bool → List ℕ
+edge_was m i a b =
+    instance_name m.net i ++ codes "." ++ subject_words (kind_at m.net i) a true ++ codes " was " ++ truth b
+    ++ before_text m.before
+
+abbrev pub mode_is : Network → (i mode : ℕ) → List ℕ
+mode_is net i mode = instance_name net i ++ codes " has latched mode " ++ decimal mode
+
+abbrev pub mode_was : Moment → (i mode : ℕ) → List ℕ
+mode_was m i mode = instance_name m.net i ++ codes " had latched mode " ++ decimal mode ++ before_text m.before
+
+-- A fact in words.
+abbrev pub fact_text : Moment → Fact → List ℕ
+fact_text m (SignalIs s b) = signal_is m.net s b
+fact_text m (SignalWas s b) = signal_was m s b
+fact_text m (PinIs k j b) = pin_is m.net k j b
+fact_text m (AskIs k a b) = ask_is m.net k a b
+fact_text m (StateIs i q) = state_is m i q
+fact_text m (StateWas i q) = state_was m i q
+fact_text m (ResetWas i b) = edge_was m i Edge b
+fact_text m (AuxiliaryWas i b) = edge_was m i Rise b
+fact_text m (ModeIs i mode) = mode_is m.net i mode
+fact_text m (ModeWas i mode) = mode_was m i mode

@@ -1,0 +1,242 @@
+// A fact of a scan in words.
+
+ghost use Rattle.std.specs.Prelude.{◌≡◌, ◌<◌, ◌++◌, OnOk, decimal, slice_index, slice_index_or, true};
+ghost use Rattle.std.specs.Char.{to_ascii_uppercase};
+ghost use Rattle.hex.specs.Hex.{lower_digits};
+ghost use Rattle.ps_because.specs.Facts.{ask_is, before_text, edge_was, fact_text, input_text, mode_is, mode_was, pin_is};
+ghost use Rattle.ps_because.specs.Facts.{signal_is, signal_was, since_text, state_is, state_was};
+ghost use Rattle.ps_because.specs.Moments.{moment_of};
+ghost use Rattle.ps_conditions.specs.Conditions.{subject_words};
+ghost use Rattle.ps_coverage.specs.Lines.{condition_text, state_text, truth};
+ghost use Rattle.ps_report.specs.Lines.{code_text};
+
+use crate::moment::{Moment, add_call_pin, add_signal, called_name, kind_of, name_of};
+use itoa::Buffer;
+use ps_base::{Bytes, Memory};
+use ps_conditions::{Condition, subject_of, told_of};
+use ps_cover::called_kind;
+use ps_model::{App, Kind};
+use ps_states::state_words;
+use ps_ways::Ask;
+use ps_why::Fact;
+
+/// Puts a number in decimal digits.
+pub(crate) fn add_number(text: &mut Bytes, number: u32) -> Result<(), Memory>
+    ensures { OnOk result (text.new ≡ text.old ++ decimal number) }
+{
+    let mut digits = Buffer::new();
+    text.extend_from_slice(digits.format(number).as_bytes())
+}
+
+// The capital hexadecimal digit of a number up to 15.
+fn capital_digit(n: u8) -> u8
+    requires { n < 16 }
+    ensures { result ≡ to_ascii_uppercase (slice_index lower_digits n) }
+{
+    b"0123456789ABCDEF"[usize::from(n)]
+}
+
+// A DiagCode in four capital hexadecimal digits.
+#[tactic(auto, unfolding(hex::specs::Hex::encode_with))]
+fn code_digits(code: u16) -> [u8; 4]
+    ensures { result ≡ code_text code }
+{
+    let [high, low] = code.to_be_bytes();
+    [
+        capital_digit(high / 16),
+        capital_digit(high % 16),
+        capital_digit(low / 16),
+        capital_digit(low % 16),
+    ]
+}
+
+// Puts a state of a kind, as `8004 waiting for switch 2`.
+fn add_state(text: &mut Bytes, kind: Kind, code: u16) -> Result<(), Memory>
+    ensures { OnOk result (text.new ≡ text.old ++ state_text kind code) }
+{
+    text.extend_from_slice(&code_digits(code))?;
+    if let Some(words) = state_words(kind, code) {
+        text.extend_from_slice(b" ")?;
+        text.extend_from_slice(words.as_bytes())?;
+    }
+    Ok(())
+}
+
+// A truth value in capitals.
+fn truth(value: bool) -> &'static [u8]
+    ensures { result.now ≡ truth value }
+{
+    if value { b"TRUE" } else { b"FALSE" }
+}
+
+// What ends a branch at an input of the application.
+fn input_text(app: &App, s: u16) -> &'static [u8]
+    ensures { result.now ≡ input_text app.now s }
+{
+    if s < app.input_count() {
+        b", an input"
+    } else {
+        b""
+    }
+}
+
+// Puts when something was that was before the scan.
+fn add_before(text: &mut Bytes, before: Option<u32>) -> Result<(), Memory>
+    ensures { OnOk result (text.new ≡ text.old ++ before_text before) }
+{
+    match before {
+        Some(ms) => {
+            text.extend_from_slice(b" in the scan before, at ")?;
+            add_number(text, ms)
+        }
+        None => text.extend_from_slice(b" before the first scan"),
+    }
+}
+
+fn add_signal_is(text: &mut Bytes, app: &App, s: u16, value: bool) -> Result<(), Memory>
+    ensures { OnOk result (text.new ≡ text.old ++ signal_is app.now s value) }
+{
+    add_signal(text, app, s)?;
+    text.extend_from_slice(b" is ")?;
+    text.extend_from_slice(truth(value))?;
+    text.extend_from_slice(input_text(app, s))
+}
+
+fn add_signal_was(text: &mut Bytes, m: &Moment<'_>, s: u16, value: bool) -> Result<(), Memory>
+    ensures { OnOk result (text.new ≡ text.old ++ signal_was (moment_of m.entry.now) s value) }
+{
+    add_signal(text, m.app, s)?;
+    text.extend_from_slice(b" was ")?;
+    text.extend_from_slice(truth(value))?;
+    add_before(text, m.before)
+}
+
+fn add_pin_is(text: &mut Bytes, app: &App, k: u16, j: u8, value: bool) -> Result<(), Memory>
+    ensures { OnOk result (text.new ≡ text.old ++ pin_is app.now k j value) }
+{
+    add_call_pin(text, app, k, j)?;
+    text.extend_from_slice(b" is ")?;
+    text.extend_from_slice(truth(value))
+}
+
+// Puts a condition of a guard.
+fn add_condition(text: &mut Bytes, kind: Kind, condition: Condition) -> Result<(), Memory>
+    ensures { OnOk result (text.new ≡ text.old ++ condition_text kind condition) }
+{
+    text.extend_from_slice(subject_of(kind, condition).as_bytes())?;
+    text.extend_from_slice(b" ")?;
+    text.extend_from_slice(told_of(condition).as_bytes())
+}
+
+fn add_ask_is(text: &mut Bytes, app: &App, k: u16, ask: Ask, value: bool) -> Result<(), Memory>
+    ensures { OnOk result (text.new ≡ text.old ++ ask_is app.now k ask value) }
+{
+    let condition = Condition { ask, holds: value };
+    text.extend_from_slice(called_name(app, k))?;
+    text.extend_from_slice(b": ")?;
+    add_condition(text, called_kind(app, k), condition)
+}
+
+// The number at a place; 0 past the end.
+fn number_at(numbers: &[u32], i: u16) -> u32
+    ensures { result ≡ slice_index_or numbers.now i 0 }
+{
+    if (i as usize) < numbers.len() {
+        numbers[i as usize]
+    } else {
+        0
+    }
+}
+
+fn add_state_is(text: &mut Bytes, m: &Moment<'_>, i: u16, code: u16) -> Result<(), Memory>
+    ensures { OnOk result (text.new ≡ text.old ++ state_is (moment_of m.entry.now) i code) }
+{
+    text.extend_from_slice(name_of(m.app, i))?;
+    text.extend_from_slice(b" is in ")?;
+    add_state(text, kind_of(m.app, i), code)?;
+    text.extend_from_slice(b" since ")?;
+    add_number(text, number_at(m.since, i))
+}
+
+// Puts since when a state before the scan had been entered.
+fn add_since(text: &mut Bytes, since: u32, before: Option<u32>) -> Result<(), Memory>
+    ensures { OnOk result (text.new ≡ text.old ++ since_text since before) }
+{
+    match before {
+        Some(_) => {
+            text.extend_from_slice(b" since ")?;
+            add_number(text, since)?;
+            text.extend_from_slice(b", up to this scan")
+        }
+        None => text.extend_from_slice(b" before the first scan"),
+    }
+}
+
+fn add_state_was(text: &mut Bytes, m: &Moment<'_>, i: u16, code: u16) -> Result<(), Memory>
+    ensures { OnOk result (text.new ≡ text.old ++ state_was (moment_of m.entry.now) i code) }
+{
+    text.extend_from_slice(name_of(m.app, i))?;
+    text.extend_from_slice(b" was in ")?;
+    add_state(text, kind_of(m.app, i), code)?;
+    add_since(text, number_at(m.since_before, i), m.before)
+}
+
+// What a pin of an instance is called that a guard looks at beside its present value.
+fn edge_name(kind: Kind, ask: Ask) -> &'static [u8]
+    ensures { result.now ≡ subject_words kind ask true }
+{
+    subject_of(kind, Condition { ask, holds: true }).as_bytes()
+}
+
+// Puts Reset or the auxiliary input of an instance as it was in its last step.
+fn add_edge_was(
+    text: &mut Bytes,
+    m: &Moment<'_>,
+    i: u16,
+    ask: Ask,
+    value: bool,
+) -> Result<(), Memory>
+    ensures { OnOk result (text.new ≡ text.old ++ edge_was (moment_of m.entry.now) i ask value) }
+{
+    text.extend_from_slice(name_of(m.app, i))?;
+    text.extend_from_slice(b".")?;
+    text.extend_from_slice(edge_name(kind_of(m.app, i), ask))?;
+    text.extend_from_slice(b" was ")?;
+    text.extend_from_slice(truth(value))?;
+    add_before(text, m.before)
+}
+
+fn add_mode_is(text: &mut Bytes, app: &App, i: u16, mode: u8) -> Result<(), Memory>
+    ensures { OnOk result (text.new ≡ text.old ++ mode_is app.now i mode) }
+{
+    text.extend_from_slice(name_of(app, i))?;
+    text.extend_from_slice(b" has latched mode ")?;
+    add_number(text, mode as u32)
+}
+
+fn add_mode_was(text: &mut Bytes, m: &Moment<'_>, i: u16, mode: u8) -> Result<(), Memory>
+    ensures { OnOk result (text.new ≡ text.old ++ mode_was (moment_of m.entry.now) i mode) }
+{
+    text.extend_from_slice(name_of(m.app, i))?;
+    text.extend_from_slice(b" had latched mode ")?;
+    add_number(text, mode as u32)?;
+    add_before(text, m.before)
+}
+
+/// Puts a fact in words.
+pub(crate) fn add_fact(text: &mut Bytes, m: &Moment<'_>, fact: Fact) -> Result<(), Memory>
+    ensures { OnOk result (text.new ≡ text.old ++ fact_text (moment_of m.entry.now) fact) }
+{
+    match fact {
+        Fact::SignalIs { signal, value } => add_signal_is(text, m.app, signal, value),
+        Fact::SignalWas { signal, value } => add_signal_was(text, m, signal, value),
+        Fact::PinIs { step, pin, value } => add_pin_is(text, m.app, step, pin, value),
+        Fact::AskIs { step, ask, value } => add_ask_is(text, m.app, step, ask, value),
+        Fact::StateIs { instance, code } => add_state_is(text, m, instance, code),
+        Fact::StateWas { instance, code } => add_state_was(text, m, instance, code),
+        Fact::ResetWas { instance, value } => add_edge_was(text, m, instance, Ask::Edge, value),
+        Fact::AuxiliaryWas { instance, value } => add_edge_was(text, m, instance, Ask::Rise, value),
+        Fact::ModeIs { instance, mode } => add_mode_is(text, m.app, instance, mode),
+        Fact::ModeWas { instance, mode } => add_mode_was(text, m, instance, mode),
+    }
+}

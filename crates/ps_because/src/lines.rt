@@ -1,0 +1,132 @@
+// In which order facts are told, and how deep each stands.
+
+ghost use Rattle.std.specs.Prelude.{◌≡◌, ◌<◌, ◌+◌, ◌++◌, ◌∷◌, false, true, [], length, IfOk, OnOk, Some, slice_get};
+ghost use Rattle.ps_because.specs.Pending.{AddsChildren, IsOfFact, IsTelling, KeepsNotes};
+ghost use Rattle.ps_because.specs.Trees.{AreLinesOf};
+
+use ps_base::Memory;
+use ps_reasons::Explanation;
+use std::alloc::Global;
+
+/// A line that tells a fact.
+#[derive(Clone, Copy, PartialEq, Eq, Debug)]
+pub struct Line {
+    /// The number of the fact.
+    pub fact: u32,
+    /// How many lines it stands below.
+    pub depth: u32,
+}
+
+// Puts the reasons of the fact of a line to those that are pending, the first one last: they stand this deep.
+fn push_reasons(
+    explanation: &Explanation,
+    line: Line,
+    depth: u32,
+    pending: &mut Vec<Line>,
+) -> Result<(), Memory>
+    requires { depth ≡ line.depth + 1 }
+    ensures { OnOk result (AddsChildren explanation.now line pending.old.items pending.new.items) }
+{
+    let place = line.fact as usize;
+    if place >= explanation.reasons.len() {
+        return Ok(());
+    }
+    let reasons = explanation.reasons[place].facts.as_slice();
+    for i in 0..reasons.len() {
+        let fact = reasons[reasons.len() - 1 - i];
+        if (fact as usize) < explanation.facts.len() {
+            pending.push(Line { fact, depth })?;
+        }
+    }
+    Ok(())
+}
+
+// Tells a line, unless its fact is told, and puts what it rests on to those that are pending.
+fn tell_line(
+    explanation: &Explanation,
+    line: Line,
+    told: &mut [bool],
+    lines: &mut Vec<Line>,
+    pending: &mut Vec<Line>,
+) -> Result<(), Memory>
+    requires telling { IsTelling explanation.now told.old lines.old.items (pending.old.items ++ line ∷ []) }
+    ensures telling { OnOk result (IsTelling explanation.now told.new lines.new.items pending.new.items) }
+    ensures keeps { OnOk result (KeepsNotes told.old told.new) }
+    ensures tells { OnOk result (slice_get told.new line.fact ≡ Some true) }
+{
+    let place = line.fact as usize;
+    if told[place] {
+        return Ok(());
+    }
+    let Some(depth) = line.depth.checked_add(1) else {
+        return Err(Memory);
+    };
+    told[place] = true;
+    lines.push(line)?;
+    push_reasons(explanation, line, depth, pending)
+}
+
+// Tells what is pending, and all that it rests on.
+fn tell_pending(
+    explanation: &Explanation,
+    told: &mut [bool],
+    lines: &mut Vec<Line>,
+    pending: &mut Vec<Line>,
+) -> Result<(), Memory>
+    requires telling { IsTelling explanation.now told.old lines.old.items pending.old.items }
+    ensures telling { OnOk result (IsTelling explanation.now told.new lines.new.items pending.new.items) }
+    ensures keeps { OnOk result (KeepsNotes told.old told.new) }
+    ensures done { OnOk result (pending.new.items ≡ []) }
+{
+    for _turn in 0..u64::MAX {
+        match pending.pop() {
+            Some(line) => tell_line(explanation, line, told, lines, pending)?,
+            None => return Ok(()),
+        }
+    }
+    Err(Memory)
+}
+
+// Tells a fact by its number, and all that it rests on, unless it is told.
+fn tell_fact(
+    explanation: &Explanation,
+    fact: u32,
+    told: &mut [bool],
+    lines: &mut Vec<Line>,
+    pending: &mut Vec<Line>,
+) -> Result<(), Memory>
+    requires telling { IsTelling explanation.now told.old lines.old.items [] }
+    requires none { pending.old.items ≡ [] }
+    requires fact { fact < length explanation.now.facts.items }
+    ensures telling { OnOk result (IsTelling explanation.now told.new lines.new.items []) }
+    ensures none { OnOk result (pending.new.items ≡ []) }
+    ensures keeps { OnOk result (KeepsNotes told.old told.new) }
+    ensures tells { OnOk result (slice_get told.new fact ≡ Some true) }
+{
+    let line = Line { fact, depth: 0 };
+    tell_line(explanation, line, told, lines, pending)?;
+    tell_pending(explanation, told, lines, pending)
+}
+
+/// The lines in which an explanation is told: each fact once, below the one of which it is a reason that leads to it
+/// first, and the reasons of a fact in their order. `Err` comes only where memory is wanting.
+pub fn lines_of(alloc: Global, explanation: &Explanation) -> Result<Vec<Line>, Memory>
+    ensures { IfOk result (λ lines. AreLinesOf explanation.now lines.items) }
+{
+    let Ok(count) = u32::try_from(explanation.facts.len()) else {
+        return Err(Memory);
+    };
+    let mut told = vec![in alloc; false; count as usize]?;
+    let mut lines = Vec::with_capacity(alloc, count as usize)?;
+    let mut pending = Vec::new(alloc);
+    for n in 0..count {
+        tell_fact(
+            explanation,
+            n,
+            told.as_mut_slice(),
+            &mut lines,
+            &mut pending,
+        )?;
+    }
+    Ok(lines)
+}

@@ -1,0 +1,208 @@
+// The whole text of what is told.
+
+ghost use Rattle.std.specs.Prelude.{◌≡◌, ◌<◌, ◌++◌, IfOk, OnOk, Some, codes, decimal, drop, length, slice_get};
+ghost use Rattle.std.specs.List.{flat_map, range_with_len};
+ghost use Rattle.ps_because.specs.Because.{IsToldAs, behind_text, head_text, indent_text, indents, json_behind, json_fact};
+ghost use Rattle.ps_because.specs.Because.{json_head, json_text, line_text, numbers_text, reasons_text, told_at, tree_text};
+ghost use Rattle.ps_because.specs.Moments.{moment_of};
+
+use crate::facts::{add_fact, add_number};
+use crate::lines::{Line, lines_of};
+use crate::moment::Moment;
+use ps_base::{Bytes, Memory};
+use ps_coverage::Format;
+use ps_reasons::{Explanation, Reasons};
+use ps_why::Fact;
+use std::alloc::Global;
+
+// How far a line is indented: at most as far as below forty others.
+fn indents(depth: u32) -> u32
+    ensures { result ≡ indents depth }
+{
+    if depth > 40 { 40 } else { depth }
+}
+
+// Puts the blanks before a line.
+fn add_indent(text: &mut Bytes, depth: u32) -> Result<(), Memory>
+    ensures { OnOk result (text.new ≡ text.old ++ indent_text depth) }
+{
+    let count = indents(depth);
+    for n in 0..count {
+        let _ = n;
+        text.extend_from_slice(b"  ")?;
+    }
+    Ok(())
+}
+
+// Puts a fact by its number, if there is one.
+fn add_told(text: &mut Bytes, m: &Moment<'_>, facts: &[Fact], n: u32) -> Result<(), Memory>
+    ensures { OnOk result (text.new ≡ text.old ++ told_at (moment_of m.entry.now) (slice_get facts.now n)) }
+{
+    if (n as usize) < facts.len() {
+        add_fact(text, m, facts[n as usize])?;
+    }
+    Ok(())
+}
+
+// Puts a line of the tree.
+fn add_line(text: &mut Bytes, m: &Moment<'_>, facts: &[Fact], line: Line) -> Result<(), Memory>
+    ensures { OnOk result (text.new ≡ text.old ++ line_text (moment_of m.entry.now) facts.now line) }
+{
+    add_indent(text, line.depth)?;
+    add_told(text, m, facts, line.fact)?;
+    text.extend_from_slice(b"\n")
+}
+
+// Puts these lines.
+fn add_lines(text: &mut Bytes, m: &Moment<'_>, facts: &[Fact], lines: &[Line]) -> Result<(), Memory>
+    ensures { OnOk result (text.new ≡ text.old ++ flat_map (line_text (moment_of m.entry.now) facts.now) lines.now) }
+{
+    for line in lines {
+        add_line(text, m, facts, *line)?;
+    }
+    Ok(())
+}
+
+// Puts which scan stands before, and the end of the line.
+fn add_behind(text: &mut Bytes, before: Option<u32>) -> Result<(), Memory>
+    ensures { OnOk result (text.new ≡ text.old ++ behind_text before) }
+{
+    match before {
+        Some(ms) => {
+            text.extend_from_slice(b", behind the scan at ")?;
+            add_number(text, ms)?;
+            text.extend_from_slice(b":\n")
+        }
+        None => text.extend_from_slice(b", the first scan:\n"),
+    }
+}
+
+// Puts which scan is meant.
+fn add_head(text: &mut Bytes, m: &Moment<'_>) -> Result<(), Memory>
+    ensures { OnOk result (text.new ≡ text.old ++ head_text (moment_of m.entry.now)) }
+{
+    text.extend_from_slice(b"At ")?;
+    add_number(text, m.now)?;
+    add_behind(text, m.before)
+}
+
+// The tree of an explanation.
+fn tree(alloc: Global, m: &Moment<'_>, explanation: &Explanation) -> Result<Bytes, Memory>
+    ensures { IfOk result (λ text. IsToldAs (moment_of m.entry.now) explanation.now Format.Text text) }
+{
+    let lines = lines_of(alloc, explanation)?;
+    let mut text = Bytes::new(alloc);
+    add_head(&mut text, m)?;
+    add_lines(&mut text, m, explanation.facts.as_slice(), lines.as_slice())?;
+    Ok(text)
+}
+
+// Puts the time of the scan before in JSON.
+fn add_json_behind(text: &mut Bytes, before: Option<u32>) -> Result<(), Memory>
+    ensures { OnOk result (text.new ≡ text.old ++ json_behind before) }
+{
+    match before {
+        Some(ms) => add_number(text, ms),
+        None => text.extend_from_slice(b"null"),
+    }
+}
+
+// Puts which scan is meant in JSON.
+fn add_json_head(text: &mut Bytes, m: &Moment<'_>) -> Result<(), Memory>
+    ensures { OnOk result (text.new ≡ text.old ++ json_head (moment_of m.entry.now)) }
+{
+    text.extend_from_slice(b"{\"at\":")?;
+    add_number(text, m.now)?;
+    text.extend_from_slice(b",\"before\":")?;
+    add_json_behind(text, m.before)?;
+    text.extend_from_slice(b"}\n")
+}
+
+// Puts a comma and a number.
+fn add_next(text: &mut Bytes, n: u32) -> Result<(), Memory>
+    ensures { OnOk result (text.new ≡ text.old ++ (codes "," ++ decimal n)) }
+{
+    text.extend_from_slice(b",")?;
+    add_number(text, n)
+}
+
+// Puts numbers, each behind a comma.
+fn add_others(text: &mut Bytes, numbers: &[u32]) -> Result<(), Memory>
+    ensures { OnOk result (text.new ≡ text.old ++ flat_map (λ v. codes "," ++ decimal v) numbers.now) }
+{
+    for n in numbers {
+        add_next(text, *n)?;
+    }
+    Ok(())
+}
+
+// Puts numbers with commas between them.
+fn add_numbers(text: &mut Bytes, numbers: &[u32]) -> Result<(), Memory>
+    ensures { OnOk result (text.new ≡ text.old ++ numbers_text numbers.now) }
+{
+    if numbers.is_empty() {
+        return Ok(());
+    }
+    add_number(text, numbers[0])?;
+    add_others(text, &numbers[1..])
+}
+
+// Puts the numbers of the reasons of a fact.
+fn add_reasons(text: &mut Bytes, reasons: &[Reasons], n: usize) -> Result<(), Memory>
+    ensures { OnOk result (text.new ≡ text.old ++ reasons_text (slice_get reasons.now n)) }
+{
+    if n < reasons.len() {
+        add_numbers(text, reasons[n].facts.as_slice())?;
+    }
+    Ok(())
+}
+
+// Puts a fact in JSON.
+fn add_json_fact(
+    text: &mut Bytes,
+    m: &Moment<'_>,
+    explanation: &Explanation,
+    n: u32,
+) -> Result<(), Memory>
+    ensures { OnOk result (text.new ≡ text.old ++ json_fact (moment_of m.entry.now) explanation.now n) }
+{
+    text.extend_from_slice(b"{\"fact\":")?;
+    add_number(text, n)?;
+    text.extend_from_slice(b",\"told\":\"")?;
+    add_told(text, m, explanation.facts.as_slice(), n)?;
+    text.extend_from_slice(b"\",\"because\":[")?;
+    add_reasons(text, explanation.reasons.as_slice(), n as usize)?;
+    text.extend_from_slice(b"]}\n")
+}
+
+// An explanation in JSON.
+fn json(alloc: Global, m: &Moment<'_>, explanation: &Explanation) -> Result<Bytes, Memory>
+    ensures { IfOk result (λ text. text ≡ json_text (moment_of m.entry.now) explanation.now) }
+{
+    let Ok(count) = u32::try_from(explanation.facts.len()) else {
+        return Err(Memory);
+    };
+    let mut text = Bytes::new(alloc);
+    add_json_head(&mut text, m)?;
+    for n in 0..count {
+        add_json_fact(&mut text, m, explanation, n)?;
+    }
+    Ok(text)
+}
+
+/// What is told of an explanation: in text as a tree in which each fact stands once, below one of which it is a reason;
+/// in JSON an object a line for each fact, with the numbers of its reasons, behind one that says which scan is meant.
+/// `Err` comes only where memory is wanting.
+pub fn because(
+    alloc: Global,
+    moment: &Moment<'_>,
+    explanation: &Explanation,
+    format: Format,
+) -> Result<Bytes, Memory>
+    ensures { IfOk result (IsToldAs (moment_of moment.entry.now) explanation.now format) }
+{
+    match format {
+        Format::Text => tree(alloc, moment, explanation),
+        Format::Json => json(alloc, moment, explanation),
+    }
+}

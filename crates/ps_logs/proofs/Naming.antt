@@ -1,15 +1,15 @@
 -- Where a header names its columns.
-use Rattle.std.proofs.Common.{◌≡◌, inl, inr, ◌≤◌, ◌<◌, ◌+◌, ◌-◌, ◌∙◌, ℕ, zero, suc, List, [], ◌∷◌, Bool, true, false, Option, Some, None, Ok, Err, if◌then◌else◌, length, slice_index_or, refl, sym, ap, arith}
-use Rattle.std.specs.List.{cons_option, filter, range_with_len}
+use Rattle.std.proofs.Common.{◌≡◌, inl, inr, ◌≤◌, ◌<◌, ◌+◌, ◌-◌, ◌∙◌, ℕ, zero, suc, List, [], ◌∷◌, Bool, true, false, not, ◌&&◌, ◌||◌, Option, Some, None, Ok, Err, if◌then◌else◌, codes, length, slice_index_or, refl, sym, ap, arith}
+use Rattle.std.specs.List.{cons_option, filter, list_any, range_with_len}
 use Rattle.std.proofs.lemmas.Grind.{common_steps}
 use Rattle.std.proofs.lemmas.Bool.{cases_lt}
 use Rattle.std.proofs.lemmas.List.{get_or_past}
 use mathlib.Core.Path.{fun_ext}
 use Rattle.csv.specs.Reading.{strip_bom}
-use Rattle.ps_model.specs.Network.{Network}
+use Rattle.ps_model.specs.Network.{Network, signal_name}
 use Rattle.ps_logs.specs.Fields.{fields_of}
-use Rattle.ps_logs.specs.Header.{header_said, names_column, names_said, places_of}
-use Rattle.ps_logs.specs.Spans.{IsCut, Shows, nowhere, part_at, part_of, parts_named, parts_said, placed, said_by_places, unless_flaw}
+use Rattle.ps_logs.specs.Header.{header_said, is_named, names_column, names_said, places_of, time_name}
+use Rattle.ps_logs.specs.Spans.{IsCut, Shows, nowhere, part_at, part_of, parts_named, parts_said, placed, said_by_places, time_part, unless_flaw}
 use Rattle.ps_logs.specs.declared.fields.Span.{Span}
 use Rattle.ps_logs.specs.declared.flaw.Column.{Column}
 use Rattle.ps_logs.specs.declared.flaw.Column.TheVariants.{Time, Restart, Input}
@@ -50,10 +50,25 @@ stands_once Time k = refl
 stands_once Restart k = refl
 stands_once (Input i) k = refl
 
--- what shows a field names what the field names
-pub same_named : (net : Network) (column : Column) (bytes field : List ℕ) → Shows bytes field → names_column net column bytes ≡ names_column net column field
-same_named net column bytes field (inl same) = ap (names_column net column) same
-same_named net column bytes field (inr marked) = grind (arith, common_steps)
+-- what shows a field is a name as the field is, so it names what the field names
+same_name : (name bytes field : List ℕ) → Shows bytes field → is_named name bytes ≡ is_named name field
+same_name name bytes field (inl same) = ap (is_named name) same
+same_name name bytes field (inr marked) = grind (arith, common_steps)
+
+pub same_named : (net : Network) (time : List ℕ) (column : Column) (bytes field : List ℕ) → Shows bytes field → names_column net time column bytes ≡ names_column net time column field
+same_named net time Time bytes field shows = same_name time bytes field shows
+same_named net time Restart bytes field shows = same_name (codes "@restart") bytes field shows
+same_named net time (Input i) bytes field shows =
+    λ j. same_name (signal_name net i) bytes field shows j && not (same_name time bytes field shows j)
+
+-- lists of which each element passes a test alike
+any_alike : {X Y : Type 0} (p : X → Bool) (q : Y → Bool) (d : X) (e : Y) (xs : List X) (ys : List Y) → length xs ≡ length ys →
+    ((k : ℕ) → p (slice_index_or xs k d) ≡ q (slice_index_or ys k e)) → list_any p xs ≡ list_any q ys
+any_alike p q d e [] [] size each = refl
+any_alike p q d e [] (y ∷ ys) size each = absurd (omega (arith, size))
+any_alike p q d e (x ∷ xs) [] size each = absurd (omega (arith, size))
+any_alike p q d e (x ∷ xs) (y ∷ ys) size each =
+    λ j. each 0 j || any_alike p q d e xs ys (omega (arith, size)) (λ k. each (suc k)) j
 
 -- each field is shown, where all are
 pub shown_all : (line : List ℕ) (spans : List Span) (header : List (List ℕ)) → IsCut line spans (length spans) header →
@@ -63,13 +78,21 @@ shown_all line spans header cut k = elim (cases_lt k (length spans)) [
   | inr past ↦ inl (ap (part_of line) (get_or_past spans k nowhere past) ∙ sym (get_or_past header k [] (omega (arith, past, cut.counted))))
 ]
 
--- so the parts name columns as the fields do
+-- so the parts say what the column of the time is called
+time_alike : (line : List ℕ) (spans : List Span) (header : List (List ℕ)) → IsCut line spans (length spans) header → time_name header ≡ time_part line spans
+time_alike line spans header cut =
+    ap (λ (t : Bool). if t then codes "@time" else codes "time")
+    (any_alike (is_named (codes "@time")) (λ span. is_named (codes "@time") (part_of line span)) [] nowhere header spans cut.counted
+    (λ k. sym (same_name (codes "@time") (part_at line spans k) (slice_index_or header k []) (shown_all line spans header cut k))))
+
+-- and name columns as the fields do
 pub parts_name : (net : Network) (line : List ℕ) (spans : List Span) (header : List (List ℕ)) → IsCut line spans (length spans) header →
-    (column : Column) → places_of net header column ≡ parts_named net line spans column
+    (column : Column) → places_of net header column ≡ parts_named net (time_part line spans) line spans column
 parts_name net line spans header cut column =
-    let each : (k : ℕ) → names_column net column (part_at line spans k) ≡ names_column net column (slice_index_or header k []) =
-    λ k. same_named net column (part_at line spans k) (slice_index_or header k []) (shown_all line spans header cut k) in
-    ap (λ (n : ℕ). filter (λ k. names_column net column (slice_index_or header k [])) (range_with_len 0 n)) cut.counted
+    let time = time_part line spans in
+    let each : (k : ℕ) → names_column net time column (part_at line spans k) ≡ names_column net time column (slice_index_or header k []) =
+    λ k. same_named net time column (part_at line spans k) (slice_index_or header k []) (shown_all line spans header cut k) in
+    (λ j. filter (λ k. names_column net (time_alike line spans header cut j) column (slice_index_or header k [])) (range_with_len 0 (cut.counted j)))
     ∙ ap (λ (p : ℕ → Bool). filter p (range_with_len 0 (length spans))) (sym (fun_ext each))
 
 -- what is said of a header is said by its parts
@@ -77,7 +100,7 @@ pub parts_say : (net : Network) (line : List ℕ) (spans : List Span) (header : 
     names_said net (Some header) ≡ parts_said net line spans
 parts_say net line spans header cut =
     ap (λ (places : Column → List ℕ). said_by_places net (length header) places) (fun_ext (parts_name net line spans header cut))
-    ∙ ap (λ (n : ℕ). said_by_places net n (parts_named net line spans)) cut.counted
+    ∙ ap (λ (n : ℕ). said_by_places net n (parts_named net (time_part line spans) line spans)) cut.counted
 
 -- a column that is found, before others
 pub found_first : (f : Option Flaw) (place found : Option ℕ) (flaws : List Flaw) → unless_flaw f place ≡ Ok found → (cons_option f flaws ≡ flaws) × (place ≡ found)

@@ -1,5 +1,5 @@
 -- What the header of a log says.
-use Rattle.std.specs.Prelude.{ℕ, Bool, not, List, [], ◌∷◌, ◌==◌, ◌||◌, ◌&&◌, codes, length, map, slice_index_or, unwrap_or, Option, Some, None, Result, Ok, Err}
+use Rattle.std.specs.Prelude.{ℕ, Bool, not, List, [], ◌∷◌, ◌==◌, ◌&&◌, if◌then◌else◌, codes, length, map, slice_index_or, unwrap_or, Option, Some, None, Result, Ok, Err}
 use Rattle.std.specs.List.{filter, filter_map, list_any, range_with_len}
 use Rattle.csv.specs.Reading.{strip_bom}
 use Rattle.ps_base.specs.LetterCase.{is_same_name}
@@ -22,20 +22,25 @@ pub record Columns : Type 0 where
 abbrev pub has_mark : List ℕ → Bool
 has_mark bytes = list_any (λ b. b == 34) bytes
 
--- a name is that of a column, without letter case
-abbrev pub is_called : Network → Column → List ℕ → Bool
-is_called net Time name = is_same_name name (codes "time") || is_same_name name (codes "@time")
-is_called net Restart name = is_same_name name (codes "@restart")
-is_called net (Input i) name = is_same_name name (signal_name net i)
+-- a field of the header is this name, without letter case; no name has a quotation mark
+abbrev pub is_named : (name field : List ℕ) → Bool
+is_named name field = not (has_mark field) && is_same_name field name
 
--- a field of the header names a column; no name has a quotation mark
-abbrev pub names_column : Network → Column → List ℕ → Bool
-names_column net column field = not (has_mark field) && is_called net column field
+-- what the column of the time is called in a header: `@time` where it has such a column, and else `time`
+abbrev pub time_name : List (List ℕ) → List ℕ
+time_name header = if list_any (is_named (codes "@time")) header then codes "@time" else codes "time"
+
+-- a field of the header names a column, where that of the time is called so; what is called so is no input's
+abbrev pub names_column : Network → (time : List ℕ) → Column → (field : List ℕ) → Bool
+names_column net time Time field = is_named time field
+names_column net time Restart field = is_named (codes "@restart") field
+names_column net time (Input i) field = is_named (signal_name net i) field && not (is_named time field)
 
 -- the places of the fields that name a column
 abbrev pub places_of : Network → List (List ℕ) → Column → List ℕ
 places_of net header column =
-    filter (λ k. names_column net column (slice_index_or header k [])) (range_with_len 0 (length header))
+    filter (λ k. names_column net (time_name header) column (slice_index_or header k []))
+    (range_with_len 0 (length header))
 
 -- what is wrong with a column that stands at these places: it is missing, though it has to be there, or it stands twice
 abbrev pub flaw_at : Column → List ℕ → Option Flaw

@@ -1,10 +1,10 @@
 -- Where the code has the fields of a line.
-use Rattle.std.specs.Prelude.{◌≡◌, ◌⊎◌, ◌<◌, ◌≤◌, ℕ, true, List, [], ◌∷◌, length, take, drop, slice_index_or, map, unwrap_or, Option, Some, None, option_map, Result, Ok, Err}
-use Rattle.std.specs.List.{cons_option, filter, filter_map, range_with_len}
+use Rattle.std.specs.Prelude.{◌≡◌, ◌⊎◌, ◌<◌, ◌≤◌, ℕ, true, if◌then◌else◌, codes, List, [], ◌∷◌, length, take, drop, slice_index_or, map, unwrap_or, Option, Some, None, option_map, Result, Ok, Err}
+use Rattle.std.specs.List.{cons_option, filter, filter_map, list_any, range_with_len}
 use Rattle.ps_model.specs.Network.{Network, input_count}
 use Rattle.ps_logs.specs.Fields.{Place, fields_from, fields_of, onto}
 use Rattle.ps_logs.specs.Fields.Place.{begins, quoted}
-use Rattle.ps_logs.specs.Header.{Columns, first_of, flaw_at, has_mark, names_column, unless_flawed}
+use Rattle.ps_logs.specs.Header.{Columns, first_of, flaw_at, has_mark, is_named, names_column, unless_flawed}
 use Rattle.ps_logs.specs.declared.fields.Field.{Field}
 use Rattle.ps_logs.specs.declared.fields.Span.{Span}
 use Rattle.ps_logs.specs.declared.fields.Step.{Step}
@@ -59,10 +59,15 @@ pub record IsCut (line : List ℕ) (spans : List Span) (count : ℕ) (fields : L
   pub counted : length fields ≡ count
   pub shown : (k : ℕ) → k < count → k < length spans → Shows (part_at line spans k) (slice_index_or fields k [])
 
--- the places of the parts of a header that name a column
-abbrev pub parts_named : Network → (line : List ℕ) → List Span → Column → List ℕ
-parts_named net line spans column =
-    filter (λ k. names_column net column (part_at line spans k)) (range_with_len 0 (length spans))
+-- what the column of the time is called, by the parts of a header
+abbrev pub time_part : (line : List ℕ) → List Span → List ℕ
+time_part line spans =
+    if list_any (λ span. is_named (codes "@time") (part_of line span)) spans then codes "@time" else codes "time"
+
+-- the places of the parts of a header that name a column, where that of the time is called so
+abbrev pub parts_named : Network → (time line : List ℕ) → List Span → Column → List ℕ
+parts_named net time line spans column =
+    filter (λ k. names_column net time column (part_at line spans k)) (range_with_len 0 (length spans))
 
 -- where a column stands, or what is wrong with it
 abbrev pub unless_flaw : Option Flaw → Option ℕ → Result (Option ℕ) Flaw
@@ -96,7 +101,7 @@ said_by_places net width places =
 
 -- what is said of a header by its parts
 abbrev pub parts_said : Network → (line : List ℕ) → List Span → Result Columns Flaw
-parts_said net line spans = said_by_places net (length spans) (parts_named net line spans)
+parts_said net line spans = said_by_places net (length spans) (parts_named net (time_part line spans) line spans)
 
 -- what is said of a header with so many fields by an answer, with the places of inputs aside
 abbrev pub found_by : (width : ℕ) → (inputs : List ℕ) → Result (ℕ × Option ℕ) Flaw → Result Columns Flaw

@@ -1,23 +1,15 @@
 // Where the header of a log names its columns.
 
-ghost use Rattle.std.specs.Prelude.{◌≡◌, ◌<◌, ℕ, List, [], ◌∷◌, length, IfErr, OnOk, Some};
-ghost use Rattle.std.specs.List.{range_with_len};
-ghost use Rattle.ps_base.specs.LetterCase.{is_same_name};
+ghost use Rattle.std.specs.Prelude.{◌≡◌, ◌<◌, ℕ, List, [], ◌∷◌, codes, length, IfErr, OnOk, Some};
+ghost use Rattle.std.specs.List.{list_any, range_with_len};
 ghost use Rattle.ps_model.specs.Network.{input_count};
-ghost use Rattle.ps_logs.specs.Header.{has_mark, is_called, names_column};
-ghost use Rattle.ps_logs.specs.Spans.{found_by, input_flaws, input_places, parts_named, parts_said, placed};
+ghost use Rattle.ps_logs.specs.Header.{has_mark, is_named, names_column};
+ghost use Rattle.ps_logs.specs.Spans.{found_by, input_flaws, input_places, parts_named, parts_said, part_of, placed, time_part};
 ghost use Rattle.ps_logs.specs.declared.flaw.Flaw.{Flaw as FlawOf};
 
-use crate::fields::{Span, part_at};
+use crate::fields::{Span, part_at, part_of};
 use crate::flaw::{Column, Flaw};
 use ps_model::App;
-
-// Whether two names are the same without letter case.
-fn is_same(a: &[u8], b: &[u8]) -> bool
-    ensures { result ≡ is_same_name a.now b.now }
-{
-    a.eq_ignore_ascii_case(b)
-}
 
 // Whether there is a quotation mark among bytes.
 fn has_mark(bytes: &[u8]) -> bool
@@ -26,24 +18,44 @@ fn has_mark(bytes: &[u8]) -> bool
     bytes.iter().any(|b| *b == b'"')
 }
 
-// Whether a name is that of a column.
-fn is_called(app: &App, column: Column, name: &[u8]) -> bool
-    requires { (i : ℕ) → column ≡ Column.Input i → i < input_count app.now }
-    ensures { result ≡ is_called app.now column name.now }
+// Whether a field of the header is a name, without letter case.
+fn is_named(name: &[u8], field: &[u8]) -> bool
+    ensures { result ≡ is_named name.now field.now }
 {
-    match column {
-        Column::Time => is_same(name, b"time") || is_same(name, b"@time"),
-        Column::Restart => is_same(name, b"@restart"),
-        Column::Input(i) => is_same(name, app.signal_name(i).as_bytes()),
+    !has_mark(field) && field.eq_ignore_ascii_case(name)
+}
+
+// Whether a header has a column `@time`.
+fn has_own_time(line: &[u8], spans: &[Span]) -> bool
+    ensures { result ≡ list_any (λ span. is_named (codes "@time") (part_of line.now span)) spans.now }
+{
+    spans
+        .iter()
+        .any(|span| is_named(b"@time", part_of(line, *span)))
+}
+
+// What the column of the time is called.
+fn time_name(line: &[u8], spans: &[Span]) -> &'static [u8]
+    ensures { result.now ≡ time_part line.now spans.now }
+{
+    if has_own_time(line, spans) {
+        b"@time"
+    } else {
+        b"time"
     }
 }
 
-// Whether a field of the header names a column.
-fn names_column(app: &App, column: Column, field: &[u8]) -> bool
+// Whether a field of the header names a column, where that of the time is called so.
+fn names_column(app: &App, time: &[u8], column: Column, field: &[u8]) -> bool
     requires { (i : ℕ) → column ≡ Column.Input i → i < input_count app.now }
-    ensures { result ≡ names_column app.now column field.now }
+    ensures { result ≡ names_column app.now time.now column field.now }
 {
-    !has_mark(field) && is_called(app, column, field)
+    match column {
+        Column::Time => is_named(time, field),
+        Column::Restart => is_named(b"@restart", field),
+        Column::Input(i) => is_named(app.signal_name(i).as_bytes(), field)
+            && !is_named(time, field),
+    }
 }
 
 // What comes of a column that no field names.
@@ -57,13 +69,19 @@ fn missing(column: Column) -> Result<Option<usize>, Flaw>
 }
 
 // Where the field of the header stands that names a column, or what is wrong with it.
-fn place_of(app: &App, line: &[u8], spans: &[Span], column: Column) -> Result<Option<usize>, Flaw>
+fn place_of(
+    app: &App,
+    time: &[u8],
+    line: &[u8],
+    spans: &[Span],
+    column: Column,
+) -> Result<Option<usize>, Flaw>
     requires { (i : ℕ) → column ≡ Column.Input i → i < input_count app.now }
-    ensures { result ≡ placed column (parts_named app.now line.now spans.now column) }
+    ensures { result ≡ placed column (parts_named app.now time.now line.now spans.now column) }
 {
     let mut place = None;
     for k in 0..spans.len() {
-        if names_column(app, column, part_at(line, spans, k)) {
+        if names_column(app, time, column, part_at(line, spans, k)) {
             if place.is_some() {
                 return Err(Flaw::V1);
             }
@@ -77,16 +95,22 @@ fn place_of(app: &App, line: &[u8], spans: &[Span], column: Column) -> Result<Op
 }
 
 // Finds where the fields stand that name inputs. An error: what is wrong with the first one that is not found.
-fn find_inputs(app: &App, line: &[u8], spans: &[Span], places: &mut [usize]) -> Result<(), Flaw>
+fn find_inputs(
+    app: &App,
+    time: &[u8],
+    line: &[u8],
+    spans: &[Span],
+    places: &mut [usize],
+) -> Result<(), Flaw>
     requires { length places.old ≡ input_count app.now }
     ensures flaw { IfErr result (λ flaw. (more : List FlawOf)
-        × (input_flaws (parts_named app.now line.now spans.now) (range_with_len 0 (input_count app.now)) ≡ flaw ∷ more)) }
-    ensures none { OnOk result (input_flaws (parts_named app.now line.now spans.now) (range_with_len 0 (input_count app.now)) ≡ []) }
+        × (input_flaws (parts_named app.now time.now line.now spans.now) (range_with_len 0 (input_count app.now)) ≡ flaw ∷ more)) }
+    ensures none { OnOk result (input_flaws (parts_named app.now time.now line.now spans.now) (range_with_len 0 (input_count app.now)) ≡ []) }
     ensures places { OnOk result
-        (places.new ≡ input_places (parts_named app.now line.now spans.now) (range_with_len 0 (input_count app.now))) }
+        (places.new ≡ input_places (parts_named app.now time.now line.now spans.now) (range_with_len 0 (input_count app.now))) }
 {
     for i in 0..app.input_count() {
-        match place_of(app, line, spans, Column::Input(i)) {
+        match place_of(app, time, line, spans, Column::Input(i)) {
             Ok(place) => places[i as usize] = place.unwrap_or(0),
             Err(flaw) => return Err(flaw),
         }
@@ -104,15 +128,16 @@ pub(crate) fn find_columns(
     requires { length inputs.old ≡ input_count app.now }
     ensures { parts_said app.now line.now spans.now ≡ found_by (length spans.now) inputs.new result }
 {
-    let time = match place_of(app, line, spans, Column::Time) {
+    let name = time_name(line, spans);
+    let time = match place_of(app, name, line, spans, Column::Time) {
         Ok(place) => place.unwrap_or(0),
         Err(flaw) => return Err(flaw),
     };
-    let restart = match place_of(app, line, spans, Column::Restart) {
+    let restart = match place_of(app, name, line, spans, Column::Restart) {
         Ok(place) => place,
         Err(flaw) => return Err(flaw),
     };
-    match find_inputs(app, line, spans, inputs) {
+    match find_inputs(app, name, line, spans, inputs) {
         Ok(()) => Ok((time, restart)),
         Err(flaw) => Err(flaw),
     }

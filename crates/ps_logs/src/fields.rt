@@ -156,7 +156,7 @@ pub(crate) fn cut_all(alloc: Global, line: &[u8]) -> Result<Option<Vec<Span>>, M
 }
 
 /// The bytes of a line at a span.
-fn part_of(line: &[u8], span: Span) -> &[u8]
+pub(crate) fn part_of(line: &[u8], span: Span) -> &[u8]
     ensures { result.now ≡ part_of line.now span }
 {
     let rest = &line[span.from.min(line.len())..];

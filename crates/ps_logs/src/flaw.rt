@@ -3,7 +3,7 @@
 /// A column that a log is asked for.
 #[derive(Clone, Copy, Debug, PartialEq, Eq)]
 pub enum Column {
-    /// `time` or `@time`: the time of each scan in ms.
+    /// `@time`, or `time` where there is no `@time`: the time of each scan in ms.
     Time,
     /// `@restart`: 1 in a scan that is the first behind a restart. A log may be without it.
     Restart,

@@ -136,8 +136,8 @@ impl Table {
     /// has not the form or a column stands twice, V2 where one is missing; of these the first one, in the order time,
     /// restarts and inputs as they are declared.
     ///
-    /// A byte order mark before the line does not count. Letter case of names does not count. The outer error: memory
-    /// is wanting.
+    /// The time is the column `@time`, or where there is none the column `time`, which is no input's then. A byte order
+    /// mark before the line does not count. Letter case of names does not count. The outer error: memory is wanting.
     pub fn of_header(alloc: Global, app: &App, line: &[u8]) -> Result<Result<Table, Flaw>, Memory>
         ensures { IfOk result (λ said. header_said app.now line.now ≡ said) }
     {

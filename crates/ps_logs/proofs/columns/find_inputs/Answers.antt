@@ -15,7 +15,7 @@ pub returns-in-Err-clause-flaw : goal.returns-in-Err-clause-flaw
 returns-in-Err-clause-flaw c =
     let n = input_count c.args.app.now in
     let i = c.loop-i.i in
-    let places : Column → List ℕ = parts_named c.args.app.now c.args.line.now c.args.spans.now in
+    let places : Column → List ℕ = parts_named c.args.app.now c.args.time.now c.args.line.now c.args.spans.now in
     let some : i < n = omega arith in
     let here = places (Input i) in
     let others = input_flaws places (range_with_len (i + 1) (n - (i + 1))) in (
@@ -28,7 +28,7 @@ pub loop-i-preserved : goal.loop-i-preserved
 loop-i-preserved c =
     let n = input_count c.args.app.now in
     let i = c.loop-i.i in
-    let places : Column → List ℕ = parts_named c.args.app.now c.args.line.now c.args.spans.now in
+    let places : Column → List ℕ = parts_named c.args.app.now c.args.time.now c.args.line.now c.args.spans.now in
     let some : i < n = omega arith in
     let here = places (Input i) in
     let others = input_flaws places (range_with_len (i + 1) (n - (i + 1))) in

@@ -7,7 +7,7 @@ use Rattle.ps_logs.proofs.columns.find_inputs.Given as goal
 abbrev pub invariant-loop-i : goal.invariant-loop-i
 invariant-loop-i l = record {
   size : length l.places ≡ input_count l.app;
-  flaws : input_flaws (parts_named l.app l.line l.spans) (range_with_len 0 (input_count l.app))
-      ≡ input_flaws (parts_named l.app l.line l.spans) (range_with_len l.i (input_count l.app - l.i));
-  places : take l.i l.places ≡ input_places (parts_named l.app l.line l.spans) (range_with_len 0 l.i);
+  flaws : input_flaws (parts_named l.app l.time l.line l.spans) (range_with_len 0 (input_count l.app))
+      ≡ input_flaws (parts_named l.app l.time l.line l.spans) (range_with_len l.i (input_count l.app - l.i));
+  places : take l.i l.places ≡ input_places (parts_named l.app l.time l.line l.spans) (range_with_len 0 l.i);
 }

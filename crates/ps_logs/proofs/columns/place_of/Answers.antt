@@ -10,13 +10,14 @@ use Rattle.ps_logs.proofs.columns.place_of.Goals.{then-names_column+else-is_some
 pub loop-k-preserved : goal.loop-k-preserved
 loop-k-preserved c =
     let line = c.args.line.now in
+    let time = c.args.time.now in
     let spans = c.args.spans.now in
     let k = c.loop-k.k in
     let within : k < length spans = omega arith in
-    let names : ℕ → Bool = λ n. names_column c.args.app.now c.args.column (part_at line spans n) in
+    let names : ℕ → Bool = λ n. names_column c.args.app.now time c.args.column (part_at line spans n) in
     let rest : List ℕ = filter names (range_with_len (k + 1) (length spans - (k + 1))) in
-    let called : names k ≡ c.names_column.result = ap (names_column c.args.app.now c.args.column) (sym c.part_at.ensures) ∙ sym c.names_column.ensures in
-    let whole = parts_named c.args.app.now line spans c.args.column in
+    let called : names k ≡ c.names_column.result = ap (names_column c.args.app.now time c.args.column) (sym c.part_at.ensures) ∙ sym c.names_column.ensures in
+    let whole = parts_named c.args.app.now time line spans c.args.column in
     elim c.if-names_column.branch [
       | then-names_column+else-is_some w ↦
           let none : c.loop-k.place ≡ None = grind (arith, common_steps) in

@@ -8,6 +8,6 @@ use Rattle.ps_logs.proofs.columns.place_of.Given as goal
 -- the places are the one that was found and those that are left
 abbrev pub invariant-loop-k : goal.invariant-loop-k
 invariant-loop-k l =
-    parts_named l.app l.line l.spans l.column
+    parts_named l.app l.time l.line l.spans l.column
     ≡ place_list l.place
-    ++ filter (λ k. names_column l.app l.column (part_at l.line l.spans k)) (range_with_len l.k (length l.spans - l.k))
+    ++ filter (λ k. names_column l.app l.time l.column (part_at l.line l.spans k)) (range_with_len l.k (length l.spans - l.k))

@@ -4,8 +4,8 @@
 logs.py [--count N] [--seed N] plcsafe-bench=FILE, or logs.py [..] PLCSAFE plcsafe-bench=FILE    the programs; the first is not called;
                                                                                                 N drawn logs, 40 where it is left out
 
-Rows: logs of the motor, each with the trace that it has to get, or the lines before its refusal, the refusal, and what standard error
-names. Sizes: a line that just is as long as a line may be, and one that is longer by a byte. Drawn: logs of some applications of
+Rows: logs of the motor, and of one with an input `Time`, each with the trace that it has to get, or the lines before its refusal, the
+refusal, and what standard error names. Sizes: a line that just is as long as a line may be, and one that is longer by a byte. Drawn: logs of some applications of
 examples/ with columns in any order, quotation marks, empty lines, restarts and columns that are no inputs, of which some are spoiled at
 a place; the trace, or what stands before the refusal, is compared with what this script makes of it. Round: what `watch --format csv`
 writes of the traces of examples/ is a log, whose trace is the one that was watched. The status is 0 where nothing differs.
@@ -36,10 +36,11 @@ ROWS = [
     ('time,Note,S_Stop,Ack,Run\n0,"a, ""b""",1,0,0\n', "0 1 0 0", None), ('time,"No,""te",S_Stop,Ack,Run\n0,,1,0,0\n', "0 1 0 0", None),
     ("time,@restart,S_Stop,Ack,Run\n0,1,1,0,0\n0,TRUE,1,0,1\n1,0,0,0,0\n", "restart|0 1 0 0|restart|0 1 0 1|1 0 0 0", None),
     ("@time,@restart,@trip,S_Stop,Ack,Run\n0,0,7,1,0,0\n", "0 1 0 0", None), (HEAD + "007,1,0,0\n", "7 1 0 0", None),
+    ("time,@time,S_Stop,Ack,Run\n7,5,1,0,0\n", "5 1 0 0", None), ("time,@Time,TIME,S_Stop,Ack,Run\nx,5,,1,0,0\n", "5 1 0 0", None),
     (HEAD + "5,1,0,0\n5,1,0,0\n", "5 1 0 0|5 1 0 0", None), (HEAD + f"{LARGEST_TIME},1,0,0\n", f"{LARGEST_TIME} 1 0 0", None),
     # V1
     ('time,S_Stop,Ack,"Run\n', None, "V1 1"), ('time,S_Stop,Ack,Run"\n', None, "V1 1"), ('time,S_Stop,Ack,"Run" \n', None, "V1 1"),
-    ("time,@time,S_Stop,Ack,Run\n", None, "V1 1"), ("time,time,S_Stop,Ack,Run\n", None, "V1 1"), ("time,S_Stop,Ack,Run,run\n", None, "V1 1"),
+    ("@time,@TIME,S_Stop,Ack,Run\n", None, "V1 1"), ("time,Time,S_Stop,Ack,Run\n", None, "V1 1"), ("time,S_Stop,Ack,Run,run\n", None, "V1 1"),
     ("time,@restart,@RESTART,S_Stop,Ack,Run\n", None, "V1 1"), ("time,Ack,Ack,Run,Run,S_Stop\n", None, "V1 1"),
     (HEAD + "0,1,0\n", "", "V1 2"), (HEAD + "0,1,0,0,\n", "", "V1 2"), (HEAD + "0,1,0,0\n1\n", "0 1 0 0", "V1 3"), (HEAD + " \n", "", "V1 2"),
     (HEAD + '0,1,0,"0\n', "", "V1 2"), (HEAD + '0,1,0,0"\n', "", "V1 2"), (HEAD + '0,1,0,"0"1\n', "", "V1 2"), (HEAD + '0,"1\n1",0,0\n', "", "V1 2"),
@@ -60,6 +61,15 @@ ROWS = [
     # sizes
     ("time,S_Stop,Ack,Run,Note\n0,1,0,0," + "x" * (LONGEST - 8) + "\n", "0 1 0 0", None),
     ("time,S_Stop,Ack,Run,Note\n0,1,0,0," + "x" * (LONGEST - 7) + "\n", "", "V1 2"),
+]
+
+# The motor with an input `Time` in the place of Ack, and logs of it.
+TIMED = ["S_Stop", "Time", "Run"]
+TIMED_ROWS = [
+    ("@time,S_Stop,Time,Run\n5,1,1,0\n", "5 1 1 0", None), ("TIME,Run,@TIME,S_Stop\n1,0,5,1\n", "5 1 1 0", None),
+    ("@time,S_Stop,time,Run\n5,1,7,0\n", "", "V3 2"), ("time,S_Stop,Run\n", None, "V2 1 Time"), ("@time,S_Stop,Run\n", None, "V2 1 Time"),
+    ("S_Stop,Run\n", None, "V2 1 time"), ("time,Time,S_Stop,Run\n", None, "V1 1"), ("@time,time,Time,S_Stop,Run\n", None, "V1 1"),
+    ("@time,@time,Time,S_Stop,Run\n", None, "V1 1"),
 ]
 
 # Applications that logs are drawn of, with their inputs in order of declaration.
@@ -85,6 +95,11 @@ class Program:
         run = subprocess.run([self.file, *map(str, words)], capture_output=True, stdin=subprocess.DEVNULL, timeout=600)
         return run.returncode, run.stdout.decode("utf-8", "replace"), run.stderr.decode("utf-8", "replace")
 
+    def timed(self):
+        path = self.folder / "timed.st"
+        path.write_text(re.sub(r"\bAck\b", "Time", MOTOR.read_text()))
+        return path
+
     def trace(self, app, text):
         path = self.folder / "a.csv"
         path.write_bytes(text.encode())
@@ -97,12 +112,12 @@ def expected(inputs, lines, refusal):
     return (trace, 0) if refusal is None else (trace + "refused {} line {}\n".format(*refusal.split()[:2]), 3)
 
 
-def wrong_rows(program):
-    """The rows that are told otherwise."""
+def wrong_rows(program, app, inputs, rows):
+    """The rows of an application that are told otherwise."""
     wrong = []
-    for text, lines, refusal in ROWS:
-        status, said, told = program.trace(MOTOR, text)
-        wants, ends = expected(APPS["stop/motor"], None if lines is None else lines.split("|"), refusal)
+    for text, lines, refusal in rows:
+        status, said, told = program.trace(app, text)
+        wants, ends = expected(inputs, None if lines is None else lines.split("|"), refusal)
         missing = (refusal or "").split()[2:]
         if (said, status) != (wants, ends) or missing and f"no column is called {missing[0]}\n" not in told:
             wrong.append(f"{text[:60]!r}: status {status}, {said[-80:]!r}, {told[:80]!r}")
@@ -122,7 +137,9 @@ def any_case(chance, word):
 def drawn_log(chance, inputs):
     """A log, of which a row may be spoiled: its header, and its rows with empty lines between them."""
     others = chance.sample(["", "Note", "a,b", '"', "S_None", "@trip", "Note"], chance.randint(0, 4))
-    columns = [any_case(chance, name) for name in [chance.choice(["time", "@time"]), *inputs, *["@restart"] * chance.randint(0, 1)]] + others
+    time = chance.choice(["time", "@time"])
+    others += [any_case(chance, "time")] * (chance.randint(0, 2) if time == "@time" else 0)
+    columns = [any_case(chance, name) for name in [time, *inputs, *["@restart"] * chance.randint(0, 1)]] + others
     chance.shuffle(columns)
     lines, now = [",".join(quoted(chance, name) for name in columns)], chance.choice([0, 0, 4_294_960_000])
     spoiled, how = chance.choice([0, chance.randint(1, 30)]), chance.choice(["V1", "V3", "V4"])
@@ -130,7 +147,7 @@ def drawn_log(chance, inputs):
         now += chance.randint(0, 20)
         fields = []
         for name in map(str.lower, columns):
-            if name in ("time", "@time"):
+            if name == time:
                 field = str(max(0, now - chance.randint(21, 99))) if number == spoiled and how == "V4" else chance.choice(["", "", "0"]) + str(now)
             elif name == "@restart":
                 field = chance.choice(["0", "0", "FALSE", "1", "true"])
@@ -159,7 +176,7 @@ def read(text, inputs):
     """What a log with a header that is right means: the lines of its trace, and its refusal or None."""
     header, *rows = text.removeprefix("\ufeff").replace("\r\n", "\n").split("\n")
     names = [name.lower() for name in fields_of(header)]
-    time = next(at for at, name in enumerate(names) if name in ("time", "@time"))
+    time = names.index("@time" if "@time" in names else "time")
     lines, last = [], 0
     for number, row in enumerate(rows, 2):
         if not row:
@@ -195,12 +212,13 @@ def wrong_drawn(program, count, seed):
 def wrong_round(program):
     """The traces that do not come back."""
     wrong = []
-    for app, trace in ROUND:
-        source, path = EXAMPLES / f"{app}.st", EXAMPLES / f"{trace}.trace"
+    timed = program.folder / "timed.trace"
+    timed.write_text((EXAMPLES / "stop" / "restart.trace").read_text().replace("Ack", "Time"))
+    for source, path in [(program.timed(), timed), *((EXAMPLES / f"{app}.st", EXAMPLES / f"{trace}.trace") for app, trace in ROUND)]:
         log = program.call("watch", source, path, "--format", "csv")[1]
         status, said, _ = program.trace(source, log)
         if status or [line.split() for line in said.splitlines()] != [line.split() for line in path.read_text().splitlines() if line.strip() and line[0] != "#"]:
-            wrong.append(f"{trace}: status {status}, and another trace comes back")
+            wrong.append(f"{path.name}: status {status}, and another trace comes back")
     return wrong
 
 
@@ -219,10 +237,11 @@ def main(words):
     with tempfile.TemporaryDirectory() as folder:
         program = Program(str(pathlib.Path(files[0]).resolve()), folder)
         drawn, refused = wrong_drawn(program, count, int(given["--seed"]))
-        wrong = wrong_rows(program) + drawn + wrong_round(program)
+        rows = wrong_rows(program, MOTOR, APPS["stop/motor"], ROWS) + wrong_rows(program, program.timed(), TIMED, TIMED_ROWS)
+        wrong = rows + drawn + wrong_round(program)
     for line in wrong[:20]:
         print(line)
-    print(f"{len(ROWS)} rows, {count} drawn logs, {refused} of them refused, and {len(ROUND)} traces round: {len(wrong)} told otherwise")
+    print(f"{len(ROWS) + len(TIMED_ROWS)} rows, {count} drawn logs, {refused} of them refused, and {len(ROUND) + 1} traces round: {len(wrong)} told otherwise")
     return 1 if wrong else 0
 
 

@@ -1,11 +1,11 @@
 -- Where the header of a run's log has its columns.
-use Rattle.std.proofs.Common.{◌≡◌, ◌≢◌, ◌∙◌, ◌+◌, ◌-◌, ◌≤◌, ◌<◌, ◌&&◌, ◌||◌, not, ◌⊎◌, inl, inr, ℕ, zero, suc, Bool, true, false, List, [], ◌∷◌, Some, Ok, codes, flat_map, get_or, length, map, unwrap_or, refl, sym, ap, subst, arith}
+use Rattle.std.proofs.Common.{◌≡◌, ◌≢◌, ◌∙◌, ◌+◌, ◌-◌, ◌≤◌, ◌<◌, ◌&&◌, not, ◌⊎◌, inl, inr, ℕ, zero, suc, Bool, true, false, List, [], ◌∷◌, Some, Ok, codes, flat_map, get_or, length, map, unwrap_or, refl, sym, ap, subst, arith}
 use Rattle.std.specs.List.{cons_option, filter_map, list_all, list_any, range_with_len}
 use Rattle.std.proofs.lemmas.Bool.{cases_lt}
 use Rattle.std.proofs.lemmas.List.{get_or-append_right, get_or_append_left, get_or-map, length-append, length-map}
 use Rattle.std.proofs.lemmas.List.FromFn.{get_or-map-range_with_len, length-map-range_with_len}
 use Rattle.ps_base.specs.LetterCase.{is_same_name}
-use Rattle.ps_logs.specs.Header.{Columns, columns_in, first_of, flaw_at, flaws_of, has_mark, is_called, names_column, names_said, places_of, unless_flawed}
+use Rattle.ps_logs.specs.Header.{Columns, columns_in, first_of, flaw_at, flaws_of, has_mark, is_named, names_column, names_said, places_of, unless_flawed}
 use Rattle.ps_logs.specs.declared.flaw.Column.{Column}
 use Rattle.ps_logs.specs.declared.flaw.Column.TheVariants.{Time, Restart, Input}
 use Rattle.ps_logs.specs.declared.flaw.Flaw.{Flaw}
@@ -13,7 +13,7 @@ use Rattle.ps_model.specs.Network.{Network, declared_count, input_count, instanc
 use Rattle.ps_model.specs.Sound.{IsSound}
 use Rattle.ps_retraced.specs.Logged.{HasLogNames, is_name_byte}
 use Rattle.ps_retraced.proofs.Bytes.{at_apart, is_at, no_at, no_mark, same_self}
-use Rattle.ps_retraced.proofs.Labels.{IsOfInstance, IsOther, instances_within, of_instance, of_signal, signal_labelled, signal_not_time, signal_spelt, signals_apart}
+use Rattle.ps_retraced.proofs.Labels.{IsOfInstance, IsOther, instances_within, of_instance, of_signal, signal_labelled, signal_spelt, signals_apart}
 use Rattle.ps_retraced.proofs.Lists.{all_at, only_place}
 use Rattle.ps_shown.specs.Lines.{csv_names}
 use Rattle.ps_shown.specs.Names.{all_names, names_of_instance}
@@ -30,8 +30,12 @@ is_called_so : (t u : Bool) → t ≡ false → u ≡ true → (not t && u) ≡ 
 is_called_so true u plain is = λ i. not (plain i)
 is_called_so false u plain is = is
 
-neither : (t u : Bool) → t ≡ false → u ≡ false → (t || u) ≡ false
-neither t u first second = (λ i. first i || u) ∙ second
+-- a field that is an input's, and one that is not
+not_input : (t u : Bool) → t ≡ false → (t && not u) ≡ false
+not_input t u is = λ i. is i && not u
+
+an_input : (t u : Bool) → t ≡ true → u ≡ false → (t && not u) ≡ true
+an_input t u is other = λ i. is i && not (other i)
 
 module _ (net : Network) (sound : IsSound net) (named : HasLogNames net) where
   -- the header of a run's log
@@ -97,12 +101,6 @@ module _ (net : Network) (sound : IsSound net) (named : HasLogNames net) where
     | inr input ↦ subst (λ (name : List ℕ). list_all is_name_byte name ≡ true) (sym (signal_shown j (omega (arith, input)))) (signal_spelt net sound named j (omega (arith, input)))
   ]
 
-  not_time_at : (j : ℕ) → j < length shown → is_same_name (get_or shown j []) (codes "time") ≡ false
-  not_time_at j within = elim (field_is j within) [
-    | inl other ↦ other.not_time
-    | inr input ↦ subst (λ (name : List ℕ). is_same_name name (codes "time") ≡ false) (sym (signal_shown j (omega (arith, input)))) (signal_not_time net sound named j (omega (arith, input)))
-  ]
-
   not_input_at : (j i : ℕ) → j < length shown → i < input_count net → j ≢ i → is_same_name (get_or shown j []) (signal_name net i) ≡ false
   not_input_at j i within is_input other = elim (field_is j within) [
     | inl apart ↦ apart.not_input i is_input
@@ -119,7 +117,7 @@ module _ (net : Network) (sound : IsSound net) (named : HasLogNames net) where
   behind j within = omega (arith, within)
 
   names_it : Column → ℕ → Bool
-  names_it column k = names_column net column (get_or header k [])
+  names_it column k = names_column net (codes "@time") column (get_or header k [])
 
   other_than_time : (k : ℕ) → k < size → k ≢ 0 → names_it Time k ≡ false
   unfolding names_it
@@ -128,9 +126,8 @@ module _ (net : Network) (sound : IsSound net) (named : HasLogNames net) where
   other_than_time (suc (suc zero)) within other = refl
   other_than_time (suc (suc (suc j))) within other =
       let field = get_or shown j [] in
-      not_called (has_mark field) (is_called net Time field)
-      (neither (is_same_name field (codes "time")) (is_same_name field (codes "@time")) (not_time_at j (behind j within))
-      (at_apart false field (codes "@time") (no_at field (spelt_at j (behind j within))) refl))
+      not_called (has_mark field) (is_same_name field (codes "@time"))
+      (at_apart false field (codes "@time") (no_at field (spelt_at j (behind j within))) refl)
 
   other_than_restart : (k : ℕ) → k < size → k ≢ 1 → names_it Restart k ≡ false
   unfolding names_it
@@ -139,30 +136,38 @@ module _ (net : Network) (sound : IsSound net) (named : HasLogNames net) where
   other_than_restart (suc (suc zero)) within other = refl
   other_than_restart (suc (suc (suc j))) within other =
       let field = get_or shown j [] in
-      not_called (has_mark field) (is_called net Restart field)
+      not_called (has_mark field) (is_same_name field (codes "@restart"))
       (at_apart false field (codes "@restart") (no_at field (spelt_at j (behind j within))) refl)
 
-  own : (word : List ℕ) → list_all is_name_byte word ≡ true → (mark : List ℕ) → list_any is_at mark ≡ true → is_same_name mark word ≡ false
-  own word spelt mark at = at_apart true mark word at (no_at word spelt)
+  -- what begins with `@` is no input's
+  own : (i : ℕ) → i < input_count net → (mark : List ℕ) → list_any is_at mark ≡ true → names_column net (codes "@time") (Input i) mark ≡ false
+  own i input mark at =
+      let name = signal_name net i in
+      not_input (is_named name mark) (is_named (codes "@time") mark)
+      (not_called (has_mark mark) (is_same_name mark name) (at_apart true mark name at (no_at name (signal_spelt net sound named i (omega (arith, input))))))
 
   other_than_input : (i : ℕ) → i < input_count net → (k : ℕ) → k < size → k ≢ 3 + i → names_it (Input i) k ≡ false
   unfolding names_it
-  other_than_input i input zero within other = own (signal_name net i) (signal_spelt net sound named i (omega (arith, input))) (codes "@time") refl
-  other_than_input i input (suc zero) within other = own (signal_name net i) (signal_spelt net sound named i (omega (arith, input))) (codes "@restart") refl
-  other_than_input i input (suc (suc zero)) within other = own (signal_name net i) (signal_spelt net sound named i (omega (arith, input))) (codes "@trip") refl
+  other_than_input i input zero within other = own i input (codes "@time") refl
+  other_than_input i input (suc zero) within other = own i input (codes "@restart") refl
+  other_than_input i input (suc (suc zero)) within other = own i input (codes "@trip") refl
   other_than_input i input (suc (suc (suc j))) within other =
       let field = get_or shown j [] in
-      not_called (has_mark field) (is_same_name field (signal_name net i))
-      (not_input_at j i (behind j within) input (λ same. other (omega (arith, same))))
+      not_input (is_named (signal_name net i) field) (is_named (codes "@time") field)
+      (not_called (has_mark field) (is_same_name field (signal_name net i))
+      (not_input_at j i (behind j within) input (λ same. other (omega (arith, same)))))
 
   is_input : (i : ℕ) → i < input_count net → names_it (Input i) (3 + i) ≡ true
   unfolding names_it
   is_input i input =
       let third : 3 + i ≡ suc (suc (suc i)) = omega arith in
+      let name = signal_name net i in
       let spelt = signal_spelt net sound named i (omega (arith, input)) in
-      ap (λ (k : ℕ). names_column net (Input i) (get_or header k [])) third
-      ∙ ap (names_column net (Input i)) (signal_shown i (omega (arith, input)))
-      ∙ is_called_so (has_mark (signal_name net i)) (is_same_name (signal_name net i) (signal_name net i)) (no_mark (signal_name net i) spelt) (same_self (signal_name net i))
+      ap (λ (k : ℕ). names_column net (codes "@time") (Input i) (get_or header k [])) third
+      ∙ ap (names_column net (codes "@time") (Input i)) (signal_shown i (omega (arith, input)))
+      ∙ an_input (is_named name name) (is_named (codes "@time") name)
+      (is_called_so (has_mark name) (is_same_name name name) (no_mark name spelt) (same_self name))
+      (not_called (has_mark name) (is_same_name name (codes "@time")) (at_apart false name (codes "@time") (no_at name spelt) refl))
 
   few_inputs : (i : ℕ) → i < input_count net → 3 + i < size
   few_inputs i input = omega (arith, input, shown-length, names-length)

@@ -106,14 +106,6 @@ module _ (net : Network) (sound : IsSound net) (named : HasLogNames net) where
   instance_spelt i within =
       subst (λ (name : List ℕ). list_all is_name_byte name ≡ true) (instance_at i within) (named.spelt (declared_count net + i) [] (omega (arith, within, names-length))).bytes
 
-  pub signal_not_time : (s : ℕ) → s < declared_count net → is_same_name (signal_name net s) (codes "time") ≡ false
-  signal_not_time s within =
-      subst (λ (name : List ℕ). is_same_name name (codes "time") ≡ false) (signal_at s within) (named.not_time s [] (omega (arith, within, names-length)))
-
-  pub instance_not_time : (i : ℕ) → i < instance_count net → is_same_name (instance_name net i) (codes "time") ≡ false
-  instance_not_time i within =
-      subst (λ (name : List ℕ). is_same_name name (codes "time") ≡ false) (instance_at i within) (named.not_time (declared_count net + i) [] (omega (arith, within, names-length)))
-
   pub signal_labelled : (s : ℕ) → s < declared_count net → label net (Signal s) ≡ signal_name net s
   signal_labelled s within = ap (λ (t : Bool). if t then signal_name net s else []) (lt-ltb s (declared_count net) within)
 
@@ -186,11 +178,10 @@ module _ (net : Network) (sound : IsSound net) (named : HasLogNames net) where
       λ k. is_same_name (instance_at j within k) (signal_at i also k) in
       sym named_so ∙ distinct (declared_count net + j) i (omega (arith, within, names-length)) (omega (arith, also, names-length)) (λ same. omega (arith, same, also))
 
-  -- ---- So what stands for a name of an instance is spelt as names are, and is neither the name of an input nor `time`.
+  -- ---- So what stands for a name of an instance is spelt as names are, and is not the name of an input.
 
   pub record IsOther (text : List ℕ) : Type 0 where
     pub spelt : list_all is_name_byte text ≡ true
-    pub not_time : is_same_name text (codes "time") ≡ false
     pub not_input : (i : ℕ) → i < input_count net → is_same_name text (signal_name net i) ≡ false
 
   pub of_instance : (name : Name) → IsOfInstance net name → IsOther (label net name)
@@ -199,12 +190,10 @@ module _ (net : Network) (sound : IsSound net) (named : HasLogNames net) where
       let same = sym (instance_labelled j within) in
       subst IsOther same (record {
         spelt = instance_spelt j within;
-        not_time = instance_not_time j within;
         not_input = λ i input. instance_apart j i within (omega (arith, input));
       })
   of_instance (Pin i j) within = record {
     spelt = pin_spelt i j within;
-    not_time = dot_apart true (label net (Pin i j)) (codes "time") (pin_dotted i j within) refl;
     not_input = λ k input. dot_apart true (label net (Pin i j)) (signal_name net k) (pin_dotted i j within) (input_undotted k input);
   }
 
@@ -213,7 +202,6 @@ module _ (net : Network) (sound : IsSound net) (named : HasLogNames net) where
     | inl input ↦ inr input
     | inr past ↦ inl (record {
       spelt = signal_spelt s within;
-      not_time = signal_not_time s within;
       not_input = λ i input. signals_apart s i within (omega (arith, input)) (λ same. omega (arith, same, input, past));
     })
   ]

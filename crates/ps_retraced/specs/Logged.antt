@@ -1,7 +1,6 @@
 -- What a log keeps of a run, and the names that it can tell apart.
-use Rattle.std.specs.Prelude.{◌≡◌, ◌<◌, ◌==◌, ◌||◌, ℕ, Bool, true, false, All, List, [], ◌∷◌, ◌++◌, codes, length}
+use Rattle.std.specs.Prelude.{◌≡◌, ◌<◌, ◌==◌, ◌||◌, ℕ, Bool, true, false, All, List, [], ◌∷◌, ◌++◌, length}
 use Rattle.std.specs.List.{list_all, list_any}
-use Rattle.ps_base.specs.LetterCase.{is_same_name}
 use Rattle.ps_lexer.specs.Spelling.{continues_name}
 use Rattle.ps_logs.specs.Log.{items_of}
 use Rattle.ps_model.specs.Meaning.{Item}
@@ -35,9 +34,7 @@ pub record IsSpelt (name : List ℕ) : Type 0 where
 abbrev pub has_dot : List ℕ → Bool
 has_dot name = list_any (λ b. b == 46) name
 
--- A log can tell the names of an application apart: they are names of the language; those of inputs have no dot; and
--- none is `time`, which a log has for the times of its scans.
+-- A log can tell the names of an application apart: they are names of the language, and those of inputs have no dot.
 pub record HasLogNames (net : Network) : Type 0 where
   pub spelt : All IsSpelt (names net)
   pub inputs : All (λ name. has_dot name ≡ false) (input_names net)
-  pub not_time : All (λ name. is_same_name name (codes "time") ≡ false) (names net)

@@ -18,7 +18,7 @@ use crate::walking::{begun, walk_word};
 use ps_base::Memory;
 use ps_bench_base::{Opened, Status, Stop, open_app};
 use ps_coverage::Format;
-use ps_edge::Listener;
+use ps_hearing::Listener;
 use ps_model::App;
 use ps_moment::{Met, Walker};
 use ps_outside::{Files, Output, write_all};

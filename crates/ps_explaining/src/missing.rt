@@ -2,7 +2,7 @@
 
 use ps_base::{Bytes, Memory};
 use ps_bench_base::pieces::{add_short, add_shown};
-use ps_edge::{Listener, hear_bytes};
+use ps_hearing::{Listener, hear_bytes};
 use ps_moment::Met;
 use ps_statuses::NO_MEMORY;
 use std::alloc::Global;

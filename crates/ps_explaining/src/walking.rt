@@ -15,7 +15,7 @@ ghost use Rattle.ps_traced.specs.Playing.{LacksCase, trace_held};
 
 use ps_base::Memory;
 use ps_bench_base::{Input, InputStop, Opened, Stop, word_of};
-use ps_edge::Listener;
+use ps_hearing::Listener;
 use ps_model::App;
 use ps_moment::{Met, Walker, walk_up_to};
 use ps_outside::{Files, Output};

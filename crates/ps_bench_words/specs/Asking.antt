@@ -26,6 +26,7 @@ pub data Asked : Type 0 where
   Expand : (app cases : List ℕ) → Asked
   Watch : (app trace : List ℕ) (names : List (List ℕ)) (faults : Option (List ℕ)) (layout : Layout) → Asked
   Trace : (app csv : List ℕ) → Asked
+  Why : (app trace : List ℕ) (output : Output) (time : ℕ) (name : List ℕ) → Asked
   Cover : (app : List ℕ) (traces : List (List ℕ)) (output : Output) (least : Option ℕ) (ideas : Bool) → Asked
   Never : (app rules : List ℕ) (states : ℕ) → Asked
   Page : Asked
@@ -125,6 +126,12 @@ watch_asks rows = asks_by (layout_of (first_of (codes "format") rows))
 abbrev pub trace_asks : List Row → Asked
 trace_asks rows = Trace (value_of (codes "APP") rows) (value_of (codes "CSV") rows)
 
+-- `why`
+abbrev pub why_asks : List Row → Asked
+why_asks rows = asks_by (output_of (first_of (codes "format") rows)) (λ output.
+    asks_by (number_of (value_of (codes "TIME") rows)) (λ time.
+    Why (value_of (codes "APP") rows) (value_of (codes "TRACE") rows) output time (value_of (codes "NAME") rows)))
+
 -- `cover`
 abbrev pub cover_asks : List Row → Asked
 cover_asks rows = asks_by (output_of (first_of (codes "format") rows)) (λ output.
@@ -153,6 +160,7 @@ command_asks name rows =
     else if bytes_eq name (codes "expand") then expand_asks rows
     else if bytes_eq name (codes "watch") then watch_asks rows
     else if bytes_eq name (codes "trace") then trace_asks rows
+    else if bytes_eq name (codes "why") then why_asks rows
     else if bytes_eq name (codes "cover") then cover_asks rows
     else if bytes_eq name (codes "never") then never_asks rows
     else if bytes_eq name (codes "help") then help_asks (first_of (codes "COMMAND") rows)

@@ -53,6 +53,11 @@ watch = command (codes "watch") (app ∷ required (word (codes "TRACE")) ∷ wor
 abbrev pub trace : Shape
 trace = command (codes "trace") (app ∷ required (word (codes "CSV")) ∷ [])
 
+-- `why APP TRACE TIME NAME [--format FORMAT]`
+abbrev pub why : Shape
+why = command (codes "why") (app ∷ required (word (codes "TRACE")) ∷ required (word (codes "TIME"))
+    ∷ required (word (codes "NAME")) ∷ option (codes "format") ∷ [])
+
 -- `cover APP TRACE.. [--format FORMAT] [--least PERCENT] [--ideas]`
 abbrev pub cover : Shape
 cover = command (codes "cover") (app ∷ required (words (codes "TRACE")) ∷ option (codes "format")
@@ -68,7 +73,7 @@ help = command (codes "help") (word (codes "COMMAND") ∷ [])
 
 -- the commands of the program
 unfoldable pub commands : List Shape
-commands = test ∷ expand ∷ watch ∷ trace ∷ cover ∷ never ∷ help ∷ []
+commands = test ∷ expand ∷ watch ∷ trace ∷ why ∷ cover ∷ never ∷ help ∷ []
 
 -- a command without subcommands
 abbrev pub leaf : Shape → App

@@ -17,7 +17,7 @@ use crate::command::{command_of, program};
 use crate::forms::{FORMS, Form};
 use crate::pages;
 use crate::reading::{
-    Unread, cover_in, expand_in, given_in, never_in, test_in, trace_in, watch_in,
+    Unread, cover_in, expand_in, given_in, never_in, test_in, trace_in, watch_in, why_in,
 };
 use clap::error::ErrorKind;
 use clap::{ArgMatches, Command, Error};
@@ -76,6 +76,15 @@ pub enum Asked<'a> {
     Trace {
         app: &'a str,
         csv: &'a str,
+    },
+    /// `why APP TRACE TIME NAME [--format FORMAT]`
+    Why {
+        app: &'a str,
+        trace: &'a str,
+        /// In ms.
+        time: u32,
+        name: &'a str,
+        output: Output,
     },
     /// `cover APP TRACE.. [--format FORMAT] [--least PERCENT] [--ideas]`
     Cover {
@@ -180,6 +189,7 @@ fn command_in<'a>(alloc: Global, name: &str, values: &ArgMatches<'a>) -> Result<
         "expand" => Ok(expand_in(values)),
         "watch" => watch_in(alloc, values),
         "trace" => Ok(trace_in(values)),
+        "why" => why_in(values),
         "cover" => cover_in(alloc, values),
         "never" => never_in(values),
         "help" => help_in(alloc, given_in(values, "COMMAND")),

@@ -92,6 +92,20 @@ const TRACE: Argument = required!(
     "The trace, FILE.cases for all cases of a file, or FILE.cases:LINE for the case that has this line"
 );
 
+// A time in a trace.
+const TIME: Argument = required!(
+    "TIME",
+    Given::Word,
+    "The time in ms: what is explained is the last scan at or before it"
+);
+
+// What is explained.
+const ASKED: Argument = required!(
+    "NAME",
+    Given::Word,
+    "What is explained: an input, an output, a local, INSTANCE for its state and outputs, or INSTANCE.PIN"
+);
+
 // Traces, or what means them.
 const TRACES: Argument = required!(
     "TRACE",
@@ -167,7 +181,7 @@ const STATES: Argument = argument!(
 const TOPIC: Argument = argument!("COMMAND", Given::Word, "The command whose page is written");
 
 /// The forms of the commands, in the order of the program's page.
-pub(crate) static FORMS: [Form; 7] = [
+pub(crate) static FORMS: [Form; 8] = [
     Form {
         name: "test",
         call: "plcsafe-bench test",
@@ -195,6 +209,13 @@ pub(crate) static FORMS: [Form; 7] = [
         about: "Writes the trace of a log in CSV, whose columns are named as the inputs",
         example: "Example: plcsafe-bench trace press.st machine.csv > machine.trace",
         arguments: &[APP, CSV],
+    },
+    Form {
+        name: "why",
+        call: "plcsafe-bench why",
+        about: "Tells why something has its value in a scan, down to inputs, states and the scan before",
+        example: "Example: plcsafe-bench why press.st press.trace 400 S_Ram",
+        arguments: &[APP, TRACE, TIME, ASKED, OUTPUT],
     },
     Form {
         name: "cover",

@@ -9,7 +9,7 @@ pub(crate) const VERSION: &str = "0.9.0";
 /// What the program does.
 pub(crate) const PROGRAM: &str =
     "Tests applications of PLCopen-Safety blocks: runs the cases of case files, judges what they expect, shows runs,\n\
-    tells what traces cover, and searches for what must never be";
+    tells why a value is so and what traces cover, and searches for what must never be";
 
 /// Its example.
 pub(crate) const PROGRAM_EXAMPLE: &str = "Example: plcsafe-bench test press.st press.cases\n\
@@ -27,6 +27,9 @@ pub(crate) const NO_LAYOUT: &str = "there is no such format: FORMAT is text, csv
 /// A way to tell something that there is not.
 pub(crate) const NO_OUTPUT: &str = "there is no such format: FORMAT is text or json";
 
+/// A time that is none.
+pub(crate) const NO_TIME: &str = "TIME is a number of ms from 0 to 4294967295";
+
 /// A number of states that is none.
 pub(crate) const NO_STATES: &str = "N is a number from 1 to 4294967295";
 
@@ -35,4 +38,4 @@ pub(crate) const NO_PERCENT: &str = "PERCENT is a number from 0 to 100";
 
 /// A command that there is not.
 pub(crate) const NO_COMMAND: &str =
-    "there is no such command: COMMAND is test, expand, watch, trace, cover, never or help";
+    "there is no such command: COMMAND is test, expand, watch, trace, why, cover, never or help";

@@ -108,6 +108,16 @@ fn output_said(name: Option<&str>) -> Result<Output, Unread>
     }
 }
 
+// A time in ms.
+fn time_said(word: &str) -> Result<u32, Unread>
+    ensures { IsRead result (number_of word.now) }
+{
+    match number(word.as_bytes()) {
+        Some(time) => Ok(time),
+        None => Err(Unread::Wrong(pages::NO_TIME)),
+    }
+}
+
 // A number of states that is 1 at least.
 fn some_said(word: &str) -> Result<u32, Unread>
     ensures { IsRead result (asking.some_said (number_of word.now)) }
@@ -198,6 +208,21 @@ pub(crate) fn trace_in<'a>(values: &ArgMatches<'a>) -> Asked<'a>
         app: value_in(values, "APP"),
         csv: value_in(values, "CSV"),
     }
+}
+
+/// What `why` asks with what was given to it.
+pub(crate) fn why_in<'a>(values: &ArgMatches<'a>) -> Result<Asked<'a>, Unread>
+    ensures { IsAsked result (asking.why_asks (rows_of (found_of values.now))) }
+{
+    let output = output_said(given_in(values, "format"))?;
+    let time = time_said(value_in(values, "TIME"))?;
+    Ok(Asked::Why {
+        app: value_in(values, "APP"),
+        trace: value_in(values, "TRACE"),
+        time,
+        name: value_in(values, "NAME"),
+        output,
+    })
 }
 
 /// What `cover` asks with what was given to it.

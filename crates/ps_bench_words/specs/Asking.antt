@@ -29,6 +29,7 @@ pub data Asked : Type 0 where
   Why : (app trace : List ℕ) (output : Output) (time : ℕ) (name : List ℕ) → Asked
   Cover : (app : List ℕ) (traces : List (List ℕ)) (output : Output) (least : Option ℕ) (ideas : Bool) → Asked
   Never : (app rules : List ℕ) (states : ℕ) → Asked
+  Same : (app other : List ℕ) (rules : Option (List ℕ)) (states : ℕ) → Asked
   Page : Asked
   NotTaken : Asked
 
@@ -144,6 +145,11 @@ abbrev pub never_asks : List Row → Asked
 never_asks rows = asks_by (states_of (first_of (codes "states") rows))
     (Never (value_of (codes "APP") rows) (value_of (codes "RULES") rows))
 
+-- `same`
+abbrev pub same_asks : List Row → Asked
+same_asks rows = asks_by (states_of (first_of (codes "states") rows))
+    (Same (value_of (codes "APP") rows) (value_of (codes "OTHER") rows) (first_of (codes "RULES") rows))
+
 -- the program has a command of this name
 abbrev pub is_command : List ℕ → Bool
 is_command name = list_any (λ (s : Shape). bytes_eq s.name name) commands
@@ -163,6 +169,7 @@ command_asks name rows =
     else if bytes_eq name (codes "why") then why_asks rows
     else if bytes_eq name (codes "cover") then cover_asks rows
     else if bytes_eq name (codes "never") then never_asks rows
+    else if bytes_eq name (codes "same") then same_asks rows
     else if bytes_eq name (codes "help") then help_asks (first_of (codes "COMMAND") rows)
     else NotTaken
 

@@ -67,13 +67,17 @@ cover = command (codes "cover") (app ∷ required (words (codes "TRACE")) ∷ op
 abbrev pub never : Shape
 never = command (codes "never") (app ∷ required (word (codes "RULES")) ∷ option (codes "states") ∷ [])
 
+-- `same APP OTHER [RULES] [--states N]`
+abbrev pub same : Shape
+same = command (codes "same") (app ∷ required (word (codes "OTHER")) ∷ word (codes "RULES") ∷ option (codes "states") ∷ [])
+
 -- `help [COMMAND]`
 abbrev pub help : Shape
 help = command (codes "help") (word (codes "COMMAND") ∷ [])
 
 -- the commands of the program
 unfoldable pub commands : List Shape
-commands = test ∷ expand ∷ watch ∷ trace ∷ why ∷ cover ∷ never ∷ help ∷ []
+commands = test ∷ expand ∷ watch ∷ trace ∷ why ∷ cover ∷ never ∷ same ∷ help ∷ []
 
 -- a command without subcommands
 abbrev pub leaf : Shape → App

@@ -5,11 +5,11 @@ use Rattle.clap.specs.Simple.{App, new_app, with_rule, with_subcommand}
 use Rattle.clap.specs.Walk.{Rule}
 use Rattle.ps_bench_words.specs.Asking as asking
 use Rattle.ps_bench_words.specs.Asking.Asked.{Test as TestOf, Expand as ExpandOf, Watch as WatchOf, Trace as TraceOf}
-use Rattle.ps_bench_words.specs.Asking.Asked.{Why as WhyOf, Cover as CoverOf, Never as NeverOf}
+use Rattle.ps_bench_words.specs.Asking.Asked.{Why as WhyOf, Cover as CoverOf, Never as NeverOf, Same as SameOf}
 use Rattle.ps_bench_words.specs.Asking.Asked.{Page as PageOf, NotTaken as NotTakenOf}
 use Rattle.ps_bench_words.specs.Commands.{flag, option, word, words}
 use Rattle.ps_bench_words.specs.declared.asking.Asked.{Asked}
-use Rattle.ps_bench_words.specs.declared.asking.Asked.TheVariants.{Test, Expand, Watch, Trace, Why, Cover, Never}
+use Rattle.ps_bench_words.specs.declared.asking.Asked.TheVariants.{Test, Expand, Watch, Trace, Why, Cover, Never, Same}
 use Rattle.ps_bench_words.specs.declared.asking.Asked.TheVariants.{Page, NotTaken}
 use Rattle.ps_bench_words.specs.declared.forms.Argument.{Argument}
 use Rattle.ps_bench_words.specs.declared.forms.Form.{Form}
@@ -32,6 +32,8 @@ asked_seen (Trace app csv) = TraceOf app.now csv.now
 asked_seen (Why app trace time name output) = WhyOf app.now trace.now output time name.now
 asked_seen (Cover app traces output least ideas) = CoverOf app.now (seen traces.items) output least ideas
 asked_seen (Never app rules states) = NeverOf app.now rules.now states
+asked_seen (Same app other rules states) =
+    SameOf app.now other.now (option_map (λ name. name.now) rules) states
 asked_seen (Page text) = PageOf
 asked_seen (NotTaken text) = NotTakenOf
 

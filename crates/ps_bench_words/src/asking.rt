@@ -17,7 +17,7 @@ use crate::command::{command_of, program};
 use crate::forms::{FORMS, Form};
 use crate::pages;
 use crate::reading::{
-    Unread, cover_in, expand_in, given_in, never_in, test_in, trace_in, watch_in, why_in,
+    Unread, cover_in, expand_in, given_in, never_in, same_in, test_in, trace_in, watch_in, why_in,
 };
 use clap::error::ErrorKind;
 use clap::{ArgMatches, Command, Error};
@@ -99,6 +99,14 @@ pub enum Asked<'a> {
     Never {
         app: &'a str,
         rules: &'a str,
+        /// From 1 on; a million where it is not said.
+        states: u32,
+    },
+    /// `same APP OTHER [RULES] [--states N]`
+    Same {
+        app: &'a str,
+        other: &'a str,
+        rules: Option<&'a str>,
         /// From 1 on; a million where it is not said.
         states: u32,
     },
@@ -192,6 +200,7 @@ fn command_in<'a>(alloc: Global, name: &str, values: &ArgMatches<'a>) -> Result<
         "why" => why_in(values),
         "cover" => cover_in(alloc, values),
         "never" => never_in(values),
+        "same" => same_in(values),
         "help" => help_in(alloc, given_in(values, "COMMAND")),
         _ => Err(Unread::Wrong(pages::NO_COMMAND)),
     }

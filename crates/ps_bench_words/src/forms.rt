@@ -170,6 +170,16 @@ const RULES: Argument = required!(
     "How scans come, and what must never be"
 );
 
+// The other application.
+const OTHER: Argument = required!("OTHER", Given::Word, "The other application's text");
+
+// How scans come.
+const SETTINGS: Argument = argument!(
+    "RULES",
+    Given::Word,
+    "How scans come: a rules file with settings alone. Left out, 10 ms apart, and all inputs are free"
+);
+
 // How many states may be held.
 const STATES: Argument = argument!(
     "states",
@@ -181,7 +191,7 @@ const STATES: Argument = argument!(
 const TOPIC: Argument = argument!("COMMAND", Given::Word, "The command whose page is written");
 
 /// The forms of the commands, in the order of the program's page.
-pub(crate) static FORMS: [Form; 8] = [
+pub(crate) static FORMS: [Form; 9] = [
     Form {
         name: "test",
         call: "plcsafe-bench test",
@@ -230,6 +240,13 @@ pub(crate) static FORMS: [Form; 8] = [
         about: "Searches all scans that can come for one that a rule forbids, and shows a shortest",
         example: "Example: plcsafe-bench never press.st press.rules",
         arguments: &[APP, RULES, STATES],
+    },
+    Form {
+        name: "same",
+        call: "plcsafe-bench same",
+        about: "Searches all scans that can come for one in which two applications differ in an output",
+        example: "Example: plcsafe-bench same press.st mended.st",
+        arguments: &[APP, OTHER, SETTINGS, STATES],
     },
     Form {
         name: "help",

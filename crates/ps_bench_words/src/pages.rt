@@ -9,7 +9,8 @@ pub(crate) const VERSION: &str = "0.9.0";
 /// What the program does.
 pub(crate) const PROGRAM: &str =
     "Tests applications of PLCopen-Safety blocks: runs the cases of case files, judges what they expect, shows runs,\n\
-    tells why a value is so and what traces cover, and searches for what must never be";
+    tells why a value is so and what traces cover, and searches for what must never be and for where\n\
+    two applications differ";
 
 /// Its example.
 pub(crate) const PROGRAM_EXAMPLE: &str = "Example: plcsafe-bench test press.st press.cases\n\
@@ -38,4 +39,4 @@ pub(crate) const NO_PERCENT: &str = "PERCENT is a number from 0 to 100";
 
 /// A command that there is not.
 pub(crate) const NO_COMMAND: &str =
-    "there is no such command: COMMAND is test, expand, watch, trace, why, cover, never or help";
+    "there is no such command: COMMAND is test, expand, watch, trace, why, cover, never, same or help";

@@ -251,3 +251,16 @@ pub(crate) fn never_in<'a>(values: &ArgMatches<'a>) -> Result<Asked<'a>, Unread>
         states,
     })
 }
+
+/// What `same` asks with what was given to it.
+pub(crate) fn same_in<'a>(values: &ArgMatches<'a>) -> Result<Asked<'a>, Unread>
+    ensures { IsAsked result (asking.same_asks (rows_of (found_of values.now))) }
+{
+    let states = states_said(given_in(values, "states"))?;
+    Ok(Asked::Same {
+        app: value_in(values, "APP"),
+        other: value_in(values, "OTHER"),
+        rules: given_in(values, "RULES"),
+        states,
+    })
+}

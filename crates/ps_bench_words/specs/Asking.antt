@@ -26,7 +26,7 @@ pub data Asked : Type 0 where
   Expand : (app cases : List ℕ) → Asked
   Watch : (app trace : List ℕ) (names : List (List ℕ)) (faults : Option (List ℕ)) (layout : Layout) → Asked
   Trace : (app csv : List ℕ) → Asked
-  Why : (app trace : List ℕ) (output : Output) (time : ℕ) (name : List ℕ) → Asked
+  Why : (app trace : List ℕ) (time : ℕ) (name : List ℕ) (output : Output) → Asked
   Cover : (app : List ℕ) (traces : List (List ℕ)) (output : Output) (least : Option ℕ) (ideas : Bool) → Asked
   Never : (app rules : List ℕ) (states : ℕ) → Asked
   Same : (app other : List ℕ) (rules : Option (List ℕ)) (states : ℕ) → Asked
@@ -131,7 +131,7 @@ trace_asks rows = Trace (value_of (codes "APP") rows) (value_of (codes "CSV") ro
 abbrev pub why_asks : List Row → Asked
 why_asks rows = asks_by (output_of (first_of (codes "format") rows)) (λ output.
     asks_by (number_of (value_of (codes "TIME") rows)) (λ time.
-    Why (value_of (codes "APP") rows) (value_of (codes "TRACE") rows) output time (value_of (codes "NAME") rows)))
+    Why (value_of (codes "APP") rows) (value_of (codes "TRACE") rows) time (value_of (codes "NAME") rows) output))
 
 -- `cover`
 abbrev pub cover_asks : List Row → Asked

@@ -4,3 +4,5 @@ pub mod Adding
 pub mod Given
 -- a list that is gone through from its beginning
 pub mod Growing
+-- the name and the rows of the subcommand that a parse met
+pub mod Named

@@ -29,7 +29,7 @@ asked_seen (Expand app cases) = ExpandOf app.now cases.now
 asked_seen (Watch app trace names faults layout) =
     WatchOf app.now trace.now (seen names.items) (option_map (λ name. name.now) faults) layout
 asked_seen (Trace app csv) = TraceOf app.now csv.now
-asked_seen (Why app trace time name output) = WhyOf app.now trace.now output time name.now
+asked_seen (Why app trace time name output) = WhyOf app.now trace.now time name.now output
 asked_seen (Cover app traces output least ideas) = CoverOf app.now (seen traces.items) output least ideas
 asked_seen (Never app rules states) = NeverOf app.now rules.now states
 asked_seen (Same app other rules states) =

@@ -1,11 +1,13 @@
 -- What a call does: one that did what its words ask, and one that stopped before.
 use Rattle.std.specs.Prelude.{◌≡◌, ◌⊎◌, ℕ, Bool, IsTrue, List, [], ◌∷◌, ◌++◌, map, Option, Some, None}
 use Rattle.ps_bench_words.specs.Asking.{Asked}
-use Rattle.ps_bench_words.specs.Asking.Asked.{Test, Expand, Watch, Trace, Cover, Never, Page, NotTaken}
+use Rattle.ps_bench_words.specs.Asking.Asked.{Test, Expand, Watch, Trace, Why, Cover, Never, Page, NotTaken}
 use Rattle.ps_accounting.specs.Asking.{AnswersCover, StopsCover, Wanted as Covered}
 use Rattle.ps_cases.specs.Expanded.{expanded}
 use Rattle.ps_cases.specs.declared.case.CaseFile.{CaseFile}
 use Rattle.ps_coverage.specs.declared.format.Format.{Format}
+use Rattle.ps_explaining.specs.Asking as explaining
+use Rattle.ps_explaining.specs.Asking.{AnswersWhy, StopsWhy}
 use Rattle.ps_forbidding.specs.Asking.{AnswersNever, StopsNever}
 use Rattle.ps_model.specs.Network.{Network}
 use Rattle.ps_model.specs.declared.channel.ImageSizes.{ImageSizes}
@@ -30,6 +32,10 @@ IsAnswered status = (status ≡ Done) ⊎ (status ≡ Failed) ⊎ (status ≡ Us
 abbrev pub wanted_of : (trace : List ℕ) (names : List (List ℕ)) (faults : Option (List ℕ)) → Wanted
 wanted_of trace names faults = record { trace = trace; words = names; file = faults }
 
+-- what `why` is asked
+abbrev pub explained_of : (trace : List ℕ) (time : ℕ) (name : List ℕ) (output : Format) → explaining.Wanted
+explained_of trace time name output = record { trace = trace; time = time; name = name; format = output }
+
 -- what `cover` is asked to count
 abbrev pub covered_of : (traces : List (List ℕ)) (output : Format) (least : Option ℕ) (ideas : Bool) → Covered
 covered_of traces output least ideas = record { traces = traces; format = output; least = least; ideas = ideas }
@@ -51,6 +57,8 @@ Answers (Watch app trace names faults layout) reading held status tells before a
     AnswersWatch app layout (wanted_of trace names faults) reading held tells before after status
 Answers (Trace app csv) reading held status tells before after =
     (status ≡ Done) × AnswersTrace app csv reading held tells before after
+Answers (Why app trace time name output) reading held status tells before after =
+    AnswersWhy app (explained_of trace time name output) reading held tells before after status
 Answers (Cover app traces output least ideas) reading held status tells before after =
     AnswersCover app (covered_of traces output least ideas) reading held tells before after status
 Answers (Never app rules states) reading held status tells before after =
@@ -69,6 +77,8 @@ Stops (Watch app trace names faults layout) reading held stop tells before after
     StopsWatch app layout (wanted_of trace names faults) reading held tells before after stop
 Stops (Trace app csv) reading held stop tells before after =
     StopsTrace app csv reading held tells before after stop
+Stops (Why app trace time name output) reading held stop tells before after =
+    StopsWhy app (explained_of trace time name output) reading held tells before after stop
 Stops (Cover app traces output least ideas) reading held stop tells before after =
     StopsCover app (covered_of traces output least ideas) reading held tells before after stop
 Stops (Never app rules states) reading held stop tells before after =
@@ -96,6 +106,7 @@ names_of (Test app cases format) = app ∷ cases
 names_of (Expand app cases) = app ∷ cases ∷ []
 names_of (Watch app trace names faults layout) = app ∷ file_meant trace ∷ file_of faults
 names_of (Trace app csv) = app ∷ csv ∷ []
+names_of (Why app trace time name output) = app ∷ file_meant trace ∷ []
 names_of (Cover app traces output least ideas) = app ∷ map file_meant traces
 names_of (Never app rules states) = app ∷ rules ∷ []
 names_of Page = []

@@ -15,6 +15,7 @@ use ps_accounting::{CoverAsked, cover};
 use ps_base::Memory;
 use ps_bench_base::{Status, Stop, exit_code};
 use ps_bench_words::{Asked, asked_of, texts_of};
+use ps_explaining::{WhyAsked, why};
 use ps_forbidding::{NeverAsked, never};
 use ps_hearing::Listener;
 use ps_outside::{Files, Output, write_all};
@@ -112,6 +113,22 @@ fn do_asked<F: Files, O: Output, L: Listener>(
             };
             do_trace(alloc, files, out, &asked)
         }
+        Asked::Why {
+            app,
+            trace,
+            time,
+            name,
+            output,
+        } => {
+            let asked = WhyAsked {
+                app: *app,
+                trace: *trace,
+                time: *time,
+                name: *name,
+                format: *output,
+            };
+            why(alloc, files, out, listener, &asked)
+        }
         Asked::Cover {
             app,
             traces,
@@ -170,6 +187,10 @@ fn names_in<'a>(asked: &'a Asked<'a>) -> Names<'a> {
         },
         Asked::Trace { app, csv } => Names {
             log: *csv,
+            ..Names::of_app(*app)
+        },
+        Asked::Why { app, trace, .. } => Names {
+            trace: *trace,
             ..Names::of_app(*app)
         },
         Asked::Cover { app, traces, .. } => Names {

@@ -34,9 +34,13 @@ abbrev pub AreOfAnyTimes : Source → (rules : List ℕ) → Type 0
 AreOfAnyTimes from rules =
     IsTrue from.tells → (text : List ℕ) × (from.held rules ≡ Some text) × IsOfAnyTimes from.net text
 
+-- whether all holds that is told
+abbrev pub status_by : Bool → Status
+status_by holds = if holds then Done else Failed
+
 -- whether every rule holds
 abbrev pub status_of : Told → Status
-status_of told = if told.do_all_hold then Done else Failed
+status_of told = status_by told.do_all_hold
 
 -- What `never` answers of an application: what is told of the rules was written, and whether all hold; or the rules ask
 -- for scans at any times, and nothing was written.
@@ -45,14 +49,18 @@ Answered from rules states tells before after status =
     ((told : Told) × AreTold from rules states told × (status ≡ status_of told) × Took told.text tells before after)
     ⊎ ((status ≡ Usage) × AreOfAnyTimes from rules × TookNothing tells before after)
 
--- how it stops that is refused its rules: the line of the refusal was written, or a beginning of it, or, for want of
--- memory, nothing
+-- how a call stops for this refusal of its rules: the line of it was written, or a beginning, or, for want of memory,
+-- nothing
+abbrev pub StopsFor : RulesRefusal → (tells : Bool) → (before after : List ℕ) → Stop → Type 0
+StopsFor refusal tells before after stop =
+    ((stop ≡ Input (RulesRefused refusal)) × Took (rules_refused_line refusal) tells before after)
+    ⊎ ((stop ≡ Unwritten) × TookSome (rules_refused_line refusal) tells before after)
+    ⊎ ((stop ≡ NoMemory) × TookNothing tells before after)
+
+-- how it stops that is refused its rules
 abbrev pub StopsRefusing : Source → (rules : List ℕ) → (tells : Bool) → (before after : List ℕ) → Stop → Type 0
 StopsRefusing from rules tells before after stop =
-    ((refusal : RulesRefusal) × IsRefusedRules from rules refusal
-    × (((stop ≡ Input (RulesRefused refusal)) × Took (rules_refused_line refusal) tells before after)
-    ⊎ ((stop ≡ Unwritten) × TookSome (rules_refused_line refusal) tells before after)))
-    ⊎ ((stop ≡ NoMemory) × TookNothing tells before after)
+    (refusal : RulesRefusal) × IsRefusedRules from rules refusal × StopsFor refusal tells before after stop
 
 -- how it stops that is told of its rules: a beginning of that was written
 abbrev pub StopsTelling : Source → (rules : List ℕ) → (states : ℕ) → (tells : Bool) → (before after : List ℕ) → Stop → Type 0
@@ -60,12 +68,13 @@ StopsTelling from rules states tells before after stop =
     (told : Told) × AreTold from rules states told × (stop ≡ Unwritten) × TookSome told.text tells before after
 
 -- How `never` stops with its application: it is refused its rules, or stops in what is told of them, or the rules cannot
--- be read, and nothing was written. Memory is wanting only where nothing was written.
+-- be read or memory is wanting, and nothing was written.
 abbrev pub StopsIn : Source → (rules : List ℕ) → (states : ℕ) → (tells : Bool) → (before after : List ℕ) → Stop → Type 0
 StopsIn from rules states tells before after stop =
     StopsRefusing from rules tells before after stop
     ⊎ StopsTelling from rules states tells before after stop
     ⊎ ((stop ≡ Input (Unread Rules)) × TookNothing tells before after)
+    ⊎ ((stop ≡ NoMemory) × TookNothing tells before after)
 
 -- what `never` answers of an application, or how it stops
 abbrev pub AnswersIn : Source → (rules : List ℕ) → (states : ℕ) → (tells : Bool) → (before after : List ℕ) →

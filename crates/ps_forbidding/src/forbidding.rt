@@ -2,16 +2,15 @@
 
 ghost use Rattle.std.specs.Prelude.{◌≡◌, ◌<◌, ◌≤◌, ◌∷◌, [], ℕ, List, Any, IsTrue, IfOk, IfErr, IsErrOf};
 ghost use Rattle.ps_bench_base.specs.Ending.{IsUnread};
-ghost use Rattle.ps_bench_base.specs.Opening.{Source, source};
+ghost use Rattle.ps_bench_base.specs.Opening.{source};
 ghost use Rattle.ps_bench_base.specs.Stopping.{Took, TookSome};
 ghost use Rattle.ps_outside.specs.Outside.{Rose};
-ghost use Rattle.ps_forbidding.specs.Asking.{AnswersIn, AnswersNever, StopsNever};
-ghost use Rattle.ps_forbidding.specs.Asking.{IsRefusedRules, StopsRefusing, at_least_one, status_of};
+ghost use Rattle.ps_forbidding.specs.Asking.{AnswersIn, AnswersNever, StopsFor, StopsNever, at_least_one, status_by};
 
 use ps_base::Memory;
 use ps_bench_base::{Input, InputStop, Opened, Status, Stop, open_app, rules_refused_line};
 use ps_hearing::Listener;
-use ps_never::{NeverFail, Told, answer};
+use ps_never::{NeverFail, answer};
 use ps_outside::{Files, Output, write_all};
 use ps_rules::RulesRefusal;
 use ps_telling::tell_any_times;
@@ -28,18 +27,19 @@ pub struct Asked<'a> {
     pub states: u32,
 }
 
-// A number of states, and 1 for 0.
-fn at_least_one(states: u32) -> u32
+/// A number of states that may be held: 1 for 0.
+pub fn at_least_one(states: u32) -> u32
     ensures number { result ≡ at_least_one states }
     ensures some { 0 < result }
 {
     if states == 0 { 1 } else { states }
 }
 
-// Ends a call that is refused its rules: the line of the refusal is written.
-fn refuse_rules<O: Output>(alloc: Global, out: &mut O, refusal: RulesRefusal) -> Stop
-    ensures stops { (from : Source) (rules : List ℕ) → IsRefusedRules from rules refusal →
-        StopsRefusing from rules (O.tells out.old) (O.taken out.old) (O.taken out.new) result }
+/// Ends a call that is refused its rules: the line of the refusal is written.
+///
+/// `Unwritten` comes only where the output's count rose.
+pub fn refuse_rules<O: Output>(alloc: Global, out: &mut O, refusal: RulesRefusal) -> Stop
+    ensures stops { StopsFor refusal (O.tells out.old) (O.taken out.old) (O.taken out.new) result }
     ensures read { ¬ IsUnread result }
     ensures unwritten { result ≡ Stop.Unwritten → Rose (O.faults out.old) (O.faults out.new) }
     ensures writes { O.faults out.old ≤ O.faults out.new }
@@ -54,29 +54,27 @@ fn refuse_rules<O: Output>(alloc: Global, out: &mut O, refusal: RulesRefusal) ->
     }
 }
 
-// Whether all rules hold that are told.
-fn status_of(told: &Told) -> Status
-    ensures { result ≡ status_of told.now }
+// Whether all holds that is told.
+fn status_by(holds: bool) -> Status
+    ensures { result ≡ status_by holds }
 {
-    if told.do_all_hold {
-        Status::Done
-    } else {
-        Status::Failed
-    }
+    if holds { Status::Done } else { Status::Failed }
 }
 
-// Writes what is told of rules.
-fn write_told<O: Output>(out: &mut O, told: &Told) -> Result<Status, Stop>
-    ensures all { IfOk result (λ status. (status ≡ status_of told.now)
-        × Took told.now.text (O.tells out.old) (O.taken out.old) (O.taken out.new)) }
+/// Writes what is told: the status is Done where all of it holds, and Failed where it does not.
+///
+/// `Unwritten` comes only where the output's count rose.
+pub fn write_told<O: Output>(out: &mut O, text: &[u8], holds: bool) -> Result<Status, Stop>
+    ensures all { IfOk result (λ status. (status ≡ status_by holds)
+        × Took text.now (O.tells out.old) (O.taken out.old) (O.taken out.new)) }
     ensures some { IfErr result (λ stop. (stop ≡ Stop.Unwritten)
-        × TookSome told.now.text (O.tells out.old) (O.taken out.old) (O.taken out.new)) }
+        × TookSome text.now (O.tells out.old) (O.taken out.old) (O.taken out.new)) }
     ensures unwritten { IsErrOf result Stop.Unwritten → Rose (O.faults out.old) (O.faults out.new) }
     ensures writes { O.faults out.old ≤ O.faults out.new }
     ensures telling { O.tells out.new ≡ O.tells out.old }
 {
-    match write_all(out, told.text.as_slice()) {
-        Ok(()) => Ok(status_of(told)),
+    match write_all(out, text) {
+        Ok(()) => Ok(status_by(holds)),
         Err(_) => Err(Stop::Unwritten),
     }
 }
@@ -101,7 +99,7 @@ fn never_app<F: Files, O: Output, L: Listener>(
 {
     let most = at_least_one(asked.states);
     match answer(alloc, files, &opened.app, asked.rules, most) {
-        Ok(told) => write_told(out, &told),
+        Ok(told) => write_told(out, told.text.as_slice(), told.do_all_hold),
         Err(NeverFail::Refused(refusal)) => Err(refuse_rules(alloc, out, refusal)),
         Err(NeverFail::Fault) => Err(Stop::Input(InputStop::Unread(Input::Rules))),
         Err(NeverFail::AnyTimes) => {

@@ -5,4 +5,4 @@
 
 mod forbidding;
 
-pub use forbidding::{Asked as NeverAsked, never};
+pub use forbidding::{Asked as NeverAsked, at_least_one, never, refuse_rules, write_told};

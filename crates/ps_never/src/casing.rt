@@ -13,8 +13,8 @@ use ps_model::App;
 use ps_reach::ScanInputs;
 use ps_rules::Condition;
 
-// An input takes a value.
-fn add_set(text: &mut Bytes, app: &App, i: u16, value: bool) -> Result<(), Memory>
+/// A signal with a value, as ` S_L=1`.
+pub fn add_set(text: &mut Bytes, app: &App, i: u16, value: bool) -> Result<(), Memory>
     ensures { OnOk result (text.new ≡ text.old ++ set_text app.now i value) }
 {
     text.extend_from_slice(b" ")?;
@@ -203,7 +203,7 @@ fn add_lines(
 }
 
 /// A case of this name: these scans, so many ms apart, and what is expected of the last one and of the one before it.
-pub(crate) fn add_case(
+pub fn add_case(
     text: &mut Bytes,
     app: &App,
     name: &[u8],

@@ -9,4 +9,6 @@ mod pieces;
 mod telling;
 
 pub use answering::{NeverFail, Told, answer};
+pub use casing::{add_case, add_set};
+pub use pieces::signal_text;
 pub use telling::{Asking, do_all_hold, told};

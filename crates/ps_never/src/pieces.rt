@@ -94,7 +94,7 @@ fn pin_text(app: &App, instance: u16, pin: u8) -> &'static [u8]
 }
 
 /// The name of an input, output or local; another signal has none.
-pub(crate) fn signal_text(app: &App, signal: u16) -> &[u8]
+pub fn signal_text(app: &App, signal: u16) -> &[u8]
     ensures { result.now ≡ signal_text app.now signal }
 {
     if signal < app.declared_count() {

@@ -1,10 +1,11 @@
 -- What a call does: one that did what its words ask, and one that stopped before.
 use Rattle.std.specs.Prelude.{◌≡◌, ◌⊎◌, ℕ, Bool, IsTrue, List, [], ◌∷◌, ◌++◌, map, Option, Some, None}
 use Rattle.ps_bench_words.specs.Asking.{Asked}
-use Rattle.ps_bench_words.specs.Asking.Asked.{Test, Expand, Watch, Trace, Why, Cover, Never, Page, NotTaken}
+use Rattle.ps_bench_words.specs.Asking.Asked.{Test, Expand, Watch, Trace, Why, Cover, Never, Same, Page, NotTaken}
 use Rattle.ps_accounting.specs.Asking.{AnswersCover, StopsCover, Wanted as Covered}
 use Rattle.ps_cases.specs.Expanded.{expanded}
 use Rattle.ps_cases.specs.declared.case.CaseFile.{CaseFile}
+use Rattle.ps_comparing.specs.Asking.{AnswersSame, StopsSame}
 use Rattle.ps_coverage.specs.declared.format.Format.{Format}
 use Rattle.ps_explaining.specs.Asking as explaining
 use Rattle.ps_explaining.specs.Asking.{AnswersWhy, StopsWhy}
@@ -63,6 +64,8 @@ Answers (Cover app traces output least ideas) reading held status tells before a
     AnswersCover app (covered_of traces output least ideas) reading held tells before after status
 Answers (Never app rules states) reading held status tells before after =
     AnswersNever app rules states reading held tells before after status
+Answers (Same app other rules states) reading held status tells before after =
+    AnswersSame app other rules states reading held tells before after status
 Answers Page reading held status tells before after = status ≡ Done
 Answers NotTaken reading held status tells before after = (status ≡ Usage) × (IsTrue tells → after ≡ before)
 
@@ -83,6 +86,8 @@ Stops (Cover app traces output least ideas) reading held stop tells before after
     StopsCover app (covered_of traces output least ideas) reading held tells before after stop
 Stops (Never app rules states) reading held stop tells before after =
     StopsNever app rules states reading held tells before after stop
+Stops (Same app other rules states) reading held stop tells before after =
+    StopsSame app other rules states reading held tells before after stop
 Stops Page reading held stop tells before after = stop ≡ Unwritten
 Stops NotTaken reading held stop tells before after = ⊥
 
@@ -109,5 +114,6 @@ names_of (Trace app csv) = app ∷ csv ∷ []
 names_of (Why app trace time name output) = app ∷ file_meant trace ∷ []
 names_of (Cover app traces output least ideas) = app ∷ map file_meant traces
 names_of (Never app rules states) = app ∷ rules ∷ []
+names_of (Same app other rules states) = app ∷ other ∷ file_of rules
 names_of Page = []
 names_of NotTaken = []

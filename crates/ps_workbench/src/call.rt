@@ -15,6 +15,7 @@ use ps_accounting::{CoverAsked, cover};
 use ps_base::Memory;
 use ps_bench_base::{Status, Stop, exit_code};
 use ps_bench_words::{Asked, asked_of, texts_of};
+use ps_comparing::{SameAsked, same};
 use ps_explaining::{WhyAsked, why};
 use ps_forbidding::{NeverAsked, never};
 use ps_hearing::Listener;
@@ -153,6 +154,20 @@ fn do_asked<F: Files, O: Output, L: Listener>(
             };
             never(alloc, files, out, listener, &asked)
         }
+        Asked::Same {
+            app,
+            other,
+            rules,
+            states,
+        } => {
+            let asked = SameAsked {
+                app: *app,
+                other: *other,
+                rules: *rules,
+                states: *states,
+            };
+            same(alloc, files, out, listener, &asked)
+        }
         Asked::Page { text } => {
             write_all(out, text.as_bytes())?;
             Ok(Status::Done)
@@ -199,6 +214,16 @@ fn names_in<'a>(asked: &'a Asked<'a>) -> Names<'a> {
         },
         Asked::Never { app, rules, .. } => Names {
             rules: *rules,
+            ..Names::of_app(*app)
+        },
+        Asked::Same {
+            app,
+            other,
+            rules,
+            ..
+        } => Names {
+            other: *other,
+            rules: rules.unwrap_or(""),
             ..Names::of_app(*app)
         },
         Asked::Page { .. } | Asked::NotTaken { .. } => Names::of_app(""),

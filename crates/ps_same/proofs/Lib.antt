@@ -1,0 +1,8 @@
+-- texts, one behind the other
+pub mod Joining
+-- what inputs follow are inputs and outputs
+pub mod Sharing
+-- what is asked of both
+pub mod Asking
+-- what is found by the text of a rules file
+pub mod Finding

@@ -1,0 +1,4 @@
+-- what is told: what a reader of the promise has to believe
+pub mod Likeness
+pub mod Telling
+pub mod Answering

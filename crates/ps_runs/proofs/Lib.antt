@@ -1,6 +1,6 @@
 mod Coming
 pub mod ToCome
-mod Doing
+pub mod Doing
 mod Cutting
 pub mod Standing
 pub mod SeatFaults

@@ -47,8 +47,8 @@ pub struct Runner<P, T> {
     pub performer: P,
     /// Who takes what comes of them.
     pub taker: T,
-    // the scan that was read last
-    pub(crate) scan: Scan,
+    /// The scan that was read last.
+    pub scan: Scan,
     // its report
     pub(crate) report: Report,
 }
@@ -72,8 +72,8 @@ impl<P: Performer + Drop, T: Taker<P> + Drop> Runner<P, T> {
 }
 
 impl<P: Performer, T: Taker<P>> Runner<P, T> {
-    // Performs the scan that was read, and hands on what comes of it.
-    fn do_scan<S: Sink>(&mut self, app: &App, out: &mut S) -> Result<(), Cut>
+    /// Performs the scan that was read, and hands on what comes of it. It takes no memory.
+    pub fn do_scan<S: Sink>(&mut self, app: &App, out: &mut S) -> Result<(), Cut>
         requires fits { Fits (P.fits app.now) (T.fits app.now) app.now self.old }
         requires due { P.earliest self.old.performer ≤ self.old.scan.now }
         ensures does { DoesItem (P.performs app.now) (T.said app.now) (T.takes app.now)
@@ -109,8 +109,8 @@ impl<P: Performer, T: Taker<P>> Runner<P, T> {
         }
     }
 
-    // Begins anew, and tells of it.
-    fn do_restart<S: Sink>(&mut self, app: &App, out: &mut S) -> Result<(), Cut>
+    /// Begins anew, and tells of it. It takes no memory.
+    pub fn do_restart<S: Sink>(&mut self, app: &App, out: &mut S) -> Result<(), Cut>
         requires fits { Fits (P.fits app.now) (T.fits app.now) app.now self.old }
         ensures does { DoesItem (P.performs app.now) (T.said app.now) (T.takes app.now) restart_item
             self.old.performer self.new.performer self.old.taker self.new.taker

@@ -1,0 +1,2 @@
+-- what is done of the lines of a stream
+pub mod Answering

@@ -4,6 +4,8 @@ use Rattle.std.specs.Prelude.{slice_get, slice_index_or}
 use Rattle.ps_conditions.specs.Conditions.{subject_words}
 use Rattle.ps_cover.specs.Tallying.{called_kind}
 use Rattle.ps_coverage.specs.Lines.{called_name, condition_text, state_text, truth}
+use Rattle.ps_model.specs.Action.{Action, Actual, assigns, calls}
+use Rattle.ps_model.specs.Action.Actual.{free, literal, time, wired}
 use Rattle.ps_model.specs.Network.{Network, input_count, instance_name, kind_at}
 use Rattle.ps_ways.specs.declared.way.Ask.{Ask}
 use Rattle.ps_ways.specs.declared.way.Ask.TheVariants.{Edge, Rise}
@@ -27,8 +29,21 @@ signal_is net s b = signal_text net s ++ codes " is " ++ truth b ++ input_text n
 abbrev pub signal_was : Moment → (s : ℕ) → Bool → List ℕ
 signal_was m s b = signal_text m.net s ++ codes " was " ++ truth b ++ before_text m.before
 
+-- what stands at a pin of a call, where that ends a branch
+abbrev pub ending_of : Option Actual → List ℕ
+ending_of (Some free) = codes ", left open"
+ending_of (Some (literal b)) = codes ", a literal"
+ending_of (Some (time ms)) = []
+ending_of (Some (wired e)) = []
+ending_of None = []
+
+abbrev pub pin_ending : Option Action → (j : ℕ) → List ℕ
+pin_ending (Some (calls i args)) j = ending_of (slice_get args j)
+pin_ending (Some (assigns s e)) j = []
+pin_ending None j = []
+
 abbrev pub pin_is : Network → (k j : ℕ) → Bool → List ℕ
-pin_is net k j b = call_pin_text net k j ++ codes " is " ++ truth b
+pin_is net k j b = call_pin_text net k j ++ codes " is " ++ truth b ++ pin_ending (slice_get net.steps k) j
 
 -- what a guard asks of the instance that a step calls, as `Guard: Reset does not rise`
 abbrev pub ask_is : Network → (k : ℕ) → Ask → Bool → List ℕ

@@ -1,10 +1,10 @@
 // A fact of a scan in words.
 
-ghost use Rattle.std.specs.Prelude.{◌≡◌, ◌<◌, ◌++◌, OnOk, decimal, slice_index, slice_index_or, true};
+ghost use Rattle.std.specs.Prelude.{◌≡◌, ◌<◌, ◌++◌, OnOk, decimal, slice_get, slice_index, slice_index_or, true};
 ghost use Rattle.std.specs.Char.{to_ascii_uppercase};
 ghost use Rattle.hex.specs.Hex.{lower_digits};
-ghost use Rattle.ps_because.specs.Facts.{ask_is, before_text, edge_was, fact_text, input_text, mode_is, mode_was, pin_is};
-ghost use Rattle.ps_because.specs.Facts.{signal_is, signal_was, since_text, state_is, state_was};
+ghost use Rattle.ps_because.specs.Facts.{ask_is, before_text, edge_was, ending_of, fact_text, input_text, mode_is, mode_was};
+ghost use Rattle.ps_because.specs.Facts.{pin_ending, pin_is, signal_is, signal_was, since_text, state_is, state_was};
 ghost use Rattle.ps_because.specs.Moments.{moment_of};
 ghost use Rattle.ps_conditions.specs.Conditions.{subject_words};
 ghost use Rattle.ps_coverage.specs.Lines.{condition_text, state_text, truth};
@@ -15,7 +15,7 @@ use itoa::Buffer;
 use ps_base::{Bytes, Memory};
 use ps_conditions::{Condition, subject_of, told_of};
 use ps_cover::called_kind;
-use ps_model::{App, Kind};
+use ps_model::{App, Arg, Args, Kind, Step};
 use ps_states::state_words;
 use ps_ways::Ask;
 use ps_why::Fact;
@@ -111,12 +111,40 @@ fn add_signal_was(text: &mut Bytes, m: &Moment<'_>, s: u16, value: bool) -> Resu
     add_before(text, m.before)
 }
 
+// What stands at a pin of a call, where that ends a branch.
+fn ending_of(args: &Args, j: u8) -> &'static [u8]
+    ensures { result.now ≡ ending_of (slice_get args.now j) }
+{
+    if (j as usize) >= args.len() {
+        return b"";
+    }
+    match args.at(j as usize) {
+        Arg::Free => b", left open",
+        Arg::Lit(_) => b", a literal",
+        Arg::Time(_) | Arg::Value(_) => b"",
+    }
+}
+
+// The same of the call of a step.
+fn pin_ending(app: &App, k: u16, j: u8) -> &'static [u8]
+    ensures { result.now ≡ pin_ending (slice_get app.now.steps k) j }
+{
+    if k >= app.step_count() {
+        return b"";
+    }
+    match app.step(k) {
+        Step::Call { args, .. } => ending_of(args, j),
+        Step::Assign { .. } => b"",
+    }
+}
+
 fn add_pin_is(text: &mut Bytes, app: &App, k: u16, j: u8, value: bool) -> Result<(), Memory>
     ensures { OnOk result (text.new ≡ text.old ++ pin_is app.now k j value) }
 {
     add_call_pin(text, app, k, j)?;
     text.extend_from_slice(b" is ")?;
-    text.extend_from_slice(truth(value))
+    text.extend_from_slice(truth(value))?;
+    text.extend_from_slice(pin_ending(app, k, j))
 }
 
 // Puts a condition of a guard.

@@ -3,10 +3,13 @@ use Rattle.std.specs.Prelude.{ℕ, Bool, true, List, [], ◌++◌, Option, Some,
 use Rattle.std.specs.Prelude.{slice_get, slice_index_or}
 use Rattle.ps_conditions.specs.Conditions.{subject_words}
 use Rattle.ps_cover.specs.Tallying.{called_kind}
-use Rattle.ps_coverage.specs.Lines.{called_name, condition_text, state_text, truth}
+use Rattle.ps_coverage.specs.Lines.{called_name, condition_text, truth}
 use Rattle.ps_model.specs.Action.{Action, Actual, assigns, calls}
 use Rattle.ps_model.specs.Action.Actual.{free, literal, time, wired}
 use Rattle.ps_model.specs.Network.{Network, input_count, instance_name, kind_at}
+use Rattle.ps_model.specs.declared.kind.Kind.{Kind}
+use Rattle.ps_report.specs.Lines.{code_text}
+use Rattle.ps_states.specs.States.{state_words}
 use Rattle.ps_ways.specs.declared.way.Ask.{Ask}
 use Rattle.ps_ways.specs.declared.way.Ask.TheVariants.{Edge, Rise}
 use Rattle.ps_why.specs.declared.fact.Fact.{Fact}
@@ -51,10 +54,19 @@ ask_is net k a b =
     called_name net (slice_get net.steps k) ++ codes ": "
     ++ condition_text (called_kind net (slice_get net.steps k)) (record { ask = a; holds = b })
 
+-- words in brackets, if there are some
+abbrev pub bracketed : Option (List ℕ) → List ℕ
+bracketed (Some words) = codes " (" ++ words ++ codes ")"
+bracketed None = []
+
+-- a state, as `8004 (waiting for switch 2)`
+abbrev pub state_named : Kind → (code : ℕ) → List ℕ
+state_named kind q = code_text q ++ bracketed (state_words kind q)
+
 -- a state, and since when it has been entered
 abbrev pub state_is : Moment → (i code : ℕ) → List ℕ
 state_is m i q =
-    instance_name m.net i ++ codes " is in " ++ state_text (kind_at m.net i) q ++ codes " since "
+    instance_name m.net i ++ codes " is in " ++ state_named (kind_at m.net i) q ++ codes " since "
     ++ decimal (slice_index_or m.since i 0)
 
 -- since when a state before the scan had been entered; before the first scan each instance is idle
@@ -64,7 +76,7 @@ since_text since (Some ms) = codes " since " ++ decimal since ++ codes ", up to 
 
 abbrev pub state_was : Moment → (i code : ℕ) → List ℕ
 state_was m i q =
-    instance_name m.net i ++ codes " was in " ++ state_text (kind_at m.net i) q
+    instance_name m.net i ++ codes " was in " ++ state_named (kind_at m.net i) q
     ++ since_text (slice_index_or m.since_before i 0) m.before
 
 -- a pin of an instance in its last step: Reset, or the auxiliary input

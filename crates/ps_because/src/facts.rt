@@ -3,11 +3,12 @@
 ghost use Rattle.std.specs.Prelude.{◌≡◌, ◌<◌, ◌++◌, OnOk, decimal, slice_get, slice_index, slice_index_or, true};
 ghost use Rattle.std.specs.Char.{to_ascii_uppercase};
 ghost use Rattle.hex.specs.Hex.{lower_digits};
-ghost use Rattle.ps_because.specs.Facts.{ask_is, before_text, edge_was, ending_of, fact_text, input_text, mode_is, mode_was};
-ghost use Rattle.ps_because.specs.Facts.{pin_ending, pin_is, signal_is, signal_was, since_text, state_is, state_was};
+ghost use Rattle.ps_because.specs.Facts.{ask_is, before_text, edge_was, ending_of, fact_text, input_text, mode_is};
+ghost use Rattle.ps_because.specs.Facts.{mode_was, pin_ending, pin_is, signal_is, signal_was, since_text, state_is};
+ghost use Rattle.ps_because.specs.Facts.{state_named, state_was};
 ghost use Rattle.ps_because.specs.Moments.{moment_of};
 ghost use Rattle.ps_conditions.specs.Conditions.{subject_words};
-ghost use Rattle.ps_coverage.specs.Lines.{condition_text, state_text, truth};
+ghost use Rattle.ps_coverage.specs.Lines.{condition_text, truth};
 ghost use Rattle.ps_report.specs.Lines.{code_text};
 
 use crate::moment::{Moment, add_call_pin, add_signal, called_name, kind_of, name_of};
@@ -50,14 +51,15 @@ fn code_digits(code: u16) -> [u8; 4]
     ]
 }
 
-// Puts a state of a kind, as `8004 waiting for switch 2`.
+// Puts a state of a kind, as `8004 (waiting for switch 2)`.
 fn add_state(text: &mut Bytes, kind: Kind, code: u16) -> Result<(), Memory>
-    ensures { OnOk result (text.new ≡ text.old ++ state_text kind code) }
+    ensures { OnOk result (text.new ≡ text.old ++ state_named kind code) }
 {
     text.extend_from_slice(&code_digits(code))?;
     if let Some(words) = state_words(kind, code) {
-        text.extend_from_slice(b" ")?;
+        text.extend_from_slice(b" (")?;
         text.extend_from_slice(words.as_bytes())?;
+        text.extend_from_slice(b")")?;
     }
     Ok(())
 }

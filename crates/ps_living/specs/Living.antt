@@ -26,7 +26,8 @@ stop_by IsUnwritten = Unwritten
 -- Of the lines of a stream with these bytes those before the ones that are left were run: they are the lines of a trace
 -- that ends so, and this is what `run`, and `fault` without faults, writes of its scans and restarts, by what the
 -- application's world answers; and whether a scan trips.
-pub record AreRun (net : Network) (bytes : List ℕ) (left : List Line) (end : End) (said : List ℕ) (trips : Bool) : Type 0 where
+pub record AreRun (net : Network) (bytes : List ℕ) (left : List Line) (end : End) (said : List ℕ) (trips : Bool) :
+    Type 0 where
   pub done : List Line
   pub world : Whole
   pub split : fed_lines bytes ≡ done ++ left

@@ -148,9 +148,9 @@ fn run_behind<I: Stream, O: Output>(
 /// each scan and restart, and hands it on, before it reads on; and says whether a scan tripped. A trip ends nothing.
 ///
 /// What is written is what `fault` without faults writes of a trace with these lines. All memory is taken before the
-/// first byte is read. `Refused` comes exactly where a line is refused or there is no header, with the number of the line up
-/// to 4,294,967,295; its own line is not written. `Unread` comes only where the stream's count rose: what is said of each
-/// whole line that was read was then written and handed on. `Unwritten` comes only where the output's count rose.
+/// first scan. `Refused` comes exactly where a line is refused or there is no header, with the number of the line up to
+/// 4,294,967,295; its own line is not written. `Unread` comes only where the stream's count rose: what is said of
+/// each whole line that was read was then written and handed on. `Unwritten` comes only where the output's count rose.
 pub fn run_stream<I: Stream, O: Output>(
     alloc: Global,
     app: &App,

@@ -135,3 +135,27 @@ returns-in-Cover-clause-unread g c =
     (subst (λ (names : List (List ℕ)). IfErr c.cover.result (λ stop. IsUnread stop → Any (λ (name : List ℕ).
     Rose (g.F.Files.faults c.args.files.now name) (g.F.Files.faults c.cover.new.files name)) (c.in-Cover.app.now ∷ names)))
     (sym (map-map file_meant (λ (word : Bor (List ℕ)). word.now) slice)) c.cover.ensures.unread))
+
+pub returns-in-Why-clause-answers : goal.returns-in-Why-clause-answers
+returns-in-Why-clause-answers g c =
+    subst (λ (asked : Asked). IfOk c.why.result (λ status. Answers (asked_seen asked) (g.F.Files.tells c.args.files.now) (g.F.Files.held c.args.files.now)
+    status (g.O.Sink.tells c.args.out.now) (g.O.Sink.taken c.args.out.now) (g.O.Sink.taken c.why.new.out))) (sym c.in-Why.is)
+    c.why.ensures.answers
+
+pub returns-in-Why-clause-stops : goal.returns-in-Why-clause-stops
+returns-in-Why-clause-stops g c =
+    subst (λ (asked : Asked). IfErr c.why.result (λ stop. Stops (asked_seen asked) (g.F.Files.tells c.args.files.now) (g.F.Files.held c.args.files.now)
+    stop (g.O.Sink.tells c.args.out.now) (g.O.Sink.taken c.args.out.now) (g.O.Sink.taken c.why.new.out))) (sym c.in-Why.is)
+    c.why.ensures.stops
+
+pub returns-in-Same-clause-answers : goal.returns-in-Same-clause-answers
+returns-in-Same-clause-answers g c =
+    subst (λ (asked : Asked). IfOk c.same.result (λ status. Answers (asked_seen asked) (g.F.Files.tells c.args.files.now) (g.F.Files.held c.args.files.now)
+    status (g.O.Sink.tells c.args.out.now) (g.O.Sink.taken c.args.out.now) (g.O.Sink.taken c.same.new.out))) (sym c.in-Same.is)
+    c.same.ensures.answers
+
+pub returns-in-Same-clause-stops : goal.returns-in-Same-clause-stops
+returns-in-Same-clause-stops g c =
+    subst (λ (asked : Asked). IfErr c.same.result (λ stop. Stops (asked_seen asked) (g.F.Files.tells c.args.files.now) (g.F.Files.held c.args.files.now)
+    stop (g.O.Sink.tells c.args.out.now) (g.O.Sink.taken c.args.out.now) (g.O.Sink.taken c.same.new.out))) (sym c.in-Same.is)
+    c.same.ensures.stops

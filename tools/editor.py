@@ -234,7 +234,7 @@ def main(words):
     by_pins(server)
     count = by_broken_bodies(server) + by_broken_streams(server)
     print(by_neovim(server))
-    print(f"a session, and {count} broken messages and streams, have the answers that they are to have")
+    print(f"a whole talk, and {count} broken messages and streams, have the answers that they are to have")
     return 0
 
 

@@ -54,6 +54,7 @@ AddsHeld net held old new =
     (trace : List ℕ) × (held ≡ Some trace)
     × (steps : List ScanStep) × AreScansOf net trace steps × Adds net steps old new
 
+-- the scans that a word of the call means are added
 abbrev pub AddsWord : Source → (word : List ℕ) → (old new : Cover) → Type 0
 AddsWord from word old new = (steps : List ScanStep) × AreScansAt from word steps × Adds from.net steps old new
 
@@ -61,6 +62,7 @@ AddsWord from word old new = (steps : List ScanStep) × AreScansAt from word ste
 abbrev pub RefusesHeld : Network → (held : Option (List ℕ)) → Refusal → Type 0
 RefusesHeld net held refusal = (trace : List ℕ) × (held ≡ Some trace) × ((scans_of trace net).end ≡ refused refusal)
 
+-- what a word of the call means is refused so
 abbrev pub RefusesWord : Source → (word : List ℕ) → Refusal → Type 0
 RefusesWord from word refusal =
     (trace : List ℕ) × (brought : List Fault) × IsPlay from word trace brought

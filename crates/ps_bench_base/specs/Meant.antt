@@ -14,6 +14,7 @@ pub record Meant : Type 0 where
   pub file : List ℕ
   pub part : Part
 
+-- what is meant, of these two
 abbrev pub meant : (file : List ℕ) → Part → Meant
 meant file part = record { file = file; part = part }
 

@@ -39,6 +39,7 @@ abbrev pub no_stand : Stand
 no_stand =
     record { base = 0; origin = 0; time = 0; scans = 0; made = 0; faults = 0; struck = None; turn = 0; waiting = 0 }
 
+-- a case file of which no line has been read
 abbrev pub no_lines : Draft
 no_lines = record {
   file = record { begin = []; cases = [] };
@@ -75,6 +76,7 @@ closed_by file (Some head) statements = record {
   cases = file.cases ++ record { line = head.line; name = head.name; statements = statements } ∷ [];
 }
 
+-- the file with the case in it that is being read
 abbrev pub closed : Draft → CaseFile
 closed d = closed_by d.file d.head d.statements
 
@@ -92,6 +94,7 @@ coming_by d (Some head) = record {
   start = d.start;
 }
 
+-- what the next case begins with, behind the lines that were read
 abbrev pub coming : Draft → Coming
 coming d = coming_by d d.head
 
@@ -156,6 +159,7 @@ ended_by number file None left = Err (at K1 number)
 ended_by number file (Some head) (Some refusal) = Err refusal
 ended_by number file (Some head) None = Ok file
 
+-- what a file means that ends behind these lines: of a fault with no scan after it the refusal, else the cases
 abbrev pub file_ended : Draft → (number : ℕ) → Result CaseFile CaseRefusal
 file_ended d number = ended_by number (closed d) d.head (fault_left d.head d.stand.waiting)
 

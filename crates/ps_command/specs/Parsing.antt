@@ -20,9 +20,11 @@ subcommand name ids = record (new_shape name) { rules = map required ids }
 abbrev pub one : List (List ℕ)
 one = codes "first" ∷ []
 
+-- the names of two arguments
 abbrev pub two : List (List ℕ)
 two = codes "first" ∷ codes "second" ∷ []
 
+-- the names of three arguments
 abbrev pub three : List (List ℕ)
 three = codes "first" ∷ codes "second" ∷ codes "third" ∷ []
 
@@ -32,6 +34,7 @@ ids_of One = one
 ids_of Two = two
 ids_of Three = three
 
+-- the subcommand that a form of the code is
 abbrev pub shape_of : Form → Shape
 shape_of form = subcommand form.name.now (ids_of form.words)
 

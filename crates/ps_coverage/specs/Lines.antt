@@ -31,6 +31,7 @@ state_text kind code = code_text code ++ behind (state_words kind code)
 abbrev pub truth : Bool → List ℕ
 truth b = if b then codes "TRUE" else codes "FALSE"
 
+-- a value in JSON
 abbrev pub json_truth : Bool → List ℕ
 json_truth b = if b then codes "true" else codes "false"
 
@@ -44,10 +45,12 @@ called_name net None = []
 abbrev pub never_entered : Kind → Way → List ℕ
 never_entered kind w = codes "  never: " ++ state_text kind w.state ++ codes "\n"
 
+-- the same in JSON
 abbrev pub json_entered : (name : List ℕ) → Way → List ℕ
 json_entered name w =
     codes "{\"never\":\"state\",\"instance\":\"" ++ name ++ codes "\",\"state\":\"" ++ code_text w.state ++ codes "\"}\n"
 
+-- the same in a format
 abbrev pub state_line : Format → (name : List ℕ) → Kind → Option Way → List ℕ
 state_line Text name kind (Some w) = never_entered kind w
 state_line Json name kind (Some w) = json_entered name w
@@ -96,12 +99,14 @@ never_taken kind place w =
     codes "  never: " ++ code_text w.next ++ codes " from " ++ state_text kind w.state ++ codes ": "
     ++ guard_text kind place w ++ codes "\n"
 
+-- the same in JSON
 abbrev pub json_taken : (name : List ℕ) → Kind → (place : ℕ) → Way → List ℕ
 json_taken name kind place w =
     codes "{\"never\":\"way\",\"instance\":\"" ++ name ++ codes "\",\"from\":\"" ++ code_text w.state
     ++ codes "\",\"to\":\"" ++ code_text w.next ++ codes "\",\"guard\":" ++ decimal w.number
     ++ codes ",\"when\":\"" ++ guard_text kind place w ++ codes "\"}\n"
 
+-- the same in a format
 abbrev pub way_line : Format → (name : List ℕ) → Kind → (place : ℕ) → Option Way → List ℕ
 way_line Text name kind place (Some w) = never_taken kind place w
 way_line Json name kind place (Some w) = json_taken name kind place w
@@ -134,11 +139,13 @@ signal_label net s = if nat_lt s (declared_count net) then signal_name net s els
 abbrev pub never_had : Network → (signal : ℕ) → (value : Bool) → List ℕ
 never_had net s b = codes "  never " ++ truth b ++ codes ": " ++ signal_label net s ++ codes "\n"
 
+-- the same in JSON
 abbrev pub json_had : Network → (signal : ℕ) → (value : Bool) → List ℕ
 json_had net s b =
     codes "{\"never\":\"value\",\"signal\":\"" ++ signal_label net s ++ codes "\",\"value\":" ++ json_truth b
     ++ codes "}\n"
 
+-- the same in a format
 abbrev pub value_line : Network → Format → (signal : ℕ) → (value : Bool) → List ℕ
 value_line net Text s b = never_had net s b
 value_line net Json s b = json_had net s b
@@ -154,12 +161,14 @@ never_decided at of_and place b =
     codes "  never decided " ++ truth b ++ codes ": line " ++ decimal at.line ++ codes " column " ++ decimal at.column
     ++ codes ", operand " ++ decimal (place + 1) ++ codes " of an " ++ joined_by of_and ++ codes "\n"
 
+-- the same in JSON
 abbrev pub json_decided : Place → (of_and : Bool) → (place : ℕ) → (value : Bool) → List ℕ
 json_decided at of_and place b =
     codes "{\"never\":\"decision\",\"line\":" ++ decimal at.line ++ codes ",\"column\":" ++ decimal at.column
     ++ codes ",\"operand\":" ++ decimal (place + 1) ++ codes ",\"of\":\"" ++ joined_by of_and
     ++ codes "\",\"value\":" ++ json_truth b ++ codes "}\n"
 
+-- the same in a format
 abbrev pub decision_line : Format → Place → (of_and : Bool) → (place : ℕ) → (value : Bool) → List ℕ
 decision_line Text at of_and place b = never_decided at of_and place b
 decision_line Json at of_and place b = json_decided at of_and place b

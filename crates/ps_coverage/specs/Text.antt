@@ -22,11 +22,13 @@ excluded_text n = if n == 0 then [] else codes " (" ++ decimal n ++ codes " excl
 abbrev pub said_counts : (covered counted excluded : ℕ) → List ℕ
 said_counts covered counted excluded = decimal covered ++ codes " of " ++ decimal counted ++ excluded_text excluded
 
+-- the same in JSON
 abbrev pub json_counts : (covered counted excluded : ℕ) → List ℕ
 json_counts covered counted excluded =
     codes "{\"covered\":" ++ decimal covered ++ codes ",\"of\":" ++ decimal counted ++ codes ",\"excluded\":"
     ++ decimal excluded ++ codes "}"
 
+-- the same in a format
 abbrev pub counts_text : Format → (covered counted excluded : ℕ) → List ℕ
 counts_text Text covered counted excluded = said_counts covered counted excluded
 counts_text Json covered counted excluded = json_counts covered counted excluded
@@ -42,12 +44,14 @@ said_head x k i =
     instance_name x.net i ++ codes " " ++ (block (kind_at x.net i)).name ++ codes "  states "
     ++ counts_of x Text States (Some k) ++ codes "  ways " ++ counts_of x Text Ways (Some k) ++ codes "\n"
 
+-- the same in JSON
 abbrev pub json_head : Known → (step instance : ℕ) → List ℕ
 json_head x k i =
     codes "{\"instance\":\"" ++ instance_name x.net i ++ codes "\",\"kind\":\"" ++ (block (kind_at x.net i)).name
     ++ codes "\",\"states\":" ++ counts_of x Json States (Some k) ++ codes ",\"ways\":"
     ++ counts_of x Json Ways (Some k) ++ codes "}\n"
 
+-- the same in a format
 abbrev pub head_line : Known → Format → (step instance : ℕ) → List ℕ
 head_line x Text k i = said_head x k i
 head_line x Json k i = json_head x k i
@@ -57,10 +61,12 @@ abbrev pub marks_at : Known → Format → (step : ℕ) → Option Seen → List
 marks_at x format k (Some s) = missed_mark x.net x.rows format k s.point (s.off && s.on)
 marks_at x format k None = []
 
+-- what is told of a point that is a signal: the values that it never had
 abbrev pub values_at : Known → Format → Option Seen → List ℕ
 values_at x format (Some s) = missed_values x.net format s.point s.off s.on
 values_at x format None = []
 
+-- what is told of a point that is an operand: the values with which it never decided
 abbrev pub decisions_at : Format → Place → Option Seen → List ℕ
 decisions_at format at (Some s) = missed_decisions format at s.point s.off s.on
 decisions_at format at None = []
@@ -69,6 +75,7 @@ decisions_at format at None = []
 abbrev pub nowhere : Place
 nowhere = record { line = 0; column = 0 }
 
+-- where the point with this number stands in the source
 abbrev pub place_of : Known → (n : ℕ) → Place
 place_of x n = slice_index_or x.places n nowhere
 
@@ -82,6 +89,7 @@ step_text x format k (Some (calls i args)) = head_line x format k i ++ missed_ma
 step_text x format k (Some (assigns t e)) = []
 step_text x format k None = []
 
+-- what is told of each step, in their order
 abbrev pub steps_text : Known → Format → List ℕ
 steps_text x format =
     flat_map (λ k. step_text x format k (slice_get x.net.steps k)) (range_with_len 0 (length x.net.steps))
@@ -90,9 +98,11 @@ steps_text x format =
 abbrev pub said_sort : Known → Sort → (word : List ℕ) → List ℕ
 said_sort x sort word = word ++ codes " " ++ counts_of x Text sort None ++ codes "\n"
 
+-- the same in JSON
 abbrev pub json_sort : Known → Sort → (word : List ℕ) → List ℕ
 json_sort x sort word = codes "{\"" ++ word ++ codes "\":" ++ counts_of x Json sort None ++ codes "}\n"
 
+-- the same in a format
 abbrev pub sort_line : Known → Format → Sort → (word : List ℕ) → List ℕ
 sort_line x Text sort word = said_sort x sort word
 sort_line x Json sort word = json_sort x sort word
@@ -111,11 +121,13 @@ said_parts states ways values decisions =
     codes "states " ++ decimal states ++ codes " %  ways " ++ decimal ways ++ codes " %  values " ++ decimal values
     ++ codes " %  decisions " ++ decimal decisions ++ codes " %\n"
 
+-- the same in JSON
 abbrev pub json_parts : (states ways values decisions : ℕ) → List ℕ
 json_parts states ways values decisions =
     codes "{\"percent\":{\"states\":" ++ decimal states ++ codes ",\"ways\":" ++ decimal ways ++ codes ",\"values\":"
     ++ decimal values ++ codes ",\"decisions\":" ++ decimal decisions ++ codes "}}\n"
 
+-- the same, of what was covered, in a format
 abbrev pub last_line : Known → Format → List ℕ
 last_line x Text = said_parts (part_of x States) (part_of x Ways) (part_of x Values) (part_of x Decisions)
 last_line x Json = json_parts (part_of x States) (part_of x Ways) (part_of x Values) (part_of x Decisions)

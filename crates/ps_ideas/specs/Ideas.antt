@@ -79,15 +79,17 @@ abbrev pub rest_text : Kind → Condition → Option ℕ → List ℕ
 rest_text kind c (Some s) = []
 rest_text kind c None = codes "  # " ++ condition_text kind c ++ codes "\n"
 
--- what a literal of a guard asks: in words where it is no input; a scan before; and in the scan
+-- what a literal of a guard asks for, in words behind `#`, where it is of no input
 abbrev pub literal_rest : Network → Kind → List Actual → Option Condition → List ℕ
 literal_rest net kind args (Some c) = rest_text kind c (input_asked net kind args c)
 literal_rest net kind args None = []
 
+-- what a literal asks for of an input in the scan before, if it is of an input
 abbrev pub literal_before : Network → Kind → List Actual → Option Condition → List ℕ
 literal_before net kind args (Some c) = setting_text net (input_asked net kind args c) (value_before c.ask c.holds)
 literal_before net kind args None = []
 
+-- what a literal asks for of an input in the scan that is to take the way
 abbrev pub literal_now : Network → Kind → List Actual → Option Condition → List ℕ
 literal_now net kind args (Some c) = setting_text net (input_asked net kind args c) c.holds
 literal_now net kind args None = []
@@ -103,6 +105,7 @@ idea_head net i w =
     codes "case " ++ instance_name net i ++ codes " from " ++ code_text w.state ++ codes " to " ++ code_text w.next
     ++ codes "\n"
 
+-- the lines behind that: what no input gives, behind `#`, the scan before, and the scan that is to take the way
 abbrev pub idea_lines : Network → Kind → List Actual → Way → List ℕ
 idea_lines net kind args w =
     each_literal (literal_rest net kind args) w ++ codes "  +10" ++ each_literal (literal_before net kind args) w
@@ -130,6 +133,7 @@ point_idea x (marks k mark) shown =
 point_idea x (has s) shown = []
 point_idea x (decision o) shown = []
 
+-- the case that begins for a point, if it is a way that was never taken
 abbrev pub idea_at : Known → Option Seen → List ℕ
 idea_at x (Some s) = point_idea x s.point (s.off && s.on)
 idea_at x None = []

@@ -62,6 +62,7 @@ mutual
   same_parts_self no_part = refl
   same_parts_self (part d ds) = and_from (same d d) (same_parts ds ds) (same_self d) (same_parts_self ds)
 
+-- what is the same as another is so the other way round
 same_turned : (a b : Requirement) → same a b ≡ true → same b a ≡ true
 same_turned a b h = subst (λ x. same x a ≡ true) (same_equal a b h) (same_self a)
 

@@ -29,6 +29,7 @@ abbrev pub pace_or : Option Pace → Pace
 pace_or None = Every USUAL_PACE
 pace_or (Some pace) = pace
 
+-- the pace of a rules file: the usual one where none stands in it
 abbrev pub pace_of : RulesFile → Pace
 pace_of file = pace_or file.pace
 
@@ -102,6 +103,7 @@ closed_by file None conditions = file
 closed_by file (Some head) conditions =
     record file { rules = file.rules ++ record { line = head.line; name = head.name; conditions = conditions } ∷ [] }
 
+-- the file with the rule in it that is being read
 abbrev pub closed : Draft → RulesFile
 closed d = closed_by d.file d.head d.conditions
 

@@ -33,9 +33,11 @@ counts_text l place = if is_of_trips place then latencies_text l else []
 abbrev pub channel_text : (place : ℕ) → List ℕ
 channel_text place = if nat_lt place 12 then codes "A " else codes "B "
 
+-- the region that the count at a place is of
 abbrev pub region_text : (place : ℕ) → List ℕ
 region_text place = if nat_lt (place % 12) 6 then codes "code " else codes "memory "
 
+-- the outcome that the count at a place is of
 abbrev pub outcome_text : (place : ℕ) → List ℕ
 outcome_text place =
     if (place % 6) == 0 then codes "silent " else if (place % 6) == 1 then codes "differ "

@@ -125,10 +125,11 @@ is_equals b = b == 61
 abbrev pub has_equals : List ℕ → Bool
 has_equals word = list_any is_equals word
 
--- the name of a word with a `=`, and its value
+-- what stands before the first `=` of a word
 abbrev pub name_part : List ℕ → List ℕ
 name_part word = before_first is_equals word
 
+-- what stands behind the first `=` of a word
 abbrev pub value_part : List ℕ → List ℕ
 value_part word = after_first is_equals word
 

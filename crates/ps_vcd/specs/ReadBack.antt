@@ -47,12 +47,14 @@ type_word Code = codes "wire"
 type_word Count = codes "wire"
 type_word Words = codes "string"
 
+-- how many bits a variable has, as it is declared
 abbrev pub size_word : Shape → List ℕ
 size_word Bit = codes "1"
 size_word Code = codes "16"
 size_word Count = codes "64"
 size_word Words = codes "1"
 
+-- the range of a variable's bits, if it has more than one
 abbrev pub range_words : Shape → List (List ℕ)
 range_words Bit = []
 range_words Code = codes "[15:0]" ∷ []

@@ -70,6 +70,7 @@ onto_events (of_value value) later = later (Some value)
 onto_events of_word later = later None
 onto_events of_nothing later = strange ∷ later None
 
+-- the events of tokens, where a value may have come whose identifier has not
 abbrev pub events_from : List (List ℕ) → Option Held → List Event
 events_from [] None = []
 events_from [] (Some value) = strange ∷ []

@@ -50,6 +50,7 @@ joined (x ∷ y ∷ zs) = x ∷ y ∷ zs
 abbrev pub own_factors : ProductTree → List Operand
 own_factors p = map of_and (joined (factors p))
 
+-- the operands of a sum's own OR, if it has one
 abbrev pub own_products : SumTree → List Operand
 own_products s = map of_or (joined (products s))
 
@@ -74,6 +75,7 @@ abbrev mutual
 abbrev pub product_operands : ProductTree → List Operand
 product_operands p = own_factors p ++ within_factors p
 
+-- the operands of a sum: its own, then those within it
 abbrev pub sum_operands : SumTree → List Operand
 sum_operands s = own_products s ++ within_products s
 
@@ -82,6 +84,7 @@ abbrev pub given_operands : Option ArgumentTree → List Operand
 given_operands None = []
 given_operands (Some a) = sum_operands a.value
 
+-- of what a call gives at the pin with this name
 abbrev pub pin_operands : List ArgumentTree → (pin : List ℕ) → List Operand
 pin_operands arguments pin = given_operands (find (λ a. is_same_name a.pin.text pin) arguments)
 

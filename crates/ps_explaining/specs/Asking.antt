@@ -1,6 +1,6 @@
 -- What `why` is asked, what it writes by that, and how it stops.
 use Rattle.std.specs.Prelude.{◌≡◌, ◌⊎◌, ℕ, Bool, IsTrue, List, Option, Some, None, Result, Ok, Err}
-use Rattle.ps_accounting.specs.Adding.{StopsAtWord}
+use Rattle.ps_traced.specs.Refusing.{StopsAtWord}
 use Rattle.ps_bench_base.specs.Opening.{IsOfApp, Source, source}
 use Rattle.ps_bench_base.specs.Stopping.{StopsAtApp, Took, TookNothing, TookSome}
 use Rattle.ps_bench_base.specs.declared.ending.Status.{Status}

@@ -1,6 +1,6 @@
 use Rattle.std.proofs.Common.{refl}
 use Rattle.ps_bench_base.specs.Opening.{source}
-use Rattle.ps_accounting.proofs.Held.{of_some}
+use Rattle.ps_traced.proofs.Refused.{of_some}
 use Rattle.ps_explaining.specs.Asking.{wanted_by}
 use Rattle.ps_explaining.specs.Walked.{WalksWord}
 use Rattle.ps_explaining.proofs.Coming.{moved}

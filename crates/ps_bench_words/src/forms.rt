@@ -191,7 +191,7 @@ const STATES: Argument = argument!(
 const TOPIC: Argument = argument!("COMMAND", Given::Word, "The command whose page is written");
 
 /// The forms of the commands, in the order of the program's page.
-pub(crate) static FORMS: [Form; 9] = [
+pub(crate) static FORMS: [Form; 10] = [
     Form {
         name: "test",
         call: "plcsafe-bench test",
@@ -247,6 +247,13 @@ pub(crate) static FORMS: [Form; 9] = [
         about: "Searches all scans that can come for one in which two applications differ in an output",
         example: "Example: plcsafe-bench same press.st mended.st",
         arguments: &[APP, OTHER, SETTINGS, STATES],
+    },
+    Form {
+        name: "live",
+        call: "plcsafe-bench live",
+        about: "Runs a trace that comes at standard input, and answers each scan before it reads on",
+        example: "Example: plcsafe-bench live press.st < press.trace",
+        arguments: &[APP],
     },
     Form {
         name: "help",

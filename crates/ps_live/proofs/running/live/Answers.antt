@@ -1,3 +1,9 @@
+use Rattle.std.proofs.Common.{◌≡◌, subst}
+use Rattle.ps_bench_base.specs.Stopping.{StopsAtApp}
+use Rattle.ps_bench_base.specs.declared.ending.Input.TheVariants.{Trace}
+use Rattle.ps_bench_base.specs.declared.ending.InputStop.TheVariants.{Unread}
+use Rattle.ps_bench_base.specs.declared.ending.Stop.{Stop}
+use Rattle.ps_bench_base.specs.declared.ending.Stop.TheVariants.{Input}
 use Rattle.ps_live.specs.Asking.{fed}
 use Rattle.ps_live.proofs.Coming.{answered, moved, stopped, unread_of_two}
 use Rattle.ps_live.proofs.running.live.Goals as goal
@@ -20,3 +26,9 @@ returns-in-Ok-clause-stops g c =
 
 pub returns-in-Ok-clause-unread : goal.returns-in-Ok-clause-unread
 returns-in-Ok-clause-unread g c = unread_of_two c.run_app.result c.run_app.ensures.unread
+
+pub returns-in-Err-clause-handed_on_before : goal.returns-in-Err-clause-handed_on_before
+returns-in-Err-clause-handed_on_before g c = λ is.
+    let so : c.in-Err.stop ≡ Input (Unread Trace) = cc in
+    absurd (subst (λ (stop : Stop). StopsAtApp (g.F.Files.tells c.args.files.now) (g.F.Files.held c.args.files.now) c.args.asked.now.app.now stop
+    (g.O.Sink.tells c.args.out.now) (g.O.Sink.taken c.args.out.now) (g.O.Sink.taken c.open_app.new.out)) so c.in-Err.ensures.stops)

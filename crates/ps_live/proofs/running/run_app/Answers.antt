@@ -1,4 +1,9 @@
-use Rattle.std.proofs.Common.{◌≡◌, inl, inr, refl}
+use Rattle.std.proofs.Common.{◌≡◌, inl, inr, refl, ap}
+use Rattle.ps_bench_base.proofs.Stopped.{rose_since}
+use Rattle.ps_bench_base.specs.Ending.{stop_status}
+use Rattle.ps_bench_base.specs.declared.ending.Input.TheVariants.{Trace}
+use Rattle.ps_bench_base.specs.declared.ending.InputStop.TheVariants.{Unread}
+use Rattle.ps_bench_base.specs.declared.ending.Stop.TheVariants.{Input, Unwritten}
 use Rattle.ps_live.specs.Asking.{fed}
 use Rattle.ps_live.proofs.Coming.{at_line, ran}
 use Rattle.ps_living.specs.declared.living.LiveStop as living
@@ -14,6 +19,17 @@ returns-in-Err-Refused-clause-ends g c =
     (g.O.Sink.tells c.args.out.now) (g.O.Sink.tells c.run_stream.new.out) (g.O.Sink.taken c.args.out.now)
     (g.O.Sink.taken c.run_stream.new.out) (g.O.Sink.taken c.refuse_line.new.out) c.in-Err-Refused.field-0 c.in-Err-Refused.refusal
     c.refuse_line.result c.in-Err-Refused.field-0-is c.run_stream.ensures.telling c.in-Err-Refused.ensures.runs c.refuse_line.ensures.stops
+
+pub returns-in-Err-Refused-clause-handed_on_before : goal.returns-in-Err-Refused-clause-handed_on_before
+returns-in-Err-Refused-clause-handed_on_before g c = λ is.
+    let so : c.refuse_line.result ≡ Input (Unread Trace) = cc in
+    absurd (c.refuse_line.ensures.read (ap stop_status so))
+
+pub returns-in-Err-Refused-clause-unwritten : goal.returns-in-Err-Refused-clause-unwritten
+returns-in-Err-Refused-clause-unwritten g c = λ is.
+    let so : c.refuse_line.result ≡ Unwritten = cc in
+    rose_since (g.O.Sink.faults c.args.out.now) (g.O.Sink.faults c.run_stream.new.out) (g.O.Sink.faults c.refuse_line.new.out)
+    c.run_stream.ensures.writes (c.refuse_line.ensures.unwritten so)
 
 pub returns-in-Err-Unread-clause-ends : goal.returns-in-Err-Unread-clause-ends
 returns-in-Err-Unread-clause-ends g c = inr (inl (

@@ -29,7 +29,8 @@ EXAMPLES, PAGE = ROOT / "examples", ROOT / "docs" / "live.md"
 MOTOR, HEAD, LONGEST = EXAMPLES / "stop" / "motor.st", b"time S_Stop Ack Run\n", 65_536
 TRACES = ["stop/motor.st stop/restart.trace", "stop/lamp.st stop/lamp.trace", "press/press.st press/guard.trace"]
 FIRST = b"0 S_Motor=0 Lamp=0 Stop=1,0,8001 Out=1,0,8001\n"
-WAIT, PAUSE, LIMIT = 20.0, 0.15, 1.0  # seconds for an answer, seconds of silence, and the most ms that the middle answer may take
+WAIT, PAUSE = 20.0, 0.15  # seconds for an answer, and of silence
+LIMIT, ROOM = 1.0, 256    # the most ms that the middle answer may take, and KiB that a flood may take beside what a line takes
 
 # What is fed to the motor, the lines that are answered, and the refusal behind them.
 REFUSED = [
@@ -208,7 +209,7 @@ def by_flood(plcsafe, bench, folder):
     live.feed(HEAD + lines[0])
     expect(live.line() == wanted[0], "the first line of a flood has its answer")
     first = live.memory()
-    writer = threading.Thread(target=live.feed, args=(b"".join(lines[1:]),))
+    writer = threading.Thread(target=live.feed, args=(b"".join(lines[1:]),), daemon=True)
     writer.start()
     found, left = [], sum(map(len, wanted[1:]))
     while left > 0 and (more := live.some(WAIT)):
@@ -217,7 +218,7 @@ def by_flood(plcsafe, bench, folder):
     writer.join(WAIT)
     more = live.memory() - first
     expect(b"".join(found) == b"".join(wanted[1:]), "each line of a flood has its answer")
-    expect(more <= 64, f"a flood takes no more memory than a line, but {more} KiB")
+    expect(more <= ROOM, f"a flood takes at most {ROOM} KiB more than a line, but {more}")
     expect_end(live.end(), (b"", 0), "a flood")
     return count
 

@@ -200,7 +200,7 @@ def by_closing(bench):
 
 def by_flood(plcsafe, bench, folder):
     """More lines than fit into a pipe, at once. How many, and how much memory they took."""
-    count = 200_000
+    count = 50_000
     lines = [b"%d 1 %d %d\n" % (n, n // 3 % 2, n // 7 % 2) for n in range(count)]
     trace = folder / "flood.trace"
     trace.write_bytes(HEAD + b"".join(lines))

@@ -1,5 +1,5 @@
 -- How a call ends, by what it came to.
-use Rattle.std.proofs.Common.{Result, Ok, Err, ◌≡◌, ◌⊎◌, ℕ, Bool, List, Option, inl, inr, refl, subst}
+use Rattle.std.proofs.Common.{Result, Ok, Err, ◌≡◌, ◌⊎◌, ℕ, Bool, List, Option, inl, inr, subst}
 use Rattle.std.specs.Prelude.{IfErr, IfOk}
 use Rattle.ps_base.specs.declared.failing.Refusal.{Refusal}
 use Rattle.ps_bench_base.specs.Ending.{IsUnread}
@@ -49,6 +49,7 @@ stopped net sizes app from reading held tells before after (Ok status) of ends =
 stopped net sizes app from reading held tells before after (Err stop) of ends = inr (net, sizes, of, ends)
 
 -- the stream could not be read, so the application or the stream could not
-pub unread_of_two : {P Q : Type 0} (ended : Result Status Stop) → IfErr ended (λ stop. IsUnread stop → Q) → IfErr ended (λ stop. IsUnread stop → P ⊎ Q)
-unread_of_two (Ok status) unread = tt
-unread_of_two (Err stop) unread = λ is. inr (unread is)
+pub unread_of_two : (reads reads' fed fed' : ℕ) (ended : Result Status Stop) → IfErr ended (λ stop. IsUnread stop → Rose fed fed') →
+    IfErr ended (λ stop. IsUnread stop → Rose reads reads' ⊎ Rose fed fed')
+unread_of_two reads reads' fed fed' (Ok status) unread = tt
+unread_of_two reads reads' fed fed' (Err stop) unread = λ is. inr (unread is)

@@ -25,7 +25,10 @@ returns-in-Ok-clause-stops g c =
     (moved c.in-Ok.opened.app from _ _ _ _ _ c.run_app.result c.in-Ok.ensures.telling c.in-Ok.ensures.unsaid c.run_app.ensures.ends)
 
 pub returns-in-Ok-clause-unread : goal.returns-in-Ok-clause-unread
-returns-in-Ok-clause-unread g c = unread_of_two c.run_app.result c.run_app.ensures.unread
+returns-in-Ok-clause-unread g c =
+    let app = c.args.asked.now.app.now in
+    unread_of_two (g.F.Files.faults c.args.files.now app) (g.F.Files.faults c.open_app.new.files app) (g.I.Stream.faults c.args.input.now)
+    (g.I.Stream.faults c.run_app.new.input) c.run_app.result c.run_app.ensures.unread
 
 pub returns-in-Err-clause-handed_on_before : goal.returns-in-Err-clause-handed_on_before
 returns-in-Err-clause-handed_on_before g c = λ is.

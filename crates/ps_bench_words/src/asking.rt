@@ -17,7 +17,8 @@ use crate::command::{command_of, program};
 use crate::forms::{Form, all_forms};
 use crate::pages;
 use crate::reading::{
-    Unread, cover_in, expand_in, given_in, never_in, same_in, test_in, trace_in, watch_in, why_in,
+    Unread, cover_in, expand_in, given_in, live_in, never_in, same_in, test_in, trace_in, watch_in,
+    why_in,
 };
 use clap::error::ErrorKind;
 use clap::{ArgMatches, Command, Error};
@@ -110,6 +111,10 @@ pub enum Asked<'a> {
         /// From 1 on; a million where it is not said.
         states: u32,
     },
+    /// `live APP`
+    Live {
+        app: &'a str,
+    },
     /// Help or the version was asked for: the page, for standard output.
     Page {
         text: String,
@@ -200,6 +205,7 @@ fn command_in<'a>(alloc: Global, name: &str, values: &ArgMatches<'a>) -> Result<
         "cover" => cover_in(alloc, values),
         "never" => never_in(values),
         "same" => same_in(values),
+        "live" => Ok(live_in(values)),
         "help" => help_in(alloc, given_in(values, "COMMAND")),
         _ => Err(Unread::Wrong(pages::NO_COMMAND)),
     }

@@ -208,7 +208,7 @@ pub(crate) fn all_forms() -> &'static [Form]
 }
 
 // The same as a table.
-static FORMS: [Form; 9] = [
+static FORMS: [Form; 10] = [
     Form {
         name: "test",
         call: "plcsafe-bench test",
@@ -264,6 +264,13 @@ static FORMS: [Form; 9] = [
         about: "Searches all scans that can come for one in which two applications differ in an output",
         example: "Example: plcsafe-bench same press.st mended.st",
         arguments: &[APP, OTHER, SETTINGS, STATES],
+    },
+    Form {
+        name: "live",
+        call: "plcsafe-bench live",
+        about: "Runs a trace that comes at standard input, and answers each scan before it reads on",
+        example: "Example: plcsafe-bench live press.st < press.trace",
+        arguments: &[APP],
     },
     Form {
         name: "help",

@@ -152,7 +152,7 @@ fn do_asked<F: Files, O: Output, L: Listener>(
                 rules: *rules,
                 states: *states,
             };
-            never(alloc, files, out, listener, &asked)
+            never(alloc, files, out, &asked)
         }
         Asked::Same {
             app,

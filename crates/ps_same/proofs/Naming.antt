@@ -10,6 +10,7 @@ use Rattle.ps_pairs.specs.Outputs.{last_of, outputs_left}
 use Rattle.ps_pairs.specs.Promised.{LastDiffers}
 use Rattle.ps_pairs.specs.Sides.{unlike}
 use Rattle.ps_pairs.specs.Telling.{TellsApart}
+use Rattle.ps_reach.specs.Telling.{items_of}
 use Rattle.ps_reach.specs.declared.asked.Asked.{Asked}
 use Rattle.ps_search.specs.declared.answer.End.{End}
 use Rattle.ps_search.specs.declared.answer.End.TheVariants.{Whole, Settled, Limit}
@@ -64,7 +65,7 @@ named_differs t file told many is path e =
     let first : values ≡ outputs_left t.net ends.states = said.2 ends.states ends.means in
     let second : others ≡ outputs_left t.other ends.others =
     said.3 ends.others (subst (λ (items : List Item). Meaning t.other items ends.others) (sym apart.same) ends.other_means) in
-    let apart_ends = outputs_differ t.net t.other nothing nothing _ ends.states ends.others ends.means ends.other_means ends.differs (first_state t.net) (first_state t.other) in
+    let apart_ends = outputs_differ t.net t.other nothing nothing (items_of t.net q path.inputs.items) ends.states ends.others ends.means ends.other_means ends.differs (first_state t.net) (first_state t.other) in
     let unequal : values ≢ others = λ same. apart_ends (sym first ∙ same ∙ second) in
     let long : length values ≡ length t.net.outputs = ap length first ∙ outs_length t.net ends.states in
     let long' : length others ≡ length values = ap length second ∙ outs_length t.other ends.others ∙ many.outputs ∙ sym long in

@@ -1,7 +1,8 @@
 // What is told of rules whose scans come at any times.
 
-ghost use Rattle.std.specs.Prelude.{◌≡◌, ◌++◌, IfOk, OnOk, option_map};
+ghost use Rattle.std.specs.Prelude.{◌≡◌, ◌++◌, IfOk, OnOk};
 ghost use Rattle.std.specs.List.{All};
+ghost use Rattle.std.specs.Option.{option_copied};
 ghost use Rattle.ps_never.specs.Telling.{met_text};
 ghost use Rattle.ps_reach.specs.Promised.{SaysOfEach};
 ghost use Rattle.ps_whenever.specs.Answering.{SaysIn};
@@ -35,11 +36,12 @@ pub struct Searched<'a> {
 
 // The run that was found of a rule, if one was.
 fn path_at(found: &Found, r: usize) -> Option<&Path>
-    ensures { option_map (λ p. p.now) result ≡ path_at found.now r }
+    ensures { option_copied result ≡ path_at found.now r }
 {
-    match found.paths.get(r) {
-        Some(Some(path)) => Some(path),
-        _ => None,
+    if r < found.paths.len() {
+        found.paths[r].as_ref()
+    } else {
+        None
     }
 }
 
@@ -90,12 +92,7 @@ fn add_whole(
 }
 
 // What that search says of a rule, if it was made.
-fn add_left(
-    text: &mut Bytes,
-    searched: &Searched<'_>,
-    rule: &Rule,
-    r: usize,
-) -> Result<(), Memory>
+fn add_left(text: &mut Bytes, searched: &Searched<'_>, rule: &Rule, r: usize) -> Result<(), Memory>
     ensures { OnOk result (text.new ≡ text.old
         ++ left_text searched.now.file.now searched.now.most searched.now.whole.now rule.now r) }
 {

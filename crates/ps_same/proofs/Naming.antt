@@ -1,5 +1,5 @@
 -- The first output that is told to differ does.
-use Rattle.std.proofs.Common.{◌≡◌, ◌≢◌, ◌<◌, ◌+◌, ℕ, Bool, true, false, List, [], ◌∷◌, Some, length, map, refl, sym, ap, subst, ◌∙◌, arith}
+use Rattle.std.proofs.Common.{◌≡◌, ◌≢◌, ◌<◌, ◌+◌, ℕ, suc, Bool, true, false, List, [], ◌∷◌, Some, length, map, refl, sym, ap, subst, ◌∙◌, arith}
 use Rattle.std.specs.Prelude.{slice_index_or}
 use Rattle.std.proofs.lemmas.List.FromFn.{length-map-range_with_len}
 use Rattle.ps_model.specs.Meaning.{Item, Meaning, Past, Runs, first_state, last, nothing, report, restart, scan}
@@ -44,12 +44,18 @@ first_differs [] (y ∷ ys) size d = let no : ⊥ = omega (arith, size) in absur
 first_differs (x ∷ xs) [] size d = let no : ⊥ = omega (arith, size) in absurd no
 first_differs (true ∷ xs) (true ∷ ys) size d =
     let more = first_differs xs ys (omega (arith, size)) (λ e. d (ap (λ (zs : List Bool). true ∷ zs) e)) in
-    (omega (arith, more.0), more.1)
+    let next : suc (first_place xs ys) ≡ 1 + first_place xs ys = omega arith in (
+      omega (arith, more.0),
+      subst (λ (k : ℕ). unlike (slice_index_or (true ∷ xs) k false) (slice_index_or (true ∷ ys) k false) ≡ true) next more.1,
+    )
 first_differs (true ∷ xs) (false ∷ ys) size d = (omega arith, refl)
 first_differs (false ∷ xs) (true ∷ ys) size d = (omega arith, refl)
 first_differs (false ∷ xs) (false ∷ ys) size d =
     let more = first_differs xs ys (omega (arith, size)) (λ e. d (ap (λ (zs : List Bool). false ∷ zs) e)) in
-    (omega (arith, more.0), more.1)
+    let next : suc (first_place xs ys) ≡ 1 + first_place xs ys = omega arith in (
+      omega (arith, more.0),
+      subst (λ (k : ℕ). unlike (slice_index_or (false ∷ xs) k false) (slice_index_or (false ∷ ys) k false) ≡ true) next more.1,
+    )
 
 outs_length : (net : Network) (ws : List State) → length (outputs_left net ws) ≡ length net.outputs
 outs_length net ws = length-map-range_with_len (signal_in (last_of (first_state net) ws)) (input_count net) (length net.outputs)

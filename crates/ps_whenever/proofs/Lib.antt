@@ -1,3 +1,4 @@
 pub mod Pacing
 pub mod Saying
 pub mod Finding
+pub mod Joining

@@ -158,7 +158,7 @@ fn do_asked<F: Files, I: Stream, O: Output, L: Listener>(
                 rules: *rules,
                 states: *states,
             };
-            never(alloc, files, out, listener, &asked)
+            never(alloc, files, out, &asked)
         }
         Asked::Same {
             app,

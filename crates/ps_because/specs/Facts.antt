@@ -2,7 +2,6 @@
 use Rattle.std.specs.Prelude.{ℕ, ◌==◌, Bool, true, not, List, [], ◌++◌, Option, Some, None, codes, decimal, nat_lt}
 use Rattle.std.specs.Prelude.{slice_get, slice_index_or, if◌then◌else◌}
 use Rattle.ps_conditions.specs.Conditions.{awaited_words, subject_words, told_words}
-use Rattle.ps_conditions.specs.Waiting.{is_error, is_waited_for, standing_words}
 use Rattle.ps_cover.specs.Tallying.{called_kind}
 use Rattle.ps_coverage.specs.Lines.{called_name, condition_text, truth}
 use Rattle.ps_model.specs.Action.{Action, Actual, assigns, calls}
@@ -18,6 +17,7 @@ use Rattle.ps_why.specs.declared.fact.Fact.{Fact}
 use Rattle.ps_why.specs.declared.fact.Fact.TheVariants.{SignalIs, SignalWas, PinIs, AskIs, StateIs, StateWas}
 use Rattle.ps_why.specs.declared.fact.Fact.TheVariants.{ResetWas, AuxiliaryWas, ModeIs, ModeWas}
 use Rattle.ps_because.specs.Moments.{Moment, call_pin_text, signal_text}
+use Rattle.ps_because.specs.Waiting.{is_error, is_waited_for, standing_words}
 
 -- when something was that was before the scan
 abbrev pub before_text : (before : Option ℕ) → List ℕ

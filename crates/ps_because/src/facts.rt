@@ -13,11 +13,10 @@ ghost use Rattle.ps_coverage.specs.Lines.{condition_text, truth};
 ghost use Rattle.ps_report.specs.Lines.{code_text};
 
 use crate::moment::{Moment, add_call_pin, add_signal, called_name, kind_of, name_of};
+use crate::waiting::{ON, is_error, is_waited_for, standing_of};
 use itoa::Buffer;
 use ps_base::{Bytes, Memory};
-use ps_conditions::{
-    Condition, awaited_of, is_waited_for, standing_of, subject_of, told_of,
-};
+use ps_conditions::{Condition, awaited_of, subject_of, told_of};
 use ps_cover::called_kind;
 use ps_model::{App, Arg, Args, Kind, Step};
 use ps_reasons::CallScene;
@@ -262,9 +261,9 @@ fn waits_words(code: u16) -> &'static [u8]
 {
     if code == 0 {
         b" and waits for Activate"
-    } else if code == 0x8000 {
+    } else if code == ON {
         b""
-    } else if code >= 0xC000 {
+    } else if is_error(code) {
         b" and waits to be ended"
     } else {
         b" and waits"

@@ -1,4 +1,3 @@
--- What a reader of the promise has to believe: what is told of a condition of a guard, and what a state waits for.
+-- What a reader of the promise has to believe: what is told of a condition of a guard.
 pub mod Conditions
-pub mod Waiting
 pub mod Distinct

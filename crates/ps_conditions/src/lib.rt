@@ -4,15 +4,12 @@
 //!
 //! - `condition`: what a literal of a guard asks.
 //! - `words`: the words.
-//! - `waiting`: what a state waits for that stays.
 //! - `laws`: no two conditions of a kind have the same words.
 #![tactic(auto)]
 
 mod condition;
 pub mod laws;
-mod waiting;
 mod words;
 
 pub use condition::Condition;
-pub use waiting::{is_waited_for, standing_of};
 pub use words::{awaited_of, subject_of, told_of};

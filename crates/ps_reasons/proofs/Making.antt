@@ -25,12 +25,6 @@ driven_at net s k (inr (i, j, (args, at), out)) =
 pub none_drives : (net : Network) (s : ℕ) → is_driven net s ≡ false → (k : ℕ) → IsDrivenAt net s k → ⊥
 none_drives net s off k made = false≢true (sym off ∙ driven_at net s k made)
 
--- the step of a driver drives the signal
-pub assigned_at : (net : Network) (s k : ℕ) → IsDrivenBy net s (Assigned k) → IsDrivenAt net s k
-assigned_at net s k (e, at) = inl (e, at)
-
-pub output_at : (net : Network) (s i j k : ℕ) → IsDrivenBy net s (Output i j k) → IsDrivenAt net s k
-output_at net s i j k (args, at, out) = inr (i, j, (args, at), out)
 
 -- no step calls what is past the instances
 pub none_calls : (net : Network) → IsSound net → (i : ℕ) → instance_count net ≤ i → (k : ℕ) → IsCalledAt net i k → ⊥

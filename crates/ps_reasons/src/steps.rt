@@ -1,5 +1,6 @@
 // Which step makes a fact.
 
+ghost use Rattle.std.specs.Prelude.{Bool, ℕ};
 ghost use Rattle.ps_reasons.specs.Driving.{IsStepOf};
 ghost use Rattle.ps_why.specs.declared.fact.Fact.TheVariants.{SignalIs, StateIs};
 

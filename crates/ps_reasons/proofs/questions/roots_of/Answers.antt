@@ -46,7 +46,7 @@ returns-in_ok-tell_outputs-in-Instance-clause-roots c =
     let pushed = c.in_ok-push-in-Instance.ensures.items in
     let none = c.new-roots.result.items in
     let asked = IsAskedFor net x c.args.question in
-    let same (f : Fact) (h : IsAskedFor net x (Instance i) f) : asked f = subst (λ q. IsAskedFor net x q f) (sym c.in-Instance.is) h in
+    let same : (f : Fact) → IsAskedFor net x (Instance i) f → asked f = λ f h. subst (λ q. IsAskedFor net x q f) (sym c.in-Instance.is) h in
     let all = adds_more asked none one facts
     (adds_push asked none none one (StateIs i here.code) (adds_none asked none) (same (StateIs i here.code) (inl (here, at, refl))) pushed)
     (adds_as (IsSafeValue net x i) asked (λ f h. same f (inr h)) one facts c.in_ok-tell_outputs-in-Instance.ensures.adds) in

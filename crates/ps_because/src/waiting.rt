@@ -1,15 +1,14 @@
 // What a state waits for that stays.
 
 ghost use Rattle.std.specs.Prelude.{◌≡◌};
-ghost use Rattle.ps_conditions.specs.Waiting as waiting;
+ghost use Rattle.ps_because.specs.Waiting as waiting;
 
-use crate::condition::Condition;
-use crate::words::subject_of;
+use ps_conditions::{Condition, subject_of};
 use ps_model::Kind;
 use ps_ways::{Ask, Literal, Way, ways};
 
-// The DiagCode of the state in which a block does what it is for.
-const ON: u16 = 0x8000;
+/// The DiagCode of the state in which a block does what it is for.
+pub(crate) const ON: u16 = 0x8000;
 
 // The first DiagCode of an error.
 const FIRST_ERROR: u16 = 0xC000;
@@ -50,8 +49,8 @@ fn is_closed_by(condition: Condition, way: &Way) -> bool
         || (is_against(condition, way.second) || is_against(condition, way.third))
 }
 
-// Whether a DiagCode is that of an error.
-fn is_error(code: u16) -> bool
+/// Whether a DiagCode is that of an error.
+pub(crate) fn is_error(code: u16) -> bool
     ensures { result ≡ waiting.is_error code }
 {
     code >= FIRST_ERROR
@@ -97,7 +96,7 @@ fn closes_an_end(kind: Kind, state: u16, condition: Condition) -> bool
 /// Whether a state that stays waits until a condition that is so is no longer so: a guard that would end the state does
 /// not hold since it is so. Guards that lead to an error are passed over where the state has others. In 8000 nothing is
 /// waited for.
-pub fn is_waited_for(kind: Kind, state: u16, condition: Condition) -> bool
+pub(crate) fn is_waited_for(kind: Kind, state: u16, condition: Condition) -> bool
     ensures { result ≡ waiting.is_waited_for kind state condition.ask condition.holds }
 {
     state != ON && closes_an_end(kind, state, condition)
@@ -105,7 +104,7 @@ pub fn is_waited_for(kind: Kind, state: u16, condition: Condition) -> bool
 
 /// What is told of a condition that is so behind what is waited for: `it`, and of modes what there is of them. What is
 /// told of it stands behind that (`told_of`).
-pub fn standing_of(kind: Kind, condition: Condition) -> &'static str
+pub(crate) fn standing_of(kind: Kind, condition: Condition) -> &'static str
     ensures { result.now ≡ waiting.standing_words kind condition.ask condition.holds }
 {
     match condition.ask {

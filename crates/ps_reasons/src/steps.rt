@@ -40,9 +40,8 @@ pub fn step_of(app: &App, fact: Fact) -> Option<u16>
 {
     match fact {
         Fact::SignalIs { signal, .. } => driving_step(app, signal),
-        Fact::StateIs { instance, .. } | Fact::ModeIs { instance, .. } => {
-            calling_step(app, instance)
-        }
+        Fact::StateIs { instance, .. } => calling_step(app, instance),
+        Fact::ModeIs { instance, .. } => calling_step(app, instance),
         Fact::SignalWas { .. }
         | Fact::PinIs { .. }
         | Fact::AskIs { .. }

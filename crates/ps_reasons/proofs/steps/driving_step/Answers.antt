@@ -16,11 +16,12 @@ returns-in-Some-Assigned c =
     let net = c.args.app.now in
     let s = c.args.s in
     let d = subst (λ o. MatchOption o (is_driven net s ≡ false) (IsDrivenBy net s)) c.in-Some-Assigned.is c.driver_of.ensures in
-    λ b. inl d
+    λ b. inl (subst (IsDrivenBy net s) c.in-Some-Assigned.field-0-is d)
 
 pub returns-in-Some-Output : goal.returns-in-Some-Output
 returns-in-Some-Output c =
     let net = c.args.app.now in
     let s = c.args.s in
     let d = subst (λ o. MatchOption o (is_driven net s ≡ false) (IsDrivenBy net s)) c.in-Some-Output.is c.driver_of.ensures in
-    λ b. inr (_, _, (d.0, d.1), d.2)
+    let by = subst (IsDrivenBy net s) c.in-Some-Output.field-0-is d in
+    λ b. inr (_, _, (by.0, by.1), by.2)

@@ -231,13 +231,7 @@ fn add_asked(
     }
 }
 
-fn add_ask_is(
-    text: &mut Bytes,
-    m: &Moment<'_>,
-    k: u16,
-    ask: Ask,
-    value: bool,
-) -> Result<(), Memory>
+fn add_ask_is(text: &mut Bytes, m: &Moment<'_>, k: u16, ask: Ask, value: bool) -> Result<(), Memory>
     ensures { OnOk result (text.new ≡ text.old ++ ask_is (moment_of m.entry.now) k ask value) }
 {
     text.extend_from_slice(called_name(m.app, k))?;

@@ -29,11 +29,10 @@ placed_more net tree facts count places places' fact place so at is pushed = rec
         (one.0, ap (λ (ps : List (Option Place)). slice_get ps n) pushed ∙ push_before places place n one.0 one.1, one.2)
     | inr most ↦
         let same : count ≡ n = omega (arith, below, most) in
-        let fact_is : fact ≡ f = same_Some fact f (sym at ∙ ap (slice_get facts) same ∙ there) in
-        (
+        let fact_is : fact ≡ f = same_Some fact f (sym at ∙ ap (slice_get facts) same ∙ there) in (
           place,
           ap (λ (ps : List (Option Place)). slice_get ps n) pushed
-          ∙ ap (slice_get (places ++ place ∷ [])) (sym same ∙ sym so.size) ∙ push_at places place,
+              ∙ ap (slice_get (places ++ place ∷ [])) (sym same ∙ sym so.size) ∙ push_at places place,
           subst (λ (g : Fact). IsPlaceOf net tree g place) fact_is is,
         )
   ];

@@ -1,15 +1,13 @@
 -- Which step makes a fact.
-use Rattle.std.proofs.Common.{◌≡◌, ◌∙◌, ◌+◌, ◌<◌, ◌≤◌, ℕ, Bool, true, false, sym, inl, inr, refl, arith}
-use Rattle.std.specs.Prelude.{nat_le, nat_lt, Option, Some, None, MatchOption}
+use Rattle.std.proofs.Common.{◌≡◌, ◌∙◌, ◌+◌, ◌<◌, ◌≤◌, ℕ, true, false, sym, inl, inr, refl, arith}
+use Rattle.std.specs.Prelude.{nat_le, nat_lt}
 use Rattle.std.proofs.lemmas.Bool.{and_from, eq-eqb, false≢true, le-leb, lt-ltb}
 use Rattle.ps_model.proofs.Once.{any_at}
 use Rattle.ps_model.specs.Action.{assigns, calls}
 use Rattle.ps_model.specs.Blocks.{output_count}
 use Rattle.ps_model.specs.Network.{Network, drives, first_pin, instance_count, is_driven, kind_at}
 use Rattle.ps_model.specs.Sound.{IsSound}
-use Rattle.ps_model.specs.declared.driver.Driver.{Driver}
-use Rattle.ps_model.specs.declared.driver.Driver.TheVariants.{Assigned, Output}
-use Rattle.ps_reasons.specs.Driving.{IsCalledAt, IsDrivenAt, IsDrivenBy}
+use Rattle.ps_reasons.specs.Driving.{IsCalledAt, IsDrivenAt}
 
 -- where a step drives a signal, it is driven
 driven_at : (net : Network) (s k : ℕ) → IsDrivenAt net s k → is_driven net s ≡ true
@@ -24,7 +22,6 @@ driven_at net s k (inr (i, j, (args, at), out)) =
 -- no step drives what nothing drives
 pub none_drives : (net : Network) (s : ℕ) → is_driven net s ≡ false → (k : ℕ) → IsDrivenAt net s k → ⊥
 none_drives net s off k made = false≢true (sym off ∙ driven_at net s k made)
-
 
 -- no step calls what is past the instances
 pub none_calls : (net : Network) → IsSound net → (i : ℕ) → instance_count net ≤ i → (k : ℕ) → IsCalledAt net i k → ⊥

@@ -1,7 +1,8 @@
 -- What a call does: one that did what its words ask, and one that stopped before.
 use Rattle.std.specs.Prelude.{◌≡◌, ◌⊎◌, ℕ, Bool, IsTrue, List, [], ◌∷◌, ◌++◌, Any, map, Option, Some, None}
 use Rattle.ps_bench_words.specs.Asking.{Asked}
-use Rattle.ps_bench_words.specs.Asking.Asked.{Test, Expand, Watch, Trace, Why, Cover, Never, Same, Live, Page, NotTaken}
+use Rattle.ps_bench_words.specs.Asking.Asked.{Test, Expand, Watch, Trace, Why, Cover, Never, Same, Live, Page}
+use Rattle.ps_bench_words.specs.Asking.Asked.{NotTaken}
 use Rattle.ps_accounting.specs.Asking.{AnswersCover, StopsCover, Wanted as Covered}
 use Rattle.ps_cases.specs.Expanded.{expanded}
 use Rattle.ps_cases.specs.declared.case.CaseFile.{CaseFile}
@@ -44,8 +45,8 @@ abbrev pub covered_of : (traces : List (List ℕ)) (output : Format) (least : Op
 covered_of traces output least ideas = record { traces = traces; format = output; least = least; ideas = ideas }
 
 -- By what the words ask, over files and a stream that tell what they hold or do not: the status, and what an output
--- that tells took. `test` ran all cases of all of its files, in the order of the words; its status is Done where each passed, and
--- else Failed.
+-- that tells took. `test` ran all cases of all of its files, in the order of the words; its status is Done where each
+-- passed, and else Failed.
 abbrev pub Answers : Asked → Fed → (reading : Bool) (held : List ℕ → Option (List ℕ)) → Status →
     (tells : Bool) → (before after : List ℕ) → Type 0
 Answers (Test app cases format) input reading held status tells before after =

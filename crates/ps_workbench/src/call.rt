@@ -352,8 +352,8 @@ pub fn exit_of_call<F: Files, I: Stream, O: Output, L: Listener>(
 ) -> u8
     // The number is that of a status. Where nothing stopped the call, the status and what was written are those of what
     // the words ask: of `test`, 0 exactly where every case passed, and else 4; of `never`, 0 where every rule holds,
-    // of `cover` where no less was shown than was asked for, and of `live` where no scan tripped. Where the call did not
-    // do all, why it stopped and what was written up to there are those of what the words ask, unless memory was
+    // of `cover` where no less was shown than was asked for, and of `live` where no scan tripped. Where the call did
+    // not do all, why it stopped and what was written up to there are those of what the words ask, unless memory was
     // wanting before that; of a file or an input that could not be read, and of an output that could not be written,
     // the count rose.
     ensures does { (status : StatusOf) × (result ≡ exit_number status)

@@ -27,7 +27,14 @@ fn exit_of_words<R: Env + rt::Files + Input + Print + Eprint + AllocGlobal>(
             let mut files = DiskFiles::new(system);
             let mut input = StdStream::new(system.reader());
             let mut sink = StdSink::new(out);
-            exit_of_call(alloc, words, &mut files, &mut input, &mut sink, &mut listener)
+            exit_of_call(
+                alloc,
+                words,
+                &mut files,
+                &mut input,
+                &mut sink,
+                &mut listener,
+            )
         }
         Err(_) => exit_code(Status::Memory),
     }

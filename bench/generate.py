@@ -8,6 +8,8 @@ python3 generate.py FOLDER writes into FOLDER
   wide.st              2,400 signals that are assigned, each of which demands 980 names; wide-signals.st has half as many signals, and
                        wide-parts.st half as many names
   wide-groups.st       the same where they demand 490 pairs joined by OR; wide-groups-half.st has half as many signals
+  chain.st             512 inputs, 400 instances, 4,000 signals and 20,000 nodes, all of which the output S_End rests on, and
+                       chain.trace ten scans of it; chain-half.st and chain-half.trace have half as many of each
 """
 import os
 import sys
@@ -99,6 +101,30 @@ def write_wide(path, outputs, parts, width):
         out.write("\n".join([*lines, "END_PROGRAM", ""]))
 
 
+def write_chain(path, inputs, instances, signals, nodes):
+    """An application with these counts, whose output S_End is the end of a chain of ANDs through all of it, and ten scans of it in
+    which all inputs are TRUE."""
+    names = [f"S_i{k:03d}" for k in range(inputs)]
+    links = signals - inputs - 3 * instances - 1
+    lines = ["PROGRAM Chain", "VAR_INPUT", f"  {', '.join(names)} : SAFEBOOL;", "END_VAR", "VAR_OUTPUT S_End : SAFEBOOL; END_VAR", "VAR"]
+    lines += [*(f"  x{k:04d} : SAFEBOOL;" for k in range(links)), *(f"  e{k:03d} : SF_EmergencyStop;" for k in range(instances)), "END_VAR"]
+    for k in range(instances):
+        lines.append(f"e{k:03d}(Activate := TRUE, S_EStopIn := {names[k % inputs]}, S_StartReset := TRUE, S_AutoReset := TRUE);")
+    # a call has one node, and so has the last assignment; an AND has one more than it has operands
+    rest = nodes - instances - 1
+    for k in range(links):
+        count = rest // links + (k < rest % links) - 1
+        before = [f"x{k - 1:04d}"] if k else []
+        operands = [*before, f"e{k % instances:03d}.S_EStopOut", *(names[(7 * k + j) % inputs] for j in range(count))]
+        lines.append(f"x{k:04d} := {' AND '.join(operands[:count])};")
+    lines += [f"S_End := x{links - 1:04d};", "END_PROGRAM", ""]
+    with open(f"{path}.st", "w", encoding="ascii") as out:
+        out.write("\n".join(lines))
+    with open(f"{path}.trace", "w", encoding="ascii") as out:
+        out.write(" ".join(["time", *names]) + "\n")
+        out.write("".join(" ".join([str(10 * k), *("1" for _ in names)]) + "\n" for k in range(10)))
+
+
 def main(folder):
     os.makedirs(folder, exist_ok=True)
     at = lambda file: os.path.join(folder, file)
@@ -116,6 +142,8 @@ def main(folder):
     write_wide(at("wide-parts.st"), 480, 490, 1)
     write_wide(at("wide-groups.st"), 480, 490, 2)
     write_wide(at("wide-groups-half.st"), 240, 490, 2)
+    write_chain(at("chain"), 512, 400, 4_000, 20_000)
+    write_chain(at("chain-half"), 256, 200, 2_000, 10_000)
 
 
 if __name__ == "__main__":

@@ -16,6 +16,7 @@ sys.path.append(os.path.join(HERE, "..", "tools"))
 from plainly import plainly
 
 BUILT = os.path.join(HERE, "..", "built", "ps_main", "program")
+WORKBENCH = os.path.abspath(os.path.join(HERE, "..", "built", "ps_workbench", "program"))
 PROGRAM = os.path.abspath(sys.argv[2] if len(sys.argv) > 2 else BUILT)
 MIB = 1 << 20
 RUNS = 9
@@ -85,6 +86,16 @@ def wide(folder):
     return rows
 
 
+def reasons(folder):
+    """The row of `plcsafe-bench why` at the end of a chain through the application; none where that program is not built."""
+    if not os.path.isfile(WORKBENCH):
+        return []
+    both = []
+    for part, file in (("half", "chain-half"), ("all", "chain")):
+        both.append((f"why, {part} the chain", [WORKBENCH, "why", f"{file}.st", f"{file}.trace", "90", "S_End"], os.devnull))
+    return [grows("plcsafe-bench why", folder, *both)]
+
+
 def traces(folder):
     """The rows of the commands over traces, and of a load. The fault strikes no scan, so that each is made in full."""
     with open(os.path.join(folder, "late.faults"), "w", encoding="ascii") as out:
@@ -112,9 +123,9 @@ def tools(folder):
 def main(folder):
     if not os.path.isfile(PROGRAM):
         sys.exit("the program is not built: run ./plcsafe once")
-    if not os.path.isfile(os.path.join(folder, "wide.st")):
+    if not os.path.isfile(os.path.join(folder, "chain.st")):
         subprocess.run([sys.executable, os.path.join(HERE, "generate.py"), folder], check=True)
-    rows = [*sources(folder), *wide(folder), *traces(folder), *tools(folder)]
+    rows = [*sources(folder), *wide(folder), *reasons(folder), *traces(folder), *tools(folder)]
     if shutil.which("valgrind") is None:
         print("valgrind is not installed, and instructions.py needs it to count instructions")
     print("| | time at half | time at the limits | twice the input takes | MiB at half | MiB at the limits |")

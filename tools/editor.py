@@ -4,7 +4,7 @@
 editor.py PROGRAM [NAME=PROGRAM..]    PROGRAM, or the one that is given as plcsafe-lsp=FILE, is the server
 
 Each request has to be answered once, under its id; a refusal has to stand at its place, in UTF-16 code units; and no message may end
-the server with anything but the status that it has for it.
+the server with anything but the status that it has for it. A change of a text of 1 MiB has to be answered in time.
 """
 import json
 import os
@@ -14,6 +14,7 @@ import shutil
 import subprocess
 import sys
 import tempfile
+import time
 
 sys.path.insert(0, os.path.dirname(os.path.realpath(__file__)))
 from plainly import Stop, plainly
@@ -31,7 +32,9 @@ END_PROGRAM
 """
 WRONG = TEXT.replace(", );", ", Reset := Reset);")
 RIGHT = WRONG.replace("S_None", "E.S_EStopOut")
-BROKEN = 3_000
+BROKEN_BODIES, BROKEN_TEXTS, BROKEN_STREAMS = 6_000, 3_900, 100
+METHODS = ("hover", "completion", "definition", "documentSymbol")
+WANTED_SECONDS, MOST_SECONDS = 0.2, 1.0  # for the answer to a change of a text of 1 MiB: on a quiet machine, and on any
 
 
 def frame(body):
@@ -154,23 +157,109 @@ def by_broken_bodies(server):
     """Broken bodies in whole frames: each is answered at most once, and the server goes on to the last."""
     numbers = random.Random(53)
     bodies = [part.split(b"\r\n\r\n", 1)[1] for part in (opened(WRONG), asked(2, "hover", 3, 10), asked(3, "completion", 4, 20))]
-    sent = BEGIN + b"".join(frame(spoilt(numbers, numbers.choice(bodies))) for _ in range(BROKEN)) + END
+    sent = BEGIN + b"".join(frame(spoilt(numbers, numbers.choice(bodies))) for _ in range(BROKEN_BODIES)) + END
     found, status = served(server, sent)
     expect(status == 0 and answers(found, "end")["result"] is None, "broken bodies do not end the server")
-    return BROKEN
+    return BROKEN_BODIES
+
+
+def units(line):
+    """How many UTF-16 code units a line has."""
+    return len(line.encode("utf-16-le", "surrogatepass")) // 2
+
+
+def is_within(place, lines):
+    """Whether a range stands in a text of these lines."""
+    ends = [place[end] for end in ("start", "end")]
+    return all(at["line"] < len(lines) and at["character"] <= units(lines[at["line"]]) for at in ends) and \
+        [ends[0]["line"], ends[0]["character"]] <= [ends[1]["line"], ends[1]["character"]]
+
+
+def by_broken_texts(server):
+    """Broken texts, one after the other in the place of one, with a question about a place of each: each is told of once, at places that it
+    has, and each question is answered once."""
+    numbers = random.Random(55)
+    held = [TEXT, WRONG, RIGHT, *((ROOT / "examples" / name).read_text() for name in ("press/press.st", "stop/motor.st"))]
+    texts = [spoilt(numbers, numbers.choice(held).encode()).decode("utf-8", "replace") for _ in range(BROKEN_TEXTS)]
+    sent = [BEGIN]
+    for i, text in enumerate(texts):
+        sent.append(opened(text, "textDocument/didOpen" if i == 0 else "textDocument/didChange"))
+        sent.append(asked(i + 10, METHODS[i % len(METHODS)], numbers.randrange(30), numbers.randrange(60)))
+    found, status = served(server, b"".join([*sent, END]))
+    lists = told(found)
+    expect(status == 0 and len(lists) == len(texts), "each broken text is told of once")
+    ids = [value["id"] for value in found if isinstance(value.get("id"), int)]
+    expect(sorted(ids) == [1, *range(10, len(texts) + 10)], "each question about a broken text is answered once")
+    for text, one in ((text, one) for text, list in zip(texts, lists) for one in list):
+        expect(is_within(one["range"], text.split("\n")), f"{one} stands in {text!r}")
+    return len(texts)
 
 
 def by_broken_streams(server):
     """Broken streams: the server ends with a status of its own, and what it wrote are messages."""
     numbers = random.Random(54)
     whole = BEGIN + opened(WRONG) + asked(2, "hover", 3, 10) + END
-    for _ in range(100):
+    for _ in range(BROKEN_STREAMS):
         _, status = served(server, spoilt(numbers, whole))
         expect(status in (0, 1), f"a broken stream ends with 0 or 1, and not {status}")
     for sent in (b"", b"\r\n\r\n", b"Content-Length: 99999999999\r\n\r\n", b"Content-Length: 16777217\r\n\r\n", b"x" * 10_000):
         _, status = served(server, sent)
         expect(status == 1, f"a stream that ends without an exit ends with 1, and not {status}")
-    return 105
+    return BROKEN_STREAMS + 5
+
+
+class Talk:
+    """A server that answers while it is being asked."""
+
+    def __init__(self, server):
+        self.run = subprocess.Popen([server], stdin=subprocess.PIPE, stdout=subprocess.PIPE, stderr=subprocess.PIPE)
+
+    def say(self, sent):
+        self.run.stdin.write(sent)
+        self.run.stdin.flush()
+
+    def hear(self):
+        """The next message."""
+        length = 0
+        while (line := self.run.stdout.readline()) != b"\r\n":
+            if not line:
+                raise Stop("the server ended")
+            if line.startswith(b"Content-Length: "):
+                length = int(line[16:])
+        return json.loads(self.run.stdout.read(length))
+
+    def end(self):
+        self.say(END)
+        self.run.communicate(timeout=60)
+
+
+def large_text(bad):
+    """A text of 1 MiB of statements, of which none is right; or of few, and a comment."""
+    head = "PROGRAM P\nVAR_INPUT S_1 : SAFEBOOL; END_VAR\nVAR_OUTPUT S_O : SAFEBOOL; END_VAR\n"
+    line = "S_O := S_1 OR S_3 ;\n" if bad else "// " + "\u00e4" * 30 + "\n"
+    tail = "S_O := S_1;\nEND_PROGRAM\n"
+    return head + line * ((1_048_576 - len(head) - len(tail)) // len(line.encode())) + tail
+
+
+def by_large_texts(server):
+    """How long the notice on a change of a text of 1 MiB takes, in seconds: the least of some, for each of two texts."""
+    took = {}
+    for name, text in (("bad statements", large_text(True)), ("comments", large_text(False))):
+        talk = Talk(server)
+        talk.say(BEGIN + opened(text))
+        while "method" not in talk.hear():
+            pass
+        took[name] = 99.0
+        for _ in range(7):
+            change = opened(text, "textDocument/didChange")
+            begun = time.monotonic()
+            talk.say(change)
+            talk.hear()
+            took[name] = min(took[name], time.monotonic() - begun)
+            if took[name] < WANTED_SECONDS:
+                break
+        talk.end()
+    return took
 
 
 SCRIPT = r"""
@@ -232,9 +321,13 @@ def main(words):
     server = os.path.abspath(named.get("plcsafe-lsp", words[0]))
     by_messages(server)
     by_pins(server)
-    count = by_broken_bodies(server) + by_broken_streams(server)
+    count = by_broken_bodies(server) + by_broken_texts(server) + by_broken_streams(server)
+    took = by_large_texts(server)
+    print("a change of 1 MiB is answered in " + ", ".join(f"{1000 * seconds:.0f} ms ({name})" for name, seconds in took.items()))
+    if b"__asan_init" not in pathlib.Path(server).read_bytes() and not server.endswith(".by-rattle"):
+        expect(max(took.values()) < MOST_SECONDS, f"it is answered in {1000 * MOST_SECONDS:.0f} ms")
     print(by_neovim(server))
-    print(f"a whole talk, and {count} broken messages and streams, have the answers that they are to have")
+    print(f"a whole talk, and {count} broken messages, texts and streams, have the answers that they are to have")
     return 0
 
 

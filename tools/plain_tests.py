@@ -35,6 +35,7 @@ CANNOT = {
     "tools/launch.py": [[], ["ps_nothing"], ["ps_nothing", "nothing"]],
     "tools/launcher_tests.py": [MANY, ["no_row_has_this_name"]],
     "tools/links": [["nothing"]],
+    "tools/live.py": [[], MANY, ["BYTES"], ["BYTES", "plcsafe-bench=GONE"], ["GONE", "plcsafe-bench=BYTES"], ["FOLDER", "plcsafe-bench=FOLDER"], ["--minutes", "a"]],
     "tools/logs.py": [[], MANY, ["BYTES"], ["BYTES", "plcsafe-bench=GONE"], ["plcsafe-bench=FOLDER"], ["plcsafe-bench=BYTES"], ["--count", "a"]],
     "tools/messages.py": [[], ["GONE"], ["FOLDER"], ["--show", "BYTES", "no_mistake"], ["--write", "GONE"], ["a", "b", "c"]],
     "tools/plain_tests.py": [MANY, ["no_script_has_this_name"]],

@@ -1,6 +1,6 @@
 -- A trace whose scans are added, or that is refused.
 use Rattle.std.proofs.Common.{◌≡◌, ◌<◌, ◌≤◌, ◌∙◌, ◌++◌, ℕ, Bool, IsTrue, List, [], ◌∷◌, Option, Some, None, Result, Ok, Err, refl, sym, ap, subst, inl, inr, arith}
-use Rattle.std.specs.Prelude.{IfOk, IfSome, OnOk}
+use Rattle.std.specs.Prelude.{IfOk, OnOk}
 use Rattle.ps_alone.specs.Applying as applying
 use Rattle.ps_alone.specs.Applying.{ScanStep}
 use Rattle.ps_base.specs.declared.failing.Memory.{Memory}
@@ -9,7 +9,7 @@ use Rattle.ps_bench_base.specs.Stopping.{Took}
 use Rattle.ps_bench_base.specs.declared.ending.Input.TheVariants.{Trace}
 use Rattle.ps_bench_base.specs.declared.ending.InputStop.TheVariants.{Refused}
 use Rattle.ps_bench_base.specs.declared.ending.Stop.{Stop}
-use Rattle.ps_bench_base.specs.declared.ending.Stop.TheVariants.{Input, Unwritten}
+use Rattle.ps_bench_base.specs.declared.ending.Stop.TheVariants.{Input}
 use Rattle.ps_cover.specs.Tallied.{IsWhole, KnowsTraces}
 use Rattle.ps_cover.specs.declared.cover.Cover.{Cover}
 use Rattle.ps_model.specs.Meaning.{Meaning, nothing}
@@ -26,7 +26,7 @@ use Rattle.ps_trace.specs.Scans.{Scans, scans_of}
 use Rattle.ps_trace.specs.Scans.End.{refused, whole}
 use Rattle.ps_traced.specs.Opening.{SaysRefusal}
 use Rattle.ps_traced.specs.Playing.{IsPlay}
-use Rattle.ps_accounting.specs.Adding.{AddsHeld, AddsWord, RefusesHeld, RefusesWord, StopsAtTrace}
+use Rattle.ps_accounting.specs.Adding.{AddsHeld, AddsWord}
 
 -- a line that was written is that of the refusal
 pub said_refusal : (refusal r : Refusal) (stop : Stop) (tells : Bool) (before after : List ℕ) → SaysRefusal Trace refusal tells before after stop →
@@ -71,35 +71,12 @@ held_added net sound held text left old new is same ends adds =
       λ traces first first_whole knows. more traces first first_whole knows one.meaning one.means,
     )
 
--- what stops at a trace for these refusals stops for weaker ones
-pub stops_weaker : (P Q : Refusal → Type 0) (stop : Stop) (tells : Bool) (before after : List ℕ) → ((r : Refusal) → P r → Q r) →
-    StopsAtTrace P stop tells before after → StopsAtTrace Q stop tells before after
-stops_weaker P Q stop tells before after weaker stops = record {
-  of_run = stops.of_run;
-  refuses = λ refusal is. let why = stops.refuses refusal is in (weaker refusal why.0, why.1);
-}
-
 -- what is held where a word stands is what the word means
 pub word_added : (from : Source) (word : List ℕ) (faults : List Fault) (held : Option (List ℕ)) (old new : Cover) →
     ((trace : List ℕ) → held ≡ Some trace → IsPlay from word trace faults) → AddsHeld from.net held old new → AddsWord from word old new
 word_added from word faults held old new means (trace, is, steps, are, adds) = (steps, (trace, faults, means trace is, are), adds)
 
-pub word_refused : (from : Source) (word : List ℕ) (faults : List Fault) (held : Option (List ℕ)) (refusal : Refusal) →
-    ((trace : List ℕ) → held ≡ Some trace → IsPlay from word trace faults) → RefusesHeld from.net held refusal → RefusesWord from word refusal
-word_refused from word faults held refusal means (trace, is, ends) = (trace, faults, means trace is, ends)
-
 -- what holds where a call was done
 pub added_on : {P : Type 0} (r : Result (Unit {0}) Stop) → r ≡ Ok tt → OnOk r P → P
 added_on (Ok done) is holds = holds
 added_on (Err stop) is holds = cc
-
--- the same from what stands before a call that changes none of it
-pub stops_moved : (P : Refusal → Type 0) (stop : Stop) (t' t : Bool) (b' b after : List ℕ) → t' ≡ t → b' ≡ b →
-    StopsAtTrace P stop t' b' after → StopsAtTrace P stop t b after
-stops_moved P stop t' t b' b after t_is b_is stops =
-    subst (λ (x : Bool). StopsAtTrace P stop x b after) t_is (subst (λ (x : List ℕ). StopsAtTrace P stop t' x after) b_is stops)
-
--- what holds of a value, if there is one, holds of the one that is there
-pub of_some : {X : Type 0} (P : X → Type 0) (o : Option X) (x : X) → o ≡ Some x → IfSome o P → P x
-of_some P None x is holds = cc
-of_some P (Some y) x is holds = let same : y ≡ x = cc in subst P same holds

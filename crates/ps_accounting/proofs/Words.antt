@@ -10,7 +10,8 @@ use Rattle.ps_model.specs.declared.channel.ImageSizes.{ImageSizes}
 use Rattle.ps_bench_base.specs.declared.ending.InputStop.TheVariants.{Refused, RulesRefused, LogRefused, OtherRefused, Unlike, Unread}
 use Rattle.ps_bench_base.specs.declared.ending.Stop.{Stop}
 use Rattle.ps_bench_base.specs.declared.ending.Stop.TheVariants.{App, Cases, UnreadApp, UnreadCases, Input, Unwritten, NoMemory}
-use Rattle.ps_accounting.specs.Adding.{AreScansAll, AreScansAt, StopsAmong, StopsAtWord}
+use Rattle.ps_accounting.specs.Adding.{AreScansAll, AreScansAt, StopsAmong}
+use Rattle.ps_traced.specs.Refusing.{StopsAtWord}
 
 -- the bytes of words that are borrowed
 abbrev pub words_in : List (Bor (List ℕ)) → List (List ℕ)

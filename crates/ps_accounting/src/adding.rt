@@ -13,8 +13,9 @@ ghost use Rattle.ps_model.specs.Typing.{Accepted};
 ghost use Rattle.ps_outside.specs.Outside.{Rose};
 ghost use Rattle.ps_report.specs.Short.{refusal_text};
 ghost use Rattle.ps_traced.specs.Playing.{LacksCase, trace_held};
-ghost use Rattle.ps_accounting.specs.Adding.{AddsHeld, AddsWord, AreScansAll, RefusesHeld, RefusesWord, StopsAmong};
-ghost use Rattle.ps_accounting.specs.Adding.{StopsAtTrace, StopsAtWord};
+ghost use Rattle.ps_accounting.specs.Adding.{AddsHeld, AddsWord, AreScansAll, StopsAmong};
+ghost use Rattle.ps_traced.specs.Refusing.{RefusesHeld, RefusesWord};
+ghost use Rattle.ps_traced.specs.Refusing.{StopsAtTrace, StopsAtWord};
 
 use ps_base::Memory;
 use ps_bench_base::{Input, InputStop, Opened, Stop, word_of};

@@ -1,6 +1,4 @@
 -- What the searched block cites.
-pub mod Allowing
-pub mod Marking
 pub mod Numbering
 pub mod Inputs
 pub mod Showing

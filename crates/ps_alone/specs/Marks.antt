@@ -1,17 +1,12 @@
 -- Which ways and states a step of a block is of.
-use Rattle.std.specs.Prelude.{◌-◌, ℕ, Bool, false, Option, Some, None, ◌&&◌, ◌==◌, not, length, nat_lt, slice_get}
+use Rattle.std.specs.Prelude.{◌-◌, ℕ, Bool, ◌&&◌, ◌==◌, length, nat_lt, slice_get}
 use Rattle.std.specs.Prelude.{if◌then◌else◌}
-use Rattle.ps_model.specs.Blocks.{block, next}
-use Rattle.ps_model.specs.Table.{Conditions, row_at}
+use Rattle.ps_marks.specs.Marks.{number_taken, of_way}
+use Rattle.ps_model.specs.Blocks.{next}
+use Rattle.ps_model.specs.Table.{Conditions}
 use Rattle.ps_model.specs.declared.kind.Kind.{Kind}
 use Rattle.ps_ways.specs.Tables.{ways_of}
-use Rattle.ps_ways.specs.Ways.{first_rule}
 use Rattle.ps_ways.specs.declared.way.Way.{Way}
-
--- The number of the guard by which a step leaves state q, from 1 on, and 0 where none does: where Activate is FALSE, in
--- Idle, and where no guard holds.
-abbrev pub number_taken : Kind → (q : ℕ) → Conditions → ℕ
-number_taken kind q c = if c.pin 0 && not (q == 0) then first_rule 1 (row_at (block kind).rows q).rules c else 0
 
 -- a step from state q takes this way: the state is the way's, and so is the guard
 abbrev pub takes : Kind → (q : ℕ) → Conditions → Way → Bool
@@ -20,11 +15,6 @@ takes kind q c w = w.state == q && w.number == number_taken kind q c
 -- behind a step from state q the block is in the state that this way leaves
 abbrev pub enters : Kind → (q : ℕ) → Conditions → Way → Bool
 enters kind q c w = w.state == next kind q c
-
--- it is so of a way, where there is one
-abbrev pub of_way : (Way → Bool) → Option Way → Bool
-of_way is None = false
-of_way is (Some w) = is w
 
 -- The marks of a step under these conditions, by number: for each way of the kind, in order, whether it is taken, and
 -- behind these, for each way, whether the state that it leaves is entered.

@@ -2,6 +2,7 @@
 use Rattle.std.specs.Prelude.{◌≡◌, ℕ, List, [], ◌∷◌, ◌++◌, Option, Some, None, codes, decimal, length, nat_lt, if◌then◌else◌}
 use Rattle.std.specs.Prelude.{slice_get}
 use Rattle.std.specs.List.{flat_map, range_with_len}
+use Rattle.ps_base.specs.declared.failing.Place.{Place}
 use Rattle.ps_coverage.specs.declared.format.Format.{Format}
 use Rattle.ps_coverage.specs.declared.format.Format.TheVariants.{Text, Json}
 use Rattle.ps_reasons.specs.declared.explaining.Explanation.{Explanation}
@@ -16,6 +17,7 @@ use Rattle.ps_because.specs.declared.lines.Line.{Line}
 abbrev pub indents : (depth : ℕ) → ℕ
 indents depth = if nat_lt 40 depth then 40 else depth
 
+-- the blanks before a line of this depth
 abbrev pub indent_text : (depth : ℕ) → List ℕ
 indent_text depth = flat_map (λ n. codes "  ") (range_with_len 0 (indents depth))
 
@@ -24,9 +26,17 @@ abbrev pub told_at : Moment → Option Fact → List ℕ
 told_at m (Some fact) = fact_text m fact
 told_at m None = []
 
+-- where the step stands that makes a fact, if one does: its line and column, counted from 1
+abbrev pub place_text : Option (Option Place) → List ℕ
+place_text (Some (Some at)) = codes " (" ++ decimal at.line ++ codes ":" ++ decimal at.column ++ codes ")"
+place_text (Some None) = []
+place_text None = []
+
 -- a line of the tree
-abbrev pub line_text : Moment → List Fact → Line → List ℕ
-line_text m facts line = indent_text line.depth ++ told_at m (slice_get facts line.fact) ++ codes "\n"
+abbrev pub line_text : Moment → List Fact → (places : List (Option Place)) → Line → List ℕ
+line_text m facts places line =
+    indent_text line.depth ++ told_at m (slice_get facts line.fact) ++ place_text (slice_get places line.fact)
+    ++ codes "\n"
 
 -- the scan before, if there is one
 abbrev pub behind_text : Option ℕ → List ℕ
@@ -42,6 +52,7 @@ abbrev pub json_behind : Option ℕ → List ℕ
 json_behind None = codes "null"
 json_behind (Some ms) = decimal ms
 
+-- the line of the scan in JSON
 abbrev pub json_head : Moment → List ℕ
 json_head m = codes "{\"at\":" ++ decimal m.now ++ codes ",\"before\":" ++ json_behind m.before ++ codes "}\n"
 
@@ -50,26 +61,35 @@ abbrev pub numbers_text : List ℕ → List ℕ
 numbers_text [] = []
 numbers_text (n ∷ rest) = decimal n ++ flat_map (λ v. codes "," ++ decimal v) rest
 
+-- the numbers of the facts on which one rests, if it rests on any
 abbrev pub reasons_text : Option Reasons → List ℕ
 reasons_text (Some r) = numbers_text r.facts.items
 reasons_text None = []
 
--- a fact in JSON: its number, its words, and the numbers of the facts on which it rests
-abbrev pub json_fact : Moment → Explanation → (n : ℕ) → List ℕ
-json_fact m e n =
-    codes "{\"fact\":" ++ decimal n ++ codes ",\"told\":\"" ++ told_at m (slice_get e.facts.items n)
-    ++ codes "\",\"because\":[" ++ reasons_text (slice_get e.reasons.items n) ++ codes "]}\n"
+-- a place in JSON, behind another member
+abbrev pub json_place : Option (Option Place) → List ℕ
+json_place (Some (Some at)) = codes ",\"line\":" ++ decimal at.line ++ codes ",\"column\":" ++ decimal at.column
+json_place (Some None) = []
+json_place None = []
+
+-- a fact in JSON: its number, its words, where the step stands that makes it, and the numbers of the facts on which it
+-- rests
+abbrev pub json_fact : Moment → Explanation → (places : List (Option Place)) → (n : ℕ) → List ℕ
+json_fact m e places n =
+    codes "{\"fact\":" ++ decimal n ++ codes ",\"told\":\"" ++ told_at m (slice_get e.facts.items n) ++ codes "\""
+    ++ json_place (slice_get places n)
+    ++ codes ",\"because\":[" ++ reasons_text (slice_get e.reasons.items n) ++ codes "]}\n"
 
 -- all facts by their numbers
-abbrev pub json_text : Moment → Explanation → List ℕ
-json_text m e = json_head m ++ flat_map (json_fact m e) (range_with_len 0 (length e.facts.items))
+abbrev pub json_text : Moment → Explanation → (places : List (Option Place)) → List ℕ
+json_text m e places = json_head m ++ flat_map (json_fact m e places) (range_with_len 0 (length e.facts.items))
 
 -- the tree of these lines
-abbrev pub tree_text : Moment → Explanation → List Line → List ℕ
-tree_text m e lines = head_text m ++ flat_map (line_text m e.facts.items) lines
+abbrev pub tree_text : Moment → Explanation → (places : List (Option Place)) → List Line → List ℕ
+tree_text m e places lines = head_text m ++ flat_map (line_text m e.facts.items places) lines
 
--- An explanation is told: in text as a tree in which each fact stands once, below one of which it is a reason; in JSON
--- fact by fact with the numbers of its reasons.
-abbrev pub IsToldAs : Moment → Explanation → Format → (text : List ℕ) → Type 0
-IsToldAs m e Text text = (lines : List Line) × AreLinesOf e lines × (text ≡ tree_text m e lines)
-IsToldAs m e Json text = text ≡ json_text m e
+-- An explanation is told, with a place for each fact, if it has one: in text as a tree in which each fact stands once,
+-- below one of which it is a reason; in JSON fact by fact with the numbers of its reasons.
+abbrev pub IsToldAs : Moment → Explanation → (places : List (Option Place)) → Format → (text : List ℕ) → Type 0
+IsToldAs m e places Text text = (lines : List Line) × AreLinesOf e lines × (text ≡ tree_text m e places lines)
+IsToldAs m e places Json text = text ≡ json_text m e places

@@ -1,5 +1,7 @@
--- what a reader of the clauses has to believe: when a scan was, a fact of it in words, and all that is told
+-- what a reader of the clauses has to believe: when a scan was, for what a state waits, a fact of the scan in words, and
+-- all that is told
 pub mod Moments
+pub mod Waiting
 pub mod Facts
 pub mod Trees
 pub mod Because

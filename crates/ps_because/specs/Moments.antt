@@ -9,16 +9,18 @@ use Rattle.ps_model.specs.Pins.{pin_names}
 use Rattle.ps_model.specs.declared.kind.Kind.{Kind}
 use Rattle.ps_cover.specs.Tallying.{called_kind}
 use Rattle.ps_coverage.specs.Lines.{called_name}
+use Rattle.ps_reasons.specs.declared.scene.CallScene.{CallScene}
 use Rattle.ps_because.specs.declared.moment.Moment.{Moment as MomentOf}
 
--- A scan: the application, the time in ms, that of the scan before, if there is one, and since when each instance was in
--- its state before the scan, and is in the one behind it.
+-- A scan: the application, the time in ms, that of the scan before, if there is one, since when each instance was in its
+-- state before the scan, and is in the one behind it, and these states of each.
 pub record Moment : Type 0 where
   pub net : Network
   pub now : ℕ
   pub before : Option ℕ
   pub since_before : List ℕ
   pub since : List ℕ
+  pub calls : List CallScene
 
 -- as the code has it
 abbrev pub moment_of : MomentOf → Moment
@@ -28,6 +30,7 @@ moment_of m = record {
   before = m.before;
   since_before = m.since_before.now;
   since = m.since.now;
+  calls = m.calls.now;
 }
 
 -- the name of a pin of a kind; one that there is not has none

@@ -3,20 +3,23 @@
 ghost use Rattle.std.specs.Prelude.{◌≡◌, ◌<◌, ◌++◌, OnOk, decimal, slice_get, slice_index, slice_index_or, true};
 ghost use Rattle.std.specs.Char.{to_ascii_uppercase};
 ghost use Rattle.hex.specs.Hex.{lower_digits};
-ghost use Rattle.ps_because.specs.Facts.{ask_is, before_text, edge_was, ending_of, fact_text, input_text, mode_is};
-ghost use Rattle.ps_because.specs.Facts.{mode_was, pin_ending, pin_is, signal_is, signal_was, since_text, state_is};
-ghost use Rattle.ps_because.specs.Facts.{state_named, state_was};
+ghost use Rattle.ps_because.specs.Facts.{ask_is, asked_text, awaited_text, before_text, called_stayed, edge_was};
+ghost use Rattle.ps_because.specs.Facts.{ending_of, fact_text, input_text, mode_is, mode_was, pin_ending, pin_is};
+ghost use Rattle.ps_because.specs.Facts.{signal_is, signal_was, since_text, so_text, state_is, state_named, state_was};
+ghost use Rattle.ps_because.specs.Facts.{stayed_in, waits_text, waits_words};
 ghost use Rattle.ps_because.specs.Moments.{moment_of};
 ghost use Rattle.ps_conditions.specs.Conditions.{subject_words};
 ghost use Rattle.ps_coverage.specs.Lines.{condition_text, truth};
 ghost use Rattle.ps_report.specs.Lines.{code_text};
 
 use crate::moment::{Moment, add_call_pin, add_signal, called_name, kind_of, name_of};
+use crate::waiting::{ON, is_error, is_waited_for, standing_of};
 use itoa::Buffer;
 use ps_base::{Bytes, Memory};
-use ps_conditions::{Condition, subject_of, told_of};
+use ps_conditions::{Condition, awaited_of, subject_of, told_of};
 use ps_cover::called_kind;
 use ps_model::{App, Arg, Args, Kind, Step};
+use ps_reasons::CallScene;
 use ps_states::state_words;
 use ps_ways::Ask;
 use ps_why::Fact;
@@ -158,13 +161,81 @@ fn add_condition(text: &mut Bytes, kind: Kind, condition: Condition) -> Result<(
     text.extend_from_slice(told_of(condition).as_bytes())
 }
 
-fn add_ask_is(text: &mut Bytes, app: &App, k: u16, ask: Ask, value: bool) -> Result<(), Memory>
-    ensures { OnOk result (text.new ≡ text.old ++ ask_is app.now k ask value) }
+// The state of an instance, if it stayed in it.
+fn stayed_in(calls: &[CallScene], i: u16) -> Option<u16>
+    ensures { result ≡ stayed_in (slice_get calls.now i) }
 {
-    let condition = Condition { ask, holds: value };
-    text.extend_from_slice(called_name(app, k))?;
+    if (i as usize) >= calls.len() {
+        return None;
+    }
+    let call = &calls[i as usize];
+    if call.from == call.code {
+        Some(call.code)
+    } else {
+        None
+    }
+}
+
+// That of the instance that a step calls.
+fn called_stayed(m: &Moment<'_>, k: u16) -> Option<u16>
+    ensures { result ≡ called_stayed (moment_of m.entry.now) (slice_get m.entry.now.app.now.steps k) }
+{
+    if k >= m.app.step_count() {
+        return None;
+    }
+    match m.app.step(k) {
+        Step::Call { instance, .. } => stayed_in(m.calls, *instance),
+        Step::Assign { .. } => None,
+    }
+}
+
+// Puts what is so of what a guard asks.
+fn add_so(text: &mut Bytes, kind: Kind, ask: Ask, value: bool) -> Result<(), Memory>
+    ensures { OnOk result (text.new ≡ text.old ++ so_text kind ask value) }
+{
     text.extend_from_slice(b": ")?;
-    add_condition(text, called_kind(app, k), condition)
+    add_condition(text, kind, Condition { ask, holds: value })
+}
+
+// Puts what is waited for, and what there is in its place.
+fn add_awaited(text: &mut Bytes, kind: Kind, ask: Ask, value: bool) -> Result<(), Memory>
+    ensures { OnOk result (text.new ≡ text.old ++ awaited_text kind ask value) }
+{
+    let awaited = Condition { ask, holds: !value };
+    let standing = Condition { ask, holds: value };
+    text.extend_from_slice(b" waits for ")?;
+    text.extend_from_slice(subject_of(kind, awaited).as_bytes())?;
+    text.extend_from_slice(b" ")?;
+    text.extend_from_slice(awaited_of(awaited).as_bytes())?;
+    text.extend_from_slice(b": ")?;
+    text.extend_from_slice(standing_of(kind, standing).as_bytes())?;
+    text.extend_from_slice(b" ")?;
+    text.extend_from_slice(told_of(standing).as_bytes())
+}
+
+// Puts one of both, of an instance that stayed in a state, or did not.
+fn add_asked(
+    text: &mut Bytes,
+    kind: Kind,
+    stayed: Option<u16>,
+    ask: Ask,
+    value: bool,
+) -> Result<(), Memory>
+    ensures { OnOk result (text.new ≡ text.old ++ asked_text kind stayed ask value) }
+{
+    match stayed {
+        Some(code) if is_waited_for(kind, code, Condition { ask, holds: value }) => {
+            add_awaited(text, kind, ask, value)
+        }
+        _ => add_so(text, kind, ask, value),
+    }
+}
+
+fn add_ask_is(text: &mut Bytes, m: &Moment<'_>, k: u16, ask: Ask, value: bool) -> Result<(), Memory>
+    ensures { OnOk result (text.new ≡ text.old ++ ask_is (moment_of m.entry.now) k ask value) }
+{
+    text.extend_from_slice(called_name(m.app, k))?;
+    add_asked(text, called_kind(m.app, k), called_stayed(m, k), ask, value)
 }
 
 // The number at a place; 0 past the end.
@@ -178,6 +249,31 @@ fn number_at(numbers: &[u32], i: u16) -> u32
     }
 }
 
+// What is told of a state that stayed: that it waits.
+fn waits_words(code: u16) -> &'static [u8]
+    ensures { result.now ≡ waits_words code }
+{
+    if code == 0 {
+        b" and waits for Activate"
+    } else if code == ON {
+        b""
+    } else if is_error(code) {
+        b" and waits to be ended"
+    } else {
+        b" and waits"
+    }
+}
+
+// The same where a state stayed.
+fn waits_text(stayed: Option<u16>) -> &'static [u8]
+    ensures { result.now ≡ waits_text stayed }
+{
+    match stayed {
+        Some(code) => waits_words(code),
+        None => b"",
+    }
+}
+
 fn add_state_is(text: &mut Bytes, m: &Moment<'_>, i: u16, code: u16) -> Result<(), Memory>
     ensures { OnOk result (text.new ≡ text.old ++ state_is (moment_of m.entry.now) i code) }
 {
@@ -185,7 +281,8 @@ fn add_state_is(text: &mut Bytes, m: &Moment<'_>, i: u16, code: u16) -> Result<(
     text.extend_from_slice(b" is in ")?;
     add_state(text, kind_of(m.app, i), code)?;
     text.extend_from_slice(b" since ")?;
-    add_number(text, number_at(m.since, i))
+    add_number(text, number_at(m.since, i))?;
+    text.extend_from_slice(waits_text(stayed_in(m.calls, i)))
 }
 
 // Puts since when a state before the scan had been entered.
@@ -261,7 +358,7 @@ pub(crate) fn add_fact(text: &mut Bytes, m: &Moment<'_>, fact: Fact) -> Result<(
         Fact::SignalIs { signal, value } => add_signal_is(text, m.app, signal, value),
         Fact::SignalWas { signal, value } => add_signal_was(text, m, signal, value),
         Fact::PinIs { step, pin, value } => add_pin_is(text, m.app, step, pin, value),
-        Fact::AskIs { step, ask, value } => add_ask_is(text, m.app, step, ask, value),
+        Fact::AskIs { step, ask, value } => add_ask_is(text, m, step, ask, value),
         Fact::StateIs { instance, code } => add_state_is(text, m, instance, code),
         Fact::StateWas { instance, code } => add_state_was(text, m, instance, code),
         Fact::ResetWas { instance, value } => add_edge_was(text, m, instance, Ask::Edge, value),

@@ -1,7 +1,7 @@
 //! What is told of an explanation: why something of a scan is so, as text and as JSON.
 //!
 //! - `moment`: the scan of which something is told, and the names of its application.
-//! - `facts`: a fact in words.
+//! - `waiting`: what a state waits for that stays. `facts`: a fact in words.
 //! - `lines`: in which order facts are told, and how deep each stands.
 //! - `telling`: the whole text.
 #![tactic(auto)]
@@ -10,6 +10,7 @@ mod facts;
 mod lines;
 mod moment;
 mod telling;
+mod waiting;
 
 pub use lines::{Line, lines_of};
 pub use moment::Moment;

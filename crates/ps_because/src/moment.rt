@@ -12,6 +12,7 @@ ghost use Rattle.ps_model.specs.Pins.{pin_names};
 use ps_base::{Bytes, Memory};
 use ps_cover::called_kind;
 use ps_model::{App, Kind, Step, input_count, output_count, pin_count, pin_name};
+use ps_reasons::CallScene;
 
 /// The scan of which something is told.
 #[derive(Clone, Copy)]
@@ -26,6 +27,8 @@ pub struct Moment<'a> {
     pub since_before: &'a [u32],
     /// Since when each instance is in its state behind the scan, in ms.
     pub since: &'a [u32],
+    /// The state of each instance before the scan and behind it.
+    pub calls: &'a [CallScene],
 }
 
 // The name of a pin of a kind; one that there is not has none.

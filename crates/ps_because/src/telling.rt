@@ -3,13 +3,14 @@
 ghost use Rattle.std.specs.Prelude.{◌≡◌, ◌<◌, ◌++◌, IfOk, OnOk, Some, codes, decimal, drop, length, slice_get};
 ghost use Rattle.std.specs.List.{flat_map, range_with_len};
 ghost use Rattle.ps_because.specs.Because.{IsToldAs, behind_text, head_text, indent_text, indents, json_behind, json_fact};
-ghost use Rattle.ps_because.specs.Because.{json_head, json_text, line_text, numbers_text, reasons_text, told_at, tree_text};
+ghost use Rattle.ps_because.specs.Because.{json_head, json_place, json_text, line_text, numbers_text, place_text};
+ghost use Rattle.ps_because.specs.Because.{reasons_text, told_at, tree_text};
 ghost use Rattle.ps_because.specs.Moments.{moment_of};
 
 use crate::facts::{add_fact, add_number};
 use crate::lines::{Line, lines_of};
 use crate::moment::Moment;
-use ps_base::{Bytes, Memory};
+use ps_base::{Bytes, Memory, Place};
 use ps_coverage::Format;
 use ps_reasons::{Explanation, Reasons};
 use ps_why::Fact;
@@ -44,21 +45,61 @@ fn add_told(text: &mut Bytes, m: &Moment<'_>, facts: &[Fact], n: u32) -> Result<
     Ok(())
 }
 
+// Where the step stands that makes a fact, if one does.
+fn place_at(places: &[Option<Place>], n: u32) -> Option<Place>
+    ensures text { place_text (Some result) ≡ place_text (slice_get places.now n) }
+    ensures json { json_place (Some result) ≡ json_place (slice_get places.now n) }
+{
+    if (n as usize) < places.len() {
+        places[n as usize]
+    } else {
+        None
+    }
+}
+
+// Puts where a step stands, if there is one.
+fn add_place(text: &mut Bytes, place: Option<Place>) -> Result<(), Memory>
+    ensures { OnOk result (text.new ≡ text.old ++ place_text (Some place)) }
+{
+    let Some(at) = place else {
+        return Ok(());
+    };
+    text.extend_from_slice(b" (")?;
+    add_number(text, at.line)?;
+    text.extend_from_slice(b":")?;
+    add_number(text, at.column)?;
+    text.extend_from_slice(b")")
+}
+
 // Puts a line of the tree.
-fn add_line(text: &mut Bytes, m: &Moment<'_>, facts: &[Fact], line: Line) -> Result<(), Memory>
-    ensures { OnOk result (text.new ≡ text.old ++ line_text (moment_of m.entry.now) facts.now line) }
+fn add_line(
+    text: &mut Bytes,
+    m: &Moment<'_>,
+    facts: &[Fact],
+    places: &[Option<Place>],
+    line: Line,
+) -> Result<(), Memory>
+    ensures { OnOk result (text.new ≡ text.old ++ line_text (moment_of m.entry.now) facts.now places.now line) }
 {
     add_indent(text, line.depth)?;
     add_told(text, m, facts, line.fact)?;
+    add_place(text, place_at(places, line.fact))?;
     text.extend_from_slice(b"\n")
 }
 
 // Puts these lines.
-fn add_lines(text: &mut Bytes, m: &Moment<'_>, facts: &[Fact], lines: &[Line]) -> Result<(), Memory>
-    ensures { OnOk result (text.new ≡ text.old ++ flat_map (line_text (moment_of m.entry.now) facts.now) lines.now) }
+fn add_lines(
+    text: &mut Bytes,
+    m: &Moment<'_>,
+    facts: &[Fact],
+    places: &[Option<Place>],
+    lines: &[Line],
+) -> Result<(), Memory>
+    ensures { OnOk result (text.new ≡ text.old
+        ++ flat_map (line_text (moment_of m.entry.now) facts.now places.now) lines.now) }
 {
     for line in lines {
-        add_line(text, m, facts, *line)?;
+        add_line(text, m, facts, places, *line)?;
     }
     Ok(())
 }
@@ -87,13 +128,19 @@ fn add_head(text: &mut Bytes, m: &Moment<'_>) -> Result<(), Memory>
 }
 
 // The tree of an explanation.
-fn tree(alloc: Global, m: &Moment<'_>, explanation: &Explanation) -> Result<Bytes, Memory>
-    ensures { IfOk result (λ text. IsToldAs (moment_of m.entry.now) explanation.now Format.Text text) }
+fn tree(
+    alloc: Global,
+    m: &Moment<'_>,
+    explanation: &Explanation,
+    places: &[Option<Place>],
+) -> Result<Bytes, Memory>
+    ensures { IfOk result (λ text. IsToldAs (moment_of m.entry.now) explanation.now places.now Format.Text text) }
 {
     let lines = lines_of(alloc, explanation)?;
     let mut text = Bytes::new(alloc);
     add_head(&mut text, m)?;
-    add_lines(&mut text, m, explanation.facts.as_slice(), lines.as_slice())?;
+    let facts = explanation.facts.as_slice();
+    add_lines(&mut text, m, facts, places, lines.as_slice())?;
     Ok(text)
 }
 
@@ -157,27 +204,49 @@ fn add_reasons(text: &mut Bytes, reasons: &[Reasons], n: usize) -> Result<(), Me
     Ok(())
 }
 
+// Puts where a step stands in JSON, if there is one.
+fn add_json_place(text: &mut Bytes, place: Option<Place>) -> Result<(), Memory>
+    ensures { OnOk result (text.new ≡ text.old ++ json_place (Some place)) }
+{
+    let Some(at) = place else {
+        return Ok(());
+    };
+    text.extend_from_slice(b",\"line\":")?;
+    add_number(text, at.line)?;
+    text.extend_from_slice(b",\"column\":")?;
+    add_number(text, at.column)
+}
+
 // Puts a fact in JSON.
 fn add_json_fact(
     text: &mut Bytes,
     m: &Moment<'_>,
     explanation: &Explanation,
+    places: &[Option<Place>],
     n: u32,
 ) -> Result<(), Memory>
-    ensures { OnOk result (text.new ≡ text.old ++ json_fact (moment_of m.entry.now) explanation.now n) }
+    ensures { OnOk result (text.new ≡ text.old
+        ++ json_fact (moment_of m.entry.now) explanation.now places.now n) }
 {
     text.extend_from_slice(b"{\"fact\":")?;
     add_number(text, n)?;
     text.extend_from_slice(b",\"told\":\"")?;
     add_told(text, m, explanation.facts.as_slice(), n)?;
-    text.extend_from_slice(b"\",\"because\":[")?;
+    text.extend_from_slice(b"\"")?;
+    add_json_place(text, place_at(places, n))?;
+    text.extend_from_slice(b",\"because\":[")?;
     add_reasons(text, explanation.reasons.as_slice(), n as usize)?;
     text.extend_from_slice(b"]}\n")
 }
 
 // An explanation in JSON.
-fn json(alloc: Global, m: &Moment<'_>, explanation: &Explanation) -> Result<Bytes, Memory>
-    ensures { IfOk result (λ text. text ≡ json_text (moment_of m.entry.now) explanation.now) }
+fn json(
+    alloc: Global,
+    m: &Moment<'_>,
+    explanation: &Explanation,
+    places: &[Option<Place>],
+) -> Result<Bytes, Memory>
+    ensures { IfOk result (λ text. text ≡ json_text (moment_of m.entry.now) explanation.now places.now) }
 {
     let Ok(count) = u32::try_from(explanation.facts.len()) else {
         return Err(Memory);
@@ -185,24 +254,25 @@ fn json(alloc: Global, m: &Moment<'_>, explanation: &Explanation) -> Result<Byte
     let mut text = Bytes::new(alloc);
     add_json_head(&mut text, m)?;
     for n in 0..count {
-        add_json_fact(&mut text, m, explanation, n)?;
+        add_json_fact(&mut text, m, explanation, places, n)?;
     }
     Ok(text)
 }
 
-/// What is told of an explanation: in text as a tree in which each fact stands once, below one of which it is a reason;
-/// in JSON an object a line for each fact, with the numbers of its reasons, behind one that says which scan is meant.
-/// `Err` comes only where memory is wanting.
+/// What is told of an explanation, with the places in the source of the steps that make its facts, if one does: in text
+/// as a tree in which each fact stands once, below one of which it is a reason; in JSON an object a line for each fact,
+/// with the numbers of its reasons, behind one that says which scan is meant. `Err` comes only where memory is wanting.
 pub fn because(
     alloc: Global,
     moment: &Moment<'_>,
     explanation: &Explanation,
+    places: &[Option<Place>],
     format: Format,
 ) -> Result<Bytes, Memory>
-    ensures { IfOk result (IsToldAs (moment_of moment.entry.now) explanation.now format) }
+    ensures { IfOk result (IsToldAs (moment_of moment.entry.now) explanation.now places.now format) }
 {
     match format {
-        Format::Text => tree(alloc, moment, explanation),
-        Format::Json => json(alloc, moment, explanation),
+        Format::Text => tree(alloc, moment, explanation, places),
+        Format::Json => json(alloc, moment, explanation, places),
     }
 }

@@ -30,6 +30,7 @@ pub data Asked : Type 0 where
   Cover : (app : List ℕ) (traces : List (List ℕ)) (output : Output) (least : Option ℕ) (ideas : Bool) → Asked
   Never : (app rules : List ℕ) (states : ℕ) → Asked
   Same : (app other : List ℕ) (rules : Option (List ℕ)) (states : ℕ) → Asked
+  Live : (app : List ℕ) → Asked
   Page : Asked
   NotTaken : Asked
 
@@ -150,6 +151,10 @@ abbrev pub same_asks : List Row → Asked
 same_asks rows = asks_by (states_of (first_of (codes "states") rows))
     (Same (value_of (codes "APP") rows) (value_of (codes "OTHER") rows) (first_of (codes "RULES") rows))
 
+-- `live`
+abbrev pub live_asks : List Row → Asked
+live_asks rows = Live (value_of (codes "APP") rows)
+
 -- the program has a command of this name
 abbrev pub is_command : List ℕ → Bool
 is_command name = list_any (λ (s : Shape). bytes_eq s.name name) commands
@@ -170,6 +175,7 @@ command_asks name rows =
     else if bytes_eq name (codes "cover") then cover_asks rows
     else if bytes_eq name (codes "never") then never_asks rows
     else if bytes_eq name (codes "same") then same_asks rows
+    else if bytes_eq name (codes "live") then live_asks rows
     else if bytes_eq name (codes "help") then help_asks (first_of (codes "COMMAND") rows)
     else NotTaken
 

@@ -71,13 +71,17 @@ never = command (codes "never") (app ∷ required (word (codes "RULES")) ∷ opt
 abbrev pub same : Shape
 same = command (codes "same") (app ∷ required (word (codes "OTHER")) ∷ word (codes "RULES") ∷ option (codes "states") ∷ [])
 
+-- `live APP`
+abbrev pub live : Shape
+live = command (codes "live") (app ∷ [])
+
 -- `help [COMMAND]`
 abbrev pub help : Shape
 help = command (codes "help") (word (codes "COMMAND") ∷ [])
 
 -- the commands of the program
 unfoldable pub commands : List Shape
-commands = test ∷ expand ∷ watch ∷ trace ∷ why ∷ cover ∷ never ∷ same ∷ help ∷ []
+commands = test ∷ expand ∷ watch ∷ trace ∷ why ∷ cover ∷ never ∷ same ∷ live ∷ help ∷ []
 
 -- a command without subcommands
 abbrev pub leaf : Shape → App

@@ -14,10 +14,11 @@ ghost use Rattle.ps_bench_words.specs.Seen.{IsAsked, asked_seen, seen};
 ghost use Rattle.ps_bench_words.specs.declared.forms.Form.{Form as FormOf};
 
 use crate::command::{command_of, program};
-use crate::forms::{FORMS, Form};
+use crate::forms::{Form, all_forms};
 use crate::pages;
 use crate::reading::{
-    Unread, cover_in, expand_in, given_in, never_in, same_in, test_in, trace_in, watch_in, why_in,
+    Unread, cover_in, expand_in, given_in, live_in, never_in, same_in, test_in, trace_in, watch_in,
+    why_in,
 };
 use clap::error::ErrorKind;
 use clap::{ArgMatches, Command, Error};
@@ -27,7 +28,7 @@ use ps_words::Words;
 use std::alloc::{AllocError, Global};
 
 /// How `test` tells its results.
-#[derive(Clone, Copy, Debug, PartialEq, Eq)]
+#[derive(Clone, Copy)]
 pub enum Format {
     /// Lines for a person.
     Text,
@@ -38,7 +39,7 @@ pub enum Format {
 }
 
 /// How `watch` writes a run.
-#[derive(Clone, Copy, Debug, PartialEq, Eq)]
+#[derive(Clone, Copy)]
 pub enum Layout {
     /// What changes, for a person.
     Text,
@@ -110,6 +111,10 @@ pub enum Asked<'a> {
         /// From 1 on; a million where it is not said.
         states: u32,
     },
+    /// `live APP`
+    Live {
+        app: &'a str,
+    },
     /// Help or the version was asked for: the page, for standard output.
     Page {
         text: String,
@@ -138,7 +143,7 @@ fn text_of(alloc: Global, error: &Error) -> Result<String, Memory> {
 
 // The command of this name as a program of its own, or the program where there is none.
 fn command_named<'a>(alloc: Global, name: &str) -> Result<Command<'a>, AllocError> {
-    for form in &FORMS {
+    for form in all_forms() {
         if form.name == name {
             return command_of(alloc, form)?.bin_name(form.call);
         }
@@ -169,11 +174,10 @@ fn is_among(forms: &[Form], name: &str) -> bool
 }
 
 // Whether the program has a command of this name.
-#[tactic(auto, unfolding(crate::specs::Commands::commands))]
 fn is_command(name: &str) -> bool
     ensures { result ≡ asking.is_command name.now }
 {
-    is_among(&FORMS, name)
+    is_among(all_forms(), name)
 }
 
 // What `help` asks about a command, or about the program.
@@ -201,6 +205,7 @@ fn command_in<'a>(alloc: Global, name: &str, values: &ArgMatches<'a>) -> Result<
         "cover" => cover_in(alloc, values),
         "never" => never_in(values),
         "same" => same_in(values),
+        "live" => Ok(live_in(values)),
         "help" => help_in(alloc, given_in(values, "COMMAND")),
         _ => Err(Unread::Wrong(pages::NO_COMMAND)),
     }
@@ -234,17 +239,17 @@ fn matched<'a>(alloc: Global, matches: &ArgMatches<'a>) -> Result<Asked<'a>, Mem
 }
 
 // What an error of a parse asks: a page, or nothing that is taken.
-fn refused<'a>(alloc: Global, error: Error) -> Result<Asked<'a>, Memory>
-    ensures { (words : List (List ℕ)) → HasKind (fault_of commands.workbench words) error →
+fn refused<'a>(alloc: Global, error: &Error) -> Result<Asked<'a>, Memory>
+    ensures { (words : List (List ℕ)) → HasKind (fault_of commands.workbench words) error.now →
         IfOk result (λ asked. asking.IsTurnedAway words (asked_seen asked)) }
 {
     match error.kind() {
         ErrorKind::OutOfMemory => Err(Memory),
         ErrorKind::DisplayHelp | ErrorKind::DisplayVersion => Ok(Asked::Page {
-            text: text_of(alloc, &error)?,
+            text: text_of(alloc, error)?,
         }),
         _ => Ok(Asked::NotTaken {
-            text: text_of(alloc, &error)?,
+            text: text_of(alloc, error)?,
         }),
     }
 }
@@ -255,6 +260,6 @@ pub fn asked_of<'a>(alloc: Global, words: &'a [&'a str]) -> Result<Asked<'a>, Me
 {
     match program(alloc)?.try_get_matches_from(words) {
         Ok(matches) => matched(alloc, &matches),
-        Err(error) => refused(alloc, error),
+        Err(error) => refused(alloc, &error),
     }
 }

@@ -8,7 +8,7 @@ ghost use Rattle.ps_bench_words.specs.Commands as commands;
 ghost use Rattle.ps_bench_words.specs.Seen as seen;
 ghost use Rattle.ps_bench_words.specs.Seen.{command_seen, rule_seen};
 
-use crate::forms::{Argument, FORMS, Form, Given};
+use crate::forms::{Argument, Form, Given, all_forms};
 use crate::pages;
 use clap::{Arg, ArgAction, Command};
 use std::alloc::{AllocError, Global};
@@ -99,9 +99,8 @@ fn program_of<'a>(alloc: Global, forms: &[Form]) -> Result<Command<'a>, AllocErr
 }
 
 /// The program with its commands, as `clap` reads them. An error: memory is wanting.
-#[tactic(auto, unfolding(crate::specs::Commands::workbench, crate::specs::Commands::commands))]
 pub(crate) fn program<'a>(alloc: Global) -> Result<Command<'a>, AllocError>
     ensures { IfOk result (λ c. app_of c ≡ commands.workbench) }
 {
-    program_of(alloc, &FORMS)
+    program_of(alloc, all_forms())
 }

@@ -1,5 +1,13 @@
 // The forms of the commands: which words and options each has, and what its page says.
 
+ghost use Rattle.std.specs.Prelude.{◌≡◌, fold, List, ℕ};
+ghost use Rattle.std.specs.List.{list_any};
+ghost use Rattle.std.specs.Str.{bytes_eq};
+ghost use Rattle.ps_bench_words.specs.Asking.{is_command};
+ghost use Rattle.ps_bench_words.specs.Commands.{bare, workbench};
+ghost use Rattle.ps_bench_words.specs.Seen.{with_form};
+ghost use Rattle.ps_bench_words.specs.declared.forms.Form.{Form as FormOf};
+
 /// How an argument is given.
 #[derive(Clone, Copy)]
 pub(crate) enum Given {
@@ -191,7 +199,16 @@ const STATES: Argument = argument!(
 const TOPIC: Argument = argument!("COMMAND", Given::Word, "The command whose page is written");
 
 /// The forms of the commands, in the order of the program's page.
-pub(crate) static FORMS: [Form; 9] = [
+#[tactic(auto, unfolding(crate::specs::Commands::workbench, crate::specs::Commands::commands))]
+pub(crate) fn all_forms() -> &'static [Form]
+    ensures program { fold with_form bare result.now ≡ workbench }
+    ensures names { (name : List ℕ) → list_any (λ (f : FormOf). bytes_eq f.name.now name) result.now ≡ is_command name }
+{
+    &FORMS
+}
+
+// The same as a table.
+static FORMS: [Form; 10] = [
     Form {
         name: "test",
         call: "plcsafe-bench test",
@@ -247,6 +264,13 @@ pub(crate) static FORMS: [Form; 9] = [
         about: "Searches all scans that can come for one in which two applications differ in an output",
         example: "Example: plcsafe-bench same press.st mended.st",
         arguments: &[APP, OTHER, SETTINGS, STATES],
+    },
+    Form {
+        name: "live",
+        call: "plcsafe-bench live",
+        about: "Runs a trace that comes at standard input, and answers each scan before it reads on",
+        example: "Example: plcsafe-bench live press.st < press.trace",
+        arguments: &[APP],
     },
     Form {
         name: "help",

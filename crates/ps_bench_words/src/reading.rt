@@ -264,3 +264,12 @@ pub(crate) fn same_in<'a>(values: &ArgMatches<'a>) -> Result<Asked<'a>, Unread>
         states,
     })
 }
+
+/// What `live` asks with what was given to it.
+pub(crate) fn live_in<'a>(values: &ArgMatches<'a>) -> Asked<'a>
+    ensures { asked_seen result ≡ asking.live_asks (rows_of (found_of values.now)) }
+{
+    Asked::Live {
+        app: value_in(values, "APP"),
+    }
+}

@@ -1,5 +1,5 @@
 -- Columns of a line of UTF-8: in bytes, and in UTF-16 code units, which editors count.
-use Rattle.std.specs.Prelude.{ℕ, ◌-◌, ◌<◌, ◌≤◌, min, nat_lt, if◌then◌else◌, List, length, take}
+use Rattle.std.specs.Prelude.{ℕ, ◌+◌, ◌-◌, ◌<◌, ◌≤◌, ◌==◌, min, nat_lt, if◌then◌else◌, List, length, take}
 use Rattle.std.specs.List.{sum_by}
 use Rattle.std.specs.Str.{IsCharBoundary}
 use Rattle.ps_base.specs.declared.failing.Place.{Place}
@@ -33,4 +33,11 @@ abbrev pub position : List ℕ → Place → Position
 position text place = record {
   line = place.line - 1;
   character = min (units (before (line_of text place.line) place.column)) last_column;
+}
+
+-- the place so many bytes behind another one, in the same line
+abbrev pub place_behind : Place → (width : ℕ) → Place
+place_behind place width = record {
+  line = place.line;
+  column = min ((if place.column == 0 then 1 else place.column) + width) last_column;
 }

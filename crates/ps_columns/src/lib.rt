@@ -9,4 +9,4 @@ pub mod laws;
 mod positions;
 
 pub use columns::{byte_offset, utf16_length};
-pub use positions::{Position, Range, place_at, position_of};
+pub use positions::{Position, Range, place_at, position_of, range_from};

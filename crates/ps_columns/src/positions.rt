@@ -1,7 +1,7 @@
 // Positions of an editor, and places of a text.
 
 ghost use Rattle.std.specs.Prelude.{◌≡◌};
-ghost use Rattle.ps_columns.specs.Columns.{position};
+ghost use Rattle.ps_columns.specs.Columns.{place_behind, position};
 
 use crate::columns::{byte_offset, utf16_length};
 use ps_base::Place;
@@ -35,6 +35,23 @@ pub fn position_of(text: &[u8], place: Place) -> Position
     Position {
         line: place.line.saturating_sub(1),
         character: utf16_length(front).min(u32::MAX as usize) as u32,
+    }
+}
+
+/// The piece of a text that begins at a place and has so many bytes of its line. A place with column 0 is the beginning
+/// of the line. It takes no memory, and time linear in the text.
+pub fn range_from(text: &[u8], place: Place, width: u32) -> Range
+    ensures start { result.start ≡ position text.now place }
+    ensures end { result.end ≡ position text.now (place_behind place width) }
+{
+    let column = if place.column == 0 { 1 } else { place.column };
+    let behind = Place {
+        line: place.line,
+        column: column.saturating_add(width),
+    };
+    Range {
+        start: position_of(text, place),
+        end: position_of(text, behind),
     }
 }
 

@@ -8,7 +8,8 @@ use Rattle.ps_model.specs.Network.{Network}
 use Rattle.ps_model.specs.Scanning.{State, Solves}
 use Rattle.ps_alone.specs.Applying.{ScanStep}
 use Rattle.ps_cover.specs.Covering.{AreScanned, Looks, point_of}
-use Rattle.ps_cover.specs.Covers.{IsAt, IsCoverFor, Knows, KnowsOf, Renews, TakesScan, since, time_of}
+use Rattle.ps_cover.specs.Covers.{IsAt, IsCoverFor, Knows, KnowsOf, Renews, TakesScan, time_of}
+use Rattle.ps_points.specs.Clock.{since}
 use Rattle.ps_cover.specs.Points.{shows}
 use Rattle.ps_cover.specs.declared.cover.Cover.{Cover}
 use Rattle.ps_cover.specs.declared.point.Point.{Point}
@@ -50,7 +51,7 @@ since_is (last before w) now = refl
 
 module _ (net : Network) (past : Past) (now : ℕ) (new : State) (t t' : Cover) (is_at : IsAt net past t) (x : Signals)
     (before : x.before.now ≡ (old_state net past).signals) (behind : x.behind.now ≡ new.signals) (takes : TakesScan net t now x t') where
-  passes : since t.last now ≡ passed past now
+  passes : since t.clock.last now ≡ passed past now
   passes = ap (λ l. since l now) is_at.time ∙ since_is past now
 
   -- what a scan shows is known behind it

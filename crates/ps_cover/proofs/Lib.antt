@@ -8,5 +8,4 @@ pub mod Knowing
 pub mod Listed
 pub mod Listings
 pub mod Looking
-pub mod Marking
 pub mod Standing

@@ -9,18 +9,14 @@ use Rattle.ps_model.specs.Network.{Network, kind_at}
 use Rattle.ps_model.specs.Scanning.{block_in, limit_of}
 use Rattle.ps_rows.specs.Counted.{kept_of}
 use Rattle.ps_alone.specs.Applying.{ScanStep}
-use Rattle.ps_cover.specs.Blocks.{counted_of}
+use Rattle.ps_marks.specs.Moving.{counted_of}
+use Rattle.ps_points.specs.Clock.{since}
 use Rattle.ps_cover.specs.Covering.{AreCalls, AreScanned, Looks, point_of}
 use Rattle.ps_cover.specs.Points.{shows}
 use Rattle.ps_cover.specs.declared.block.Called.{Called}
 use Rattle.ps_cover.specs.declared.point.Point.{Point}
 use Rattle.ps_cover.specs.declared.cover.Cover.{Cover}
 use Rattle.ps_pins.specs.declared.signals.Signals.{Signals}
-
--- the ms that passed since the scan before, 0 where there is none
-abbrev pub since : Option ℕ → (now : ℕ) → ℕ
-since None now = 0
-since (Some before) now = now - before
 
 -- it has a call for each step of the application, and knows of each point whether it was shown, with both values
 pub record IsCoverFor (net : Network) (c : Cover) : Type 0 where
@@ -30,11 +26,11 @@ pub record IsCoverFor (net : Network) (c : Cover) : Type 0 where
 
 -- A scan at a time, with these signals, was taken.
 pub record TakesScan (net : Network) (old : Cover) (now : ℕ) (x : Signals) (new : Cover) : Type 0 where
-  pub calls : AreScanned net x (since old.last now) old.calls.items new.calls.items
+  pub calls : AreScanned net x (since old.clock.last now) old.calls.items new.calls.items
   pub points : new.points.items ≡ old.points.items
   pub off : Looks net x new.calls.items false old.points.items old.off.items new.off.items
   pub on : Looks net x new.calls.items true old.points.items old.on.items new.on.items
-  pub last : new.last ≡ Some now
+  pub last : new.clock.last ≡ Some now
 
 -- a call before the first scan: its block is Idle
 abbrev pub idle_call : Called → Called
@@ -50,7 +46,7 @@ pub record BeginsAnew (old : Cover) (new : Cover) : Type 0 where
   pub points : new.points.items ≡ old.points.items
   pub off : new.off.items ≡ old.off.items
   pub on : new.on.items ≡ old.on.items
-  pub last : new.last ≡ None
+  pub last : new.clock.last ≡ None
 
 -- what was seen of each point before, or elsewhere, is seen now
 pub record JoinsBits (before other after : List Bool) : Type 0 where
@@ -62,7 +58,7 @@ pub record JoinsBits (before other after : List Bool) : Type 0 where
 pub record Joins (old other new : Cover) : Type 0 where
   pub calls : new.calls.items ≡ old.calls.items
   pub points : new.points.items ≡ old.points.items
-  pub last : new.last ≡ old.last
+  pub last : new.clock.last ≡ old.clock.last
   pub off : JoinsBits old.off.items other.off.items new.off.items
   pub on : JoinsBits old.on.items other.on.items new.on.items
 
@@ -87,7 +83,7 @@ time_of (last now w) = Some now
 pub record IsAt (net : Network) (past : Past) (c : Cover) : Type 0 where
   pub fits : IsCoverFor net c
   pub stands : StandsFor net past c.calls.items
-  pub time : c.last ≡ time_of past
+  pub time : c.clock.last ≡ time_of past
 
 -- Of each of these points it is known whether it was shown with value b before some scans or by one of them.
 pub record KnowsOf (net : Network) (steps : List ScanStep) (points : List Point) (b : Bool)

@@ -1,34 +1,19 @@
 // The block of a call, step by step, and the marks of its steps.
 
-ghost use Rattle.std.specs.Prelude.{◌≡◌, ◌≤◌, ◌-◌, ◌==◌, ◌&&◌, ℕ, option_map, slice_get};
-ghost use Rattle.ps_model.specs.Kept.{seen};
-ghost use Rattle.ps_model.specs.PinBits.{pin_of};
-ghost use Rattle.ps_model.specs.Stored.{IsKept};
-ghost use Rattle.ps_rows.specs.Counted.{kept_of};
-ghost use Rattle.ps_alone.specs.Marks.{number_taken};
-ghost use Rattle.ps_cover.specs.Blocks.{called_in, made, moved_by};
+ghost use Rattle.std.specs.Prelude.{◌≡◌, ℕ, option_map, slice_get};
+ghost use Rattle.ps_marks.specs.Marks.{made};
+ghost use Rattle.ps_cover.specs.Blocks.{called_in};
 ghost use Rattle.ps_cover.specs.Covers.{idle_call, idle_step};
 ghost use Rattle.ps_cover.specs.Covering.{AreCalls, AreScanned, IsCallKept};
 
 use ps_machine::call_limit;
+use ps_marks::{Moved, Taken, moved_by};
 use ps_model::{App, Kind, Step};
 use ps_pins::{Signals, read_pins};
 use ps_rows::CountedBlock;
-use ps_ways::{LastStep, StepConditions, Way, guard_taken, ways};
-
-/// A block behind a step of it.
-#[derive(Clone, Copy, PartialEq, Eq, Debug)]
-pub struct Moved {
-    /// The DiagCode of the state before the step.
-    pub from: u16,
-    /// The number of the guard by which the step left that state, and 0 where none did.
-    pub number: u8,
-    /// The block.
-    pub block: CountedBlock,
-}
 
 /// A step of an application, with the block that it calls, if it calls one.
-#[derive(Clone, Copy, PartialEq, Eq, Debug)]
+#[derive(Clone, Copy)]
 pub struct Called {
     /// The number of the step.
     pub step: u16,
@@ -36,65 +21,17 @@ pub struct Called {
     pub moved: Moved,
 }
 
-// The number of the guard by which a step of a block leaves its state, and 0 where none does.
-fn number_taken(kind: Kind, block: &CountedBlock, bits: u32, passed: u32) -> u8
-    requires { block.now.mode ≤ 7 }
-    ensures { result ≡ number_taken kind block.now.code
-        (seen kind (pin_of bits) (block.now.remains - passed == 0) (kept_of block.now)) }
-{
-    let last = LastStep {
-        reset: block.last_reset,
-        auxiliary: block.last_auxiliary,
-        mode: block.mode,
-    };
-    let elapsed = block.remains.saturating_sub(passed) == 0;
-    let step = StepConditions::of(kind, bits, last, elapsed);
-    if !step.pin(0) {
-        return 0;
-    }
-    if block.code == 0 {
-        return 0;
-    }
-    guard_taken(kind, block.code, &step)
-}
-
-// A step of a block.
-fn moved_by(kind: Kind, limit: u32, bits: u32, passed: u32, block: CountedBlock) -> Moved
-    requires { IsKept kind (kept_of block) }
-    ensures moves { result ≡ moved_by kind limit (pin_of bits) passed block }
-    ensures kept { IsKept kind (kept_of result.block) }
-{
-    Moved {
-        from: block.code,
-        number: number_taken(kind, &block, bits, passed),
-        block: block.stepped(kind, bits, limit, passed),
-    }
-}
-
-// Whether a step takes a way.
-fn takes(way: &Way, moved: &Moved) -> bool
-    ensures { result ≡ (way.now.state == moved.now.from && way.now.number == moved.now.number) }
-{
-    way.state == moved.from && way.number == moved.number
-}
-
-// Whether a step enters the state that a way leaves.
-fn enters(way: &Way, moved: &Moved) -> bool
-    ensures { result ≡ (way.now.state == moved.now.block.code) }
-{
-    way.state == moved.block.code
-}
-
 /// Whether a step of a block of this kind makes a mark.
 pub(crate) fn makes(kind: Kind, moved: &Moved, mark: usize) -> bool
     ensures { result ≡ made kind moved.now.from moved.now.number moved.now.block.code mark }
 {
-    let ways = ways(kind);
-    if mark < ways.len() {
-        return takes(&ways[mark], moved);
-    }
-    let mark = mark - ways.len();
-    mark < ways.len() && enters(&ways[mark], moved)
+    let taken = Taken {
+        kind,
+        from: moved.from,
+        number: moved.number,
+        to: moved.block.code,
+    };
+    taken.makes(mark)
 }
 
 impl Called {

@@ -4,7 +4,7 @@ ghost use Rattle.std.specs.Prelude.{◌≡◌, ◌<◌, ◌||◌, ℕ, IfOk, fal
 ghost use Rattle.ps_model.specs.Meaning.{nothing};
 ghost use Rattle.ps_cover.specs.Covering.{AreCalls, point_of};
 ghost use Rattle.ps_cover.specs.Listing.{points_of};
-ghost use Rattle.ps_cover.specs.Covers.{BeginsAnew, IsAt, IsCoverFor, Joins, StandsFor, TakesScan, since};
+ghost use Rattle.ps_cover.specs.Covers.{BeginsAnew, IsAt, IsCoverFor, Joins, StandsFor, TakesScan};
 
 use crate::block::{Called, begin_calls, scan_calls};
 use crate::listing::{push_steps, push_values};
@@ -12,6 +12,7 @@ use crate::point::{Point, look};
 use ps_base::Memory;
 use ps_model::App;
 use ps_pins::{Signals, bit_at};
+use ps_points::Clock;
 use std::alloc::Global;
 
 /// What the scans so far have shown of an application: of each point whether one of them showed it.
@@ -28,18 +29,8 @@ pub struct Cover<'a> {
     pub(crate) off: Vec<bool>,
     // and with TRUE
     pub(crate) on: Vec<bool>,
-    // the time of the last scan in ms, if there is one since the beginning or a restart
-    pub(crate) last: Option<u32>,
-}
-
-// The ms that passed since the scan before, if there is one.
-fn since(last: Option<u32>, now: u32) -> u32
-    ensures { result ≡ since last now }
-{
-    match last {
-        Some(before) => now.saturating_sub(before),
-        None => 0,
-    }
+    // when the last scan was
+    pub(crate) clock: Clock,
 }
 
 // Each step of an application, with its block before the first scan.
@@ -98,7 +89,7 @@ impl<'a> Cover<'a> {
             points,
             off,
             on,
-            last: None,
+            clock: Clock { last: None },
         })
     }
 }
@@ -110,13 +101,13 @@ impl Cover<'_> {
         ensures takes { TakesScan app.now self.old now signals.entry.now self.new }
         ensures fits { IsCoverFor app.now self.new }
     {
-        let passed = since(self.last, now);
+        let passed = self.clock.passed(now);
         scan_calls(app, signals, passed, self.calls.as_mut_slice());
         let calls = self.calls.as_slice();
         let points = self.points.as_slice();
         look(app, calls, signals, false, points, self.off.as_mut_slice());
         look(app, calls, signals, true, points, self.on.as_mut_slice());
-        self.last = Some(now);
+        self.clock.last = Some(now);
     }
 
     /// Begins anew, as before the first scan. What was shown stays.
@@ -126,7 +117,7 @@ impl Cover<'_> {
         ensures fits { IsCoverFor app.now self.new }
     {
         begin_calls(app, self.calls.as_mut_slice());
-        self.last = None;
+        self.clock.begin_anew();
     }
 
     /// Adds what other scans of the same application have shown.

@@ -13,6 +13,7 @@ ghost use Rattle.ps_cover.specs.Listing.{signal_points, step_points, steps_point
 use crate::point::{Decision, Point};
 use ps_base::Memory;
 use ps_model::{App, Arg, Args, Expr, Exprs, Kind, Step};
+use ps_points::is_and;
 use ps_ways::{Way, ways};
 
 // Lists a signal.
@@ -128,8 +129,7 @@ fn push_root<'a>(step: u16, e: &'a Expr, points: &mut Vec<Point<'a>>) -> Result<
 {
     match e {
         Expr::Signal(_) => Ok(()),
-        Expr::And(es) => push_operands(step, es, true, points),
-        Expr::Or(es) => push_operands(step, es, false, points),
+        Expr::And(es) | Expr::Or(es) => push_operands(step, es, is_and(e), points),
     }
 }
 

@@ -2,11 +2,11 @@
 
 ghost use Rattle.std.specs.Prelude.{◌≡◌, ◌<◌, ◌||◌, length, slice_get};
 ghost use Rattle.ps_cover.specs.Covering.{Looks, decides_in, leaves_in, makes_in, others_leave_in, shows_in};
-ghost use Rattle.ps_cover.specs.Points.{is_value};
 
 use crate::block::{Called, makes};
 use ps_model::{App, Exprs, Step};
 use ps_pins::{Signals, bit_at, read_value};
+use ps_points::{is_value, leaves_decision};
 
 /// An operand of an AND or an OR.
 #[derive(Clone, Copy)]
@@ -40,25 +40,13 @@ pub enum Point<'a> {
     Decides(Decision<'a>),
 }
 
-// Whether a value is this one.
-fn is_value(b: bool, value: bool) -> bool
-    ensures { result ≡ is_value b value }
-{
-    if b { value } else { !value }
-}
-
 // Whether the operand at place j is the one at a place, or has the value that leaves the decision to that one.
 fn leaves(app: &App, j: usize, decision: &Decision<'_>, signals: &Signals<'_>) -> bool
     requires { j < length decision.now.operands.now.items.items }
     ensures { result ≡ leaves_in app.now signals.entry.now decision.entry.now j }
 {
-    if j == decision.place {
-        return true;
-    }
-    is_value(
-        decision.of_and,
-        read_value(app, decision.step, decision.operands.at(j), signals),
-    )
+    let value = read_value(app, decision.step, decision.operands.at(j), signals);
+    leaves_decision(decision.of_and, decision.place, j, value)
 }
 
 // Whether all operands but the one at the place have the value that leaves the decision to it.

@@ -10,6 +10,7 @@ use crate::excluding::Exclusions;
 use crate::point::Point;
 use ps_model::{App, Kind, Step};
 use ps_pins::bit_at;
+use ps_points::is_missed;
 use ps_ways::ways;
 
 /// What is counted.
@@ -101,7 +102,7 @@ fn has_status(status: Status, excluded: bool, shown: bool) -> bool
     match status {
         Status::Excluded => excluded,
         Status::Covered => !excluded && shown,
-        Status::Missed => !excluded && !shown,
+        Status::Missed => is_missed(excluded, shown),
         Status::Counted => !excluded,
     }
 }

@@ -13,6 +13,7 @@ use crate::pieces::{add_code, add_number, add_ordinal, add_state, joined_by, jso
 use ps_base::{Bytes, Memory, Place};
 use ps_cover::{Exclusions, Point, called_kind};
 use ps_model::{App, Kind, Step};
+use ps_points::{is_missed, seen_with};
 use ps_ways::{Way, ways};
 
 // Puts a state that a block never entered, for a person.
@@ -169,7 +170,7 @@ pub(crate) fn add_missed_mark(
 {
     match point {
         Point::Mark { step, mark } => {
-            if *step == k && !exclusions.is_excluded(*step, *mark) && !shown {
+            if *step == k && is_missed(exclusions.is_excluded(*step, *mark), shown) {
                 add_mark_line(text, app, format, *step, *mark)?;
             }
             Ok(())
@@ -244,8 +245,8 @@ pub(crate) fn add_missed_values(
 {
     match point {
         Point::Value { signal } => {
-            add_value_line(text, app, format, *signal, false, off)?;
-            add_value_line(text, app, format, *signal, true, on)
+            add_value_line(text, app, format, *signal, false, seen_with(false, off, on))?;
+            add_value_line(text, app, format, *signal, true, seen_with(true, off, on))
         }
         Point::Mark { .. } | Point::Decides(_) => Ok(()),
     }

@@ -1,5 +1,5 @@
 -- A scan that is found in what is held, and in what a word means.
-use Rattle.std.proofs.Common.{◌≡◌, ℕ, List, Option, Some, Result, Ok, Err, refl, subst}
+use Rattle.std.proofs.Common.{◌≡◌, ◌∙◌, ℕ, IsTrue, List, Option, Some, None, Result, Ok, Err, refl, subst, sym}
 use Rattle.std.specs.Prelude.{OnOk}
 use Rattle.ps_bench_base.specs.Opening.{Source}
 use Rattle.ps_model.proofs.Runs.{has_one_meaning}
@@ -8,12 +8,19 @@ use Rattle.ps_model.specs.Network.{Network}
 use Rattle.ps_model.specs.Scanning.{State}
 use Rattle.ps_model.specs.Sound.{IsSound}
 use Rattle.ps_model.specs.declared.channel.Fault.{Fault}
-use Rattle.ps_moment.specs.Looking.{IsLast}
+use Rattle.ps_moment.specs.Looking.{IsLast, IsLook}
 use Rattle.ps_moment.specs.Scanned as scanned
 use Rattle.ps_moment.specs.Scanned.{Scanned, last_upto}
 use Rattle.ps_moment.specs.declared.walker.Walker.{Walker}
 use Rattle.ps_trace.specs.Scans.{Scans, scans_of}
 use Rattle.ps_traced.specs.Playing.{IsPlay}
+use Rattle.ps_moment.specs.declared.walker.LastScan.{LastScan}
+use Rattle.ps_parser.specs.Tree.{SourceTree}
+use Rattle.ps_sourced.specs.Sourcing.{IsSourceOf}
+use Rattle.ps_terms.specs.Names.{name_of}
+use Rattle.ps_terms.specs.declared.name.Name.{Name}
+use Rattle.ps_explaining.specs.Asking.{IsFoundAt, IsTold, Wanted}
+use Rattle.ps_explaining.specs.Reasoned.{IsReasoned, question_of}
 use Rattle.ps_explaining.specs.Walked.{WalksHeld, WalksWord}
 
 -- what holds where a call was done
@@ -42,3 +49,18 @@ held_walked net sound held text left time w is same last =
 pub word_walked : (from : Source) (word : List ℕ) (faults : List Fault) (held : Option (List ℕ)) (time : ℕ) (w : Walker) →
     ((trace : List ℕ) → held ≡ Some trace → IsPlay from word trace faults) → WalksHeld from.net held time w → WalksWord from word time w
 word_walked from word faults held time w means (trace, is, found, at, last) = (found, (trace, faults, means trace is, at), last)
+
+-- what is told of the scan that is found is told of the scan that a time picks
+pub told_found : (from : Source) (app : List ℕ) (wanted : Wanted) (tree : SourceTree) (name : Name) (w : Walker) (times : LastScan) (text : List ℕ) →
+    name_of from.net wanted.name ≡ Some name → (IsTrue from.tells → WalksWord from wanted.trace wanted.time w) →
+    (IsTrue from.tells → IsSourceOf from.held app tree) → w.last ≡ Some times →
+    ((s : Scanned) → IsLook from.net s w → w.last ≡ Some times → IsReasoned from.net tree s (question_of from.net name) wanted.format text) →
+    IsTold from app wanted text
+told_found from app wanted tree name w times text named walks source last reasoned =
+    (name, named, λ tells. there (walks tells) (source tells))
+  where
+    there : WalksWord from wanted.trace wanted.time w → IsSourceOf from.held app tree →
+        (s : Scanned) × IsFoundAt from wanted.trace wanted.time (Some s)
+        × (t : SourceTree) × IsSourceOf from.held app t × IsReasoned from.net t s (question_of from.net name) wanted.format text
+    there (None, at, none) of = absurd (let same = sym none ∙ last in cc)
+    there (Some s, at, look) of = (s, at, tree, of, reasoned s look last)

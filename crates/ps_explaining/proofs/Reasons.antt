@@ -1,12 +1,12 @@
 -- What is told of a scan that was found.
-use Rattle.std.proofs.Common.{◌≡◌, ◌∙◌, ◌<◌, ℕ, false, List, Some, length, map, sym, ap, subst, arith}
+use Rattle.std.proofs.Common.{◌≡◌, ◌∙◌, ◌<◌, ℕ, false, List, Some, length, map, sym, ap, subst, inl, inr, arith}
 use Rattle.std.specs.Prelude.{option_map, slice_get, slice_index_or}
 use Rattle.std.proofs.lemmas.List.{length-map}
 use Rattle.std.proofs.lemmas.Option.{same_Some, slice_get-map, slice_get_within}
 use Rattle.ps_because.specs.Moments.{Moment}
 use Rattle.ps_model.proofs.Once.{element_at}
 use Rattle.ps_model.specs.Meaning.{old_state, passed}
-use Rattle.ps_model.specs.Network.{Network}
+use Rattle.ps_model.specs.Network.{Network, instance_count}
 use Rattle.ps_moment.specs.Looking.{IsLook}
 use Rattle.ps_moment.specs.Scanned.{Scanned, behind}
 use Rattle.ps_moment.specs.Walking.{IsWalkerFor}
@@ -14,7 +14,7 @@ use Rattle.ps_moment.specs.declared.walker.LastScan.{LastScan}
 use Rattle.ps_moment.specs.declared.walker.Since.{Since}
 use Rattle.ps_moment.specs.declared.walker.Walker.{Walker}
 use Rattle.ps_pins.specs.Calls.{input_pin}
-use Rattle.ps_reasons.specs.Questions.{IsAnswered}
+use Rattle.ps_reasons.specs.Questions.{IsAnswered, IsAskedFor}
 use Rattle.ps_reasons.specs.Scenes.{IsCallFor, IsCallOf, IsSceneFor, IsSceneOf}
 use Rattle.ps_reasons.specs.declared.keeping.Stepped.{Stepped}
 use Rattle.ps_reasons.specs.declared.questions.Question.{Question}
@@ -22,7 +22,7 @@ use Rattle.ps_reasons.specs.declared.questions.Question.TheVariants.{Signal, Ins
 use Rattle.ps_reasons.specs.declared.scene.CallScene.{CallScene}
 use Rattle.ps_reasons.specs.declared.scene.Scene.{Scene}
 use Rattle.ps_why.specs.declared.fact.Fact.{Fact}
-use Rattle.ps_explaining.specs.Reasoned.{IsAsked, IsMomentOf}
+use Rattle.ps_explaining.specs.Reasoned.{IsAsked, IsMomentOf, IsOfQuestion}
 
 -- what is answered is told
 pub asked_for : (net : Network) (x : Scene) (q : Question) (told : Fact → Type 0) → IsAnswered net x q told → IsAsked net q told
@@ -31,6 +31,13 @@ asked_for net x (Instance i) told ((fact, (c, at, is), t), each) =
     ((c.code, subst told is t), λ j within. (slice_index_or x.signals.behind.now _ false, each j within))
 asked_for net x (Pin i j) told (fact, (k, at, is), t) =
     (k, at, (input_pin net x.signals.before.now x.signals.behind.now i j, subst told is t))
+
+-- what is asked for in what is seen is asked for
+pub of_question : (net : Network) (x : Scene) (q : Question) (fact : Fact) → IsAskedFor net x q fact → IsOfQuestion net q fact
+of_question net x (Signal s) fact is = (slice_index_or x.signals.behind.now s false, is)
+of_question net x (Instance i) fact (inl (c, at, is)) = inl (c.code, is)
+of_question net x (Instance i) fact (inr (j, below, is)) = inr (j, below, slice_index_or x.signals.behind.now _ false, is)
+of_question net x (Pin i j) fact (k, at, is) = (k, at, input_pin net x.signals.before.now x.signals.behind.now i j, is)
 
 -- ---- The scan that was found, as it is seen.
 
@@ -74,8 +81,10 @@ noted_at f since i n is within =
 
 pub moment_of_scan : (net : Network) (w : Walker) (s : Scanned) (times : LastScan) (m : Moment) → IsWalkerFor net w → IsLook net s w → w.last ≡ Some times →
     m.net ≡ net → m.now ≡ times.now → m.before ≡ times.before →
-    m.since_before ≡ map (λ (s : Since). s.before) w.since.items → m.since ≡ map (λ (s : Since). s.behind) w.since.items → IsMomentOf net s m
-moment_of_scan net w s times m fits look last net_is now_is before_is was_is is_is =
+    m.since_before ≡ map (λ (s : Since). s.before) w.since.items → m.since ≡ map (λ (s : Since). s.behind) w.since.items →
+    length m.calls ≡ instance_count net →
+    ((i : ℕ) (c : CallScene) → slice_get m.calls i ≡ Some c → IsCallOf net (old_state net s.past) (passed s.past s.now) s.new i c) → IsMomentOf net s m
+moment_of_scan net w s times m fits look last net_is now_is before_is was_is is_is each calls =
     let same : look.times.0 ≡ times = same_Some look.times.0 times (sym look.times.1 ∙ last) in
     record {
       of = net_is;
@@ -87,4 +96,6 @@ moment_of_scan net w s times m fits look last net_is now_is before_is was_is is_
       since = λ i within.
           ap (λ (ns : List ℕ). slice_get ns i) is_is
           ∙ noted_at (λ (n : Since). n.behind) w.since.items i (behind s i) (λ noted at. (look.since i noted at).behind) (omega (arith, within, fits.since));
+      each = each;
+      calls = calls;
     }

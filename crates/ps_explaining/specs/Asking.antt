@@ -1,6 +1,6 @@
 -- What `why` is asked, what it writes by that, and how it stops.
 use Rattle.std.specs.Prelude.{◌≡◌, ◌⊎◌, ℕ, Bool, IsTrue, List, Option, Some, None, Result, Ok, Err}
-use Rattle.ps_accounting.specs.Adding.{StopsAtWord}
+use Rattle.ps_traced.specs.Refusing.{StopsAtWord}
 use Rattle.ps_bench_base.specs.Opening.{IsOfApp, Source, source}
 use Rattle.ps_bench_base.specs.Stopping.{StopsAtApp, Took, TookNothing, TookSome}
 use Rattle.ps_bench_base.specs.declared.ending.Status.{Status}
@@ -15,6 +15,8 @@ use Rattle.ps_model.specs.declared.channel.Fault.{Fault}
 use Rattle.ps_model.specs.declared.channel.ImageSizes.{ImageSizes}
 use Rattle.ps_moment.specs.Scanned as scanned
 use Rattle.ps_moment.specs.Scanned.{Scanned, last_upto}
+use Rattle.ps_parser.specs.Tree.{SourceTree}
+use Rattle.ps_sourced.specs.Sourcing.{IsSourceOf}
 use Rattle.ps_terms.specs.Names.{name_of}
 use Rattle.ps_terms.specs.declared.name.Name.{Name}
 use Rattle.ps_trace.specs.Scans.{scans_of}
@@ -45,12 +47,14 @@ abbrev pub IsFoundAt : Source → (word : List ℕ) → (time : ℕ) → Option 
 IsFoundAt from word time found =
     (trace : List ℕ) × (brought : List Fault) × IsPlay from word trace brought × IsFoundIn from.net trace time found
 
--- A text tells why what is named is so in the last scan at or before the time.
-abbrev pub IsTold : Source → Wanted → (text : List ℕ) → Type 0
-IsTold from wanted text =
+-- A text tells why what is named is so in the last scan at or before the time, with the places of the source of the
+-- application of this name.
+abbrev pub IsTold : Source → (app : List ℕ) → Wanted → (text : List ℕ) → Type 0
+IsTold from app wanted text =
     (name : Name) × (name_of from.net wanted.name ≡ Some name)
     × (IsTrue from.tells → (s : Scanned) × IsFoundAt from wanted.trace wanted.time (Some s)
-    × IsReasoned from.net s (question_of from.net name) wanted.format text)
+    × (tree : SourceTree) × IsSourceOf from.held app tree
+    × IsReasoned from.net tree s (question_of from.net name) wanted.format text)
 
 -- Nothing is asked for: the name is none, no case has the line of the word, or no scan is at or before the time.
 abbrev pub AsksNothing : Source → Wanted → Type 0
@@ -61,30 +65,31 @@ AsksNothing from wanted =
 
 -- What `why` answers of an application: why what is named is so was written; or nothing is asked for, and nothing was
 -- written.
-abbrev pub Answered : Source → Wanted → (tells : Bool) → (before after : List ℕ) → Status → Type 0
-Answered from wanted tells before after status =
-    ((text : List ℕ) × IsTold from wanted text × (status ≡ Done) × Took text tells before after)
+abbrev pub Answered : Source → (app : List ℕ) → Wanted → (tells : Bool) → (before after : List ℕ) → Status → Type 0
+Answered from app wanted tells before after status =
+    ((text : List ℕ) × IsTold from app wanted text × (status ≡ Done) × Took text tells before after)
     ⊎ ((status ≡ Usage) × AsksNothing from wanted × TookNothing tells before after)
 
 -- How it stops with its application: at its trace, before anything was written; in what is told; or for want of memory,
 -- and nothing was written.
-abbrev pub StopsIn : Source → Wanted → (tells : Bool) → (before after : List ℕ) → Stop → Type 0
-StopsIn from wanted tells before after stop =
+abbrev pub StopsIn : Source → (app : List ℕ) → Wanted → (tells : Bool) → (before after : List ℕ) → Stop → Type 0
+StopsIn from app wanted tells before after stop =
     StopsAtWord from wanted.trace stop tells before after
-    ⊎ ((text : List ℕ) × IsTold from wanted text × (stop ≡ Unwritten) × TookSome text tells before after)
+    ⊎ ((text : List ℕ) × IsTold from app wanted text × (stop ≡ Unwritten) × TookSome text tells before after)
     ⊎ ((stop ≡ NoMemory) × TookNothing tells before after)
 
 -- what `why` answers of an application, or how it stops
-abbrev pub AnswersIn : Source → Wanted → (tells : Bool) → (before after : List ℕ) → Result Status Stop → Type 0
-AnswersIn from wanted tells before after (Ok status) = Answered from wanted tells before after status
-AnswersIn from wanted tells before after (Err stop) = StopsIn from wanted tells before after stop
+abbrev pub AnswersIn : Source → (app : List ℕ) → Wanted → (tells : Bool) → (before after : List ℕ) →
+    Result Status Stop → Type 0
+AnswersIn from app wanted tells before after (Ok status) = Answered from app wanted tells before after status
+AnswersIn from app wanted tells before after (Err stop) = StopsIn from app wanted tells before after stop
 
 -- What `why` answers of the application of this name.
 abbrev pub AnswersWhy : (app : List ℕ) → Wanted → (reading : Bool) (held : List ℕ → Option (List ℕ)) →
     (tells : Bool) → (before after : List ℕ) → Status → Type 0
 AnswersWhy app wanted reading held tells before after status =
     (net : Network) × (sizes : ImageSizes) × IsOfApp (source net sizes reading held) app
-    × Answered (source net sizes reading held) wanted tells before after status
+    × Answered (source net sizes reading held) app wanted tells before after status
 
 -- How `why` stops before all is done: without the application of this name, or with it.
 abbrev pub StopsWhy : (app : List ℕ) → Wanted → (reading : Bool) (held : List ℕ → Option (List ℕ)) →
@@ -92,4 +97,4 @@ abbrev pub StopsWhy : (app : List ℕ) → Wanted → (reading : Bool) (held : L
 StopsWhy app wanted reading held tells before after stop =
     StopsAtApp reading held app stop tells before after
     ⊎ ((net : Network) × (sizes : ImageSizes) × IsOfApp (source net sizes reading held) app
-    × StopsIn (source net sizes reading held) wanted tells before after stop)
+    × StopsIn (source net sizes reading held) app wanted tells before after stop)

@@ -10,18 +10,19 @@ ghost use Rattle.ps_explaining.specs.Reasoned.{question_of};
 ghost use Rattle.ps_explaining.specs.Walked.{IsBegun, WalksWord};
 ghost use Rattle.ps_moment.specs.Walking.{IsWalkerFor};
 ghost use Rattle.ps_outside.specs.Outside.{Rose};
+ghost use Rattle.ps_sourced.specs.Sourcing.{IsSourceOf};
 ghost use Rattle.ps_terms.specs.Names.{IsNameOf, name_of};
 
 use crate::missing::tell_no_scan;
 use crate::reasoning::{question_of, reasoned};
 use crate::walking::{begun, walk_word};
 use ps_base::Memory;
-use ps_bench_base::{Opened, Status, Stop, open_app};
+use ps_bench_base::{Status, Stop};
 use ps_coverage::Format;
 use ps_hearing::Listener;
-use ps_model::App;
 use ps_moment::{Met, Walker};
 use ps_outside::{Files, Output, write_all};
+use ps_sourced::{Sourced, open_sourced};
 use ps_telling::tell_no_name;
 use ps_terms::{Name, name_of};
 use std::alloc::Global;
@@ -62,17 +63,20 @@ fn tell_found<O: Output, L: Listener>(
     alloc: Global,
     out: &mut O,
     listener: &mut L,
-    app: &App,
+    sourced: &Sourced,
     asked: &Asked<'_>,
     name: Name,
     walker: &Walker,
     met: Met,
 ) -> Result<Status, Stop>
-    requires fits { IsWalkerFor app.now walker.now }
-    requires of { IsNameOf app.now name }
-    ensures answers { (from : Source) → from.net ≡ app.now → name_of app.now asked.now.name.now ≡ Some name →
+    requires fits { IsWalkerFor sourced.now.opened.app walker.now }
+    requires of { IsNameOf sourced.now.opened.app name }
+    ensures answers { (from : Source) → from.net ≡ sourced.now.opened.app →
+        name_of sourced.now.opened.app asked.now.name.now ≡ Some name →
         (IsTrue from.tells → WalksWord from asked.now.trace.now asked.now.time walker.now) →
-        AnswersIn from (wanted_by asked.now) (O.tells out.old) (O.taken out.old) (O.taken out.new) result }
+        (IsTrue from.tells → IsSourceOf from.held asked.now.app.now sourced.now.source) →
+        AnswersIn from asked.now.app.now (wanted_by asked.now)
+        (O.tells out.old) (O.taken out.old) (O.taken out.new) result }
     ensures read { IfErr result (λ stop. ¬ IsUnread stop) }
     ensures unwritten { IsErrOf result Stop.Unwritten → Rose (O.faults out.old) (O.faults out.new) }
     ensures writes { O.faults out.old ≤ O.faults out.new }
@@ -82,8 +86,17 @@ fn tell_found<O: Output, L: Listener>(
         tell_no_scan(alloc, listener, asked.trace, asked.time, met);
         return Ok(Status::Usage);
     };
+    let app = &sourced.opened.app;
     let question = question_of(app, name);
-    match reasoned(alloc, app, walker, times, question, asked.format) {
+    match reasoned(
+        alloc,
+        app,
+        &sourced.source,
+        walker,
+        times,
+        question,
+        asked.format,
+    ) {
         Ok(text) => write_told(out, text.as_slice()),
         Err(Memory) => Err(Stop::NoMemory),
     }
@@ -95,14 +108,17 @@ fn why_named<F: Files, O: Output, L: Listener>(
     files: &mut F,
     out: &mut O,
     listener: &mut L,
-    opened: &Opened,
+    sourced: &Sourced,
     asked: &Asked<'_>,
     name: Name,
 ) -> Result<Status, Stop>
-    requires named { name_of opened.now.app asked.now.name.now ≡ Some name }
-    requires of { IsNameOf opened.now.app name }
-    ensures answers { AnswersIn (source opened.now.app opened.now.sizes (F.tells files.old) (F.held files.old))
-        (wanted_by asked.now) (O.tells out.old) (O.taken out.old) (O.taken out.new) result }
+    requires named { name_of sourced.now.opened.app asked.now.name.now ≡ Some name }
+    requires of { IsNameOf sourced.now.opened.app name }
+    requires source { IsTrue (F.tells files.old) →
+        IsSourceOf (F.held files.old) asked.now.app.now sourced.now.source }
+    ensures answers { AnswersIn
+        (source sourced.now.opened.app sourced.now.opened.sizes (F.tells files.old) (F.held files.old))
+        asked.now.app.now (wanted_by asked.now) (O.tells out.old) (O.taken out.old) (O.taken out.new) result }
     ensures unread { IfErr result (λ stop. IsUnread stop →
         Rose (F.faults files.old (file_meant asked.now.trace.now)) (F.faults files.new (file_meant asked.now.trace.now))) }
     ensures unwritten { IsErrOf result Stop.Unwritten → Rose (O.faults out.old) (O.faults out.new) }
@@ -110,6 +126,7 @@ fn why_named<F: Files, O: Output, L: Listener>(
     ensures writes { O.faults out.old ≤ O.faults out.new }
     ensures telling { O.tells out.new ≡ O.tells out.old }
 {
+    let opened = &sourced.opened;
     let mut walker = match begun(alloc, &opened.app) {
         Ok(walker) => walker,
         Err(Memory) => return Err(Stop::NoMemory),
@@ -124,10 +141,7 @@ fn why_named<F: Files, O: Output, L: Listener>(
         asked.time,
         &mut walker,
     ) {
-        Ok(Some(met)) => {
-            let app = &opened.app;
-            tell_found(alloc, out, listener, app, asked, name, &walker, met)
-        }
+        Ok(Some(met)) => tell_found(alloc, out, listener, sourced, asked, name, &walker, met),
         Ok(None) => Ok(Status::Usage),
         Err(stop) => Err(stop),
     }
@@ -139,11 +153,13 @@ fn why_app<F: Files, O: Output, L: Listener>(
     files: &mut F,
     out: &mut O,
     listener: &mut L,
-    opened: &Opened,
+    sourced: &Sourced,
     asked: &Asked<'_>,
 ) -> Result<Status, Stop>
-    ensures answers { AnswersIn (source opened.now.app opened.now.sizes (F.tells files.old) (F.held files.old))
-        (wanted_by asked.now) (O.tells out.old) (O.taken out.old) (O.taken out.new) result }
+    requires { IsTrue (F.tells files.old) → IsSourceOf (F.held files.old) asked.now.app.now sourced.now.source }
+    ensures answers { AnswersIn
+        (source sourced.now.opened.app sourced.now.opened.sizes (F.tells files.old) (F.held files.old))
+        asked.now.app.now (wanted_by asked.now) (O.tells out.old) (O.taken out.old) (O.taken out.new) result }
     ensures unread { IfErr result (λ stop. IsUnread stop →
         Rose (F.faults files.old (file_meant asked.now.trace.now)) (F.faults files.new (file_meant asked.now.trace.now))) }
     ensures unwritten { IsErrOf result Stop.Unwritten → Rose (O.faults out.old) (O.faults out.new) }
@@ -151,8 +167,8 @@ fn why_app<F: Files, O: Output, L: Listener>(
     ensures writes { O.faults out.old ≤ O.faults out.new }
     ensures telling { O.tells out.new ≡ O.tells out.old }
 {
-    match name_of(&opened.app, asked.name.as_bytes()) {
-        Some(name) => why_named(alloc, files, out, listener, opened, asked, name),
+    match name_of(&sourced.opened.app, asked.name.as_bytes()) {
+        Some(name) => why_named(alloc, files, out, listener, sourced, asked, name),
         None => {
             tell_no_name(alloc, listener, asked.app, asked.name);
             Ok(Status::Usage)
@@ -161,8 +177,9 @@ fn why_app<F: Files, O: Output, L: Listener>(
 }
 
 /// `why APP TRACE TIME NAME`: writes why a signal, a pin or the state of an instance of the application is as it is in
-/// the last scan of the trace at or before the time, down to inputs of that scan and what was before it. In the place of
-/// a trace may stand a case file, for the trace of all of its cases, or a case file and a line of it, for the case that
+/// the last scan of the trace at or before the time, down to inputs of that scan and what was before it. A value that is
+/// assigned, and what a call makes, is told with line and column of that statement in the source. In the place of a
+/// trace may stand a case file, for the trace of all of its cases, or a case file and a line of it, for the case that
 /// has this line. What is behind that scan is not read.
 ///
 /// The status is Done. It is Usage where the name is none of the application, the line of the word is in no case, or no
@@ -189,8 +206,8 @@ pub fn why<F: Files, O: Output, L: Listener>(
     ensures writes { O.faults out.old ≤ O.faults out.new }
     ensures telling { O.tells out.new ≡ O.tells out.old }
 {
-    match open_app(alloc, files, out, asked.app) {
-        Ok(opened) => why_app(alloc, files, out, listener, &opened, asked),
+    match open_sourced(alloc, files, out, asked.app) {
+        Ok(sourced) => why_app(alloc, files, out, listener, &sourced, asked),
         Err(stop) => Err(stop),
     }
 }

@@ -12,11 +12,13 @@ ghost use Rattle.ps_moment.specs.declared.walker.Since.{Since as SinceOf};
 ghost use Rattle.ps_reasons.specs.Questions.{IsOf};
 ghost use Rattle.ps_terms.specs.Names.{IsNameOf};
 
+use crate::placing::places_of;
 use ps_base::{Bytes, Memory};
 use ps_because::{Moment, because};
 use ps_coverage::Format;
 use ps_model::{App, input_count};
 use ps_moment::{LastScan, Since, Walker};
+use ps_parser::Source;
 use ps_pins::Signals;
 use ps_reasons::{Question, Scene, answer};
 use ps_terms::Name;
@@ -77,10 +79,11 @@ fn all_behind(alloc: Global, since: &[Since]) -> Result<Vec<u32>, Memory>
     Ok(times)
 }
 
-/// Why it is so what is asked, in the scan that was found.
+/// Why it is so what is asked, in the scan that was found, with the places of the source.
 pub(crate) fn reasoned(
     alloc: Global,
     app: &App,
+    source: &Source,
     walker: &Walker,
     times: LastScan,
     question: Question,
@@ -89,7 +92,7 @@ pub(crate) fn reasoned(
     requires fits { IsWalkerFor app.now walker.now }
     requires of { IsOf app.now question }
     ensures { IfOk result (λ text. (s : Scanned) → IsLook app.now s walker.now → walker.now.last ≡ Some times →
-        IsReasoned app.now s question format text) }
+        IsReasoned app.now source.now s question format text) }
 {
     let calls = walker.calls(alloc)?;
     let scene = Scene {
@@ -100,6 +103,7 @@ pub(crate) fn reasoned(
         calls: calls.as_slice(),
     };
     let explanation = answer(alloc, app, question, &scene)?;
+    let places = places_of(alloc, app, source, explanation.facts.as_slice())?;
     let before = all_before(alloc, walker.since())?;
     let behind = all_behind(alloc, walker.since())?;
     let moment = Moment {
@@ -108,7 +112,8 @@ pub(crate) fn reasoned(
         before: times.before,
         since_before: before.as_slice(),
         since: behind.as_slice(),
+        calls: scene.calls,
     };
     whatever_the_inputs(app);
-    because(alloc, &moment, &explanation, format)
+    because(alloc, &moment, &explanation, places.as_slice(), format)
 }

@@ -1,7 +1,7 @@
 // The scan that a time picks of what a word means in the place of a trace.
 
 ghost use Rattle.std.specs.Prelude.{◌≡◌, ◌≤◌, ℕ, List, IsTrue, Some, None, Ok, Err, IfOk, IfErr, IfNone, IfSome, IsErrOf, OnOk};
-ghost use Rattle.ps_accounting.specs.Adding.{RefusesHeld, RefusesWord, StopsAtTrace, StopsAtWord};
+ghost use Rattle.ps_traced.specs.Refusing.{RefusesHeld, RefusesWord, StopsAtTrace, StopsAtWord};
 ghost use Rattle.ps_base.specs.declared.failing.Refusal.{Refusal as RefusalOf};
 ghost use Rattle.ps_bench_base.specs.Ending.{IsOfRun, IsUnread};
 ghost use Rattle.ps_bench_base.specs.Meant.{file_meant};

@@ -41,3 +41,19 @@ impl Drop for Findings {
         let Findings { first: _, more: _ } = self;
     }
 }
+
+impl Findings {
+    /// Whether the text is one of the language: no rule L or P refuses it.
+    pub fn parses(&self) -> bool {
+        let Some(finding) = &self.first else {
+            return true;
+        };
+        match finding.what {
+            What::Refused(rule) => !matches!(
+                rule,
+                Rule::L1 | Rule::L2 | Rule::L3 | Rule::L4 | Rule::L5 | Rule::P1 | Rule::P2
+            ),
+            What::Noted => true,
+        }
+    }
+}

@@ -4,7 +4,7 @@ ghost use Rattle.std.specs.Prelude.{◌≡◌};
 ghost use Rattle.ps_columns.specs.Columns.{position};
 
 use ps_base::Place;
-use ps_columns::{Range, position_of};
+use ps_columns::{Range, range_from};
 use ps_lexer::Token;
 use ps_quoted::{cut_at, line_at, name_of};
 
@@ -35,15 +35,5 @@ fn width_at(text: &[u8], tokens: &[Token], place: Place) -> u32 {
 pub(crate) fn range_at(text: &[u8], tokens: &[Token], place: Place) -> Range
     ensures { result.start ≡ position text.now place }
 {
-    let behind = Place {
-        line: place.line,
-        column: place
-            .column
-            .max(1)
-            .saturating_add(width_at(text, tokens, place)),
-    };
-    Range {
-        start: position_of(text, place),
-        end: position_of(text, behind),
-    }
+    range_from(text, place, width_at(text, tokens, place))
 }

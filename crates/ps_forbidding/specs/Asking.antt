@@ -6,14 +6,14 @@ use Rattle.ps_bench_base.specs.Stopping.{StopsAtApp, Took, TookNothing, TookSome
 use Rattle.ps_bench_base.specs.declared.ending.Input.TheVariants.{Rules}
 use Rattle.ps_bench_base.specs.declared.ending.InputStop.TheVariants.{RulesRefused, Unread}
 use Rattle.ps_bench_base.specs.declared.ending.Status.{Status}
-use Rattle.ps_bench_base.specs.declared.ending.Status.TheVariants.{Done, Failed, Usage}
+use Rattle.ps_bench_base.specs.declared.ending.Status.TheVariants.{Done, Failed}
 use Rattle.ps_bench_base.specs.declared.ending.Stop.{Stop}
 use Rattle.ps_bench_base.specs.declared.ending.Stop.TheVariants.{Input, Unwritten, NoMemory}
 use Rattle.ps_model.specs.Network.{Network}
 use Rattle.ps_model.specs.declared.channel.ImageSizes.{ImageSizes}
-use Rattle.ps_never.specs.Answering.{IsOfAnyTimes, IsRefusedFor, IsToldOf}
 use Rattle.ps_never.specs.declared.answering.Told.{Told}
 use Rattle.ps_rules.specs.declared.flaw.RulesRefusal.{RulesRefusal}
+use Rattle.ps_whenever.specs.Answering.{IsRefusedFor, IsToldOf}
 
 -- a number of states, and 1 for 0
 abbrev pub at_least_one : ℕ → ℕ
@@ -29,11 +29,6 @@ abbrev pub IsRefusedRules : Source → (rules : List ℕ) → RulesRefusal → T
 IsRefusedRules from rules refusal =
     IsTrue from.tells → (text : List ℕ) × (from.held rules ≡ Some text) × IsRefusedFor from.net text refusal
 
--- the text of this name asks for scans at any times, where it is known
-abbrev pub AreOfAnyTimes : Source → (rules : List ℕ) → Type 0
-AreOfAnyTimes from rules =
-    IsTrue from.tells → (text : List ℕ) × (from.held rules ≡ Some text) × IsOfAnyTimes from.net text
-
 -- whether all holds that is told
 abbrev pub status_by : Bool → Status
 status_by holds = if holds then Done else Failed
@@ -42,12 +37,10 @@ status_by holds = if holds then Done else Failed
 abbrev pub status_of : Told → Status
 status_of told = status_by told.do_all_hold
 
--- What `never` answers of an application: what is told of the rules was written, and whether all hold; or the rules ask
--- for scans at any times, and nothing was written.
+-- What `never` answers of an application: what is told of the rules was written, and whether all hold.
 abbrev pub Answered : Source → (rules : List ℕ) → (states : ℕ) → (tells : Bool) → (before after : List ℕ) → Status → Type 0
 Answered from rules states tells before after status =
-    ((told : Told) × AreTold from rules states told × (status ≡ status_of told) × Took told.text tells before after)
-    ⊎ ((status ≡ Usage) × AreOfAnyTimes from rules × TookNothing tells before after)
+    (told : Told) × AreTold from rules states told × (status ≡ status_of told) × Took told.text tells before after
 
 -- how a call stops for this refusal of its rules: the line of it was written, or a beginning, or, for want of memory,
 -- nothing

@@ -9,11 +9,10 @@ ghost use Rattle.ps_forbidding.specs.Asking.{AnswersIn, AnswersNever, StopsFor, 
 
 use ps_base::Memory;
 use ps_bench_base::{Input, InputStop, Opened, Status, Stop, open_app, rules_refused_line};
-use ps_hearing::Listener;
-use ps_never::{NeverFail, answer};
+use ps_never::NeverFail;
 use ps_outside::{Files, Output, write_all};
 use ps_rules::RulesRefusal;
-use ps_telling::tell_any_times;
+use ps_whenever::answer;
 use std::alloc::Global;
 
 /// What `never` is asked.
@@ -80,11 +79,10 @@ pub fn write_told<O: Output>(out: &mut O, text: &[u8], holds: bool) -> Result<St
 }
 
 // Writes what is told of the rules of a file, of an application.
-fn never_app<F: Files, O: Output, L: Listener>(
+fn never_app<F: Files, O: Output>(
     alloc: Global,
     files: &mut F,
     out: &mut O,
-    listener: &mut L,
     opened: &Opened,
     asked: &Asked<'_>,
 ) -> Result<Status, Stop>
@@ -102,29 +100,24 @@ fn never_app<F: Files, O: Output, L: Listener>(
         Ok(told) => write_told(out, told.text.as_slice(), told.do_all_hold),
         Err(NeverFail::Refused(refusal)) => Err(refuse_rules(alloc, out, refusal)),
         Err(NeverFail::Fault) => Err(Stop::Input(InputStop::Unread(Input::Rules))),
-        Err(NeverFail::AnyTimes) => {
-            tell_any_times(listener);
-            Ok(Status::Usage)
-        }
         Err(NeverFail::Memory) => Err(Stop::NoMemory),
     }
 }
 
 /// `never APP RULES`: writes of each rule of the file of this name whether it holds in every run of the application,
 /// where so many of its states may be held: a rule that is met is told with a shortest case, and one that is open with
-/// how long runs were looked at.
+/// how long runs were looked at. Where the scans of the file come at any times, a rule holds at all times whatever, and
+/// one that is met is told with a case of scans 10, 100 or 1000 ms apart.
 ///
-/// The status is Done where every rule holds, and Failed where one is met or stays open. It is Usage where the file asks
-/// for scans at any times: that is told, and nothing is written. Where the application or the file is refused, the line
-/// of the refusal is written in its place.
+/// The status is Done where every rule holds, and Failed where one is met or stays open. Where the application or the
+/// file is refused, the line of the refusal is written in its place.
 ///
 /// A file that cannot be read is one of the two, whose count of the files rose in this call; `Unwritten` comes only
 /// where the output's count rose.
-pub fn never<F: Files, O: Output, L: Listener>(
+pub fn never<F: Files, O: Output>(
     alloc: Global,
     files: &mut F,
     out: &mut O,
-    listener: &mut L,
     asked: &Asked<'_>,
 ) -> Result<Status, Stop>
     ensures answers { IfOk result (AnswersNever asked.now.app.now asked.now.rules.now asked.now.states
@@ -139,7 +132,7 @@ pub fn never<F: Files, O: Output, L: Listener>(
     ensures telling { O.tells out.new ≡ O.tells out.old }
 {
     match open_app(alloc, files, out, asked.app) {
-        Ok(opened) => never_app(alloc, files, out, listener, &opened, asked),
+        Ok(opened) => never_app(alloc, files, out, &opened, asked),
         Err(stop) => Err(stop),
     }
 }

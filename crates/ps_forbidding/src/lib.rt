@@ -1,4 +1,4 @@
-//! `never` of the program `plcsafe-bench`, over any files, any output, and whoever is told.
+//! `never` of the program `plcsafe-bench`, over any files and any output.
 //!
 //! `forbidding` is `never APP RULES`.
 #![tactic(auto)]

@@ -1,19 +1,19 @@
-// The answer to a rules file.
+// The answer to a rules file whose scans come so many ms apart.
 
-ghost use Rattle.std.specs.Prelude.{◌≡◌, ◌<◌, ◌≤◌, ℕ, List, IsTrue, Some, Err, IfOk, IsErrOf, IsSome};
-ghost use Rattle.ps_outside.specs.Outside.{Rose};
+ghost use Rattle.std.specs.Prelude.{◌≡◌, ◌<◌, ◌≤◌, Err, IfOk, IsErrOf, count_by};
+ghost use Rattle.ps_reach.specs.Reaching.{is_free};
 ghost use Rattle.ps_rules.specs.File.{pace_of};
 ghost use Rattle.ps_rules.specs.Standing.{IsOfApplication};
 ghost use Rattle.ps_rules.specs.declared.flaw.RulesRefusal.{RulesRefusal as RulesRefusalOf};
-ghost use Rattle.ps_rules.specs.declared.rules.Pace.TheVariants.{Any as AtAnyTimes};
-ghost use Rattle.ps_never.specs.Answering.{HasManyFree, IsOfAnyTimes, IsRefusedFor, IsToldBy, IsToldOf};
+ghost use Rattle.ps_rules.specs.declared.rules.Pace.TheVariants.{Every as ComesEvery};
+ghost use Rattle.ps_ruling.specs.Asked.{IsAskedBy};
+ghost use Rattle.ps_never.specs.Answering.{HasManyFree, IsToldBy};
 
 use crate::telling::{Asking, do_all_hold, told};
 use ps_base::{Bytes, Memory};
 use ps_model::App;
-use ps_outside::Files;
-use ps_reach::{free_inputs, never};
-use ps_rules::{Flaw, Pace, Purpose, RulesFail, RulesFile, RulesRefusal, read_rules};
+use ps_reach::{Asked, MOST_FREE, free_inputs, never};
+use ps_rules::{Flaw, RulesFile, RulesRefusal};
 use ps_ruling::asked_of;
 use std::alloc::Global;
 
@@ -33,8 +33,6 @@ pub enum NeverFail {
     Refused(RulesRefusal),
     /// The file cannot be read.
     Fault,
-    /// Scans are to come at any times, which are not searched.
-    AnyTimes,
     /// Memory is wanting.
     Memory,
 }
@@ -50,32 +48,50 @@ impl From<Memory> for NeverFail {
     }
 }
 
-// The answer to a rules file that is read.
-fn answer_file(
+/// What a rules file asks of an application, with so many ms from scan to scan. `Refused` comes where over 20 inputs are
+/// free (R5, at the line behind the last one).
+pub fn asked_if_few(
     alloc: Global,
     app: &App,
-    name: &str,
     file: &RulesFile,
-    most: u32,
-) -> Result<Told, NeverFail>
-    requires some { 0 < most }
-    requires stands { IsOfApplication app.now file.now }
-    ensures tells { IfOk result (IsToldBy app.now name.now most file.now) }
+    every: u32,
+) -> Result<Asked, NeverFail>
+    requires { IsOfApplication app.now file.now }
+    ensures asks { IfOk result (IsAskedBy app.now file.now every) }
+    ensures few { IfOk result (λ asked. count_by is_free asked.inputs.items ≤ 20) }
     ensures many { (refusal : RulesRefusalOf) → result ≡ Err (NeverFail.Refused refusal) → HasManyFree app.now file.now refusal }
-    ensures any { IsErrOf result NeverFail.AnyTimes → pace_of file.now ≡ AtAnyTimes }
     ensures read { ¬ IsErrOf result NeverFail.Fault }
 {
-    let every = match file.pace() {
-        Pace::Every(every) => every,
-        Pace::Any => return Err(NeverFail::AnyTimes),
-    };
     let asked = asked_of(alloc, app, file, every)?;
-    if free_inputs(asked.inputs.as_slice()) > 20 {
+    if free_inputs(asked.inputs.as_slice()) > MOST_FREE as usize {
         return Err(NeverFail::Refused(RulesRefusal {
             flaw: Flaw::R5,
             line: file.end,
         }));
     }
+    Ok(asked)
+}
+
+/// The answer to a rules file that is read, whose scans come so many ms apart, of which so many states may be held: what
+/// is told of its rules, and whether all hold. `Refused` comes where over 20 inputs are free (R5, at the line behind the
+/// last one).
+pub fn answer_every(
+    alloc: Global,
+    app: &App,
+    name: &str,
+    file: &RulesFile,
+    every: u32,
+    most: u32,
+) -> Result<Told, NeverFail>
+    requires some { 0 < most }
+    requires stands { IsOfApplication app.now file.now }
+    requires pace { pace_of file.now ≡ ComesEvery every }
+    // What is told of a rule is so of all runs of the application.
+    ensures tells { IfOk result (IsToldBy app.now name.now most file.now) }
+    ensures many { (refusal : RulesRefusalOf) → result ≡ Err (NeverFail.Refused refusal) → HasManyFree app.now file.now refusal }
+    ensures read { ¬ IsErrOf result NeverFail.Fault }
+{
+    let asked = asked_if_few(alloc, app, file, every)?;
     let found = never(alloc, app, &asked, most)?;
     let asking = Asking {
         app,
@@ -89,40 +105,4 @@ fn answer_file(
         text,
         do_all_hold: do_all_hold(&found),
     })
-}
-
-/// The answer to the rules file of this name, of which so many states may be held: what is told of its rules, and whether
-/// all hold.
-///
-/// `Refused` comes by the rules of the file, and where over 20 inputs are free (R5, at the line behind the last one).
-/// `AnyTimes` comes only where the file asks for scans at any times, `Fault` only where the files' count of the name
-/// rose in this call.
-pub fn answer<F: Files>(
-    alloc: Global,
-    files: &mut F,
-    app: &App,
-    name: &str,
-    most: u32,
-) -> Result<Told, NeverFail>
-    requires { 0 < most }
-    // What is told of a rule is so of all runs of the application.
-    ensures gives { IsTrue (F.tells files.old) → (text : List ℕ) → F.held files.old name.now ≡ Some text →
-        IfOk result (IsToldOf app.now name.now most text) }
-    ensures refuses { IsTrue (F.tells files.old) → (text : List ℕ) → F.held files.old name.now ≡ Some text →
-        (refusal : RulesRefusalOf) → result ≡ Err (NeverFail.Refused refusal) → IsRefusedFor app.now text refusal }
-    ensures any { IsTrue (F.tells files.old) → (text : List ℕ) → F.held files.old name.now ≡ Some text →
-        IsErrOf result NeverFail.AnyTimes → IsOfAnyTimes app.now text }
-    ensures found { IsTrue (F.tells files.old) → ¬ IsErrOf result NeverFail.Fault → ¬ IsErrOf result NeverFail.Memory →
-        IsSome (F.held files.old name.now) }
-    ensures fault { IsErrOf result NeverFail.Fault → Rose (F.faults files.old name.now) (F.faults files.new name.now) }
-    ensures counts { (other : List ℕ) → F.faults files.old other ≤ F.faults files.new other }
-    ensures kept { F.held files.new ≡ F.held files.old }
-    ensures telling { F.tells files.new ≡ F.tells files.old }
-{
-    match read_rules(alloc, files, name, app, Purpose::Never) {
-        Ok(file) => answer_file(alloc, app, name, &file, most),
-        Err(RulesFail::Refused(refusal)) => Err(NeverFail::Refused(refusal)),
-        Err(RulesFail::Fault) => Err(NeverFail::Fault),
-        Err(RulesFail::Memory) => Err(NeverFail::Memory),
-    }
 }

@@ -1,13 +1,13 @@
 -- What is kept of the instances, one after another.
-use Rattle.std.proofs.Common.{◌≡◌, ◌≢◌, ℕ, zero, suc, ◌+◌, ◌<◌, ◌≤◌, ◌⊎◌, inl, inr, Bool, List, [], ◌∷◌, length, set, refl, sym, ap, subst, ◌∙◌, arith, false}
-use Rattle.std.specs.Prelude.{Some, None, slice_get, slice_index_or}
+use Rattle.std.proofs.Common.{◌≡◌, ◌≢◌, ℕ, zero, suc, ◌+◌, ◌<◌, ◌≤◌, ◌⊎◌, inl, inr, List, [], ◌∷◌, length, set, refl, sym, ap, subst, ◌∙◌, arith, false}
+use Rattle.std.specs.Prelude.{Some, slice_get, slice_index_or}
 use Rattle.std.proofs.lemmas.Bool.{cases_lt}
 use Rattle.std.proofs.lemmas.List.{length-set}
 use Rattle.std.proofs.lemmas.Option.{same_Some, slice_get-get_or, slice_get_within}
 use Rattle.ps_model.specs.Action.{Actual, calls}
 use Rattle.ps_model.specs.Kept.{Remains, StandsBy}
-use Rattle.ps_model.specs.Network.{Network, instance_count, kind_at}
-use Rattle.ps_model.specs.Scanning.{Solves, State, block_in, limit_of}
+use Rattle.ps_model.specs.Network.{Network, kind_at}
+use Rattle.ps_model.specs.Scanning.{block_in, limit_of}
 use Rattle.ps_pins.specs.declared.signals.Signals.{Signals}
 use Rattle.ps_rows.specs.Counted.{kept_of}
 use Rattle.ps_reasons.specs.Keeping.{AllStep, AreKept, IsKeptFor, StepsSo}

@@ -11,3 +11,4 @@ pub mod Blocks
 pub mod Kept
 pub mod Rooted
 pub mod Settling
+pub mod Making

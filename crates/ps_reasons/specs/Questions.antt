@@ -7,7 +7,7 @@ use Rattle.ps_model.specs.Scanning.{Solves, State}
 use Rattle.ps_pins.specs.Calls.{call_step, input_pin}
 use Rattle.ps_why.specs.declared.fact.Fact.{Fact}
 use Rattle.ps_why.specs.declared.fact.Fact.TheVariants.{PinIs, SignalIs, StateIs}
-use Rattle.ps_reasons.specs.Explanations.{IsMeant}
+use Rattle.ps_reasons.specs.Explanations.{IsMeant, IsReason}
 use Rattle.ps_reasons.specs.Scenes.{IsSceneOf}
 use Rattle.ps_reasons.specs.declared.explaining.Explanation.{Explanation}
 use Rattle.ps_reasons.specs.declared.questions.Question.{Question}
@@ -19,9 +19,10 @@ use Rattle.ps_reasons.specs.declared.scene.Scene.{Scene}
 abbrev pub value_of : Scene → (s : ℕ) → Fact
 value_of x s = SignalIs s (slice_index_or x.signals.behind.now s false)
 
--- a fact is that of a signal
-abbrev pub IsValue : Scene → Fact → Type 0
-IsValue x fact = (s : ℕ) × (fact ≡ value_of x s)
+-- a fact is that of a safe output of an instance
+abbrev pub IsSafeValue : Network → Scene → (i : ℕ) → Fact → Type 0
+IsSafeValue net x i fact =
+    (j : ℕ) × (j < length (block (kind_at net i)).outputs) × (fact ≡ value_of x (first_pin net i + j))
 
 -- a fact is that the call of an instance reads its value at a pin
 abbrev pub IsPinOfCall : Network → Scene → (i j : ℕ) → Fact → Type 0
@@ -47,16 +48,20 @@ IsAnswered net x (Instance i) told =
     × ((j : ℕ) → j < length (block (kind_at net i)).outputs → told (value_of x (first_pin net i + j)))
 IsAnswered net x (Pin i j) told = (fact : Fact) × IsPinOfCall net x i j fact × told fact
 
--- a fact is one that can be asked for
-abbrev pub IsRoot : Network → Scene → Fact → Type 0
-IsRoot net x fact =
-    IsValue x fact
-    ⊎ (((i : ℕ) × (i < instance_count net) × IsState net x i fact)
-    ⊎ ((i : ℕ) × (j : ℕ) × (i < instance_count net) × IsPinOfCall net x i j fact))
+-- a fact is one of those that a question asks for
+abbrev pub IsAskedFor : Network → Scene → Question → Fact → Type 0
+IsAskedFor net x (Signal s) fact = fact ≡ value_of x s
+IsAskedFor net x (Instance i) fact = IsState net x i fact ⊎ IsSafeValue net x i fact
+IsAskedFor net x (Pin i j) fact = IsPinOfCall net x i j fact
 
 -- each of these facts is
-abbrev pub AreRoots : Network → Scene → List Fact → Type 0
-AreRoots net x roots = (fact : Fact) → Contains roots fact → IsRoot net x fact
+abbrev pub AreAskedFor : Network → Scene → Question → List Fact → Type 0
+AreAskedFor net x question facts = (fact : Fact) → Contains facts fact → IsAskedFor net x question fact
+
+-- Nothing is told that was not asked for and is no reason of a fact that is told before it.
+abbrev pub IsAllUsed : Network → Scene → Question → Explanation → Type 0
+IsAllUsed net x question e = (n : ℕ) (fact : Fact) → slice_get e.facts.items n ≡ Some fact →
+    IsAskedFor net x question fact ⊎ IsReason e.reasons.items n
 
 -- In every scan that is seen so, all that is told is so, and explained.
 abbrev pub IsAnsweredThere : Network → Scene → Explanation → Type 0

@@ -4,7 +4,7 @@
 //! - `scene`: what is seen of a scan.
 //! - `reading`: what a step reads, and what the guards see in a call.
 //! - `signals`, `pins`, `asks`, `states`: on what a fact of each sort rests.
-//! - `explaining`: all that a fact rests on.
+//! - `explaining`: all that a fact rests on. `steps`: which step makes a fact.
 //! - `questions`: what is asked of a scan, and its answer.
 //! - `keeping`: what is seen of an instance from scan to scan.
 #![tactic(auto)]
@@ -18,8 +18,10 @@ mod reading;
 mod scene;
 mod signals;
 mod states;
+mod steps;
 
 pub use explaining::{Explanation, Reasons, explain};
 pub use keeping::{Stepped, step_instance};
 pub use questions::{Question, answer};
 pub use scene::{CallScene, Scene};
+pub use steps::step_of;

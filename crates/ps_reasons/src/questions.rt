@@ -6,8 +6,8 @@ ghost use Rattle.ps_model.specs.Network.{first_pin, instance_count, kind_at};
 ghost use Rattle.ps_why.specs.Telling.{Adds};
 ghost use Rattle.ps_why.specs.declared.fact.Fact.TheVariants.{PinIs, StateIs};
 ghost use Rattle.ps_pins.specs.Calls as pins;
-ghost use Rattle.ps_reasons.specs.Questions.{AreRoots, IsAnswered, IsAnsweredThere, IsOf, IsPinOfCall, IsRoot, IsValue};
-ghost use Rattle.ps_reasons.specs.Questions.{value_of};
+ghost use Rattle.ps_reasons.specs.Questions.{AreAskedFor, IsAllUsed, IsAnswered, IsAnsweredThere, IsOf, IsPinOfCall};
+ghost use Rattle.ps_reasons.specs.Questions.{IsSafeValue, value_of};
 ghost use Rattle.ps_reasons.specs.Scenes.{IsSceneFor};
 
 use crate::explaining::{Explanation, explain};
@@ -71,7 +71,7 @@ fn tell_outputs(app: &App, i: u16, scene: &Scene<'_>, facts: &mut Vec<Fact>) -> 
     requires { i < instance_count app.now }
     ensures told { OnOk result ((j : ℕ) → j < length (block (kind_at app.now i)).outputs →
         Contains facts.new.items (value_of scene.entry.now (first_pin app.now i + j))) }
-    ensures adds { OnOk result (Adds (IsValue scene.entry.now) facts.old.items facts.new.items) }
+    ensures adds { OnOk result (Adds (IsSafeValue app.now scene.entry.now i) facts.old.items facts.new.items) }
 {
     let count = safe_count(app.instance_kind(i));
     for j in 0..count {
@@ -90,7 +90,7 @@ fn roots_of(
     requires fits { IsSceneFor app.now scene.now }
     requires of { IsOf app.now question }
     ensures answers { IfOk result (λ roots. IsAnswered app.now scene.entry.now question (Contains roots.items)) }
-    ensures roots { IfOk result (λ roots. AreRoots app.now scene.entry.now roots.items) }
+    ensures roots { IfOk result (λ roots. AreAskedFor app.now scene.entry.now question roots.items) }
 {
     let mut roots = Vec::new(alloc);
     match question {
@@ -124,6 +124,8 @@ pub fn answer(
     requires of { IsOf app.now question }
     // What is asked for is told.
     ensures answers { IfOk result (λ e. IsAnswered app.now scene.entry.now question (Contains e.facts.items)) }
+    // Nothing is told that was not asked for and is no reason of a fact that is told before it.
+    ensures used { IfOk result (IsAllUsed app.now scene.entry.now question) }
     // In every scan that is seen so, all that is told is so, and explained.
     ensures meant { IfOk result (IsAnsweredThere app.now scene.entry.now) }
 {

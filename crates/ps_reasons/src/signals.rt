@@ -25,8 +25,8 @@ use ps_ways::StepConditions;
 use ps_why::{Fact, tell_denial};
 use std::alloc::Global;
 
-// What drives a signal.
-fn driver_of(app: &App, s: u16) -> Option<Driver>
+/// What drives a signal.
+pub(crate) fn driver_of(app: &App, s: u16) -> Option<Driver>
     ensures { MatchOption result (is_driven app.now s ≡ false) (IsDrivenBy app.now s) }
 {
     app.sound();

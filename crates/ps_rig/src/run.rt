@@ -8,9 +8,9 @@ ghost use Rattle.ps_rig.specs.CaseRuns.{IsJudged, PassesExactly, Task, makes, ta
 ghost use Rattle.ps_rig.specs.Rigs.{Goes, IsRigFor, RiseFrom, SetsInputs, last_of, set_through};
 
 use crate::rig::Rig;
-use crate::struck::faults_of;
 use ps_base::Memory;
 use ps_cases::{Act, Case, CaseFile, Pace, Statement};
+use ps_expand::faults_of;
 use ps_judge::{Failure, Judge};
 use ps_model::App;
 use std::alloc::Global;

@@ -6,3 +6,5 @@ pub mod Sharing
 pub mod Asking
 -- what is found by the text of a rules file
 pub mod Finding
+-- the output that is named differs
+pub mod Naming

@@ -2,3 +2,5 @@
 pub mod Likeness
 pub mod Telling
 pub mod Answering
+-- the law: the output that is named differs
+pub mod Naming

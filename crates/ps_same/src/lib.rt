@@ -6,6 +6,7 @@
 #![tactic(auto)]
 
 mod answering;
+pub mod laws;
 mod likeness;
 mod telling;
 

@@ -14,9 +14,12 @@ use ps_message::message as refusal_message;
 use ps_model::ImageSizes;
 use ps_refused::refusal_of_app;
 use ps_source::accept_text;
-use ps_statuses::{NO_MEMORY, UNWRITTEN, unread_message};
+use ps_statuses::{NO_MEMORY, UNWRITTEN, Unread, unread_message};
 use ps_world::World;
 use std::alloc::Global;
+
+// What a trace is called that comes by standard input.
+const FED: &str = "standard input";
 
 // What is told where scans at any times are asked for.
 const ANY_TIMES: &str =
@@ -29,7 +32,7 @@ pub struct Names<'a> {
     pub app: &'a str,
     /// The case files.
     pub cases: &'a [&'a str],
-    /// The word in the place of a trace.
+    /// The word in the place of a trace; empty of a call whose trace comes by standard input.
     pub trace: &'a str,
     /// The words in the place of traces, of a call that names several.
     pub traces: &'a [&'a str],
@@ -118,9 +121,15 @@ fn case_file<'a>(names: &Names<'a>, place: usize) -> &'a str {
     }
 }
 
+// Whether this is a trace that came by standard input: nothing of it can be read again.
+fn is_fed(names: &Names<'_>, input: Input) -> bool {
+    input == Input::Trace && names.trace.is_empty()
+}
+
 // The name of what a run is made of.
 fn input_name<'a>(names: &Names<'a>, input: Input) -> &'a str {
     match input {
+        Input::Trace if names.trace.is_empty() => FED,
         Input::Trace => names.trace,
         Input::TraceAt(place) => name_at(names.traces, place),
         Input::Faults => names.faults,
@@ -178,13 +187,23 @@ fn region_told(
 }
 
 // What is told of a refusal besides its rule: where a trace has not the inputs of the application of this text, what
-// these are; how long a region is; or what the line tells.
+// these are, or which it has not; how long a region is; or what the line tells.
 fn told_on(alloc: Global, source: &[u8], text: &[u8], refusal: &Refusal) -> Result<Bytes, Memory> {
     match refusal.rule {
         Rule::T2 => inputs_told(alloc, source),
+        Rule::T3 if text.is_empty() => inputs_told(alloc, source),
         Rule::T3 => header_told(alloc, source, text),
         Rule::F3 => region_told(alloc, source, text, refusal),
         _ => detail_on(alloc, text, refusal),
+    }
+}
+
+// The text of what a run is made of, as far as its rules look at it.
+fn input_text<L: Listener>(alloc: Global, listener: &L, names: &Names<'_>, input: Input) -> Bytes {
+    if is_fed(names, input) {
+        Bytes::new(alloc)
+    } else {
+        listener.text_of(alloc, input_name(names, input), most_of(input))
     }
 }
 
@@ -198,7 +217,7 @@ fn input_refused<L: Listener>(
 ) -> Result<Bytes, Memory> {
     let name = input_name(names, input);
     let source = listener.text_of(alloc, names.app, LARGEST_SOURCE);
-    let text = listener.text_of(alloc, name, most_of(input));
+    let text = input_text(alloc, listener, names, input);
     let words = told_on(alloc, source.as_slice(), text.as_slice(), refusal)?;
     refusal_message(
         alloc,
@@ -244,6 +263,9 @@ fn input_message<L: Listener>(
         }
         InputStop::OtherRefused(refusal) => app_refused(alloc, listener, names.other, &refusal),
         InputStop::Unlike => Ok(Bytes::new(alloc)),
+        InputStop::Unread(input) if is_fed(names, input) => {
+            unread_message(alloc, FED.as_bytes(), Unread::Failed)
+        }
         InputStop::Unread(input) => unread(alloc, listener, input_name(names, input)),
     }
 }

@@ -1,1 +1,3 @@
 mod Plays
+-- a trace that is refused where a word stands
+pub mod Refused

@@ -2,3 +2,5 @@
 pub mod Playing
 -- the faults that strike, and how a call ends that is refused
 pub mod Opening
+-- how a call stops at a word in the place of a trace
+pub mod Refusing

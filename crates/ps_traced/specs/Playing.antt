@@ -1,6 +1,6 @@
 -- What is run where a word stands in the place of a trace.
 use Rattle.std.specs.Prelude.{◌≡◌, ℕ, List, [], Option, Some, None, Ok, IsTrue}
-use Rattle.ps_bench_base.specs.Meant.{file_meant, word_meant}
+use Rattle.ps_bench_base.specs.Meant.{word_meant}
 use Rattle.ps_bench_base.specs.Opening.{Source}
 use Rattle.ps_bench_base.specs.declared.meant.Part.{Part}
 use Rattle.ps_bench_base.specs.declared.meant.Part.TheVariants.{Trace, Cases, Case}

@@ -1,7 +1,8 @@
 -- What a call does: one that did what its words ask, and one that stopped before.
-use Rattle.std.specs.Prelude.{◌≡◌, ◌⊎◌, ℕ, Bool, IsTrue, List, [], ◌∷◌, ◌++◌, map, Option, Some, None}
+use Rattle.std.specs.Prelude.{◌≡◌, ◌⊎◌, ℕ, Bool, IsTrue, List, [], ◌∷◌, ◌++◌, Any, map, Option, Some, None}
 use Rattle.ps_bench_words.specs.Asking.{Asked}
-use Rattle.ps_bench_words.specs.Asking.Asked.{Test, Expand, Watch, Trace, Why, Cover, Never, Same, Page, NotTaken}
+use Rattle.ps_bench_words.specs.Asking.Asked.{Test, Expand, Watch, Trace, Why, Cover, Never, Same, Live, Page}
+use Rattle.ps_bench_words.specs.Asking.Asked.{NotTaken}
 use Rattle.ps_accounting.specs.Asking.{AnswersCover, StopsCover, Wanted as Covered}
 use Rattle.ps_cases.specs.Expanded.{expanded}
 use Rattle.ps_cases.specs.declared.case.CaseFile.{CaseFile}
@@ -10,8 +11,10 @@ use Rattle.ps_coverage.specs.declared.format.Format.{Format}
 use Rattle.ps_explaining.specs.Asking as explaining
 use Rattle.ps_explaining.specs.Asking.{AnswersWhy, StopsWhy}
 use Rattle.ps_forbidding.specs.Asking.{AnswersNever, StopsNever}
+use Rattle.ps_live.specs.Asking.{AnswersLive, Fed, StopsLive}
 use Rattle.ps_model.specs.Network.{Network}
 use Rattle.ps_model.specs.declared.channel.ImageSizes.{ImageSizes}
+use Rattle.ps_outside.specs.Outside.{Rose}
 use Rattle.ps_tester.specs.Stopping.{StopsExpanding, StopsTesting}
 use Rattle.ps_tester.specs.Testing.{AreRanFiles, FileRan, test_status, test_text}
 use Rattle.ps_tracing.specs.Asking.{AnswersTrace, StopsTrace}
@@ -41,64 +44,68 @@ explained_of trace time name output = record { trace = trace; time = time; name 
 abbrev pub covered_of : (traces : List (List ℕ)) (output : Format) (least : Option ℕ) (ideas : Bool) → Covered
 covered_of traces output least ideas = record { traces = traces; format = output; least = least; ideas = ideas }
 
--- By what the words ask, over files that tell what they hold or do not: the status, and what an output that tells
--- took. `test` ran all cases of all of its files, in the order of the words; its status is Done where each passed, and
--- else Failed.
-abbrev pub Answers : Asked → (reading : Bool) (held : List ℕ → Option (List ℕ)) → Status →
+-- By what the words ask, over files and a stream that tell what they hold or do not: the status, and what an output
+-- that tells took. `test` ran all cases of all of its files, in the order of the words; its status is Done where each
+-- passed, and else Failed.
+abbrev pub Answers : Asked → Fed → (reading : Bool) (held : List ℕ → Option (List ℕ)) → Status →
     (tells : Bool) → (before after : List ℕ) → Type 0
-Answers (Test app cases format) reading held status tells before after =
+Answers (Test app cases format) input reading held status tells before after =
     (net : Network) × (sizes : ImageSizes) × IsOfApp (source net sizes reading held) app
     × (fs : List FileRan) × AreRanFiles (source net sizes reading held) app cases fs × (status ≡ test_status fs)
     × (IsTrue tells → after ≡ before ++ test_text format fs)
-Answers (Expand app cases) reading held status tells before after =
+Answers (Expand app cases) input reading held status tells before after =
     (status ≡ Done) × (net : Network) × (sizes : ImageSizes) × IsOfApp (source net sizes reading held) app
     × (file : CaseFile) × IsOfText (source net sizes reading held) cases file
     × (IsTrue tells → after ≡ before ++ expanded net file)
-Answers (Watch app trace names faults layout) reading held status tells before after =
+Answers (Watch app trace names faults layout) input reading held status tells before after =
     AnswersWatch app layout (wanted_of trace names faults) reading held tells before after status
-Answers (Trace app csv) reading held status tells before after =
+Answers (Trace app csv) input reading held status tells before after =
     (status ≡ Done) × AnswersTrace app csv reading held tells before after
-Answers (Why app trace time name output) reading held status tells before after =
+Answers (Why app trace time name output) input reading held status tells before after =
     AnswersWhy app (explained_of trace time name output) reading held tells before after status
-Answers (Cover app traces output least ideas) reading held status tells before after =
+Answers (Cover app traces output least ideas) input reading held status tells before after =
     AnswersCover app (covered_of traces output least ideas) reading held tells before after status
-Answers (Never app rules states) reading held status tells before after =
+Answers (Never app rules states) input reading held status tells before after =
     AnswersNever app rules states reading held tells before after status
-Answers (Same app other rules states) reading held status tells before after =
+Answers (Same app other rules states) input reading held status tells before after =
     AnswersSame app other rules states reading held tells before after status
-Answers Page reading held status tells before after = status ≡ Done
-Answers NotTaken reading held status tells before after = (status ≡ Usage) × (IsTrue tells → after ≡ before)
+Answers (Live app) input reading held status tells before after =
+    AnswersLive app input reading held tells before after status
+Answers Page input reading held status tells before after = status ≡ Done
+Answers NotTaken input reading held status tells before after = (status ≡ Usage) × (IsTrue tells → after ≡ before)
 
 -- By what the words ask: why a call stops before all is done, and what an output that tells took up to there.
-abbrev pub Stops : Asked → (reading : Bool) (held : List ℕ → Option (List ℕ)) → Stop →
+abbrev pub Stops : Asked → Fed → (reading : Bool) (held : List ℕ → Option (List ℕ)) → Stop →
     (tells : Bool) → (before after : List ℕ) → Type 0
-Stops (Test app cases format) reading held stop tells before after =
+Stops (Test app cases format) input reading held stop tells before after =
     StopsTesting reading held app cases format stop tells before after
-Stops (Expand app cases) reading held stop tells before after =
+Stops (Expand app cases) input reading held stop tells before after =
     StopsExpanding reading held app cases stop tells before after
-Stops (Watch app trace names faults layout) reading held stop tells before after =
+Stops (Watch app trace names faults layout) input reading held stop tells before after =
     StopsWatch app layout (wanted_of trace names faults) reading held tells before after stop
-Stops (Trace app csv) reading held stop tells before after =
+Stops (Trace app csv) input reading held stop tells before after =
     StopsTrace app csv reading held tells before after stop
-Stops (Why app trace time name output) reading held stop tells before after =
+Stops (Why app trace time name output) input reading held stop tells before after =
     StopsWhy app (explained_of trace time name output) reading held tells before after stop
-Stops (Cover app traces output least ideas) reading held stop tells before after =
+Stops (Cover app traces output least ideas) input reading held stop tells before after =
     StopsCover app (covered_of traces output least ideas) reading held tells before after stop
-Stops (Never app rules states) reading held stop tells before after =
+Stops (Never app rules states) input reading held stop tells before after =
     StopsNever app rules states reading held tells before after stop
-Stops (Same app other rules states) reading held stop tells before after =
+Stops (Same app other rules states) input reading held stop tells before after =
     StopsSame app other rules states reading held tells before after stop
-Stops Page reading held stop tells before after = stop ≡ Unwritten
-Stops NotTaken reading held stop tells before after = ⊥
+Stops (Live app) input reading held stop tells before after =
+    StopsLive app input reading held tells before after stop
+Stops Page input reading held stop tells before after = stop ≡ Unwritten
+Stops NotTaken input reading held stop tells before after = ⊥
 
 -- How a call ended that did not do all: it stopped, which its status tells; or a write failed at the end, where the
 -- output handed on what it held back, behind that or behind all.
-abbrev pub IsCutOff : Asked → (reading : Bool) (held : List ℕ → Option (List ℕ)) → Status →
+abbrev pub IsCutOff : Asked → Fed → (reading : Bool) (held : List ℕ → Option (List ℕ)) → Status →
     (tells : Bool) → (before after : List ℕ) → Type 0
-IsCutOff asked reading held status tells before after =
-    ((stop : Stop) × Stops asked reading held stop tells before after
+IsCutOff asked input reading held status tells before after =
+    ((stop : Stop) × Stops asked input reading held stop tells before after
     × ((status ≡ stop_status stop) ⊎ (status ≡ WriteFault)))
-    ⊎ ((all : Status) × Answers asked reading held all tells before after × (status ≡ WriteFault))
+    ⊎ ((all : Status) × Answers asked input reading held all tells before after × (status ≡ WriteFault))
 
 -- the name of a file, where one is named
 abbrev pub file_of : Option (List ℕ) → List (List ℕ)
@@ -115,5 +122,11 @@ names_of (Why app trace time name output) = app ∷ file_meant trace ∷ []
 names_of (Cover app traces output least ideas) = app ∷ map file_meant traces
 names_of (Never app rules states) = app ∷ rules ∷ []
 names_of (Same app other rules states) = app ∷ other ∷ file_of rules
+names_of (Live app) = app ∷ []
 names_of Page = []
 names_of NotTaken = []
+
+-- The count of failed reads rose of what a call reads: of one of its files, or, of `live`, of the stream at its input.
+abbrev pub IsUnreadBy : Asked → (reads reads' : List ℕ → ℕ) → (fed fed' : ℕ) → Type 0
+IsUnreadBy (Live app) reads reads' fed fed' = Rose (reads app) (reads' app) ⊎ Rose fed fed'
+IsUnreadBy asked reads reads' fed fed' = Any (λ (name : List ℕ). Rose (reads name) (reads' name)) (names_of asked)

@@ -4,7 +4,8 @@ ghost use Rattle.std.specs.Prelude.{◌≡◌, ◌⊎◌, ◌≤◌, ◌∷◌, 
 ghost use Rattle.ps_bench_words.specs.Asking as asking;
 ghost use Rattle.ps_bench_words.specs.Asking.{Asks};
 ghost use Rattle.ps_bench_words.specs.Seen.{asked_seen};
-ghost use Rattle.ps_workbench.specs.Answering.{Answers, IsAnswered, IsCutOff, Stops, names_of};
+ghost use Rattle.ps_live.specs.Asking.{fed};
+ghost use Rattle.ps_workbench.specs.Answering.{Answers, IsAnswered, IsCutOff, IsUnreadBy, Stops};
 ghost use Rattle.ps_bench_base.specs.Ending.{IsUnread, exit_number, stop_status};
 ghost use Rattle.ps_bench_base.specs.Stopping.{TookNothing};
 ghost use Rattle.ps_bench_base.specs.declared.ending.Status.{Status as StatusOf};
@@ -19,7 +20,9 @@ use ps_comparing::{SameAsked, same};
 use ps_explaining::{WhyAsked, why};
 use ps_forbidding::{NeverAsked, never};
 use ps_hearing::Listener;
+use ps_live::{LiveAsked, live};
 use ps_outside::{Files, Output, write_all};
+use ps_stream::Stream;
 use ps_telling::{Names, tell};
 use ps_tester::{TestAsked, expand, test};
 use ps_tracing::{TraceAsked, trace};
@@ -59,21 +62,24 @@ fn do_trace<F: Files, O: Output>(
 }
 
 // Does what is asked. Words that are not taken are told.
-fn do_asked<F: Files, O: Output, L: Listener>(
+fn do_asked<F: Files, I: Stream, O: Output, L: Listener>(
     alloc: Global,
     asked: &Asked<'_>,
     files: &mut F,
+    input: &mut I,
     out: &mut O,
     listener: &mut L,
 ) -> Result<Status, Stop>
     ensures answers { IfOk result (λ status.
-        Answers (asked_seen asked.now) (F.tells files.old) (F.held files.old) status
+        Answers (asked_seen asked.now) (fed (I.tells input.old) (I.coming input.old) (I.coming input.new))
+        (F.tells files.old) (F.held files.old) status
         (O.tells out.old) (O.taken out.old) (O.taken out.new)) }
     ensures stops { IfErr result (λ stop.
-        Stops (asked_seen asked.now) (F.tells files.old) (F.held files.old) stop
+        Stops (asked_seen asked.now) (fed (I.tells input.old) (I.coming input.old) (I.coming input.new))
+        (F.tells files.old) (F.held files.old) stop
         (O.tells out.old) (O.taken out.old) (O.taken out.new)) }
-    ensures unread { IfErr result (λ stop. IsUnread stop → Any (λ (name : List ℕ).
-        Rose (F.faults files.old name) (F.faults files.new name)) (names_of (asked_seen asked.now))) }
+    ensures unread { IfErr result (λ stop. IsUnread stop → IsUnreadBy (asked_seen asked.now)
+        (F.faults files.old) (F.faults files.new) (I.faults input.old) (I.faults input.new)) }
     ensures unwritten { IsErrOf result Stop.Unwritten → Rose (O.faults out.old) (O.faults out.new) }
     ensures writes { O.faults out.old ≤ O.faults out.new }
     ensures telling { O.tells out.new ≡ O.tells out.old }
@@ -152,7 +158,7 @@ fn do_asked<F: Files, O: Output, L: Listener>(
                 rules: *rules,
                 states: *states,
             };
-            never(alloc, files, out, listener, &asked)
+            never(alloc, files, out, &asked)
         }
         Asked::Same {
             app,
@@ -167,6 +173,10 @@ fn do_asked<F: Files, O: Output, L: Listener>(
                 states: *states,
             };
             same(alloc, files, out, listener, &asked)
+        }
+        Asked::Live { app } => {
+            let asked = LiveAsked { app: *app };
+            live(alloc, files, input, out, &asked)
         }
         Asked::Page { text } => {
             write_all(out, text.as_bytes())?;
@@ -226,6 +236,7 @@ fn names_in<'a>(asked: &'a Asked<'a>) -> Names<'a> {
             rules: rules.unwrap_or(""),
             ..Names::of_app(*app)
         },
+        Asked::Live { app } => Names::of_app(*app),
         Asked::Page { .. } | Asked::NotTaken { .. } => Names::of_app(""),
     }
 }
@@ -263,24 +274,27 @@ fn stopped<O: Output, L: Listener>(
 }
 
 // Does what is asked, has the output hand on what it holds back, and tells why it stopped, where it did.
-fn end_asked<F: Files, O: Output, L: Listener>(
+fn end_asked<F: Files, I: Stream, O: Output, L: Listener>(
     alloc: Global,
     asked: &Asked<'_>,
     files: &mut F,
+    input: &mut I,
     out: &mut O,
     listener: &mut L,
 ) -> Status
     ensures answers { IsAnswered result →
-        Answers (asked_seen asked.now) (F.tells files.old) (F.held files.old) result
+        Answers (asked_seen asked.now) (fed (I.tells input.old) (I.coming input.old) (I.coming input.new))
+        (F.tells files.old) (F.held files.old) result
         (O.tells out.old) (O.taken out.old) (O.taken out.new) }
     ensures cut_off { ¬ IsAnswered result →
-        IsCutOff (asked_seen asked.now) (F.tells files.old) (F.held files.old) result
+        IsCutOff (asked_seen asked.now) (fed (I.tells input.old) (I.coming input.old) (I.coming input.new))
+        (F.tells files.old) (F.held files.old) result
         (O.tells out.old) (O.taken out.old) (O.taken out.new) }
-    ensures unread { result ≡ StatusOf.ReadFault → Any (λ (name : List ℕ).
-        Rose (F.faults files.old name) (F.faults files.new name)) (names_of (asked_seen asked.now)) }
+    ensures unread { result ≡ StatusOf.ReadFault → IsUnreadBy (asked_seen asked.now)
+        (F.faults files.old) (F.faults files.new) (I.faults input.old) (I.faults input.new) }
     ensures unwritten { result ≡ StatusOf.WriteFault → Rose (O.faults out.old) (O.faults out.new) }
 {
-    let done = do_asked(alloc, asked, files, out, listener);
+    let done = do_asked(alloc, asked, files, input, out, listener);
     match finished(done, out) {
         Ok(status) => status,
         Err(stop) => stopped(alloc, out, listener, &names_in(asked), stop),
@@ -288,28 +302,31 @@ fn end_asked<F: Files, O: Output, L: Listener>(
 }
 
 // Does what the words ask. An error: memory is wanting before anything was done.
-fn do_words<F: Files, O: Output, L: Listener>(
+fn do_words<F: Files, I: Stream, O: Output, L: Listener>(
     alloc: Global,
     words: &Words,
     files: &mut F,
+    input: &mut I,
     out: &mut O,
     listener: &mut L,
 ) -> Result<Status, Memory>
     ensures answers { IfOk result (λ status. IsAnswered status → (asked : asking.Asked) × Asks words.now asked
-        × Answers asked (F.tells files.old) (F.held files.old) status
+        × Answers asked (fed (I.tells input.old) (I.coming input.old) (I.coming input.new))
+        (F.tells files.old) (F.held files.old) status
         (O.tells out.old) (O.taken out.old) (O.taken out.new)) }
     ensures cut_off { IfOk result (λ status. ¬ IsAnswered status → (asked : asking.Asked) × Asks words.now asked
-        × IsCutOff asked (F.tells files.old) (F.held files.old) status
+        × IsCutOff asked (fed (I.tells input.old) (I.coming input.old) (I.coming input.new))
+        (F.tells files.old) (F.held files.old) status
         (O.tells out.old) (O.taken out.old) (O.taken out.new)
-        × (status ≡ StatusOf.ReadFault → Any (λ (name : List ℕ).
-        Rose (F.faults files.old name) (F.faults files.new name)) (names_of asked))) }
+        × (status ≡ StatusOf.ReadFault → IsUnreadBy asked
+        (F.faults files.old) (F.faults files.new) (I.faults input.old) (I.faults input.new))) }
     ensures unwritten { IfOk result (λ status. status ≡ StatusOf.WriteFault →
         Rose (O.faults out.old) (O.faults out.new)) }
     ensures nothing { OnErr result (O.taken out.new ≡ O.taken out.old) }
 {
     let texts = texts_of(alloc, words)?;
     let asked = asked_of(alloc, texts.as_slice())?;
-    Ok(end_asked(alloc, &asked, files, out, listener))
+    Ok(end_asked(alloc, &asked, files, input, out, listener))
 }
 
 // The status of a call for which there is no memory before anything was done, and tells of it.
@@ -321,36 +338,40 @@ fn without_memory<L: Listener>(alloc: Global, listener: &mut L) -> Status
 }
 
 /// Does what the words ask, and says the number with which the program exits: all that the program does, over any
-/// files, any output, and whoever is told in words why a call did not do all.
+/// files, any input, any output, and whoever is told in words why a call did not do all.
 ///
 /// `words` are those behind the program's name. The number is that of a status, 0 to 7. Nothing is told of an output
 /// that nobody reads any more.
-pub fn exit_of_call<F: Files, O: Output, L: Listener>(
+pub fn exit_of_call<F: Files, I: Stream, O: Output, L: Listener>(
     alloc: Global,
     words: &Words,
     files: &mut F,
+    input: &mut I,
     out: &mut O,
     listener: &mut L,
 ) -> u8
     // The number is that of a status. Where nothing stopped the call, the status and what was written are those of what
     // the words ask: of `test`, 0 exactly where every case passed, and else 4; of `never`, 0 where every rule holds,
-    // and of `cover` where no less was shown than was asked for. Where the call did not do all, why it stopped and what
-    // was written up to there are those of what the words ask, unless memory was wanting before that; of a file that
-    // could not be read, and of an output that could not be written, the count rose.
+    // of `cover` where no less was shown than was asked for, and of `live` where no scan tripped. Where the call did
+    // not do all, why it stopped and what was written up to there are those of what the words ask, unless memory was
+    // wanting before that; of a file or an input that could not be read, and of an output that could not be written,
+    // the count rose.
     ensures does { (status : StatusOf) × (result ≡ exit_number status)
         × (IsAnswered status → (asked : asking.Asked) × Asks words.now asked
-        × Answers asked (F.tells files.old) (F.held files.old) status
+        × Answers asked (fed (I.tells input.old) (I.coming input.old) (I.coming input.new))
+        (F.tells files.old) (F.held files.old) status
         (O.tells out.old) (O.taken out.old) (O.taken out.new))
         × (¬ IsAnswered status →
         ((status ≡ StatusOf.Memory) × TookNothing (O.tells out.old) (O.taken out.old) (O.taken out.new))
         ⊎ ((asked : asking.Asked) × Asks words.now asked
-        × IsCutOff asked (F.tells files.old) (F.held files.old) status
+        × IsCutOff asked (fed (I.tells input.old) (I.coming input.old) (I.coming input.new))
+        (F.tells files.old) (F.held files.old) status
         (O.tells out.old) (O.taken out.old) (O.taken out.new)
-        × (status ≡ StatusOf.ReadFault → Any (λ (name : List ℕ).
-        Rose (F.faults files.old name) (F.faults files.new name)) (names_of asked))))
+        × (status ≡ StatusOf.ReadFault → IsUnreadBy asked
+        (F.faults files.old) (F.faults files.new) (I.faults input.old) (I.faults input.new))))
         × (status ≡ StatusOf.WriteFault → Rose (O.faults out.old) (O.faults out.new)) }
 {
-    match do_words(alloc, words, files, out, listener) {
+    match do_words(alloc, words, files, input, out, listener) {
         Ok(status) => exit_code(status),
         Err(Memory) => exit_code(without_memory(alloc, listener)),
     }

@@ -7,13 +7,17 @@ use ps_bench_base::{Status, exit_code};
 use ps_edge::words_given;
 use ps_hearing::StandardError;
 use ps_outside::{DiskFiles, StdSink};
+use ps_stream::StdStream;
 use ps_words::Words;
-use std::io::{BufWriter, Eprint, Print};
+use std::io::{BufWriter, Eprint, Input, Print};
 use std::rt::Env;
 use std::{env, io, rt};
 
-// Does what the words ask, over the files and the standard output of the system.
-fn exit_of_words<R: Env + rt::Files + Print + Eprint + AllocGlobal>(system: &R, words: &Words) -> u8
+// Does what the words ask, over the files, the standard input and the standard output of the system.
+fn exit_of_words<R: Env + rt::Files + Input + Print + Eprint + AllocGlobal>(
+    system: &R,
+    words: &Words,
+) -> u8
     ensures in_range { result ≤ 7 }
 {
     let alloc = system.alloc();
@@ -21,15 +25,23 @@ fn exit_of_words<R: Env + rt::Files + Print + Eprint + AllocGlobal>(system: &R, 
     match BufWriter::new(alloc, io::writer(system)) {
         Ok(out) => {
             let mut files = DiskFiles::new(system);
+            let mut input = StdStream::new(system.reader());
             let mut sink = StdSink::new(out);
-            exit_of_call(alloc, words, &mut files, &mut sink, &mut listener)
+            exit_of_call(
+                alloc,
+                words,
+                &mut files,
+                &mut input,
+                &mut sink,
+                &mut listener,
+            )
         }
         Err(_) => exit_code(Status::Memory),
     }
 }
 
 /// Does all that the program does, and says the number with which it exits: 0 to 7, or 8 where there are no words.
-pub fn exit_of_program<R: Env + rt::Files + Print + Eprint + AllocGlobal>(system: &R) -> u8
+pub fn exit_of_program<R: Env + rt::Files + Input + Print + Eprint + AllocGlobal>(system: &R) -> u8
     ensures in_range { result ≤ 8 }
 {
     match words_given(system.alloc(), env::args(system)) {

@@ -3,8 +3,9 @@ use Rattle.std.proofs.lemmas.Result.{IfErr-weaker}
 use Rattle.std.specs.Prelude.{IfErr, OnOk}
 use Rattle.ps_bench_base.specs.Meant.{file_meant}
 use Rattle.ps_traced.specs.Playing.{trace_held}
-use Rattle.ps_accounting.specs.Adding.{AddsHeld, RefusesHeld, StopsAtTrace}
-use Rattle.ps_accounting.proofs.Held.{stops_weaker}
+use Rattle.ps_accounting.specs.Adding.{AddsHeld}
+use Rattle.ps_traced.specs.Refusing.{RefusesHeld, StopsAtTrace}
+use Rattle.ps_traced.proofs.Refused.{stops_weaker}
 use Rattle.ps_accounting.proofs.adding.add_play.Goals as goal
 
 pub returns-in-None-clause-adds : goal.returns-in-None-clause-adds

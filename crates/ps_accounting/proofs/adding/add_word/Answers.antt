@@ -4,8 +4,10 @@ use Rattle.ps_bench_base.proofs.Stopped.{rose_since}
 use Rattle.ps_bench_base.specs.Meant.{file_meant}
 use Rattle.ps_bench_base.specs.Opening.{source}
 use Rattle.ps_traced.specs.Playing.{trace_held}
-use Rattle.ps_accounting.specs.Adding.{AddsHeld, RefusesHeld, RefusesWord, StopsAtTrace}
-use Rattle.ps_accounting.proofs.Held.{added_on, of_some, stops_moved, stops_weaker, word_added, word_refused}
+use Rattle.ps_accounting.specs.Adding.{AddsHeld}
+use Rattle.ps_traced.specs.Refusing.{RefusesHeld, RefusesWord, StopsAtTrace}
+use Rattle.ps_accounting.proofs.Held.{added_on, word_added}
+use Rattle.ps_traced.proofs.Refused.{of_some, stops_moved, stops_weaker, word_refused}
 use Rattle.ps_accounting.proofs.adding.add_word.Goals as goal
 
 pub returns-in-Ok-clause-adds : goal.returns-in-Ok-clause-adds

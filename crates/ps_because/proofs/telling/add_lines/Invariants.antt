@@ -6,5 +6,5 @@ use Rattle.ps_because.proofs.telling.add_lines.Given as goal
 
 abbrev pub invariant-loop-line : goal.invariant-loop-line
 invariant-loop-line l =
-    l.text ++ flat_map (line_text (moment_of l.m) l.facts) (drop l.line-index l.lines)
-    ≡ l.initial.text ++ flat_map (line_text (moment_of l.m) l.facts) l.lines
+    l.text ++ flat_map (line_text (moment_of l.m) l.facts l.places) (drop l.line-index l.lines)
+    ≡ l.initial.text ++ flat_map (line_text (moment_of l.m) l.facts l.places) l.lines

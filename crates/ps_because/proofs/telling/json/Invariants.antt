@@ -6,4 +6,4 @@ use Rattle.ps_because.proofs.telling.json.Given as goal
 
 abbrev pub invariant-loop-n : goal.invariant-loop-n
 invariant-loop-n l =
-    l.text ≡ json_head (moment_of l.m) ++ flat_map (json_fact (moment_of l.m) l.explanation) (range_with_len 0 l.n)
+    l.text ≡ json_head (moment_of l.m) ++ flat_map (json_fact (moment_of l.m) l.explanation l.places) (range_with_len 0 l.n)

@@ -1,4 +1,4 @@
-use Rattle.std.proofs.Common.{◌≡◌, ◌∙◌, refl, sym, ap₂, arith}
+use Rattle.std.proofs.Common.{◌∙◌, refl, sym, ap₂, arith}
 use Rattle.clap.specs.Simple.{new_app, with_rule}
 use Rattle.ps_bench_words.specs.Seen.{rule_seen}
 use Rattle.ps_bench_words.proofs.Growing.{one_mapped_more}

@@ -1,4 +1,4 @@
-use Rattle.std.proofs.Common.{◌≡◌, ◌∙◌, ℕ, List, [], sym, ap, arith, get_or}
+use Rattle.std.proofs.Common.{◌∙◌, ℕ, List, [], sym, ap, arith, get_or}
 use Rattle.std.specs.Borrow.{Bor}
 use Rattle.clap.specs.Simple.{App}
 use Rattle.ps_bench_words.specs.Commands.{bare}

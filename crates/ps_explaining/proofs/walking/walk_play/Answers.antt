@@ -3,8 +3,8 @@ use Rattle.std.proofs.lemmas.Result.{IfErr-weaker}
 use Rattle.std.specs.Prelude.{IfErr}
 use Rattle.ps_bench_base.specs.Meant.{file_meant}
 use Rattle.ps_traced.specs.Playing.{trace_held}
-use Rattle.ps_accounting.specs.Adding.{RefusesHeld, StopsAtTrace}
-use Rattle.ps_accounting.proofs.Held.{stops_weaker}
+use Rattle.ps_traced.specs.Refusing.{RefusesHeld, StopsAtTrace}
+use Rattle.ps_traced.proofs.Refused.{stops_weaker}
 use Rattle.ps_explaining.proofs.walking.walk_play.Goals as goal
 
 pub returns-in-None-clause-stops : goal.returns-in-None-clause-stops

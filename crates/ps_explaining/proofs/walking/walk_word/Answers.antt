@@ -2,8 +2,8 @@ use Rattle.std.proofs.Common.{ℕ, IsTrue, List, Option, inr, sym, subst}
 use Rattle.ps_bench_base.specs.Meant.{file_meant}
 use Rattle.ps_bench_base.specs.Opening.{source}
 use Rattle.ps_traced.specs.Playing.{trace_held}
-use Rattle.ps_accounting.specs.Adding.{RefusesHeld, RefusesWord}
-use Rattle.ps_accounting.proofs.Held.{of_some, stops_moved, stops_weaker, word_refused}
+use Rattle.ps_traced.specs.Refusing.{RefusesHeld, RefusesWord}
+use Rattle.ps_traced.proofs.Refused.{of_some, stops_moved, stops_weaker, word_refused}
 use Rattle.ps_explaining.proofs.walking.walk_word.Goals as goal
 
 pub returns-in-Ok-Some-clause-stops : goal.returns-in-Ok-Some-clause-stops

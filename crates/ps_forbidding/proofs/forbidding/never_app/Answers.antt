@@ -1,6 +1,6 @@
 use Rattle.std.proofs.Common.{◌≡◌, List, ℕ, Err, inl}
-use Rattle.ps_never.specs.Answering.{IsRefusedFor}
 use Rattle.ps_never.specs.declared.answering.NeverFail.TheVariants.{Refused}
+use Rattle.ps_whenever.specs.Answering.{IsRefusedFor}
 use Rattle.ps_forbidding.proofs.Coming.{with_text}
 use Rattle.ps_forbidding.proofs.forbidding.never_app.Goals as goal
 

@@ -1,4 +1,4 @@
-use Rattle.std.proofs.Common.{◌≡◌, ◌<◌, length, arith}
+use Rattle.std.proofs.Common.{◌<◌, length, arith}
 use Rattle.ps_reasons.proofs.Kept.{all_step, here_kept, next_stepped, none_stepped}
 use Rattle.ps_reasons.proofs.keeping.step_instances.Goals as goal
 

@@ -2,18 +2,18 @@ use Rattle.std.proofs.Common.{◌≡◌, ◌∙◌, ◌+◌, ◌<◌, ◌++◌, 
 use Rattle.std.proofs.lemmas.Bool.{cases_lt}
 use Rattle.std.proofs.lemmas.List.Elements.{Contains-append_left, Contains-push}
 use Rattle.ps_model.specs.Blocks.{block}
-use Rattle.ps_model.specs.Network.{first_pin}
+use Rattle.ps_model.specs.Network.{first_pin, kind_at}
 use Rattle.ps_model.specs.declared.kind.Kind.{Kind}
 use Rattle.ps_why.specs.declared.fact.Fact.{Fact}
 use Rattle.ps_why.proofs.Guarding.{adds_none}
-use Rattle.ps_reasons.specs.Questions.{IsValue, value_of}
+use Rattle.ps_reasons.specs.Questions.{IsSafeValue, value_of}
 use Rattle.ps_reasons.proofs.Adding.{adds_push}
 use Rattle.ps_reasons.proofs.questions.tell_outputs.Goals as goal
 
 pub loop-j-init : goal.loop-j-init
 loop-j-init c = record {
   told = λ j below. absurd (omega (arith, below));
-  adds = adds_none (IsValue c.args.scene.now) c.args.facts.now.items;
+  adds = adds_none (IsSafeValue c.args.app.now c.args.scene.now c.args.i) c.args.facts.now.items;
 }
 
 pub output_signal-requires-clause-output : goal.output_signal-requires-clause-output
@@ -31,6 +31,9 @@ loop-j-preserved c =
     let fact : Fact = c.value_fact.result in
     let is : fact ≡ value_of x (at + j) = c.value_fact.ensures ∙ ap (value_of x) c.output_signal.ensures in
     let pushed : after ≡ old ++ value_of x (at + j) ∷ [] = c.in_ok-push.ensures.items ∙ ap (λ (f : Fact). old ++ f ∷ []) is in
+    let within : j < length (block (kind_at c.args.app.now c.args.i)).outputs =
+    subst (λ (kind : Kind). j < length (block kind).outputs) c.instance_kind.ensures
+    (omega (arith, c.loop-j-test.true, c.loop-j.auto.j-end, c.safe_count-count.ensures.count)) in
     record {
       told = λ n below. elim (cases_lt n j) [
         | inl earlier ↦
@@ -41,7 +44,8 @@ loop-j-preserved c =
             subst (λ m. Contains after (value_of x (at + m))) same
             (subst (λ (fs : List Fact). Contains fs (value_of x (at + j))) (sym pushed) (Contains-push old (value_of x (at + j))))
       ];
-      adds = adds_push (IsValue x) c.args.facts.now.items old after (value_of x (at + j)) c.loop-j.invariant.adds (at + j, refl) pushed;
+      adds = adds_push (IsSafeValue c.args.app.now x c.args.i) c.args.facts.now.items old after (value_of x (at + j))
+          c.loop-j.invariant.adds (j, within, refl) pushed;
     }
 
 pub returns-clause-told : goal.returns-clause-told

@@ -1,6 +1,5 @@
-use Rattle.std.proofs.Common.{◌≡◌, ◌∙◌, List, Some, Bor, sym, ap, subst}
+use Rattle.std.proofs.Common.{◌∙◌, List, Bor, sym, ap, subst}
 use Rattle.std.specs.Prelude.{option_map}
-use Rattle.ps_expand.specs.Alone.{case_with}
 use Rattle.ps_cases.specs.Meant.{whole_case}
 use Rattle.ps_cases.specs.Runnable.{IsRunnable}
 use Rattle.ps_cases.specs.declared.case.Case.{Case}

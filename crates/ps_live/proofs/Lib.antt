@@ -1,0 +1,2 @@
+-- how a call ends, by what it came to
+pub mod Coming

@@ -1,0 +1,4 @@
+pub mod Pacing
+pub mod Saying
+pub mod Finding
+pub mod Joining

@@ -1,2 +1,4 @@
 -- which counts of failed reads rose
 pub mod Risen
+-- a call that was cut off
+mod Cut

@@ -1,2 +1,2 @@
 -- texts that grow by numbers, one after another
-mod Growing
+pub mod Growing

@@ -5,4 +5,4 @@ mod Going
 -- trials that are counted
 mod Counting
 -- a trial in a world of its own
-mod Trying
+pub mod Trying

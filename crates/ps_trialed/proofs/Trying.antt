@@ -13,7 +13,7 @@ use Rattle.ps_world.specs.Worlds.{world_0}
 use Rattle.ps_trialed.specs.Showing.{outcome_of, shown, time_in}
 
 -- what never changes of an application's world is one
-one_setup : (net : Network) (s t : Setup) → IsSetupOf net s → IsSetupOf net t → s ≡ t
+pub one_setup : (net : Network) (s t : Setup) → IsSetupOf net s → IsSetupOf net t → s ≡ t
 one_setup net s t is is' =
     let sizes_are : s.sizes ≡ t.sizes =
     same_sizes s.sizes t.sizes (is.sizes.signals ∙ sym is'.sizes.signals) (is.sizes.instances ∙ sym is'.sizes.instances) (is.sizes.inputs ∙ sym is'.sizes.inputs)

@@ -1,0 +1,8 @@
+-- what comes of a call with an application
+pub mod Coming
+-- the course of a trace that is held, and of what a word means
+pub mod Keeping
+-- the lines of faults, one after another
+pub mod Numbered
+-- what is told of the trials
+pub mod Ending

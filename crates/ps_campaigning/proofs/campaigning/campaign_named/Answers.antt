@@ -1,0 +1,27 @@
+use Rattle.std.proofs.Common.{refl, inl, inr}
+use Rattle.ps_traced.proofs.Refused.{of_some}
+use Rattle.ps_bench_base.specs.Opening.{source}
+use Rattle.ps_course.specs.Courses.{IsCourse}
+use Rattle.ps_campaigning.specs.Asking.{wanted_by}
+use Rattle.ps_campaigning.specs.Recorded.{RecordsWord}
+use Rattle.ps_campaigning.specs.declared.recording.Recorded.{Recorded}
+use Rattle.ps_campaigning.proofs.Coming.{moved}
+use Rattle.ps_campaigning.proofs.campaigning.campaign_named.Goals as goal
+
+pub tell_trials-requires-clause-course : goal.tell_trials-requires-clause-course
+tell_trials-requires-clause-course g c =
+    of_some (λ (r : Recorded). IsCourse c.args.opened.now.app r.course) c.in-Ok-Some.field-0 c.in-Ok-Some.recorded c.in-Ok-Some.field-0-is c.in-Ok-Some.ensures.course
+
+pub returns-in-Ok-Some-clause-answers : goal.returns-in-Ok-Some-clause-answers
+returns-in-Ok-Some-clause-answers g c =
+    let net = c.args.opened.now.app in
+    let sizes = c.args.opened.now.sizes in
+    let app = c.args.asked.now.app.now in
+    let wanted = wanted_by c.args.asked.now in
+    let reading = g.F.Files.tells c.args.files.now in
+    let held = g.F.Files.held c.args.files.now in
+    let from = source net sizes reading held in
+    moved net sizes app wanted reading reading held held (g.O.Sink.tells c.args.out.now) _ (g.O.Sink.taken c.args.out.now) _
+    (g.O.Sink.taken c.tell_trials.new.out) c.tell_trials.result refl refl c.in-Ok-Some.ensures.telling c.in-Ok-Some.ensures.unsaid
+    (c.tell_trials.ensures.answers from refl c.requires.named
+    (λ tells. of_some (RecordsWord from wanted.trace) c.in-Ok-Some.field-0 c.in-Ok-Some.recorded c.in-Ok-Some.field-0-is (c.in-Ok-Some.ensures.records tells)))

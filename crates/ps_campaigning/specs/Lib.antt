@@ -1,0 +1,6 @@
+-- faults as lines of a fault file
+pub mod Printing
+-- what `campaign` is asked, what it writes by that, and how it stops
+pub mod Asking
+-- apparatus: the trace that was read, by what is kept of it
+pub mod Recorded

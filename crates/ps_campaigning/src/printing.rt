@@ -1,0 +1,108 @@
+// The faults of trials, each as a line of a fault file.
+
+ghost use Rattle.std.specs.Prelude.{◌≡◌, ◌+◌, ◌++◌, OnOk};
+ghost use Rattle.ps_campaigning.specs.Printing.{fault_text, faults_text, moment_text, target_text};
+ghost use Rattle.ps_cases.specs.Expanded.{region_text, turn_text};
+ghost use Rattle.ps_trials.specs.Faults.{fault_by};
+ghost use Rattle.ps_trials.specs.Trials.{trial_of};
+
+use ps_base::{Bytes, Memory};
+use ps_bench_base::pieces::add_short;
+use ps_model::{Channel, Fault, Region};
+use ps_trialed::{Campaign, Codes};
+use ps_trials::{Room, draw_trial, fault_of};
+use std::alloc::Global;
+
+// The words of a channel and a region.
+fn region_text(channel: Channel, region: Region) -> &'static [u8]
+    ensures { result.now ≡ region_text channel region }
+{
+    match (channel, region) {
+        (Channel::A, Region::Code) => b"A code ",
+        (Channel::A, Region::Cells) => b"A memory ",
+        (Channel::B, Region::Code) => b"B code ",
+        (Channel::B, Region::Cells) => b"B memory ",
+    }
+}
+
+// The turn of a fault, where it strikes before one.
+fn add_turn(text: &mut Bytes, turn: u32) -> Result<(), Memory>
+    ensures { OnOk result (text.new ≡ text.old ++ turn_text turn) }
+{
+    if turn == 0 {
+        return Ok(());
+    }
+    text.extend_from_slice(b"turn ")?;
+    add_short(text, turn)?;
+    text.extend_from_slice(b" ")
+}
+
+// When a fault strikes.
+fn add_moment(text: &mut Bytes, scan: u32, turn: u32) -> Result<(), Memory>
+    ensures { OnOk result (text.new ≡ text.old ++ moment_text scan turn) }
+{
+    text.extend_from_slice(b"before ")?;
+    add_short(text, scan)?;
+    text.extend_from_slice(b" ")?;
+    add_turn(text, turn)
+}
+
+// What a fault strikes, and what stands there then.
+fn add_target(alloc: Global, text: &mut Bytes, fault: &Fault) -> Result<(), Memory>
+    ensures { OnOk result (text.new ≡ text.old ++ target_text fault.now) }
+{
+    text.extend_from_slice(region_text(fault.channel, fault.region))?;
+    add_short(text, fault.at)?;
+    text.extend_from_slice(b" ")?;
+    let digits = hex::encode(alloc, fault.bytes.as_slice())?;
+    text.extend_from_slice(digits.as_bytes())?;
+    text.extend_from_slice(b"\n")
+}
+
+// The line of a fault.
+fn add_fault(alloc: Global, text: &mut Bytes, fault: &Fault) -> Result<(), Memory>
+    ensures { OnOk result (text.new ≡ text.old ++ fault_text fault.now) }
+{
+    add_moment(text, fault.scan, fault.turn)?;
+    add_target(alloc, text, fault)
+}
+
+// The line of the fault of the trial of a number.
+fn add_numbered(
+    alloc: Global,
+    text: &mut Bytes,
+    codes: &Codes,
+    room: &Room,
+    number: u64,
+) -> Result<(), Memory>
+    ensures { OnOk result (text.new ≡ text.old
+        ++ fault_text (fault_by codes.now.a codes.now.b (trial_of room.now number))) }
+{
+    let trial = draw_trial(number, room);
+    let fault = fault_of(alloc, &trial, codes.a.as_slice(), codes.b.as_slice())?;
+    add_fault(alloc, text, &fault)
+}
+
+/// The lines of the faults of the trials of a campaign, in the order of their numbers, where these are the codes of
+/// both channels and what may be struck.
+pub(crate) fn add_faults(
+    alloc: Global,
+    text: &mut Bytes,
+    codes: &Codes,
+    room: &Room,
+    asked: &Campaign,
+) -> Result<(), Memory>
+    ensures { OnOk result (text.new ≡ text.old
+        ++ faults_text codes.now.a codes.now.b room.now asked.now.from asked.now.count) }
+{
+    for done in 0..asked.count {
+        add_numbered(
+            alloc,
+            text,
+            codes,
+            room,
+            u64::from(asked.from) + u64::from(done),
+        )?;
+    }
+    Ok(())
+}

@@ -1,0 +1,184 @@
+// The course of what a word means in the place of a trace.
+
+ghost use Rattle.std.specs.Prelude.{◌≡◌, ◌≤◌, ℕ, List, IsTrue, IfOk, IfErr, IfNone, IfSome, IsErrOf, OnOk};
+ghost use Rattle.ps_traced.specs.Refusing.{RefusesHeld, StopsAtTrace, StopsAtWord};
+ghost use Rattle.ps_base.specs.declared.failing.Refusal.{Refusal as RefusalOf};
+ghost use Rattle.ps_bench_base.specs.Ending.{IsOfRun, IsUnread};
+ghost use Rattle.ps_bench_base.specs.Meant.{file_meant};
+ghost use Rattle.ps_bench_base.specs.Opening.{source};
+ghost use Rattle.ps_bench_base.specs.Stopping.{Took};
+ghost use Rattle.ps_campaigning.specs.Recorded.{RecordsHeld, RecordsWord, StopsUnnamed};
+ghost use Rattle.ps_course.specs.Courses.{IsCourse};
+ghost use Rattle.ps_model.specs.Typing.{Accepted};
+ghost use Rattle.ps_outside.specs.Outside.{Rose};
+ghost use Rattle.ps_report.specs.Short.{refusal_text};
+ghost use Rattle.ps_totals.specs.Naming.{Names};
+ghost use Rattle.ps_traced.specs.Playing.{LacksCase, trace_held};
+
+use ps_base::{Bytes, Memory};
+use ps_bench_base::{Input, InputStop, Opened, Stop, word_of};
+use ps_course::{Course, read_course};
+use ps_hearing::Listener;
+use ps_model::App;
+use ps_outside::{Files, Output, ReadFail};
+use ps_totals::name_of_file;
+use ps_trace::TraceStop;
+use ps_traced::{Expansion, Play, open_play, open_trace, refuse_input};
+use std::alloc::Global;
+
+/// The course of a trace, and what names the trace.
+pub(crate) struct Recorded {
+    pub(crate) course: Course,
+    pub(crate) name: Bytes,
+}
+
+impl Drop for Recorded {
+    // One call for whoever owns one, in place of a walk through all that it holds.
+    fn drop(self) {
+        let Recorded { course: _, name: _ } = self;
+    }
+}
+
+// Why a call stops whose trace was cut short.
+fn stop_behind<O: Output>(out: &mut O, why: TraceStop) -> Stop
+    ensures refuses { (refusal : RefusalOf) → result ≡ Stop.Input (InputStop.Refused Input.Trace refusal) →
+        (why ≡ TraceStop.Refused refusal)
+        × Took (refusal_text refusal) (O.tells out.old) (O.taken out.old) (O.taken out.new) }
+    ensures of_run { IsOfRun result }
+    ensures unread { IsUnread result → why ≡ TraceStop.Fault }
+    ensures unwritten { result ≡ Stop.Unwritten → Rose (O.faults out.old) (O.faults out.new) }
+    ensures writes { O.faults out.old ≤ O.faults out.new }
+    ensures telling { O.tells out.new ≡ O.tells out.old }
+{
+    match why {
+        TraceStop::Refused(refusal) => refuse_input(out, Input::Trace, refusal),
+        TraceStop::Fault => Stop::Input(InputStop::Unread(Input::Trace)),
+    }
+}
+
+// A course with what names its trace, which has this name.
+fn name_course<F: Files>(
+    alloc: Global,
+    files: &mut F,
+    name: &str,
+    course: Course,
+) -> Result<Recorded, Stop>
+    ensures course { IfOk result (λ r. r.course ≡ course) }
+    ensures names { IsTrue (F.tells files.old) → IfOk result (λ r. Names (F.held files.old name.now) r.name) }
+    ensures stops { IfErr result StopsUnnamed }
+    ensures unread { IfErr result (λ stop. IsUnread stop →
+        Rose (F.faults files.old name.now) (F.faults files.new name.now)) }
+    ensures reads { (other : List ℕ) → F.faults files.old other ≤ F.faults files.new other }
+{
+    match name_of_file(alloc, files, name) {
+        Ok(name) => Ok(Recorded { course, name }),
+        Err(ReadFail::Fault) => Err(Stop::Input(InputStop::Unread(Input::Trace))),
+        Err(ReadFail::Memory) => Err(Stop::NoMemory),
+    }
+}
+
+// The course of the trace of this name.
+fn record_named<F: Files, O: Output>(
+    alloc: Global,
+    files: &mut F,
+    out: &mut O,
+    app: &App,
+    name: &str,
+) -> Result<Recorded, Stop>
+    requires { Accepted app.now }
+    ensures course { IfOk result (λ r. IsCourse app.now r.course) }
+    ensures records { IsTrue (F.tells files.old) →
+        IfOk result (RecordsHeld app.now (F.held files.old name.now)) }
+    ensures stops { IfErr result (λ stop. StopsAtTrace
+        (λ refusal. IsTrue (F.tells files.old) → RefusesHeld app.now (F.held files.old name.now) refusal) stop
+        (O.tells out.old) (O.taken out.old) (O.taken out.new)) }
+    ensures unsaid { OnOk result (O.taken out.new ≡ O.taken out.old) }
+    ensures unread { IfErr result (λ stop. IsUnread stop →
+        Rose (F.faults files.old name.now) (F.faults files.new name.now)) }
+    ensures unwritten { IsErrOf result Stop.Unwritten → Rose (O.faults out.old) (O.faults out.new) }
+    ensures reads { (other : List ℕ) → F.faults files.old other ≤ F.faults files.new other }
+    ensures writes { O.faults out.old ≤ O.faults out.new }
+    ensures telling { O.tells out.new ≡ O.tells out.old }
+{
+    let mut trace = match open_trace(alloc, files, out, name, app) {
+        Ok(trace) => trace,
+        Err(stop) => return Err(stop),
+    };
+    match read_course(alloc, app, &mut trace, files) {
+        Ok(Ok(course)) => name_course(alloc, files, name, course),
+        Ok(Err(why)) => Err(stop_behind(out, why)),
+        Err(Memory) => Err(Stop::NoMemory),
+    }
+}
+
+// The course of the trace of these cases, or else of the file that a word names.
+fn record_play<F: Files, O: Output>(
+    alloc: Global,
+    files: &mut F,
+    out: &mut O,
+    app: &App,
+    word: &str,
+    cases: Option<Expansion>,
+) -> Result<Recorded, Stop>
+    requires { Accepted app.now }
+    ensures course { IfOk result (λ r. IsCourse app.now r.course) }
+    ensures records { IsTrue (F.tells files.old) → IfOk result (RecordsHeld app.now
+        (trace_held cases (F.held files.old (file_meant word.now)))) }
+    ensures stops { IfErr result (λ stop. StopsAtTrace
+        (λ refusal. IsTrue (F.tells files.old) →
+        RefusesHeld app.now (trace_held cases (F.held files.old (file_meant word.now))) refusal) stop
+        (O.tells out.old) (O.taken out.old) (O.taken out.new)) }
+    ensures unsaid { OnOk result (O.taken out.new ≡ O.taken out.old) }
+    ensures unread { IfErr result (λ stop. IsUnread stop →
+        Rose (F.faults files.old (file_meant word.now)) (F.faults files.new (file_meant word.now))) }
+    ensures unwritten { IsErrOf result Stop.Unwritten → Rose (O.faults out.old) (O.faults out.new) }
+    ensures reads { (other : List ℕ) → F.faults files.old other ≤ F.faults files.new other }
+    ensures writes { O.faults out.old ≤ O.faults out.new }
+    ensures telling { O.tells out.new ≡ O.tells out.old }
+{
+    let word = word_of(word);
+    match cases {
+        Some(mut cases) => record_named(alloc, &mut cases, out, app, word.file),
+        None => record_named(alloc, files, out, app, word.file),
+    }
+}
+
+/// The course of what a word means in the place of a trace, with what names the trace. None: no case has the line of
+/// the word, which the listener was told. A trace or a case file that is refused ends it: its line is written.
+pub(crate) fn record_word<F: Files, O: Output, L: Listener>(
+    alloc: Global,
+    files: &mut F,
+    out: &mut O,
+    listener: &mut L,
+    opened: &Opened,
+    word: &str,
+) -> Result<Option<Recorded>, Stop>
+    requires { Accepted opened.now.app }
+    ensures course { IfOk result (λ got. IfSome got (λ r. IsCourse opened.now.app r.course)) }
+    ensures records { IsTrue (F.tells files.old) → IfOk result (λ got. IfSome got (RecordsWord
+        (source opened.now.app opened.now.sizes (F.tells files.old) (F.held files.old)) word.now)) }
+    ensures lacks { IfOk result (λ got. IfNone got (LacksCase
+        (source opened.now.app opened.now.sizes (F.tells files.old) (F.held files.old)) word.now)) }
+    ensures stops { IfErr result (λ stop. StopsAtWord
+        (source opened.now.app opened.now.sizes (F.tells files.old) (F.held files.old)) word.now stop
+        (O.tells out.old) (O.taken out.old) (O.taken out.new)) }
+    ensures unsaid { OnOk result (O.taken out.new ≡ O.taken out.old) }
+    ensures unread { IfErr result (λ stop. IsUnread stop →
+        Rose (F.faults files.old (file_meant word.now)) (F.faults files.new (file_meant word.now))) }
+    ensures unwritten { IsErrOf result Stop.Unwritten → Rose (O.faults out.old) (O.faults out.new) }
+    ensures reads { (other : List ℕ) → F.faults files.old other ≤ F.faults files.new other }
+    ensures writes { O.faults out.old ≤ O.faults out.new }
+    ensures telling { O.tells out.new ≡ O.tells out.old }
+{
+    match open_play(alloc, files, out, listener, opened, word) {
+        Ok(Some(play)) => {
+            let Play { cases, faults: _ } = play;
+            match record_play(alloc, files, out, &opened.app, word, cases) {
+                Ok(recorded) => Ok(Some(recorded)),
+                Err(stop) => Err(stop),
+            }
+        }
+        Ok(None) => Ok(None),
+        Err(stop) => Err(stop),
+    }
+}

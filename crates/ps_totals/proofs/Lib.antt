@@ -1,0 +1,2 @@
+-- what names a text that is held
+mod Held

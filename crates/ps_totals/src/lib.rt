@@ -1,0 +1,10 @@
+//! What a campaign writes: a head that names the application and the trace by their SHA-256, and the lines of a tally.
+//!
+//! `naming` names a file by what it holds, and `telling` writes head and lines.
+#![tactic(auto)]
+
+mod naming;
+mod telling;
+
+pub use naming::name_of_file;
+pub use telling::add_totals;

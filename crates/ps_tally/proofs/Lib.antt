@@ -1,2 +1,4 @@
 -- texts that grow by numbers, one after another
 pub mod Growing
+-- lists that are added, and what is counted of trials in parts
+pub mod Adding

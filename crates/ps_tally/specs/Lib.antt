@@ -2,5 +2,7 @@
 pub mod Outcomes
 pub mod Lines
 pub mod Tallies
+pub mod Adding
+pub mod Laws
 -- the counts as text
 pub mod Telling

@@ -2,10 +2,11 @@
 //! it.
 //!
 //! - `outcome`: what a trial comes to, and the line that it counts in. `line`: the counts of a line. `tally`: those of
-//!   all lines, which take one trial more, or those of another tally.
+//!   all lines, which take one trial more, or those of another tally; `laws`: in parts and in any order.
 //! - `telling`: the lines as text.
 #![tactic(auto)]
 
+pub mod laws;
 mod line;
 mod outcome;
 mod tally;

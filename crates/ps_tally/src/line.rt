@@ -1,6 +1,7 @@
 // The counts of a line.
 
 ghost use Rattle.std.specs.Prelude.{◌≡◌, ◌≤◌, ◌<◌, count_by, length, nat_le};
+ghost use Rattle.ps_tally.specs.Adding.{added_line, added_table};
 ghost use Rattle.ps_tally.specs.Lines.{column_of, counted_in, more, with_latency};
 
 /// The least latency of each column of a table of latencies, in ms: 0, 1, 2 to 3, 4 to 7, and so on.
@@ -77,6 +78,17 @@ fn more(count: u64, by: u64) -> u64
     count.saturating_add(by)
 }
 
+// Adds another table to one, column by column.
+fn add_table(table: &mut [u64], other: &[u64])
+    requires table { length table.old ≡ 33 }
+    requires other { length other.now ≡ 33 }
+    ensures { table.new ≡ added_table table.old other.now }
+{
+    for column in 0..33 {
+        table[column] = more(table[column], other[column]);
+    }
+}
+
 impl Line {
     /// No trial.
     pub const NONE: Line = Line {
@@ -85,6 +97,20 @@ impl Line {
         largest: 0,
         table: [0; 33],
     };
+
+    // The two lines together.
+    pub(crate) fn with_line(self, other: &Line) -> Line
+        ensures { result ≡ added_line self other.now }
+    {
+        let mut table = self.table;
+        add_table(&mut table, &other.table);
+        Line {
+            count: more(self.count, other.count),
+            sum: more(self.sum, other.sum),
+            largest: self.largest.max(other.largest),
+            table,
+        }
+    }
 
     // The line with a trip of this latency more, whose trial is counted.
     fn with_latency(self, latency: u32) -> Line

@@ -1,5 +1,7 @@
 // The counts of all lines.
 
+ghost use Rattle.std.specs.Prelude.{◌≡◌, length};
+ghost use Rattle.ps_tally.specs.Adding.{added};
 ghost use Rattle.ps_tally.specs.Tallies.{counted, none_counted};
 
 use crate::line::Line;
@@ -26,6 +28,17 @@ impl Model for Tally {
     ghost invariant = { λ t. length t.lines.items ≡ 24 };
 }
 
+// Adds other lines to lines, place by place.
+fn add_lines(lines: &mut [Line], others: &[Line])
+    requires lines { length lines.old ≡ 24 }
+    requires others { length others.now ≡ 24 }
+    ensures { lines.new ≡ added lines.old others.now }
+{
+    for place in 0..24 {
+        lines[place] = lines[place].with_line(&others[place]);
+    }
+}
+
 impl Tally {
     ghost use Rattle.std.specs.Prelude.{◌≡◌, IfOk, length};
 
@@ -44,6 +57,13 @@ impl Tally {
         let place = place_of(channel, region, outcome);
         let line = self.lines[place];
         self.lines[place] = line.counted(latency_in(outcome));
+    }
+
+    /// The trials of another tally more. It takes no memory.
+    pub fn add(&mut self, other: &Tally)
+        ensures { self.new ≡ added self.old other.now }
+    {
+        add_lines(self.lines.as_mut_slice(), other.lines.as_slice());
     }
 
     /// The lines.

@@ -1,9 +1,11 @@
 -- What a call does: one that did what its words ask, and one that stopped before.
 use Rattle.std.specs.Prelude.{◌≡◌, ◌⊎◌, ℕ, Bool, IsTrue, List, [], ◌∷◌, ◌++◌, Any, map, Option, Some, None}
 use Rattle.ps_bench_words.specs.Asking.{Asked}
-use Rattle.ps_bench_words.specs.Asking.Asked.{Test, Expand, Watch, Trace, Why, Cover, Never, Same, Live, Page}
-use Rattle.ps_bench_words.specs.Asking.Asked.{NotTaken}
+use Rattle.ps_bench_words.specs.Asking.Asked.{Test, Expand, Watch, Trace, Why, Cover, Never, Same, Campaign, Live}
+use Rattle.ps_bench_words.specs.Asking.Asked.{Page, NotTaken}
 use Rattle.ps_accounting.specs.Asking.{AnswersCover, StopsCover, Wanted as Covered}
+use Rattle.ps_campaigning.specs.Asking as campaigning
+use Rattle.ps_campaigning.specs.Asking.{AnswersCampaign, StopsCampaign}
 use Rattle.ps_cases.specs.Expanded.{expanded}
 use Rattle.ps_cases.specs.declared.case.CaseFile.{CaseFile}
 use Rattle.ps_comparing.specs.Asking.{AnswersSame, StopsSame}
@@ -13,6 +15,7 @@ use Rattle.ps_explaining.specs.Asking.{AnswersWhy, StopsWhy}
 use Rattle.ps_forbidding.specs.Asking.{AnswersNever, StopsNever}
 use Rattle.ps_live.specs.Asking.{AnswersLive, Fed, StopsLive}
 use Rattle.ps_model.specs.Network.{Network}
+use Rattle.ps_model.specs.declared.channel.Channel.{Channel}
 use Rattle.ps_model.specs.declared.channel.ImageSizes.{ImageSizes}
 use Rattle.ps_outside.specs.Outside.{Rose}
 use Rattle.ps_tester.specs.Stopping.{StopsExpanding, StopsTesting}
@@ -44,6 +47,11 @@ explained_of trace time name output = record { trace = trace; time = time; name 
 abbrev pub covered_of : (traces : List (List ℕ)) (output : Format) (least : Option ℕ) (ideas : Bool) → Covered
 covered_of traces output least ideas = record { traces = traces; format = output; least = least; ideas = ideas }
 
+-- what `campaign` is asked to try
+abbrev pub tried_of : (trace : List ℕ) (from count : ℕ) (channel : Option Channel) (print : Bool) → campaigning.Wanted
+tried_of trace from count channel print =
+    record { trace = trace; from = from; count = count; channel = channel; print = print }
+
 -- By what the words ask, over files and a stream that tell what they hold or do not: the status, and what an output
 -- that tells took. `test` ran all cases of all of its files, in the order of the words; its status is Done where each
 -- passed, and else Failed.
@@ -69,6 +77,8 @@ Answers (Never app rules states) input reading held status tells before after =
     AnswersNever app rules states reading held tells before after status
 Answers (Same app other rules states) input reading held status tells before after =
     AnswersSame app other rules states reading held tells before after status
+Answers (Campaign app trace from count channel print) input reading held status tells before after =
+    AnswersCampaign app (tried_of trace from count channel print) reading held tells before after status
 Answers (Live app) input reading held status tells before after =
     AnswersLive app input reading held tells before after status
 Answers Page input reading held status tells before after = status ≡ Done
@@ -93,6 +103,8 @@ Stops (Never app rules states) input reading held stop tells before after =
     StopsNever app rules states reading held tells before after stop
 Stops (Same app other rules states) input reading held stop tells before after =
     StopsSame app other rules states reading held tells before after stop
+Stops (Campaign app trace from count channel print) input reading held stop tells before after =
+    StopsCampaign app (tried_of trace from count channel print) reading held tells before after stop
 Stops (Live app) input reading held stop tells before after =
     StopsLive app input reading held tells before after stop
 Stops Page input reading held stop tells before after = stop ≡ Unwritten
@@ -122,6 +134,7 @@ names_of (Why app trace time name output) = app ∷ file_meant trace ∷ []
 names_of (Cover app traces output least ideas) = app ∷ map file_meant traces
 names_of (Never app rules states) = app ∷ rules ∷ []
 names_of (Same app other rules states) = app ∷ other ∷ file_of rules
+names_of (Campaign app trace from count channel print) = app ∷ file_meant trace ∷ []
 names_of (Live app) = app ∷ []
 names_of Page = []
 names_of NotTaken = []

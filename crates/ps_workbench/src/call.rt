@@ -16,6 +16,7 @@ use ps_accounting::{CoverAsked, cover};
 use ps_base::Memory;
 use ps_bench_base::{Status, Stop, exit_code};
 use ps_bench_words::{Asked, asked_of, texts_of};
+use ps_campaigning::{CampaignAsked, campaign};
 use ps_comparing::{SameAsked, same};
 use ps_explaining::{WhyAsked, why};
 use ps_forbidding::{NeverAsked, never};
@@ -26,6 +27,7 @@ use ps_stream::Stream;
 use ps_telling::{Names, tell};
 use ps_tester::{TestAsked, expand, test};
 use ps_tracing::{TraceAsked, trace};
+use ps_trialed::Campaign;
 use ps_watching::{WatchAsked, watch};
 use ps_words::Words;
 use std::alloc::Global;
@@ -174,6 +176,26 @@ fn do_asked<F: Files, I: Stream, O: Output, L: Listener>(
             };
             same(alloc, files, out, listener, &asked)
         }
+        Asked::Campaign {
+            app,
+            trace,
+            from,
+            count,
+            channel,
+            print,
+        } => {
+            let asked = CampaignAsked {
+                app: *app,
+                trace: *trace,
+                trials: Campaign {
+                    from: *from,
+                    count: *count,
+                    channel: *channel,
+                },
+                print: *print,
+            };
+            campaign(alloc, files, out, listener, &asked)
+        }
         Asked::Live { app } => {
             let asked = LiveAsked { app: *app };
             live(alloc, files, input, out, &asked)
@@ -234,6 +256,10 @@ fn names_in<'a>(asked: &'a Asked<'a>) -> Names<'a> {
         } => Names {
             other: *other,
             rules: rules.unwrap_or(""),
+            ..Names::of_app(*app)
+        },
+        Asked::Campaign { app, trace, .. } => Names {
+            trace: *trace,
             ..Names::of_app(*app)
         },
         Asked::Live { app } => Names::of_app(*app),

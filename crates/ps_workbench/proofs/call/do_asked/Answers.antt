@@ -176,6 +176,20 @@ returns-in-Same-clause-stops g c =
     stop (g.O.Sink.tells c.args.out.now) (g.O.Sink.taken c.args.out.now) (g.O.Sink.taken c.same.new.out))) (sym c.in-Same.is)
     c.same.ensures.stops
 
+pub returns-in-Campaign-clause-answers : goal.returns-in-Campaign-clause-answers
+returns-in-Campaign-clause-answers g c =
+    subst (λ (asked : Asked). IfOk c.campaign.result (λ status. Answers (asked_seen asked) (fed (g.I.Stream.tells c.args.input.now) (g.I.Stream.coming c.args.input.now) (g.I.Stream.coming c.args.input.now))
+    (g.F.Files.tells c.args.files.now) (g.F.Files.held c.args.files.now)
+    status (g.O.Sink.tells c.args.out.now) (g.O.Sink.taken c.args.out.now) (g.O.Sink.taken c.campaign.new.out))) (sym c.in-Campaign.is)
+    c.campaign.ensures.answers
+
+pub returns-in-Campaign-clause-stops : goal.returns-in-Campaign-clause-stops
+returns-in-Campaign-clause-stops g c =
+    subst (λ (asked : Asked). IfErr c.campaign.result (λ stop. Stops (asked_seen asked) (fed (g.I.Stream.tells c.args.input.now) (g.I.Stream.coming c.args.input.now) (g.I.Stream.coming c.args.input.now))
+    (g.F.Files.tells c.args.files.now) (g.F.Files.held c.args.files.now)
+    stop (g.O.Sink.tells c.args.out.now) (g.O.Sink.taken c.args.out.now) (g.O.Sink.taken c.campaign.new.out))) (sym c.in-Campaign.is)
+    c.campaign.ensures.stops
+
 pub returns-in-Live-clause-answers : goal.returns-in-Live-clause-answers
 returns-in-Live-clause-answers g c =
     subst (λ (asked : Asked). IfOk c.live.result (λ status. Answers (asked_seen asked)

@@ -219,13 +219,6 @@ const PRINT: Argument = argument!(
     "Writes the fault of each trial first, as a line of a fault file"
 );
 
-// What campaigns wrote.
-const TOTALS: Argument = required!(
-    "FILE",
-    Given::Words,
-    "What campaign wrote, or sum, over one application and one trace"
-);
-
 // The title of a page.
 const TITLE: Argument = argument!(
     "title",
@@ -246,7 +239,7 @@ pub(crate) fn all_forms() -> &'static [Form]
 }
 
 // The same as a table.
-static FORMS: [Form; 13] = [
+static FORMS: [Form; 12] = [
     Form {
         name: "test",
         call: "plcsafe-bench test",
@@ -309,13 +302,6 @@ static FORMS: [Form; 13] = [
         about: "Runs a trace with one drawn fault a trial, and counts what finds the faults, and how soon",
         example: "Example: plcsafe-bench campaign press.st press.trace 0 10000",
         arguments: &[APP, TRACE, FROM, COUNT, CHANNEL, PRINT],
-    },
-    Form {
-        name: "sum",
-        call: "plcsafe-bench sum",
-        about: "Adds the counts of campaigns over one application and one trace",
-        example: "Example: plcsafe-bench sum first.counts second.counts",
-        arguments: &[TOTALS],
     },
     Form {
         name: "report",

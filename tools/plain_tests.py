@@ -24,6 +24,7 @@ CANNOT = {
     "tools/believed": [["--why"], ["--why", "ps_top.whole"], ["--why", "nothing", "scan_line"]],
     "tools/build.py": [["--check", "a", "b"], ["ps_nothing"], ["--take"], ["--take", "ps_main 0"], ["--take", "x"]],
     "tools/calls.py": [[], MANY, ["GONE"], ["FOLDER"], ["BYTES"]],
+    "tools/campaigns.py": [[], MANY, ["BYTES"], ["BYTES", "plcsafe-bench=GONE"], ["plcsafe-bench=FOLDER"], ["plcsafe-bench=BYTES"], ["--count", "a"]],
     "tools/cases.py": [[], ["BYTES"], ["BYTES", "plcsafe-bench=GONE"], ["GONE", "plcsafe-bench=BYTES"], ["FOLDER", "plcsafe-bench=FOLDER"], ["--count", "a"]],
     "tools/check": [["nothing"], ["--program"], ["--program", "GONE"], ["--program", "FOLDER"], ["--log", "GONE"], ["--log", "FOLDER"], ["--list", "a"]],
     "tools/claims": [["nothing"], MANY],

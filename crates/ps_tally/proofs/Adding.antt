@@ -1,7 +1,7 @@
 -- Lists that are added place by place, and what is counted of trials in parts.
-use Rattle.std.proofs.Common.{◌≡◌, ◌∙◌, ℕ, zero, suc, ◌+◌, ◌<◌, List, [], ◌∷◌, ◌++◌, Option, Some, None, length, map, min, max, get_or, set, refl, sym, ap, arith}
+use Rattle.std.proofs.Common.{◌≡◌, ◌∙◌, ℕ, zero, suc, ◌+◌, ◌<◌, List, [], ◌∷◌, ◌++◌, Option, Some, None, length, map, max, get_or, set, refl, ap, arith}
 use Rattle.std.specs.Prelude.{zip}
-use Rattle.ps_tally.specs.Adding.{added, added_line, added_table}
+use Rattle.ps_tally.specs.Adding.{added, added_line}
 use Rattle.ps_tally.specs.Laws.{IsOfAnyOrder, PartsAdd}
 use Rattle.ps_tally.specs.Lines.{column_of, counted_in, more, no_trial}
 use Rattle.ps_tally.specs.Outcomes.{latency_in, place_of}

@@ -7,7 +7,8 @@ use Rattle.ps_tally.specs.declared.line.Line.{Line}
 -- what is counted of two lists of trials, one behind the other, is what is counted of each, added
 abbrev pub PartsAdd : Type 0
 PartsAdd = (trials others : List Result_of) →
-    all_counted none_counted (trials ++ others) ≡ added (all_counted none_counted trials) (all_counted none_counted others)
+    all_counted none_counted (trials ++ others)
+    ≡ added (all_counted none_counted trials) (all_counted none_counted others)
 
 -- tallies are added in any order, two by two or one after another
 abbrev pub IsOfAnyOrder : Type 0

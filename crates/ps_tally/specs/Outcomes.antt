@@ -1,6 +1,5 @@
 -- What a trial comes to, and the line that it counts in.
 use Rattle.std.specs.Prelude.{ℕ, ◌+◌, ◌*◌, Option, Some, None}
-use Rattle.ps_model.specs.declared.channel.Cause.{Cause}
 use Rattle.ps_model.specs.declared.channel.Cause.TheVariants.{Differ, Stuck, Trap, NoReport}
 use Rattle.ps_model.specs.declared.channel.Channel.{Channel}
 use Rattle.ps_model.specs.declared.channel.Channel.TheVariants.{A, B}

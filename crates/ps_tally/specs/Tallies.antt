@@ -1,5 +1,5 @@
 -- What is counted of trials, one after another.
-use Rattle.std.specs.Prelude.{ℕ, List, [], ◌∷◌, replicate, slice_index_or, slice_set}
+use Rattle.std.specs.Prelude.{List, [], ◌∷◌, replicate, slice_index_or, slice_set}
 use Rattle.ps_model.specs.declared.channel.Channel.{Channel}
 use Rattle.ps_model.specs.declared.channel.Region.{Region}
 use Rattle.ps_tally.specs.declared.line.Line.{Line}

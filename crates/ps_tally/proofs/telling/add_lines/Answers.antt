@@ -1,4 +1,4 @@
-use Rattle.std.proofs.Common.{◌≡◌, ◌∙◌, ◌++◌, ℕ, List, ap, arith}
+use Rattle.std.proofs.Common.{◌∙◌, ◌++◌, ℕ, List, ap, arith}
 use Rattle.std.specs.Prelude.{slice_index_or}
 use Rattle.ps_tally.specs.Lines.{no_trial}
 use Rattle.ps_tally.specs.Telling.{line_text}

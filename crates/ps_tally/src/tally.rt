@@ -1,6 +1,6 @@
 // The counts of all lines.
 
-ghost use Rattle.std.specs.Prelude.{◌≡◌, length};
+ghost use Rattle.std.specs.Prelude.{◌≡◌, ◌<◌, length, slice_set};
 ghost use Rattle.ps_tally.specs.Adding.{added};
 ghost use Rattle.ps_tally.specs.Tallies.{counted, none_counted};
 
@@ -57,6 +57,14 @@ impl Tally {
         let place = place_of(channel, region, outcome);
         let line = self.lines[place];
         self.lines[place] = line.counted(latency_in(outcome));
+    }
+
+    // Puts a line in a place.
+    pub(crate) fn put(&mut self, place: usize, line: Line)
+        requires { place < 24 }
+        ensures { self.new ≡ slice_set self.old place line }
+    {
+        self.lines[place] = line;
     }
 
     /// The trials of another tally more. It takes no memory.

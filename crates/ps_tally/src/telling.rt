@@ -57,7 +57,7 @@ fn add_latencies(text: &mut Bytes, line: &Line) -> Result<(), Memory>
 }
 
 // Whether the line of a place counts trips.
-fn is_of_trips(place: usize) -> bool
+pub(crate) fn is_of_trips(place: usize) -> bool
     ensures { result ≡ is_of_trips place }
 {
     0 < place % 6 && place % 6 < 5
@@ -75,21 +75,21 @@ fn add_counts(text: &mut Bytes, line: &Line, place: usize) -> Result<(), Memory>
 }
 
 // The word of a channel, by the place of a line.
-fn channel_text(place: usize) -> &'static str
+pub(crate) fn channel_text(place: usize) -> &'static str
     ensures { result.now ≡ channel_text place }
 {
     if place < 12 { "A " } else { "B " }
 }
 
 // The word of a region.
-fn region_text(place: usize) -> &'static str
+pub(crate) fn region_text(place: usize) -> &'static str
     ensures { result.now ≡ region_text place }
 {
     if place % 12 < 6 { "code " } else { "memory " }
 }
 
 // The word of an outcome.
-fn outcome_text(place: usize) -> &'static str
+pub(crate) fn outcome_text(place: usize) -> &'static str
     ensures { result.now ≡ outcome_text place }
 {
     match place % 6 {

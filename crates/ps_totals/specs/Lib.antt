@@ -2,3 +2,5 @@
 pub mod Naming
 -- what a campaign writes
 pub mod Totals
+-- how it is read again, and added
+pub mod Sums

@@ -6,3 +6,5 @@ mod Going
 mod Counting
 -- a trial in a world of its own
 pub mod Trying
+-- trials in parts
+pub mod Parts

@@ -2,3 +2,4 @@
 pub mod Showing
 pub mod Right
 pub mod Campaigns
+pub mod Parts

@@ -1,2 +1,4 @@
 -- what names a text that is held
 mod Held
+-- files that are added one after another
+pub mod Behind

@@ -4,3 +4,4 @@ pub mod Naming
 pub mod Totals
 -- how it is read again, and added
 pub mod Sums
+pub mod Files

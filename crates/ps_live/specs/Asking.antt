@@ -9,9 +9,9 @@ use Rattle.ps_bench_base.specs.declared.ending.Status.{Status}
 use Rattle.ps_bench_base.specs.declared.ending.Status.TheVariants.{Done, Failed}
 use Rattle.ps_bench_base.specs.declared.ending.Stop.{Stop}
 use Rattle.ps_bench_base.specs.declared.ending.Stop.TheVariants.{Input, NoMemory, Unwritten}
-use Rattle.ps_living.specs.Living.{RunsStream}
-use Rattle.ps_living.specs.declared.living.LiveStop as living
-use Rattle.ps_living.specs.declared.living.LiveStop.{LiveStop}
+use Rattle.ps_live.specs.Living.{RunsStream}
+use Rattle.ps_live.specs.declared.living.LiveStop as living
+use Rattle.ps_live.specs.declared.living.LiveStop.{LiveStop}
 use Rattle.ps_model.specs.Network.{Network}
 use Rattle.ps_model.specs.declared.channel.ImageSizes.{ImageSizes}
 use Rattle.ps_report.specs.Short.{refusal_text}

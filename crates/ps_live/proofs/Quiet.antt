@@ -1,10 +1,9 @@
 -- A run of lines in which no fault strikes is what is asked of a trace with these lines.
-use Rattle.std.proofs.Common.{◌≡◌, ◌∙◌, ◌∷◌, ◌++◌, [], ℕ, suc, Bool, false, List, Option, Some, None, length, refl, sym, ap, subst}
-use Rattle.std.specs.Prelude.{flat_map, ◌||◌}
+use Rattle.std.proofs.Common.{◌≡◌, ◌∙◌, ◌∷◌, ◌++◌, [], ℕ, suc, Bool, false, List, None, length, refl, sym, ap, subst}
+use Rattle.std.specs.Prelude.{◌||◌}
 use Rattle.ps_lines.specs.Lines.{Line}
 use Rattle.ps_model.specs.declared.channel.Fault.{Fault}
 use Rattle.ps_model.specs.declared.channel.Verdict.{Verdict}
-use Rattle.ps_model.specs.declared.report.Report.{Report}
 use Rattle.ps_model.specs.Meaning.{Item, Meaning, nothing, report, scan, restart}
 use Rattle.ps_model.specs.Network.{Network, input_count, instance_count}
 use Rattle.ps_model.specs.Scanning.{State}
@@ -15,13 +14,13 @@ use Rattle.ps_report.specs.Lines.{report_text}
 use Rattle.ps_runs.specs.Lines.{restart_line}
 use Rattle.ps_runs.specs.Outcomes.{outcome_line, performed}
 use Rattle.ps_runs.specs.Performing.{trips_with}
-use Rattle.ps_runs.specs.Resting.{answer_lines, answered, any_trips, outcomes}
+use Rattle.ps_runs.specs.Resting.{answer_lines, answered, any_trips}
 use Rattle.ps_seat.specs.Items.{AreTimely}
 use Rattle.ps_source.specs.Source.Reading.{stands_for}
-use Rattle.ps_top.specs.Asking.{Answer, IsAnswer}
-use Rattle.ps_top.specs.Program.{answer, answer_scans, end_line, end_status, fault, item_lines, region_sizes, run, run_named, told, trips_of, unless_refused}
+use Rattle.ps_top.specs.Asking.{IsAnswer}
+use Rattle.ps_top.specs.Program.{answer, end_line, end_status, fault, item_lines, region_sizes, run, run_named, told, trips_of, unless_refused}
 use Rattle.ps_top.specs.Untripped.{AreHeld, HasFaults, Held, NoFaultNoTrip}
-use Rattle.ps_trace.specs.Faults.{FaultList}
+use Rattle.ps_trace.specs.Faults.{FaultList, faults_of}
 use Rattle.ps_trace.specs.Header.{input_names}
 use Rattle.ps_trace.specs.Scans.{End, Scans, header_from, scans_behind, scans_of, trace_lines}
 use Rattle.ps_world.specs.Answers.{Answer as Answered, QuietRunsRelease, ReleaseAll, answers}
@@ -107,22 +106,19 @@ module _ (net : Network) (sound : IsSound net) (quiet : Accepted net → (setup 
 
   -- the trace is answered so, where no fault strikes
   named : IsAnswer (run_named net are.world.setup [] trace) held (whole_answer said end)
-  named = (text, is.text_is, meaning, means, answer_is)
+  named = (text, is.text_is, (meaning, means, answer_is))
 
   pub says_as_run : IsAnswer (run app trace) held (whole_answer said end)
-  says_as_run = (is.source, is.source_is, stands_for net, is.accepted, are.world.setup, are.of_net.setup, named)
+  says_as_run = (is.source, is.source_is, (stands_for net, is.accepted, (are.world.setup, are.of_net.setup, named)))
 
   pub says_as_fault : (name : List ℕ) → HasFaults held name net are.world.setup [] → IsAnswer (fault app trace name) held (whole_answer said end)
   says_as_fault name has =
-      let struck : IsAnswer (unless_refused (λ (list : List Fault). run_named net are.world.setup list trace) [] None) held (whole_answer said end) = named in (
+      let struck : IsAnswer (unless_refused (λ (list : List Fault). run_named net are.world.setup list trace) [] None) held (whole_answer said end) = named in
+      let behind : IsAnswer (unless_refused (λ (list : List Fault). run_named net are.world.setup list trace) (faults_of has.text (region_sizes are.world.setup)).faults
+      (faults_of has.text (region_sizes are.world.setup)).refusal) held (whole_answer said end) =
+      subst (λ (l : FaultList Fault). IsAnswer (unless_refused (λ (list : List Fault). run_named net are.world.setup list trace) l.faults l.refusal) held (whole_answer said end))
+      (sym has.faults_are) struck in (
         is.source,
         is.source_is,
-        stands_for net,
-        is.accepted,
-        are.world.setup,
-        are.of_net.setup,
-        has.text,
-        has.text_is,
-        subst (λ (l : FaultList Fault). IsAnswer (unless_refused (λ (list : List Fault). run_named net are.world.setup list trace) l.faults l.refusal) held (whole_answer said end))
-            (sym has.faults_are) struck,
+        (stands_for net, is.accepted, (are.world.setup, are.of_net.setup, (has.text, has.text_is, behind))),
       )

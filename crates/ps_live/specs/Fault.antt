@@ -1,9 +1,7 @@
 -- That what `live` writes of lines is what `run`, and `fault` without faults, write of a trace with the same lines.
-use Rattle.std.specs.Prelude.{◌≡◌, [], ◌++◌, ℕ, Bool, false, List, Some}
+use Rattle.std.specs.Prelude.{◌≡◌, [], ◌++◌, ℕ, Bool, false, List}
 use Rattle.ps_lines.specs.Lines.{Line}
 use Rattle.ps_model.specs.Network.{Network}
-use Rattle.ps_source.specs.Source.{IsAcceptedAs}
-use Rattle.ps_source.specs.Source.Reading.{stands_for}
 use Rattle.ps_top.specs.Asking.{Answer, IsAnswer}
 use Rattle.ps_top.specs.Program.{answer, end_line, end_status, fault, run}
 use Rattle.ps_top.specs.Untripped.{AreHeld, HasFaults, Held}

@@ -22,7 +22,11 @@ pub enum Ending {
 pub fn ending_of(trips: bool) -> Ending
     ensures { result ≡ ending_by trips }
 {
-    if trips { Ending::Tripped } else { Ending::Released }
+    if trips {
+        Ending::Tripped
+    } else {
+        Ending::Released
+    }
 }
 
 /// Hands on what was written: behind it nothing is held back.

@@ -39,13 +39,6 @@ said_came LastLine line names last bytes = refl
 said_came TooLong line names last bytes = absurd line
 said_came End line names last bytes = absurd line
 
--- what is neither the end nor too long is kept
-pub line_left : (came : Came) → (came ≡ End → ⊥) → (came ≡ TooLong → ⊥) → IsLine came
-line_left Line more short = tt
-line_left LastLine more short = tt
-line_left TooLong more short = absurd (short refl)
-line_left End more short = absurd (more refl)
-
 -- the line that came stands first, and behind the last one there is none
 pub line_first : (came : Came) → IsLine came → (lines rest : List cut.Line) (bytes : List ℕ) → stream.Gives lines came bytes rest →
     lines ≡ line_came came bytes ∷ (if is_last came then [] else rest)

@@ -28,7 +28,7 @@ use ps_trace::{HeaderSays, LineSays, TraceFail, TraceStop, at_line, fill, read_h
 use std::alloc::Global;
 
 /// What a line of a stream gives.
-#[derive(Clone, Copy, Debug, PartialEq, Eq)]
+#[derive(Clone, Copy)]
 pub enum Fed {
     /// It is skipped.
     Nothing,

@@ -50,8 +50,8 @@ AnswersFrom performs said takes feed number p p' t t' lines rest tells before af
 
 -- What was done of the lines that come to a feed, by how it ended.
 abbrev pub AnswersLines : {P T V : Type 0} → (P → Item → Outcome V → P → Type 0) → (T → P → Outcome V → List ℕ) →
-    (T → P → Outcome V → T → Type 0) → Feed → P → P → T → T → (lines rest : List Line) → Bool → (before after : List ℕ) →
-    Result (Unit {0}) Cut → Type 0
+    (T → P → Outcome V → T → Type 0) → Feed → P → P → T → T → (lines rest : List Line) → Bool →
+    (before after : List ℕ) → Result (Unit {0}) Cut → Type 0
 AnswersLines performs said takes feed p p' t t' lines rest tells before after ended =
     (number : ℕ) → feed.number ≡ told_number number →
     AnswersFrom performs said takes feed number p p' t t' lines rest tells before after ended

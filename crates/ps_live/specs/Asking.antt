@@ -16,7 +16,8 @@ use Rattle.ps_model.specs.Network.{Network}
 use Rattle.ps_model.specs.declared.channel.ImageSizes.{ImageSizes}
 use Rattle.ps_report.specs.Short.{refusal_text}
 
--- A stream in a call: whether it tells its bytes, those that were to come before the call, and those that are behind it.
+-- A stream in a call: whether it tells its bytes, those that were to come before the call, and those that are to come
+-- behind it.
 pub record Fed : Type 0 where
   pub tells : Bool
   pub coming : List ℕ

@@ -9,7 +9,8 @@ use Rattle.ps_lines.specs.Lines.{Line, HasNoLineFeed}
 use Rattle.ps_model.specs.Network.{Network}
 use Rattle.ps_outside.specs.Outside.{last_count}
 use Rattle.ps_runs.specs.declared.items.Cut.{Cut}
-use Rattle.ps_runs.specs.declared.items.Cut.TheVariants.{Refused as IsRefused, Unread as IsUnread, Unwritten as IsUnwritten}
+use Rattle.ps_runs.specs.declared.items.Cut.TheVariants.{Refused as IsRefused, Unread as IsUnread}
+use Rattle.ps_runs.specs.declared.items.Cut.TheVariants.{Unwritten as IsUnwritten}
 use Rattle.ps_runs.specs.Resting.{answer_lines, answered, any_trips}
 use Rattle.ps_trace.specs.Scans.{End}
 use Rattle.ps_trace.specs.Scans.End.{whole, refused}

@@ -1,13 +1,13 @@
 -- What a line that came of a stream says.
-use Rattle.std.proofs.Common.{◌≡◌, ◌+◌, ◌++◌, ◌∷◌, [], ℕ, List, Bool, true, false, length, min, refl, sym, ◌∙◌, ap, subst, append_assoc, arith}
+use Rattle.std.proofs.Common.{◌≡◌, ◌+◌, ◌++◌, ◌∷◌, [], ℕ, List, Bool, true, false, length, refl, sym, ◌∙◌, ap, subst, append_assoc}
 use Rattle.std.specs.Prelude.{if◌then◌else◌}
 use Rattle.ps_base.specs.declared.failing.Refusal.{Refusal}
 use Rattle.ps_base.specs.declared.failing.Rule.{Rule}
 use Rattle.ps_lines.specs.Lines as cut
 use Rattle.ps_lines.specs.Lines.Line.{Kept, KeptLast, Long}
-use Rattle.ps_stream.specs.Reading as stream
-use Rattle.ps_stream.specs.declared.lines.Came.{Came}
-use Rattle.ps_stream.specs.declared.lines.Came.TheVariants.{Line, LastLine, TooLong, End}
+use Rattle.ps_fed.specs.Reading as stream
+use Rattle.ps_stream.specs.declared.coming.Came.{Came}
+use Rattle.ps_stream.specs.declared.coming.Came.TheVariants.{Line, LastLine, TooLong, End}
 use Rattle.ps_trace.specs.Header.{Header}
 use Rattle.ps_trace.specs.Header.Header.{no_header, places, wrong}
 use Rattle.ps_trace.specs.Scans.{at_line, header_from, header_of, number_after, onto_headed, said_of, scans_from, scans_behind}
@@ -16,7 +16,8 @@ use Rattle.ps_trace.specs.Trace.{line_said}
 use Rattle.ps_trace.specs.Words.{fields}
 use Rattle.ps_fed.specs.Came.{IsLine, header_came, is_last, line_came}
 use Rattle.ps_fed.specs.Feeding.{Breaks, Gives, IsBehind, IsHeadless, lines_left}
-use Rattle.ps_fed.specs.Saying.{IsBroken, Says, told_number}
+use Rattle.ps_fed.specs.Saying.{IsBroken, Says}
+use Rattle.ps_stream.specs.Coming.{behind, told_number}
 use Rattle.std.specs.Prelude.{Result, Ok, Err, IfOk, OnOk}
 use Rattle.ps_trace.specs.declared.trace.TraceStop.{TraceStop}
 use Rattle.ps_fed.specs.declared.feed.Fed.{Fed}
@@ -27,8 +28,8 @@ use Rattle.ps_fed.specs.Streaming.{fed_lines}
 use Rattle.ps_fed.specs.declared.feed.Feed.{Feed}
 use Rattle.ps_base.specs.declared.limits.TheConstants.{LONGEST_TRACE_LINE}
 use Rattle.ps_model.specs.Network.{Network}
-use Rattle.ps_stream.specs.Streams.{stream_lines}
-use Rattle.ps_stream.specs.declared.lines.StreamLines.{StreamLines}
+use Rattle.ps_fed.specs.Streams.{stream_lines}
+use Rattle.ps_fed.specs.declared.lines.StreamLines.{StreamLines}
 use Rattle.ps_trace.specs.Header.{input_names}
 
 -- a line that is kept says what its words do
@@ -233,9 +234,13 @@ long_breaks feed lines more refusal first told_so = record {
   is_broken = record { rule = T8; broken = refl; told_so = told_so };
 }
 
--- the number behind a line with a line feed
-pub told_next : (number n : ℕ) → number ≡ told_number n → min (number + 1) 4294967295 ≡ told_number (n + 1)
-told_next number n is = omega (arith, is)
+-- the number behind what came is that of the line behind it
+pub counts_line : (number number' : ℕ) (came : Came) → ((n : ℕ) → number ≡ told_number n → number' ≡ told_number (behind came n)) →
+    (n : ℕ) (bytes : List ℕ) → number ≡ told_number n → number' ≡ told_number (number_after (line_came came bytes) n)
+counts_line number number' Line counts n bytes is = counts n is
+counts_line number number' LastLine counts n bytes is = counts n is
+counts_line number number' TooLong counts n bytes is = counts n is
+counts_line number number' End counts n bytes is = counts n is
 
 -- what was read of a line is what it gives
 pub came_gives : (r : Result Fed TraceStop) (old new : Feed) (before after : Scan) (coming coming' : List ℕ) (came : Came) (l : StreamLines) → IsLine came → old.ended ≡ false →

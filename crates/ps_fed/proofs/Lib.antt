@@ -1,2 +1,3 @@
 mod Coming
+mod Feeds
 mod Sizes

@@ -3,8 +3,8 @@ use Rattle.std.specs.Prelude.{[], ℕ, Bool, true, false, List}
 use Rattle.ps_base.specs.declared.failing.Rule.TheVariants.{T1, T8}
 use Rattle.ps_lines.specs.Lines as cut
 use Rattle.ps_lines.specs.Lines.Line.{Kept, KeptLast, Long}
-use Rattle.ps_stream.specs.declared.lines.Came.{Came}
-use Rattle.ps_stream.specs.declared.lines.Came.TheVariants.{Line, LastLine, TooLong, End}
+use Rattle.ps_stream.specs.declared.coming.Came.{Came}
+use Rattle.ps_stream.specs.declared.coming.Came.TheVariants.{Line, LastLine, TooLong, End}
 use Rattle.ps_trace.specs.Header.{Header, header_said}
 use Rattle.ps_trace.specs.Header.Header.{wrong}
 use Rattle.ps_trace.specs.Words.{fields}

@@ -4,11 +4,12 @@ use Rattle.ps_base.specs.declared.failing.Refusal.{Refusal}
 use Rattle.ps_lines.specs.Lines.{Line}
 use Rattle.ps_model.specs.Network.{Network}
 use Rattle.ps_model.specs.declared.report.Scan.{Scan}
-use Rattle.ps_stream.specs.Reading.{held_of, left}
+use Rattle.ps_fed.specs.Reading.{held_of, left}
 use Rattle.ps_trace.specs.Header.{input_names}
 use Rattle.ps_trace.specs.Scans.{header_from, number_after, said_of, scans_from}
 use Rattle.ps_trace.specs.Scans.Headed.{fails}
-use Rattle.ps_fed.specs.Saying.{IsBroken, Says, told, told_number}
+use Rattle.ps_stream.specs.Coming.{told_number}
+use Rattle.ps_fed.specs.Saying.{IsBroken, Says, told}
 use Rattle.ps_fed.specs.Streaming.{scans_in}
 use Rattle.ps_fed.specs.declared.feed.Fed.{Fed}
 use Rattle.ps_fed.specs.declared.feed.Fed.TheVariants.{Nothing, Restart, Scan as AScan, End}

@@ -1,5 +1,5 @@
 -- What a line of a trace that comes as a stream says, and the number that is told of it.
-use Rattle.std.specs.Prelude.{◌≡◌, ℕ, Bool, List, min}
+use Rattle.std.specs.Prelude.{◌≡◌, ℕ, Bool, List}
 use Rattle.ps_base.specs.declared.failing.Refusal.{Refusal}
 use Rattle.ps_base.specs.declared.failing.Rule.{Rule}
 use Rattle.ps_lines.specs.Lines.{Line}
@@ -7,12 +7,9 @@ use Rattle.ps_model.specs.declared.report.Scan.{Scan}
 use Rattle.ps_trace.specs.Scans.{at_line, inputs_of, said_of}
 use Rattle.ps_trace.specs.Trace.{Said}
 use Rattle.ps_trace.specs.Trace.Said.{skips, restarts, scans, breaks}
+use Rattle.ps_stream.specs.Coming.{told_number}
 use Rattle.ps_fed.specs.declared.feed.Fed.{Fed}
 use Rattle.ps_fed.specs.declared.feed.Fed.TheVariants.{Nothing, Restart, Scan as AScan, End}
-
--- the number of a line as it is told: it stays at the largest one of 32 bits
-abbrev pub told_number : ℕ → ℕ
-told_number number = min number 4294967295
 
 -- a refusal as it is told
 abbrev pub told : Refusal → Refusal

@@ -3,7 +3,7 @@ use Rattle.std.specs.Prelude.{◌≡◌, ◌≤◌, ℕ, List, length}
 use Rattle.ps_base.specs.declared.limits.TheConstants.{LARGEST_TRACE, LONGEST_TRACE_LINE}
 use Rattle.ps_lines.specs.Lines.{Line}
 use Rattle.ps_model.specs.Network.{Network}
-use Rattle.ps_stream.specs.Streams.{stream_lines}
+use Rattle.ps_fed.specs.Streams.{stream_lines}
 use Rattle.ps_trace.specs.Header.{input_names}
 use Rattle.ps_trace.specs.Scans.{Scans, header_from, scans_behind, trace_lines}
 

@@ -6,7 +6,7 @@ ghost use Rattle.ps_base.specs.declared.failing.Refusal.{Refusal};
 ghost use Rattle.ps_base.specs.declared.failing.Rule.{Rule};
 ghost use Rattle.ps_model.specs.Network.{input_count};
 ghost use Rattle.ps_outside.specs.Outside.{Rose};
-ghost use Rattle.ps_stream.specs.Reading.{line_of};
+ghost use Rattle.ps_fed.specs.Reading.{line_of};
 ghost use Rattle.ps_lines.specs.Lines.{HasNoLineFeed};
 ghost use Rattle.ps_trace.specs.Header.{input_names};
 ghost use Rattle.ps_trace.specs.HeaderSays.{IsSized, header_by};
@@ -15,18 +15,20 @@ ghost use Rattle.ps_trace.specs.Trace.{line_said};
 ghost use Rattle.ps_trace.specs.Trace.Said.{breaks};
 ghost use Rattle.ps_trace.specs.Words.{fields};
 ghost use Rattle.ps_fed.specs.Came.{IsLine, header_came, is_last, line_came};
-ghost use Rattle.ps_fed.specs.Saying.{IsBroken, Says, told_number};
+ghost use Rattle.ps_fed.specs.Saying.{IsBroken, Says};
+ghost use Rattle.ps_stream.specs.Coming.{told_number};
 
+use crate::StreamLines;
 use ps_base::limits::LONGEST_TRACE_LINE;
 use ps_base::{Memory, Rule};
 use ps_model::{App, Scan};
 use ps_outside::Failed;
-use ps_stream::{Came, Stream, StreamLines};
+use ps_stream::{Came, Stream, is_end, number_behind};
 use ps_trace::{HeaderSays, LineSays, TraceFail, TraceStop, at_line, fill, read_header, read_line};
 use std::alloc::Global;
 
 /// What a line of a stream gives.
-#[derive(Clone, Copy, Debug, PartialEq, Eq)]
+#[derive(Clone, Copy)]
 pub enum Fed {
     /// It is skipped.
     Nothing,
@@ -146,10 +148,12 @@ impl Feed {
             Ok(came) => came,
             Err(Failed) => return Err(TraceStop::Fault),
         };
+        if is_end(came) {
+            return Ok(Fed::End);
+        }
         match came {
-            Came::End => Ok(Fed::End),
             Came::TooLong => Err(TraceStop::Refused(at_line(Rule::T8, self.number))),
-            Came::Line | Came::LastLine => self.take_line(came, into),
+            Came::Line | Came::LastLine | Came::End => self.take_line(came, into),
         }
     }
 
@@ -226,17 +230,6 @@ fn header_of(
         Came::Line | Came::LastLine => read_header(alloc, lines.line(), app),
         Came::TooLong => Ok(HeaderSays::Broken(Rule::T8)),
         Came::End => Ok(HeaderSays::Broken(Rule::T1)),
-    }
-}
-
-// The number of the line behind one, up to the largest one of 32 bits.
-fn number_behind(number: u32, came: Came) -> u32
-    ensures { (n : ℕ) (bytes : List ℕ) → number ≡ told_number n →
-        result ≡ told_number (number_after (line_came came bytes) n) }
-{
-    match came {
-        Came::Line => number.saturating_add(1),
-        Came::LastLine | Came::TooLong | Came::End => number,
     }
 }
 

@@ -7,8 +7,8 @@ use Rattle.ps_bench_base.specs.Opening.{IsOfApp, source}
 use Rattle.ps_bench_base.specs.declared.ending.Status.{Status}
 use Rattle.ps_bench_base.specs.declared.ending.Stop.{Stop}
 use Rattle.ps_live.specs.Asking.{AnswersLive, Ends, Fed, Runs, StopsAtLine, StopsLive}
-use Rattle.ps_living.specs.declared.living.LiveStop as living
-use Rattle.ps_living.specs.declared.living.LiveStop.{LiveStop}
+use Rattle.ps_live.specs.declared.living.LiveStop as living
+use Rattle.ps_live.specs.declared.living.LiveStop.{LiveStop}
 use Rattle.ps_model.specs.Network.{Network}
 use Rattle.ps_model.specs.declared.channel.ImageSizes.{ImageSizes}
 use Rattle.ps_outside.specs.Outside.{Rose}

@@ -1,2 +1,5 @@
 -- how a call ends, by what it came to
 pub mod Coming
+mod Going
+mod Quiet
+mod Ran

@@ -9,14 +9,15 @@ use Rattle.ps_bench_base.specs.declared.ending.Status.{Status}
 use Rattle.ps_bench_base.specs.declared.ending.Status.TheVariants.{Done, Failed}
 use Rattle.ps_bench_base.specs.declared.ending.Stop.{Stop}
 use Rattle.ps_bench_base.specs.declared.ending.Stop.TheVariants.{Input, NoMemory, Unwritten}
-use Rattle.ps_living.specs.Living.{RunsStream}
-use Rattle.ps_living.specs.declared.living.LiveStop as living
-use Rattle.ps_living.specs.declared.living.LiveStop.{LiveStop}
+use Rattle.ps_live.specs.Living.{RunsStream}
+use Rattle.ps_live.specs.declared.living.LiveStop as living
+use Rattle.ps_live.specs.declared.living.LiveStop.{LiveStop}
 use Rattle.ps_model.specs.Network.{Network}
 use Rattle.ps_model.specs.declared.channel.ImageSizes.{ImageSizes}
 use Rattle.ps_report.specs.Short.{refusal_text}
 
--- A stream in a call: whether it tells its bytes, those that were to come before the call, and those that are behind it.
+-- A stream in a call: whether it tells its bytes, those that were to come before the call, and those that are to come
+-- behind it.
 pub record Fed : Type 0 where
   pub tells : Bool
   pub coming : List ℕ

@@ -1,2 +1,7 @@
--- what `live` writes of a stream, and how it stops
+-- what `live` writes of a stream, how it stops, and that `run` and `fault` write the same: what a reader of the clauses
+-- has to believe
 pub mod Asking
+pub mod Living
+pub mod Fault
+-- what is done of the lines of a stream
+pub mod Answering

@@ -6,13 +6,12 @@ ghost use Rattle.ps_live.specs.Asking.{AnswersLive, Ends, StopsAtLine, StopsLive
 ghost use Rattle.ps_model.specs.Typing.{Accepted};
 ghost use Rattle.ps_outside.specs.Outside.{Rose};
 
+use crate::living::{LiveStop, run_stream};
 use ps_base::Refusal;
 use ps_bench_base::{Input, InputStop, Status, Stop, open_app};
-use ps_living::{LiveStop, run_stream};
 use ps_model::App;
-use ps_outside::{Files, Output, write_all};
-use ps_report::refusal_line;
-use ps_stream::Stream;
+use ps_outside::{Files, Output};
+use ps_stream::{Ending, Stream, ending_of, tell_refusal};
 use std::alloc::Global;
 
 /// What `live` is asked.
@@ -26,7 +25,10 @@ pub struct Asked<'a> {
 fn status_by(trips: bool) -> Status
     ensures { result ≡ status_by trips }
 {
-    if trips { Status::Failed } else { Status::Done }
+    match ending_of(trips) {
+        Ending::Tripped => Status::Failed,
+        Ending::Released => Status::Done,
+    }
 }
 
 // Ends a call at a line of the stream that is refused: the line of the refusal is written.
@@ -37,7 +39,7 @@ fn refuse_line<O: Output>(out: &mut O, refusal: Refusal) -> Stop
     ensures writes { O.faults out.old ≤ O.faults out.new }
     ensures telling { O.tells out.new ≡ O.tells out.old }
 {
-    match write_all(out, refusal_line(&refusal).as_slice()) {
+    match tell_refusal(out, refusal) {
         Ok(()) => Stop::Input(InputStop::Refused(Input::Trace, refusal)),
         Err(_) => Stop::Unwritten,
     }

@@ -1,5 +1,5 @@
--- the lines of a stream: what a reader of the clauses has to believe
-pub mod Streams
--- what the reader of lines holds, and what contracts see of streams in memory and of the system
-pub mod Reading
-pub mod InMemory
+-- what comes of the lines of a stream, and how a run over them ends
+pub mod Coming
+pub mod Ending
+-- what contracts see of a stream of the system
+pub mod System

@@ -1,17 +1,19 @@
-//! A stream of bytes that is read forward only, and its lines, each of which is given as soon as it is there.
+//! A stream of bytes that is read forward only, and the small rules of a talk over it: what comes of its lines, and how
+//! what is said of them is handed on.
 //!
-//! `stream` has the trait and what every stream promises: some bytes, the end, or a failure. `mem_stream` stands in
-//! memory, gives its bytes in pieces and fails where that is chosen beforehand; `std_stream` is the thin edge over a
-//! reader of the standard library, as standard input is one. `lines` has the reader of lines, which reads on only
-//! while no whole line is there, and takes all its memory at the start.
+//! - `stream`: what every stream promises: some bytes, the end, or a failure; `std_stream` is the thin edge over a
+//!   reader of the standard library, as standard input is one.
+//! - `coming`: what a line is by its length, what the stream's end makes of the bytes that are held, and the line's
+//!   number.
+//! - `saying`: how what was written is handed on, how a refusal is told, and how a run ended.
 #![tactic(auto)]
 
-mod lines;
-mod mem_stream;
+mod coming;
+mod saying;
 mod std_stream;
 mod stream;
 
-pub use lines::{Came, StreamLines};
-pub use mem_stream::MemStream;
+pub use coming::{Came, at_end, is_end, is_too_long, number_behind};
+pub use saying::{Ending, ending_of, hand_on, tell_refusal};
 pub use std_stream::StdStream;
 pub use stream::Stream;

@@ -15,7 +15,7 @@ pub struct StdStream<R: Read + Drop> {
 }
 
 impl<R: Read + Drop> StdStream<R> {
-    ghost use Rattle.ps_stream.specs.InMemory.{faults_of};
+    ghost use Rattle.ps_stream.specs.System.{faults_of};
 
     /// A stream over this reader, of which no read has failed. It takes no memory.
     pub fn new(input: R) -> StdStream<R>
@@ -26,7 +26,7 @@ impl<R: Read + Drop> StdStream<R> {
 }
 
 impl<R: Read + Drop> Stream for StdStream<R> {
-    ghost use Rattle.ps_stream.specs.InMemory.{faults_of};
+    ghost use Rattle.ps_stream.specs.System.{faults_of};
 
     ghost tells = { λ _. false };
 

@@ -6,7 +6,7 @@ use Rattle.ps_bench_base.specs.declared.ending.InputStop.TheVariants.{Unread}
 use Rattle.ps_bench_base.specs.declared.ending.Stop.TheVariants.{Input, Unwritten}
 use Rattle.ps_live.specs.Asking.{fed}
 use Rattle.ps_live.proofs.Coming.{at_line, ran}
-use Rattle.ps_living.specs.declared.living.LiveStop as living
+use Rattle.ps_live.specs.declared.living.LiveStop as living
 use Rattle.ps_live.proofs.running.run_app.Goals as goal
 
 pub returns-in-Ok-clause-ends : goal.returns-in-Ok-clause-ends

@@ -1,6 +1,6 @@
 use Rattle.std.proofs.Common.{◌≡◌, IsTrue}
 use Rattle.ps_base.specs.declared.limits.TheConstants.{LONGEST_TRACE_LINE}
-use Rattle.ps_stream.specs.Reading.{left, longest_of}
+use Rattle.ps_fed.specs.Reading.{left, longest_of}
 use Rattle.ps_trace.specs.Header.{input_names}
 use Rattle.ps_fed.specs.Streaming.{fed_lines}
 use Rattle.ps_fed.proofs.Coming.{Skipped}

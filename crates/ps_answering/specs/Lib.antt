@@ -1,2 +1,0 @@
--- what is done of the lines of a stream
-pub mod Answering

@@ -1,0 +1,141 @@
+use Rattle.std.proofs.Common.{◌∙◌, [], Bool, IsTrue, Ok, Err, length, inl, inr, refl, sym, ap, subst, arith}
+use Rattle.std.proofs.lemmas.Result.{err_from_is_err_and}
+use Rattle.ps_fed.specs.Feeding.{Gives, lines_left}
+use Rattle.ps_fed.specs.declared.feed.Fed.{Fed}
+use Rattle.ps_live.proofs.Going.{went_first, went_by, went_restart, went_scan, scan_cut, restart_cut, item_answers, all_answers, stop_answers}
+use Rattle.ps_live.proofs.answering.answer_lines.Goals as goal
+use Rattle.ps_live.proofs.answering.answer_lines.Goals.{in-Nothing, in-Scan+in_ok-answer_scan-in-Scan, in-Restart+in_ok-answer_restart-in-Restart}
+
+pub lines-init : goal.lines-init
+lines-init g c = record {
+  fits = c.requires.fits;
+  due = c.requires.due;
+  inputs = c.requires.inputs;
+  places = refl;
+  went = λ told number shown. went_first _ _ _ c.args.feed.now number _ _ _ _ _ shown;
+  all_read = refl;
+  telling = refl;
+  handed_on = λ none. none;
+  all_written = refl;
+  still_telling = refl;
+}
+
+pub returns-in_err-next_item-clause-answers : goal.returns-in_err-next_item-clause-answers
+returns-in_err-next_item-clause-answers g c = λ told number shown.
+    let inv = c.lines.invariant in
+    let here : IsTrue (g.I.Stream.tells c.lines.input) = subst (λ (b : Bool). IsTrue b) (sym inv.telling) told in
+    let p = err_from_is_err_and c.from_residual.result c.from_residual.ensures.1 in
+    rw (p.1, p.2)
+    (stop_answers _ _ _ c.args.feed.now number _ _ _ _ _ c.lines._count c.lines.feed _ _ _ _ (inv.went told number shown) (ap (λ v. v.items) inv.places) _ _
+    (λ refusal e. c.next_item.ensures.refuses here refusal (c.in_err-next_item.was ∙ ap Err e))
+    (λ e. c.next_item.ensures.same_line here (c.in_err-next_item.was ∙ ap Err e)))
+
+pub returns-in_err-answer_scan-in-Scan-clause-answers : goal.returns-in_err-answer_scan-in-Scan-clause-answers
+returns-in_err-answer_scan-in-Scan-clause-answers g c = λ told number shown.
+    let inv = c.lines.invariant in
+    let coming = g.I.Stream.coming in
+    let here : IsTrue (g.I.Stream.tells c.lines.input) = subst (λ (b : Bool). IsTrue b) (sym inv.telling) told in
+    let gives = subst (λ (fed : Fed). Gives fed c.lines.feed c.next_item.new.self c.lines.runner.scan c.next_item.new.into
+    (lines_left c.lines.feed (coming c.lines.input)) (lines_left c.next_item.new.self (coming c.next_item.new.input))) c.in-Scan.is (c.in_ok-next_item.ensures.gives here) in
+    let same = ap (λ v. v.items) inv.places in
+    let does = c.in_err-answer_scan-in-Scan.ensures.does in
+    let p = err_from_is_err_and c.from_residual-in_err-answer_scan-in-Scan.result c.from_residual-in_err-answer_scan-in-Scan.ensures.1 in
+    rw (p.1, p.2)
+    (item_answers _ _ _ c.args.feed.now number _ _ _ _ _ c.lines._count c.lines.feed _ _ _ _ (inv.went told number shown) same _ _ _ _ _ _ does _ _
+    (scan_cut _ _ _ c.args.feed.now number _ _ _ _ _ c.lines._count c.lines.feed _ _ _ _ (inv.went told number shown) same _ c.next_item.new.self
+    c.lines.runner.scan c.next_item.new.into _ gives (omega (arith, c.in_ok-next_item.ensures.rises, gives.says.3)) _ _ _ _ inv.still_telling does))
+
+pub returns-in_err-answer_restart-in-Restart-clause-answers : goal.returns-in_err-answer_restart-in-Restart-clause-answers
+returns-in_err-answer_restart-in-Restart-clause-answers g c = λ told number shown.
+    let inv = c.lines.invariant in
+    let coming = g.I.Stream.coming in
+    let here : IsTrue (g.I.Stream.tells c.lines.input) = subst (λ (b : Bool). IsTrue b) (sym inv.telling) told in
+    let gives = subst (λ (fed : Fed). Gives fed c.lines.feed c.next_item.new.self c.lines.runner.scan c.next_item.new.into
+    (lines_left c.lines.feed (coming c.lines.input)) (lines_left c.next_item.new.self (coming c.next_item.new.input))) c.in-Restart.is (c.in_ok-next_item.ensures.gives here) in
+    let same = ap (λ v. v.items) inv.places in
+    let does = c.in_err-answer_restart-in-Restart.ensures.does in
+    let p = err_from_is_err_and c.from_residual-in_err-answer_restart-in-Restart.result c.from_residual-in_err-answer_restart-in-Restart.ensures.1 in
+    rw (p.1, p.2)
+    (item_answers _ _ _ c.args.feed.now number _ _ _ _ _ c.lines._count c.lines.feed _ _ _ _ (inv.went told number shown) same _ _ _ _ _ _ does _ _
+    (restart_cut _ _ _ c.args.feed.now number _ _ _ _ _ c.lines._count c.lines.feed _ _ _ _ (inv.went told number shown) same _ c.next_item.new.self
+    c.lines.runner.scan c.next_item.new.into _ gives _ _ _ _ inv.still_telling does))
+
+pub returns-in-End-clause-answers : goal.returns-in-End-clause-answers
+returns-in-End-clause-answers g c = λ told number shown.
+    let inv = c.lines.invariant in
+    let coming = g.I.Stream.coming in
+    let here : IsTrue (g.I.Stream.tells c.lines.input) = subst (λ (b : Bool). IsTrue b) (sym inv.telling) told in
+    let gives = subst (λ (fed : Fed). Gives fed c.lines.feed c.next_item.new.self c.lines.runner.scan c.next_item.new.into
+    (lines_left c.lines.feed (coming c.lines.input)) (lines_left c.next_item.new.self (coming c.next_item.new.input))) c.in-End.is (c.in_ok-next_item.ensures.gives here) in
+    all_answers _ _ _ c.args.feed.now number _ _ _ _ _ c.lines._count c.lines.feed _ _ _ _ (inv.went told number shown) (ap (λ v. v.items) inv.places) tt [] (inl gives.0)
+
+pub lines-preserved : goal.lines-preserved
+lines-preserved g c =
+    let inv = c.lines.invariant in
+    let coming = g.I.Stream.coming in
+    let next = c.in_ok-next_item.ensures in
+    let same = ap (λ v. v.items) inv.places in
+    let inputs = ap (λ v. length v.items) next.places ∙ inv.inputs in
+    elim c.match-branch-2.branch [
+      | in-Nothing w ↦
+          rw (w.runner-is, w.out-is)
+          (record {
+            fits = record { performer = inv.fits.performer; taker = inv.fits.taker; inputs = next.fits ∙ inv.fits.inputs; outputs = inv.fits.outputs; diagnoses = inv.fits.diagnoses };
+            due = omega (arith, inv.due, next.rises);
+            inputs = inputs;
+            places = next.places ∙ inv.places;
+            went = λ told number shown.
+                let gives = subst (λ (fed : Fed). Gives fed c.lines.feed c.next_item.new.self c.lines.runner.scan c.next_item.new.into
+                (lines_left c.lines.feed (coming c.lines.input)) (lines_left c.next_item.new.self (coming c.next_item.new.input))) w.in-Nothing.is (next.gives (subst (λ (b : Bool). IsTrue b) (sym inv.telling) told)) in
+                went_by _ _ _ c.args.feed.now number _ _ _ _ _ c.lines._count c.lines.feed _ _ _ _ (inv.went told number shown) same c.next_item.new.self
+                c.lines.runner.scan c.next_item.new.into _ gives;
+            all_read = next.exact (λ is. cc) ∙ inv.all_read;
+            telling = next.telling ∙ inv.telling;
+            handed_on = inv.handed_on;
+            all_written = inv.all_written;
+            still_telling = inv.still_telling;
+          })
+      | in-Scan+in_ok-answer_scan-in-Scan w ↦
+          let did = w.in_ok-answer_scan-in-Scan.ensures in
+          rw (w.runner-is, w.out-is)
+          (record {
+            fits = did.fits;
+            due = let time = c.next_item.ensures.time (c.in_ok-next_item.was ∙ ap Ok w.in-Scan.is) in omega (arith, did.due, time);
+            inputs = inputs;
+            places = next.places ∙ inv.places;
+            went = λ told number shown.
+                let gives = subst (λ (fed : Fed). Gives fed c.lines.feed c.next_item.new.self c.lines.runner.scan c.next_item.new.into
+                (lines_left c.lines.feed (coming c.lines.input)) (lines_left c.next_item.new.self (coming c.next_item.new.input))) w.in-Scan.is (next.gives (subst (λ (b : Bool). IsTrue b) (sym inv.telling) told)) in
+                went_scan _ _ _ c.args.feed.now number _ _ _ _ _ c.lines._count c.lines.feed _ _ _ _ (inv.went told number shown) same tt c.next_item.new.self
+                c.lines.runner.scan c.next_item.new.into _ gives (omega (arith, next.rises, gives.says.3)) _ _ _ _ inv.still_telling did.does;
+            all_read = next.exact (λ is. cc) ∙ inv.all_read;
+            telling = next.telling ∙ inv.telling;
+            handed_on = λ none. did.handed_on;
+            all_written = did.all_written (λ is. cc) ∙ inv.all_written;
+            still_telling = did.telling ∙ inv.still_telling;
+          })
+      | in-Restart+in_ok-answer_restart-in-Restart w ↦
+          let did = w.in_ok-answer_restart-in-Restart.ensures in
+          rw (w.runner-is, w.out-is)
+          (record {
+            fits = did.fits;
+            due = omega (arith, did.due, inv.due, next.rises);
+            inputs = inputs;
+            places = next.places ∙ inv.places;
+            went = λ told number shown.
+                let gives = subst (λ (fed : Fed). Gives fed c.lines.feed c.next_item.new.self c.lines.runner.scan c.next_item.new.into
+                (lines_left c.lines.feed (coming c.lines.input)) (lines_left c.next_item.new.self (coming c.next_item.new.input))) w.in-Restart.is (next.gives (subst (λ (b : Bool). IsTrue b) (sym inv.telling) told)) in
+                went_restart _ _ _ c.args.feed.now number _ _ _ _ _ c.lines._count c.lines.feed _ _ _ _ (inv.went told number shown) same tt c.next_item.new.self
+                c.lines.runner.scan c.next_item.new.into _ gives _ _ _ _ inv.still_telling did.does;
+            all_read = next.exact (λ is. cc) ∙ inv.all_read;
+            telling = next.telling ∙ inv.telling;
+            handed_on = λ none. did.handed_on;
+            all_written = did.all_written (λ is. cc) ∙ inv.all_written;
+            still_telling = did.telling ∙ inv.still_telling;
+          })
+    ]
+
+pub returns-clause-answers : goal.returns-clause-answers
+returns-clause-answers g c = λ told number shown.
+    let inv = c.lines.invariant in
+    all_answers _ _ _ c.args.feed.now number _ _ _ _ _ c.lines._count c.lines.feed _ _ _ _ (inv.went told number shown) (ap (λ v. v.items) inv.places) tt [] (inr (omega arith))

@@ -1,0 +1,5 @@
+use Rattle.ps_live.proofs.Going.{handed}
+use Rattle.ps_live.proofs.answering.answer_scan.Goals as goal
+
+pub returns-clause-does : goal.returns-clause-does
+returns-clause-does g c = handed _ _ _ _ _ _ _ _ _ _ _ _ _ c.hand_all_on.result c.in_ok-do_scan.ensures.does c.hand_all_on.ensures.kept c.hand_all_on.ensures.cut

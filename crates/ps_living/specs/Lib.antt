@@ -1,2 +1,0 @@
--- what is written of a stream: what a reader of the clauses has to believe
-pub mod Living

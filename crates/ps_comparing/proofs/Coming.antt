@@ -5,7 +5,7 @@ use Rattle.ps_bench_base.proofs.Stopped.{rose_since}
 use Rattle.ps_bench_base.specs.Ending.{IsUnread}
 use Rattle.ps_bench_base.specs.declared.ending.Status.{Status}
 use Rattle.ps_bench_base.specs.declared.ending.Stop.{Stop}
-use Rattle.ps_comparing.specs.Asking.{AnswersSame, EndsOf, EndsWith, IsApp, StopsSame, two}
+use Rattle.ps_comparing.specs.Asking.{AnswersSame, EndsOf, EndsWith, IsApp, IsInOrder, IsOther, StopsSame, two}
 use Rattle.ps_model.specs.Network.{Network}
 use Rattle.ps_outside.specs.Outside.{Rose}
 
@@ -20,7 +20,7 @@ since P r r' h h' t t' b b' r_is h_is t_is b_is p =
 -- a call that has both applications
 pub with_both : (first second : Network) (app other : List ℕ) (rules : Option (List ℕ)) (states : ℕ) (reading : Bool)
     (held : List ℕ → Option (List ℕ)) (tells : Bool) (before after : List ℕ) (ended : Result Status Stop) →
-    IsApp reading held other second → EndsOf (two first second app other states) rules reading held tells before after ended →
+    IsOther reading held other first second → EndsOf (two first second app other states) rules reading held tells before after ended →
     EndsWith first app other rules states reading held tells before after ended
 with_both first second app other rules states reading held tells before after (Ok status) is ends = (second, is, ends)
 with_both first second app other rules states reading held tells before after (Err stop) is ends = inr (second, is, ends)

@@ -2,18 +2,21 @@
 
 ghost use Rattle.std.specs.Prelude.{◌≡◌, ◌<◌, ◌≤◌, ◌∷◌, ℕ, List, Any, IfOk, IfErr, IsErrOf, OnOk, option_map};
 ghost use Rattle.ps_bench_base.specs.Ending.{IsUnread};
-ghost use Rattle.ps_bench_base.specs.Opening.{IsOfApp, source};
-ghost use Rattle.ps_comparing.specs.Asking.{AnswersSame, EndsBy, EndsOf, EndsWith, StopsAtOther, StopsSame, at_other, files_of};
+ghost use Rattle.ps_comparing.specs.Asking.{AnswersSame, EndsBy, EndsOf, EndsWith, IsInOrder, IsOther, StopsAtOther, StopsSame, at_other, files_of};
 ghost use Rattle.ps_outside.specs.Outside.{Rose};
 ghost use Rattle.ps_same.specs.Answering.{names_of};
 ghost use Rattle.ps_same.specs.Telling.{two_of};
 
 use crate::telling::{tell_many_free, tell_unlike};
+use ps_arranged::app_arranged;
+use ps_base::Memory;
 use ps_bench_base::{Input, InputStop, Opened, Status, Stop, open_app};
 use ps_forbidding::{at_least_one, refuse_rules, write_told};
 use ps_hearing::Listener;
+use ps_model::App;
 use ps_outside::{Files, Output};
 use ps_same::{Compared, SameFail, Told, answer, first_unlike};
+use ps_sourced::{Sourced, open_sourced};
 use ps_telling::tell_any_times;
 use std::alloc::Global;
 
@@ -106,15 +109,37 @@ fn at_other(stop: Stop) -> Stop
     }
 }
 
-// The other application, of this name. Where it is refused the line of the refusal is written.
+// An application in the order of the first one, where an application stands for that, and else as it is declared.
+fn in_order(alloc: Global, first: &App, sourced: Sourced) -> Result<App, Stop>
+    ensures ordered { IfOk result (IsInOrder first.now sourced.source sourced.opened.app) }
+    ensures stops { IfErr result (λ stop. stop ≡ Stop.NoMemory) }
+{
+    let Sourced { source, opened } = sourced;
+    match app_arranged(alloc, first, source) {
+        Ok(Some(second)) => Ok(second),
+        Ok(None) => Ok(app_of(opened)),
+        Err(Memory) => Err(Stop::NoMemory),
+    }
+}
+
+// The application alone.
+fn app_of(opened: Opened) -> App
+    ensures { result ≡ opened.app }
+{
+    let Opened { app, sizes: _ } = opened;
+    app
+}
+
+// The other application, of this name, in the order of the first one. Where it is refused the line of the refusal is
+// written.
 fn open_other<F: Files, O: Output>(
     alloc: Global,
     files: &mut F,
     out: &mut O,
+    first: &App,
     name: &str,
-) -> Result<Opened, Stop>
-    ensures app { IfOk result (λ opened. IsOfApp
-        (source opened.app opened.sizes (F.tells files.old) (F.held files.old)) name.now) }
+) -> Result<App, Stop>
+    ensures app { IfOk result (IsOther (F.tells files.old) (F.held files.old) name.now first.now) }
     ensures stops { IfErr result (λ stop. StopsAtOther (F.tells files.old) (F.held files.old) name.now stop
         (O.tells out.old) (O.taken out.old) (O.taken out.new)) }
     ensures unread { IfErr result (λ stop. IsUnread stop →
@@ -127,8 +152,8 @@ fn open_other<F: Files, O: Output>(
     ensures reading { F.tells files.new ≡ F.tells files.old }
     ensures telling { O.tells out.new ≡ O.tells out.old }
 {
-    match open_app(alloc, files, out, name) {
-        Ok(opened) => Ok(opened),
+    match open_sourced(alloc, files, out, name) {
+        Ok(sourced) => in_order(alloc, first, sourced),
         Err(stop) => Err(at_other(stop)),
     }
 }
@@ -152,12 +177,12 @@ fn same_with<F: Files, O: Output, L: Listener>(
     ensures writes { O.faults out.old ≤ O.faults out.new }
     ensures telling { O.tells out.new ≡ O.tells out.old }
 {
-    match open_other(alloc, files, out, asked.other) {
+    match open_other(alloc, files, out, &opened.app, asked.other) {
         Ok(other) => {
             let compared = Compared {
                 app: &opened.app,
                 name: asked.app,
-                other: &other.app,
+                other: &other,
                 other_name: asked.other,
                 most: at_least_one(asked.states),
             };
@@ -173,8 +198,8 @@ fn same_with<F: Files, O: Output, L: Listener>(
 ///
 /// The status is Done where no output differs, and Failed where one does or it stays open. It is Usage where the file
 /// asks for scans at any times, and where over 20 inputs are free and no file is named: that is told, and nothing is
-/// written. The call stops by `Unlike`, which is told, where they have not the same inputs and outputs, in the same
-/// order, of the same names (letter case aside) and types. Where an application or the file is refused, the line of the
+/// written. The call stops by `Unlike`, which is told, where they have not the same inputs and outputs, of the same
+/// names (letter case aside) and types: the other is compared with its own in the order of the first. Where an application or the file is refused, the line of the
 /// refusal is written in its place.
 ///
 /// A file that cannot be read is one of the three, whose count of the files rose in this call; `Unwritten` comes only

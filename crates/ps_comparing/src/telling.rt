@@ -11,7 +11,7 @@ use std::alloc::Global;
 
 // What helps where inputs and outputs are not the same.
 const REMEDY: &[u8] =
-    b"same compares applications with the same inputs and outputs in the same order (docs/never.md)\n";
+    b"same compares applications whose inputs and outputs have the same names and types (docs/never.md)\n";
 
 // What is told where too many inputs are free, and no rules file says which.
 const MANY_FREE: &str =
@@ -36,14 +36,18 @@ fn add_counts(text: &mut Bytes, what: &[u8], count: u16, other: u16) -> Result<(
     text.extend_from_slice(b" in the other\n")
 }
 
-// An input or output stands where another one does, by its name and type.
+// An input or output has another type in the other application, or is none there.
 fn add_signals(text: &mut Bytes, app: &App, other: &App, signal: u16) -> Result<(), Memory> {
-    text.extend_from_slice(signal_text(app, signal))?;
+    let (name, found) = (signal_text(app, signal), signal_text(other, signal));
+    text.extend_from_slice(name)?;
     text.extend_from_slice(type_text(app, signal))?;
-    text.extend_from_slice(b" of the first stands where ")?;
-    text.extend_from_slice(signal_text(other, signal))?;
+    if !name.eq_ignore_ascii_case(found) {
+        return text.extend_from_slice(b" of the first is no input or output of its kind in the other\n");
+    }
+    text.extend_from_slice(b" of the first is ")?;
+    text.extend_from_slice(found)?;
     text.extend_from_slice(type_text(other, signal))?;
-    text.extend_from_slice(b" does in the other\n")
+    text.extend_from_slice(b" in the other\n")
 }
 
 // What is told where inputs and outputs are not the same.

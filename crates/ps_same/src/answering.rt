@@ -14,7 +14,7 @@ ghost use Rattle.ps_same.specs.Telling.{two_of};
 use crate::telling::{Compared, told};
 use ps_base::{Bytes, Memory};
 use ps_model::App;
-use ps_never::do_all_hold;
+use ps_verdict::do_all_hold;
 use ps_outside::Files;
 use ps_pairs::{asked_of_outputs, compare};
 use ps_reach::{MOST_FREE, free_inputs};

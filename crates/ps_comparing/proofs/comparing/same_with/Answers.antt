@@ -8,7 +8,7 @@ use Rattle.ps_comparing.proofs.comparing.same_with.Goals as goal
 pub returns-in-Ok-clause-ends : goal.returns-in-Ok-clause-ends
 returns-in-Ok-clause-ends g c =
     let first = c.args.opened.now.app in
-    let second = c.in-Ok.other.app in
+    let second = c.in-Ok.other in
     let app = c.args.asked.now.app.now in
     let other = c.args.asked.now.other.now in
     let rules = option_map (λ n. n.now) c.args.asked.now.rules in
@@ -22,7 +22,7 @@ returns-in-Ok-clause-ends g c =
     (g.O.Sink.taken c.open_other.new.out) after ended)
     c.at_least_one.ensures.number c.same_of.ensures.ends in
     with_both first second app other rules states (g.F.Files.tells c.args.files.now) (g.F.Files.held c.args.files.now)
-    (g.O.Sink.tells c.args.out.now) (g.O.Sink.taken c.args.out.now) after ended (c.in-Ok.other.sizes, c.in-Ok.ensures.app)
+    (g.O.Sink.tells c.args.out.now) (g.O.Sink.taken c.args.out.now) after ended c.in-Ok.ensures.app
     (since (λ (r : Bool) (h : List ℕ → Option (List ℕ)) (t : Bool) (b : List ℕ). EndsOf (two first second app other states) rules r h t b after ended)
     _ _ _ _ _ _ _ _ c.in-Ok.ensures.reading c.in-Ok.ensures.kept c.in-Ok.ensures.telling c.in-Ok.ensures.unsaid ends)
 

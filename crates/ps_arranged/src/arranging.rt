@@ -18,9 +18,9 @@ fn arranged_sections(alloc: Global, app: &App, sections: &[Section]) -> Result<S
     app.sound();
     let mut written = Sections::new(alloc);
     for s in 0..app.input_count() + app.output_count() {
-        add_taken(alloc, &mut written, Wanted::Shared(app, s), sections)?;
+        add_taken(alloc, &mut written, &Wanted::Shared(app, s), sections)?;
     }
-    add_taken(alloc, &mut written, Wanted::Besides(app), sections)?;
+    add_taken(alloc, &mut written, &Wanted::Besides(app), sections)?;
     Ok(written)
 }
 

@@ -6,27 +6,18 @@ ghost use Rattle.ps_arranged.specs.Arranging.{alone, taken, taken_declaration, t
 ghost use Rattle.ps_arranged.specs.Wanting.{wants};
 
 use crate::wanted::Wanted;
-use ps_base::{Bytes, Memory};
+use ps_base::Memory;
+use ps_derived::copy_of;
 use ps_parser::{Declaration, Declarations, Name, Names, Part, Section, Sections};
 use std::alloc::Global;
-
-// The same name.
-fn copied(alloc: Global, name: &Name) -> Result<Name, Memory>
-    ensures { IfOk result (λ copy. copy ≡ name.now) }
-{
-    Ok(Name {
-        text: Bytes::from_slice(alloc, name.text.as_slice())?,
-        place: name.place,
-    })
-}
 
 // A section in which one name is declared.
 fn alone(alloc: Global, part: Part, ty: &Name, name: &Name) -> Result<Section, Memory>
     ensures { IfOk result (λ section. section ≡ alone part ty.now name.now) }
 {
     let mut names = Names::new(alloc);
-    names.push(copied(alloc, name)?)?;
-    let ty = copied(alloc, ty)?;
+    names.push(copy_of(alloc, name)?)?;
+    let ty = copy_of(alloc, ty)?;
     let mut declarations = Declarations::new(alloc);
     declarations.push(Declaration { names, ty })?;
     Ok(Section { part, declarations })
@@ -36,12 +27,12 @@ fn alone(alloc: Global, part: Part, ty: &Name, name: &Name) -> Result<Section, M
 fn add_name(
     alloc: Global,
     written: &mut Sections,
-    wanted: Wanted<'_>,
+    wanted: &Wanted<'_>,
     part: Part,
     ty: &Name,
     name: &Name,
 ) -> Result<(), Memory>
-    ensures { OnOk result (written.new ≡ written.old ++ taken_name (wants wanted) part ty.now name.now) }
+    ensures { OnOk result (written.new ≡ written.old ++ taken_name (wants wanted.now) part ty.now name.now) }
 {
     if !wanted.wants(name.text.as_slice()) {
         return Ok(());
@@ -53,12 +44,12 @@ fn add_name(
 fn add_names(
     alloc: Global,
     written: &mut Sections,
-    wanted: Wanted<'_>,
+    wanted: &Wanted<'_>,
     part: Part,
     ty: &Name,
     names: &[Name],
 ) -> Result<(), Memory>
-    ensures { OnOk result (written.new ≡ written.old ++ flat_map (taken_name (wants wanted) part ty.now) names.now) }
+    ensures { OnOk result (written.new ≡ written.old ++ flat_map (taken_name (wants wanted.now) part ty.now) names.now) }
 {
     for name in names {
         add_name(alloc, written, wanted, part, ty, name)?;
@@ -70,11 +61,11 @@ fn add_names(
 fn add_declarations(
     alloc: Global,
     written: &mut Sections,
-    wanted: Wanted<'_>,
+    wanted: &Wanted<'_>,
     part: Part,
     declarations: &[Declaration],
 ) -> Result<(), Memory>
-    ensures { OnOk result (written.new ≡ written.old ++ flat_map (taken_declaration (wants wanted) part) declarations.now) }
+    ensures { OnOk result (written.new ≡ written.old ++ flat_map (taken_declaration (wants wanted.now) part) declarations.now) }
 {
     for declaration in declarations {
         add_names(
@@ -93,10 +84,10 @@ fn add_declarations(
 pub(crate) fn add_taken(
     alloc: Global,
     written: &mut Sections,
-    wanted: Wanted<'_>,
+    wanted: &Wanted<'_>,
     sections: &[Section],
 ) -> Result<(), Memory>
-    ensures { OnOk result (written.new ≡ written.old ++ taken (wants wanted) sections.now) }
+    ensures { OnOk result (written.new ≡ written.old ++ taken (wants wanted.now) sections.now) }
 {
     for section in sections {
         add_declarations(

@@ -43,9 +43,10 @@ impl Wanted<'_> {
     pub(crate) fn wants(&self, text: &[u8]) -> bool
         ensures { result ≡ wants self.now text.now }
     {
-        match self {
+        match *self {
             Wanted::Shared(app, s) => {
-                *s < app.input_count() + app.output_count() && is_of(app, *s, text)
+                app.sound();
+                s < app.input_count() + app.output_count() && is_of(app, s, text)
             }
             Wanted::Besides(app) => !is_shared(app, text),
         }

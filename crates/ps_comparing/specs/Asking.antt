@@ -1,5 +1,5 @@
 -- What `same` writes of two applications and a rules file, and how it stops.
-use Rattle.std.specs.Prelude.{◌≡◌, ◌⊎◌, ℕ, Bool, IsTrue, List, ◌∷◌, Option, Some, None, Result, Ok, Err}
+use Rattle.std.specs.Prelude.{◌≡◌, ◌⊎◌, ℕ, Bool, IsTrue, List, ◌∷◌, Option, unwrap_or, Result, Ok, Err}
 use Rattle.ps_arranged.specs.Arranging.{IsArranged}
 use Rattle.ps_bench_base.specs.Opening.{IsOfApp, source}
 use Rattle.ps_bench_base.specs.Stopping.{StopsAtApp, Took, TookNothing, TookSome}
@@ -16,7 +16,7 @@ use Rattle.ps_names.specs.Stands.{Stands}
 use Rattle.ps_parser.specs.Tree.{SourceTree}
 use Rattle.ps_same.specs.Answering.{IsFound, names_of}
 use Rattle.ps_same.specs.Likeness.{AreLike}
-use Rattle.ps_same.specs.Telling.{Two}
+use Rattle.ps_verdict.specs.Comparing.{Two}
 use Rattle.ps_same.specs.declared.answering.SameFail.{SameFail}
 use Rattle.ps_same.specs.declared.answering.SameFail.TheVariants.{AnyTimes, Fault, ManyFree, Memory, Refused}
 use Rattle.ps_same.specs.declared.answering.Told.{Told}
@@ -73,9 +73,9 @@ StopsAtOther reading held name stop tells before after =
 abbrev pub IsApp : (reading : Bool) (held : List ℕ → Option (List ℕ)) → (name : List ℕ) → Network → Type 0
 IsApp reading held name net = (sizes : ImageSizes) × IsOfApp (source net sizes reading held) name
 
--- in the order of the first application, where an application stands for that, and else as it is declared
+-- what stands for the source in the order of the first application, and where nothing does the application as it is
 abbrev pub IsInOrder : (first : Network) → SourceTree → (own second : Network) → Type 0
-IsInOrder first tree own second = IsArranged first tree (Some second) ⊎ (IsArranged first tree None × (second ≡ own))
+IsInOrder first tree own second = (found : Option Network) × IsArranged first tree found × (second ≡ unwrap_or found own)
 
 -- What is compared with the first application: the one of this name, with its inputs and outputs in the order of the
 -- first.

@@ -5,7 +5,7 @@ ghost use Rattle.ps_bench_base.specs.Ending.{IsUnread};
 ghost use Rattle.ps_comparing.specs.Asking.{AnswersSame, EndsBy, EndsOf, EndsWith, IsInOrder, IsOther, StopsAtOther, StopsSame, at_other, files_of};
 ghost use Rattle.ps_outside.specs.Outside.{Rose};
 ghost use Rattle.ps_same.specs.Answering.{names_of};
-ghost use Rattle.ps_same.specs.Telling.{two_of};
+ghost use Rattle.ps_verdict.specs.Comparing.{two_of};
 
 use crate::telling::{tell_many_free, tell_unlike};
 use ps_arranged::app_arranged;
@@ -15,9 +15,10 @@ use ps_forbidding::{at_least_one, refuse_rules, write_told};
 use ps_hearing::Listener;
 use ps_model::App;
 use ps_outside::{Files, Output};
-use ps_same::{Compared, SameFail, Told, answer, first_unlike};
+use ps_same::{SameFail, Told, answer, first_unlike};
 use ps_sourced::{Sourced, open_sourced};
 use ps_telling::tell_any_times;
+use ps_verdict::{Compared, Named};
 use std::alloc::Global;
 
 /// What `same` is asked.
@@ -109,25 +110,24 @@ fn at_other(stop: Stop) -> Stop
     }
 }
 
-// An application in the order of the first one, where an application stands for that, and else as it is declared.
-fn in_order(alloc: Global, first: &App, sourced: Sourced) -> Result<App, Stop>
-    ensures ordered { IfOk result (IsInOrder first.now sourced.source sourced.opened.app) }
-    ensures stops { IfErr result (λ stop. stop ≡ Stop.NoMemory) }
-{
-    let Sourced { source, opened } = sourced;
-    match app_arranged(alloc, first, source) {
-        Ok(Some(second)) => Ok(second),
-        Ok(None) => Ok(app_of(opened)),
-        Err(Memory) => Err(Stop::NoMemory),
-    }
-}
-
 // The application alone.
 fn app_of(opened: Opened) -> App
     ensures { result ≡ opened.app }
 {
     let Opened { app, sizes: _ } = opened;
     app
+}
+
+// What stands for a source in the order of the first application, and where nothing does the application as it is.
+fn in_order(alloc: Global, first: &App, sourced: Sourced) -> Result<App, Stop>
+    ensures ordered { IfOk result (IsInOrder first.now sourced.source sourced.opened.app) }
+    ensures stops { IfErr result (λ stop. stop ≡ Stop.NoMemory) }
+{
+    let Sourced { source, opened } = sourced;
+    match app_arranged(alloc, first, source) {
+        Ok(found) => Ok(found.unwrap_or(app_of(opened))),
+        Err(Memory) => Err(Stop::NoMemory),
+    }
 }
 
 // The other application, of this name, in the order of the first one. Where it is refused the line of the refusal is
@@ -179,13 +179,15 @@ fn same_with<F: Files, O: Output, L: Listener>(
 {
     match open_other(alloc, files, out, &opened.app, asked.other) {
         Ok(other) => {
-            let compared = Compared {
+            let first = Named {
                 app: &opened.app,
                 name: asked.app,
-                other: &other,
-                other_name: asked.other,
-                most: at_least_one(asked.states),
             };
+            let other = Named {
+                app: &other,
+                name: asked.other,
+            };
+            let compared = Compared::of(first, other, at_least_one(asked.states));
             same_of(alloc, files, out, listener, &compared, asked.rules)
         }
         Err(stop) => Err(stop),

@@ -5,8 +5,9 @@ use ps_bench_base::pieces::{add_short, add_shown};
 use ps_hearing::{Listener, hear_bytes};
 use ps_model::{App, is_safe};
 use ps_never::signal_text;
-use ps_same::{Compared, Unlike};
+use ps_same::Unlike;
 use ps_statuses::NO_MEMORY;
+use ps_verdict::Compared;
 use std::alloc::Global;
 
 // What helps where inputs and outputs are not the same.

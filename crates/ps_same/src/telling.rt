@@ -13,7 +13,8 @@ ghost use Rattle.ps_search.specs.declared.answer.Found.{Found as FoundOf};
 ghost use Rattle.ps_search.specs.declared.answer.Path.{Path as PathOf};
 ghost use Rattle.ps_same.specs.Telling.{IsSaid, alike, counts_text, difference_case, expects_text, failing_text, fails_text};
 ghost use Rattle.ps_same.specs.Telling.{first_place, first_text, met_text, names_text, other_text, output_text, outputs_text};
-ghost use Rattle.ps_same.specs.Telling.{pairs_text, place_text, remark_text, scans_text, shortage_text, two_of, unmet_text, value_text};
+ghost use Rattle.ps_same.specs.Telling.{pairs_text, place_text, remark_text, scans_text, shortage_text, unmet_text, value_text};
+ghost use Rattle.ps_verdict.specs.Comparing.{two_of};
 
 use ps_base::{Bytes, Memory};
 use ps_bench_base::pieces::{add_count, add_shown};
@@ -22,23 +23,8 @@ use ps_never::{add_case, add_set, signal_text};
 use ps_pairs::outputs_behind;
 use ps_reach::{Asked, inputs_of};
 use ps_search::{End, Found, Path};
-use ps_verdict::Behind;
+use ps_verdict::{Behind, Compared};
 use std::alloc::Global;
-
-/// Two applications that are compared, which have the same inputs and outputs.
-#[derive(Clone, Copy)]
-pub struct Compared<'a> {
-    /// The first.
-    pub app: &'a App,
-    /// The name of its file.
-    pub name: &'a str,
-    /// The other.
-    pub other: &'a App,
-    /// The name of its file.
-    pub other_name: &'a str,
-    /// How many pairs of their states may be held.
-    pub most: u32,
-}
 
 // The names of both.
 fn add_names(text: &mut Bytes, compared: &Compared<'_>) -> Result<(), Memory>

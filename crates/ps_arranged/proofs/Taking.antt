@@ -10,8 +10,13 @@ use Rattle.ps_parser.specs.declared.name.Name.{Name}
 use Rattle.ps_parser.specs.declared.section.Declaration.{Declaration}
 use Rattle.ps_parser.specs.declared.section.Part.{Part}
 use Rattle.ps_parser.specs.declared.section.Section.{Section}
-use Rattle.ps_flatten.proofs.Wholes.{all_append, all_flat}
+use Rattle.ps_flatten.proofs.Wholes.{all_append}
 use Rattle.ps_arranged.specs.Arranging.{alone, arranged, arranged_sections, is_shared, is_shared_at, shared_count, taken, taken_declaration, taken_name, taken_section}
+
+-- each item of pieces that are whole
+all_flat : {X Y : Type 0} (P : X → Type 0) (Q : Y → Type 0) (f : X → List Y) (xs : List X) → ((x : X) → P x → AllByRecursion Q (f x)) → AllByRecursion P xs → AllByRecursion Q (flat_map f xs)
+all_flat P Q f [] g h = tt
+all_flat P Q f (x ∷ xs) g h = all_append Q (f x) (flat_map f xs) (g x h.0) (all_flat P Q f xs g h.1)
 
 -- a name is dotted
 abbrev Named : Name → Type 0

@@ -1,6 +1,6 @@
 // A source in the order of an application, and the application that it stands for.
 
-ghost use Rattle.std.specs.Prelude.{◌≡◌, IfOk};
+ghost use Rattle.std.specs.Prelude.{◌≡◌, IfOk, OnOk};
 ghost use Rattle.ps_arranged.specs.Arranging.{IsArranged, arranged, arranged_sections};
 
 use crate::copying::add_taken;
@@ -24,33 +24,25 @@ fn arranged_sections(alloc: Global, app: &App, sections: &[Section]) -> Result<S
     Ok(written)
 }
 
-/// The source of another application with its declarations in the order of this one: each name is declared alone, those
-/// of inputs and outputs of this one first. It takes a walk over the declarations for each of these. `Err` comes only
-/// where memory is wanting.
-pub fn arranged(alloc: Global, app: &App, source: Source) -> Result<Source, Memory>
-    ensures { IfOk result (λ tree. tree ≡ arranged app.now source) }
+/// Makes the source of another application that with its declarations in the order of this one: each name is declared
+/// alone, those of inputs and outputs of this one first. It takes a walk over the declarations for each of these. `Err`
+/// comes only where memory is wanting.
+pub fn arrange(alloc: Global, app: &App, source: &mut Source) -> Result<(), Memory>
+    ensures { OnOk result (source.new ≡ arranged app.now source.old) }
 {
     source.kept();
     let sections = arranged_sections(alloc, app, source.sections.as_slice())?;
-    let Source {
-        name,
-        sections: _,
-        statements,
-    } = source;
-    Ok(Source {
-        name,
-        sections,
-        statements,
-    })
+    source.sections = sections;
+    Ok(())
 }
 
-/// The application of a source with its declarations in the order of another application. None comes where that breaks a
-/// rule of names, `Err` only where memory is wanting.
-pub fn app_arranged(alloc: Global, app: &App, source: Source) -> Result<Option<App>, Memory>
-    ensures { IfOk result (IsArranged app.now source) }
+/// The application of a source with its declarations in the order of another application, which the source has then.
+/// None comes where that breaks a rule of names, `Err` only where memory is wanting.
+pub fn app_arranged(alloc: Global, app: &App, source: &mut Source) -> Result<Option<App>, Memory>
+    ensures { IfOk result (IsArranged app.now source.old) }
 {
-    let source = arranged(alloc, app, source)?;
-    match resolve(alloc, &source) {
+    arrange(alloc, app, source)?;
+    match resolve(alloc, source) {
         Ok(other) => Ok(Some(other)),
         Err(Fail::Refused(_)) => Ok(None),
         Err(Fail::Memory) => Err(Memory),

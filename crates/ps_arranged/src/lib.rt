@@ -8,4 +8,4 @@ mod arranging;
 mod copying;
 mod wanted;
 
-pub use arranging::{app_arranged, arranged};
+pub use arranging::{app_arranged, arrange};

@@ -6,7 +6,8 @@ use Rattle.ps_bench_base.specs.Ending.{IsUnread}
 use Rattle.ps_bench_base.specs.declared.ending.Status.{Status}
 use Rattle.ps_bench_base.specs.declared.ending.Stop.{Stop}
 use Rattle.ps_bench_base.specs.declared.ending.Stop.TheVariants.{NoMemory, Unwritten}
-use Rattle.ps_comparing.specs.Asking.{AnswersSame, EndsOf, EndsWith, IsApp, IsInOrder, IsOther, StopsAtOther, StopsSame, two}
+use Rattle.ps_comparing.specs.Asking.{AnswersSame, EndsOf, EndsWith, IsApp, IsInOrder, IsOther, StopsAtOther, StopsSame, second_of, two}
+use Rattle.ps_comparing.specs.declared.comparing.OtherApp.{OtherApp}
 use Rattle.ps_model.specs.Network.{Network}
 use Rattle.ps_names.specs.Stands.{Stands}
 use Rattle.ps_outside.specs.Outside.{Rose}
@@ -22,34 +23,34 @@ since P r r' h h' t t' b b' r_is h_is t_is b_is p =
     (subst (λ (x : Bool). P r' h' x b) t_is (subst (λ (x : List ℕ). P r' h' t' x) b_is p)))
 
 -- the other application, in the order of the first
-pub ordered_other : (reading : Bool) (held : List ℕ → Option (List ℕ)) (name : List ℕ) (first own : Network) (tree : SourceTree) (found : Result Network Stop) →
-    IsApp reading held name own → (IsTrue reading → IsSourceOf held name tree) → Stands tree own → IfOk found (IsInOrder first tree own) →
-    IfOk found (IsOther reading held name first)
-ordered_other reading held name first own tree (Ok second) app source stands ordered =
+pub ordered_other : (reading : Bool) (held : List ℕ → Option (List ℕ)) (name : List ℕ) (first own : Network) (tree : SourceTree) (found : Result OtherApp Stop) →
+    IsApp reading held name own → (IsTrue reading → IsSourceOf held name tree) → Stands tree own →
+    IfOk found (λ other. IsInOrder first tree own (second_of other)) → IfOk found (λ other. IsOther reading held name first (second_of other))
+ordered_other reading held name first own tree (Ok other) app source stands ordered =
     record { own = own; tree = tree; app = app; source = source; stands = stands; ordered = ordered }
 ordered_other reading held name first own tree (Err stop) app source stands ordered = tt
 
 -- where memory is wanting for it, nothing was written, and no file was not read
-module _ (found : Result Network Stop) (wanting : IfErr found (λ stop. stop ≡ NoMemory)) where
+module _ (found : Result OtherApp Stop) (wanting : IfErr found (λ stop. stop ≡ NoMemory)) where
   pub stops_wanting : (reading : Bool) (held : List ℕ → Option (List ℕ)) (name : List ℕ) (tells : Bool) (before after : List ℕ) → after ≡ before →
       IfErr found (λ stop. StopsAtOther reading held name stop tells before after)
   stops_wanting reading held name tells before after same = stops_by found wanting
     where
-      stops_by : (r : Result Network Stop) → IfErr r (λ stop. stop ≡ NoMemory) → IfErr r (λ stop. StopsAtOther reading held name stop tells before after)
+      stops_by : (r : Result OtherApp Stop) → IfErr r (λ stop. stop ≡ NoMemory) → IfErr r (λ stop. StopsAtOther reading held name stop tells before after)
       stops_by (Ok second) h = tt
       stops_by (Err stop) h = (NoMemory, h, λ told. same)
 
   pub reads_wanting : (P : Type 0) → IfErr found (λ stop. IsUnread stop → P)
   reads_wanting P = reads_by found wanting
     where
-      reads_by : (r : Result Network Stop) → IfErr r (λ stop. stop ≡ NoMemory) → IfErr r (λ stop. IsUnread stop → P)
+      reads_by : (r : Result OtherApp Stop) → IfErr r (λ stop. stop ≡ NoMemory) → IfErr r (λ stop. IsUnread stop → P)
       reads_by (Ok second) h = tt
       reads_by (Err stop) h = λ unread. let is : IsUnread NoMemory = subst IsUnread h unread in let no : ⊥ = cc in absurd no
 
   pub writes_wanting : (P : Type 0) → IsErrOf found Unwritten → P
   writes_wanting P = writes_by found wanting
     where
-      writes_by : (r : Result Network Stop) → IfErr r (λ stop. stop ≡ NoMemory) → IsErrOf r Unwritten → P
+      writes_by : (r : Result OtherApp Stop) → IfErr r (λ stop. stop ≡ NoMemory) → IsErrOf r Unwritten → P
       writes_by (Ok second) h e = absurd e
       writes_by (Err stop) h e = let no : ⊥ = cc in absurd no
 

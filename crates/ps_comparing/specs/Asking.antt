@@ -9,6 +9,7 @@ use Rattle.ps_bench_base.specs.declared.ending.Status.{Status}
 use Rattle.ps_bench_base.specs.declared.ending.Status.TheVariants.{Usage}
 use Rattle.ps_bench_base.specs.declared.ending.Stop.{Stop}
 use Rattle.ps_bench_base.specs.declared.ending.Stop.TheVariants.{App, Cases, Input, NoMemory, UnreadApp, UnreadCases, Unwritten}
+use Rattle.ps_comparing.specs.declared.comparing.OtherApp.{OtherApp}
 use Rattle.ps_forbidding.specs.Asking.{StopsFor, at_least_one, status_by}
 use Rattle.ps_model.specs.Network.{Network}
 use Rattle.ps_model.specs.declared.channel.ImageSizes.{ImageSizes}
@@ -76,6 +77,10 @@ IsApp reading held name net = (sizes : ImageSizes) × IsOfApp (source net sizes 
 -- what stands for the source in the order of the first application, and where nothing does the application as it is
 abbrev pub IsInOrder : (first : Network) → SourceTree → (own second : Network) → Type 0
 IsInOrder first tree own second = (found : Option Network) × IsArranged first tree found × (second ≡ unwrap_or found own)
+
+-- what the code compares with the first application
+abbrev pub second_of : OtherApp → Network
+second_of other = unwrap_or other.ordered other.sourced.opened.app
 
 -- What is compared with the first application: the one of this name, with its inputs and outputs in the order of the
 -- first.

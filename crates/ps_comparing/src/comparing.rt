@@ -2,7 +2,7 @@
 
 ghost use Rattle.std.specs.Prelude.{◌≡◌, ◌<◌, ◌≤◌, ◌∷◌, ℕ, List, Any, IfOk, IfErr, IsErrOf, OnOk, option_map};
 ghost use Rattle.ps_bench_base.specs.Ending.{IsUnread};
-ghost use Rattle.ps_comparing.specs.Asking.{AnswersSame, EndsBy, EndsOf, EndsWith, IsInOrder, IsOther, StopsAtOther, StopsSame, at_other, files_of};
+ghost use Rattle.ps_comparing.specs.Asking.{AnswersSame, EndsBy, EndsOf, EndsWith, IsInOrder, IsOther, StopsAtOther, StopsSame, at_other, files_of, second_of};
 ghost use Rattle.ps_outside.specs.Outside.{Rose};
 ghost use Rattle.ps_same.specs.Answering.{names_of};
 ghost use Rattle.ps_verdict.specs.Comparing.{two_of};
@@ -110,22 +110,32 @@ fn at_other(stop: Stop) -> Stop
     }
 }
 
-// The application alone.
-fn app_of(opened: Opened) -> App
-    ensures { result ≡ opened.app }
-{
-    let Opened { app, sizes: _ } = opened;
-    app
+// The other application with its source, and what stands for that in the order of the first, if something does.
+#[derive(Drop)]
+struct OtherApp {
+    sourced: Sourced,
+    ordered: Option<App>,
 }
 
-// What stands for a source in the order of the first application, and where nothing does the application as it is.
-fn in_order(alloc: Global, first: &App, sourced: Sourced) -> Result<App, Stop>
-    ensures ordered { IfOk result (IsInOrder first.now sourced.source sourced.opened.app) }
+impl OtherApp {
+    // What is compared with the first.
+    fn app(&self) -> &App
+        ensures { result.now ≡ second_of self.now }
+    {
+        match &self.ordered {
+            Some(app) => app,
+            None => &self.sourced.opened.app,
+        }
+    }
+}
+
+// An application with its source, and what stands for that in the order of the first.
+fn in_order(alloc: Global, first: &App, mut sourced: Sourced) -> Result<OtherApp, Stop>
+    ensures ordered { IfOk result (λ other. IsInOrder first.now sourced.source sourced.opened.app (second_of other)) }
     ensures stops { IfErr result (λ stop. stop ≡ Stop.NoMemory) }
 {
-    let Sourced { source, opened } = sourced;
-    match app_arranged(alloc, first, source) {
-        Ok(found) => Ok(found.unwrap_or(app_of(opened))),
+    match app_arranged(alloc, first, &mut sourced.source) {
+        Ok(ordered) => Ok(OtherApp { sourced, ordered }),
         Err(Memory) => Err(Stop::NoMemory),
     }
 }
@@ -138,8 +148,8 @@ fn open_other<F: Files, O: Output>(
     out: &mut O,
     first: &App,
     name: &str,
-) -> Result<App, Stop>
-    ensures app { IfOk result (IsOther (F.tells files.old) (F.held files.old) name.now first.now) }
+) -> Result<OtherApp, Stop>
+    ensures app { IfOk result (λ other. IsOther (F.tells files.old) (F.held files.old) name.now first.now (second_of other)) }
     ensures stops { IfErr result (λ stop. StopsAtOther (F.tells files.old) (F.held files.old) name.now stop
         (O.tells out.old) (O.taken out.old) (O.taken out.new)) }
     ensures unread { IfErr result (λ stop. IsUnread stop →
@@ -183,11 +193,11 @@ fn same_with<F: Files, O: Output, L: Listener>(
                 app: &opened.app,
                 name: asked.app,
             };
-            let other = Named {
-                app: &other,
+            let second = Named {
+                app: other.app(),
                 name: asked.other,
             };
-            let compared = Compared::of(first, other, at_least_one(asked.states));
+            let compared = Compared::of(first, second, at_least_one(asked.states));
             same_of(alloc, files, out, listener, &compared, asked.rules)
         }
         Err(stop) => Err(stop),

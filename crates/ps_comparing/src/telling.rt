@@ -37,13 +37,22 @@ fn add_counts(text: &mut Bytes, what: &[u8], count: u16, other: u16) -> Result<(
     text.extend_from_slice(b" in the other\n")
 }
 
+// What a signal is not, where the other application has none of its name.
+fn missing_text(app: &App, signal: u16) -> &'static [u8] {
+    if signal < app.input_count() {
+        b" of the first is no input of the other\n"
+    } else {
+        b" of the first is no output of the other\n"
+    }
+}
+
 // An input or output has another type in the other application, or is none there.
 fn add_signals(text: &mut Bytes, app: &App, other: &App, signal: u16) -> Result<(), Memory> {
     let (name, found) = (signal_text(app, signal), signal_text(other, signal));
     text.extend_from_slice(name)?;
     text.extend_from_slice(type_text(app, signal))?;
     if !name.eq_ignore_ascii_case(found) {
-        return text.extend_from_slice(b" of the first is no input or output of its kind in the other\n");
+        return text.extend_from_slice(missing_text(app, signal));
     }
     text.extend_from_slice(b" of the first is ")?;
     text.extend_from_slice(found)?;

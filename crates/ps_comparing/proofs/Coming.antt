@@ -51,7 +51,7 @@ module _ (found : Result OtherApp Stop) (wanting : IfErr found (λ stop. stop �
   writes_wanting P = writes_by found wanting
     where
       writes_by : (r : Result OtherApp Stop) → IfErr r (λ stop. stop ≡ NoMemory) → IsErrOf r Unwritten → P
-      writes_by (Ok second) h e = absurd e
+      writes_by (Ok second) h e = let no : ⊥ = cc in absurd no
       writes_by (Err stop) h e = let no : ⊥ = cc in absurd no
 
 -- a call that has both applications

@@ -57,8 +57,8 @@ arranged_kept net tree h = record {
   whole = (
     h.whole.0,
     all_append (SectionWhole IsDottedName) (flat_map (λ s. taken (is_shared_at net s) tree.sections) (range_with_len 0 (shared_count net)))
-    (taken (λ text. not (is_shared net text)) tree.sections) (numbers_taken net tree.sections h.whole.1 (range_with_len 0 (shared_count net)))
-    (sections_taken (λ text. not (is_shared net text)) tree.sections h.whole.1),
+        (taken (λ text. not (is_shared net text)) tree.sections) (numbers_taken net tree.sections h.whole.1 (range_with_len 0 (shared_count net)))
+        (sections_taken (λ text. not (is_shared net text)) tree.sections h.whole.1),
     h.whole.2,
   );
   shallow = h.shallow;

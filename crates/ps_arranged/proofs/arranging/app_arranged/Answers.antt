@@ -10,6 +10,7 @@ returns-in-Ok c = subst (λ (t : SourceTree). Stands t c.in-Ok.other) c.in_ok-ar
 
 pub returns-in-Err-Refused : goal.returns-in-Err-Refused
 returns-in-Err-Refused c =
-    let is = rw c.in-Err-Refused.field-0-is at c.in-Err-Refused.ensures in
-    (c.in-Err-Refused.field-0-0,
-    subst (λ (t : SourceTree). refused (offences t) ≡ Some c.in-Err-Refused.field-0-0) c.in_ok-arrange.ensures is)
+    let is = rw c.in-Err-Refused.field-0-is at c.in-Err-Refused.ensures in (
+      c.in-Err-Refused.field-0-0,
+      subst (λ (t : SourceTree). refused (offences t) ≡ Some c.in-Err-Refused.field-0-0) c.in_ok-arrange.ensures is,
+    )

@@ -211,8 +211,8 @@ fn same_with<F: Files, O: Output, L: Listener>(
 /// The status is Done where no output differs, and Failed where one does or it stays open. It is Usage where the file
 /// asks for scans at any times, and where over 20 inputs are free and no file is named: that is told, and nothing is
 /// written. The call stops by `Unlike`, which is told, where they have not the same inputs and outputs, of the same
-/// names (letter case aside) and types: the other is compared with its own in the order of the first. Where an application or the file is refused, the line of the
-/// refusal is written in its place.
+/// names (letter case aside) and types: the other is compared with its own in the order of the first. Where an
+/// application or the file is refused, the line of the refusal is written in its place.
 ///
 /// A file that cannot be read is one of the three, whose count of the files rose in this call; `Unwritten` comes only
 /// where the output's count rose.

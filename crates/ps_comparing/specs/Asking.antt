@@ -1,5 +1,6 @@
 -- What `same` writes of two applications and a rules file, and how it stops.
-use Rattle.std.specs.Prelude.{◌≡◌, ◌⊎◌, ℕ, Bool, List, ◌∷◌, Option, Result, Ok, Err}
+use Rattle.std.specs.Prelude.{◌≡◌, ◌⊎◌, ℕ, Bool, IsTrue, List, ◌∷◌, Option, unwrap_or, Result, Ok, Err}
+use Rattle.ps_arranged.specs.Arranging.{IsArranged}
 use Rattle.ps_bench_base.specs.Opening.{IsOfApp, source}
 use Rattle.ps_bench_base.specs.Stopping.{StopsAtApp, Took, TookNothing, TookSome}
 use Rattle.ps_bench_base.specs.declared.ending.Input.TheVariants.{Other, Rules}
@@ -8,15 +9,19 @@ use Rattle.ps_bench_base.specs.declared.ending.Status.{Status}
 use Rattle.ps_bench_base.specs.declared.ending.Status.TheVariants.{Usage}
 use Rattle.ps_bench_base.specs.declared.ending.Stop.{Stop}
 use Rattle.ps_bench_base.specs.declared.ending.Stop.TheVariants.{App, Cases, Input, NoMemory, UnreadApp, UnreadCases, Unwritten}
+use Rattle.ps_comparing.specs.declared.comparing.OtherApp.{OtherApp}
 use Rattle.ps_forbidding.specs.Asking.{StopsFor, at_least_one, status_by}
 use Rattle.ps_model.specs.Network.{Network}
 use Rattle.ps_model.specs.declared.channel.ImageSizes.{ImageSizes}
+use Rattle.ps_names.specs.Stands.{Stands}
+use Rattle.ps_parser.specs.Tree.{SourceTree}
 use Rattle.ps_same.specs.Answering.{IsFound, names_of}
 use Rattle.ps_same.specs.Likeness.{AreLike}
-use Rattle.ps_same.specs.Telling.{Two}
+use Rattle.ps_verdict.specs.Comparing.{Two}
 use Rattle.ps_same.specs.declared.answering.SameFail.{SameFail}
 use Rattle.ps_same.specs.declared.answering.SameFail.TheVariants.{AnyTimes, Fault, ManyFree, Memory, Refused}
 use Rattle.ps_same.specs.declared.answering.Told.{Told}
+use Rattle.ps_sourced.specs.Sourcing.{IsSourceOf}
 
 -- the two applications of these names, of whose pairs of states so many may be held, 1 for 0
 abbrev pub two : (net other : Network) → (app other_app : List ℕ) → (states : ℕ) → Two
@@ -69,15 +74,33 @@ StopsAtOther reading held name stop tells before after =
 abbrev pub IsApp : (reading : Bool) (held : List ℕ → Option (List ℕ)) → (name : List ℕ) → Network → Type 0
 IsApp reading held name net = (sizes : ImageSizes) × IsOfApp (source net sizes reading held) name
 
+-- what stands for the source in the order of the first application, and where nothing does the application as it is
+abbrev pub IsInOrder : (first : Network) → SourceTree → (own second : Network) → Type 0
+IsInOrder first tree own second = (found : Option Network) × IsArranged first tree found × (second ≡ unwrap_or found own)
+
+-- what the code compares with the first application
+abbrev pub second_of : OtherApp → Network
+second_of other = unwrap_or other.ordered other.sourced.opened.app
+
+-- What is compared with the first application: the one of this name, with its inputs and outputs in the order of the
+-- first.
+pub record IsOther (reading : Bool) (held : List ℕ → Option (List ℕ)) (name : List ℕ) (first second : Network) : Type 0 where
+  pub own : Network
+  pub tree : SourceTree
+  pub app : IsApp reading held name own
+  pub source : IsTrue reading → IsSourceOf held name tree
+  pub stands : Stands tree own
+  pub ordered : IsInOrder first tree own second
+
 -- How a call ends that has the first application: it gets no other one, or it has both.
 abbrev pub EndsWith : (first : Network) → (app other : List ℕ) → (rules : Option (List ℕ)) → (states : ℕ) → (reading : Bool)
     (held : List ℕ → Option (List ℕ)) → (tells : Bool) → (before after : List ℕ) → Result Status Stop → Type 0
 EndsWith first app other rules states reading held tells before after (Ok status) =
-    (second : Network) × IsApp reading held other second
+    (second : Network) × IsOther reading held other first second
     × EndsOf (two first second app other states) rules reading held tells before after (Ok status)
 EndsWith first app other rules states reading held tells before after (Err stop) =
     StopsAtOther reading held other stop tells before after
-    ⊎ ((second : Network) × IsApp reading held other second
+    ⊎ ((second : Network) × IsOther reading held other first second
     × EndsOf (two first second app other states) rules reading held tells before after (Err stop))
 
 -- What `same` answers of the applications of these names.

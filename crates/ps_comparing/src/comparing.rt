@@ -2,19 +2,23 @@
 
 ghost use Rattle.std.specs.Prelude.{◌≡◌, ◌<◌, ◌≤◌, ◌∷◌, ℕ, List, Any, IfOk, IfErr, IsErrOf, OnOk, option_map};
 ghost use Rattle.ps_bench_base.specs.Ending.{IsUnread};
-ghost use Rattle.ps_bench_base.specs.Opening.{IsOfApp, source};
-ghost use Rattle.ps_comparing.specs.Asking.{AnswersSame, EndsBy, EndsOf, EndsWith, StopsAtOther, StopsSame, at_other, files_of};
+ghost use Rattle.ps_comparing.specs.Asking.{AnswersSame, EndsBy, EndsOf, EndsWith, IsInOrder, IsOther, StopsAtOther, StopsSame, at_other, files_of, second_of};
 ghost use Rattle.ps_outside.specs.Outside.{Rose};
 ghost use Rattle.ps_same.specs.Answering.{names_of};
-ghost use Rattle.ps_same.specs.Telling.{two_of};
+ghost use Rattle.ps_verdict.specs.Comparing.{two_of};
 
 use crate::telling::{tell_many_free, tell_unlike};
+use ps_arranged::app_arranged;
+use ps_base::Memory;
 use ps_bench_base::{Input, InputStop, Opened, Status, Stop, open_app};
 use ps_forbidding::{at_least_one, refuse_rules, write_told};
 use ps_hearing::Listener;
+use ps_model::App;
 use ps_outside::{Files, Output};
-use ps_same::{Compared, SameFail, Told, answer, first_unlike};
+use ps_same::{SameFail, Told, answer, first_unlike};
+use ps_sourced::{Sourced, open_sourced};
 use ps_telling::tell_any_times;
+use ps_verdict::{Compared, Named};
 use std::alloc::Global;
 
 /// What `same` is asked.
@@ -106,15 +110,46 @@ fn at_other(stop: Stop) -> Stop
     }
 }
 
-// The other application, of this name. Where it is refused the line of the refusal is written.
+// The other application with its source, and what stands for that in the order of the first, if something does.
+#[derive(Drop)]
+struct OtherApp {
+    sourced: Sourced,
+    ordered: Option<App>,
+}
+
+impl OtherApp {
+    // What is compared with the first.
+    fn app(&self) -> &App
+        ensures { result.now ≡ second_of self.now }
+    {
+        match &self.ordered {
+            Some(app) => app,
+            None => &self.sourced.opened.app,
+        }
+    }
+}
+
+// An application with its source, and what stands for that in the order of the first.
+fn in_order(alloc: Global, first: &App, mut sourced: Sourced) -> Result<OtherApp, Stop>
+    ensures ordered { IfOk result (λ other. IsInOrder first.now sourced.source sourced.opened.app (second_of other)) }
+    ensures stops { IfErr result (λ stop. stop ≡ Stop.NoMemory) }
+{
+    match app_arranged(alloc, first, &mut sourced.source) {
+        Ok(ordered) => Ok(OtherApp { sourced, ordered }),
+        Err(Memory) => Err(Stop::NoMemory),
+    }
+}
+
+// The other application, of this name, in the order of the first one. Where it is refused the line of the refusal is
+// written.
 fn open_other<F: Files, O: Output>(
     alloc: Global,
     files: &mut F,
     out: &mut O,
+    first: &App,
     name: &str,
-) -> Result<Opened, Stop>
-    ensures app { IfOk result (λ opened. IsOfApp
-        (source opened.app opened.sizes (F.tells files.old) (F.held files.old)) name.now) }
+) -> Result<OtherApp, Stop>
+    ensures app { IfOk result (λ other. IsOther (F.tells files.old) (F.held files.old) name.now first.now (second_of other)) }
     ensures stops { IfErr result (λ stop. StopsAtOther (F.tells files.old) (F.held files.old) name.now stop
         (O.tells out.old) (O.taken out.old) (O.taken out.new)) }
     ensures unread { IfErr result (λ stop. IsUnread stop →
@@ -127,8 +162,8 @@ fn open_other<F: Files, O: Output>(
     ensures reading { F.tells files.new ≡ F.tells files.old }
     ensures telling { O.tells out.new ≡ O.tells out.old }
 {
-    match open_app(alloc, files, out, name) {
-        Ok(opened) => Ok(opened),
+    match open_sourced(alloc, files, out, name) {
+        Ok(sourced) => in_order(alloc, first, sourced),
         Err(stop) => Err(at_other(stop)),
     }
 }
@@ -152,15 +187,17 @@ fn same_with<F: Files, O: Output, L: Listener>(
     ensures writes { O.faults out.old ≤ O.faults out.new }
     ensures telling { O.tells out.new ≡ O.tells out.old }
 {
-    match open_other(alloc, files, out, asked.other) {
+    match open_other(alloc, files, out, &opened.app, asked.other) {
         Ok(other) => {
-            let compared = Compared {
+            let first = Named {
                 app: &opened.app,
                 name: asked.app,
-                other: &other.app,
-                other_name: asked.other,
-                most: at_least_one(asked.states),
             };
+            let second = Named {
+                app: other.app(),
+                name: asked.other,
+            };
+            let compared = Compared::of(first, second, at_least_one(asked.states));
             same_of(alloc, files, out, listener, &compared, asked.rules)
         }
         Err(stop) => Err(stop),
@@ -173,9 +210,9 @@ fn same_with<F: Files, O: Output, L: Listener>(
 ///
 /// The status is Done where no output differs, and Failed where one does or it stays open. It is Usage where the file
 /// asks for scans at any times, and where over 20 inputs are free and no file is named: that is told, and nothing is
-/// written. The call stops by `Unlike`, which is told, where they have not the same inputs and outputs, in the same
-/// order, of the same names (letter case aside) and types. Where an application or the file is refused, the line of the
-/// refusal is written in its place.
+/// written. The call stops by `Unlike`, which is told, where they have not the same inputs and outputs, of the same
+/// names (letter case aside) and types: the other is compared with its own in the order of the first. Where an
+/// application or the file is refused, the line of the refusal is written in its place.
 ///
 /// A file that cannot be read is one of the three, whose count of the files rose in this call; `Unwritten` comes only
 /// where the output's count rose.

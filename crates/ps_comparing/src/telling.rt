@@ -5,13 +5,14 @@ use ps_bench_base::pieces::{add_short, add_shown};
 use ps_hearing::{Listener, hear_bytes};
 use ps_model::{App, is_safe};
 use ps_never::signal_text;
-use ps_same::{Compared, Unlike};
+use ps_same::Unlike;
 use ps_statuses::NO_MEMORY;
+use ps_verdict::Compared;
 use std::alloc::Global;
 
 // What helps where inputs and outputs are not the same.
 const REMEDY: &[u8] =
-    b"same compares applications with the same inputs and outputs in the same order (docs/never.md)\n";
+    b"same compares applications whose inputs and outputs have the same names and types (docs/never.md)\n";
 
 // What is told where too many inputs are free, and no rules file says which.
 const MANY_FREE: &str =
@@ -36,14 +37,27 @@ fn add_counts(text: &mut Bytes, what: &[u8], count: u16, other: u16) -> Result<(
     text.extend_from_slice(b" in the other\n")
 }
 
-// An input or output stands where another one does, by its name and type.
+// What a signal is not, where the other application has none of its name.
+fn missing_text(app: &App, signal: u16) -> &'static [u8] {
+    if signal < app.input_count() {
+        b" of the first is no input of the other\n"
+    } else {
+        b" of the first is no output of the other\n"
+    }
+}
+
+// An input or output has another type in the other application, or is none there.
 fn add_signals(text: &mut Bytes, app: &App, other: &App, signal: u16) -> Result<(), Memory> {
-    text.extend_from_slice(signal_text(app, signal))?;
+    let (name, found) = (signal_text(app, signal), signal_text(other, signal));
+    text.extend_from_slice(name)?;
     text.extend_from_slice(type_text(app, signal))?;
-    text.extend_from_slice(b" of the first stands where ")?;
-    text.extend_from_slice(signal_text(other, signal))?;
+    if !name.eq_ignore_ascii_case(found) {
+        return text.extend_from_slice(missing_text(app, signal));
+    }
+    text.extend_from_slice(b" of the first is ")?;
+    text.extend_from_slice(found)?;
     text.extend_from_slice(type_text(other, signal))?;
-    text.extend_from_slice(b" does in the other\n")
+    text.extend_from_slice(b" in the other\n")
 }
 
 // What is told where inputs and outputs are not the same.

@@ -9,12 +9,13 @@ ghost use Rattle.ps_rules.specs.declared.rules.Pace.TheVariants.{Every as ComesE
 ghost use Rattle.ps_ruling.specs.Asked.{IsAskedBy};
 ghost use Rattle.ps_never.specs.Answering.{HasManyFree, IsToldBy};
 
-use crate::telling::{Asking, do_all_hold, told};
+use crate::telling::{Asking, told};
 use ps_base::{Bytes, Memory};
 use ps_model::App;
 use ps_reach::{Asked, MOST_FREE, free_inputs, never};
 use ps_rules::{Flaw, RulesFile, RulesRefusal};
 use ps_ruling::asked_of;
+use ps_verdict::do_all_hold;
 use std::alloc::Global;
 
 /// What is told of the rules of a file.

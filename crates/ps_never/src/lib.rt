@@ -11,4 +11,4 @@ mod telling;
 pub use answering::{NeverFail, Told, answer_every, asked_if_few};
 pub use casing::{add_case, add_set};
 pub use pieces::signal_text;
-pub use telling::{Asking, add_count, add_head, add_met, add_unmet, do_all_hold};
+pub use telling::{Asking, add_count, add_head, add_met, add_unmet};

@@ -10,7 +10,8 @@ use Rattle.ps_reach.specs.declared.asked.Asked.{Asked}
 use Rattle.ps_rules.specs.declared.rules.RulesFile.{RulesFile}
 use Rattle.ps_search.specs.declared.answer.Path.{Path}
 use Rattle.ps_same.specs.Answering.{IsToldBy}
-use Rattle.ps_same.specs.Telling.{Two, met_text}
+use Rattle.ps_verdict.specs.Comparing.{Two}
+use Rattle.ps_same.specs.Telling.{met_text}
 use Rattle.ps_same.specs.declared.answering.Told.{Told}
 
 -- The scans of a run are told with one output, which behind them is TRUE in one application and FALSE in the other.

@@ -9,12 +9,11 @@ ghost use Rattle.ps_rules.specs.declared.flaw.RulesRefusal.{RulesRefusal as Rule
 ghost use Rattle.ps_rules.specs.declared.rules.Pace.TheVariants.{Any as AtAnyTimes};
 ghost use Rattle.ps_rules.specs.declared.rules.Follow.{Follow as FollowOf};
 ghost use Rattle.ps_same.specs.Answering.{HasManyFree, IsFound, IsFoundBy, IsFoundOf, IsFoundPlain, IsToldBy, are_shared, names_of, no_settings, refused_by};
-ghost use Rattle.ps_same.specs.Telling.{two_of};
+ghost use Rattle.ps_verdict.specs.Comparing.{two_of};
 
-use crate::telling::{Compared, told};
+use crate::telling::told;
 use ps_base::{Bytes, Memory};
 use ps_model::App;
-use ps_never::do_all_hold;
 use ps_outside::Files;
 use ps_pairs::{asked_of_outputs, compare};
 use ps_reach::{MOST_FREE, free_inputs};
@@ -23,6 +22,7 @@ use ps_rules::{
 };
 use ps_ruling::inputs_of_two;
 use ps_terms::Settings;
+use ps_verdict::{Compared, do_all_hold};
 use std::alloc::Global;
 
 /// What is told of two applications.

@@ -12,4 +12,3 @@ mod telling;
 
 pub use answering::{SameFail, Told, answer};
 pub use likeness::{Unlike, first_unlike};
-pub use telling::Compared;

@@ -13,7 +13,8 @@ ghost use Rattle.ps_search.specs.declared.answer.Found.{Found as FoundOf};
 ghost use Rattle.ps_search.specs.declared.answer.Path.{Path as PathOf};
 ghost use Rattle.ps_same.specs.Telling.{IsSaid, alike, counts_text, difference_case, expects_text, failing_text, fails_text};
 ghost use Rattle.ps_same.specs.Telling.{first_place, first_text, met_text, names_text, other_text, output_text, outputs_text};
-ghost use Rattle.ps_same.specs.Telling.{pairs_text, place_text, remark_text, scans_text, shortage_text, two_of, unmet_text, value_text};
+ghost use Rattle.ps_same.specs.Telling.{pairs_text, place_text, remark_text, scans_text, shortage_text, unmet_text, value_text};
+ghost use Rattle.ps_verdict.specs.Comparing.{two_of};
 
 use ps_base::{Bytes, Memory};
 use ps_bench_base::pieces::{add_count, add_shown};
@@ -22,22 +23,8 @@ use ps_never::{add_case, add_set, signal_text};
 use ps_pairs::outputs_behind;
 use ps_reach::{Asked, inputs_of};
 use ps_search::{End, Found, Path};
+use ps_verdict::{Behind, Compared};
 use std::alloc::Global;
-
-/// Two applications that are compared, which have the same inputs and outputs.
-#[derive(Clone, Copy)]
-pub struct Compared<'a> {
-    /// The first.
-    pub app: &'a App,
-    /// The name of its file.
-    pub name: &'a str,
-    /// The other.
-    pub other: &'a App,
-    /// The name of its file.
-    pub other_name: &'a str,
-    /// How many pairs of their states may be held.
-    pub most: u32,
-}
 
 // The names of both.
 fn add_names(text: &mut Bytes, compared: &Compared<'_>) -> Result<(), Memory>
@@ -309,20 +296,27 @@ fn add_met(
     compared: &Compared<'_>,
     asked: &Asked,
     path: &Path,
-    values: &[bool],
-    others: &[bool],
+    behind: &Behind<'_>,
 ) -> Result<(), Memory>
     requires says { SaysOfEach compared.now.app.now asked.now }
-    requires values { length values.now ≡ length compared.now.app.now.outputs }
-    requires others { length others.now ≡ length values.now }
-    ensures { OnOk result (text.new ≡ text.old ++ met_text (two_of compared.now) asked.now path.now.inputs.items values.now others.now
-        (first_place values.now others.now)) }
+    requires values { length behind.now.first.now ≡ length compared.now.app.now.outputs }
+    requires others { length behind.now.other.now ≡ length behind.now.first.now }
+    ensures { OnOk result (text.new ≡ text.old ++ met_text (two_of compared.now) asked.now path.now.inputs.items
+        behind.now.first.now behind.now.other.now (first_place behind.now.first.now behind.now.other.now)) }
 {
-    let place = first_place(values, others);
+    let place = first_place(behind.first, behind.other);
     add_failing(text, compared, path.inputs.len() as u64)?;
-    add_place(text, compared.app, values, others, place)?;
+    add_place(text, compared.app, behind.first, behind.other, place)?;
     add_remark(text, compared)?;
-    add_difference(text, alloc, compared.app, asked, path, values, place)
+    add_difference(
+        text,
+        alloc,
+        compared.app,
+        asked,
+        path,
+        behind.expected(),
+        place,
+    )
 }
 
 // What is told where the search found scans behind which an output differs.
@@ -336,16 +330,12 @@ fn met(alloc: Global, compared: &Compared<'_>, asked: &Asked, path: &Path) -> Re
 {
     let values = outputs_behind(alloc, compared.app, asked, path)?;
     let others = outputs_behind(alloc, compared.other, asked, path)?;
+    let behind = Behind {
+        first: values.as_slice(),
+        other: others.as_slice(),
+    };
     let mut text = Bytes::new(alloc);
-    add_met(
-        &mut text,
-        alloc,
-        compared,
-        asked,
-        path,
-        values.as_slice(),
-        others.as_slice(),
-    )?;
+    add_met(&mut text, alloc, compared, asked, path, &behind)?;
     Ok(text)
 }
 

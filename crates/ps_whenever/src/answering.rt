@@ -9,13 +9,14 @@ ghost use Rattle.ps_rules.specs.declared.rules.Pace.TheVariants.{Any as AtAnyTim
 ghost use Rattle.ps_never.specs.Answering.{HasManyFree};
 ghost use Rattle.ps_whenever.specs.Answering.{IsRefusedFor, IsTold, IsToldOf, IsToldOfAny};
 
-use crate::searching::{attempts_of, holds_whole, paces_of};
+use crate::searching::attempts_of;
 use crate::telling::{Searched, told};
 use ps_anytime::never_at_any_times;
 use ps_model::App;
 use ps_never::{NeverFail, Told, answer_every, asked_if_few};
 use ps_outside::Files;
 use ps_rules::{Pace, Purpose, RulesFail, RulesFile, read_rules};
+use ps_verdict::{holds_whole, paces_of};
 use std::alloc::Global;
 
 // The answer to a rules file that is read, whose scans come at any times.

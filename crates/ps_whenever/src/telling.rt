@@ -2,11 +2,11 @@
 
 ghost use Rattle.std.specs.Prelude.{◌≡◌, ◌++◌, IfOk, OnOk};
 ghost use Rattle.std.specs.List.{All};
-ghost use Rattle.std.specs.Option.{option_copied};
 ghost use Rattle.ps_never.specs.Telling.{met_text};
 ghost use Rattle.ps_reach.specs.Promised.{SaysOfEach};
+ghost use Rattle.ps_verdict.specs.Holding.{path_at};
 ghost use Rattle.ps_whenever.specs.Answering.{SaysIn};
-ghost use Rattle.ps_whenever.specs.Telling.{left_text, path_at, rule_text, sought_of, told_text, uncased_text};
+ghost use Rattle.ps_whenever.specs.Telling.{left_text, rule_text, sought_of, told_text, uncased_text};
 ghost use Rattle.ps_whenever.specs.Telling.{untimed_text, whole_text, wide_text};
 
 use crate::searching::Attempt;
@@ -15,6 +15,7 @@ use ps_model::App;
 use ps_never::{Asking, add_count, add_head, add_met, add_unmet};
 use ps_rules::Rule;
 use ps_search::{Found, Path};
+use ps_verdict::path_at;
 use std::alloc::Global;
 
 /// What was searched, and what was found.
@@ -32,17 +33,6 @@ pub struct Searched<'a> {
     pub whole: &'a Option<Found>,
     /// What was found of scans some ms apart.
     pub attempts: &'a [Attempt],
-}
-
-// The run that was found of a rule, if one was.
-fn path_at(found: &Found, r: usize) -> Option<&Path>
-    ensures { option_copied result ≡ path_at found.now r }
-{
-    if r < found.paths.len() {
-        found.paths[r].as_ref()
-    } else {
-        None
-    }
 }
 
 // No case was found, and none so short is there.

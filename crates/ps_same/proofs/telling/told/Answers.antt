@@ -4,7 +4,8 @@ use Rattle.std.proofs.lemmas.Grind.{common_steps}
 use Rattle.ps_reach.specs.declared.asked.Asked.{Asked}
 use Rattle.ps_search.specs.declared.answer.Found.{Found}
 use Rattle.ps_search.specs.declared.answer.Path.{Path}
-use Rattle.ps_same.specs.Telling.{IsSaid, Two, two_of}
+use Rattle.ps_verdict.specs.Comparing.{Two, two_of}
+use Rattle.ps_same.specs.Telling.{IsSaid}
 use Rattle.ps_same.proofs.telling.told.Goals as goal
 
 said_of : {E : Type 0} (t : Two) (q : Asked) (found : Found) (path : Path) (r : Result (List ℕ) E) → slice_get found.paths.items 0 ≡ Some (Some path) →

@@ -1,7 +1,8 @@
 use Rattle.std.proofs.Common.{◌≡◌, ◌<◌, ◌++◌, ◌∙◌, ℕ, List, OnOk, Some, length, sym, ap, subst, arith}
 use Rattle.std.specs.Option.{option_copied}
 use Rattle.std.proofs.lemmas.List.{drop_all}
-use Rattle.ps_whenever.specs.Telling.{first_text, path_at, sought_of}
+use Rattle.ps_verdict.specs.Holding.{path_at}
+use Rattle.ps_whenever.specs.Telling.{first_text, sought_of}
 use Rattle.ps_whenever.specs.declared.searching.Attempt.{Attempt}
 use Rattle.ps_whenever.proofs.Finding.{met_here}
 use Rattle.ps_whenever.proofs.telling.add_rule.Goals as goal

@@ -1,0 +1,3 @@
+-- What the arrangement cites.
+pub mod Ranges
+pub mod Taking

@@ -1,2 +1,4 @@
+mod Changes
 mod Fronts
+mod Noticing
 mod Telling

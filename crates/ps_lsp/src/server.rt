@@ -1,18 +1,25 @@
 // The server: its open texts, and what it does for each method.
 
-ghost use Rattle.std.specs.Prelude.{◌≡◌, IfOk};
+ghost use Rattle.std.specs.Prelude.{◌≡◌, ℕ, List, IfOk, None, option_map};
 ghost use Rattle.serde_json.specs.View.{view};
+ghost use Rattle.ps_findings.specs.Findings.{Diagnoses};
+ghost use Rattle.ps_rpc.specs.Rpc.{value_of};
+ghost use Rattle.ps_source.specs.Answering.{IsFrontOf};
+ghost use Rattle.ps_texts.specs.Texts.{held};
+ghost use Rattle.ps_lsp.specs.Asking.{uri_in};
 ghost use Rattle.ps_lsp.specs.Published.{TellsOf};
-ghost use Rattle.ps_lsp.specs.Serving.{IsAnswered};
+ghost use Rattle.ps_lsp.specs.Serving.{IsNotice, IsServed, IsTold, TellsIf, WithdrawsIf};
 
 use crate::asking::{changed_text, position_in, text_at, uri_of};
+use crate::fronts::front_of;
 use crate::published::{published, withdrawn};
 use crate::shown::{completion_value, definition_value, hover_value, symbols_value};
-use crate::texts::{Texts, front_of};
-use ps_base::{Memory, Place};
+use ps_base::Memory;
 use ps_columns::place_at;
-use ps_findings::findings_in;
-use ps_rpc::{Code, Outcome, Request, answer};
+use ps_findings::{Findings, findings_in};
+use ps_lookup::Asked;
+use ps_rpc::{Code, Outcome, Reply, Request, answer};
+use ps_texts::Texts;
 use serde_json::{Value, json};
 use std::alloc::{AllocError, Global};
 
@@ -27,22 +34,6 @@ pub enum Stage {
     Shut,
     /// It has been told to exit, after it was asked to shut down or without.
     Ended { orderly: bool },
-}
-
-/// What is sent for a message: the answer, and then a notice.
-pub struct Reply {
-    pub answer: Option<Value>,
-    pub notice: Option<Value>,
-}
-
-impl Drop for Reply {
-    // One call for whoever owns one, in place of a walk through all that it holds.
-    fn drop(self) {
-        let Reply {
-            answer: _,
-            notice: _,
-        } = self;
-    }
 }
 
 // What comes of a message: what its answer is to say, where it asks for one, and a notice.
@@ -62,7 +53,9 @@ impl Drop for Done {
 
 impl Done {
     // What the answer is to say, and the notice.
-    fn into_parts(self) -> (Outcome, Option<Value>) {
+    fn into_parts(self) -> (Outcome, Option<Value>)
+        ensures { result.1 ≡ self.notice }
+    {
         let Done { outcome, notice } = self;
         (outcome, notice)
     }
@@ -81,7 +74,9 @@ impl Drop for Server {
 }
 
 // A result, and no notice.
-fn given(value: Value) -> Done {
+fn given(value: Value) -> Done
+    ensures { result.notice ≡ None }
+{
     Done {
         outcome: Outcome::Given(value),
         notice: None,
@@ -89,7 +84,9 @@ fn given(value: Value) -> Done {
 }
 
 // Why there is no result.
-fn failed(code: Code, why: &'static str) -> Done {
+fn failed(code: Code, why: &'static str) -> Done
+    ensures { result.notice ≡ None }
+{
     Done {
         outcome: Outcome::Failed(code, why),
         notice: None,
@@ -97,7 +94,9 @@ fn failed(code: Code, why: &'static str) -> Done {
 }
 
 // A notice, where a message is a notification.
-fn told(notice: Value) -> Done {
+fn told(notice: Value) -> Done
+    ensures { result.notice ≡ Some notice }
+{
     Done {
         outcome: Outcome::Given(Value::Null),
         notice: Some(notice),
@@ -130,13 +129,12 @@ fn result_at(
     alloc: Global,
     asks: Asks,
     uri: &str,
-    text: &[u8],
-    place: Place,
+    asked: Asked,
 ) -> Result<Value, Memory> {
     match asks {
-        Asks::Hover => hover_value(alloc, text, place),
-        Asks::Completion => completion_value(alloc, text, place),
-        Asks::Definition => definition_value(alloc, uri, text, place),
+        Asks::Hover => hover_value(alloc, asked),
+        Asks::Completion => completion_value(alloc, asked),
+        Asks::Definition => definition_value(alloc, uri, asked),
     }
 }
 
@@ -157,13 +155,27 @@ impl Server {
         }
     }
 
+    // What is found in the text of a name as it is held; in an empty one, where it is not open.
+    fn found(&self, alloc: Global, uri: &str) -> Result<Findings, Memory>
+        ensures { IfOk result (λ findings. (text whole : List ℕ) → held self.now.texts uri.now ≡ Some text →
+            IsFrontOf text whole → Diagnoses text whole findings.first) }
+    {
+        match self.texts.text_of(uri) {
+            Some(text) => findings_in(alloc, text),
+            None => findings_in(alloc, &[]),
+        }
+    }
+
     // Holds the text of a name, and tells what is found in it.
     fn opened(&mut self, alloc: Global, uri: &str, text: &str) -> Result<Value, Memory>
         ensures { IfOk result (λ notice. TellsOf uri.now text.now (view notice)) }
     {
         let front = front_of(text);
-        let findings = findings_in(alloc, front)?;
         self.texts.hold(alloc, uri, front)?;
+        let findings = self.found(alloc, uri)?;
+        if findings.parses() {
+            self.texts.note_parsed(uri);
+        }
         published(alloc, uri, &findings)
     }
 
@@ -173,7 +185,10 @@ impl Server {
         alloc: Global,
         uri: Option<&str>,
         text: Option<&str>,
-    ) -> Result<Done, Memory> {
+    ) -> Result<Done, Memory>
+        ensures { IfOk result (λ done. TellsIf (option_map (λ s. s.now) uri.entry) (option_map (λ s. s.now) text.entry)
+            (option_map view done.notice)) }
+    {
         match (uri, text) {
             (Some(uri), Some(text)) => Ok(told(self.opened(alloc, uri, text)?)),
             _ => Ok(failed(Code::NoParams, "a text has a name and a text")),
@@ -181,7 +196,9 @@ impl Server {
     }
 
     // A text is closed.
-    fn close(&mut self, alloc: Global, request: &Request) -> Result<Done, Memory> {
+    fn close(&mut self, alloc: Global, request: &Request) -> Result<Done, Memory>
+        ensures { IfOk result (λ done. WithdrawsIf (uri_in (value_of request.now)) (option_map view done.notice)) }
+    {
         match uri_of(request) {
             Some(uri) => {
                 self.texts.let_go(uri);
@@ -192,21 +209,29 @@ impl Server {
     }
 
     // What comes of a question about a place of a text.
-    fn ask(&self, alloc: Global, request: &Request, asks: Asks) -> Result<Done, Memory> {
+    fn ask(&self, alloc: Global, request: &Request, asks: Asks) -> Result<Done, Memory>
+        ensures { IfOk result (λ done. done.notice ≡ None) }
+    {
         let (Some(uri), Some(position)) = (uri_of(request), position_in(request)) else {
             return Ok(failed(Code::NoParams, "a question has a text and a position"));
         };
         match self.texts.text_of(uri) {
             Some(text) => {
-                let place = place_at(text, position);
-                Ok(given(result_at(alloc, asks, uri, text, place)?))
+                let asked = Asked {
+                    text,
+                    parsed: self.texts.earlier_of(uri),
+                    place: place_at(text, position),
+                };
+                Ok(given(result_at(alloc, asks, uri, asked)?))
             }
             None => Ok(given(Value::Null)),
         }
     }
 
     // What comes of a question about a whole text.
-    fn ask_symbols(&self, alloc: Global, request: &Request) -> Result<Done, Memory> {
+    fn ask_symbols(&self, alloc: Global, request: &Request) -> Result<Done, Memory>
+        ensures { IfOk result (λ done. done.notice ≡ None) }
+    {
         let Some(uri) = uri_of(request) else {
             return Ok(failed(Code::NoParams, "a question has a text"));
         };
@@ -217,7 +242,11 @@ impl Server {
     }
 
     // What comes of a method while the server answers.
-    fn run(&mut self, alloc: Global, request: &Request, method: &str) -> Result<Done, Memory> {
+    #[tactic(auto, using(crate::proofs::Noticing::opened_notice, crate::proofs::Noticing::changed_notice,
+        crate::proofs::Noticing::closed_notice, crate::proofs::Noticing::no_notice_given))]
+    fn run(&mut self, alloc: Global, request: &Request, method: &str) -> Result<Done, Memory>
+        ensures { IfOk result (λ done. IsNotice (value_of request.now) method.now (option_map view done.notice)) }
+    {
         match method {
             "textDocument/didOpen" => {
                 self.open(
@@ -237,7 +266,11 @@ impl Server {
     }
 
     // What comes of a method, by how far the server is.
-    fn perform(&mut self, alloc: Global, request: &Request) -> Result<Done, Memory> {
+    #[tactic(auto, using(crate::proofs::Noticing::told_at_work, crate::proofs::Noticing::told_idle,
+        crate::proofs::Noticing::told_nameless, crate::proofs::Noticing::no_notice))]
+    fn perform(&mut self, alloc: Global, request: &Request) -> Result<Done, Memory>
+        ensures { IfOk result (λ done. IsTold self.old (value_of request.now) (option_map view done.notice)) }
+    {
         let Some(method) = request.method() else {
             return Ok(failed(Code::NoRequest, "a request has a method"));
         };
@@ -272,7 +305,7 @@ impl Server {
     /// What is sent for the message with this body: the answer, where it asks for one, and a notice, where it opens,
     /// changes or closes a text. It returns for any bytes. An error: memory is wanting.
     pub fn reply(&mut self, alloc: Global, body: &[u8]) -> Result<Reply, Memory>
-        ensures answered { IfOk result (IsAnswered body.now) }
+        ensures { IfOk result (IsServed self.old body.now) }
     {
         let request = Request::read(alloc, body)?;
         let (outcome, notice) = self.perform(alloc, &request)?.into_parts();

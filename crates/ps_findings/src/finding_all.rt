@@ -110,11 +110,7 @@ fn tokens_shown(alloc: Global, text: &[u8]) -> Result<TokenList, Memory> {
 }
 
 // The refusals of a text behind its first one: none where it is long.
-fn refusals_behind(
-    alloc: Global,
-    text: &[u8],
-    first: &Refusal,
-) -> Result<Vec<Refusal>, Memory> {
+fn refusals_behind(alloc: Global, text: &[u8], first: &Refusal) -> Result<Vec<Refusal>, Memory> {
     if text.len() <= LONGEST_SEARCHED {
         further_refusals(alloc, text, first)
     } else {

@@ -77,7 +77,10 @@ impl Sight {
             return Some(Declared { is_today: true, at });
         }
         let at = declaration_of(self.earlier(), name, self.earlier().len())?;
-        Some(Declared { is_today: false, at })
+        Some(Declared {
+            is_today: false,
+            at,
+        })
     }
 
     /// The type of a declared name.

@@ -1,4 +1,2 @@
-mod Changes
-mod Fronts
-mod Noticing
+mod Deciding
 mod Telling

@@ -1,9 +1,5 @@
 // What the parameters of a request say.
 
-ghost use Rattle.std.specs.Prelude.{◌≡◌, option_map};
-ghost use Rattle.ps_rpc.specs.Rpc.{value_of};
-ghost use Rattle.ps_lsp.specs.Asking.{changed_text as changed_to, text_param, uri_in};
-
 use ps_columns::Position;
 use ps_rpc::Request;
 use serde_json::Value;
@@ -15,16 +11,12 @@ fn number_at(params: &Value, path: &str) -> Option<u32> {
 }
 
 /// A text that the parameters say at a path.
-pub(crate) fn text_at<'a>(request: &'a Request, path: &str) -> Option<&'a str>
-    ensures { option_map (λ text. text.now) result ≡ text_param path.now (value_of request.now) }
-{
+pub(crate) fn text_at<'a>(request: &'a Request, path: &str) -> Option<&'a str> {
     request.params()?.pointer(path)?.as_str()
 }
 
 /// The name of the text that a request is about.
-pub(crate) fn uri_of(request: &Request) -> Option<&str>
-    ensures { option_map (λ text. text.now) result ≡ uri_in (value_of request.now) }
-{
+pub(crate) fn uri_of(request: &Request) -> Option<&str> {
     text_at(request, "/textDocument/uri")
 }
 
@@ -38,10 +30,7 @@ pub(crate) fn position_in(request: &Request) -> Option<Position> {
 }
 
 /// The text that a change leaves: the last of the whole texts that it gives.
-#[tactic(auto, using(crate::proofs::Changes::last_is))]
-pub(crate) fn changed_text(request: &Request) -> Option<&str>
-    ensures { option_map (λ text. text.now) result ≡ changed_to (value_of request.now) }
-{
+pub(crate) fn changed_text(request: &Request) -> Option<&str> {
     let changes = request.params()?.pointer("/contentChanges")?.as_array()?;
     changes.last()?.pointer("/text")?.as_str()
 }

@@ -6,7 +6,7 @@ ghost use Rattle.ps_base.specs.declared.limits.TheConstants.{LARGEST_SOURCE};
 use ps_base::limits::LARGEST_SOURCE;
 
 /// The bytes that decide of a text: all of it, or one more than the largest source has.
-#[tactic(auto, using(crate::proofs::Fronts::whole, crate::proofs::Fronts::front_of))]
+#[tactic(auto, using(crate::proofs::Deciding::whole, crate::proofs::Deciding::front_of))]
 pub(crate) fn front_of(text: &str) -> &[u8]
     ensures { result.now ≡ take (LARGEST_SOURCE + 1) text.now }
 {

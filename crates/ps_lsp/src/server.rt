@@ -1,14 +1,12 @@
 // The server: its open texts, and what it does for each method.
 
-ghost use Rattle.std.specs.Prelude.{◌≡◌, ℕ, List, IfOk, None, option_map};
+ghost use Rattle.std.specs.Prelude.{◌≡◌, ℕ, List, IfOk};
 ghost use Rattle.serde_json.specs.View.{view};
 ghost use Rattle.ps_findings.specs.Findings.{Diagnoses};
-ghost use Rattle.ps_rpc.specs.Rpc.{value_of};
 ghost use Rattle.ps_source.specs.Answering.{IsFrontOf};
 ghost use Rattle.ps_texts.specs.Texts.{held};
-ghost use Rattle.ps_lsp.specs.Asking.{uri_in};
 ghost use Rattle.ps_lsp.specs.Published.{TellsOf};
-ghost use Rattle.ps_lsp.specs.Serving.{IsNotice, IsServed, IsTold, TellsIf, WithdrawsIf};
+ghost use Rattle.ps_lsp.specs.Serving.{IsAnswered};
 
 use crate::asking::{changed_text, position_in, text_at, uri_of};
 use crate::fronts::front_of;
@@ -53,9 +51,7 @@ impl Drop for Done {
 
 impl Done {
     // What the answer is to say, and the notice.
-    fn into_parts(self) -> (Outcome, Option<Value>)
-        ensures { result.1 ≡ self.notice }
-    {
+    fn into_parts(self) -> (Outcome, Option<Value>) {
         let Done { outcome, notice } = self;
         (outcome, notice)
     }
@@ -74,9 +70,7 @@ impl Drop for Server {
 }
 
 // A result, and no notice.
-fn given(value: Value) -> Done
-    ensures { result.notice ≡ None }
-{
+fn given(value: Value) -> Done {
     Done {
         outcome: Outcome::Given(value),
         notice: None,
@@ -84,9 +78,7 @@ fn given(value: Value) -> Done
 }
 
 // Why there is no result.
-fn failed(code: Code, why: &'static str) -> Done
-    ensures { result.notice ≡ None }
-{
+fn failed(code: Code, why: &'static str) -> Done {
     Done {
         outcome: Outcome::Failed(code, why),
         notice: None,
@@ -94,9 +86,7 @@ fn failed(code: Code, why: &'static str) -> Done
 }
 
 // A notice, where a message is a notification.
-fn told(notice: Value) -> Done
-    ensures { result.notice ≡ Some notice }
-{
+fn told(notice: Value) -> Done {
     Done {
         outcome: Outcome::Given(Value::Null),
         notice: Some(notice),
@@ -125,12 +115,7 @@ enum Asks {
 }
 
 // The result of a question about a place of the text of a name.
-fn result_at(
-    alloc: Global,
-    asks: Asks,
-    uri: &str,
-    asked: Asked,
-) -> Result<Value, Memory> {
+fn result_at(alloc: Global, asks: Asks, uri: &str, asked: Asked) -> Result<Value, Memory> {
     match asks {
         Asks::Hover => hover_value(alloc, asked),
         Asks::Completion => completion_value(alloc, asked),
@@ -185,10 +170,7 @@ impl Server {
         alloc: Global,
         uri: Option<&str>,
         text: Option<&str>,
-    ) -> Result<Done, Memory>
-        ensures { IfOk result (λ done. TellsIf (option_map (λ s. s.now) uri.entry) (option_map (λ s. s.now) text.entry)
-            (option_map view done.notice)) }
-    {
+    ) -> Result<Done, Memory> {
         match (uri, text) {
             (Some(uri), Some(text)) => Ok(told(self.opened(alloc, uri, text)?)),
             _ => Ok(failed(Code::NoParams, "a text has a name and a text")),
@@ -196,9 +178,7 @@ impl Server {
     }
 
     // A text is closed.
-    fn close(&mut self, alloc: Global, request: &Request) -> Result<Done, Memory>
-        ensures { IfOk result (λ done. WithdrawsIf (uri_in (value_of request.now)) (option_map view done.notice)) }
-    {
+    fn close(&mut self, alloc: Global, request: &Request) -> Result<Done, Memory> {
         match uri_of(request) {
             Some(uri) => {
                 self.texts.let_go(uri);
@@ -209,9 +189,7 @@ impl Server {
     }
 
     // What comes of a question about a place of a text.
-    fn ask(&self, alloc: Global, request: &Request, asks: Asks) -> Result<Done, Memory>
-        ensures { IfOk result (λ done. done.notice ≡ None) }
-    {
+    fn ask(&self, alloc: Global, request: &Request, asks: Asks) -> Result<Done, Memory> {
         let (Some(uri), Some(position)) = (uri_of(request), position_in(request)) else {
             return Ok(failed(Code::NoParams, "a question has a text and a position"));
         };
@@ -229,9 +207,7 @@ impl Server {
     }
 
     // What comes of a question about a whole text.
-    fn ask_symbols(&self, alloc: Global, request: &Request) -> Result<Done, Memory>
-        ensures { IfOk result (λ done. done.notice ≡ None) }
-    {
+    fn ask_symbols(&self, alloc: Global, request: &Request) -> Result<Done, Memory> {
         let Some(uri) = uri_of(request) else {
             return Ok(failed(Code::NoParams, "a question has a text"));
         };
@@ -242,11 +218,7 @@ impl Server {
     }
 
     // What comes of a method while the server answers.
-    #[tactic(auto, using(crate::proofs::Noticing::opened_notice, crate::proofs::Noticing::changed_notice,
-        crate::proofs::Noticing::closed_notice, crate::proofs::Noticing::no_notice_given))]
-    fn run(&mut self, alloc: Global, request: &Request, method: &str) -> Result<Done, Memory>
-        ensures { IfOk result (λ done. IsNotice (value_of request.now) method.now (option_map view done.notice)) }
-    {
+    fn run(&mut self, alloc: Global, request: &Request, method: &str) -> Result<Done, Memory> {
         match method {
             "textDocument/didOpen" => {
                 self.open(
@@ -266,11 +238,7 @@ impl Server {
     }
 
     // What comes of a method, by how far the server is.
-    #[tactic(auto, using(crate::proofs::Noticing::told_at_work, crate::proofs::Noticing::told_idle,
-        crate::proofs::Noticing::told_nameless, crate::proofs::Noticing::no_notice))]
-    fn perform(&mut self, alloc: Global, request: &Request) -> Result<Done, Memory>
-        ensures { IfOk result (λ done. IsTold self.old (value_of request.now) (option_map view done.notice)) }
-    {
+    fn perform(&mut self, alloc: Global, request: &Request) -> Result<Done, Memory> {
         let Some(method) = request.method() else {
             return Ok(failed(Code::NoRequest, "a request has a method"));
         };
@@ -305,7 +273,7 @@ impl Server {
     /// What is sent for the message with this body: the answer, where it asks for one, and a notice, where it opens,
     /// changes or closes a text. It returns for any bytes. An error: memory is wanting.
     pub fn reply(&mut self, alloc: Global, body: &[u8]) -> Result<Reply, Memory>
-        ensures { IfOk result (IsServed self.old body.now) }
+        ensures answered { IfOk result (IsAnswered body.now) }
     {
         let request = Request::read(alloc, body)?;
         let (outcome, notice) = self.perform(alloc, &request)?.into_parts();

@@ -1,7 +1,6 @@
 -- What the server writes of a stream of messages.
 use Rattle.std.specs.Prelude.{◌≡◌, ◌⊎◌, ℕ, List, []}
-use Rattle.ps_lsp.specs.Serving.{IsServed}
-use Rattle.ps_lsp.specs.declared.server.Server.{Server}
+use Rattle.ps_lsp.specs.Serving.{IsAnswered}
 use Rattle.ps_rpc.specs.Frames.{Gives}
 use Rattle.ps_rpc.specs.Sending.{SendsReply}
 use Rattle.ps_rpc.specs.declared.reading.Frame.{Frame}
@@ -12,9 +11,9 @@ use Rattle.ps_lsp_main.specs.declared.serving.Ending.TheVariants.{Exit, Broken, 
 
 -- For a message of these bytes its answer is written, once where it asks for one and else not at all, and then a notice
 -- or none.
-pub record Serves (server : Server) (body before after : List ℕ) : Type 0 where
+pub record Serves (body before after : List ℕ) : Type 0 where
   pub reply : Reply
-  pub served : IsServed server body reply
+  pub answered : IsAnswered body reply
   pub sends : SendsReply reply before after
 
 -- a message is read of the bytes ahead, with this body; one without a length, or that is too long, has none
@@ -28,7 +27,7 @@ IsOver ahead left = Gives ahead left End ⊎ Gives ahead left Cut
 -- the next message is served, or there is none and nothing is written
 abbrev pub ServesNext : (ahead left before after : List ℕ) → Type 0
 ServesNext ahead left before after =
-    ((server : Server) × (body : List ℕ) × IsRead ahead left body × Serves server body before after)
+    ((body : List ℕ) × IsRead ahead left body × Serves body before after)
     ⊎ (IsOver ahead left × (after ≡ before))
 
 -- The messages at the front of a stream are served, one after the other, each of them once: of the bytes ahead some are

@@ -45,7 +45,7 @@ pub(crate) fn serve_one<O: Output>(
     body: &[u8],
     out: &mut O,
 ) -> Result<(), Ending>
-    ensures serves { IsTrue (O.tells out.old) → OnOk result (Serves server.old body.now (O.taken out.old) (O.taken out.new)) }
+    ensures serves { IsTrue (O.tells out.old) → OnOk result (Serves body.now (O.taken out.old) (O.taken out.new)) }
     ensures telling { O.tells out.new ≡ O.tells out.old }
 {
     let Ok(reply) = server.reply(alloc, body) else {
@@ -68,8 +68,7 @@ fn ending_of(server: &Server) -> Option<Ending> {
 }
 
 // Serves the next message; how the server ended, if it did.
-#[tactic(auto, using(crate::proofs::Following::message_next, crate::proofs::Following::headless_next,
-    crate::proofs::Following::long_next, crate::proofs::Following::end_next, crate::proofs::Following::cut_next))]
+#[tactic(auto, using(crate::proofs::Following::message_next, crate::proofs::Following::headless_next, crate::proofs::Following::long_next, crate::proofs::Following::end_next, crate::proofs::Following::cut_next))]
 fn serve_next<I: Incoming, O: Output>(
     alloc: Global,
     server: &mut Server,

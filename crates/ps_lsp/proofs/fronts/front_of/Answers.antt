@@ -1,5 +1,5 @@
 use Rattle.std.proofs.Common.{◌≡◌, arith}
-use Rattle.ps_lsp.proofs.Fronts.{whole}
+use Rattle.ps_lsp.proofs.Deciding.{whole}
 use Rattle.ps_lsp.proofs.fronts.front_of.Goals as goal
 
 pub returns-then-bytes : goal.returns-then-bytes

@@ -7,7 +7,7 @@ use std::alloc::Global;
 
 /// Where a name is declared.
 #[derive(Clone, Copy, Debug, PartialEq, Eq)]
-pub struct Definition {
+pub struct Defined {
     /// Its place in the text that declares it.
     pub place: Place,
     /// How many bytes it has there.
@@ -17,13 +17,13 @@ pub struct Definition {
 }
 
 // The declaration of the name that is one of today's tokens.
-fn declared_at(sight: &Sight, at: usize) -> Option<Definition> {
+fn declared_at(sight: &Sight, at: usize) -> Option<Defined> {
     if at >= 1 && is_dot(sight.today(), at - 1) {
         return None;
     }
     let declared = sight.declaration(name_at(sight.today(), at)?, at)?;
     let token = sight.tokens_with(declared).get(declared.at)?;
-    Some(Definition {
+    Some(Defined {
         place: token.place,
         width: width(token),
         is_today: declared.is_today,
@@ -32,7 +32,7 @@ fn declared_at(sight: &Sight, at: usize) -> Option<Definition> {
 
 /// Where the name at a place of a text is declared: in the text as it is, or else in the last one that parsed. Nothing
 /// where no declared name stands there.
-pub fn definition(alloc: Global, asked: Asked) -> Result<Option<Definition>, Memory> {
+pub fn definition(alloc: Global, asked: Asked) -> Result<Option<Defined>, Memory> {
     let sight = Sight::of(alloc, asked.text, asked.parsed)?;
     match name_touched(sight.today(), asked.place) {
         Some(at) => Ok(declared_at(&sight, at)),

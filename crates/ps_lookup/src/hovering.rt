@@ -11,34 +11,34 @@ use ps_model::{Kind, kind_named};
 use std::alloc::Global;
 
 /// What is told of a place.
-pub struct Hover {
+pub struct Hovered {
     /// The words, in lines.
     pub words: Bytes,
     /// The SAFEBOOL output that stands there, if one does: what it demands is to be told besides.
     pub output: Option<Bytes>,
 }
 
-impl Drop for Hover {
+impl Drop for Hovered {
     // One call for whoever owns one, in place of a walk through all that it holds.
     fn drop(self) {
-        let Hover {
+        let Hovered {
             words: _,
             output: _,
         } = self;
     }
 }
 
-impl Hover {
+impl Hovered {
     /// The words, and the output. It takes no memory.
     pub fn into_parts(self) -> (Bytes, Option<Bytes>) {
-        let Hover { words, output } = self;
+        let Hovered { words, output } = self;
         (words, output)
     }
 }
 
 // These words, of no output.
-fn plain(words: Bytes) -> Option<Hover> {
-    Some(Hover {
+fn plain(words: Bytes) -> Option<Hovered> {
+    Some(Hovered {
         words,
         output: None,
     })
@@ -50,7 +50,7 @@ fn pin_told(
     kind: Kind,
     name: &[u8],
     is_input: bool,
-) -> Result<Option<Hover>, Memory> {
+) -> Result<Option<Hovered>, Memory> {
     match pin_named(kind, name, is_input) {
         Some(pin) => {
             let mut words = Bytes::new(alloc);
@@ -119,7 +119,7 @@ fn name_told(
     sight: &Sight,
     at: usize,
     name: &[u8],
-) -> Result<Option<Hover>, Memory> {
+) -> Result<Option<Hovered>, Memory> {
     let Some(declared) = sight.declaration(name, at) else {
         return Ok(None);
     };
@@ -136,7 +136,7 @@ fn name_told(
     let section = section_at(sight.tokens_with(declared), declared.at);
     add_signal(&mut words, asked, sight, name, declared, section)?;
     let output = output_named(alloc, section, ty, name)?;
-    Ok(Some(Hover { words, output }))
+    Ok(Some(Hovered { words, output }))
 }
 
 // What is told of the name that is a token of a pin: behind the dot of an instance, or before an assignment sign in its
@@ -156,7 +156,12 @@ fn kind_of_pin(sight: &Sight, at: usize) -> Option<(Kind, bool)> {
 }
 
 // What is told of the name that is a token.
-fn told_at(alloc: Global, asked: Asked, sight: &Sight, at: usize) -> Result<Option<Hover>, Memory> {
+fn told_at(
+    alloc: Global,
+    asked: Asked,
+    sight: &Sight,
+    at: usize,
+) -> Result<Option<Hovered>, Memory> {
     let Some(name) = name_at(sight.today(), at) else {
         return Ok(None);
     };
@@ -173,7 +178,7 @@ fn told_at(alloc: Global, asked: Asked, sight: &Sight, at: usize) -> Result<Opti
 /// where it is free, and its states in words; of a pin the same of it; of a declared name its type and section, and the
 /// statement that drives it, and of an instance its kind. Nothing where no name stands there that is known. A name
 /// that the text does not declare is looked for in the last text that parsed.
-pub fn hover(alloc: Global, asked: Asked) -> Result<Option<Hover>, Memory> {
+pub fn hover(alloc: Global, asked: Asked) -> Result<Option<Hovered>, Memory> {
     let sight = Sight::of(alloc, asked.text, asked.parsed)?;
     match name_touched(sight.today(), asked.place) {
         Some(at) => told_at(alloc, asked, &sight, at),

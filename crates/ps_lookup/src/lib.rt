@@ -17,7 +17,7 @@ mod looking;
 mod sight;
 
 pub use completing::{Item, Sort, completions};
-pub use defining::{Definition, definition};
-pub use hovering::{Hover, hover};
+pub use defining::{Defined, definition};
+pub use hovering::{Hovered, hover};
 pub use listing::{Symbol, symbols};
 pub use sight::Asked;

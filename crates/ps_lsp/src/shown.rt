@@ -4,7 +4,7 @@ use crate::published::{range_value, words_in};
 use ps_base::{Bytes, Memory};
 use ps_columns::range_from;
 use ps_findings::demand_told;
-use ps_lookup::{Asked, Definition, Item, Sort, Symbol, completions, definition, hover, symbols};
+use ps_lookup::{Asked, Defined, Item, Sort, Symbol, completions, definition, hover, symbols};
 use serde_json::{Value, json};
 use std::alloc::{AllocError, Global};
 
@@ -75,7 +75,7 @@ pub(crate) fn completion_value(alloc: Global, asked: Asked) -> Result<Value, Mem
 }
 
 // The text that declares what is asked about.
-fn text_with<'a>(asked: Asked<'a>, found: &Definition) -> &'a [u8] {
+fn text_with<'a>(asked: Asked<'a>, found: &Defined) -> &'a [u8] {
     match asked.parsed {
         Some(parsed) if !found.is_today => parsed,
         _ => asked.text,

@@ -138,6 +138,31 @@ def by_pins(server):
     expect(any(item["label"] == "S_EStopOut" for item in answers(found, 3)["result"]), "an instance is completed by its outputs")
 
 
+def by_words(server):
+    """What hover tells of a signal, of an instance and of a kind."""
+    found, _ = served(server, BEGIN + opened(RIGHT) + asked(2, "hover", 5, 12) + asked(3, "hover", 4, 0) + asked(4, "hover", 3, 10) + END)
+    told = [answers(found, number)["result"]["contents"]["value"].split("\n") for number in (2, 3, 4)]
+    statement = RIGHT.split("\n")[5].split("*) ")[1].rstrip(";")
+    expect(told[0] == ["S_Motor : SAFEBOOL, an output", f"driven in line 6: {statement}", "S_Motor needs S_Stop"],
+           f"hover tells what drives an output, and what it demands: {told[0]}")
+    expect(told[1][:2] == ["E : SF_EmergencyStop, an instance", f"driven in line 5: {RIGHT.split(chr(10))[4].rstrip(';')}"],
+           f"hover tells what calls an instance: {told[1]}")
+    expect("8002 waiting for the sensor after the start" in told[1] and told[1][3:] == told[2], "an instance has the pins and states of its kind")
+
+
+def by_last_parsed(server):
+    """What a text does not declare while it is written is looked for in the last one that parsed."""
+    undone = RIGHT.replace("S_Motor : SAFEBOOL", "S_Motor SAFEBOOL")
+    open_comment = RIGHT.replace("VAR_OUTPUT", "(* VAR_OUTPUT").replace("(* \u00e4\U0001f600 *) ", "").replace("E(Activate", "*) S_Motor(Activate")
+    found, _ = served(server, BEGIN + opened(RIGHT) + opened(undone, "textDocument/didChange") + asked(2, "definition", 5, 12)
+                      + asked(3, "completion", 5, 0) + opened(open_comment, "textDocument/didChange") + asked(4, "definition", 4, 4) + END)
+    for number in (2, 4):
+        start = answers(found, number)["result"]["range"]["start"]
+        expect(start == {"line": 2, "character": 11}, f"S_Motor is declared where it was in the last text that parsed, and not at {start}")
+    labels = [item["label"] for item in answers(found, 3)["result"]]
+    expect(labels.count("S_Motor") == 1 and labels.count("S_Stop") == 1, f"each name is offered once: {labels}")
+
+
 def spoilt(random_numbers, sent):
     """These bytes with some of them changed, left out or doubled."""
     spoiled = bytearray(sent)
@@ -281,7 +306,9 @@ local function ask(method, line, character)
     { textDocument = { uri = vim.uri_from_bufnr(0) }, position = { line = line, character = character } }, 10000)
   for _, one in pairs(found or {}) do return one.result end
 end
-say("hover " .. vim.split(ask("hover", 3, 10).contents.value, "\n")[1])
+for _, at in ipairs({ { 3, 10 }, { 5, 12 } }) do
+  say("hover " .. vim.split(ask("hover", at[1], at[2]).contents.value, "\n")[1])
+end
 local labels = {}
 for _, item in ipairs(ask("completion", 4, 41)) do table.insert(labels, item.label) end
 say("completion " .. table.concat(labels, " "))
@@ -321,6 +348,8 @@ def main(words):
     server = os.path.abspath(named.get("plcsafe-lsp", words[0]))
     by_messages(server)
     by_pins(server)
+    by_words(server)
+    by_last_parsed(server)
     count = by_broken_bodies(server) + by_broken_texts(server) + by_broken_streams(server)
     took = by_large_texts(server)
     print("a change of 1 MiB is answered in " + ", ".join(f"{1000 * seconds:.0f} ms ({name})" for name, seconds in took.items()))

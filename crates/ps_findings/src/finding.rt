@@ -1,7 +1,11 @@
 // What is found in a text.
 
+ghost use Rattle.std.specs.Prelude.{◌≡◌};
+ghost use Rattle.ps_findings.specs.Findings.{is_of_language, parses};
+
 use ps_base::{Bytes, Rule};
 use ps_columns::Range;
+use ps_report::rule_name;
 
 /// Which of the two a finding is.
 #[derive(Clone, Copy, Debug, PartialEq, Eq)]
@@ -42,18 +46,25 @@ impl Drop for Findings {
     }
 }
 
+// Whether a rule is one by which a text is none of the language.
+fn is_of_language(rule: Rule) -> bool
+    ensures { result ≡ is_of_language rule }
+{
+    let name = rule_name(rule).as_bytes();
+    name.starts_with(b"L") || name.starts_with(b"P")
+}
+
 impl Findings {
     /// Whether the text is one of the language: no rule L or P refuses it.
-    pub fn parses(&self) -> bool {
-        let Some(finding) = &self.first else {
-            return true;
-        };
-        match finding.what {
-            What::Refused(rule) => !matches!(
-                rule,
-                Rule::L1 | Rule::L2 | Rule::L3 | Rule::L4 | Rule::L5 | Rule::P1 | Rule::P2
-            ),
-            What::Noted => true,
+    pub fn parses(&self) -> bool
+        ensures { result ≡ parses self.now }
+    {
+        match &self.first {
+            Some(finding) => match finding.what {
+                What::Refused(rule) => !is_of_language(rule),
+                What::Noted => true,
+            },
+            None => true,
         }
     }
 }

@@ -27,6 +27,9 @@ pub const MOST_FINDINGS: usize = 20;
 // takes a reading of the whole text each time; of a longer one only the first refusal is told with what the text tells.
 const LONGEST_TOLD: usize = 65_536;
 
+// The longest text, in bytes, of which refusals behind the first one are told: that takes one more reading of it.
+const LONGEST_SEARCHED: usize = 262_144;
+
 // The finding of a refusal, with what the text tells of it besides.
 fn refused(
     alloc: Global,
@@ -106,12 +109,21 @@ fn tokens_shown(alloc: Global, text: &[u8]) -> Result<TokenList, Memory> {
     }
 }
 
+// The refusals of a text behind its first one: none where it is long.
+fn refusals_behind(alloc: Global, text: &[u8], first: &Refusal) -> Result<Vec<Refusal>, Memory> {
+    if text.len() <= LONGEST_SEARCHED {
+        further_refusals(alloc, text, first)
+    } else {
+        Ok(Vec::new(alloc))
+    }
+}
+
 // What is found in a text that this refusal refuses.
 fn findings_behind(alloc: Global, text: &[u8], refusal: &Refusal) -> Result<Findings, Memory>
     ensures { IfOk result (λ findings. IsFirst text.now (Err (Fail.Refused refusal.now)) findings.first) }
 {
     let given = detail_on(alloc, text, refusal)?;
-    let further = further_refusals(alloc, text, refusal)?;
+    let further = refusals_behind(alloc, text, refusal)?;
     let tokens = tokens_shown(alloc, text)?;
     let first = refused(alloc, text, tokens.as_slice(), refusal, given.as_slice())?;
     let more = all_refused(alloc, text, tokens.as_slice(), further.as_slice())?;
@@ -187,9 +199,9 @@ fn findings_on(alloc: Global, text: &[u8], source: &Source, app: &App) -> Result
 }
 
 /// What is found in the text that begins with these bytes: first its refusal by the rules L, P, B, N and S, with the
-/// range of what stands at its place, and behind it further refusals of the same letter; or the notes on it, where it
-/// is accepted. Of each sort at most `MOST_FINDINGS` are told, and then one that says how many more there are. The
-/// bytes are all of the text, or one more than the largest source has.
+/// range of what stands at its place, and behind it further refusals of the same letter, unless it is long; or the notes
+/// on it, where it is accepted. Of each sort at most `MOST_FINDINGS` are told, and then one that says how many more
+/// there are. The bytes are all of the text, or one more than the largest source has.
 pub fn findings_in(alloc: Global, text: &[u8]) -> Result<Findings, Memory>
     ensures { IfOk result (λ findings. (whole : List ℕ) → IsFrontOf text.now whole → Diagnoses text.now whole findings.first) }
 {

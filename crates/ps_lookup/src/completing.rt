@@ -1,8 +1,9 @@
 // What may be written at a place.
 
-use crate::declared::{call_before, declared_type, is_in_section, kind_at};
+use crate::declared::{declared_type, is_in_section};
 use crate::described::add_pin;
-use crate::looking::{form_at, is_dot, name_at, tokens_before, tokens_of, width};
+use crate::looking::{form_at, is_dot, name_at, tokens_before, width};
+use crate::sight::{Asked, Sight};
 use ps_base::{Bytes, Memory, Place};
 use ps_lexer::{Form, Token};
 use ps_model::{Kind, input_count, kind_name, kind_numbered, pin_count, pin_name};
@@ -155,15 +156,29 @@ fn types(alloc: Global) -> Result<Vec<Item>, Memory> {
     Ok(list)
 }
 
-// The item of the name that a token of a section declares, if it declares one.
+// Whether a name is among the first items, without letter case.
+fn is_among(list: &[Item], count: usize, name: &[u8]) -> bool {
+    for item in &list[..count.min(list.len())] {
+        if item.label.as_slice().eq_ignore_ascii_case(name) {
+            return true;
+        }
+    }
+    false
+}
+
+// The item of the name that a token of a section declares, if it declares one that is not among the first items.
 fn add_name_item(
     alloc: Global,
     list: &mut Vec<Item>,
+    count: usize,
     tokens: &[Token],
     at: usize,
 ) -> Result<(), Memory> {
     match (name_at(tokens, at), declared_type(tokens, at)) {
         (Some(name), Some(ty)) => {
+            if is_among(list.as_slice(), count, name) {
+                return Ok(());
+            }
             let detail = Bytes::from_slice(alloc, ty)?;
             add_item(alloc, list, Sort::Name, name, detail)
         }
@@ -171,16 +186,24 @@ fn add_name_item(
     }
 }
 
-// The declared names, each with its type, and the keywords.
-fn names(alloc: Global, tokens: &[Token]) -> Result<Vec<Item>, Memory> {
-    let mut list = Vec::new(alloc);
+// The names that these tokens declare, each with its type, behind items that have other names.
+fn add_names(alloc: Global, list: &mut Vec<Item>, tokens: &[Token]) -> Result<(), Memory> {
+    let count = list.len();
     let mut within = false;
     for i in 0..tokens.len() {
         within = is_in_section(tokens, i, within);
         if within && list.len() < MOST_ITEMS {
-            add_name_item(alloc, &mut list, tokens, i)?;
+            add_name_item(alloc, list, count, tokens, i)?;
         }
     }
+    Ok(())
+}
+
+// The declared names, those that the text declares before those that the last one that parsed does, and the keywords.
+fn names(alloc: Global, sight: &Sight) -> Result<Vec<Item>, Memory> {
+    let mut list = Vec::new(alloc);
+    add_names(alloc, &mut list, sight.today())?;
+    add_names(alloc, &mut list, sight.earlier())?;
     for word in KEYWORDS {
         add_item(
             alloc,
@@ -211,31 +234,29 @@ fn whole_before(tokens: &[Token], place: Place) -> usize {
     }
 }
 
-// What may be written behind so many tokens.
-fn items_at(alloc: Global, tokens: &[Token], upto: usize) -> Result<Vec<Item>, Memory> {
+// What may be written behind so many of today's tokens.
+fn items_at(alloc: Global, sight: &Sight, upto: usize) -> Result<Vec<Item>, Memory> {
+    let tokens = sight.today();
     if upto >= 2 && is_dot(tokens, upto - 1) {
-        return match kind_at(tokens, upto - 2) {
+        return match sight.kind_at(upto - 2) {
             Some(kind) => outputs(alloc, kind),
             None => Ok(Vec::new(alloc)),
         };
     }
     match form_at(tokens, upto.saturating_sub(1)) {
         Some(Form::Colon) => types(alloc),
-        Some(Form::LeftBracket) | Some(Form::Comma) => match call_before(tokens, upto) {
+        Some(Form::LeftBracket) | Some(Form::Comma) => match sight.call_before(upto) {
             Some((bracket, kind)) => inputs_left(alloc, tokens, bracket, upto, kind),
-            None => names(alloc, tokens),
+            None => names(alloc, sight),
         },
-        _ => names(alloc, tokens),
+        _ => names(alloc, sight),
     }
 }
 
 /// What may be written at a place of a text: behind the dot of an instance its outputs, in its call the inputs that
 /// it does not give yet, behind a colon the types, and else the declared names and the keywords; at most 5,000 items.
-/// Nothing where the text has no tokens.
-pub fn completions(alloc: Global, text: &[u8], place: Place) -> Result<Vec<Item>, Memory> {
-    let Some(tokens) = tokens_of(alloc, text)? else {
-        return Ok(Vec::new(alloc));
-    };
-    let tokens = tokens.list.as_slice();
-    items_at(alloc, tokens, whole_before(tokens, place))
+/// Names that the text does not declare are those of the last one that parsed.
+pub fn completions(alloc: Global, asked: Asked) -> Result<Vec<Item>, Memory> {
+    let sight = Sight::of(alloc, asked.text, asked.parsed)?;
+    items_at(alloc, &sight, whole_before(sight.today(), asked.place))
 }

@@ -2,7 +2,6 @@
 
 use crate::looking::{form_at, name_at, word_at};
 use ps_lexer::{Form, Token, Word};
-use ps_model::{Kind, kind_named};
 
 // The most tokens of a list of names that are looked at.
 const LONGEST_LIST: usize = 1_000;
@@ -42,16 +41,6 @@ pub(crate) fn declaration_of(tokens: &[Token], name: &[u8], upto: usize) -> Opti
     found
 }
 
-/// The type of a name as it is declared for a token.
-pub(crate) fn type_of<'a>(tokens: &'a [Token], name: &[u8], upto: usize) -> Option<&'a [u8]> {
-    declared_type(tokens, declaration_of(tokens, name, upto)?)
-}
-
-/// The kind of the instance whose name is a token.
-pub(crate) fn kind_at(tokens: &[Token], i: usize) -> Option<Kind> {
-    kind_named(type_of(tokens, name_at(tokens, i)?, i)?)
-}
-
 /// Whether tokens stand in a section behind a token, where it opens or ends one, and else what was.
 pub(crate) fn is_in_section(tokens: &[Token], at: usize, was: bool) -> bool {
     match word_at(tokens, at) {
@@ -88,11 +77,4 @@ pub(crate) fn bracket_before(tokens: &[Token], at: usize) -> Option<usize> {
         }
     }
     None
-}
-
-/// The bracket of the call of an instance that is open before a token, and the kind of the instance.
-pub(crate) fn call_before(tokens: &[Token], at: usize) -> Option<(usize, Kind)> {
-    let bracket = bracket_before(tokens, at)?;
-    let kind = kind_at(tokens, bracket.checked_sub(1)?)?;
-    Some((bracket, kind))
 }

@@ -1,34 +1,41 @@
 // Where what stands at a place is declared.
 
-use crate::declared::declaration_of;
-use crate::looking::{is_dot, name_at, name_touched, tokens_of, width};
+use crate::looking::{is_dot, name_at, name_touched, width};
+use crate::sight::{Asked, Sight};
 use ps_base::{Memory, Place};
-use ps_lexer::Token;
 use std::alloc::Global;
 
-// The declaration of the name that is a token: its place, and how many bytes it has.
-fn declared_at(tokens: &[Token], at: usize) -> Option<(Place, u32)> {
-    if at >= 1 && is_dot(tokens, at - 1) {
-        return None;
-    }
-    let found = declaration_of(tokens, name_at(tokens, at)?, at)?;
-    let token = tokens.get(found)?;
-    Some((token.place, width(token)))
+/// Where a name is declared.
+#[derive(Clone, Copy, Debug, PartialEq, Eq)]
+pub struct Defined {
+    /// Its place in the text that declares it.
+    pub place: Place,
+    /// How many bytes it has there.
+    pub width: u32,
+    /// Whether this is the text as it is, and not the last one that parsed.
+    pub is_today: bool,
 }
 
-/// Where the name at a place of a text is declared, and how many bytes the name has there. Nothing where no declared
-/// name stands there, or the text has no tokens.
-pub fn definition(
-    alloc: Global,
-    text: &[u8],
-    place: Place,
-) -> Result<Option<(Place, u32)>, Memory> {
-    let Some(tokens) = tokens_of(alloc, text)? else {
-        return Ok(None);
-    };
-    let tokens = tokens.list.as_slice();
-    match name_touched(tokens, place) {
-        Some(at) => Ok(declared_at(tokens, at)),
+// The declaration of the name that is one of today's tokens.
+fn declared_at(sight: &Sight, at: usize) -> Option<Defined> {
+    if at >= 1 && is_dot(sight.today(), at - 1) {
+        return None;
+    }
+    let declared = sight.declaration(name_at(sight.today(), at)?, at)?;
+    let token = sight.tokens_with(declared).get(declared.at)?;
+    Some(Defined {
+        place: token.place,
+        width: width(token),
+        is_today: declared.is_today,
+    })
+}
+
+/// Where the name at a place of a text is declared: in the text as it is, or else in the last one that parsed. Nothing
+/// where no declared name stands there.
+pub fn definition(alloc: Global, asked: Asked) -> Result<Option<Defined>, Memory> {
+    let sight = Sight::of(alloc, asked.text, asked.parsed)?;
+    match name_touched(sight.today(), asked.place) {
+        Some(at) => Ok(declared_at(&sight, at)),
         None => Ok(None),
     }
 }

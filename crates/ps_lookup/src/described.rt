@@ -3,6 +3,7 @@
 use ps_base::{Bytes, Memory};
 use ps_lexer::Word;
 use ps_model::{Kind, PinRow, Ty, input_count, kind_name, pin_count, pin_name, pin_row};
+use ps_states::state_words;
 use std::alloc::Global;
 
 /// The name of a type.
@@ -36,13 +37,28 @@ pub(crate) fn add_pin(text: &mut Bytes, kind: Kind, pin: u8) -> Result<(), Memor
     text.extend_from_slice(role(row))
 }
 
-/// What is said of a kind: its name and its pins, each in a line.
+// A state of a kind, in a line: its DiagCode, and what it is called. Nothing where the kind has no such code.
+fn add_state(alloc: Global, text: &mut Bytes, kind: Kind, code: u16) -> Result<(), Memory> {
+    match state_words(kind, code) {
+        Some(words) => {
+            let line = format!(in alloc; "\n{code:04X} {words}")?;
+            text.extend_from_slice(line.as_str().as_bytes())
+        }
+        None => Ok(()),
+    }
+}
+
+/// What is said of a kind: its name, its pins, and its states by their DiagCodes, each in a line.
 pub(crate) fn kind_told(alloc: Global, kind: Kind) -> Result<Bytes, Memory> {
     let mut text = Bytes::from_slice(alloc, kind_name(kind).as_bytes())?;
     text.extend_from_slice(b", a safety function block\n")?;
     for pin in 0..pin_count(kind) {
         text.push(b'\n')?;
         add_pin(&mut text, kind, pin)?;
+    }
+    text.push(b'\n')?;
+    for code in 0..=u16::MAX {
+        add_state(alloc, &mut text, kind, code)?;
     }
     Ok(text)
 }

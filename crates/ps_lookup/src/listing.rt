@@ -118,10 +118,8 @@ fn symbols_in(alloc: Global, text: &[u8], tokens: &[Token]) -> Result<Vec<Symbol
     Ok(list)
 }
 
-/// The names that a text declares, in its order, at most 10,000; none where it has no tokens.
+/// The names that a text declares, in its order, at most 10,000.
 pub fn symbols(alloc: Global, text: &[u8]) -> Result<Vec<Symbol>, Memory> {
-    match tokens_of(alloc, text)? {
-        Some(tokens) => symbols_in(alloc, text, tokens.list.as_slice()),
-        None => Ok(Vec::new(alloc)),
-    }
+    let tokens = tokens_of(alloc, text)?;
+    symbols_in(alloc, text, tokens.as_slice())
 }

@@ -1,15 +1,45 @@
 // Looks at the tokens of a text.
 
+ghost use Rattle.std.specs.Prelude.{◌≤◌, length};
+
 use ps_base::{Fail, Memory, Place};
-use ps_lexer::{Form, Token, Tokens, Word, lex};
+use ps_lexer::{Form, Token, TokenList, Tokens, Word, lex};
 use std::alloc::Global;
 
-/// The tokens of a text, or nothing where a rule L refuses it.
-pub(crate) fn tokens_of(alloc: Global, text: &[u8]) -> Result<Option<Tokens>, Memory> {
-    match lex(alloc, text) {
-        Ok(tokens) => Ok(Some(tokens)),
+// How many bytes of a text stand before a place.
+fn bytes_before(text: &[u8], place: Place) -> usize
+    ensures { result ≤ length text.now }
+{
+    let mut line = 1u32;
+    for i in 0..text.len() {
+        if line == place.line {
+            let behind = text.len() - i;
+            return i + behind.min(place.column.saturating_sub(1) as usize);
+        }
+        if text[i] == b'\n' {
+            line = line.saturating_add(1);
+        }
+    }
+    text.len()
+}
+
+// The tokens of a piece of a text; none where a rule L refuses it.
+fn tokens_or_none(alloc: Global, piece: &[u8]) -> Result<TokenList, Memory> {
+    match lex(alloc, piece) {
+        Ok(Tokens { list, end: _ }) => Ok(list),
         Err(Fail::Memory) => Err(Memory),
-        Err(Fail::Refused(_)) => Ok(None),
+        Err(Fail::Refused(_)) => Ok(TokenList::new(alloc)),
+    }
+}
+
+/// The tokens of a text: where a rule L refuses it, those before the place at which it does.
+pub(crate) fn tokens_of(alloc: Global, text: &[u8]) -> Result<TokenList, Memory> {
+    match lex(alloc, text) {
+        Ok(Tokens { list, end: _ }) => Ok(list),
+        Err(Fail::Memory) => Err(Memory),
+        Err(Fail::Refused(refusal)) => {
+            tokens_or_none(alloc, &text[..bytes_before(text, refusal.place)])
+        }
     }
 }
 

@@ -1,2 +1,2 @@
-mod Fronts
+mod Deciding
 mod Telling

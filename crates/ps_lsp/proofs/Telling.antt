@@ -1,5 +1,5 @@
 -- What the notice on a text tells.
-use Rattle.std.proofs.Common.{◌≡◌, ◌+◌, ℕ, List, Option, Result, Ok, Err, IfOk, take, subst}
+use Rattle.std.proofs.Common.{◌≡◌, ◌∙◌, ◌+◌, ℕ, List, Option, Some, Result, Ok, Err, IfOk, take, sym, subst}
 use Rattle.serde_json.specs.Data.{Data}
 use Rattle.serde_json.specs.View.{view}
 use Rattle.serde_json.specs.declared.value.Value.{Value}
@@ -8,6 +8,7 @@ use Rattle.ps_base.specs.declared.limits.TheConstants.{LARGEST_SOURCE}
 use Rattle.ps_source.specs.Answering.{IsFrontOf}
 use Rattle.ps_findings.specs.Findings.{Diagnoses}
 use Rattle.ps_findings.specs.declared.finding.Finding.{Finding}
+use Rattle.ps_findings.specs.declared.finding.Findings.{Findings}
 use Rattle.ps_lsp.specs.Published.{IsListed, TellsOf, notice_data}
 
 -- a notice of what is found in the front of a text tells of the text
@@ -24,3 +25,13 @@ tells_of uri text first (Ok v) before same decides is = record {
   is = is.2;
 }
 tells_of uri text first (Err failed) before same decides is = tt
+
+-- what is found in the text that is held is found in the text that it is known to be
+pub found_in_held : (bytes : List ℕ) (seen : Option (List ℕ)) (result : Result Findings Memory) → Some bytes ≡ seen →
+    IfOk result (λ findings. (whole : List ℕ) → IsFrontOf bytes whole → Diagnoses bytes whole findings.first) →
+    IfOk result (λ findings. (text whole : List ℕ) → seen ≡ Some text → IsFrontOf text whole → Diagnoses text whole findings.first)
+found_in_held bytes seen (Ok findings) held told = λ text whole known front.
+    let whole_of : Some bytes ≡ Some text = held ∙ known in
+    let same : bytes ≡ text = cc in
+    subst (λ (t : List ℕ). Diagnoses t whole findings.first) same (told whole (subst (λ (t : List ℕ). IsFrontOf t whole) (sym same) front))
+found_in_held bytes seen (Err failed) held told = tt

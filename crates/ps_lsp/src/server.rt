@@ -1,18 +1,23 @@
 // The server: its open texts, and what it does for each method.
 
-ghost use Rattle.std.specs.Prelude.{◌≡◌, IfOk};
+ghost use Rattle.std.specs.Prelude.{◌≡◌, ℕ, List, IfOk};
 ghost use Rattle.serde_json.specs.View.{view};
+ghost use Rattle.ps_findings.specs.Findings.{Diagnoses};
+ghost use Rattle.ps_source.specs.Answering.{IsFrontOf};
+ghost use Rattle.ps_texts.specs.Texts.{held};
 ghost use Rattle.ps_lsp.specs.Published.{TellsOf};
 ghost use Rattle.ps_lsp.specs.Serving.{IsAnswered};
 
 use crate::asking::{changed_text, position_in, text_at, uri_of};
+use crate::fronts::front_of;
 use crate::published::{published, withdrawn};
 use crate::shown::{completion_value, definition_value, hover_value, symbols_value};
-use crate::texts::{Texts, front_of};
-use ps_base::{Memory, Place};
+use ps_base::Memory;
 use ps_columns::place_at;
-use ps_findings::findings_in;
-use ps_rpc::{Code, Outcome, Request, answer};
+use ps_findings::{Findings, findings_in};
+use ps_lookup::Asked;
+use ps_rpc::{Code, Outcome, Reply, Request, answer};
+use ps_texts::Texts;
 use serde_json::{Value, json};
 use std::alloc::{AllocError, Global};
 
@@ -27,22 +32,6 @@ pub enum Stage {
     Shut,
     /// It has been told to exit, after it was asked to shut down or without.
     Ended { orderly: bool },
-}
-
-/// What is sent for a message: the answer, and then a notice.
-pub struct Reply {
-    pub answer: Option<Value>,
-    pub notice: Option<Value>,
-}
-
-impl Drop for Reply {
-    // One call for whoever owns one, in place of a walk through all that it holds.
-    fn drop(self) {
-        let Reply {
-            answer: _,
-            notice: _,
-        } = self;
-    }
 }
 
 // What comes of a message: what its answer is to say, where it asks for one, and a notice.
@@ -126,17 +115,11 @@ enum Asks {
 }
 
 // The result of a question about a place of the text of a name.
-fn result_at(
-    alloc: Global,
-    asks: Asks,
-    uri: &str,
-    text: &[u8],
-    place: Place,
-) -> Result<Value, Memory> {
+fn result_at(alloc: Global, asks: Asks, uri: &str, asked: Asked) -> Result<Value, Memory> {
     match asks {
-        Asks::Hover => hover_value(alloc, text, place),
-        Asks::Completion => completion_value(alloc, text, place),
-        Asks::Definition => definition_value(alloc, uri, text, place),
+        Asks::Hover => hover_value(alloc, asked),
+        Asks::Completion => completion_value(alloc, asked),
+        Asks::Definition => definition_value(alloc, uri, asked),
     }
 }
 
@@ -157,13 +140,27 @@ impl Server {
         }
     }
 
+    // What is found in the text of a name as it is held; in an empty one, where it is not open.
+    fn found(&self, alloc: Global, uri: &str) -> Result<Findings, Memory>
+        ensures { IfOk result (λ findings. (text whole : List ℕ) → held self.now.texts uri.now ≡ Some text →
+            IsFrontOf text whole → Diagnoses text whole findings.first) }
+    {
+        match self.texts.text_of(uri) {
+            Some(text) => findings_in(alloc, text),
+            None => findings_in(alloc, &[]),
+        }
+    }
+
     // Holds the text of a name, and tells what is found in it.
     fn opened(&mut self, alloc: Global, uri: &str, text: &str) -> Result<Value, Memory>
         ensures { IfOk result (λ notice. TellsOf uri.now text.now (view notice)) }
     {
         let front = front_of(text);
-        let findings = findings_in(alloc, front)?;
         self.texts.hold(alloc, uri, front)?;
+        let findings = self.found(alloc, uri)?;
+        if findings.parses() {
+            self.texts.note_parsed(uri);
+        }
         published(alloc, uri, &findings)
     }
 
@@ -198,8 +195,12 @@ impl Server {
         };
         match self.texts.text_of(uri) {
             Some(text) => {
-                let place = place_at(text, position);
-                Ok(given(result_at(alloc, asks, uri, text, place)?))
+                let asked = Asked {
+                    text,
+                    parsed: self.texts.earlier_of(uri),
+                    place: place_at(text, position),
+                };
+                Ok(given(result_at(alloc, asks, uri, asked)?))
             }
             None => Ok(given(Value::Null)),
         }

@@ -1,15 +1,44 @@
 // What the editor shows of a place in a text.
 
 use crate::published::{range_value, words_in};
-use ps_base::{Memory, Place};
-use ps_columns::{Range, position_of};
-use ps_lookup::{Item, Sort, Symbol, completions, definition, hover, symbols};
+use ps_base::{Bytes, Memory};
+use ps_columns::range_from;
+use ps_findings::demand_told;
+use ps_lookup::{Asked, Defined, Item, Sort, Symbol, completions, definition, hover, symbols};
 use serde_json::{Value, json};
 use std::alloc::{AllocError, Global};
 
+// The words on a place, and behind them what its output demands: in the text as it is, or else in the last one that
+// parsed.
+fn add_demand(words: &mut Bytes, alloc: Global, asked: Asked, output: &[u8]) -> Result<(), Memory> {
+    let told = match asked.parsed {
+        Some(parsed) => demand_told(alloc, parsed, output)?,
+        None => demand_told(alloc, asked.text, output)?,
+    };
+    match told {
+        Some(line) => {
+            words.push(b'\n')?;
+            words.extend_from_slice(line.as_slice())
+        }
+        None => Ok(()),
+    }
+}
+
+// The words on a place.
+fn words_on(alloc: Global, asked: Asked) -> Result<Option<Bytes>, Memory> {
+    let Some(told) = hover(alloc, asked)? else {
+        return Ok(None);
+    };
+    let (mut words, output) = told.into_parts();
+    if let Some(output) = output {
+        add_demand(&mut words, alloc, asked, output.as_slice())?;
+    }
+    Ok(Some(words))
+}
+
 /// What is told of a place, or null.
-pub(crate) fn hover_value(alloc: Global, text: &[u8], place: Place) -> Result<Value, Memory> {
-    match hover(alloc, text, place)? {
+pub(crate) fn hover_value(alloc: Global, asked: Asked) -> Result<Value, Memory> {
+    match words_on(alloc, asked)? {
         Some(words) => {
             let told = words_in(&words);
             Ok(json!(in alloc; {"contents": {"kind": "plaintext", "value": told}})?)
@@ -37,36 +66,28 @@ fn item_value(alloc: Global, item: &Item) -> Result<Value, AllocError> {
 }
 
 /// What may be written at a place.
-pub(crate) fn completion_value(alloc: Global, text: &[u8], place: Place) -> Result<Value, Memory> {
+pub(crate) fn completion_value(alloc: Global, asked: Asked) -> Result<Value, Memory> {
     let mut list = Vec::new(alloc);
-    for item in &completions(alloc, text, place)? {
+    for item in &completions(alloc, asked)? {
         list.push(item_value(alloc, item)?)?;
     }
     Ok(Value::Array(list))
 }
 
-// The piece of a text from a place on that has so many bytes.
-fn range_from(text: &[u8], place: Place, width: u32) -> Range {
-    let behind = Place {
-        line: place.line,
-        column: place.column.saturating_add(width),
-    };
-    Range {
-        start: position_of(text, place),
-        end: position_of(text, behind),
+// The text that declares what is asked about.
+fn text_with<'a>(asked: Asked<'a>, found: &Defined) -> &'a [u8] {
+    match asked.parsed {
+        Some(parsed) if !found.is_today => parsed,
+        _ => asked.text,
     }
 }
 
 /// Where what stands at a place of the text of a name is declared, or null.
-pub(crate) fn definition_value(
-    alloc: Global,
-    uri: &str,
-    text: &[u8],
-    place: Place,
-) -> Result<Value, Memory> {
-    match definition(alloc, text, place)? {
-        Some((found, width)) => {
-            let range = range_value(alloc, range_from(text, found, width))?;
+pub(crate) fn definition_value(alloc: Global, uri: &str, asked: Asked) -> Result<Value, Memory> {
+    match definition(alloc, asked)? {
+        Some(found) => {
+            let piece = range_from(text_with(asked, &found), found.place, found.width);
+            let range = range_value(alloc, piece)?;
             Ok(json!(in alloc; {"uri": uri, "range": range})?)
         }
         None => Ok(Value::Null),

@@ -1,8 +1,15 @@
-//! The program `plcsafe-lsp`: a language server over standard input and standard output.
+//! The program `plcsafe-lsp`: a language server over standard input and standard output. Each message of the stream is
+//! read, answered and written, up to the end.
+//!
+//! `serving` serves one message, and goes on to the end of the stream; `system` is the edge over standard input and
+//! standard output.
 #![tactic(auto)]
 
-use ps_serve::exit_of_server;
+mod serving;
+mod system;
+
 use std::process::ExitCode;
+use system::exit_of_server;
 
 fn main(rt: HostRuntime) -> ExitCode {
     ExitCode::from(exit_of_server(&rt))

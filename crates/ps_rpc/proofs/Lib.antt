@@ -1,0 +1,4 @@
+mod Lengths
+mod Saying
+mod Sent
+mod Taking

@@ -2,7 +2,7 @@
 use Rattle.std.specs.Prelude.{◌≡◌, ◌⊎◌, ℕ, ℤ, negsuc, List, Option, Some, None, Bool, true, false, codes, cond}
 use Rattle.std.specs.Prelude.{option_map, option_and_then}
 use Rattle.std.specs.Str.{IsUtf8}
-use Rattle.serde_json.specs.Data.{Data, null, boolean, number, string, array, object, Items, Members, member}
+use Rattle.serde_json.specs.Data.{Data, null, boolean, number, string, array, object, member}
 use Rattle.serde_json.specs.Data.{no_members}
 use Rattle.serde_json.specs.Find.{get, as_str, of_integer}
 use Rattle.serde_json.specs.Read.{read}

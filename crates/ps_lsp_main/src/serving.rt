@@ -1,0 +1,117 @@
+// From the beginning of a stream to its end.
+
+ghost use Rattle.std.specs.Prelude.{◌≡◌, IfOk, IsTrue, OnOk};
+ghost use Rattle.ps_lsp_main.specs.Streaming.{AreServed, IsWhole, Serves, ServesNext};
+
+use ps_lsp::Server;
+use ps_outside::{Output, ReadFail};
+use ps_rpc::{Frame, Incoming, Unsent, read_frame, send_reply};
+use std::alloc::Global;
+
+/// How a server ended.
+#[derive(Clone, Copy, Debug, PartialEq, Eq)]
+pub(crate) enum Ending {
+    /// It was told to exit, after it was asked to shut down.
+    Exit,
+    /// It was told to exit without, or its input ended.
+    Broken,
+    /// Its input could not be read.
+    Unread,
+    /// Its output could not be written.
+    Unwritten,
+    /// Memory was wanting.
+    Memory,
+}
+
+impl Ending {
+    /// The number with which the program exits: 0 behind a shutdown, 1 without one, and else that of the other
+    /// programs for the same failure.
+    pub(crate) fn number(self) -> u8 {
+        match self {
+            Ending::Exit => 0,
+            Ending::Broken => 1,
+            Ending::Unread => 5,
+            Ending::Unwritten => 6,
+            Ending::Memory => 7,
+        }
+    }
+}
+
+/// Writes what comes of a message with this body: its answer, once where it asks for one, and then a notice, where
+/// there is one; and hands all of it on.
+pub(crate) fn serve_one<O: Output>(
+    alloc: Global,
+    server: &mut Server,
+    body: &[u8],
+    out: &mut O,
+) -> Result<(), Ending>
+    ensures serves { IsTrue (O.tells out.old) → OnOk result (Serves body.now (O.taken out.old) (O.taken out.new)) }
+    ensures telling { O.tells out.new ≡ O.tells out.old }
+{
+    let Ok(reply) = server.reply(alloc, body) else {
+        return Err(Ending::Memory);
+    };
+    match send_reply(alloc, out, &reply) {
+        Ok(()) => Ok(()),
+        Err(Unsent::Unwritten) => Err(Ending::Unwritten),
+        Err(Unsent::Memory) => Err(Ending::Memory),
+    }
+}
+
+// How a server ended, if it did.
+fn ending_of(server: &Server) -> Option<Ending> {
+    match server.ended() {
+        Some(true) => Some(Ending::Exit),
+        Some(false) => Some(Ending::Broken),
+        None => None,
+    }
+}
+
+// Serves the next message; how the server ended, if it did.
+#[tactic(auto, using(crate::proofs::Following::message_next, crate::proofs::Following::headless_next, crate::proofs::Following::long_next, crate::proofs::Following::end_next, crate::proofs::Following::cut_next))]
+fn serve_next<I: Incoming, O: Output>(
+    alloc: Global,
+    server: &mut Server,
+    input: &mut I,
+    out: &mut O,
+) -> Result<Option<Ending>, Ending>
+    ensures serves { IsTrue (I.tells input.old) → IsTrue (O.tells out.old) → OnOk result
+        (ServesNext (I.ahead input.old) (I.ahead input.new) (O.taken out.old) (O.taken out.new)) }
+    ensures reading { I.tells input.new ≡ I.tells input.old }
+    ensures telling { O.tells out.new ≡ O.tells out.old }
+{
+    match read_frame(alloc, input) {
+        Ok(Frame::Message(body)) => {
+            serve_one(alloc, server, body.as_slice(), out)?;
+            Ok(ending_of(server))
+        }
+        // what has no length has no body that is JSON either
+        Ok(Frame::Headless) => {
+            serve_one(alloc, server, &[], out)?;
+            Ok(ending_of(server))
+        }
+        Ok(Frame::TooLong) => {
+            serve_one(alloc, server, &[], out)?;
+            Ok(Some(Ending::Broken))
+        }
+        Ok(Frame::End | Frame::Cut) => Ok(Some(Ending::Broken)),
+        Err(ReadFail::Fault) => Err(Ending::Unread),
+        Err(ReadFail::Memory) => Err(Ending::Memory),
+    }
+}
+
+/// Serves the messages of a stream, one after the other, until one tells it to exit or the stream ends.
+#[tactic(auto, using(crate::proofs::Following::one_more))]
+pub(crate) fn serve<I: Incoming, O: Output>(alloc: Global, input: &mut I, out: &mut O) -> Ending
+    ensures serves { IsTrue (I.tells input.old) → IsTrue (O.tells out.old) → IsWhole result →
+        AreServed (I.ahead input.old) (I.ahead input.new) (O.taken out.old) (O.taken out.new) }
+{
+    let mut server = Server::new(alloc);
+    'messages: for _ in 0..u64::MAX {
+        match serve_next(alloc, &mut server, input, out) {
+            Ok(None) => (),
+            Ok(Some(ending)) | Err(ending) => return ending,
+        }
+    }
+    Ending::Unread
+}

@@ -1,7 +1,7 @@
 // The identifiers of wires.
 
 ghost use Rattle.std.specs.Prelude.{◌≡◌, ◌<◌, ◌≤◌, ◌+◌, length};
-ghost use Rattle.ps_vcd.specs.Text.{identifier};
+ghost use Rattle.ps_changes.specs.Identifiers.{identifier};
 
 use std::marker::Model;
 
@@ -11,9 +11,9 @@ pub const MOST_WIRES: usize = 830_584;
 // The printable characters of ASCII but the blank, from `!` to `~`.
 const CHARACTERS: usize = 94;
 
-// The identifier of a wire, of one to three characters. Contracts see its bytes.
+/// The identifier of a wire in a dump, of one to three printable characters. Contracts see its bytes.
 #[derive(Drop)]
-pub(crate) struct Identifier {
+pub struct Identifier {
     bytes: [u8; 3],
     len: usize,
 }
@@ -29,8 +29,8 @@ impl Model for Identifier {
 }
 
 impl Identifier {
-    // The identifier of the wire with this number.
-    pub(crate) fn of(wire: usize) -> Identifier
+    /// The identifier of the wire with this number, below `MOST_WIRES`.
+    pub fn of(wire: usize) -> Identifier
         requires { wire < MOST_WIRES }
         ensures bytes { result ≡ identifier wire }
         ensures len { length result ≤ 3 }
@@ -56,8 +56,8 @@ impl Identifier {
         }
     }
 
-    // Its bytes.
-    pub(crate) fn as_slice(&self) -> &[u8]
+    /// Its bytes.
+    pub fn as_slice(&self) -> &[u8]
         ensures { result.now ≡ self.now }
     {
         &self.bytes[..self.len]

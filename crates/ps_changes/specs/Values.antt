@@ -1,9 +1,9 @@
 -- What a wire has in a scan.
 use Rattle.std.specs.Prelude.{ℕ, ◌==◌, ◌&&◌, Bool, true, false, not, List, take}
 use Rattle.std.specs.Str.{bytes_eq}
-use Rattle.ps_vcd.specs.declared.value.Value.{Value}
-use Rattle.ps_vcd.specs.declared.value.Value.TheVariants.{Bit, Code, Count, Words}
-use Rattle.ps_vcd.specs.declared.value.TheConstants.{LONGEST_WORDS}
+use Rattle.ps_changes.specs.declared.value.Value.{Value}
+use Rattle.ps_changes.specs.declared.value.Value.TheVariants.{Bit, Code, Count, Words}
+use Rattle.ps_changes.specs.declared.value.TheConstants.{LONGEST_WORDS}
 
 -- what a wire has: a bit; a number of so many bits; or words
 pub data Held : Type 0 where

@@ -1,5 +1,7 @@
 -- A case that was run, and how many were told.
-use Rattle.std.specs.Prelude.{ℕ, Bool, ◌==◌, ◌+◌, List, length, min, if◌then◌else◌}
+use Rattle.std.specs.Prelude.{ℕ, Bool, List, length}
+use Rattle.ps_changes.specs.Cases.{failed_behind, has_passed}
+use Rattle.ps_changes.specs.Counts.{one_more}
 use Rattle.ps_cases.specs.declared.case.Case.{Case}
 use Rattle.ps_cases.specs.declared.case.CaseFile.{CaseFile}
 use Rattle.ps_rig.specs.declared.run.CaseOutcome.{CaseOutcome}
@@ -30,11 +32,11 @@ ran_of r = record {
 
 -- A case is told as passed exactly where its failures are none.
 abbrev pub passes : CaseOutcome → Bool
-passes outcome = length outcome.failures.items == 0
+passes outcome = has_passed (length outcome.failures.items)
 
 -- the number behind a number; the largest one stays
 abbrev pub next : ℕ → ℕ
-next n = min (n + 1) 18446744073709551615
+next n = one_more n
 
 -- no case was told yet
 abbrev pub none_told : Tally
@@ -42,4 +44,4 @@ none_told = record { cases = 0; failed = 0 }
 
 -- one more case was told, which passed or failed
 abbrev pub counted : Tally → (passed : Bool) → Tally
-counted t passed = record { cases = next t.cases; failed = if passed then t.failed else next t.failed }
+counted t passed = record { cases = next t.cases; failed = failed_behind t.failed passed }

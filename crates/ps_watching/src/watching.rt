@@ -31,7 +31,7 @@ use crate::wires::wires_of;
 use ps_base::{Bytes, Memory};
 use ps_bench_base::{Input, InputStop, Opened, Status, Stop, open_app, word_of};
 use ps_bench_words::Layout;
-use ps_dumping::parts_of;
+use ps_watcher::parts_of;
 use ps_hearing::Listener;
 use ps_model::App;
 use ps_outside::{Files, Output, write_all};

@@ -6,7 +6,7 @@ ghost use Rattle.ps_shown.specs.Shown.{label};
 ghost use Rattle.ps_watching.specs.Wires as wires;
 
 use ps_base::{Label, Memory};
-use ps_dumping::Part;
+use ps_watcher::Part;
 use ps_model::App;
 use ps_shown::label_of;
 use ps_terms::Name;

@@ -2,17 +2,13 @@
 use Rattle.std.specs.Prelude.{ℕ, ◌+◌, true, false, min}
 use Rattle.ps_changes.specs.declared.count.Count.{Count}
 
--- the number behind a number; the largest one stays
-abbrev pub one_more : ℕ → ℕ
-one_more n = min (n + 1) 18446744073709551615
-
 -- scans are counted from 1
 abbrev pub first_count : Count
 first_count = record { number = 1; is_restarted = false }
 
--- the scan behind one
+-- the scan behind one; the largest number stays
 abbrev pub next_count : Count → Count
-next_count count = record { number = one_more count.number; is_restarted = false }
+next_count count = record { number = min (count.number + 1) 18446744073709551615; is_restarted = false }
 
 -- the next scan behind a restart
 abbrev pub anew_count : Count → Count

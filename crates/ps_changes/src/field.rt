@@ -1,7 +1,7 @@
 // A value that is watched, from one scan to the next.
 
-ghost use Rattle.std.specs.Prelude.{◌≡◌};
-ghost use Rattle.ps_changes.specs.Fields as fields;
+ghost use Rattle.std.specs.Prelude.{◌≡◌, ◌==◌, false};
+ghost use Rattle.std.specs.Option.{option_map_or};
 ghost use Rattle.ps_changes.specs.Fields.{in_next};
 
 /// A value that is watched, with the one behind the scan before.
@@ -32,7 +32,7 @@ impl Field {
 
     /// Whether the value stayed as it was behind the scan before.
     pub fn stays(self) -> bool
-        ensures { result ≡ fields.stays self.before self.value }
+        ensures { result ≡ option_map_or (λ before. before == self.value) self.before false }
     {
         match self.before {
             Some(before) => before == self.value,

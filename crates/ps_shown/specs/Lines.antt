@@ -1,9 +1,8 @@
 -- The lines of what is watched, in each format.
-use Rattle.std.specs.Prelude.{ℕ, Bool, List, [], ◌∷◌, ◌++◌, codes, decimal, drop, length, map}
+use Rattle.std.specs.Prelude.{ℕ, ◌==◌, Bool, false, List, [], ◌∷◌, ◌++◌, codes, decimal, drop, length, map}
 use Rattle.std.specs.Prelude.{if◌then◌else◌, Option, Some, None}
 use Rattle.std.specs.List.{flat_map}
 use Rattle.csv.specs.Writing.{default_writer, row_text}
-use Rattle.ps_changes.specs.Fields.{stays}
 use Rattle.ps_terms.specs.declared.name.Name.{Name}
 use Rattle.ps_terms.specs.declared.name.Name.TheVariants.{Signal, Code, Pin}
 use Rattle.ps_seen.specs.Moments.{is_stopped, trips}
@@ -34,6 +33,11 @@ abbrev pub change_text : Network → Name → (before : Option ℕ) → (now : �
 change_text net name None v = label net name ++ codes "=" ++ value_text net name v
 change_text net name (Some u) v =
     label net name ++ codes " " ++ value_text net name u ++ arrow name ++ value_text net name v
+
+-- a value stayed as it was
+abbrev pub stays : (before : Option ℕ) → (now : ℕ) → Bool
+stays None v = false
+stays (Some u) v = u == v
 
 -- what changed, each behind a mark: this one before the first, and commas between them
 abbrev pub changes_told : Network → (mark : List ℕ) → List Cell → List ℕ

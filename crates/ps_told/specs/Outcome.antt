@@ -1,7 +1,6 @@
 -- A case that was run, and how many were told.
-use Rattle.std.specs.Prelude.{ℕ, Bool, List, length}
-use Rattle.ps_changes.specs.Cases.{failed_behind, has_passed}
-use Rattle.ps_changes.specs.Counts.{one_more}
+use Rattle.std.specs.Prelude.{ℕ, ◌+◌, Bool, List, length, min}
+use Rattle.ps_passed.specs.Passed.{failed_behind, has_passed}
 use Rattle.ps_cases.specs.declared.case.Case.{Case}
 use Rattle.ps_cases.specs.declared.case.CaseFile.{CaseFile}
 use Rattle.ps_rig.specs.declared.run.CaseOutcome.{CaseOutcome}
@@ -36,7 +35,7 @@ passes outcome = has_passed (length outcome.failures.items)
 
 -- the number behind a number; the largest one stays
 abbrev pub next : ℕ → ℕ
-next n = one_more n
+next n = min (n + 1) 18446744073709551615
 
 -- no case was told yet
 abbrev pub none_told : Tally

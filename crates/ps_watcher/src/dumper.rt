@@ -19,7 +19,6 @@ use std::alloc::Global;
 
 /// Who writes the value changes of a run, of which parts are watched. It keeps the values of the last scan, and no
 /// other.
-#[derive(Drop)]
 pub struct Dumper {
     // what each wire is about
     pub(crate) parts: Vec<Part>,
@@ -28,6 +27,18 @@ pub struct Dumper {
     pub(crate) dump: Dump,
     // the next scan
     pub(crate) next: Count,
+}
+
+impl Drop for Dumper {
+    // One call for whoever owns one, in place of a walk through all that it holds.
+    fn drop(self) {
+        let Dumper {
+            parts: _,
+            values: _,
+            dump: _,
+            next: _,
+        } = self;
+    }
 }
 
 // Puts what the wires have in a scan.

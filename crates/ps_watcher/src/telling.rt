@@ -7,6 +7,7 @@ ghost use Rattle.ps_watcher.specs.Room.{IsKeyed, cells_of, column_room, columns_
 ghost use Rattle.ps_shown.specs.declared.format.Format.TheVariants.{Text};
 
 use crate::column::Column;
+use ps_changes::Field;
 use ps_model::{App, Verdict};
 use ps_seen::is_trip;
 use ps_shown::{Line, put_value};
@@ -21,6 +22,13 @@ fn arrow(name: Name) -> &'static [u8]
         Name::Signal(_) | Name::Pin { .. } => b">",
         Name::Code(_) => b" > ",
     }
+}
+
+// Whether a value stayed as it was.
+fn stays(field: Field) -> bool
+    ensures { result ≡ lines.stays field.before field.value }
+{
+    field.stays()
 }
 
 // Puts a value that changed, or the first one, behind a mark.
@@ -57,7 +65,7 @@ fn put_changes(line: &mut Line, app: &App, mark: &[u8], columns: &[Column])
 {
     let mut next = mark;
     for column in columns {
-        if !column.field.stays() {
+        if !stays(column.field) {
             put_change(line, app, next, column);
             next = b", ";
         }

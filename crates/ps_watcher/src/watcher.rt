@@ -19,7 +19,6 @@ use ps_terms::Name;
 use std::alloc::Global;
 
 /// Who watches the scans of a run: names and how they are written. It keeps the values of the last scan, and no other.
-#[derive(Drop)]
 pub struct Watcher {
     // how it writes
     pub(crate) format: Format,
@@ -29,6 +28,18 @@ pub struct Watcher {
     pub(crate) line: Line,
     // what marks the next scan
     pub(crate) next: Marks,
+}
+
+impl Drop for Watcher {
+    // One call for whoever owns one, in place of a walk through all that it holds.
+    fn drop(self) {
+        let Watcher {
+            format: _,
+            columns: _,
+            line: _,
+            next: _,
+        } = self;
+    }
 }
 
 // Makes what is written of a scan.

@@ -61,10 +61,16 @@ pub struct Asked<'a> {
 }
 
 /// A run before its first scan, with who writes it, and what stands before the first scan.
-#[derive(Drop)]
 pub(crate) struct Prepared {
     pub(crate) head: Bytes,
     pub(crate) player: Player,
+}
+
+impl Drop for Prepared {
+    // One call for whoever owns one, in place of a walk through all that it holds.
+    fn drop(self) {
+        let Prepared { head: _, player: _ } = self;
+    }
 }
 
 // A run in a world that is written in a format, before its first scan.

@@ -31,7 +31,6 @@ use crate::wires::wires_of;
 use ps_base::{Bytes, Memory};
 use ps_bench_base::{Input, InputStop, Opened, Status, Stop, open_app, word_of};
 use ps_bench_words::Layout;
-use ps_watcher::parts_of;
 use ps_hearing::Listener;
 use ps_model::App;
 use ps_outside::{Files, Output, write_all};
@@ -42,6 +41,7 @@ use ps_terms::Name;
 use ps_trace::{Faults, TraceReader};
 use ps_traced::{Expansion, Play, open_faults, open_play, open_trace, refuse_input};
 use ps_vcd::header_of;
+use ps_watcher::parts_of;
 use ps_world::World;
 use std::alloc::Global;
 

@@ -26,7 +26,7 @@ use Rattle.ps_report.specs.Lines.{code_text}
 use Rattle.ps_shown.specs.Lines.{json_line, members_text}
 use Rattle.ps_shown.specs.Shown.{json_key, json_value, label, truth_text}
 use Rattle.ps_shown.specs.declared.format.Format.TheVariants.{Json as AsJson}
-use Rattle.ps_watch.specs.Watching.{Before, at_restart, behind_scan, cell_in, items_text}
+use Rattle.ps_watcher.specs.Watching.{Before, at_restart, behind_scan, cell_in, items_text}
 use Rattle.ps_reread.proofs.Digits.{AllBelow, below, code_digits, four_digits, hex_digit}
 use Rattle.ps_reread.specs.Objects.{json_of, lines_in, members_of, object_of, objects_seen, onto_line, values_read}
 use Rattle.ps_reread.specs.Reread.{IsInBits}

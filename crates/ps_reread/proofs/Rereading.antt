@@ -15,17 +15,18 @@ use Rattle.ps_states.specs.States.{state_words}
 use Rattle.ps_states.proofs.Wording.{told_plain}
 use Rattle.ps_vcd.specs.ReadBack.{HasPlace, IsReadable, is_plain}
 use Rattle.ps_vcd.specs.Text.{scans_text}
-use Rattle.ps_vcd.specs.Values.{Held, shortened}
-use Rattle.ps_vcd.specs.Values.Held.{bit}
-use Rattle.ps_vcd.specs.declared.value.TheConstants.{LONGEST_WORDS}
-use Rattle.ps_watch.specs.Watching.{written_of}
-use Rattle.ps_dumping.specs.Dumped.{Dumped, dump_text, dump_told, dumped_anew, dumped_then}
-use Rattle.ps_dumping.specs.Dumping.{anew_count, next_count, wires_held}
-use Rattle.ps_dumping.specs.Parts.{part_held, parts_of, state_text, text_of}
+use Rattle.ps_changes.specs.Values.{Held, shortened}
+use Rattle.ps_changes.specs.Values.Held.{bit}
+use Rattle.ps_changes.specs.declared.value.TheConstants.{LONGEST_WORDS}
+use Rattle.ps_watcher.specs.Watching.{written_of}
+use Rattle.ps_watcher.specs.Dumped.{Dumped, dump_text, dump_told, dumped_anew, dumped_then}
+use Rattle.ps_changes.specs.Counts.{anew_count, next_count}
+use Rattle.ps_watcher.specs.Dumping.{wires_held}
+use Rattle.ps_watcher.specs.Parts.{part_held, parts_of, state_text, text_of}
 use Rattle.ps_reread.specs.Reread.{IsInBits, scan_held, scans_held}
-use Rattle.ps_dumping.specs.declared.parts.Count.{Count}
-use Rattle.ps_dumping.specs.declared.parts.Part.{Part}
-use Rattle.ps_dumping.specs.declared.parts.Part.TheVariants.{Restart, Trip, Scan, Bit, Code, State}
+use Rattle.ps_changes.specs.declared.count.Count.{Count}
+use Rattle.ps_watcher.specs.declared.parts.Part.{Part}
+use Rattle.ps_watcher.specs.declared.parts.Part.TheVariants.{Restart, Trip, Scan, Bit, Code, State}
 
 module _ (net : Network) (names : List Name) where
   -- what is written of items is written of their scans

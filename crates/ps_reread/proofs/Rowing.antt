@@ -25,7 +25,7 @@ use Rattle.ps_report.specs.Lines.{code_text}
 use Rattle.ps_shown.specs.Lines.{csv_names, csv_row, fields_text, head_text}
 use Rattle.ps_shown.specs.Shown.{digit, field_text}
 use Rattle.ps_shown.specs.declared.format.Format.TheVariants.{Csv}
-use Rattle.ps_watch.specs.Watching.{Before, at_first, at_restart, behind_scan, cell_in, items_text}
+use Rattle.ps_watcher.specs.Watching.{Before, at_first, at_restart, behind_scan, cell_in, items_text}
 use Rattle.ps_reread.proofs.Digits.{AllBelow, below, code_digits, four_digits, hex_digit}
 use Rattle.ps_reread.specs.Reread.{IsInBits}
 use Rattle.ps_reread.specs.Rows.{Row, row_read, row_seen, rows_seen, table_of, table_read}

@@ -8,9 +8,10 @@ use Rattle.ps_model.specs.Meaning.{Item}
 use Rattle.ps_model.specs.Meaning.Item.{scan, restart}
 use Rattle.ps_model.specs.Network.{Network}
 use Rattle.ps_vcd.specs.Text as vcd
-use Rattle.ps_dumping.specs.Dumping.{anew_count, next_count, wires_held}
-use Rattle.ps_dumping.specs.Parts.{parts_of}
-use Rattle.ps_dumping.specs.declared.parts.Count.{Count}
+use Rattle.ps_changes.specs.Counts.{anew_count, next_count}
+use Rattle.ps_watcher.specs.Dumping.{wires_held}
+use Rattle.ps_watcher.specs.Parts.{parts_of}
+use Rattle.ps_changes.specs.declared.count.Count.{Count}
 
 -- a scan with its time, and what each of its wires has in it
 abbrev pub scan_held : Network → List Name → Count → Moment → vcd.Moment

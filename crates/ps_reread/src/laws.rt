@@ -8,14 +8,14 @@ ghost use Rattle.ps_model.specs.Meaning.{Item};
 ghost use Rattle.ps_model.specs.Network.{Network};
 ghost use Rattle.ps_vcd.specs.ReadBack.{identifiers, seen};
 ghost use Rattle.ps_vcd.specs.Reading.{scans_read};
-ghost use Rattle.ps_dumping.specs.Dumped.{dump_text};
-ghost use Rattle.ps_dumping.specs.Parts.{parts_of};
+ghost use Rattle.ps_watcher.specs.Dumped.{dump_text};
+ghost use Rattle.ps_watcher.specs.Parts.{parts_of};
 ghost use Rattle.ps_reread.specs.Objects.{objects_seen, values_read};
 ghost use Rattle.ps_reread.specs.Reread.{IsInBits, scans_held};
 ghost use Rattle.ps_reread.specs.Rows.{rows_seen, table_read};
 ghost use Rattle.ps_shown.specs.Lines.{csv_names, head_text};
 ghost use Rattle.ps_shown.specs.declared.format.Format.TheVariants.{Csv, Json};
-ghost use Rattle.ps_watch.specs.Watching.{at_first, items_text};
+ghost use Rattle.ps_watcher.specs.Watching.{at_first, items_text};
 
 use ps_vcd::read_back;
 

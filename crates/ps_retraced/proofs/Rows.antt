@@ -27,7 +27,7 @@ use Rattle.ps_terms.specs.Names.{truth_of}
 use Rattle.ps_terms.specs.declared.name.Name.{Name}
 use Rattle.ps_terms.specs.declared.name.Name.TheVariants.{Signal, Code, Pin}
 use Rattle.ps_trace.specs.Words.{number_of}
-use Rattle.ps_watch.specs.Watching.{Before, cell_in}
+use Rattle.ps_watcher.specs.Watching.{Before, cell_in}
 
 truth_back : (b : Bool) → truth_of (digit (bit b)) ≡ Some b
 truth_back true = refl

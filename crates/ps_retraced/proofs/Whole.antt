@@ -42,7 +42,7 @@ use Rattle.ps_shown.specs.Lines.{csv_row, head_text}
 use Rattle.ps_shown.specs.Names.{all_names}
 use Rattle.ps_shown.specs.Shown.{label}
 use Rattle.ps_shown.specs.declared.format.Format.TheVariants.{Csv}
-use Rattle.ps_watch.specs.Watching.{Before, at_first, at_restart, behind_scan, cell_in, items_text, watch_text}
+use Rattle.ps_watcher.specs.Watching.{Before, at_first, at_restart, behind_scan, cell_in, items_text, watch_text}
 use Rattle.ps_world.specs.Answers.{Answer}
 
 -- ---- Lines.

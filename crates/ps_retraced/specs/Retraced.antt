@@ -17,7 +17,7 @@ use Rattle.ps_shown.specs.Names.{all_names}
 use Rattle.ps_shown.specs.declared.format.Format.TheVariants.{Csv}
 use Rattle.ps_trace.specs.Scans.{scans_of}
 use Rattle.ps_trace.specs.Scans.End.{whole as whole_trace}
-use Rattle.ps_watch.specs.Watching.{watch_text}
+use Rattle.ps_watcher.specs.Watching.{watch_text}
 use Rattle.ps_world.specs.Answers.{answers_of_run}
 use Rattle.ps_world.specs.Whole.{Setup, machines_in}
 

@@ -1,5 +1,6 @@
 -- A case that was run, and how many were told.
-use Rattle.std.specs.Prelude.{ℕ, Bool, ◌==◌, ◌+◌, List, length, min, if◌then◌else◌}
+use Rattle.std.specs.Prelude.{ℕ, ◌+◌, Bool, List, length, min}
+use Rattle.ps_passed.specs.Passed.{failed_behind, has_passed}
 use Rattle.ps_cases.specs.declared.case.Case.{Case}
 use Rattle.ps_cases.specs.declared.case.CaseFile.{CaseFile}
 use Rattle.ps_rig.specs.declared.run.CaseOutcome.{CaseOutcome}
@@ -30,7 +31,7 @@ ran_of r = record {
 
 -- A case is told as passed exactly where its failures are none.
 abbrev pub passes : CaseOutcome → Bool
-passes outcome = length outcome.failures.items == 0
+passes outcome = has_passed (length outcome.failures.items)
 
 -- the number behind a number; the largest one stays
 abbrev pub next : ℕ → ℕ
@@ -42,4 +43,4 @@ none_told = record { cases = 0; failed = 0 }
 
 -- one more case was told, which passed or failed
 abbrev pub counted : Tally → (passed : Bool) → Tally
-counted t passed = record { cases = next t.cases; failed = if passed then t.failed else next t.failed }
+counted t passed = record { cases = next t.cases; failed = failed_behind t.failed passed }

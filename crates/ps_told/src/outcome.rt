@@ -5,6 +5,7 @@ ghost use Rattle.ps_told.specs.Outcome.{counted, none_told, passes, ran_of};
 
 use ps_cases::{Case, CaseFile};
 use ps_model::App;
+use ps_passed::{failed_behind, has_passed};
 use ps_rig::CaseOutcome;
 
 /// A case that was run: what is told of it.
@@ -29,7 +30,7 @@ impl<'a> CaseRun<'a> {
     pub fn passed(&self) -> bool
         ensures { result ≡ passes (ran_of self.now).outcome }
     {
-        self.outcome.failures.as_slice().is_empty()
+        has_passed(self.outcome.failures.as_slice().len())
     }
 }
 
@@ -59,11 +60,7 @@ impl Tally {
     {
         Tally {
             cases: self.cases.saturating_add(1),
-            failed: if passed {
-                self.failed
-            } else {
-                self.failed.saturating_add(1)
-            },
+            failed: failed_behind(self.failed, passed),
         }
     }
 }

@@ -4,6 +4,7 @@ ghost use Rattle.std.specs.Prelude.{◌≡◌};
 ghost use Rattle.ps_told.specs.Placing.{from_line};
 
 use ps_cases::Statement;
+use ps_passed::is_from;
 
 /// The statements from a line on, where they stand in the order of their lines. It takes no memory.
 pub fn from_line(statements: &[Statement], line: u32) -> &[Statement]
@@ -11,7 +12,7 @@ pub fn from_line(statements: &[Statement], line: u32) -> &[Statement]
 {
     let mut rest = statements;
     'lines: while let [first, others @ ..] = rest {
-        if first.line >= line {
+        if is_from(line, first.line) {
             return rest;
         }
         rest = others;

@@ -5,7 +5,7 @@ use Rattle.std.proofs.lemmas.Bool.Decides.{nat_tests}
 use Rattle.ps_vcd.specs.declared.wire.Wire.{Wire}
 use Rattle.ps_vcd.specs.declared.wire.Shape.{Shape}
 use Rattle.ps_vcd.specs.declared.wire.Shape.TheVariants.{Bit, Code, Count, Words}
-use Rattle.ps_vcd.specs.Text.{identifier}
+use Rattle.ps_changes.specs.Identifiers.{identifier}
 use Rattle.ps_vcd.specs.Declarations.{type_text, range_text, wire_text}
 use Rattle.ps_vcd.specs.Reading.{is_white, tokens}
 use Rattle.ps_vcd.specs.ReadBack.{is_printable, type_word, size_word, range_words, wire_tokens}

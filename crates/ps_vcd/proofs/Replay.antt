@@ -4,9 +4,10 @@ use Rattle.std.specs.List.{range_with_len, AllByRecursion}
 use Rattle.std.specs.Str.{bytes_eq}
 use Rattle.std.specs.Str.Parse.{digits_value}
 use Rattle.std.proofs.lemmas.Slice.Eq.{bytes_eq-Decides}
-use Rattle.ps_vcd.specs.Values.{Held, is_same, same_bit}
-use Rattle.ps_vcd.specs.Values.Held.{bit, vector, words}
-use Rattle.ps_vcd.specs.Text.{Moment, identifier, bits, shown_byte, change_text, changes, scans_text}
+use Rattle.ps_changes.specs.Values.{Held, is_same, same_bit}
+use Rattle.ps_changes.specs.Values.Held.{bit, vector, words}
+use Rattle.ps_changes.specs.Identifiers.{identifier}
+use Rattle.ps_vcd.specs.Text.{Moment, bits, shown_byte, change_text, changes, scans_text}
 use Rattle.ps_vcd.specs.Reading.{Known, Seen, tokens, events_from, words_from, with_change, unknown, scans_from, scans_in, scans_read}
 use Rattle.ps_vcd.specs.Reading.Event.{time, change}
 use Rattle.ps_vcd.specs.ReadBack.{HasPlace, IsReadable, identifiers, seen}

@@ -1,8 +1,8 @@
 -- The lines of changes, one wire after another.
 use Rattle.std.proofs.Common.{◌≡◌, ◌<◌, ◌+◌, ◌-◌, ◌*◌, ◌/◌, ◌%◌, ◌++◌, ◌∙◌, ℕ, zero, suc, Bool, List, [], ◌∷◌, codes, length, drop, flat_map, get_or, map, refl, ap, sym, append-nil, append_assoc, arith}
 use Rattle.std.proofs.lemmas.List.{drop_more}
-use Rattle.ps_vcd.specs.declared.value.Value.{Value}
-use Rattle.ps_vcd.specs.Values.{held}
+use Rattle.ps_changes.specs.declared.value.Value.{Value}
+use Rattle.ps_changes.specs.Values.{held}
 use Rattle.ps_vcd.specs.Text.{bits, changed_text, changes}
 use Rattle.ps_vcd.specs.Declarations.{opening_byte, opening}
 

@@ -8,7 +8,8 @@ use Rattle.std.proofs.lemmas.Fmt.{decimal_is_IsNumeral}
 use Rattle.std.proofs.lemmas.Int.Digits.{digits_value_push}
 use Rattle.std.proofs.lemmas.Str.{digit_value_digit}
 use Rattle.std.proofs.lemmas.Str.Parse.{digit_from_value}
-use Rattle.ps_vcd.specs.Text.{character, identifier, bits, shown_byte}
+use Rattle.ps_changes.specs.Identifiers.{character, identifier}
+use Rattle.ps_vcd.specs.Text.{bits, shown_byte}
 use Rattle.ps_vcd.specs.Reading.{is_white, onto_token, before_tokens, tokens, words_from}
 use Rattle.ps_vcd.specs.ReadBack.{is_plain, is_printable}
 

@@ -4,7 +4,7 @@ use Rattle.std.specs.Str.{bytes_eq}
 use Rattle.ps_vcd.specs.declared.wire.Wire.{Wire}
 use Rattle.ps_vcd.specs.declared.wire.Shape.{Shape}
 use Rattle.ps_vcd.specs.declared.wire.Shape.TheVariants.{Bit, Code, Count, Words}
-use Rattle.ps_vcd.specs.Text.{identifier}
+use Rattle.ps_changes.specs.Identifiers.{identifier}
 
 -- ---- Scopes.
 

@@ -1,7 +1,7 @@
 -- A writer of value changes, as contracts see it.
 use Rattle.std.specs.Prelude.{ℕ, Bool, List, map, length}
 use Rattle.ps_vcd.specs.declared.dump.Dump.{Dump}
-use Rattle.ps_vcd.specs.Values.{Held, held}
+use Rattle.ps_changes.specs.Values.{Held, held}
 
 -- how many wires it has
 abbrev pub wire_count : Dump → ℕ

@@ -1,5 +1,4 @@
--- what a wire has; what the value changes of wires are as text, and what a reader gives of such a text
-pub mod Values
+-- what the value changes of wires are as text, and what a reader gives of such a text
 pub mod Text
 pub mod Reading
 pub mod ReadBack

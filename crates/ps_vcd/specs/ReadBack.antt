@@ -5,9 +5,10 @@ use Rattle.std.specs.List.{list_all, range_with_len, AllByRecursion}
 use Rattle.ps_vcd.specs.declared.wire.Wire.{Wire}
 use Rattle.ps_vcd.specs.declared.wire.Shape.{Shape}
 use Rattle.ps_vcd.specs.declared.wire.Shape.TheVariants.{Bit, Code, Count, Words}
-use Rattle.ps_vcd.specs.Values.{Held}
-use Rattle.ps_vcd.specs.Values.Held.{bit, vector, words}
-use Rattle.ps_vcd.specs.Text.{Moment, identifier}
+use Rattle.ps_changes.specs.Values.{Held}
+use Rattle.ps_changes.specs.Values.Held.{bit, vector, words}
+use Rattle.ps_changes.specs.Identifiers.{identifier}
+use Rattle.ps_vcd.specs.Text.{Moment}
 use Rattle.ps_vcd.specs.Reading.{Seen}
 
 -- a character prints, and is no blank

@@ -3,8 +3,8 @@ use Rattle.std.specs.Prelude.{ℕ, zero, suc, ◌==◌, nat_le, Bool, true, fals
 use Rattle.std.specs.Prelude.{None, map, length}
 use Rattle.std.specs.Str.{bytes_eq}
 use Rattle.std.specs.Str.Parse.{digits_value}
-use Rattle.ps_vcd.specs.Values.{Held}
-use Rattle.ps_vcd.specs.Values.Held.{bit, vector, words}
+use Rattle.ps_changes.specs.Values.{Held}
+use Rattle.ps_changes.specs.Values.Held.{bit, vector, words}
 
 -- ---- Tokens.
 

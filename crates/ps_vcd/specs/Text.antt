@@ -1,19 +1,9 @@
 -- The value changes of wires as text, by IEEE 1364. The wire with number n has the identifier of n.
-use Rattle.std.specs.Prelude.{ℕ, zero, suc, ◌+◌, ◌/◌, ◌%◌, ◌==◌, ◌||◌, nat_lt, not, Bool, true, false, if◌then◌else◌}
+use Rattle.std.specs.Prelude.{ℕ, zero, suc, ◌+◌, ◌/◌, ◌%◌, ◌==◌, ◌||◌, not, Bool, true, false, if◌then◌else◌}
 use Rattle.std.specs.Prelude.{List, [], ◌∷◌, ◌++◌, flat_map, codes, decimal}
-use Rattle.ps_vcd.specs.Values.{Held, is_same}
-use Rattle.ps_vcd.specs.Values.Held.{bit, vector, words}
-
--- the printable character of a number below 94, from `!` on
-abbrev pub character : ℕ → ℕ
-character n = 33 + n
-
--- the identifier of a wire: its number in base 94, of one to three characters
-abbrev pub identifier : (wire : ℕ) → List ℕ
-identifier n =
-    if nat_lt n 94 then character n ∷ []
-    else if nat_lt n 8836 then character (n / 94) ∷ character (n % 94) ∷ []
-    else character (n / 8836) ∷ character (n / 94 % 94) ∷ character (n % 94) ∷ []
+use Rattle.ps_changes.specs.Identifiers.{identifier}
+use Rattle.ps_changes.specs.Values.{Held, is_same}
+use Rattle.ps_changes.specs.Values.Held.{bit, vector, words}
 
 -- so many binary digits of a number, the highest first
 abbrev pub bits : (count number : ℕ) → List ℕ

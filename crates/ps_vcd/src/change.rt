@@ -1,15 +1,14 @@
 // The line of a value change.
 
 ghost use Rattle.std.specs.Prelude.{◌≡◌, ◌+◌, ◌*◌, ◌%◌, ◌≤◌, ◌<◌, ◌++◌, length, take, flat_map};
-ghost use Rattle.ps_vcd.specs.declared.identifier.TheConstants.{MOST_WIRES};
-ghost use Rattle.ps_vcd.specs.declared.value.TheConstants.{LONGEST_WORDS};
-ghost use Rattle.ps_vcd.specs.Values.{held, shortened};
+ghost use Rattle.ps_changes.specs.declared.identifier.TheConstants.{MOST_WIRES};
+ghost use Rattle.ps_changes.specs.declared.value.TheConstants.{LONGEST_WORDS};
+ghost use Rattle.ps_changes.specs.Values.{held, shortened};
 ghost use Rattle.ps_vcd.specs.declared.change.TheConstants.{CHANGE_ROOM};
 ghost use Rattle.ps_vcd.specs.Text.{bits, shown_byte, value_text, vector_text, change_text};
 
-use crate::identifier::Identifier;
 use crate::room::{put, put_byte};
-use crate::value::{LONGEST_WORDS, Value, shortened};
+use ps_changes::{Identifier, LONGEST_WORDS, Value, shortened};
 
 /// The most bytes of a change: `s`, words of which each byte takes up to four, a blank, an identifier and a line feed.
 pub(crate) const CHANGE_ROOM: usize = 6 + 4 * LONGEST_WORDS;

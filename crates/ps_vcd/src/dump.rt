@@ -3,17 +3,16 @@
 ghost use Rattle.std.specs.Prelude.{◌≡◌, ◌+◌, ◌*◌, ◌≤◌, ◌<◌, ◌++◌, vec_len, IsTrue, IfOk, OnOk, OnErr, IfErr, length};
 ghost use Rattle.std.specs.Prelude.{map, take, false, true};
 ghost use Rattle.ps_outside.specs.Outside.{Rose};
-ghost use Rattle.ps_vcd.specs.declared.identifier.TheConstants.{MOST_WIRES};
+ghost use Rattle.ps_changes.specs.declared.identifier.TheConstants.{MOST_WIRES};
 ghost use Rattle.ps_vcd.specs.declared.change.TheConstants.{CHANGE_ROOM};
 ghost use Rattle.ps_vcd.specs.declared.dump.TheConstants.{SCAN_ROOM};
-ghost use Rattle.ps_vcd.specs.Values.{held};
+ghost use Rattle.ps_changes.specs.Values.{held};
 ghost use Rattle.ps_vcd.specs.Text.{changed_text, changes, lines_text, scan_text};
 
 use crate::change::{CHANGE_ROOM, put_change};
-use crate::identifier::MOST_WIRES;
 use crate::room::{put, put_byte, put_number};
-use crate::value::{Value, is_same};
 use ps_base::Memory;
+use ps_changes::{MOST_WIRES, Value, written};
 use ps_outside::{Sink, Stopped, write_all};
 use std::alloc::Global;
 
@@ -160,9 +159,8 @@ fn put_changed(
     ensures end { result ≤ at + CHANGE_ROOM }
     ensures len { length text.new ≡ length text.old }
 {
-    if all || !is_same(before, value) {
-        put_change(text, at, wire, value)
-    } else {
-        at
+    match written(all, before, value) {
+        Some(value) => put_change(text, at, wire, value),
+        None => at,
     }
 }

@@ -1,13 +1,13 @@
 // The declarations of wires.
 
 ghost use Rattle.std.specs.Prelude.{◌≡◌, ◌<◌, ◌≤◌, ◌++◌, [], IfOk, OnOk, length, codes, flat_map};
-ghost use Rattle.ps_vcd.specs.declared.identifier.TheConstants.{MOST_WIRES};
+ghost use Rattle.ps_changes.specs.declared.identifier.TheConstants.{MOST_WIRES};
 ghost use Rattle.ps_vcd.specs.Declarations.{opening_byte, opening, closing_byte, closing, between_scopes};
 ghost use Rattle.ps_vcd.specs.Declarations.{type_text, range_text, wire_text, wires_text, header_text};
 
-use crate::identifier::{Identifier, MOST_WIRES};
 use crate::wire::{Shape, Wire};
 use ps_base::{Bytes, Memory};
+use ps_changes::{Identifier, MOST_WIRES};
 use std::alloc::Global;
 
 /// The declarations of wires, by IEEE 1364: times in milliseconds, scopes that are opened and closed, and a variable

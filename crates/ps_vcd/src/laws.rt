@@ -2,9 +2,10 @@
 
 ghost use Rattle.std.specs.Prelude.{◌≡◌, ◌<◌, ◌≤◌, ◌++◌, ℕ, List, true, false, length, map};
 ghost use Rattle.std.specs.List.{list_all, AllByRecursion};
-ghost use Rattle.ps_vcd.specs.declared.identifier.TheConstants.{MOST_WIRES};
-ghost use Rattle.ps_vcd.specs.Values.{Held};
-ghost use Rattle.ps_vcd.specs.Text.{Moment, identifier, scans_text};
+ghost use Rattle.ps_changes.specs.declared.identifier.TheConstants.{MOST_WIRES};
+ghost use Rattle.ps_changes.specs.Values.{Held};
+ghost use Rattle.ps_changes.specs.Identifiers.{identifier};
+ghost use Rattle.ps_vcd.specs.Text.{Moment, scans_text};
 ghost use Rattle.ps_vcd.specs.Declarations.{wire_text};
 ghost use Rattle.ps_vcd.specs.Reading.{scans_read, tokens};
 ghost use Rattle.ps_vcd.specs.declared.wire.Wire.{Wire};

@@ -3,7 +3,7 @@
 use ps_base::Label;
 
 /// What a wire has.
-#[derive(Clone, Copy, Debug, PartialEq, Eq)]
+#[derive(Clone, Copy)]
 pub enum Shape {
     /// A bit.
     Bit,
@@ -16,7 +16,7 @@ pub enum Shape {
 }
 
 /// A wire: the scope that it stands in, what it is called there, and what it has.
-#[derive(Drop, Debug)]
+#[derive(Drop)]
 pub struct Wire {
     /// The names of its scopes from the outermost one on, with a dot between two of them; no name: it stands in none.
     pub scope: Label,

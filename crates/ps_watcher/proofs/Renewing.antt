@@ -31,10 +31,10 @@ pub still_fits : (net : Network) (m : Moment) (w w' : Watcher) → IsWatcherFor 
 still_fits net m w w' fits takes room = record {
   keyed = subst (λ (columns : List Column). All (IsKeyed w'.format net) columns) (sym takes.columns)
       (subst (λ (format : Format). All (IsKeyed format net) (next_columns net w m)) (sym takes.format)
-      (keyed-renewed net w.is_first m w.format w.columns.items fits.keyed));
+      (keyed-renewed net w.next.is_first m w.format w.columns.items fits.keyed));
   room =
       let same = ap columns_room takes.columns in
-      let renewed = room-renewed net w.is_first m w.columns.items in
+      let renewed = room-renewed net w.next.is_first m w.columns.items in
       let before = fits.room in
       omega (arith, same, renewed, before, room);
 }

@@ -1,5 +1,6 @@
 -- Columns as the code has them, a line in the room that was taken for it, and the room that suffices.
-use Rattle.std.specs.Prelude.{◌≡◌, ℕ, ◌+◌, Bool, List, length, map, sum_by, if◌then◌else◌, Some, None}
+use Rattle.std.specs.Prelude.{◌≡◌, ℕ, ◌+◌, Bool, List, length, map, sum_by}
+use Rattle.ps_changes.specs.Fields.{in_next}
 use Rattle.ps_seen.specs.Moments.{Moment}
 use Rattle.ps_seen.specs.Named.{value_in}
 use Rattle.ps_terms.specs.declared.name.Name.{Name}
@@ -22,7 +23,7 @@ columns_room columns = sum_by (λ (c : Column). length c.key + column_room) colu
 
 -- a column as a line shows it
 abbrev pub cell_of : Column → Cell
-cell_of c = record { name = c.name; before = c.before; value = c.value }
+cell_of c = record { name = c.name; before = c.field.before; value = c.field.value }
 
 -- columns as a line shows them
 abbrev pub cells_of : List Column → List Cell
@@ -37,6 +38,5 @@ abbrev pub renewed : Network → (is_first : Bool) → Moment → Column → Col
 renewed net is_first m c = record {
   name = c.name;
   key = c.key;
-  before = if is_first then None else Some c.value;
-  value = value_in net m c.name;
+  field = in_next is_first (value_in net m c.name) c.field;
 }

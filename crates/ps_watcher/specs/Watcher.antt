@@ -29,12 +29,12 @@ seen_behind p now verdict report = record {
 
 -- its columns in the next scan
 abbrev pub next_columns : Network → Watcher → Moment → List Column
-next_columns net w m = map (renewed net w.is_first m) w.columns.items
+next_columns net w m = map (renewed net w.next.is_first m) w.columns.items
 
 -- what it writes of an outcome
 abbrev pub watcher_said : Network → Watcher → Watched StruckWorld → Outcome Verdict → List ℕ
 watcher_said net w p (performed now verdict report) =
-    scan_text net w.format now w.is_restarted verdict (cells_of (next_columns net w (seen_behind p now verdict report)))
+    scan_text net w.format now w.next.is_restarted verdict (cells_of (next_columns net w (seen_behind p now verdict report)))
 watcher_said net w p (refuses refusal) = []
 watcher_said net w p anew = restart_text w.format
 
@@ -42,15 +42,15 @@ watcher_said net w p anew = restart_text w.format
 pub record TakesScan (net : Network) (w : Watcher) (m : Moment) (w' : Watcher) : Type 0 where
   pub format : w'.format ≡ w.format
   pub columns : w'.columns.items ≡ next_columns net w m
-  pub is_first : w'.is_first ≡ false
-  pub is_restarted : w'.is_restarted ≡ false
+  pub is_first : w'.next.is_first ≡ false
+  pub is_restarted : w'.next.is_restarted ≡ false
 
 -- A restart was taken.
 pub record TakesRestart (w w' : Watcher) : Type 0 where
   pub format : w'.format ≡ w.format
   pub columns : w'.columns.items ≡ w.columns.items
-  pub is_first : w'.is_first ≡ true
-  pub is_restarted : w'.is_restarted ≡ true
+  pub is_first : w'.next.is_first ≡ true
+  pub is_restarted : w'.next.is_restarted ≡ true
 
 -- what it becomes by an outcome
 abbrev pub watcher_takes : Network → Watcher → Watched StruckWorld → Outcome Verdict → Watcher → Type 0

@@ -5,6 +5,7 @@ ghost use Rattle.ps_seen.specs.Moments.{moment_of};
 ghost use Rattle.ps_watcher.specs.Room.{IsKeyed, columns_room, frame_room, renewed};
 
 use ps_base::{Bytes, Memory};
+use ps_changes::Field;
 use ps_model::App;
 use ps_seen::{Seen, value_of};
 use ps_shown::{Format, key_of};
@@ -17,17 +18,15 @@ const COLUMN_ROOM: usize = 140;
 /// The most bytes of a line beside its columns.
 const FRAME_ROOM: usize = 80;
 
-/// A name that is watched, with its values.
+/// A name that is watched, with its value.
 #[derive(Drop)]
 pub(crate) struct Column {
     /// The name.
     pub(crate) name: Name,
     /// What stands for it in a line.
     pub(crate) key: Bytes,
-    /// Its value behind the scan before, if there was one since the beginning or a restart.
-    pub(crate) before: Option<u16>,
-    /// Its value in the last scan.
-    pub(crate) value: u16,
+    /// Its value.
+    pub(crate) field: Field,
 }
 
 /// The columns of these names, before the first scan.
@@ -46,8 +45,7 @@ pub(crate) fn columns_of(
         columns.push(Column {
             name: *name,
             key,
-            before: None,
-            value: 0,
+            field: Field::new(),
         })?;
     }
     Ok(columns)
@@ -70,8 +68,8 @@ pub(crate) fn room_for(columns: &[Column]) -> Option<usize>
 fn renew_one(app: &App, is_first: bool, seen: &Seen<'_>, column: &mut Column)
     ensures { column.new ≡ renewed app.now is_first (moment_of seen.entry.now) column.old }
 {
-    column.before = if is_first { None } else { Some(column.value) };
-    column.value = value_of(app, column.name, seen);
+    let value = value_of(app, column.name, seen);
+    column.field = column.field.in_next(is_first, value);
 }
 
 /// Takes the values of the next scan, which is or is not a first one.

@@ -1,7 +1,6 @@
 // The row of a scan in CSV, and its object in JSON.
 
 ghost use Rattle.std.specs.Prelude.{◌≡◌, ◌+◌, ◌≤◌, ◌++◌, All, length};
-ghost use Rattle.ps_seen.specs.Moments.{is_stopped};
 ghost use Rattle.ps_model.specs.Stored.{bit};
 ghost use Rattle.ps_shown.specs.Lines.{csv_row, fields_text, json_line, members_text};
 ghost use Rattle.ps_watcher.specs.Room.{IsKeyed, cells_of, columns_room, frame_room};
@@ -9,6 +8,7 @@ ghost use Rattle.ps_shown.specs.declared.format.Format.TheVariants.{Json};
 
 use crate::column::Column;
 use ps_model::{App, Verdict};
+use ps_seen::is_stopped;
 use ps_shown::{Line, put_digit, put_field, put_json_value, put_truth};
 
 // A truth value as a number.
@@ -16,13 +16,6 @@ fn number(value: bool) -> u16
     ensures { result ≡ bit value }
 {
     if value { 1 } else { 0 }
-}
-
-// Whether a scan tripped or is down.
-fn is_stopped(verdict: Verdict) -> bool
-    ensures { result ≡ is_stopped verdict }
-{
-    !matches!(verdict, Verdict::Released)
 }
 
 // Puts values as fields of CSV, each behind a comma.
@@ -34,7 +27,7 @@ fn put_fields(line: &mut Line, columns: &[Column])
 {
     for column in columns {
         line.put(b",");
-        put_field(line, column.name, column.value);
+        put_field(line, column.name, column.field.value);
     }
 }
 
@@ -71,7 +64,7 @@ fn put_members(line: &mut Line, app: &App, columns: &[Column])
     for column in columns {
         line.put(b",");
         line.put(column.key.as_slice());
-        put_json_value(line, column.name, column.value);
+        put_json_value(line, column.name, column.field.value);
     }
 }
 

@@ -1,14 +1,15 @@
 // The line of a scan in words: what changed.
 
 ghost use Rattle.std.specs.Prelude.{◌≡◌, ◌+◌, ◌≤◌, ◌++◌, All, length};
-ghost use Rattle.ps_seen.specs.Moments.{trips};
 ghost use Rattle.ps_shown.specs.Lines as lines;
 ghost use Rattle.ps_shown.specs.Lines.{change_text, changes_told, line_unless_none, time_text, told};
 ghost use Rattle.ps_watcher.specs.Room.{IsKeyed, cells_of, column_room, columns_room, frame_room};
 ghost use Rattle.ps_shown.specs.declared.format.Format.TheVariants.{Text};
 
 use crate::column::Column;
+use ps_changes::Field;
 use ps_model::{App, Verdict};
+use ps_seen::is_trip;
 use ps_shown::{Line, put_value};
 use ps_terms::Name;
 
@@ -24,13 +25,10 @@ fn arrow(name: Name) -> &'static [u8]
 }
 
 // Whether a value stayed as it was.
-fn stays(before: Option<u16>, value: u16) -> bool
-    ensures { result ≡ lines.stays before value }
+fn stays(field: Field) -> bool
+    ensures { result ≡ lines.stays field.before field.value }
 {
-    match before {
-        Some(before) => before == value,
-        None => false,
-    }
+    field.stays()
 }
 
 // Puts a value that changed, or the first one, behind a mark.
@@ -39,13 +37,13 @@ fn put_change(line: &mut Line, app: &App, mark: &[u8], column: &Column)
     requires mark { length mark.now ≤ 2 }
     requires room { length line.old.text + (length column.now.key + column_room) ≤ line.old.room }
     ensures text { line.new.text ≡ line.old.text
-        ++ (mark.now ++ change_text app.now column.now.name column.now.before column.now.value) }
+        ++ (mark.now ++ change_text app.now column.now.name column.now.field.before column.now.field.value) }
     ensures len { length line.new.text ≤ length line.old.text + (length column.now.key + column_room) }
     ensures room { line.new.room ≡ line.old.room }
 {
     line.put(mark);
     line.put(column.key.as_slice());
-    match column.before {
+    match column.field.before {
         None => line.put(b"="),
         Some(before) => {
             line.put(b" ");
@@ -53,7 +51,7 @@ fn put_change(line: &mut Line, app: &App, mark: &[u8], column: &Column)
             line.put(arrow(column.name));
         }
     }
-    put_value(line, app, column.name, column.value);
+    put_value(line, app, column.name, column.field.value);
 }
 
 // Puts what changed: this mark before the first change, and commas between them.
@@ -67,18 +65,11 @@ fn put_changes(line: &mut Line, app: &App, mark: &[u8], columns: &[Column])
 {
     let mut next = mark;
     for column in columns {
-        if !stays(column.before, column.value) {
+        if !stays(column.field) {
             put_change(line, app, next, column);
             next = b", ";
         }
     }
-}
-
-// Whether a scan trips.
-fn is_trip(verdict: Verdict) -> bool
-    ensures { result ≡ trips verdict }
-{
-    matches!(verdict, Verdict::Tripped(_))
 }
 
 // Puts what is told of a scan.

@@ -9,6 +9,7 @@ use crate::column::{Column, columns_of, renew, room_for};
 use crate::rows::{make_csv_row, make_json_line};
 use crate::telling::make_text_line;
 use ps_base::Memory;
+use ps_changes::Marks;
 use ps_model::{App, Report, Verdict};
 use ps_outside::{Sink, Stopped, write_all};
 use ps_runs::{StruckWorld, Taker, Watched};
@@ -18,7 +19,6 @@ use ps_terms::Name;
 use std::alloc::Global;
 
 /// Who watches the scans of a run: names and how they are written. It keeps the values of the last scan, and no other.
-#[derive(Drop)]
 pub struct Watcher {
     // how it writes
     pub(crate) format: Format,
@@ -26,10 +26,20 @@ pub struct Watcher {
     pub(crate) columns: Vec<Column>,
     // room for a line
     pub(crate) line: Line,
-    // the next scan is a first one
-    pub(crate) is_first: bool,
-    // the next scan is the first behind a restart
-    pub(crate) is_restarted: bool,
+    // what marks the next scan
+    pub(crate) next: Marks,
+}
+
+impl Drop for Watcher {
+    // One call for whoever owns one, in place of a walk through all that it holds.
+    fn drop(self) {
+        let Watcher {
+            format: _,
+            columns: _,
+            line: _,
+            next: _,
+        } = self;
+    }
 }
 
 // Makes what is written of a scan.
@@ -63,8 +73,8 @@ impl Watcher {
         ensures fits { IfOk result (IsWatcherFor app.now) }
         ensures names { IfOk result (λ w. map (λ c. c.name) w.columns.items ≡ names.now) }
         ensures format { IfOk result (λ w. w.format ≡ format) }
-        ensures first { IfOk result (λ w. w.is_first ≡ true) }
-        ensures not_restarted { IfOk result (λ w. w.is_restarted ≡ false) }
+        ensures first { IfOk result (λ w. w.next.is_first ≡ true) }
+        ensures not_restarted { IfOk result (λ w. w.next.is_restarted ≡ false) }
     {
         let columns = columns_of(alloc, app, format, names)?;
         let room = room_for(columns.as_slice()).ok_or(Memory)?;
@@ -72,8 +82,7 @@ impl Watcher {
             format,
             columns,
             line: Line::with_room(alloc, room)?,
-            is_first: true,
-            is_restarted: false,
+            next: Marks::unmarked(),
         })
     }
 
@@ -82,9 +91,8 @@ impl Watcher {
         ensures takes { TakesScan app.now self.old (moment_of seen.entry.now) self.new }
         ensures room { self.new.line.room ≡ self.old.line.room }
     {
-        renew(app, self.is_first, seen, self.columns.as_mut_slice());
-        self.is_first = false;
-        self.is_restarted = false;
+        renew(app, self.next.is_first, seen, self.columns.as_mut_slice());
+        self.next = Marks::behind_scan();
     }
 
     // The same, and it is still a watcher of the application.
@@ -122,7 +130,7 @@ impl Taker<Watched<StruckWorld>> for Watcher {
             before: performer.evaluator.signals_before(),
             signals: performer.evaluator.signals(),
         };
-        let is_restarted = self.is_restarted;
+        let is_restarted = self.next.is_restarted;
         self.see(app, &seen);
         make_line(
             &mut self.line,
@@ -142,8 +150,7 @@ impl Taker<Watched<StruckWorld>> for Watcher {
         _performer: &Watched<StruckWorld>,
         out: &mut S,
     ) -> Result<(), Stopped> {
-        self.is_first = true;
-        self.is_restarted = true;
+        self.next = Marks::behind_restart();
         match self.format {
             Format::Text => write_all(out, b"restart\n"),
             Format::Csv | Format::Json => Ok(()),

@@ -21,15 +21,16 @@ use Rattle.ps_runs.proofs.ToCome.{first_stands}
 use Rattle.ps_trace.specs.Scans.{Scans}
 use Rattle.ps_vcd.specs.Dumping.{has_begun, last_of}
 use Rattle.ps_vcd.specs.Text.{change_text, changes, lines_text, scan_text}
-use Rattle.ps_vcd.specs.Values.{Held, held}
-use Rattle.ps_vcd.specs.Values.Held.{bit}
-use Rattle.ps_watch.proofs.Seeing.{watched}
+use Rattle.ps_changes.specs.Values.{Held, held}
+use Rattle.ps_changes.specs.Values.Held.{bit}
+use Rattle.ps_watcher.proofs.Seeing.{watched}
 use Rattle.ps_watcher.specs.Watcher.{seen_behind}
-use Rattle.ps_dumping.specs.Dumped.{Dumped, dump_text, dump_told, dumped_anew, dumped_then, none_dumped}
-use Rattle.ps_dumping.specs.Dumping.{TakesRestart, TakesScan, dumper_said, dumper_takes, next_count, wires_held}
-use Rattle.ps_dumping.specs.Parts.{parts_of}
+use Rattle.ps_watcher.specs.Dumped.{Dumped, dump_text, dump_told, dumped_anew, dumped_then, none_dumped}
+use Rattle.ps_changes.specs.Counts.{next_count}
+use Rattle.ps_watcher.specs.Dumping.{TakesRestart, TakesScan, dumper_said, dumper_takes, wires_held}
+use Rattle.ps_watcher.specs.Parts.{parts_of}
 use Rattle.ps_watching.specs.Prepared.{IsDumpBegun}
-use Rattle.ps_dumping.specs.declared.dumper.Dumper.{Dumper}
+use Rattle.ps_watcher.specs.declared.dumper.Dumper.{Dumper}
 
 -- where all lines are written, it does not matter what the wires had before
 all_changes : (wire : ℕ) (last other now : List Held) → length last ≡ length other →

@@ -17,8 +17,8 @@ use Rattle.ps_runs.specs.declared.striking.StruckWorld.{StruckWorld}
 use Rattle.ps_runs.specs.declared.watching.Watched.{Watched}
 use Rattle.ps_trace.specs.Scans.{Scans}
 use Rattle.ps_shown.specs.Lines.{head_text}
-use Rattle.ps_watch.specs.Watched.{IsBegun, WritesWatched}
-use Rattle.ps_watch.specs.Watching.{at_first, items_text}
+use Rattle.ps_watcher.specs.Watched.{IsBegun, WritesWatched}
+use Rattle.ps_watcher.specs.Watching.{at_first, items_text}
 use Rattle.ps_shown.specs.declared.format.Format.{Format}
 use Rattle.ps_shown.specs.declared.format.Format.TheVariants.{Text, Csv, Json}
 use Rattle.ps_watcher.specs.declared.watcher.Watcher.{Watcher}
@@ -28,7 +28,7 @@ use Rattle.ps_world.specs.Worlds.{World_state}
 use Rattle.ps_watching.specs.Asking.{body_in, head_in, seen_of_run}
 use Rattle.ps_watching.specs.Prepared.{IsDumpBegun, IsPlayerOf, Plays, PlaysDump, layout_of, performer_of}
 use Rattle.ps_watching.specs.Showing.{Run}
-use Rattle.ps_dumping.specs.declared.dumper.Dumper.{Dumper}
+use Rattle.ps_watcher.specs.declared.dumper.Dumper.{Dumper}
 use Rattle.ps_watching.specs.declared.player.Player.{Player}
 use Rattle.ps_watching.specs.declared.player.Player.TheVariants.{Lines, Changes}
 

@@ -23,9 +23,9 @@ use Rattle.ps_traced.specs.Opening.{RosesIn}
 use Rattle.ps_traced.specs.Playing.{LacksCase}
 use Rattle.ps_shown.specs.Lines.{head_text}
 use Rattle.ps_shown.specs.Names.{all_names, default_names}
-use Rattle.ps_watch.specs.Watching.{at_first, items_text}
+use Rattle.ps_watcher.specs.Watching.{at_first, items_text}
 use Rattle.ps_shown.specs.declared.format.Format.TheVariants.{Text, Csv, Json}
-use Rattle.ps_dumping.specs.Dumped.{dump_text}
+use Rattle.ps_watcher.specs.Dumped.{dump_text}
 use Rattle.ps_watching.specs.Wires.{dump_head}
 use Rattle.ps_watching.specs.Naming.{HasUnnamed}
 use Rattle.ps_watching.specs.Showing.{ComesOfRun, Run, Wanted}

@@ -17,16 +17,16 @@ use Rattle.ps_runs.specs.declared.striking.StruckWorld.{StruckWorld}
 use Rattle.ps_runs.specs.declared.watching.Watched.{Watched}
 use Rattle.ps_trace.specs.Scans.{Scans}
 use Rattle.ps_vcd.specs.Dumping.{has_begun, wire_count}
-use Rattle.ps_watch.specs.Watched.{IsBegun}
+use Rattle.ps_watcher.specs.Watched.{IsBegun}
 use Rattle.ps_watcher.specs.Watcher.{IsWatcherFor}
 use Rattle.ps_shown.specs.declared.format.Format.{Format}
 use Rattle.ps_shown.specs.declared.format.Format.TheVariants.{Text, Csv, Json}
 use Rattle.ps_watching.specs.Asking.{body_in, head_in, seen_of_run}
-use Rattle.ps_dumping.specs.Dumped.{dump_text}
-use Rattle.ps_dumping.specs.Dumping.{IsDumperFor}
-use Rattle.ps_dumping.specs.Parts.{parts_of}
+use Rattle.ps_watcher.specs.Dumped.{dump_text}
+use Rattle.ps_watcher.specs.Dumping.{IsDumperFor}
+use Rattle.ps_watcher.specs.Parts.{parts_of}
 use Rattle.ps_watching.specs.Showing.{Run}
-use Rattle.ps_dumping.specs.declared.dumper.Dumper.{Dumper}
+use Rattle.ps_watcher.specs.declared.dumper.Dumper.{Dumper}
 use Rattle.ps_watching.specs.declared.player.Player.{Player}
 use Rattle.ps_watching.specs.declared.player.Player.TheVariants.{Lines, Changes}
 use Rattle.ps_watching.specs.declared.watching.Prepared.{Prepared}

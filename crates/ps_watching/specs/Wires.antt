@@ -9,9 +9,9 @@ use Rattle.ps_vcd.specs.declared.wire.Shape.{Shape}
 use Rattle.ps_vcd.specs.declared.wire.Shape.TheVariants as shape
 use Rattle.ps_vcd.specs.declared.wire.Wire.{Wire}
 use Rattle.ps_shown.specs.Shown.{label}
-use Rattle.ps_dumping.specs.Parts.{parts_of}
-use Rattle.ps_dumping.specs.declared.parts.Part.{Part}
-use Rattle.ps_dumping.specs.declared.parts.Part.TheVariants.{Restart, Trip, Scan, Bit, Code, State}
+use Rattle.ps_watcher.specs.Parts.{parts_of}
+use Rattle.ps_watcher.specs.declared.parts.Part.{Part}
+use Rattle.ps_watcher.specs.declared.parts.Part.TheVariants.{Restart, Trip, Scan, Bit, Code, State}
 
 -- the character `.`
 abbrev pub dot : ℕ

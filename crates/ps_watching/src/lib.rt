@@ -2,7 +2,7 @@
 //!
 //! - `watching` is `watch APP TRACE [NAME..]`, `naming` what its names stand for, and `player` who makes a run and
 //!   writes it.
-//! - `wires` is what the wires of a run are called, of which ps_dumping writes the value changes.
+//! - `wires` is what the wires of a run are called, whose value changes ps_watcher writes.
 #![tactic(auto)]
 
 mod naming;

@@ -11,22 +11,20 @@ ghost use Rattle.ps_runs.specs.Running.{Fits, IsBeginning};
 ghost use Rattle.ps_runs.specs.Watching.{IsWatchedFor};
 ghost use Rattle.ps_trace.specs.Reading.{IsReadingTrace, file_of, input_count_of, items_left, last_of};
 ghost use Rattle.ps_watcher.specs.Watcher.{IsWatcherFor};
-ghost use Rattle.ps_dumping.specs.Dumping.{IsDumperFor};
+ghost use Rattle.ps_watcher.specs.Dumping.{IsDumperFor};
 ghost use Rattle.ps_watching.specs.Prepared.{IsDumpBegun, IsPlayerFor, IsPlayerOf, Plays, PlaysDump};
 ghost use Rattle.ps_watching.specs.Prepared.{layout_of, performer_of};
-ghost use Rattle.ps_dumping.specs.Parts as wires;
+ghost use Rattle.ps_watcher.specs.Parts as wires;
 ghost use Rattle.ps_watching.specs.Showing.{Run};
 
 use ps_base::Memory;
-use ps_dumping::{Dumper, Part};
 use ps_model::App;
 use ps_outside::{Files, Sink};
 use ps_runs::{Cut, Runner, StruckWorld, Watched, do_items};
 use ps_shown::Format;
 use ps_terms::Name;
 use ps_trace::TraceReader;
-use ps_watch::watch_items;
-use ps_watcher::Watcher;
+use ps_watcher::{Dumper, Part, Watcher, watch_items};
 use std::alloc::Global;
 
 /// Who makes the scans of a run, and who writes what is watched of them.

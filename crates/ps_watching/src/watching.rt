@@ -31,7 +31,6 @@ use crate::wires::wires_of;
 use ps_base::{Bytes, Memory};
 use ps_bench_base::{Input, InputStop, Opened, Status, Stop, open_app, word_of};
 use ps_bench_words::Layout;
-use ps_dumping::parts_of;
 use ps_hearing::Listener;
 use ps_model::App;
 use ps_outside::{Files, Output, write_all};
@@ -42,6 +41,7 @@ use ps_terms::Name;
 use ps_trace::{Faults, TraceReader};
 use ps_traced::{Expansion, Play, open_faults, open_play, open_trace, refuse_input};
 use ps_vcd::header_of;
+use ps_watcher::parts_of;
 use ps_world::World;
 use std::alloc::Global;
 
@@ -61,10 +61,16 @@ pub struct Asked<'a> {
 }
 
 /// A run before its first scan, with who writes it, and what stands before the first scan.
-#[derive(Drop)]
 pub(crate) struct Prepared {
     pub(crate) head: Bytes,
     pub(crate) player: Player,
+}
+
+impl Drop for Prepared {
+    // One call for whoever owns one, in place of a walk through all that it holds.
+    fn drop(self) {
+        let Prepared { head: _, player: _ } = self;
+    }
 }
 
 // A run in a world that is written in a format, before its first scan.

@@ -6,11 +6,11 @@ ghost use Rattle.ps_shown.specs.Shown.{label};
 ghost use Rattle.ps_watching.specs.Wires as wires;
 
 use ps_base::{Label, Memory};
-use ps_dumping::Part;
 use ps_model::App;
 use ps_shown::label_of;
 use ps_terms::Name;
 use ps_vcd::{Shape, Wire};
+use ps_watcher::Part;
 use std::alloc::Global;
 
 // The scope of what is about the run, and not about the application: no name of the language has an `@`.

@@ -1,4 +1,4 @@
-use Rattle.ps_watch.specs.Watching.{at_first}
+use Rattle.ps_watcher.specs.Watching.{at_first}
 use Rattle.ps_reread.proofs.Objecting.{objects_back}
 use Rattle.ps_reread.proofs.laws.objects_are_read.Goals as goal
 

@@ -2,9 +2,9 @@ use Rattle.std.proofs.Common.{◌∙◌, ℕ, List, false, length, replicate, ap
 use Rattle.std.proofs.lemmas.List.{length-replicate}
 use Rattle.ps_vcd.specs.ReadBack.{identifiers}
 use Rattle.ps_vcd.specs.Reading.{scans_read}
-use Rattle.ps_vcd.specs.Values.Held.{bit}
-use Rattle.ps_dumping.specs.Dumped.{none_dumped}
-use Rattle.ps_dumping.specs.Parts.{parts_of}
+use Rattle.ps_changes.specs.Values.Held.{bit}
+use Rattle.ps_watcher.specs.Dumped.{none_dumped}
+use Rattle.ps_watcher.specs.Parts.{parts_of}
 use Rattle.ps_reread.specs.Reread.{scans_held}
 use Rattle.ps_reread.proofs.Rereading.{scans_readable, written_is}
 use Rattle.ps_reread.proofs.laws.value_changes_are_read.Goals as goal

@@ -1,6 +1,6 @@
 use Rattle.std.proofs.Common.{◌≡◌, ◌+◌, ◌*◌, ◌≤◌, ◌++◌, take, drop, map, length}
 use Rattle.ps_vcd.specs.declared.change.TheConstants.{CHANGE_ROOM}
-use Rattle.ps_vcd.specs.Values.{held}
+use Rattle.ps_changes.specs.Values.{held}
 use Rattle.ps_vcd.specs.Text.{changes}
 use Rattle.ps_vcd.proofs.dump.put_changes.Given as goal
 

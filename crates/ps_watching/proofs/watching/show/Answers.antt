@@ -1,6 +1,6 @@
 use Rattle.std.proofs.Common.{◌∙◌, ◌++◌, IsTrue, List, ℕ, take, refl, sym, ap, subst, append_assoc}
 use Rattle.ps_top.specs.Program.{end_line}
-use Rattle.ps_watch.proofs.Seeing.{lines_behind, part_begins}
+use Rattle.ps_watcher.proofs.Seeing.{lines_behind, part_begins}
 use Rattle.ps_watching.specs.Asking.{body_in, head_in, seen_of_run}
 use Rattle.ps_trace.specs.Reading.{items_left}
 use Rattle.ps_watching.proofs.Ending.{three_pieces}

@@ -1,3 +1,0 @@
--- what any taker writes that sees each scan
-pub mod Seeing
-mod Running

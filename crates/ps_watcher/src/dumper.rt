@@ -1,0 +1,129 @@
+// Who writes the value changes of a run.
+
+ghost use Rattle.std.specs.Prelude.{◌≡◌, IfOk, map, length, false};
+ghost use Rattle.ps_seen.specs.Moments.{moment_of};
+ghost use Rattle.ps_changes.specs.Counts.{first_count};
+ghost use Rattle.ps_vcd.specs.Dumping.{has_begun};
+ghost use Rattle.ps_changes.specs.Values.{held};
+ghost use Rattle.ps_watcher.specs.Parts.{part_held};
+
+use crate::parts::{Part, value_of_part};
+use ps_base::Memory;
+use ps_changes::{Count, Value};
+use ps_model::{App, Report, Verdict};
+use ps_outside::{Sink, Stopped};
+use ps_runs::{StruckWorld, Taker, Watched};
+use ps_seen::Seen;
+use ps_vcd::Dump;
+use std::alloc::Global;
+
+/// Who writes the value changes of a run, of which parts are watched. It keeps the values of the last scan, and no
+/// other.
+pub struct Dumper {
+    // what each wire is about
+    pub(crate) parts: Vec<Part>,
+    // room for the values of a scan
+    pub(crate) values: Vec<Value>,
+    pub(crate) dump: Dump,
+    // the next scan
+    pub(crate) next: Count,
+}
+
+impl Drop for Dumper {
+    // One call for whoever owns one, in place of a walk through all that it holds.
+    fn drop(self) {
+        let Dumper {
+            parts: _,
+            values: _,
+            dump: _,
+            next: _,
+        } = self;
+    }
+}
+
+// Puts what the wires have in a scan.
+fn put_values(app: &App, count: Count, seen: &Seen<'_>, parts: &[Part], values: &mut [Value])
+    requires { length values.old ≡ length parts.now }
+    ensures values { map held values.new ≡ map (part_held app.now count (moment_of seen.entry.now)) parts.now }
+    ensures len { length values.new ≡ length parts.now }
+{
+    for wire in 0..parts.len() {
+        values[wire] = value_of_part(app, count, seen, parts[wire]);
+    }
+}
+
+impl Dumper {
+    ghost use Rattle.ps_watcher.specs.Dumping.{IsDumperFor, TakesValues};
+
+    /// Who writes the value changes of these parts, before the first scan. It takes all memory that it will use.
+    pub fn new(alloc: Global, parts: Vec<Part>) -> Result<Dumper, Memory>
+        ensures fits { IfOk result IsDumperFor }
+        ensures parts { IfOk result (λ d. d.parts ≡ parts) }
+        ensures fresh { IfOk result (λ d. has_begun d.dump ≡ false) }
+        ensures next { IfOk result (λ d. d.next ≡ first_count) }
+    {
+        let wires = parts.len();
+        Ok(Dumper {
+            parts,
+            values: vec![in alloc; Value::Bit(false); wires]?,
+            dump: Dump::new(alloc, wires)?,
+            next: Count::first(),
+        })
+    }
+
+    // Takes what the wires have in a scan.
+    fn take_values(&mut self, app: &App, seen: &Seen<'_>)
+        requires { IsDumperFor self.old }
+        ensures takes { TakesValues app.now self.old (moment_of seen.entry.now) self.new }
+        ensures fits { IsDumperFor self.new }
+    {
+        put_values(
+            app,
+            self.next,
+            seen,
+            self.parts.as_slice(),
+            self.values.as_mut_slice(),
+        );
+        self.next = self.next.next();
+    }
+}
+
+impl Taker<Watched<StruckWorld>> for Dumper {
+    ghost use Rattle.ps_watcher.specs.Dumping.{IsDumperFor, dumper_said, dumper_takes};
+
+    ghost fits = { λ net d. IsDumperFor d };
+
+    ghost said = { dumper_said };
+
+    ghost takes = { dumper_takes };
+
+    fn take_scan<S: Sink>(
+        &mut self,
+        app: &App,
+        now: u32,
+        verdict: Verdict,
+        report: &Report,
+        performer: &Watched<StruckWorld>,
+        out: &mut S,
+    ) -> Result<(), Stopped> {
+        let seen = Seen {
+            now,
+            verdict,
+            report,
+            before: performer.evaluator.signals_before(),
+            signals: performer.evaluator.signals(),
+        };
+        self.take_values(app, &seen);
+        self.dump.put_scan(out, now, self.values.as_slice())
+    }
+
+    fn take_restart<S: Sink>(
+        &mut self,
+        _app: &App,
+        _performer: &Watched<StruckWorld>,
+        _out: &mut S,
+    ) -> Result<(), Stopped> {
+        self.next = self.next.anew();
+        Ok(())
+    }
+}

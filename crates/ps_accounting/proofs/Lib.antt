@@ -1,3 +1,6 @@
+-- a trace, begun anew, and its scans
+pub mod Begun
+pub mod Done
 -- a trace that is added, or refused
 pub mod Held
 -- words, one after another

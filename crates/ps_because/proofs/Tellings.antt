@@ -12,7 +12,7 @@ use Rattle.ps_reasons.proofs.Told.{push_at, push_before, push_cases}
 use Rattle.ps_reasons.specs.declared.explaining.Explanation.{Explanation}
 use Rattle.ps_because.specs.Pending.{AddsChildren, IsChild, IsOfFact, IsTelling, KeepsNotes}
 use Rattle.ps_because.specs.Trees.{AreLinesOf, IsReasonOf, MayFollow}
-use Rattle.ps_because.specs.declared.lines.Line.{Line}
+use Rattle.ps_facts.specs.declared.lines.Line.{Line}
 
 -- ---- What is noted.
 

@@ -128,8 +128,8 @@ fn add_made_line(
     Ok(())
 }
 
-// The name of the instance that a step calls; empty where it calls none.
-fn called_name(app: &App, k: u16) -> &str
+/// The name of the instance that a step calls; empty where it calls none.
+pub fn called_name(app: &App, k: u16) -> &str
     ensures { result.now ≡ called_name app.now (slice_get app.now.steps k) }
 {
     app.sound();

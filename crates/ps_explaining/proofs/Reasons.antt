@@ -19,9 +19,9 @@ use Rattle.ps_reasons.specs.Scenes.{IsCallFor, IsCallOf, IsSceneFor, IsSceneOf}
 use Rattle.ps_reasons.specs.declared.keeping.Stepped.{Stepped}
 use Rattle.ps_reasons.specs.declared.questions.Question.{Question}
 use Rattle.ps_reasons.specs.declared.questions.Question.TheVariants.{Signal, Instance, Pin}
-use Rattle.ps_reasons.specs.declared.scene.CallScene.{CallScene}
+use Rattle.ps_facts.specs.declared.call.CallScene.{CallScene}
 use Rattle.ps_reasons.specs.declared.scene.Scene.{Scene}
-use Rattle.ps_why.specs.declared.fact.Fact.{Fact}
+use Rattle.ps_facts.specs.declared.fact.Fact.{Fact}
 use Rattle.ps_explaining.specs.Reasoned.{IsAsked, IsMomentOf, IsOfQuestion}
 
 -- what is answered is told

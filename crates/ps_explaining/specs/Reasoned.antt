@@ -20,12 +20,12 @@ use Rattle.ps_reasons.specs.Scenes.{IsCallOf}
 use Rattle.ps_reasons.specs.declared.explaining.Explanation.{Explanation}
 use Rattle.ps_reasons.specs.declared.questions.Question.{Question}
 use Rattle.ps_reasons.specs.declared.questions.Question.TheVariants.{Signal as OfSignal, Instance as OfInstance, Pin as OfPin}
-use Rattle.ps_reasons.specs.declared.scene.CallScene.{CallScene}
+use Rattle.ps_facts.specs.declared.call.CallScene.{CallScene}
 use Rattle.ps_terms.specs.declared.name.Name.{Name}
 use Rattle.ps_terms.specs.declared.name.Name.TheVariants.{Signal, Code, Pin}
 use Rattle.ps_why.specs.Explained.{EachIsSo, EachOfIsSo, IsOfInput}
-use Rattle.ps_why.specs.declared.fact.Fact.{Fact}
-use Rattle.ps_why.specs.declared.fact.Fact.TheVariants.{PinIs, SignalIs, StateIs}
+use Rattle.ps_facts.specs.declared.fact.Fact.{Fact}
+use Rattle.ps_facts.specs.declared.fact.Fact.TheVariants.{PinIs, SignalIs, StateIs}
 
 -- a pin of an instance: an input pin as the call reads it, an output as its signal
 abbrev pub question_of_pin : Network → (i j : ℕ) → Question

@@ -14,8 +14,9 @@ ghost use Rattle.ps_terms.specs.Names.{IsNameOf};
 
 use crate::placing::places_of;
 use ps_base::{Bytes, Memory};
-use ps_because::{Moment, because};
+use ps_because::because;
 use ps_coverage::Format;
+use ps_facts::Moment;
 use ps_model::{App, input_count};
 use ps_moment::{LastScan, Since, Walker};
 use ps_parser::Source;

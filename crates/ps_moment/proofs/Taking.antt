@@ -16,7 +16,7 @@ use Rattle.ps_pins.specs.declared.signals.Signals.{Signals}
 use Rattle.ps_reasons.specs.Keeping.{AllStep, AreKept, IsKeptFor, StandFor}
 use Rattle.ps_reasons.specs.Scenes.{IsCallOf}
 use Rattle.ps_reasons.specs.declared.keeping.Stepped.{Stepped}
-use Rattle.ps_reasons.specs.declared.scene.CallScene.{CallScene}
+use Rattle.ps_facts.specs.declared.call.CallScene.{CallScene}
 use Rattle.ps_rows.specs.Counted.{kept_of}
 use Rattle.ps_rows.proofs.Stepping.{fresh_kept}
 use Rattle.ps_runs.specs.Outcomes.{Outcome}
@@ -29,7 +29,7 @@ use Rattle.ps_moment.specs.declared.walker.LastScan.{LastScan}
 use Rattle.ps_moment.specs.declared.walker.Since.{Since}
 use Rattle.ps_moment.specs.declared.walker.Walker.{Walker}
 use Rattle.ps_moment.proofs.Ends.{front_or_last}
-use Rattle.ps_moment.proofs.Stepped.{none_kept}
+use Rattle.ps_reasons.proofs.Kept.{none_kept}
 
 -- what stands past what is noted
 abbrev pub no_since : Since

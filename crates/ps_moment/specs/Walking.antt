@@ -5,7 +5,7 @@ use Rattle.ps_model.specs.Meaning.{Past, last, nothing}
 use Rattle.ps_model.specs.Network.{Network, input_count, instance_count}
 use Rattle.ps_reasons.specs.Keeping.{AreKept, StandFor}
 use Rattle.ps_reasons.specs.declared.keeping.Stepped.{Stepped}
-use Rattle.ps_reasons.specs.declared.scene.CallScene.{CallScene}
+use Rattle.ps_facts.specs.declared.call.CallScene.{CallScene}
 use Rattle.ps_runs.specs.Watching.{IsEvaluatorFor, StandsAt}
 use Rattle.ps_moment.specs.declared.walker.Since.{Since}
 use Rattle.ps_moment.specs.declared.walker.Walker.{Walker}

@@ -1,11 +1,9 @@
 //! The loop over the scans of a trace up to a time: of the last scan at or before it the values of all signals before
 //! it and behind it, what is seen of each instance, and since when each instance was and is in its state.
 //!
-//! - `stepping`: what a scan makes of the instances. `walker`: what is kept of a run from scan to scan.
-//! - `walking`: the loop.
+//! - `walker`: what is kept of a run from scan to scan. `walking`: the loop.
 #![tactic(auto)]
 
-mod stepping;
 mod walker;
 mod walking;
 

@@ -14,17 +14,17 @@ ghost use Rattle.ps_moment.specs.Scanned.{begun};
 ghost use Rattle.ps_moment.specs.Walking.{AreNoted, IsWalkerFor, StandsBehind, latest, noted, renewed};
 ghost use Rattle.ps_moment.specs.declared.walker.Since.{Since as SinceOf};
 
-use crate::stepping::step_instances;
 use ps_base::Memory;
+use ps_facts::CallScene;
 use ps_model::{App, Report, Scan};
 use ps_pins::Signals;
-use ps_reasons::{CallScene, Stepped, step_instance};
+use ps_reasons::{Stepped, step_instance, step_instances};
 use ps_rows::CountedBlock;
 use ps_runs::{Evaluated, Performer};
 use std::alloc::Global;
 
 /// Since when an instance is in its state, in ms.
-#[derive(Clone, Copy, PartialEq, Eq, Debug)]
+#[derive(Clone, Copy)]
 pub struct Since {
     /// In that before the last scan; of a first scan it says nothing.
     pub before: u32,
@@ -33,7 +33,7 @@ pub struct Since {
 }
 
 /// The times of a scan and of the one before it, in ms.
-#[derive(Clone, Copy, PartialEq, Eq, Debug)]
+#[derive(Clone, Copy)]
 pub struct LastScan {
     /// Of the scan.
     pub now: u32,

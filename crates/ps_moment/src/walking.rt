@@ -18,7 +18,7 @@ use ps_outside::Files;
 use ps_trace::{Next, TraceReader, TraceStop};
 
 /// What the loop has met behind the last scan that it made.
-#[derive(Clone, Copy, PartialEq, Eq, Debug)]
+#[derive(Clone, Copy)]
 pub enum Met {
     /// The end of the trace.
     End,

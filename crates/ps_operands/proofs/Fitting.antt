@@ -29,7 +29,7 @@ use Rattle.ps_ways.specs.Tables.{ways_of}
 use Rattle.ps_parser.specs.Tree.{FactorTree, Signal, Pin, Literal, Time, Group, ProductTree, no_factor, factor, SumTree, no_product, product, factors, products, ArgumentTree, StatementTree, Assign, Call, SourceTree}
 use Rattle.ps_operands.specs.OfOperands.{IsWritten, PlacesAreOfOperands, formula_of}
 use Rattle.ps_operands.specs.Standing.{left_behind, next_place, placed, places_of, source_operands, step_operands}
-use Rattle.ps_written.specs.Operands.{Operand, given_operands, joined, nowhere, of_and, of_or, own_factors, own_products, pin_operands, place_of, statement_operands, sum_operands, within_factor, within_factors, within_products}
+use Rattle.ps_operands.specs.Operands.{Operand, given_operands, joined, nowhere, of_and, of_or, own_factors, own_products, pin_operands, place_of, statement_operands, sum_operands, within_factor, within_factors, within_products}
 
 module _ (es : List Entry) where
   -- the decisions among these points are of these operands, in order

@@ -10,7 +10,7 @@ use Rattle.ps_names.specs.Stands.{Stands, factor_formula, product_formula}
 use Rattle.ps_names.specs.declared.entry.Entry.{Entry}
 use Rattle.ps_parser.specs.Tree.{SourceTree}
 use Rattle.ps_operands.specs.Standing.{places_of}
-use Rattle.ps_written.specs.Operands.{Operand, nowhere, of_and, of_or, place_of}
+use Rattle.ps_operands.specs.Operands.{Operand, nowhere, of_and, of_or, place_of}
 
 -- the formula that an operand stands for, over these declared names
 abbrev pub formula_of : List Entry → Operand → Formula

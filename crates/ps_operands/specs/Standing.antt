@@ -7,7 +7,7 @@ use Rattle.ps_parser.specs.Tree.{SourceTree, StatementTree}
 use Rattle.ps_cover.specs.Points.{Point, decision, has, marks}
 use Rattle.ps_cover.specs.Listing.{points_of}
 use Rattle.ps_cover.specs.Tallying.{called_kind}
-use Rattle.ps_written.specs.Operands.{Operand, nowhere, place_of, statement_operands}
+use Rattle.ps_operands.specs.Operands.{Operand, nowhere, place_of, statement_operands}
 
 -- of the statement of a step, if it is there
 abbrev pub step_operands : Network → (step : ℕ) → Option StatementTree → List Operand

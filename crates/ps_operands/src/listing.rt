@@ -2,13 +2,13 @@
 
 ghost use Rattle.std.specs.Prelude.{◌≡◌, ◌++◌, OnOk, map, slice_get};
 ghost use Rattle.ps_operands.specs.Standing.{source_operands, step_operands};
-ghost use Rattle.ps_written.specs.Operands.{place_of};
+ghost use Rattle.ps_operands.specs.Operands.{place_of};
 
+use crate::statements::push_statement;
 use ps_base::{Memory, Place};
 use ps_cover::called_kind;
 use ps_model::App;
 use ps_parser::Source;
-use ps_written::push_statement;
 
 // Lists the operands of the statement of a step.
 fn push_step(app: &App, source: &Source, step: u16, places: &mut Vec<Place>) -> Result<(), Memory>

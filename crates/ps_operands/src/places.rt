@@ -6,14 +6,12 @@ ghost use Rattle.ps_cover.specs.Listing.{points_of};
 ghost use Rattle.ps_operands.specs.Standing.{left_behind, next_place, placed, places_of};
 
 use crate::listing::push_source;
+use crate::operand::NOWHERE;
 use ps_base::{Memory, Place};
 use ps_cover::Point;
 use ps_model::App;
 use ps_parser::Source;
 use std::alloc::Global;
-
-// What stands nowhere.
-const NOWHERE: Place = Place { line: 0, column: 0 };
 
 // The place of a point, where the places of decisions from this number on are left.
 fn place_at(found: &[Place], next: usize, point: &Point<'_>) -> Place

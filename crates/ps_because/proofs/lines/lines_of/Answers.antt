@@ -4,5 +4,5 @@ use Rattle.ps_because.proofs.lines.lines_of.Goals as goal
 
 pub returns : goal.returns
 returns c =
-    telling_all c.args.explanation.now c.loop-n.told.items c.loop-n.lines.items c.loop-n.invariant.0
-    (λ n within. c.loop-n.invariant.2 n (omega (arith, within, c.loop-n-test.false, c.in-Ok.ensures, c.len.ensures)))
+    telling_all c.args.explanation.now c.loop-line.told.items c.loop-line.lines.items c.loop-line.invariant.0
+    (λ n within. c.loop-line.invariant.2 n (omega (arith, within, c.loop-line-test.false, c.in-Ok.ensures, c.len.ensures)))

@@ -3,7 +3,7 @@ use Rattle.std.specs.Prelude.{slice_index_or}
 use Rattle.std.proofs.lemmas.Option.{slice_get-get_or}
 use Rattle.ps_moment.specs.declared.walker.Since.{Since}
 use Rattle.ps_moment.proofs.Noting.{HaveNoted, all_noted, none_noted, note_next}
-use Rattle.ps_moment.proofs.Stepped.{none_kept}
+use Rattle.ps_reasons.proofs.Kept.{none_kept}
 use Rattle.ps_moment.proofs.Taking.{no_since}
 use Rattle.ps_moment.proofs.walker.note_all.Goals as goal
 

@@ -4,7 +4,7 @@ use Rattle.std.proofs.lemmas.Option.{slice_get-get_or}
 use Rattle.ps_cover.proofs.Listed.{Turned, turn, turned}
 use Rattle.ps_reasons.specs.declared.keeping.Stepped.{Stepped}
 use Rattle.ps_moment.specs.Walking.{renewed}
-use Rattle.ps_moment.proofs.Stepped.{none_kept}
+use Rattle.ps_reasons.proofs.Kept.{none_kept}
 use Rattle.ps_moment.proofs.walker.renew.Goals as goal
 
 pub loop-i-preserved : goal.loop-i-preserved

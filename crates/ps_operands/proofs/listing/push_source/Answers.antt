@@ -4,7 +4,7 @@ use Rattle.ps_base.specs.declared.failing.Place.{Place}
 use Rattle.ps_cover.proofs.Listings.{one_more}
 use Rattle.ps_operands.specs.Standing.{step_operands}
 use Rattle.ps_operands.proofs.Placing.{map_flat}
-use Rattle.ps_written.specs.Operands.{place_of}
+use Rattle.ps_operands.specs.Operands.{place_of}
 use Rattle.ps_operands.proofs.listing.push_source.Goals as goal
 
 pub loop-step-preserved : goal.loop-step-preserved

@@ -1,7 +1,7 @@
 use Rattle.std.proofs.Common.{◌≡◌, ◌++◌, map, slice_get}
 use Rattle.std.specs.List.{flat_map, range_with_len}
 use Rattle.ps_operands.specs.Standing.{step_operands}
-use Rattle.ps_written.specs.Operands.{place_of}
+use Rattle.ps_operands.specs.Operands.{place_of}
 use Rattle.ps_operands.proofs.listing.push_source.Given as goal
 
 abbrev pub invariant-loop-step : goal.invariant-loop-step

@@ -2,7 +2,7 @@ use Rattle.std.proofs.Common.{◌≡◌, ◌∙◌, ◌++◌, None, Option, leng
 use Rattle.std.proofs.lemmas.Option.{slice_get_past}
 use Rattle.ps_parser.specs.Tree.{SourceTree, StatementTree}
 use Rattle.ps_operands.specs.Standing.{step_operands}
-use Rattle.ps_written.specs.Operands.{place_of}
+use Rattle.ps_operands.specs.Operands.{place_of}
 use Rattle.ps_operands.proofs.listing.push_step.Goals as goal
 
 pub returns-then-at-len : goal.returns-then-at-len

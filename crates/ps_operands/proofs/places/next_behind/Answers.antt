@@ -4,7 +4,7 @@ use Rattle.ps_cover.specs.Covering.{point_of}
 use Rattle.ps_cover.specs.declared.point.Point.{Point}
 use Rattle.ps_model.proofs.Rest.{rest_found}
 use Rattle.ps_operands.specs.Standing.{left_behind}
-use Rattle.ps_written.specs.Operands.{nowhere}
+use Rattle.ps_operands.specs.Operands.{nowhere}
 use Rattle.ps_operands.proofs.places.next_behind.Goals as goal
 
 pub returns-in-Decides : goal.returns-in-Decides

@@ -2,7 +2,7 @@ use Rattle.std.proofs.Common.{◌∙◌, ◌++◌, [], List, map, ap}
 use Rattle.ps_base.specs.declared.failing.Place.{Place}
 use Rattle.ps_cover.specs.Points.{Point}
 use Rattle.ps_operands.specs.Standing.{placed, source_operands}
-use Rattle.ps_written.specs.Operands.{place_of}
+use Rattle.ps_operands.specs.Operands.{place_of}
 use Rattle.ps_operands.proofs.places.operand_places.Goals as goal
 
 pub returns : goal.returns

@@ -6,10 +6,10 @@ use Rattle.ps_model.specs.Blocks.{block}
 use Rattle.ps_model.specs.Network.{kind_at}
 use Rattle.ps_ways.specs.Stepping.{conditions_of}
 use Rattle.ps_ways.specs.Tables.{ways_of}
-use Rattle.ps_why.specs.Guards.{Decides}
-use Rattle.ps_why.specs.Telling.{IsAskOf, IsPinOf}
-use Rattle.ps_why.proofs.Guarding.{adds_more}
-use Rattle.ps_why.specs.declared.fact.Fact.TheVariants.{PinIs, StateWas}
+use Rattle.ps_facts.specs.Guards.{Decides}
+use Rattle.ps_facts.specs.Telling.{IsAskOf, IsPinOf}
+use Rattle.ps_facts.proofs.Guarding.{adds_more}
+use Rattle.ps_facts.specs.declared.fact.Fact.TheVariants.{PinIs, StateWas}
 use Rattle.ps_model.specs.Network.{instance_count}
 use Rattle.ps_reasons.specs.Scenes.{IsCallFor, conditions_in}
 use Rattle.ps_reasons.proofs.Adding.{adds_as, adds_only, adds_push}

@@ -66,9 +66,7 @@ fn closes_an_end(kind: Kind, state: u16, condition: Condition) -> bool
     ensures { result ≡ waiting.closes_an_end kind state condition.ask condition.holds }
 {
     let to_errors_alone = !has_way_on(kind, state);
-    ways(kind)
-        .iter()
-        .any(|way| is_end_closed(state, to_errors_alone, condition, way))
+    ways(kind).iter().any(|way| is_end_closed(state, to_errors_alone, condition, way))
 }
 
 /// Whether a state that stays waits until a condition that is so is no longer so: a guard that would end the state does

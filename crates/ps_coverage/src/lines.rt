@@ -12,8 +12,8 @@ use crate::guard::add_guard;
 use crate::pieces::{add_code, add_number, add_ordinal, add_state, joined_by, json_truth, truth};
 use ps_base::{Bytes, Memory, Place};
 use ps_cover::{Exclusions, Point, called_kind};
+use ps_marks::{is_missed, seen_with};
 use ps_model::{App, Kind, Step};
-use ps_points::{is_missed, seen_with};
 use ps_ways::{Way, ways};
 
 // Puts a state that a block never entered, for a person.

@@ -7,12 +7,12 @@ use Rattle.ps_because.specs.Moments.{Moment}
 use Rattle.ps_model.proofs.Once.{element_at}
 use Rattle.ps_model.specs.Meaning.{old_state, passed}
 use Rattle.ps_model.specs.Network.{Network, instance_count}
-use Rattle.ps_moment.specs.Looking.{IsLook}
-use Rattle.ps_moment.specs.Scanned.{Scanned, behind}
-use Rattle.ps_moment.specs.Walking.{IsWalkerFor}
-use Rattle.ps_moment.specs.declared.walker.LastScan.{LastScan}
-use Rattle.ps_moment.specs.declared.walker.Since.{Since}
-use Rattle.ps_moment.specs.declared.walker.Walker.{Walker}
+use Rattle.ps_explaining.specs.Looking.{IsLook}
+use Rattle.ps_explaining.specs.Scanned.{Scanned, behind}
+use Rattle.ps_explaining.specs.Walking.{IsWalkerFor}
+use Rattle.ps_explaining.specs.declared.walker.LastScan.{LastScan}
+use Rattle.ps_explaining.specs.declared.walker.Since.{Since}
+use Rattle.ps_explaining.specs.declared.walker.Walker.{Walker}
 use Rattle.ps_pins.specs.Calls.{input_pin}
 use Rattle.ps_reasons.specs.Questions.{IsAnswered, IsAskedFor}
 use Rattle.ps_reasons.specs.Scenes.{IsCallFor, IsCallOf, IsSceneFor, IsSceneOf}

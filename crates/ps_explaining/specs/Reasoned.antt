@@ -10,7 +10,7 @@ use Rattle.ps_model.specs.Blocks.{block}
 use Rattle.ps_model.specs.Meaning.{old_state, passed}
 use Rattle.ps_model.specs.Network.{Network, first_pin, instance_count, kind_at}
 use Rattle.ps_model.specs.Scanning.{Solves, State}
-use Rattle.ps_moment.specs.Scanned.{Scanned, behind}
+use Rattle.ps_explaining.specs.Scanned.{Scanned, behind}
 use Rattle.ps_parser.specs.Places.{step_place}
 use Rattle.ps_parser.specs.Tree.{SourceTree}
 use Rattle.ps_pins.specs.Calls.{call_step}

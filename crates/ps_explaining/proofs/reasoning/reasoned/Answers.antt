@@ -3,7 +3,7 @@ use Rattle.std.proofs.lemmas.Result.{IfOk-weaker}
 use Rattle.ps_base.specs.declared.failing.Place.{Place}
 use Rattle.ps_because.specs.Moments.{Moment}
 use Rattle.ps_model.specs.Meaning.{old_state, passed}
-use Rattle.ps_moment.specs.declared.walker.Since.{Since}
+use Rattle.ps_explaining.specs.declared.walker.Since.{Since}
 use Rattle.ps_reasons.specs.declared.scene.Scene.{Scene}
 use Rattle.ps_facts.specs.declared.fact.Fact.{Fact}
 use Rattle.ps_explaining.specs.Reasoned.{ArePlacesOf}

@@ -1,6 +1,0 @@
--- the operands of trees by their items
-pub mod Walking
--- places of points, one after another
-pub mod Placing
--- the operands that are written are those that decide
-pub mod Fitting

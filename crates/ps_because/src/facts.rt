@@ -1,20 +1,23 @@
 // A fact of a scan in words.
 
-ghost use Rattle.std.specs.Prelude.{◌≡◌, ◌++◌, OnOk, decimal, slice_get, true};
+ghost use Rattle.std.specs.Prelude.{◌≡◌, ◌<◌, ◌++◌, OnOk, decimal, slice_get, slice_index, true};
+ghost use Rattle.std.specs.Char.{to_ascii_uppercase};
+ghost use Rattle.hex.specs.Hex.{lower_digits};
 ghost use Rattle.ps_because.specs.Facts.{ask_is, asked_text, awaited_text, before_text, called_stayed, edge_was};
 ghost use Rattle.ps_because.specs.Facts.{ending_of, fact_text, input_text, mode_is, mode_was, pin_ending, pin_is};
 ghost use Rattle.ps_because.specs.Facts.{signal_is, signal_was, since_text, so_text, state_is, state_named, state_was};
 ghost use Rattle.ps_because.specs.Facts.{stayed_in, waits_text, waits_words};
 ghost use Rattle.ps_because.specs.Moments.{moment_of};
 ghost use Rattle.ps_conditions.specs.Conditions.{subject_words};
+ghost use Rattle.ps_coverage.specs.Lines.{condition_text, truth};
+ghost use Rattle.ps_report.specs.Lines.{code_text};
 
-use crate::naming::{add_call_pin, add_signal, kind_of, name_of};
+use crate::naming::{add_call_pin, add_signal, called_name, kind_of, name_of};
 use crate::waiting::{ON, is_waited_for, standing_of};
 use itoa::Buffer;
 use ps_base::{Bytes, Memory};
 use ps_conditions::{Condition, awaited_of, subject_of, told_of};
 use ps_cover::called_kind;
-use ps_coverage::{add_code, add_condition, called_name, truth};
 use ps_facts::{CallScene, Fact, Moment, is_error};
 use ps_model::{App, Arg, Args, Kind, Step};
 use ps_states::state_words;
@@ -28,17 +31,46 @@ pub(crate) fn add_number(text: &mut Bytes, number: u32) -> Result<(), Memory>
     text.extend_from_slice(digits.format(number).as_bytes())
 }
 
+// The capital hexadecimal digit of a number up to 15.
+fn capital_digit(n: u8) -> u8
+    requires { n < 16 }
+    ensures { result ≡ to_ascii_uppercase (slice_index lower_digits n) }
+{
+    b"0123456789ABCDEF"[usize::from(n)]
+}
+
+// A DiagCode in four capital hexadecimal digits.
+#[tactic(auto, unfolding(hex::specs::Hex::encode_with))]
+fn code_digits(code: u16) -> [u8; 4]
+    ensures { result ≡ code_text code }
+{
+    let [high, low] = code.to_be_bytes();
+    [
+        capital_digit(high / 16),
+        capital_digit(high % 16),
+        capital_digit(low / 16),
+        capital_digit(low % 16),
+    ]
+}
+
 // Puts a state of a kind, as `8004 (waiting for switch 2)`.
 fn add_state(text: &mut Bytes, kind: Kind, code: u16) -> Result<(), Memory>
     ensures { OnOk result (text.new ≡ text.old ++ state_named kind code) }
 {
-    add_code(text, code)?;
+    text.extend_from_slice(&code_digits(code))?;
     if let Some(words) = state_words(kind, code) {
         text.extend_from_slice(b" (")?;
         text.extend_from_slice(words.as_bytes())?;
         text.extend_from_slice(b")")?;
     }
     Ok(())
+}
+
+// A truth value in capitals.
+fn truth(value: bool) -> &'static [u8]
+    ensures { result.now ≡ truth value }
+{
+    if value { b"TRUE" } else { b"FALSE" }
 }
 
 // What ends a branch at an input of the application.
@@ -119,6 +151,15 @@ fn add_pin_is(text: &mut Bytes, app: &App, k: u16, j: u8, value: bool) -> Result
     text.extend_from_slice(pin_ending(app, k, j))
 }
 
+// Puts a condition of a guard.
+fn add_condition(text: &mut Bytes, kind: Kind, condition: Condition) -> Result<(), Memory>
+    ensures { OnOk result (text.new ≡ text.old ++ condition_text kind condition) }
+{
+    text.extend_from_slice(subject_of(kind, condition).as_bytes())?;
+    text.extend_from_slice(b" ")?;
+    text.extend_from_slice(told_of(condition).as_bytes())
+}
+
 // The state of an instance, if it stayed in it.
 fn stayed_in(calls: &[CallScene], i: u16) -> Option<u16>
     ensures { result ≡ stayed_in (slice_get calls.now i) }
@@ -192,7 +233,7 @@ fn add_asked(
 fn add_ask_is(text: &mut Bytes, m: &Moment<'_>, k: u16, ask: Ask, value: bool) -> Result<(), Memory>
     ensures { OnOk result (text.new ≡ text.old ++ ask_is (moment_of m.entry.now) k ask value) }
 {
-    text.extend_from_slice(called_name(m.app, k).as_bytes())?;
+    text.extend_from_slice(called_name(m.app, k))?;
     add_asked(text, called_kind(m.app, k), called_stayed(m, k), ask, value)
 }
 

@@ -1,17 +1,17 @@
 // The names of an application.
 
-ghost use Rattle.std.specs.Prelude.{◌≡◌, ◌<◌, ◌+◌, ◌++◌, OnOk, [], length};
+ghost use Rattle.std.specs.Prelude.{◌≡◌, ◌<◌, ◌+◌, ◌++◌, OnOk, [], length, slice_get};
 ghost use Rattle.std.specs.List.{flat_map, range_with_len};
 ghost use Rattle.std.specs.Option.{unwrap_or};
 ghost use Rattle.ps_because.specs.Moments.{call_pin_text, output_at, output_text, pin_text, signal_text};
+ghost use Rattle.ps_coverage.specs.Lines.{called_name};
 ghost use Rattle.ps_model.specs.Blocks.{block, output_count};
 ghost use Rattle.ps_model.specs.Network.{instance_count, instance_name, kind_at};
 ghost use Rattle.ps_model.specs.Pins.{pin_names};
 
 use ps_base::{Bytes, Memory};
 use ps_cover::called_kind;
-use ps_coverage::called_name;
-use ps_model::{App, Kind, input_count, output_count, pin_count, pin_name};
+use ps_model::{App, Kind, Step, input_count, output_count, pin_count, pin_name};
 
 // The name of a pin of a kind; one that there is not has none.
 fn pin_text(kind: Kind, j: u16) -> &'static [u8]
@@ -43,6 +43,20 @@ pub(crate) fn name_of(app: &App, i: u16) -> &[u8]
         app.instance_name(i).as_bytes()
     } else {
         &[]
+    }
+}
+
+/// The name of the instance that a step calls; empty where it calls none.
+pub(crate) fn called_name(app: &App, k: u16) -> &[u8]
+    ensures { result.now ≡ called_name app.now (slice_get app.now.steps k) }
+{
+    app.sound();
+    if k >= app.step_count() {
+        return &[];
+    }
+    match app.step(k) {
+        Step::Call { instance, .. } => app.instance_name(*instance).as_bytes(),
+        Step::Assign { .. } => &[],
     }
 }
 
@@ -95,7 +109,7 @@ pub(crate) fn add_signal(text: &mut Bytes, app: &App, s: u16) -> Result<(), Memo
 pub(crate) fn add_call_pin(text: &mut Bytes, app: &App, k: u16, j: u8) -> Result<(), Memory>
     ensures { OnOk result (text.new ≡ text.old ++ call_pin_text app.now k j) }
 {
-    text.extend_from_slice(called_name(app, k).as_bytes())?;
+    text.extend_from_slice(called_name(app, k))?;
     text.extend_from_slice(b".")?;
     text.extend_from_slice(pin_text(called_kind(app, k), j as u16))
 }

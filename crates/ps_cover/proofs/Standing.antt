@@ -20,7 +20,7 @@ use Rattle.ps_marks.specs.Moving.{moved_by}
 use Rattle.ps_cover.specs.Blocks.{called_in, moved_in}
 use Rattle.ps_cover.specs.Covering.{AreCalls, AreScanned, makes_in, operands_in, point_of, shows_in}
 use Rattle.ps_cover.specs.Covers.{StandsFor, idle_call, idle_step}
-use Rattle.ps_marks.specs.Deciding.{is_value}
+use Rattle.ps_points.specs.Deciding.{is_value}
 use Rattle.ps_cover.specs.Points.{decides, makes_at, shows}
 use Rattle.ps_pins.specs.Reading.{read_in}
 use Rattle.ps_pins.proofs.Between.{reads_are as read_as}

@@ -10,9 +10,9 @@ use crate::block::{Called, begin_calls, scan_calls};
 use crate::listing::{push_steps, push_values};
 use crate::point::{Point, look};
 use ps_base::Memory;
-use ps_marks::Clock;
 use ps_model::App;
 use ps_pins::{Signals, bit_at};
+use ps_points::Clock;
 use std::alloc::Global;
 
 /// What the scans so far have shown of an application: of each point whether one of them showed it.

@@ -16,7 +16,4 @@ mod pieces;
 mod text;
 
 pub use format::Format;
-pub use guard::add_condition;
-pub use lines::called_name;
-pub use pieces::{add_code, truth};
 pub use text::{Told, coverage_text};

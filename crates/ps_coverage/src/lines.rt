@@ -12,8 +12,8 @@ use crate::guard::add_guard;
 use crate::pieces::{add_code, add_number, add_ordinal, add_state, joined_by, json_truth, truth};
 use ps_base::{Bytes, Memory, Place};
 use ps_cover::{Exclusions, Point, called_kind};
-use ps_marks::{is_missed, seen_with};
 use ps_model::{App, Kind, Step};
+use ps_points::{is_missed, seen_with};
 use ps_ways::{Way, ways};
 
 // Puts a state that a block never entered, for a person.
@@ -128,8 +128,8 @@ fn add_made_line(
     Ok(())
 }
 
-/// The name of the instance that a step calls; empty where it calls none.
-pub fn called_name(app: &App, k: u16) -> &str
+// The name of the instance that a step calls; empty where it calls none.
+fn called_name(app: &App, k: u16) -> &str
     ensures { result.now ≡ called_name app.now (slice_get app.now.steps k) }
 {
     app.sound();

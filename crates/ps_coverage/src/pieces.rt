@@ -50,8 +50,8 @@ fn code_digits(code: u16) -> [u8; 4]
     ]
 }
 
-/// Puts a DiagCode. An error: memory is wanting.
-pub fn add_code(text: &mut Bytes, code: u16) -> Result<(), Memory>
+/// Puts a DiagCode.
+pub(crate) fn add_code(text: &mut Bytes, code: u16) -> Result<(), Memory>
     ensures { OnOk result (text.new ≡ text.old ++ code_text code) }
 {
     text.extend_from_slice(&code_digits(code))
@@ -70,7 +70,7 @@ pub(crate) fn add_state(text: &mut Bytes, kind: Kind, code: u16) -> Result<(), M
 }
 
 /// A truth value in capitals.
-pub fn truth(value: bool) -> &'static [u8]
+pub(crate) fn truth(value: bool) -> &'static [u8]
     ensures { result.now ≡ truth value }
 {
     if value { b"TRUE" } else { b"FALSE" }

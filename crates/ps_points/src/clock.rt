@@ -1,7 +1,7 @@
 // When the scan before was.
 
 ghost use Rattle.std.specs.Prelude.{◌≡◌, None};
-ghost use Rattle.ps_marks.specs.Clock.{since};
+ghost use Rattle.ps_points.specs.Clock.{since};
 
 /// When the scan before was.
 #[derive(Clone, Copy)]

@@ -1,7 +1,7 @@
 // What was seen, and what was missed.
 
 ghost use Rattle.std.specs.Prelude.{◌≡◌, ◌&&◌, not};
-ghost use Rattle.ps_marks.specs.Missing.{of_value};
+ghost use Rattle.ps_points.specs.Missing.{of_value};
 
 /// Whether it was missed: it is not excluded, and was not shown.
 pub fn is_missed(excluded: bool, shown: bool) -> bool

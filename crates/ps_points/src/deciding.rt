@@ -2,7 +2,7 @@
 
 ghost use Rattle.std.specs.Prelude.{◌≡◌, ◌==◌, ◌||◌};
 ghost use Rattle.ps_model.specs.Exprs.{formula};
-ghost use Rattle.ps_marks.specs.Deciding.{is_and, is_value};
+ghost use Rattle.ps_points.specs.Deciding.{is_and, is_value};
 
 use ps_model::Expr;
 

@@ -1,6 +1,8 @@
 // In which order facts are told, and how deep each stands.
 
-ghost use Rattle.std.specs.Prelude.{◌≡◌, ◌<◌, ◌+◌, ◌++◌, ◌∷◌, false, true, [], length, IfOk, OnOk, Some, slice_get};
+ghost use Rattle.std.specs.Prelude.{◌≡◌, ◌++◌, ◌∷◌, true, [], length, map, IfOk, OnOk, Some, slice_get};
+ghost use Rattle.std.specs.List.{range_with_len};
+ghost use Rattle.ps_facts.specs.Below.{first_line};
 ghost use Rattle.ps_because.specs.Pending.{AddsChildren, IsOfFact, IsTelling, KeepsNotes};
 ghost use Rattle.ps_because.specs.Trees.{AreLinesOf};
 
@@ -24,10 +26,10 @@ fn push_reasons(
     let reasons = explanation.reasons[place].facts.as_slice();
     for i in 0..reasons.len() {
         let fact = reasons[reasons.len() - 1 - i];
+        let Some(below) = line.below(fact) else {
+            return Err(Memory);
+        };
         if (fact as usize) < explanation.facts.len() {
-            let Some(below) = line.below(fact) else {
-                return Err(Memory);
-            };
             pending.push(below)?;
         }
     }
@@ -98,6 +100,25 @@ fn tell_first(
     tell_pending(explanation, told, lines, pending)
 }
 
+// Tells these lines at the left, one for each fact, and all that their facts rest on.
+fn tell_firsts(
+    explanation: &Explanation,
+    firsts: &[Line],
+    told: &mut [bool],
+    lines: &mut Vec<Line>,
+    pending: &mut Vec<Line>,
+) -> Result<(), Memory>
+    requires firsts { firsts.now ≡ map first_line (range_with_len 0 (length explanation.now.facts.items)) }
+    requires telling { IsTelling explanation.now told.old lines.old.items [] }
+    requires none { pending.old.items ≡ [] }
+    ensures { OnOk result (AreLinesOf explanation.now lines.new.items) }
+{
+    for line in firsts {
+        tell_first(explanation, *line, told, lines, pending)?;
+    }
+    Ok(())
+}
+
 /// The lines in which an explanation is told: each fact once, below the one of which it is a reason that leads to it
 /// first, and the reasons of a fact in their order. `Err` comes only where memory is wanting.
 pub fn lines_of(alloc: Global, explanation: &Explanation) -> Result<Vec<Line>, Memory>
@@ -106,18 +127,16 @@ pub fn lines_of(alloc: Global, explanation: &Explanation) -> Result<Vec<Line>, M
     let Ok(count) = u32::try_from(explanation.facts.len()) else {
         return Err(Memory);
     };
+    let firsts = first_lines(alloc, count)?;
     let mut told = vec![in alloc; false; count as usize]?;
     let mut lines = Vec::with_capacity(alloc, count as usize)?;
     let mut pending = Vec::new(alloc);
-    let firsts = first_lines(alloc, count)?;
-    for line in firsts.as_slice() {
-        tell_first(
-            explanation,
-            *line,
-            told.as_mut_slice(),
-            &mut lines,
-            &mut pending,
-        )?;
-    }
+    tell_firsts(
+        explanation,
+        firsts.as_slice(),
+        told.as_mut_slice(),
+        &mut lines,
+        &mut pending,
+    )?;
     Ok(lines)
 }

@@ -1,0 +1,2 @@
+-- the operands of trees by their items
+pub mod Walking

@@ -1,18 +1,20 @@
 -- Lines that are told, one after another.
-use Rattle.std.proofs.Common.{◌≡◌, ◌⊎◌, ◌∙◌, ◌<◌, ◌≤◌, ◌+◌, ◌++◌, ℕ, Bool, true, false, List, [], ◌∷◌, length, subst, sym, ap, inl, inr, take, append_assoc, append-nil, arith}
+use Rattle.std.proofs.Common.{◌≡◌, ◌⊎◌, ◌∙◌, ◌<◌, ◌≤◌, ◌+◌, ◌++◌, ℕ, Bool, true, false, List, [], ◌∷◌, length, subst, sym, ap, inl, inr, map, take, append_assoc, append-nil, arith}
 use Rattle.std.specs.Prelude.{Contains, Some, slice_get, slice_index_or}
-use Rattle.std.specs.List.{AllByRecursion}
+use Rattle.std.specs.List.{AllByRecursion, range_with_len}
 use Rattle.std.proofs.Math.ListN.{set}
 use Rattle.std.proofs.Math.Seq.{take-append_seam}
 use Rattle.std.proofs.lemmas.Bool.{cases_lt}
 use Rattle.std.proofs.lemmas.List.{get_or-set_other, get_or-set_same, length-set, take-append-le}
+use Rattle.std.proofs.lemmas.List.FromFn.{get_or-map-range_with_len, length-map-range_with_len}
 use Rattle.std.proofs.lemmas.List.Elements.{Contains-append_left, Contains-push, Contains-push_cases}
 use Rattle.std.proofs.lemmas.Option.{get_or_from_slice_get, same_Some, slice_get-get_or, slice_get_within}
 use Rattle.ps_reasons.proofs.Told.{push_at, push_before, push_cases}
 use Rattle.ps_reasons.specs.declared.explaining.Explanation.{Explanation}
 use Rattle.ps_because.specs.Pending.{AddsChildren, IsChild, IsOfFact, IsTelling, KeepsNotes}
 use Rattle.ps_because.specs.Trees.{AreLinesOf, IsReasonOf, MayFollow}
-use Rattle.ps_because.specs.declared.lines.Line.{Line}
+use Rattle.ps_facts.specs.Below.{first_line}
+use Rattle.ps_facts.specs.declared.lines.Line.{Line}
 
 -- ---- What is noted.
 
@@ -273,3 +275,10 @@ module _ (e : Explanation) where
       IsTelling e told lines (pending ++ x ∷ [])
   telling_first told lines pending x t none left of =
       subst (λ ls. IsTelling e told lines (ls ++ x ∷ [])) (sym none) (telling_pushed told lines [] x t (inl left) of (λ a c. absurd (omega (arith, c.1))))
+
+-- the lines at the left, one for each of so many facts
+pub first_at : (lines : List Line) (count i : ℕ) (x : Line) → lines ≡ map first_line (range_with_len 0 count) → i < length lines →
+    slice_index_or lines i x ≡ first_line i
+first_at lines count i x is within =
+    let below : i < count = omega (arith, within, ap length is, length-map-range_with_len first_line 0 count) in
+    ap (λ ls. slice_index_or ls i x) is ∙ get_or-map-range_with_len first_line 0 count i i x below (omega arith)

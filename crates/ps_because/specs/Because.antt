@@ -7,11 +7,11 @@ use Rattle.ps_coverage.specs.declared.format.Format.{Format}
 use Rattle.ps_coverage.specs.declared.format.Format.TheVariants.{Text, Json}
 use Rattle.ps_reasons.specs.declared.explaining.Explanation.{Explanation}
 use Rattle.ps_reasons.specs.declared.explaining.Reasons.{Reasons}
-use Rattle.ps_why.specs.declared.fact.Fact.{Fact}
+use Rattle.ps_facts.specs.declared.fact.Fact.{Fact}
 use Rattle.ps_because.specs.Facts.{fact_text}
 use Rattle.ps_because.specs.Moments.{Moment}
 use Rattle.ps_because.specs.Trees.{AreLinesOf}
-use Rattle.ps_because.specs.declared.lines.Line.{Line}
+use Rattle.ps_facts.specs.declared.lines.Line.{Line}
 
 -- how far a line is indented: two blanks for each line above it, and those of forty at most
 abbrev pub indents : (depth : ℕ) → ℕ

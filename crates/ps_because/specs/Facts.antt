@@ -8,16 +8,17 @@ use Rattle.ps_model.specs.Action.{Action, Actual, assigns, calls}
 use Rattle.ps_model.specs.Action.Actual.{free, literal, time, wired}
 use Rattle.ps_model.specs.Network.{Network, input_count, instance_name, kind_at}
 use Rattle.ps_model.specs.declared.kind.Kind.{Kind}
-use Rattle.ps_reasons.specs.declared.scene.CallScene.{CallScene}
+use Rattle.ps_facts.specs.declared.call.CallScene.{CallScene}
 use Rattle.ps_report.specs.Lines.{code_text}
 use Rattle.ps_states.specs.States.{state_words}
 use Rattle.ps_ways.specs.declared.way.Ask.{Ask}
 use Rattle.ps_ways.specs.declared.way.Ask.TheVariants.{Edge, Rise}
-use Rattle.ps_why.specs.declared.fact.Fact.{Fact}
-use Rattle.ps_why.specs.declared.fact.Fact.TheVariants.{SignalIs, SignalWas, PinIs, AskIs, StateIs, StateWas}
-use Rattle.ps_why.specs.declared.fact.Fact.TheVariants.{ResetWas, AuxiliaryWas, ModeIs, ModeWas}
+use Rattle.ps_facts.specs.declared.fact.Fact.{Fact}
+use Rattle.ps_facts.specs.declared.fact.Fact.TheVariants.{SignalIs, SignalWas, PinIs, AskIs, StateIs, StateWas}
+use Rattle.ps_facts.specs.declared.fact.Fact.TheVariants.{ResetWas, AuxiliaryWas, ModeIs, ModeWas}
 use Rattle.ps_because.specs.Moments.{Moment, call_pin_text, signal_text}
-use Rattle.ps_because.specs.Waiting.{is_error, is_waited_for, standing_words}
+use Rattle.ps_because.specs.Waiting.{is_waited_for, standing_words}
+use Rattle.ps_facts.specs.Ending.{is_error}
 
 -- when something was that was before the scan
 abbrev pub before_text : (before : Option ℕ) → List ℕ

@@ -9,8 +9,8 @@ use Rattle.ps_model.specs.Pins.{pin_names}
 use Rattle.ps_model.specs.declared.kind.Kind.{Kind}
 use Rattle.ps_cover.specs.Tallying.{called_kind}
 use Rattle.ps_coverage.specs.Lines.{called_name}
-use Rattle.ps_reasons.specs.declared.scene.CallScene.{CallScene}
-use Rattle.ps_because.specs.declared.moment.Moment.{Moment as MomentOf}
+use Rattle.ps_facts.specs.declared.call.CallScene.{CallScene}
+use Rattle.ps_facts.specs.declared.moment.Moment.{Moment as MomentOf}
 
 -- A scan: the application, the time in ms, that of the scan before, if there is one, since when each instance was in its
 -- state before the scan, and is in the one behind it, and these states of each.

@@ -1,5 +1,5 @@
 -- What a state waits for that stays.
-use Rattle.std.specs.Prelude.{ℕ, ◌+◌, ◌==◌, ◌&&◌, ◌||◌, not, Bool, false, List, codes, nat_le}
+use Rattle.std.specs.Prelude.{ℕ, ◌+◌, ◌==◌, ◌&&◌, ◌||◌, not, Bool, false, List, codes}
 use Rattle.std.specs.List.{list_any}
 use Rattle.ps_model.specs.declared.kind.Kind.{Kind}
 use Rattle.ps_ways.specs.Tables.{ways_of}
@@ -10,6 +10,7 @@ use Rattle.ps_ways.specs.declared.way.Literal.{Literal}
 use Rattle.ps_ways.specs.declared.way.Literal.TheVariants.{Any, Is, Not}
 use Rattle.ps_ways.specs.declared.way.Way.{Way}
 use Rattle.ps_conditions.specs.Conditions.{subject_words}
+use Rattle.ps_facts.specs.Ending.{is_end}
 
 -- a number of its own for each thing that can be asked
 abbrev pub number_of : Ask → ℕ
@@ -38,29 +39,17 @@ abbrev pub is_closed_by : Ask → (holds : Bool) → Way → Bool
 is_closed_by a holds w =
     is_against a holds w.first || (is_against a holds w.second || is_against a holds w.third)
 
--- a DiagCode of an error: C000 and above
-abbrev pub is_error : (code : ℕ) → Bool
-is_error code = nat_le 0xC000 code
-
--- a way leads from a state to one that is no error
-abbrev pub is_way_on : (state : ℕ) → Way → Bool
-is_way_on q w = w.state == q && not (is_error w.next)
-
--- there is such a way
+-- a state has a way to one that is no error
 abbrev pub has_way_on : Kind → (state : ℕ) → Bool
-has_way_on kind q = list_any (is_way_on q) (ways_of kind)
-
--- A way ends a state: it leads to a state that is no error; or to any, where no way of the state leads to such a one.
-abbrev pub is_end_of : Kind → (state : ℕ) → Way → Bool
-is_end_of kind q w = w.state == q && (not (is_error w.next) || not (has_way_on kind q))
+has_way_on kind q = list_any (is_end q false) (ways_of kind)
 
 -- a way that would end a state is closed, since something is so, or is not so
-abbrev pub is_end_closed : Kind → (state : ℕ) → Ask → (holds : Bool) → Way → Bool
-is_end_closed kind q a holds w = is_end_of kind q w && is_closed_by a holds w
+abbrev pub is_end_closed : (state : ℕ) → (to_errors_alone : Bool) → Ask → (holds : Bool) → Way → Bool
+is_end_closed q to_errors_alone a holds w = is_end q to_errors_alone w && is_closed_by a holds w
 
 -- there is such a way
 abbrev pub closes_an_end : Kind → (state : ℕ) → Ask → (holds : Bool) → Bool
-closes_an_end kind q a holds = list_any (is_end_closed kind q a holds) (ways_of kind)
+closes_an_end kind q a holds = list_any (is_end_closed q (not (has_way_on kind q)) a holds) (ways_of kind)
 
 -- A state that stays waits until something is no longer so (`holds`), or no longer not so: a way that would end it is
 -- closed by that. In 8000 nothing is waited for: there the block does what it is for.

@@ -1,6 +1,6 @@
 // A fact of a scan in words.
 
-ghost use Rattle.std.specs.Prelude.{◌≡◌, ◌<◌, ◌++◌, OnOk, decimal, slice_get, slice_index, slice_index_or, true};
+ghost use Rattle.std.specs.Prelude.{◌≡◌, ◌<◌, ◌++◌, OnOk, decimal, slice_get, slice_index, true};
 ghost use Rattle.std.specs.Char.{to_ascii_uppercase};
 ghost use Rattle.hex.specs.Hex.{lower_digits};
 ghost use Rattle.ps_because.specs.Facts.{ask_is, asked_text, awaited_text, before_text, called_stayed, edge_was};
@@ -12,17 +12,16 @@ ghost use Rattle.ps_conditions.specs.Conditions.{subject_words};
 ghost use Rattle.ps_coverage.specs.Lines.{condition_text, truth};
 ghost use Rattle.ps_report.specs.Lines.{code_text};
 
-use crate::moment::{Moment, add_call_pin, add_signal, called_name, kind_of, name_of};
-use crate::waiting::{ON, is_error, is_waited_for, standing_of};
+use crate::naming::{add_call_pin, add_signal, called_name, kind_of, name_of};
+use crate::waiting::{ON, is_waited_for, standing_of};
 use itoa::Buffer;
 use ps_base::{Bytes, Memory};
 use ps_conditions::{Condition, awaited_of, subject_of, told_of};
 use ps_cover::called_kind;
+use ps_facts::{CallScene, Fact, Moment, is_error};
 use ps_model::{App, Arg, Args, Kind, Step};
-use ps_reasons::CallScene;
 use ps_states::state_words;
 use ps_ways::Ask;
-use ps_why::Fact;
 
 /// Puts a number in decimal digits.
 pub(crate) fn add_number(text: &mut Bytes, number: u32) -> Result<(), Memory>
@@ -238,17 +237,6 @@ fn add_ask_is(text: &mut Bytes, m: &Moment<'_>, k: u16, ask: Ask, value: bool) -
     add_asked(text, called_kind(m.app, k), called_stayed(m, k), ask, value)
 }
 
-// The number at a place; 0 past the end.
-fn number_at(numbers: &[u32], i: u16) -> u32
-    ensures { result ≡ slice_index_or numbers.now i 0 }
-{
-    if (i as usize) < numbers.len() {
-        numbers[i as usize]
-    } else {
-        0
-    }
-}
-
 // What is told of a state that stayed: that it waits.
 fn waits_words(code: u16) -> &'static [u8]
     ensures { result.now ≡ waits_words code }
@@ -281,7 +269,7 @@ fn add_state_is(text: &mut Bytes, m: &Moment<'_>, i: u16, code: u16) -> Result<(
     text.extend_from_slice(b" is in ")?;
     add_state(text, kind_of(m.app, i), code)?;
     text.extend_from_slice(b" since ")?;
-    add_number(text, number_at(m.since, i))?;
+    add_number(text, m.begun(i))?;
     text.extend_from_slice(waits_text(stayed_in(m.calls, i)))
 }
 
@@ -305,7 +293,7 @@ fn add_state_was(text: &mut Bytes, m: &Moment<'_>, i: u16, code: u16) -> Result<
     text.extend_from_slice(name_of(m.app, i))?;
     text.extend_from_slice(b" was in ")?;
     add_state(text, kind_of(m.app, i), code)?;
-    add_since(text, number_at(m.since_before, i), m.before)
+    add_since(text, m.begun_before(i), m.before)
 }
 
 // What a pin of an instance is called that a guard looks at beside its present value.

@@ -1,30 +1,22 @@
 // In which order facts are told, and how deep each stands.
 
-ghost use Rattle.std.specs.Prelude.{◌≡◌, ◌<◌, ◌+◌, ◌++◌, ◌∷◌, false, true, [], length, IfOk, OnOk, Some, slice_get};
+ghost use Rattle.std.specs.Prelude.{◌≡◌, ◌++◌, ◌∷◌, true, [], length, map, IfOk, OnOk, Some, slice_get};
+ghost use Rattle.std.specs.List.{range_with_len};
+ghost use Rattle.ps_facts.specs.Below.{first_line};
 ghost use Rattle.ps_because.specs.Pending.{AddsChildren, IsOfFact, IsTelling, KeepsNotes};
 ghost use Rattle.ps_because.specs.Trees.{AreLinesOf};
 
 use ps_base::Memory;
+use ps_facts::{Line, first_lines};
 use ps_reasons::Explanation;
 use std::alloc::Global;
 
-/// A line that tells a fact.
-#[derive(Clone, Copy, PartialEq, Eq, Debug)]
-pub struct Line {
-    /// The number of the fact.
-    pub fact: u32,
-    /// How many lines it stands below.
-    pub depth: u32,
-}
-
-// Puts the reasons of the fact of a line to those that are pending, the first one last: they stand this deep.
+// Puts the reasons of the fact of a line to those that are pending, right below it, the first one last.
 fn push_reasons(
     explanation: &Explanation,
     line: Line,
-    depth: u32,
     pending: &mut Vec<Line>,
 ) -> Result<(), Memory>
-    requires { depth ≡ line.depth + 1 }
     ensures { OnOk result (AddsChildren explanation.now line pending.old.items pending.new.items) }
 {
     let place = line.fact as usize;
@@ -34,8 +26,11 @@ fn push_reasons(
     let reasons = explanation.reasons[place].facts.as_slice();
     for i in 0..reasons.len() {
         let fact = reasons[reasons.len() - 1 - i];
+        let Some(below) = line.below(fact) else {
+            return Err(Memory);
+        };
         if (fact as usize) < explanation.facts.len() {
-            pending.push(Line { fact, depth })?;
+            pending.push(below)?;
         }
     }
     Ok(())
@@ -58,12 +53,9 @@ fn tell_line(
     if told[place] {
         return Ok(());
     }
-    let Some(depth) = line.depth.checked_add(1) else {
-        return Err(Memory);
-    };
     told[place] = true;
     lines.push(line)?;
-    push_reasons(explanation, line, depth, pending)
+    push_reasons(explanation, line, pending)
 }
 
 // Tells what is pending, and all that it rests on.
@@ -87,25 +79,44 @@ fn tell_pending(
     Err(Memory)
 }
 
-// Tells a fact by its number, and all that it rests on, unless it is told.
-fn tell_fact(
+// Tells a line at the left, and all that its fact rests on, unless it is told.
+fn tell_first(
     explanation: &Explanation,
-    fact: u32,
+    line: Line,
     told: &mut [bool],
     lines: &mut Vec<Line>,
     pending: &mut Vec<Line>,
 ) -> Result<(), Memory>
     requires telling { IsTelling explanation.now told.old lines.old.items [] }
     requires none { pending.old.items ≡ [] }
-    requires fact { fact < length explanation.now.facts.items }
+    requires left { line.depth ≡ 0 }
+    requires fact { IsOfFact explanation.now line }
     ensures telling { OnOk result (IsTelling explanation.now told.new lines.new.items []) }
     ensures none { OnOk result (pending.new.items ≡ []) }
     ensures keeps { OnOk result (KeepsNotes told.old told.new) }
-    ensures tells { OnOk result (slice_get told.new fact ≡ Some true) }
+    ensures tells { OnOk result (slice_get told.new line.fact ≡ Some true) }
 {
-    let line = Line { fact, depth: 0 };
     tell_line(explanation, line, told, lines, pending)?;
     tell_pending(explanation, told, lines, pending)
+}
+
+// Tells these lines at the left, one for each fact, and all that their facts rest on.
+fn tell_firsts(
+    explanation: &Explanation,
+    firsts: &[Line],
+    told: &mut [bool],
+    lines: &mut Vec<Line>,
+    pending: &mut Vec<Line>,
+) -> Result<(), Memory>
+    requires firsts { firsts.now ≡ map first_line (range_with_len 0 (length explanation.now.facts.items)) }
+    requires telling { IsTelling explanation.now told.old lines.old.items [] }
+    requires none { pending.old.items ≡ [] }
+    ensures { OnOk result (AreLinesOf explanation.now lines.new.items) }
+{
+    for line in firsts {
+        tell_first(explanation, *line, told, lines, pending)?;
+    }
+    Ok(())
 }
 
 /// The lines in which an explanation is told: each fact once, below the one of which it is a reason that leads to it
@@ -116,17 +127,16 @@ pub fn lines_of(alloc: Global, explanation: &Explanation) -> Result<Vec<Line>, M
     let Ok(count) = u32::try_from(explanation.facts.len()) else {
         return Err(Memory);
     };
+    let firsts = first_lines(alloc, count)?;
     let mut told = vec![in alloc; false; count as usize]?;
     let mut lines = Vec::with_capacity(alloc, count as usize)?;
     let mut pending = Vec::new(alloc);
-    for n in 0..count {
-        tell_fact(
-            explanation,
-            n,
-            told.as_mut_slice(),
-            &mut lines,
-            &mut pending,
-        )?;
-    }
+    tell_firsts(
+        explanation,
+        firsts.as_slice(),
+        told.as_mut_slice(),
+        &mut lines,
+        &mut pending,
+    )?;
     Ok(lines)
 }

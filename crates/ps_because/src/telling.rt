@@ -8,12 +8,11 @@ ghost use Rattle.ps_because.specs.Because.{reasons_text, told_at, tree_text};
 ghost use Rattle.ps_because.specs.Moments.{moment_of};
 
 use crate::facts::{add_fact, add_number};
-use crate::lines::{Line, lines_of};
-use crate::moment::Moment;
+use crate::lines::lines_of;
 use ps_base::{Bytes, Memory, Place};
 use ps_coverage::Format;
+use ps_facts::{Fact, Line, Moment};
 use ps_reasons::{Explanation, Reasons};
-use ps_why::Fact;
 use std::alloc::Global;
 
 // How far a line is indented: at most as far as below forty others.

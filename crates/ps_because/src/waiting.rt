@@ -4,14 +4,12 @@ ghost use Rattle.std.specs.Prelude.{◌≡◌};
 ghost use Rattle.ps_because.specs.Waiting as waiting;
 
 use ps_conditions::{Condition, subject_of};
+use ps_facts::is_end;
 use ps_model::Kind;
 use ps_ways::{Ask, Literal, Way, ways};
 
 /// The DiagCode of the state in which a block does what it is for.
 pub(crate) const ON: u16 = 0x8000;
-
-// The first DiagCode of an error.
-const FIRST_ERROR: u16 = 0xC000;
 
 // A number of its own for each thing that can be asked.
 fn number_of(ask: Ask) -> u16
@@ -49,48 +47,26 @@ fn is_closed_by(condition: Condition, way: &Way) -> bool
         || (is_against(condition, way.second) || is_against(condition, way.third))
 }
 
-/// Whether a DiagCode is that of an error.
-pub(crate) fn is_error(code: u16) -> bool
-    ensures { result ≡ waiting.is_error code }
-{
-    code >= FIRST_ERROR
-}
-
-// Whether a way leads from a state to one that is no error.
-fn is_way_on(state: u16, way: &Way) -> bool
-    ensures { result ≡ waiting.is_way_on state way.now }
-{
-    way.state == state && !is_error(way.next)
-}
-
-// Whether a state has such a way.
+// Whether a state has a way to one that is no error.
 fn has_way_on(kind: Kind, state: u16) -> bool
     ensures { result ≡ waiting.has_way_on kind state }
 {
-    ways(kind).iter().any(|way| is_way_on(state, way))
-}
-
-// Whether a way ends a state: it leads to one that is no error, or else to any.
-fn is_end_of(kind: Kind, state: u16, way: &Way) -> bool
-    ensures { result ≡ waiting.is_end_of kind state way.now }
-{
-    way.state == state && (!is_error(way.next) || !has_way_on(kind, state))
+    ways(kind).iter().any(|way| is_end(state, false, way))
 }
 
 // Whether a way that would end a state is closed since a condition is so.
-fn is_end_closed(kind: Kind, state: u16, condition: Condition, way: &Way) -> bool
-    ensures { result ≡ waiting.is_end_closed kind state condition.ask condition.holds way.now }
+fn is_end_closed(state: u16, to_errors_alone: bool, condition: Condition, way: &Way) -> bool
+    ensures { result ≡ waiting.is_end_closed state to_errors_alone condition.ask condition.holds way.now }
 {
-    is_end_of(kind, state, way) && is_closed_by(condition, way)
+    is_end(state, to_errors_alone, way) && is_closed_by(condition, way)
 }
 
 // Whether there is such a way.
 fn closes_an_end(kind: Kind, state: u16, condition: Condition) -> bool
     ensures { result ≡ waiting.closes_an_end kind state condition.ask condition.holds }
 {
-    ways(kind)
-        .iter()
-        .any(|way| is_end_closed(kind, state, condition, way))
+    let to_errors_alone = !has_way_on(kind, state);
+    ways(kind).iter().any(|way| is_end_closed(state, to_errors_alone, condition, way))
 }
 
 /// Whether a state that stays waits until a condition that is so is no longer so: a guard that would end the state does

@@ -8,13 +8,13 @@ use Rattle.ps_model.specs.Network.{Network}
 use Rattle.ps_model.specs.Scanning.{State}
 use Rattle.ps_model.specs.Sound.{IsSound}
 use Rattle.ps_model.specs.declared.channel.Fault.{Fault}
-use Rattle.ps_moment.specs.Looking.{IsLast, IsLook}
-use Rattle.ps_moment.specs.Scanned as scanned
-use Rattle.ps_moment.specs.Scanned.{Scanned, last_upto}
-use Rattle.ps_moment.specs.declared.walker.Walker.{Walker}
+use Rattle.ps_explaining.specs.Looking.{IsLast, IsLook}
+use Rattle.ps_explaining.specs.Scanned as scanned
+use Rattle.ps_explaining.specs.Scanned.{Scanned, last_upto}
+use Rattle.ps_explaining.specs.declared.walker.Walker.{Walker}
 use Rattle.ps_trace.specs.Scans.{Scans, scans_of}
 use Rattle.ps_traced.specs.Playing.{IsPlay}
-use Rattle.ps_moment.specs.declared.walker.LastScan.{LastScan}
+use Rattle.ps_explaining.specs.declared.walker.LastScan.{LastScan}
 use Rattle.ps_parser.specs.Tree.{SourceTree}
 use Rattle.ps_sourced.specs.Sourcing.{IsSourceOf}
 use Rattle.ps_terms.specs.Names.{name_of}

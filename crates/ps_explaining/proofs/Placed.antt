@@ -8,7 +8,7 @@ use Rattle.ps_base.specs.declared.failing.Place.{Place}
 use Rattle.ps_model.specs.Network.{Network}
 use Rattle.ps_parser.specs.Tree.{SourceTree}
 use Rattle.ps_reasons.proofs.Told.{push_at, push_before}
-use Rattle.ps_why.specs.declared.fact.Fact.{Fact}
+use Rattle.ps_facts.specs.declared.fact.Fact.{Fact}
 use Rattle.ps_explaining.specs.Reasoned.{ArePlacesOf, IsPlaceOf}
 
 -- the first so many facts have their places

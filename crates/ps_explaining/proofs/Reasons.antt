@@ -7,21 +7,21 @@ use Rattle.ps_because.specs.Moments.{Moment}
 use Rattle.ps_model.proofs.Once.{element_at}
 use Rattle.ps_model.specs.Meaning.{old_state, passed}
 use Rattle.ps_model.specs.Network.{Network, instance_count}
-use Rattle.ps_moment.specs.Looking.{IsLook}
-use Rattle.ps_moment.specs.Scanned.{Scanned, behind}
-use Rattle.ps_moment.specs.Walking.{IsWalkerFor}
-use Rattle.ps_moment.specs.declared.walker.LastScan.{LastScan}
-use Rattle.ps_moment.specs.declared.walker.Since.{Since}
-use Rattle.ps_moment.specs.declared.walker.Walker.{Walker}
+use Rattle.ps_explaining.specs.Looking.{IsLook}
+use Rattle.ps_explaining.specs.Scanned.{Scanned, behind}
+use Rattle.ps_explaining.specs.Walking.{IsWalkerFor}
+use Rattle.ps_explaining.specs.declared.walker.LastScan.{LastScan}
+use Rattle.ps_explaining.specs.declared.walker.Since.{Since}
+use Rattle.ps_explaining.specs.declared.walker.Walker.{Walker}
 use Rattle.ps_pins.specs.Calls.{input_pin}
 use Rattle.ps_reasons.specs.Questions.{IsAnswered, IsAskedFor}
 use Rattle.ps_reasons.specs.Scenes.{IsCallFor, IsCallOf, IsSceneFor, IsSceneOf}
 use Rattle.ps_reasons.specs.declared.keeping.Stepped.{Stepped}
 use Rattle.ps_reasons.specs.declared.questions.Question.{Question}
 use Rattle.ps_reasons.specs.declared.questions.Question.TheVariants.{Signal, Instance, Pin}
-use Rattle.ps_reasons.specs.declared.scene.CallScene.{CallScene}
+use Rattle.ps_facts.specs.declared.call.CallScene.{CallScene}
 use Rattle.ps_reasons.specs.declared.scene.Scene.{Scene}
-use Rattle.ps_why.specs.declared.fact.Fact.{Fact}
+use Rattle.ps_facts.specs.declared.fact.Fact.{Fact}
 use Rattle.ps_explaining.specs.Reasoned.{IsAsked, IsMomentOf, IsOfQuestion}
 
 -- what is answered is told

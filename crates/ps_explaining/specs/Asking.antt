@@ -13,8 +13,8 @@ use Rattle.ps_model.specs.Network.{Network}
 use Rattle.ps_model.specs.Scanning.{State}
 use Rattle.ps_model.specs.declared.channel.Fault.{Fault}
 use Rattle.ps_model.specs.declared.channel.ImageSizes.{ImageSizes}
-use Rattle.ps_moment.specs.Scanned as scanned
-use Rattle.ps_moment.specs.Scanned.{Scanned, last_upto}
+use Rattle.ps_explaining.specs.Scanned as scanned
+use Rattle.ps_explaining.specs.Scanned.{Scanned, last_upto}
 use Rattle.ps_parser.specs.Tree.{SourceTree}
 use Rattle.ps_sourced.specs.Sourcing.{IsSourceOf}
 use Rattle.ps_terms.specs.Names.{name_of}

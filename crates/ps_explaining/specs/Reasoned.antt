@@ -10,7 +10,7 @@ use Rattle.ps_model.specs.Blocks.{block}
 use Rattle.ps_model.specs.Meaning.{old_state, passed}
 use Rattle.ps_model.specs.Network.{Network, first_pin, instance_count, kind_at}
 use Rattle.ps_model.specs.Scanning.{Solves, State}
-use Rattle.ps_moment.specs.Scanned.{Scanned, behind}
+use Rattle.ps_explaining.specs.Scanned.{Scanned, behind}
 use Rattle.ps_parser.specs.Places.{step_place}
 use Rattle.ps_parser.specs.Tree.{SourceTree}
 use Rattle.ps_pins.specs.Calls.{call_step}
@@ -20,12 +20,12 @@ use Rattle.ps_reasons.specs.Scenes.{IsCallOf}
 use Rattle.ps_reasons.specs.declared.explaining.Explanation.{Explanation}
 use Rattle.ps_reasons.specs.declared.questions.Question.{Question}
 use Rattle.ps_reasons.specs.declared.questions.Question.TheVariants.{Signal as OfSignal, Instance as OfInstance, Pin as OfPin}
-use Rattle.ps_reasons.specs.declared.scene.CallScene.{CallScene}
+use Rattle.ps_facts.specs.declared.call.CallScene.{CallScene}
 use Rattle.ps_terms.specs.declared.name.Name.{Name}
 use Rattle.ps_terms.specs.declared.name.Name.TheVariants.{Signal, Code, Pin}
 use Rattle.ps_why.specs.Explained.{EachIsSo, EachOfIsSo, IsOfInput}
-use Rattle.ps_why.specs.declared.fact.Fact.{Fact}
-use Rattle.ps_why.specs.declared.fact.Fact.TheVariants.{PinIs, SignalIs, StateIs}
+use Rattle.ps_facts.specs.declared.fact.Fact.{Fact}
+use Rattle.ps_facts.specs.declared.fact.Fact.TheVariants.{PinIs, SignalIs, StateIs}
 
 -- a pin of an instance: an input pin as the call reads it, an output as its signal
 abbrev pub question_of_pin : Network → (i j : ℕ) → Question

@@ -2,10 +2,10 @@
 use Rattle.std.specs.Prelude.{◌≡◌, ℕ, List, Option, Some}
 use Rattle.ps_bench_base.specs.Opening.{Source}
 use Rattle.ps_model.specs.Network.{Network}
-use Rattle.ps_moment.specs.Looking.{IsLast}
-use Rattle.ps_moment.specs.Scanned.{Scanned}
-use Rattle.ps_moment.specs.Walking.{AreNoted, IsWalkerFor, StandsBehind, latest}
-use Rattle.ps_moment.specs.declared.walker.Walker.{Walker}
+use Rattle.ps_explaining.specs.Looking.{IsLast}
+use Rattle.ps_explaining.specs.Scanned.{Scanned}
+use Rattle.ps_explaining.specs.Walking.{AreNoted, IsWalkerFor, StandsBehind, latest}
+use Rattle.ps_explaining.specs.declared.walker.Walker.{Walker}
 use Rattle.ps_model.specs.Meaning.{nothing}
 use Rattle.std.specs.Prelude.{None}
 use Rattle.ps_explaining.specs.Asking.{IsFoundAt, IsFoundIn}

@@ -1,9 +1,9 @@
 // What a person reads where no scan is at or before a time.
 
+use crate::looping::Met;
 use ps_base::{Bytes, Memory};
 use ps_bench_base::pieces::{add_short, add_shown};
 use ps_hearing::{Listener, hear_bytes};
-use ps_moment::Met;
 use ps_statuses::NO_MEMORY;
 use std::alloc::Global;
 

@@ -4,10 +4,10 @@ ghost use Rattle.std.specs.Prelude.{◌≡◌, IfOk};
 ghost use Rattle.ps_explaining.specs.Reasoned.{ArePlacesOf, IsPlaceOf, place_of_step};
 
 use ps_base::{Memory, Place};
+use ps_facts::Fact;
 use ps_model::App;
 use ps_parser::Source;
 use ps_reasons::step_of;
-use ps_why::Fact;
 use std::alloc::Global;
 
 // Where the statement of a step stands, if there is one.

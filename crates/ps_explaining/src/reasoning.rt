@@ -5,19 +5,20 @@ ghost use Rattle.ps_explaining.specs.Reasoned.{IsReasoned, question_of, question
 ghost use Rattle.ps_model.specs.Blocks.{block};
 ghost use Rattle.ps_model.specs.Network.{instance_count, kind_at};
 ghost use Rattle.ps_model.specs.Pins.{pin_count};
-ghost use Rattle.ps_moment.specs.Looking.{IsLook};
-ghost use Rattle.ps_moment.specs.Scanned.{Scanned};
-ghost use Rattle.ps_moment.specs.Walking.{IsWalkerFor};
-ghost use Rattle.ps_moment.specs.declared.walker.Since.{Since as SinceOf};
+ghost use Rattle.ps_explaining.specs.Looking.{IsLook};
+ghost use Rattle.ps_explaining.specs.Scanned.{Scanned};
+ghost use Rattle.ps_explaining.specs.Walking.{IsWalkerFor};
+ghost use Rattle.ps_explaining.specs.declared.walker.Since.{Since as SinceOf};
 ghost use Rattle.ps_reasons.specs.Questions.{IsOf};
 ghost use Rattle.ps_terms.specs.Names.{IsNameOf};
 
 use crate::placing::places_of;
+use crate::walker::{LastScan, Since, Walker};
 use ps_base::{Bytes, Memory};
-use ps_because::{Moment, because};
+use ps_because::because;
 use ps_coverage::Format;
+use ps_facts::Moment;
 use ps_model::{App, input_count};
-use ps_moment::{LastScan, Since, Walker};
 use ps_parser::Source;
 use ps_pins::Signals;
 use ps_reasons::{Question, Scene, answer};

@@ -3,8 +3,8 @@ use Rattle.std.proofs.Common.{◌≡◌, ℕ, ◌+◌, ◌<◌, ◌++◌, List, 
 use Rattle.std.specs.Prelude.{Result, Ok, Err, Contains, IfOk, slice_index_or}
 use Rattle.std.proofs.lemmas.List.Elements.{Contains-append_left, Contains-push_cases}
 use Rattle.ps_model.proofs.Rest.{rest_at}
-use Rattle.ps_why.specs.Telling.{Adds}
-use Rattle.ps_why.specs.declared.fact.Fact.{Fact}
+use Rattle.ps_facts.specs.Telling.{Adds}
+use Rattle.ps_facts.specs.declared.fact.Fact.{Fact}
 
 -- one fact more
 pub adds_push : (Sort : Fact → Type 0) (old mid new : List Fact) (f : Fact) → Adds Sort old mid → Sort f → new ≡ mid ++ f ∷ [] → Adds Sort old new

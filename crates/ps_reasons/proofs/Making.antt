@@ -7,7 +7,15 @@ use Rattle.ps_model.specs.Action.{assigns, calls}
 use Rattle.ps_model.specs.Blocks.{output_count}
 use Rattle.ps_model.specs.Network.{Network, drives, first_pin, instance_count, is_driven, kind_at}
 use Rattle.ps_model.specs.Sound.{IsSound}
-use Rattle.ps_reasons.specs.Driving.{IsCalledAt, IsDrivenAt}
+use Rattle.ps_model.specs.declared.driver.Driver.{Driver}
+use Rattle.ps_model.specs.declared.driver.Driver.TheVariants.{Assigned, Output}
+use Rattle.ps_facts.specs.Driving.{driving_step}
+use Rattle.ps_reasons.specs.Driving.{IsCalledAt, IsDrivenAt, IsDrivenBy}
+
+-- what drives a signal does so at its step
+pub by_driver : (net : Network) (s : ℕ) (d : Driver) → IsDrivenBy net s d → IsDrivenAt net s (driving_step d)
+by_driver net s (Assigned k) by = inl by
+by_driver net s (Output i j k) by = inr (i, j, (by.0, by.1), by.2)
 
 -- where a step drives a signal, it is driven
 driven_at : (net : Network) (s k : ℕ) → IsDrivenAt net s k → is_driven net s ≡ true

@@ -8,13 +8,13 @@ use Rattle.ps_model.specs.Network.{Network, is_new}
 use Rattle.ps_ways.specs.declared.way.Way.{Way}
 use Rattle.ps_why.specs.Explained.{IsLeaf}
 use Rattle.ps_why.specs.Grounds.{MayBe, PinHasValue, ReadIsTold}
-use Rattle.ps_why.specs.Guards.{Decides, IsPassed, asked}
+use Rattle.ps_facts.specs.Guards.{Decides, IsPassed, asked}
 use Rattle.ps_why.specs.Rests.{IsDecided, IsEntered, IsInactive, Rests, unmet}
-use Rattle.ps_why.specs.declared.fact.Fact.{Fact}
-use Rattle.ps_why.specs.declared.fact.Fact.TheVariants.{SignalIs, SignalWas, PinIs, AskIs, StateIs, StateWas}
-use Rattle.ps_why.specs.declared.fact.Fact.TheVariants.{ResetWas, AuxiliaryWas, ModeIs, ModeWas}
-use Rattle.ps_why.proofs.Guarding.{literal_by_more, open_by_more}
-use Rattle.ps_why.proofs.Telling.{by_more}
+use Rattle.ps_facts.specs.declared.fact.Fact.{Fact}
+use Rattle.ps_facts.specs.declared.fact.Fact.TheVariants.{SignalIs, SignalWas, PinIs, AskIs, StateIs, StateWas}
+use Rattle.ps_facts.specs.declared.fact.Fact.TheVariants.{ResetWas, AuxiliaryWas, ModeIs, ModeWas}
+use Rattle.ps_facts.proofs.Guarding.{literal_by_more, open_by_more}
+use Rattle.ps_facts.proofs.Telling.{by_more}
 
 match_more : (b : Bool) (P P' Q Q' : Type 0) → (P → P') → (Q → Q') → MatchBool b P Q → MatchBool b P' Q'
 match_more true P P' Q Q' f g h = f h

@@ -19,15 +19,16 @@ use Rattle.ps_why.specs.Facts.{IsSo}
 use Rattle.ps_why.specs.Grounds.{MayBe}
 use Rattle.ps_why.specs.Laws.{IsOfApplication}
 use Rattle.ps_why.specs.Rests.{IsDecided, IsEntered, IsInactive, IsLatched, IsMoved}
-use Rattle.ps_why.specs.Telling.{IsAskOf, IsPinOf}
-use Rattle.ps_why.specs.declared.fact.Fact.{Fact}
-use Rattle.ps_why.specs.declared.fact.Fact.TheVariants.{AskIs, ModeIs, ModeWas, PinIs, StateIs, StateWas}
+use Rattle.ps_facts.specs.Telling.{IsAskOf, IsPinOf}
+use Rattle.ps_facts.specs.declared.fact.Fact.{Fact}
+use Rattle.ps_facts.specs.declared.fact.Fact.TheVariants.{AskIs, ModeIs, ModeWas, PinIs, StateIs, StateWas}
 use Rattle.ps_why.proofs.Resting.{latched_is_so, moved_is_so}
-use Rattle.ps_reasons.specs.Asking.{IsOfStep, IsSettledBy, TellsModes}
+use Rattle.ps_reasons.specs.Asking.{IsOfStep, IsSettledBy}
+use Rattle.ps_facts.specs.Telling.{TellsModes}
 use Rattle.ps_reasons.specs.Resting.{RestsThere}
 use Rattle.ps_reasons.specs.Scenes.{IsCallFor, IsSceneOf, conditions_in, pins_in}
 use Rattle.ps_reasons.specs.declared.asks.Call.{Call}
-use Rattle.ps_reasons.specs.declared.scene.CallScene.{CallScene}
+use Rattle.ps_facts.specs.declared.call.CallScene.{CallScene}
 use Rattle.ps_reasons.specs.declared.scene.Scene.{Scene}
 use Rattle.ps_reasons.proofs.Seeing.{ask_is, ask_so, is_limit, seen_is}
 use Rattle.ps_reasons.proofs.So.{one_call, pin_so}

@@ -24,16 +24,17 @@ use Rattle.ps_model.specs.declared.kind.Kind.TheVariants.{TwoHandTwo, TwoHandThr
 use Rattle.ps_model.specs.declared.kind.Kind.TheVariants.{EnableSwitch, SafetyRequest, OutControl, Edm}
 use Rattle.ps_why.specs.Facts.{IsSo}
 use Rattle.ps_why.specs.Explained.{IsLeaf}
-use Rattle.ps_why.specs.Grounds.{HasValue, PinHasValue, ReadIsTold}
+use Rattle.ps_facts.specs.Operands.{HasValue}
+use Rattle.ps_why.specs.Grounds.{PinHasValue, ReadIsTold}
 use Rattle.ps_why.specs.Laws.{IsOfApplication}
 use Rattle.ps_why.specs.Rests.{IsOutput, IsRead, Rests, unmet}
-use Rattle.ps_why.specs.Telling.{IsPinOf}
-use Rattle.ps_why.specs.declared.fact.Fact.{Fact}
-use Rattle.ps_why.specs.declared.fact.Fact.TheVariants.{SignalIs, PinIs, StateIs, ModeIs}
+use Rattle.ps_facts.specs.Telling.{IsPinOf}
+use Rattle.ps_facts.specs.declared.fact.Fact.{Fact}
+use Rattle.ps_facts.specs.declared.fact.Fact.TheVariants.{SignalIs, PinIs, StateIs, ModeIs}
 use Rattle.ps_reasons.specs.Reading.{GivesValue, IsOfState}
 use Rattle.ps_reasons.specs.Resting.{IsGiven, RestsThere}
 use Rattle.ps_reasons.specs.Scenes.{IsCallFor, IsSceneOf, pins_in, read_in}
-use Rattle.ps_reasons.specs.declared.scene.CallScene.{CallScene}
+use Rattle.ps_facts.specs.declared.call.CallScene.{CallScene}
 use Rattle.ps_reasons.specs.declared.scene.Scene.{Scene}
 use Rattle.ps_reasons.proofs.So.{pin_so, read_fits, read_so, reads_are}
 

@@ -10,11 +10,12 @@ use Rattle.std.proofs.lemmas.List.FromFn.{get_or-map-range_with_len, length-map-
 use mathlib.Core.Path.{fun_ext}
 use Rattle.ps_model.specs.Formula.{Formula, value}
 use Rattle.ps_model.specs.Network.{Network, is_new, signal_count}
-use Rattle.ps_why.specs.Grounds.{HasValue, ReadIsTold}
-use Rattle.ps_why.specs.Telling.{HasItsValue, IsTold}
-use Rattle.ps_why.specs.declared.fact.Fact.{Fact}
-use Rattle.ps_why.specs.declared.fact.Fact.TheVariants.{SignalIs, SignalWas}
-use Rattle.ps_why.proofs.Telling.{by_more}
+use Rattle.ps_facts.specs.Operands.{HasValue}
+use Rattle.ps_why.specs.Grounds.{ReadIsTold}
+use Rattle.ps_facts.specs.Telling.{HasItsValue, IsTold}
+use Rattle.ps_facts.specs.declared.fact.Fact.{Fact}
+use Rattle.ps_facts.specs.declared.fact.Fact.TheVariants.{SignalIs, SignalWas}
+use Rattle.ps_facts.proofs.Telling.{by_more}
 use Rattle.ps_reasons.specs.Reading.{GivesValue, fact_of_read}
 use Rattle.ps_reasons.specs.Scenes.{IsSceneFor, read_in}
 use Rattle.ps_reasons.specs.declared.scene.Scene.{Scene}

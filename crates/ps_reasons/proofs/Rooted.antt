@@ -11,8 +11,8 @@ use Rattle.ps_pins.specs.Reading.{read_between}
 use Rattle.ps_pins.proofs.Steps.{stands_at}
 use Rattle.ps_why.specs.Facts.{IsSo}
 use Rattle.ps_why.specs.Laws.{IsOfApplication}
-use Rattle.ps_why.specs.declared.fact.Fact.{Fact}
-use Rattle.ps_why.specs.declared.fact.Fact.TheVariants.{PinIs}
+use Rattle.ps_facts.specs.declared.fact.Fact.{Fact}
+use Rattle.ps_facts.specs.declared.fact.Fact.TheVariants.{PinIs}
 use Rattle.ps_reasons.specs.Explanations.{AreSo}
 use Rattle.ps_reasons.specs.Questions.{AreAskedFor, IsAnswered, IsAskedFor, IsOf, value_of}
 use Rattle.ps_reasons.specs.Scenes.{IsSceneOf, pins_in}

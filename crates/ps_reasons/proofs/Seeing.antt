@@ -15,14 +15,14 @@ use Rattle.ps_ways.specs.Stepping.{conditions_of, pins_of}
 use Rattle.ps_ways.specs.declared.step.StepConditions.{StepConditions}
 use Rattle.ps_ways.specs.Calling.{seen_by}
 use Rattle.ps_why.specs.Facts.{IsSo}
-use Rattle.ps_why.specs.declared.fact.Fact.TheVariants.{AskIs}
+use Rattle.ps_facts.specs.declared.fact.Fact.TheVariants.{AskIs}
 use Rattle.ps_ways.specs.Ways.{asks}
 use Rattle.ps_ways.specs.declared.way.Ask.{Ask}
 use Rattle.ps_ways.specs.declared.way.Ask.TheVariants.{Pin, Edge, Held, Rise, Elapsed, NoMode, OneMode}
 use Rattle.ps_ways.specs.declared.way.Ask.TheVariants.{ManyModes, LatchedMode}
 use Rattle.ps_reasons.specs.Asking.{last_kept}
 use Rattle.ps_reasons.specs.Scenes.{IsCallOf, IsSceneOf, conditions_in, kept_in, pins_in}
-use Rattle.ps_reasons.specs.declared.scene.CallScene.{CallScene}
+use Rattle.ps_facts.specs.declared.call.CallScene.{CallScene}
 use Rattle.ps_reasons.specs.declared.scene.Scene.{Scene}
 use Rattle.ps_reasons.proofs.So.{one_call, pins_are}
 

@@ -11,9 +11,10 @@ use Rattle.ps_ways.specs.declared.way.Ask.{Ask}
 use Rattle.ps_ways.specs.declared.way.Ask.TheVariants.{Pin, Edge, Held, Rise, Elapsed, NoMode, OneMode}
 use Rattle.ps_ways.specs.declared.way.Ask.TheVariants.{ManyModes, LatchedMode}
 use Rattle.ps_why.specs.Grounds.{MayBe}
-use Rattle.ps_why.specs.declared.fact.Fact.{Fact}
-use Rattle.ps_why.specs.declared.fact.Fact.TheVariants.{PinIs, ResetWas, AuxiliaryWas, ModeWas}
-use Rattle.ps_reasons.specs.Asking.{IsSeenIn, IsSettledBy, TellsLast, TellsModes, last_kept}
+use Rattle.ps_facts.specs.declared.fact.Fact.{Fact}
+use Rattle.ps_facts.specs.declared.fact.Fact.TheVariants.{PinIs, ResetWas, AuxiliaryWas, ModeWas}
+use Rattle.ps_reasons.specs.Asking.{IsSeenIn, IsSettledBy, TellsLast, last_kept}
+use Rattle.ps_facts.specs.Telling.{TellsModes}
 use Rattle.ps_reasons.specs.declared.asks.Call.{Call}
 
 -- two Booleans with a common first part

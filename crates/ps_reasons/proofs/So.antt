@@ -9,7 +9,7 @@ use Rattle.ps_pins.proofs.Between.{reads_are as between}
 use Rattle.ps_ways.specs.Calling.{pins_read}
 use Rattle.ps_why.specs.Facts.{IsSo}
 use Rattle.ps_why.specs.Laws.{IsOfApplication}
-use Rattle.ps_why.specs.declared.fact.Fact.TheVariants.{SignalIs, SignalWas, PinIs}
+use Rattle.ps_facts.specs.declared.fact.Fact.TheVariants.{SignalIs, SignalWas, PinIs}
 use Rattle.ps_reasons.specs.Reading.{fact_of_read}
 use Rattle.ps_reasons.specs.Scenes.{IsSceneOf, pins_in, read_in}
 use Rattle.ps_reasons.specs.declared.scene.Scene.{Scene}

@@ -12,8 +12,8 @@ use Rattle.ps_why.specs.Explained.{IsLeaf}
 use Rattle.ps_why.specs.Facts.{IsSo}
 use Rattle.ps_why.specs.Laws.{IsOfApplication}
 use Rattle.ps_why.specs.Rests.{Rests}
-use Rattle.ps_why.specs.declared.fact.Fact.{Fact}
-use Rattle.ps_why.specs.declared.fact.Fact.TheVariants.{SignalIs}
+use Rattle.ps_facts.specs.declared.fact.Fact.{Fact}
+use Rattle.ps_facts.specs.declared.fact.Fact.TheVariants.{SignalIs}
 use Rattle.ps_reasons.specs.Entering.{Enters, EntersAll, IsAmong}
 use Rattle.ps_reasons.specs.Explanations.{AreSo, EachRests, IsMeantThere, IsOneOf, IsReason, IsTold}
 use Rattle.ps_reasons.specs.Resting.{RestsThere}

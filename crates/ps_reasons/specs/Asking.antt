@@ -1,5 +1,5 @@
 -- What is told of what a guard asks.
-use Rattle.std.specs.Prelude.{◌≡◌, ◌≢◌, ◌⊎◌, ℕ, ◌+◌, ◌<◌, Bool, true, List, Contains, Option, MatchOption}
+use Rattle.std.specs.Prelude.{◌≡◌, ◌≢◌, ◌⊎◌, ℕ, Bool, true, Option, MatchOption}
 use Rattle.ps_model.specs.Kept.{Kept, seen}
 use Rattle.ps_model.specs.Network.{Network}
 use Rattle.ps_model.specs.Table.{Conditions}
@@ -8,9 +8,9 @@ use Rattle.ps_ways.specs.declared.step.LastStep.{LastStep}
 use Rattle.ps_ways.specs.declared.way.Ask.{Ask}
 use Rattle.ps_ways.specs.declared.way.Ask.TheVariants.{Elapsed}
 use Rattle.ps_why.specs.Grounds.{MayBe}
-use Rattle.ps_why.specs.Telling.{IsPinOf}
-use Rattle.ps_why.specs.declared.fact.Fact.{Fact}
-use Rattle.ps_why.specs.declared.fact.Fact.TheVariants.{PinIs, ResetWas, AuxiliaryWas, ModeWas}
+use Rattle.ps_facts.specs.Telling.{IsPinOf}
+use Rattle.ps_facts.specs.declared.fact.Fact.{Fact}
+use Rattle.ps_facts.specs.declared.fact.Fact.TheVariants.{PinIs, ResetWas, AuxiliaryWas, ModeWas}
 use Rattle.ps_reasons.specs.declared.asks.Call.{Call}
 
 -- what an instance kept of its last step, its state apart
@@ -38,10 +38,6 @@ IsOfStep call pins fact =
 abbrev pub TellsLast : (told : Fact → Type 0) (k : ℕ) → (ℕ → Bool) → Option ℕ → (was : Fact) → Type 0
 TellsLast told k pins pin was =
     MatchOption pin (Unit {0}) (λ j. told (PinIs k j (pins j)) × (pins j ≡ true → told was))
-
--- It is told what the pins of the modes read.
-abbrev pub TellsModes : (k : ℕ) → (ℕ → Bool) → List Fact → Type 0
-TellsModes k pins facts = (m : ℕ) → m < 8 → Contains facts (PinIs k (m + 1) (pins (m + 1)))
 
 -- What is told settles what a guard asks of a call, unless that is the limit.
 abbrev pub IsSettledBy : Call → Ask → Conditions → (told : Fact → Type 0) → Type 0

@@ -6,8 +6,8 @@ use Rattle.ps_model.specs.Network.{Network}
 use Rattle.ps_model.specs.declared.driver.Driver.{Driver}
 use Rattle.ps_model.specs.declared.driver.Driver.TheVariants.{Assigned, Output}
 use Rattle.ps_why.specs.Rests.{IsOutput}
-use Rattle.ps_why.specs.declared.fact.Fact.{Fact}
-use Rattle.ps_why.specs.declared.fact.Fact.TheVariants.{SignalIs, StateIs, ModeIs}
+use Rattle.ps_facts.specs.declared.fact.Fact.{Fact}
+use Rattle.ps_facts.specs.declared.fact.Fact.TheVariants.{SignalIs, StateIs, ModeIs}
 
 -- A signal is driven so: a step assigns it, or it is an output of an instance that a step calls.
 abbrev pub IsDrivenBy : Network → (s : ℕ) → Driver → Type 0

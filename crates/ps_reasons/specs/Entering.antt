@@ -1,6 +1,6 @@
 -- Facts that are told once. Nothing here is part of what is promised.
 use Rattle.std.specs.Prelude.{◌≡◌, ◌⊎◌, ℕ, ◌<◌, ◌≤◌, ◌++◌, List, [], ◌∷◌, Contains, Some, length, slice_get}
-use Rattle.ps_why.specs.declared.fact.Fact.{Fact}
+use Rattle.ps_facts.specs.declared.fact.Fact.{Fact}
 use Rattle.ps_reasons.specs.Explanations.{IsOneOf}
 
 -- A fact was told with a number, or is told at the end.

@@ -5,7 +5,7 @@ use Rattle.ps_model.specs.Scanning.{Solves, State}
 use Rattle.ps_why.specs.Explained.{EachIsSo, IsExplained, IsLeaf}
 use Rattle.ps_why.specs.Laws.{IsOfApplication}
 use Rattle.ps_why.specs.Rests.{Rests}
-use Rattle.ps_why.specs.declared.fact.Fact.{Fact}
+use Rattle.ps_facts.specs.declared.fact.Fact.{Fact}
 use Rattle.ps_reasons.specs.Scenes.{IsSceneOf}
 use Rattle.ps_reasons.specs.declared.explaining.Explanation.{Explanation}
 use Rattle.ps_reasons.specs.declared.explaining.Reasons.{Reasons}

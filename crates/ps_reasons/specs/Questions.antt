@@ -5,14 +5,14 @@ use Rattle.ps_model.specs.Blocks.{block}
 use Rattle.ps_model.specs.Network.{Network, first_pin, instance_count, kind_at}
 use Rattle.ps_model.specs.Scanning.{Solves, State}
 use Rattle.ps_pins.specs.Calls.{call_step, input_pin}
-use Rattle.ps_why.specs.declared.fact.Fact.{Fact}
-use Rattle.ps_why.specs.declared.fact.Fact.TheVariants.{PinIs, SignalIs, StateIs}
+use Rattle.ps_facts.specs.declared.fact.Fact.{Fact}
+use Rattle.ps_facts.specs.declared.fact.Fact.TheVariants.{PinIs, SignalIs, StateIs}
 use Rattle.ps_reasons.specs.Explanations.{IsMeant, IsReason}
 use Rattle.ps_reasons.specs.Scenes.{IsSceneOf}
 use Rattle.ps_reasons.specs.declared.explaining.Explanation.{Explanation}
 use Rattle.ps_reasons.specs.declared.questions.Question.{Question}
 use Rattle.ps_reasons.specs.declared.questions.Question.TheVariants.{Signal, Instance, Pin}
-use Rattle.ps_reasons.specs.declared.scene.CallScene.{CallScene}
+use Rattle.ps_facts.specs.declared.call.CallScene.{CallScene}
 use Rattle.ps_reasons.specs.declared.scene.Scene.{Scene}
 
 -- the fact that a signal has its value behind a scan

@@ -1,17 +1,19 @@
 -- What is told of what a step reads.
-use Rattle.std.specs.Prelude.{◌≡◌, ◌⊎◌, ℕ, Bool, List, Contains, if◌then◌else◌}
+use Rattle.std.specs.Prelude.{◌≡◌, ◌⊎◌, ℕ, Bool, List, Contains}
 use Rattle.ps_model.specs.Formula.{Formula, value}
 use Rattle.ps_model.specs.Network.{Network, is_new}
-use Rattle.ps_why.specs.Grounds.{HasValue, ReadIsTold}
-use Rattle.ps_why.specs.declared.fact.Fact.{Fact}
-use Rattle.ps_why.specs.declared.fact.Fact.TheVariants.{ModeIs, SignalIs, SignalWas, StateIs}
+use Rattle.ps_facts.specs.Operands.{HasValue}
+use Rattle.ps_why.specs.Grounds.{ReadIsTold}
+use Rattle.ps_facts.specs.Reading.{fact_of_signal}
+use Rattle.ps_facts.specs.declared.fact.Fact.{Fact}
+use Rattle.ps_facts.specs.declared.fact.Fact.TheVariants.{ModeIs, StateIs}
 use Rattle.ps_reasons.specs.Scenes.{read_in}
-use Rattle.ps_reasons.specs.declared.scene.CallScene.{CallScene}
+use Rattle.ps_facts.specs.declared.call.CallScene.{CallScene}
 use Rattle.ps_reasons.specs.declared.scene.Scene.{Scene}
 
 -- the fact that a step reads a value of a signal: of this scan where it has one already, else of before it
 abbrev pub fact_of_read : Network → (k s : ℕ) → Bool → Fact
-fact_of_read net k s b = if is_new net k s then SignalIs s b else SignalWas s b
+fact_of_read net k s b = fact_of_signal (is_new net k s) s b
 
 -- A formula has its value by these facts, each of which is what the step reads of a signal.
 pub record GivesValue (net : Network) (x : Scene) (k : ℕ) (e : Formula) (facts : List Fact) : Type 0 where

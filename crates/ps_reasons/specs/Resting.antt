@@ -6,7 +6,7 @@ use Rattle.ps_why.specs.Explained.{EachIsSo, IsLeaf}
 use Rattle.ps_why.specs.Facts.{IsSo}
 use Rattle.ps_why.specs.Laws.{IsOfApplication}
 use Rattle.ps_why.specs.Rests.{Rests}
-use Rattle.ps_why.specs.declared.fact.Fact.{Fact}
+use Rattle.ps_facts.specs.declared.fact.Fact.{Fact}
 use Rattle.ps_reasons.specs.Scenes.{IsSceneOf}
 use Rattle.ps_reasons.specs.declared.scene.Scene.{Scene}
 

@@ -6,7 +6,7 @@ use Rattle.ps_model.specs.Network.{Network, instance_count, kind_at, signal_coun
 use Rattle.ps_model.specs.Scanning.{State, block_in, limit_of, pins_under}
 use Rattle.ps_model.specs.Table.{Conditions}
 use Rattle.ps_pins.specs.Reading as signals
-use Rattle.ps_reasons.specs.declared.scene.CallScene.{CallScene}
+use Rattle.ps_facts.specs.declared.call.CallScene.{CallScene}
 use Rattle.ps_reasons.specs.declared.scene.Scene.{Scene}
 
 -- a signal as a step reads it

@@ -1,20 +1,20 @@
 // On what it rests that something that a guard asks holds, or does not.
 
-ghost use Rattle.std.specs.Prelude.{◌≡◌, ◌≤◌, Contains, IfOk, OnOk};
+ghost use Rattle.std.specs.Prelude.{◌≤◌, Contains, IfOk, OnOk};
 ghost use Rattle.ps_model.specs.Blocks.{block};
 ghost use Rattle.ps_ways.specs.Stepping.{conditions_of};
-ghost use Rattle.ps_why.specs.declared.fact.Fact.TheVariants.{AskIs, AuxiliaryWas, ModeWas, PinIs, ResetWas};
-ghost use Rattle.ps_why.specs.Telling.{Adds, IsPinOf};
-ghost use Rattle.ps_reasons.specs.Asking.{IsOfStep, IsSeenIn, IsSettledBy, TellsLast, TellsModes};
+ghost use Rattle.ps_facts.specs.declared.fact.Fact.TheVariants.{AskIs, AuxiliaryWas, ModeWas, ResetWas};
+ghost use Rattle.ps_facts.specs.Telling.{Adds, TellsModes};
+ghost use Rattle.ps_reasons.specs.Asking.{IsOfStep, IsSeenIn, IsSettledBy, TellsLast};
 ghost use Rattle.ps_reasons.specs.Resting.{RestsThere};
 ghost use Rattle.ps_reasons.specs.Scenes.{IsSceneFor};
 
 use crate::reading::conditions_at;
 use crate::scene::Scene;
 use ps_base::Memory;
+use ps_facts::{Fact, tell_modes, tell_pin};
 use ps_model::{App, Kind, Step, auxiliary_pin, reset_pin};
 use ps_ways::{Ask, LastStep, StepConditions};
-use ps_why::Fact;
 use std::alloc::Global;
 
 /// A call: its step, its instance and its kind, and what it kept of its last step.
@@ -24,37 +24,6 @@ pub(crate) struct Call {
     pub(crate) instance: u16,
     pub(crate) kind: Kind,
     pub(crate) last: LastStep,
-}
-
-/// Tells what a pin reads, and answers it.
-pub(crate) fn tell_pin(
-    step: u16,
-    pin: u8,
-    seen: &StepConditions,
-    facts: &mut Vec<Fact>,
-) -> Result<bool, Memory>
-    ensures value { IfOk result (λ value. value ≡ (conditions_of seen.now).pin pin) }
-    ensures told { OnOk result (Contains facts.new.items (PinIs step pin ((conditions_of seen.now).pin pin))) }
-    ensures adds { OnOk result (Adds (IsPinOf step (conditions_of seen.now).pin) facts.old.items facts.new.items) }
-{
-    let value = seen.pin(pin);
-    facts.push(Fact::PinIs { step, pin, value })?;
-    Ok(value)
-}
-
-/// Tells the pins of the modes.
-pub(crate) fn tell_modes(
-    step: u16,
-    seen: &StepConditions,
-    facts: &mut Vec<Fact>,
-) -> Result<(), Memory>
-    ensures told { OnOk result (TellsModes step (conditions_of seen.now).pin facts.new.items) }
-    ensures adds { OnOk result (Adds (IsPinOf step (conditions_of seen.now).pin) facts.old.items facts.new.items) }
-{
-    for pin in 1..9 {
-        tell_pin(step, pin, seen, facts)?;
-    }
-    Ok(())
 }
 
 // Tells Reset, and what it was in the last step where it is TRUE now.

@@ -12,21 +12,21 @@ use crate::scene::Scene;
 use crate::signals::signal_facts;
 use crate::states::{mode_facts, state_facts};
 use ps_base::Memory;
+use ps_facts::Fact;
 use ps_model::App;
 use ps_ways::Ask;
-use ps_why::Fact;
 use std::alloc::Global;
 
 /// The numbers of the facts on which a fact rests, in the order in which they are told. There are none where it is a
 /// leaf.
-#[derive(Debug, Drop)]
+#[derive(Drop)]
 pub struct Reasons {
     /// The numbers.
     pub facts: Vec<u32>,
 }
 
 /// All that is told of a scan for some facts.
-#[derive(Debug, Drop)]
+#[derive(Drop)]
 pub struct Explanation {
     /// The facts, numbered from 0: those that were asked for, and then those that they rest on.
     pub facts: Vec<Fact>,

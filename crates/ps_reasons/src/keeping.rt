@@ -8,7 +8,7 @@ ghost use Rattle.ps_rows.specs.Counted.{kept_of};
 ghost use Rattle.ps_reasons.specs.Keeping.{AllStep, AreKept, StepsSo, stepped_as};
 ghost use Rattle.ps_reasons.specs.Scenes.{IsCallFor};
 
-use crate::scene::CallScene;
+use ps_facts::{CallScene, has_elapsed};
 use ps_machine::call_limit;
 use ps_model::{App, Step};
 use ps_pins::{Signals, call_step, read_pins};
@@ -16,7 +16,7 @@ use ps_rows::CountedBlock;
 use ps_ways::LastStep;
 
 /// An instance behind a scan: what is seen of it in the scan, and its block.
-#[derive(Clone, Copy, PartialEq, Eq, Debug)]
+#[derive(Clone, Copy)]
 pub struct Stepped {
     /// What is seen of it.
     pub call: CallScene,
@@ -37,7 +37,7 @@ fn shown_step(k: u16, block: CountedBlock, passed: u32, after: CountedBlock) -> 
                 auxiliary: block.last_auxiliary,
                 mode: block.mode,
             },
-            elapsed: block.remains.saturating_sub(passed) == 0,
+            elapsed: has_elapsed(block.remains, passed),
             code: after.code,
             mode: after.mode,
         },

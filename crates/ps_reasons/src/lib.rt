@@ -21,7 +21,7 @@ mod states;
 mod steps;
 
 pub use explaining::{Explanation, Reasons, explain};
-pub use keeping::{Stepped, step_instance};
+pub use keeping::{Stepped, step_instance, step_instances};
 pub use questions::{Question, answer};
-pub use scene::{CallScene, Scene};
+pub use scene::Scene;
 pub use steps::step_of;

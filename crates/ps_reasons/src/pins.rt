@@ -1,15 +1,15 @@
 // On what the value at a pin rests.
 
 ghost use Rattle.std.specs.Prelude.{IfOk};
-ghost use Rattle.ps_why.specs.declared.fact.Fact.TheVariants.{PinIs};
+ghost use Rattle.ps_facts.specs.declared.fact.Fact.TheVariants.{PinIs};
 ghost use Rattle.ps_reasons.specs.Resting.{RestsThere};
 ghost use Rattle.ps_reasons.specs.Scenes.{IsSceneFor};
 
 use crate::reading::expression_facts;
 use crate::scene::Scene;
 use ps_base::Memory;
+use ps_facts::Fact;
 use ps_model::{App, Arg, Step};
-use ps_why::Fact;
 use std::alloc::Global;
 
 /// On what it rests that a call reads a value at a pin.

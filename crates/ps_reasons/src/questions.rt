@@ -3,8 +3,8 @@
 ghost use Rattle.std.specs.Prelude.{◌≡◌, ◌+◌, ◌<◌, ℕ, length, Contains, IfOk, OnOk, [], ◌∷◌};
 ghost use Rattle.ps_model.specs.Blocks.{block};
 ghost use Rattle.ps_model.specs.Network.{first_pin, instance_count, kind_at};
-ghost use Rattle.ps_why.specs.Telling.{Adds};
-ghost use Rattle.ps_why.specs.declared.fact.Fact.TheVariants.{PinIs, StateIs};
+ghost use Rattle.ps_facts.specs.Telling.{Adds};
+ghost use Rattle.ps_facts.specs.declared.fact.Fact.TheVariants.{PinIs, StateIs};
 ghost use Rattle.ps_pins.specs.Calls as pins;
 ghost use Rattle.ps_reasons.specs.Questions.{AreAskedFor, IsAllUsed, IsAnswered, IsAnsweredThere, IsOf, IsPinOfCall};
 ghost use Rattle.ps_reasons.specs.Questions.{IsSafeValue, value_of};
@@ -13,13 +13,13 @@ ghost use Rattle.ps_reasons.specs.Scenes.{IsSceneFor};
 use crate::explaining::{Explanation, explain};
 use crate::scene::Scene;
 use ps_base::Memory;
+use ps_facts::Fact;
 use ps_model::{App, safe_count};
 use ps_pins::{bit_at, call_step, input_pin};
-use ps_why::Fact;
 use std::alloc::Global;
 
 /// What is asked of a scan: why something is so.
-#[derive(Clone, Copy, PartialEq, Eq, Debug)]
+#[derive(Clone, Copy)]
 pub enum Question {
     /// Why a signal has its value, by its number.
     Signal(u16),

@@ -10,12 +10,12 @@ ghost use Rattle.ps_ways.specs.Stepping.{conditions_of};
 ghost use Rattle.ps_reasons.specs.Reading.{GivesValue, fact_of_read};
 ghost use Rattle.ps_reasons.specs.Scenes.{IsCallFor, IsSceneFor, conditions_in, read_in};
 
-use crate::scene::{CallScene, Scene};
+use crate::scene::Scene;
 use ps_base::Memory;
+use ps_facts::{CallScene, Fact, signal_fact, tell_signals};
 use ps_model::{App, Args, Expr, Step};
 use ps_pins::{bit_at, is_new, read_pins, read_signal};
 use ps_ways::StepConditions;
-use ps_why::{Fact, tell_signals};
 use std::alloc::Global;
 
 // The signals as a step reads them.
@@ -34,11 +34,7 @@ fn read_signals(alloc: Global, app: &App, k: u16, scene: &Scene<'_>) -> Result<V
 fn read_fact(app: &App, k: u16, s: u16, value: bool) -> Fact
     ensures { result ≡ fact_of_read app.now k s value }
 {
-    if is_new(app, k, s) {
-        Fact::SignalIs { signal: s, value }
-    } else {
-        Fact::SignalWas { signal: s, value }
-    }
+    signal_fact(is_new(app, k, s), s, value)
 }
 
 // The facts that a step reads these signals, of which it reads all these values.

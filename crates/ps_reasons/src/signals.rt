@@ -9,20 +9,21 @@ ghost use Rattle.ps_model.specs.declared.demands.Need.{Need};
 ghost use Rattle.ps_ways.specs.Stepping.{conditions_of};
 ghost use Rattle.ps_model.specs.Formula.{Formula};
 ghost use Rattle.ps_model.specs.Network.{is_driven};
-ghost use Rattle.ps_why.specs.declared.fact.Fact.TheVariants.{ModeIs, SignalIs, StateIs};
+ghost use Rattle.ps_facts.specs.declared.fact.Fact.TheVariants.{ModeIs, SignalIs, StateIs};
 ghost use Rattle.ps_why.specs.Rests.{IsOutput, unmet};
-ghost use Rattle.ps_why.specs.Telling.{Adds, IsPinOf};
+ghost use Rattle.ps_facts.specs.Telling.{Adds, IsPinOf};
 ghost use Rattle.ps_reasons.specs.Driving.{IsDrivenBy};
 ghost use Rattle.ps_reasons.specs.Reading.{GivesValue, IsOfState};
 ghost use Rattle.ps_reasons.specs.Resting.{RestsThere};
 ghost use Rattle.ps_reasons.specs.Scenes.{IsSceneFor};
 
 use crate::reading::{call_conditions, expression_facts};
-use crate::scene::{CallScene, Scene};
+use crate::scene::Scene;
 use ps_base::Memory;
+use ps_facts::{CallScene, Fact};
 use ps_model::{App, Driver, Kind, Step, safe_count};
 use ps_ways::StepConditions;
-use ps_why::{Fact, tell_denial};
+use ps_why::tell_denial;
 use std::alloc::Global;
 
 /// What drives a signal.

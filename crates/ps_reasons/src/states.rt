@@ -1,16 +1,15 @@
 // On what the state of an instance rests, and its mode.
 
 ghost use Rattle.std.specs.Prelude.{IfOk};
-ghost use Rattle.ps_why.specs.declared.fact.Fact.TheVariants.{ModeIs, StateIs};
+ghost use Rattle.ps_facts.specs.declared.fact.Fact.TheVariants.{ModeIs, StateIs};
 ghost use Rattle.ps_reasons.specs.Resting.{RestsThere};
 ghost use Rattle.ps_reasons.specs.Scenes.{IsSceneFor};
 
-use crate::asks::{tell_modes, tell_pin};
 use crate::reading::call_conditions;
 use crate::scene::Scene;
 use ps_base::Memory;
+use ps_facts::{Fact, tell_guards, tell_modes, tell_pin};
 use ps_model::App;
-use ps_why::{Fact, tell_guards};
 use std::alloc::Global;
 
 /// On what it rests that an instance is in a state behind the scan: on Activate, on the state before, and on what the
@@ -39,7 +38,7 @@ pub(crate) fn state_facts(
         instance: i,
         code: call.from,
     })?;
-    if call.from == 0 {
+    if call.was_idle() {
         return Ok(facts);
     }
     let kind = app.instance_kind(i);

@@ -2,12 +2,12 @@
 
 ghost use Rattle.std.specs.Prelude.{Bool, ℕ};
 ghost use Rattle.ps_reasons.specs.Driving.{IsStepOf};
-ghost use Rattle.ps_why.specs.declared.fact.Fact.TheVariants.{SignalIs, StateIs};
+ghost use Rattle.ps_facts.specs.declared.fact.Fact.TheVariants.{SignalIs, StateIs};
 
 use crate::signals::driver_of;
-use ps_model::{App, Driver};
+use ps_facts::{Fact, step_of_driver};
+use ps_model::App;
 use ps_pins::call_step;
-use ps_why::Fact;
 
 // The step that drives a signal, if one does.
 fn driving_step(app: &App, s: u16) -> Option<u16>
@@ -15,8 +15,7 @@ fn driving_step(app: &App, s: u16) -> Option<u16>
 {
     match driver_of(app, s) {
         None => None,
-        Some(Driver::Assigned { step }) => Some(step),
-        Some(Driver::Output { step, .. }) => Some(step),
+        Some(driver) => Some(step_of_driver(driver)),
     }
 }
 

@@ -5,5 +5,3 @@ pub mod Taking
 pub mod Resting
 pub mod Enough
 pub mod Grounded
-pub mod Telling
-pub mod Guarding

@@ -1,33 +1,12 @@
--- On what a fact can rest: the operands of formulas, and what is told of a call.
-use Rattle.std.specs.Prelude.{◌≡◌, ◌⊎◌, ℕ, Bool, true, false}
+-- On what a fact can rest: what is told of a call, and of what it reads.
+use Rattle.std.specs.Prelude.{◌≡◌, ℕ, Bool, false}
 use Rattle.std.specs.Bool.{MatchBool}
 use Rattle.ps_model.specs.Action.{Actual, free, literal, time, wired}
-use Rattle.ps_model.specs.Formula.{Formula, Formulas, signal, all_of, any_of, no_operand, operand}
+use Rattle.ps_facts.specs.Operands.{HasValue}
 use Rattle.ps_model.specs.Kept.{Kept}
 use Rattle.ps_model.specs.Network.{Network, is_new}
-use Rattle.ps_why.specs.declared.fact.Fact.{Fact}
-use Rattle.ps_why.specs.declared.fact.Fact.TheVariants.{SignalIs, SignalWas, PinIs, ResetWas, AuxiliaryWas, ModeWas}
-
--- `Reads s b`: it is told that signal s reads b
-module _ (Reads : ℕ → Bool → Type 0) where
-  abbrev mutual
-    -- A formula has a value by what is told: a FALSE AND by a FALSE operand, a TRUE one by all, an OR the other way.
-    pub HasValue : Formula → Bool → Type 0
-    HasValue (signal s) b = Reads s b
-    HasValue (all_of es) true = EachHasValue es true
-    HasValue (all_of es) false = SomeHasValue es false
-    HasValue (any_of es) true = SomeHasValue es true
-    HasValue (any_of es) false = EachHasValue es false
-
-    -- each operand has it
-    pub EachHasValue : Formulas → Bool → Type 0
-    EachHasValue no_operand b = Unit {0}
-    EachHasValue (operand e es) b = HasValue e b × EachHasValue es b
-
-    -- some operand has it
-    pub SomeHasValue : Formulas → Bool → Type 0
-    SomeHasValue no_operand b = ⊥
-    SomeHasValue (operand e es) b = HasValue e b ⊎ SomeHasValue es b
+use Rattle.ps_facts.specs.declared.fact.Fact.{Fact}
+use Rattle.ps_facts.specs.declared.fact.Fact.TheVariants.{SignalIs, SignalWas, PinIs, ResetWas, AuxiliaryWas, ModeWas}
 
 -- `told`: the facts that are told
 module _ (net : Network) (told : Fact → Type 0) where

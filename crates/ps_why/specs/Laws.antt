@@ -5,10 +5,11 @@ use Rattle.ps_model.specs.Network.{Network, instance_count}
 use Rattle.ps_model.specs.Scanning.{Solves, State, read_at}
 use Rattle.ps_why.specs.Explained.{EachIsSo, EachOfIsSo, IsExplained, IsLeaf, IsOfInput}
 use Rattle.ps_why.specs.Facts.{IsSo}
-use Rattle.ps_why.specs.Grounds.{HasValue, ReadIsTold}
+use Rattle.ps_facts.specs.Operands.{HasValue}
+use Rattle.ps_why.specs.Grounds.{ReadIsTold}
 use Rattle.ps_why.specs.Rests.{Rests}
-use Rattle.ps_why.specs.declared.fact.Fact.{Fact}
-use Rattle.ps_why.specs.declared.fact.Fact.TheVariants.{StateIs, ModeIs}
+use Rattle.ps_facts.specs.declared.fact.Fact.{Fact}
+use Rattle.ps_facts.specs.declared.fact.Fact.TheVariants.{StateIs, ModeIs}
 
 -- In every scan in which these facts are so, a formula has the value that follows from them at step k.
 abbrev pub FormulasFollow : Type 0

@@ -1,8 +1,6 @@
 -- What a reader of the promise has to believe: what is told, on what it rests, and when it is enough.
 pub mod Facts
 pub mod Grounds
-pub mod Guards
 pub mod Rests
 pub mod Explained
-pub mod Telling
 pub mod Laws

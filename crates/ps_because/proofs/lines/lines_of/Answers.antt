@@ -1,8 +1,9 @@
-use Rattle.std.proofs.Common.{arith}
-use Rattle.ps_because.proofs.Tellings.{telling_all}
+use Rattle.std.proofs.Common.{◌≡◌, ◌∙◌, ap, length, map, arith}
+use Rattle.std.specs.List.{range_with_len}
+use Rattle.ps_facts.specs.Below.{first_line}
 use Rattle.ps_because.proofs.lines.lines_of.Goals as goal
 
-pub returns : goal.returns
-returns c =
-    telling_all c.args.explanation.now c.loop-n.told.items c.loop-n.lines.items c.loop-n.invariant.0
-    (λ n within. c.loop-n.invariant.2 n (omega (arith, within, c.loop-n-test.false, c.in-Ok.ensures, c.len.ensures)))
+pub tell_firsts-requires-clause-firsts : goal.tell_firsts-requires-clause-firsts
+tell_firsts-requires-clause-firsts c =
+    let all : c.in-Ok.count ≡ length c.args.explanation.now.facts.items = omega (arith, c.in-Ok.ensures, c.len.ensures) in
+    c.as_slice.ensures.value ∙ c.in_ok-firsts.ensures ∙ ap (λ n. map first_line (range_with_len 0 n)) all

@@ -1,5 +1,7 @@
-use Rattle.std.proofs.Common.{◌≡◌, ◌∙◌, ◌-◌, Some, ap, length, refl, slice_get, subst, sym, arith}
-use Rattle.std.specs.Prelude.{Contains, slice_index_or}
+use Rattle.std.proofs.Common.{◌≡◌, ◌∙◌, ◌-◌, ◌++◌, ◌∷◌, [], Some, ap, length, refl, slice_get, subst, sym, arith}
+use Rattle.std.specs.Prelude.{Contains, IfSome, slice_index_or}
+use Rattle.ps_facts.specs.Below.{line_below}
+use Rattle.ps_facts.specs.declared.lines.Line.{Line}
 use Rattle.std.proofs.lemmas.List.Elements.{Contains-get_or}
 use Rattle.std.proofs.lemmas.Option.{slice_get_read}
 use Rattle.ps_because.specs.Pending.{AddsChildren}
@@ -20,10 +22,12 @@ loop-i-preserved c =
     let among : Contains r.facts.items fact =
     subst (λ ns. Contains ns fact) c.as_slice-reasons.ensures.value
     (Contains-get_or facts (length facts - 1 - c.loop-i.i) 0 (omega (arith, c.loop-i-test.true))) in
+    let below : c.in-Some.below ≡ line_below x fact =
+    subst (λ o. IfSome o (λ l. l ≡ line_below x fact)) c.in-Some.is c.below.ensures in
     elim c.if-fact-len.branch [
       | then-fact-len+in_ok-push w ↦
-          child_more e x old c.loop-i.pending.items c.if-fact-len.pending.items (record { fact = fact; depth = c.args.depth }) c.loop-i.invariant
-          (ap (λ p. p.items) w.pending-is ∙ w.in_ok-push.ensures.items)
-          (record { deeper = c.requires; reason = (r, at, among); of = omega (arith, w.if-fact-len.true, c.len-in-loop-i.ensures) })
+          child_more e x old c.loop-i.pending.items c.if-fact-len.pending.items (line_below x fact) c.loop-i.invariant
+          (ap (λ p. p.items) w.pending-is ∙ w.in_ok-push.ensures.items ∙ ap (λ (l : Line). c.loop-i.pending.items ++ l ∷ []) below)
+          (record { deeper = refl; reason = (r, at, among); of = omega (arith, w.if-fact-len.true, c.len-in-loop-i.ensures) })
       | else-fact-len w ↦ subst (AddsChildren e x old) (sym (ap (λ p. p.items) w.pending-is)) c.loop-i.invariant
     ]

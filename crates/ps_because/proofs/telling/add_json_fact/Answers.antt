@@ -2,7 +2,7 @@ use Rattle.std.proofs.Common.{List, Some, ap, slice_get}
 use Rattle.std.specs.Prelude.{codes, decimal}
 use Rattle.ps_coverage.proofs.Chains.{being, carry, chain9}
 use Rattle.ps_reasons.specs.declared.explaining.Reasons.{Reasons}
-use Rattle.ps_why.specs.declared.fact.Fact.{Fact}
+use Rattle.ps_facts.specs.declared.fact.Fact.{Fact}
 use Rattle.ps_because.specs.Because.{json_place, reasons_text, told_at}
 use Rattle.ps_because.specs.Moments.{moment_of}
 use Rattle.ps_because.proofs.telling.add_json_fact.Goals as goal

@@ -1,7 +1,7 @@
 use Rattle.std.proofs.Common.{◌≡◌, arith, ap, length, sym, false}
 use Rattle.std.specs.Prelude.{slice_index_or}
 use Rattle.std.proofs.lemmas.Option.{slice_get-get_or}
-use Rattle.ps_why.specs.declared.fact.Fact.TheVariants.{SignalIs}
+use Rattle.ps_facts.specs.declared.fact.Fact.TheVariants.{SignalIs}
 use Rattle.ps_explaining.proofs.Placed.{all_placed, placed_more}
 use Rattle.ps_explaining.proofs.placing.places_of.Goals as goal
 

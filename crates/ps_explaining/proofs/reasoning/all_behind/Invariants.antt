@@ -1,5 +1,5 @@
 use Rattle.std.proofs.Common.{◌≡◌, map, take}
-use Rattle.ps_moment.specs.declared.walker.Since.{Since}
+use Rattle.ps_explaining.specs.declared.walker.Since.{Since}
 use Rattle.ps_explaining.proofs.reasoning.all_behind.Given as goal
 
 abbrev pub invariant-loop-noted : goal.invariant-loop-noted

@@ -3,9 +3,9 @@ use Rattle.std.proofs.lemmas.Result.{IfOk-weaker}
 use Rattle.ps_base.specs.declared.failing.Place.{Place}
 use Rattle.ps_because.specs.Moments.{Moment}
 use Rattle.ps_model.specs.Meaning.{old_state, passed}
-use Rattle.ps_moment.specs.declared.walker.Since.{Since}
+use Rattle.ps_explaining.specs.declared.walker.Since.{Since}
 use Rattle.ps_reasons.specs.declared.scene.Scene.{Scene}
-use Rattle.ps_why.specs.declared.fact.Fact.{Fact}
+use Rattle.ps_facts.specs.declared.fact.Fact.{Fact}
 use Rattle.ps_explaining.specs.Reasoned.{ArePlacesOf}
 use Rattle.ps_explaining.proofs.Reasons.{asked_for, moment_of_scan, of_question, scene_for, scene_of}
 use Rattle.ps_explaining.proofs.reasoning.reasoned.Goals as goal

@@ -1,6 +1,6 @@
 use Rattle.std.proofs.Common.{inl, inr, subst, sym, Contains}
 use Rattle.ps_ways.specs.Stepping.{conditions_of}
-use Rattle.ps_why.specs.Telling.{IsPinOf}
+use Rattle.ps_facts.specs.Telling.{IsPinOf}
 use Rattle.ps_reasons.specs.Asking.{IsOfStep, IsSettledBy}
 use Rattle.ps_reasons.proofs.Adding.{adds_as, both, ok_each}
 use Rattle.ps_reasons.proofs.Settling.{edge_settles, held_settles, latched_settles, many_modes_settles, no_mode_settles, one_mode_settles, pin_settles, rise_settles}

@@ -1,7 +1,7 @@
 use Rattle.std.proofs.Common.{inl, inr, refl}
 use Rattle.ps_ways.specs.Stepping.{conditions_of}
-use Rattle.ps_why.specs.Telling.{IsPinOf}
-use Rattle.ps_why.specs.declared.fact.Fact.TheVariants.{AuxiliaryWas}
+use Rattle.ps_facts.specs.Telling.{IsPinOf}
+use Rattle.ps_facts.specs.declared.fact.Fact.TheVariants.{AuxiliaryWas}
 use Rattle.ps_reasons.specs.Asking.{IsOfStep}
 use Rattle.ps_reasons.proofs.Adding.{adds_as, adds_push}
 use Rattle.ps_reasons.proofs.asks.tell_auxiliary.Goals as goal

@@ -1,8 +1,8 @@
 use Rattle.std.proofs.Common.{◌+◌, ◌∷◌, [], Contains, inl, inr, refl, subst, sym}
 use Rattle.std.proofs.lemmas.List.Elements.{Contains-append_left}
 use Rattle.ps_ways.specs.Stepping.{conditions_of}
-use Rattle.ps_why.specs.Telling.{IsPinOf}
-use Rattle.ps_why.specs.declared.fact.Fact.TheVariants.{ModeWas, PinIs}
+use Rattle.ps_facts.specs.Telling.{IsPinOf}
+use Rattle.ps_facts.specs.declared.fact.Fact.TheVariants.{ModeWas, PinIs}
 use Rattle.ps_reasons.specs.Asking.{IsOfStep}
 use Rattle.ps_reasons.proofs.Adding.{adds_as, adds_push}
 use Rattle.ps_reasons.proofs.asks.tell_latched.Goals as goal

@@ -2,7 +2,7 @@ use Rattle.std.proofs.Common.{◌≡◌, ◌∙◌, ◌+◌, ap, subst, sym, ari
 use Rattle.ps_reasons.specs.Entering.{EntersAll}
 use Rattle.ps_reasons.specs.declared.explaining.Explanation.{Explanation}
 use Rattle.ps_reasons.specs.declared.explaining.Reasons.{Reasons}
-use Rattle.ps_why.specs.declared.fact.Fact.{Fact}
+use Rattle.ps_facts.specs.declared.fact.Fact.{Fact}
 use Rattle.ps_reasons.proofs.Told.{IsToldSoFar, meant_all, told_first, told_next}
 use Rattle.ps_reasons.proofs.explaining.explain.Goals as goal
 

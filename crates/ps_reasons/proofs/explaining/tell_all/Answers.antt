@@ -1,7 +1,7 @@
 use Rattle.std.proofs.Common.{◌≡◌, ◌+◌, subst, sym, arith, length, false}
 use Rattle.std.specs.Prelude.{slice_index_or}
 use Rattle.std.proofs.lemmas.Option.{slice_get-get_or}
-use Rattle.ps_why.specs.declared.fact.Fact.TheVariants.{SignalIs}
+use Rattle.ps_facts.specs.declared.fact.Fact.TheVariants.{SignalIs}
 use Rattle.ps_reasons.specs.Entering.{EntersAll}
 use Rattle.ps_reasons.proofs.Told.{enters_next, enters_none}
 use Rattle.ps_reasons.proofs.explaining.tell_all.Goals as goal

@@ -5,7 +5,7 @@ use Rattle.ps_model.specs.Action.{calls, free, wired}
 use Rattle.ps_model.specs.Args.{actual}
 use Rattle.ps_model.specs.Exprs.{formula}
 use Rattle.ps_model.specs.Steps.{action}
-use Rattle.ps_why.specs.declared.fact.Fact.TheVariants.{PinIs}
+use Rattle.ps_facts.specs.declared.fact.Fact.TheVariants.{PinIs}
 use Rattle.ps_reasons.specs.Resting.{RestsThere}
 use Rattle.ps_reasons.proofs.Adding.{ok_each}
 use Rattle.ps_reasons.proofs.Outputs.{IsPlain, plain_rests, stands_at, wired_rests}

@@ -1,6 +1,6 @@
 use Rattle.std.proofs.Common.{subst, sym, inl, inr, Contains, List}
 use Rattle.std.proofs.lemmas.Option.{get_or_from_slice_get, slice_get_within}
-use Rattle.ps_why.specs.declared.fact.Fact.{Fact}
+use Rattle.ps_facts.specs.declared.fact.Fact.{Fact}
 use Rattle.ps_reasons.specs.Questions.{AreAskedFor, IsAnswered}
 use Rattle.ps_reasons.proofs.Adding.{ok_each}
 use Rattle.ps_reasons.proofs.Rooted.{answered_more, roots_so}

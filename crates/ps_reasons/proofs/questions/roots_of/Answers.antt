@@ -3,10 +3,10 @@ use Rattle.std.specs.Prelude.{slice_index_or}
 use Rattle.std.proofs.lemmas.List.Elements.{Contains-push}
 use Rattle.std.proofs.lemmas.Option.{slice_get-get_or}
 use Rattle.ps_model.specs.Network.{instance_count}
-use Rattle.ps_why.specs.declared.fact.Fact.{Fact}
-use Rattle.ps_why.specs.declared.fact.Fact.TheVariants.{StateIs}
+use Rattle.ps_facts.specs.declared.fact.Fact.{Fact}
+use Rattle.ps_facts.specs.declared.fact.Fact.TheVariants.{StateIs}
 use Rattle.ps_reasons.specs.declared.questions.Question.TheVariants.{Instance}
-use Rattle.ps_why.proofs.Guarding.{adds_more, adds_none}
+use Rattle.ps_facts.proofs.Guarding.{adds_more, adds_none}
 use Rattle.ps_reasons.specs.Questions.{IsAnswered, IsAskedFor, IsOf, IsSafeValue}
 use Rattle.ps_reasons.proofs.Adding.{adds_as, adds_only, adds_push}
 use Rattle.ps_reasons.proofs.Seeing.{no_call}

@@ -4,8 +4,8 @@ use Rattle.std.proofs.lemmas.List.Elements.{Contains-append_left, Contains-push}
 use Rattle.ps_model.specs.Blocks.{block}
 use Rattle.ps_model.specs.Network.{first_pin, kind_at}
 use Rattle.ps_model.specs.declared.kind.Kind.{Kind}
-use Rattle.ps_why.specs.declared.fact.Fact.{Fact}
-use Rattle.ps_why.proofs.Guarding.{adds_none}
+use Rattle.ps_facts.specs.declared.fact.Fact.{Fact}
+use Rattle.ps_facts.proofs.Guarding.{adds_none}
 use Rattle.ps_reasons.specs.Questions.{IsSafeValue, value_of}
 use Rattle.ps_reasons.proofs.Adding.{adds_push}
 use Rattle.ps_reasons.proofs.questions.tell_outputs.Goals as goal

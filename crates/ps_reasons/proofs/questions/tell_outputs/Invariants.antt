@@ -1,6 +1,6 @@
 use Rattle.std.proofs.Common.{ℕ, ◌+◌, ◌<◌, Contains}
 use Rattle.ps_model.specs.Network.{first_pin}
-use Rattle.ps_why.specs.Telling.{Adds}
+use Rattle.ps_facts.specs.Telling.{Adds}
 use Rattle.ps_reasons.specs.Questions.{IsSafeValue, value_of}
 use Rattle.ps_reasons.proofs.questions.tell_outputs.Given as goal
 

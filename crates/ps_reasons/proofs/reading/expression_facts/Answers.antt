@@ -1,7 +1,7 @@
 use Rattle.std.proofs.Common.{◌≡◌, ◌∙◌, ap, subst, sym, map, false, List, Bool}
 use Rattle.std.specs.Prelude.{slice_index_or}
 use Rattle.ps_model.specs.Exprs.{formula}
-use Rattle.ps_why.specs.Telling.{HasItsValue}
+use Rattle.ps_facts.specs.Telling.{HasItsValue}
 use Rattle.ps_reasons.specs.Reading.{GivesValue, fact_of_read}
 use Rattle.ps_reasons.proofs.Adding.{ok_each}
 use Rattle.ps_reasons.proofs.Readings.{gives_value, read_list}

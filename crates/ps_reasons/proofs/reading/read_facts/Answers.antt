@@ -3,7 +3,7 @@ use Rattle.std.specs.Prelude.{slice_index_or}
 use Rattle.std.proofs.lemmas.Grind.{common_steps}
 use Rattle.std.proofs.lemmas.List.{get_or_default}
 use Rattle.ps_reasons.specs.Reading.{fact_of_read}
-use Rattle.ps_why.specs.declared.fact.Fact.{Fact}
+use Rattle.ps_facts.specs.declared.fact.Fact.{Fact}
 use Rattle.ps_reasons.proofs.Adding.{map_rest}
 use Rattle.ps_reasons.proofs.reading.read_facts.Goals as goal
 

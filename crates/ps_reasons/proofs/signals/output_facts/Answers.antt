@@ -5,9 +5,9 @@ use Rattle.ps_model.specs.Blocks.{block}
 use Rattle.ps_model.specs.Demand.{demand}
 use Rattle.ps_model.specs.Table.{Conditions}
 use Rattle.ps_ways.specs.Stepping.{conditions_of}
-use Rattle.ps_why.specs.Telling.{IsPinOf}
-use Rattle.ps_why.proofs.Guarding.{adds_more}
-use Rattle.ps_why.specs.declared.fact.Fact.{Fact}
+use Rattle.ps_facts.specs.Telling.{IsPinOf}
+use Rattle.ps_facts.proofs.Guarding.{adds_more}
+use Rattle.ps_facts.specs.declared.fact.Fact.{Fact}
 use Rattle.ps_reasons.specs.Reading.{IsOfState}
 use Rattle.ps_reasons.specs.Scenes.{IsCallFor, conditions_in}
 use Rattle.ps_reasons.proofs.Adding.{adds_as, adds_only}

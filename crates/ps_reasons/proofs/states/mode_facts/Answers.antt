@@ -4,10 +4,10 @@ use Rattle.std.proofs.lemmas.List.Elements.{Contains-append_left, Contains-push}
 use Rattle.std.proofs.lemmas.Option.{slice_get-get_or}
 use Rattle.ps_model.specs.Table.{Conditions}
 use Rattle.ps_ways.specs.Stepping.{conditions_of}
-use Rattle.ps_why.specs.Telling.{IsPinOf}
-use Rattle.ps_why.proofs.Guarding.{adds_more, adds_none}
-use Rattle.ps_why.specs.declared.fact.Fact.{Fact}
-use Rattle.ps_why.specs.declared.fact.Fact.TheVariants.{ModeWas, StateIs, StateWas}
+use Rattle.ps_facts.specs.Telling.{IsPinOf}
+use Rattle.ps_facts.proofs.Guarding.{adds_more, adds_none}
+use Rattle.ps_facts.specs.declared.fact.Fact.{Fact}
+use Rattle.ps_facts.specs.declared.fact.Fact.TheVariants.{ModeWas, StateIs, StateWas}
 use Rattle.ps_model.specs.Network.{instance_count}
 use Rattle.ps_reasons.specs.Scenes.{IsCallFor, conditions_in, pins_in}
 use Rattle.ps_reasons.proofs.Adding.{adds_as, adds_only, adds_push}

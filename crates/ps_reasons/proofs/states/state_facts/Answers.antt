@@ -1,15 +1,16 @@
 use Rattle.std.proofs.Common.{◌≡◌, ◌≢◌, ◌∙◌, ◌<◌, ◌∷◌, true, false, subst, sym, refl, arith, Some, Contains, [], inl, inr, slice_get}
 use Rattle.std.specs.Prelude.{slice_index_or}
+use Rattle.std.proofs.lemmas.Bool.{eqb-false, eqb-true}
 use Rattle.std.proofs.lemmas.List.Elements.{Contains-append_left, Contains-push}
 use Rattle.std.proofs.lemmas.Option.{slice_get-get_or}
 use Rattle.ps_model.specs.Blocks.{block}
 use Rattle.ps_model.specs.Network.{kind_at}
 use Rattle.ps_ways.specs.Stepping.{conditions_of}
 use Rattle.ps_ways.specs.Tables.{ways_of}
-use Rattle.ps_why.specs.Guards.{Decides}
-use Rattle.ps_why.specs.Telling.{IsAskOf, IsPinOf}
-use Rattle.ps_why.proofs.Guarding.{adds_more}
-use Rattle.ps_why.specs.declared.fact.Fact.TheVariants.{PinIs, StateWas}
+use Rattle.ps_facts.specs.Guards.{Decides}
+use Rattle.ps_facts.specs.Telling.{IsAskOf, IsPinOf}
+use Rattle.ps_facts.proofs.Guarding.{adds_more}
+use Rattle.ps_facts.specs.declared.fact.Fact.TheVariants.{PinIs, StateWas}
 use Rattle.ps_model.specs.Network.{instance_count}
 use Rattle.ps_reasons.specs.Scenes.{IsCallFor, conditions_in}
 use Rattle.ps_reasons.proofs.Adding.{adds_as, adds_only, adds_push}
@@ -34,8 +35,8 @@ returns-then-not-branch c =
     (λ f h. inl (adds_only (IsPinOf here.step cs.pin) c.new-facts.result.items facts c.new-facts.ensures.items c.in_ok-tell_pin.ensures.adds f h))
     (inl (subst (λ b. Contains facts (PinIs here.step 0 b)) off c.in_ok-tell_pin.ensures.told, refl))
 
-pub returns-then-call-eq0 : goal.returns-then-call-eq0
-returns-then-call-eq0 c =
+pub returns-then-was_idle : goal.returns-then-was_idle
+returns-then-was_idle c =
     let net = c.args.app.now in
     let x = c.args.scene.now in
     let i = c.args.i in
@@ -49,7 +50,7 @@ returns-then-call-eq0 c =
     let mid = c.tell_pin.new.facts.items in
     let facts = c.push.new.self.items in
     let on : cs.pin 0 ≡ true = sym c.in_ok-tell_pin.ensures.value ∙ c.if-not-branch.false in
-    let idle : here.from ≡ 0 = c.if-call-eq0.true in
+    let idle : here.from ≡ 0 = eqb-true here.from 0 (sym c.was_idle.ensures ∙ c.if-was_idle.true) in
     let pushed = c.in_ok-push.ensures.items in
     let all = adds_push (IsOfMove i here cs) none mid facts (StateWas i here.from)
     (adds_as (IsPinOf here.step cs.pin) (IsOfMove i here cs) (λ f h. inl h) none mid c.in_ok-tell_pin.ensures.adds) (inr (inl refl)) pushed in
@@ -78,7 +79,7 @@ returns c =
     let more = c.push.new.self.items in
     let facts = c.tell_guards.new.facts.items in
     let on : cs.pin 0 ≡ true = sym c.in_ok-tell_pin.ensures.value ∙ c.if-not-branch.false in
-    let busy : here.from ≢ 0 = c.if-call-eq0.false in
+    let busy : here.from ≢ 0 = eqb-false here.from 0 (sym c.was_idle.ensures ∙ c.if-was_idle.false) in
     let pushed = c.in_ok-push.ensures.items in
     let kept = c.in_ok-tell_guards.ensures.adds.kept in
     let all = adds_more (IsOfMove i here cs) none more facts

@@ -13,8 +13,8 @@ use Rattle.ps_reasons.proofs.Told.{push_at, push_before, push_cases}
 use Rattle.ps_reasons.specs.declared.explaining.Explanation.{Explanation}
 use Rattle.ps_because.specs.Pending.{AddsChildren, IsChild, IsOfFact, IsTelling, KeepsNotes}
 use Rattle.ps_because.specs.Trees.{AreLinesOf, IsReasonOf, MayFollow}
-use Rattle.ps_facts.specs.Below.{first_line}
-use Rattle.ps_facts.specs.declared.lines.Line.{Line}
+use Rattle.ps_outline.specs.Below.{first_line}
+use Rattle.ps_outline.specs.declared.lines.Line.{Line}
 
 -- ---- What is noted.
 

@@ -11,7 +11,7 @@ use Rattle.ps_facts.specs.declared.fact.Fact.{Fact}
 use Rattle.ps_because.specs.Facts.{fact_text}
 use Rattle.ps_because.specs.Moments.{Moment}
 use Rattle.ps_because.specs.Trees.{AreLinesOf}
-use Rattle.ps_facts.specs.declared.lines.Line.{Line}
+use Rattle.ps_outline.specs.declared.lines.Line.{Line}
 
 -- how far a line is indented: two blanks for each line above it, and those of forty at most
 abbrev pub indents : (depth : ℕ) → ℕ

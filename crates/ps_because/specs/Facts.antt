@@ -18,7 +18,7 @@ use Rattle.ps_facts.specs.declared.fact.Fact.TheVariants.{SignalIs, SignalWas, P
 use Rattle.ps_facts.specs.declared.fact.Fact.TheVariants.{ResetWas, AuxiliaryWas, ModeIs, ModeWas}
 use Rattle.ps_because.specs.Moments.{Moment, call_pin_text, signal_text}
 use Rattle.ps_because.specs.Waiting.{is_waited_for, standing_words}
-use Rattle.ps_facts.specs.Ending.{is_error}
+use Rattle.ps_outline.specs.Ending.{is_error}
 
 -- when something was that was before the scan
 abbrev pub before_text : (before : Option ℕ) → List ℕ

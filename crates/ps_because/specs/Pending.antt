@@ -2,7 +2,7 @@
 use Rattle.std.specs.Prelude.{◌≡◌, ◌<◌, ◌≤◌, ◌+◌, ℕ, Bool, true, List, Contains, ◌++◌, Some, length, slice_get, take}
 use Rattle.std.specs.List.{AllByRecursion}
 use Rattle.ps_because.specs.Trees.{IsReasonOf, MayFollow}
-use Rattle.ps_facts.specs.declared.lines.Line.{Line}
+use Rattle.ps_outline.specs.declared.lines.Line.{Line}
 use Rattle.ps_reasons.specs.declared.explaining.Explanation.{Explanation}
 
 -- A line is of one of the facts.

@@ -1,6 +1,6 @@
 -- The lines in which an explanation is told: a tree, by how deep each line stands.
 use Rattle.std.specs.Prelude.{◌≡◌, ◌⊎◌, ◌<◌, ◌+◌, ℕ, List, Contains, Some, length, slice_get, take}
-use Rattle.ps_facts.specs.declared.lines.Line.{Line}
+use Rattle.ps_outline.specs.declared.lines.Line.{Line}
 use Rattle.ps_reasons.specs.declared.explaining.Explanation.{Explanation}
 use Rattle.ps_reasons.specs.declared.explaining.Reasons.{Reasons}
 

@@ -10,7 +10,7 @@ use Rattle.ps_ways.specs.declared.way.Literal.{Literal}
 use Rattle.ps_ways.specs.declared.way.Literal.TheVariants.{Any, Is, Not}
 use Rattle.ps_ways.specs.declared.way.Way.{Way}
 use Rattle.ps_conditions.specs.Conditions.{subject_words}
-use Rattle.ps_facts.specs.Ending.{is_end}
+use Rattle.ps_outline.specs.Ending.{is_end}
 
 -- a number of its own for each thing that can be asked
 abbrev pub number_of : Ask → ℕ

@@ -18,8 +18,9 @@ use itoa::Buffer;
 use ps_base::{Bytes, Memory};
 use ps_conditions::{Condition, awaited_of, subject_of, told_of};
 use ps_cover::called_kind;
-use ps_facts::{CallScene, Fact, Moment, is_error};
+use ps_facts::{CallScene, Fact, Moment};
 use ps_model::{App, Arg, Args, Kind, Step};
+use ps_outline::is_error;
 use ps_states::state_words;
 use ps_ways::Ask;
 

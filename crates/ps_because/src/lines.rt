@@ -2,12 +2,12 @@
 
 ghost use Rattle.std.specs.Prelude.{◌≡◌, ◌++◌, ◌∷◌, true, [], length, map, IfOk, OnOk, Some, slice_get};
 ghost use Rattle.std.specs.List.{range_with_len};
-ghost use Rattle.ps_facts.specs.Below.{first_line};
+ghost use Rattle.ps_outline.specs.Below.{first_line};
 ghost use Rattle.ps_because.specs.Pending.{AddsChildren, IsOfFact, IsTelling, KeepsNotes};
 ghost use Rattle.ps_because.specs.Trees.{AreLinesOf};
 
 use ps_base::Memory;
-use ps_facts::{Line, first_lines};
+use ps_outline::{Line, first_lines};
 use ps_reasons::Explanation;
 use std::alloc::Global;
 

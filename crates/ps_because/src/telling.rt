@@ -11,7 +11,8 @@ use crate::facts::{add_fact, add_number};
 use crate::lines::lines_of;
 use ps_base::{Bytes, Memory, Place};
 use ps_coverage::Format;
-use ps_facts::{Fact, Line, Moment};
+use ps_facts::{Fact, Moment};
+use ps_outline::Line;
 use ps_reasons::{Explanation, Reasons};
 use std::alloc::Global;
 

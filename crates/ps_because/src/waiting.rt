@@ -4,8 +4,8 @@ ghost use Rattle.std.specs.Prelude.{◌≡◌};
 ghost use Rattle.ps_because.specs.Waiting as waiting;
 
 use ps_conditions::{Condition, subject_of};
-use ps_facts::is_end;
 use ps_model::Kind;
+use ps_outline::is_end;
 use ps_ways::{Ask, Literal, Way, ways};
 
 /// The DiagCode of the state in which a block does what it is for.

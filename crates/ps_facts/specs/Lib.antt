@@ -1,9 +1,5 @@
--- What a reader of the promise has to believe: which operands and guards decide, what is read, which ways end a state,
--- and where lines stand.
+-- What a reader of the promise has to believe: which operands and guards decide, what is read, and what is told of pins.
 pub mod Operands
 pub mod Guards
 pub mod Reading
-pub mod Driving
-pub mod Ending
-pub mod Below
 pub mod Telling

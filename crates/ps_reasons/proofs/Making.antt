@@ -9,7 +9,7 @@ use Rattle.ps_model.specs.Network.{Network, drives, first_pin, instance_count, i
 use Rattle.ps_model.specs.Sound.{IsSound}
 use Rattle.ps_model.specs.declared.driver.Driver.{Driver}
 use Rattle.ps_model.specs.declared.driver.Driver.TheVariants.{Assigned, Output}
-use Rattle.ps_facts.specs.Driving.{driving_step}
+use Rattle.ps_outline.specs.Driving.{driving_step}
 use Rattle.ps_reasons.specs.Driving.{IsCalledAt, IsDrivenAt, IsDrivenBy}
 
 -- what drives a signal does so at its step

@@ -5,8 +5,9 @@ ghost use Rattle.ps_reasons.specs.Driving.{IsStepOf};
 ghost use Rattle.ps_facts.specs.declared.fact.Fact.TheVariants.{SignalIs, StateIs};
 
 use crate::signals::driver_of;
-use ps_facts::{Fact, step_of_driver};
+use ps_facts::Fact;
 use ps_model::App;
+use ps_outline::step_of_driver;
 use ps_pins::call_step;
 
 // The step that drives a signal, if one does.

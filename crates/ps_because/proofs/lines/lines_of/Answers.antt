@@ -1,6 +1,6 @@
 use Rattle.std.proofs.Common.{◌≡◌, ◌∙◌, ap, length, map, arith}
 use Rattle.std.specs.List.{range_with_len}
-use Rattle.ps_facts.specs.Below.{first_line}
+use Rattle.ps_outline.specs.Below.{first_line}
 use Rattle.ps_because.proofs.lines.lines_of.Goals as goal
 
 pub tell_firsts-requires-clause-firsts : goal.tell_firsts-requires-clause-firsts

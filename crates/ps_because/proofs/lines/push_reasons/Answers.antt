@@ -1,7 +1,7 @@
 use Rattle.std.proofs.Common.{◌≡◌, ◌∙◌, ◌-◌, ◌++◌, ◌∷◌, [], Some, ap, length, refl, slice_get, subst, sym, arith}
 use Rattle.std.specs.Prelude.{Contains, IfSome, slice_index_or}
-use Rattle.ps_facts.specs.Below.{line_below}
-use Rattle.ps_facts.specs.declared.lines.Line.{Line}
+use Rattle.ps_outline.specs.Below.{line_below}
+use Rattle.ps_outline.specs.declared.lines.Line.{Line}
 use Rattle.std.proofs.lemmas.List.Elements.{Contains-get_or}
 use Rattle.std.proofs.lemmas.Option.{slice_get_read}
 use Rattle.ps_because.specs.Pending.{AddsChildren}

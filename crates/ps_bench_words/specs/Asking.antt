@@ -33,6 +33,7 @@ pub data Asked : Type 0 where
   Never : (app rules : List ℕ) (states : ℕ) → Asked
   Same : (app other : List ℕ) (rules : Option (List ℕ)) (states : ℕ) → Asked
   Campaign : (app trace : List ℕ) (from count : ℕ) (channel : Option Channel) (print : Bool) → Asked
+  Report : (app : List ℕ) (cases : List (List ℕ)) (title : Option (List ℕ)) → Asked
   Live : (app : List ℕ) → Asked
   Page : Asked
   NotTaken : Asked
@@ -174,6 +175,11 @@ campaign_asks rows = asks_by (number_of (value_of (codes "FROM") rows)) (λ from
     Campaign (value_of (codes "APP") rows) (value_of (codes "TRACE") rows) from count channel
     (nat_lt 0 (count_of (codes "print") rows)))))
 
+-- `report`
+abbrev pub report_asks : List Row → Asked
+report_asks rows =
+    Report (value_of (codes "APP") rows) (values_of (codes "CASES") rows) (first_of (codes "title") rows)
+
 -- `live`
 abbrev pub live_asks : List Row → Asked
 live_asks rows = Live (value_of (codes "APP") rows)
@@ -199,6 +205,7 @@ command_asks name rows =
     else if bytes_eq name (codes "never") then never_asks rows
     else if bytes_eq name (codes "same") then same_asks rows
     else if bytes_eq name (codes "campaign") then campaign_asks rows
+    else if bytes_eq name (codes "report") then report_asks rows
     else if bytes_eq name (codes "live") then live_asks rows
     else if bytes_eq name (codes "help") then help_asks (first_of (codes "COMMAND") rows)
     else NotTaken

@@ -76,6 +76,10 @@ abbrev pub campaign : Shape
 campaign = command (codes "campaign") (app ∷ required (word (codes "TRACE")) ∷ required (word (codes "FROM"))
     ∷ required (word (codes "COUNT")) ∷ option (codes "channel") ∷ flag (codes "print") ∷ [])
 
+-- `report APP CASES.. [--title TEXT]`
+abbrev pub report : Shape
+report = command (codes "report") (app ∷ required (words (codes "CASES")) ∷ option (codes "title") ∷ [])
+
 -- `live APP`
 abbrev pub live : Shape
 live = command (codes "live") (app ∷ [])
@@ -86,7 +90,7 @@ help = command (codes "help") (word (codes "COMMAND") ∷ [])
 
 -- the commands of the program
 unfoldable pub commands : List Shape
-commands = test ∷ expand ∷ watch ∷ trace ∷ why ∷ cover ∷ never ∷ same ∷ campaign ∷ live ∷ help
+commands = test ∷ expand ∷ watch ∷ trace ∷ why ∷ cover ∷ never ∷ same ∷ campaign ∷ report ∷ live ∷ help
     ∷ []
 
 -- a command without subcommands

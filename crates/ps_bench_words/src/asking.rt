@@ -17,8 +17,8 @@ use crate::command::{command_of, program};
 use crate::forms::{Form, all_forms};
 use crate::pages;
 use crate::reading::{
-    Unread, campaign_in, cover_in, expand_in, given_in, live_in, never_in, same_in, test_in,
-    trace_in, watch_in, why_in,
+    Unread, campaign_in, cover_in, expand_in, given_in, live_in, never_in, report_in, same_in,
+    test_in, trace_in, watch_in, why_in,
 };
 use clap::error::ErrorKind;
 use clap::{ArgMatches, Command, Error};
@@ -125,6 +125,12 @@ pub enum Asked<'a> {
         /// Whether their faults are written.
         print: bool,
     },
+    /// `report APP CASES.. [--title TEXT]`
+    Report {
+        app: &'a str,
+        cases: Vec<&'a str>,
+        title: Option<&'a str>,
+    },
     /// `live APP`
     Live {
         app: &'a str,
@@ -220,6 +226,7 @@ fn command_in<'a>(alloc: Global, name: &str, values: &ArgMatches<'a>) -> Result<
         "never" => never_in(values),
         "same" => same_in(values),
         "campaign" => campaign_in(values),
+        "report" => report_in(alloc, values),
         "live" => Ok(live_in(values)),
         "help" => help_in(alloc, given_in(values, "COMMAND")),
         _ => Err(Unread::Wrong(pages::NO_COMMAND)),

@@ -219,6 +219,13 @@ const PRINT: Argument = argument!(
     "Writes the fault of each trial first, as a line of a fault file"
 );
 
+// The title of a page.
+const TITLE: Argument = argument!(
+    "title",
+    Given::Value("TEXT"),
+    "The title of the page. Left out it is the application's name"
+);
+
 // The command that help is asked for.
 const TOPIC: Argument = argument!("COMMAND", Given::Word, "The command whose page is written");
 
@@ -232,7 +239,7 @@ pub(crate) fn all_forms() -> &'static [Form]
 }
 
 // The same as a table.
-static FORMS: [Form; 11] = [
+static FORMS: [Form; 12] = [
     Form {
         name: "test",
         call: "plcsafe-bench test",
@@ -295,6 +302,13 @@ static FORMS: [Form; 11] = [
         about: "Runs a trace with one drawn fault a trial, and counts what finds the faults, and how soon",
         example: "Example: plcsafe-bench campaign press.st press.trace 0 10000",
         arguments: &[APP, TRACE, FROM, COUNT, CHANNEL, PRINT],
+    },
+    Form {
+        name: "report",
+        call: "plcsafe-bench report",
+        about: "Writes a page in HTML for the safety file: the application, its cases and what they show",
+        example: "Example: plcsafe-bench report press.st press.cases --title Press > press.html",
+        arguments: &[APP, FILES, TITLE],
     },
     Form {
         name: "live",

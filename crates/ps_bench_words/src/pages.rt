@@ -10,7 +10,8 @@ pub(crate) const VERSION: &str = "0.9.0";
 pub(crate) const PROGRAM: &str =
     "Tests applications of PLCopen-Safety blocks: runs the cases of case files, judges what they expect, shows runs,\n\
     tells why a value is so and what traces cover, searches for what must never be and for where\n\
-    two applications differ, counts how faults are found, and answers a bench scan by scan";
+    two applications differ, counts how faults are found, writes a page for the safety file,\n\
+    and answers a bench scan by scan";
 
 /// Its example.
 pub(crate) const PROGRAM_EXAMPLE: &str = "Example: plcsafe-bench test press.st press.cases\n\
@@ -46,4 +47,5 @@ pub(crate) const NO_PERCENT: &str = "PERCENT is a number from 0 to 100";
 
 /// A command that there is not.
 pub(crate) const NO_COMMAND: &str =
-    "there is no such command: COMMAND is test, expand, watch, trace, why, cover, never, same, campaign, live or help";
+    "there is no such command: COMMAND is test, expand, watch, trace, why, cover, never, same, campaign, report, live \
+    or help";

@@ -305,6 +305,17 @@ pub(crate) fn campaign_in<'a>(values: &ArgMatches<'a>) -> Result<Asked<'a>, Unre
     })
 }
 
+/// What `report` asks with what was given to it.
+pub(crate) fn report_in<'a>(alloc: Global, values: &ArgMatches<'a>) -> Result<Asked<'a>, Unread>
+    ensures { IsAsked result (asking.report_asks (rows_of (found_of values.now))) }
+{
+    Ok(Asked::Report {
+        app: value_in(values, "APP"),
+        cases: values_in(alloc, values, "CASES")?,
+        title: given_in(values, "title"),
+    })
+}
+
 /// What `live` asks with what was given to it.
 pub(crate) fn live_in<'a>(values: &ArgMatches<'a>) -> Asked<'a>
     ensures { asked_seen result ≡ asking.live_asks (rows_of (found_of values.now)) }

@@ -1,0 +1,37 @@
+-- The text of a page: each piece is one of the program's own, or a value that is escaped.
+use Rattle.std.specs.Prelude.{ℕ, List, ◌++◌, codes}
+use Rattle.std.specs.List.{flat_map}
+use Rattle.ps_markup.specs.Escaping.{escaped}
+use Rattle.ps_markup.specs.Names.{key_name, tag_name}
+use Rattle.ps_markup.specs.declared.names.Key.{Key}
+use Rattle.ps_markup.specs.declared.names.Tag.{Tag}
+use Rattle.ps_markup.specs.declared.page.Piece.{Piece}
+use Rattle.ps_markup.specs.declared.page.Piece.TheVariants.{Attribute, Begin, Body, End, Epilogue, Inside, Prologue, Value}
+use Rattle.ps_markup.specs.declared.writing.TheConstants.{BODY, EPILOGUE, PROLOGUE}
+
+-- the beginning of an element, as `<td`
+abbrev pub begin_text : Tag → List ℕ
+begin_text tag = codes "<" ++ tag_name tag
+
+-- an attribute with its value, as ` class="pass"`
+abbrev pub attribute_text : Key → (value : List ℕ) → List ℕ
+attribute_text key value = codes " " ++ key_name key ++ codes "=\"" ++ escaped value ++ codes "\""
+
+-- the end of an element, as `</td>`
+abbrev pub end_text : Tag → List ℕ
+end_text tag = codes "</" ++ tag_name tag ++ codes ">"
+
+-- a piece
+abbrev pub piece_text : Piece → List ℕ
+piece_text Prologue = PROLOGUE.now
+piece_text Body = BODY.now
+piece_text Epilogue = EPILOGUE.now
+piece_text (Begin tag) = begin_text tag
+piece_text (Attribute key value) = attribute_text key value
+piece_text Inside = codes ">"
+piece_text (Value value) = escaped value
+piece_text (End tag) = end_text tag
+
+-- pieces, one behind another
+abbrev pub written : List Piece → List ℕ
+written pieces = flat_map piece_text pieces

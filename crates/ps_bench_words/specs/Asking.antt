@@ -18,6 +18,8 @@ use Rattle.ps_bench_words.specs.declared.asking.Layout.{Layout}
 use Rattle.ps_bench_words.specs.declared.asking.Layout.TheVariants.{Text as AsText, Csv, Json, Vcd}
 use Rattle.ps_coverage.specs.declared.format.Format.{Format as Output}
 use Rattle.ps_coverage.specs.declared.format.Format.TheVariants.{Text as InText, Json as InJson}
+use Rattle.ps_model.specs.declared.channel.Channel.{Channel}
+use Rattle.ps_model.specs.declared.channel.Channel.TheVariants.{A, B}
 use Rattle.ps_trace.specs.Words.{number_of}
 
 -- What the words ask: a command with the names of its files, a page to be shown, or nothing that is taken.
@@ -30,6 +32,9 @@ pub data Asked : Type 0 where
   Cover : (app : List ℕ) (traces : List (List ℕ)) (output : Output) (least : Option ℕ) (ideas : Bool) → Asked
   Never : (app rules : List ℕ) (states : ℕ) → Asked
   Same : (app other : List ℕ) (rules : Option (List ℕ)) (states : ℕ) → Asked
+  Campaign : (app trace : List ℕ) (from count : ℕ) (channel : Option Channel) (print : Bool) → Asked
+  Sum : (files : List (List ℕ)) → Asked
+  Report : (app : List ℕ) (cases : List (List ℕ)) (title : Option (List ℕ)) → Asked
   Live : (app : List ℕ) → Asked
   Page : Asked
   NotTaken : Asked
@@ -95,6 +100,18 @@ abbrev pub percentage_of : Option (List ℕ) → Option (Option ℕ)
 percentage_of None = Some None
 percentage_of (Some word) = percent_said (number_of word)
 
+-- the channel of a name
+abbrev pub channel_named : List ℕ → Option (Option Channel)
+channel_named name =
+    if bytes_eq name (codes "A") then Some (Some A)
+    else if bytes_eq name (codes "B") then Some (Some B)
+    else None
+
+-- the channel that all faults strike, where one is named
+abbrev pub channel_of : Option (List ℕ) → Option (Option Channel)
+channel_of None = Some None
+channel_of (Some name) = channel_named name
+
 -- ---- what each command asks with what was given to it
 
 -- the values of an argument, none where it was not given
@@ -151,6 +168,23 @@ abbrev pub same_asks : List Row → Asked
 same_asks rows = asks_by (states_of (first_of (codes "states") rows))
     (Same (value_of (codes "APP") rows) (value_of (codes "OTHER") rows) (first_of (codes "RULES") rows))
 
+-- `campaign`
+abbrev pub campaign_asks : List Row → Asked
+campaign_asks rows = asks_by (number_of (value_of (codes "FROM") rows)) (λ from.
+    asks_by (number_of (value_of (codes "COUNT") rows)) (λ count.
+    asks_by (channel_of (first_of (codes "channel") rows)) (λ channel.
+    Campaign (value_of (codes "APP") rows) (value_of (codes "TRACE") rows) from count channel
+    (nat_lt 0 (count_of (codes "print") rows)))))
+
+-- `sum`
+abbrev pub sum_asks : List Row → Asked
+sum_asks rows = Sum (values_of (codes "FILE") rows)
+
+-- `report`
+abbrev pub report_asks : List Row → Asked
+report_asks rows =
+    Report (value_of (codes "APP") rows) (values_of (codes "CASES") rows) (first_of (codes "title") rows)
+
 -- `live`
 abbrev pub live_asks : List Row → Asked
 live_asks rows = Live (value_of (codes "APP") rows)
@@ -175,6 +209,9 @@ command_asks name rows =
     else if bytes_eq name (codes "cover") then cover_asks rows
     else if bytes_eq name (codes "never") then never_asks rows
     else if bytes_eq name (codes "same") then same_asks rows
+    else if bytes_eq name (codes "campaign") then campaign_asks rows
+    else if bytes_eq name (codes "sum") then sum_asks rows
+    else if bytes_eq name (codes "report") then report_asks rows
     else if bytes_eq name (codes "live") then live_asks rows
     else if bytes_eq name (codes "help") then help_asks (first_of (codes "COMMAND") rows)
     else NotTaken

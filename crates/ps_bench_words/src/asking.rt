@@ -17,13 +17,14 @@ use crate::command::{command_of, program};
 use crate::forms::{Form, all_forms};
 use crate::pages;
 use crate::reading::{
-    Unread, cover_in, expand_in, given_in, live_in, never_in, same_in, test_in, trace_in, watch_in,
-    why_in,
+    Unread, campaign_in, cover_in, expand_in, given_in, live_in, never_in, report_in, same_in,
+    sum_in, test_in, trace_in, watch_in, why_in,
 };
 use clap::error::ErrorKind;
 use clap::{ArgMatches, Command, Error};
 use ps_base::Memory;
 use ps_coverage::Format as Output;
+use ps_model::Channel;
 use ps_words::Words;
 use std::alloc::{AllocError, Global};
 
@@ -110,6 +111,29 @@ pub enum Asked<'a> {
         rules: Option<&'a str>,
         /// From 1 on; a million where it is not said.
         states: u32,
+    },
+    /// `campaign APP TRACE FROM COUNT [--channel CHANNEL] [--print]`
+    Campaign {
+        app: &'a str,
+        trace: &'a str,
+        /// The number of the first trial.
+        from: u32,
+        /// How many trials there are.
+        count: u32,
+        /// The channel that each of them strikes, if it is not drawn.
+        channel: Option<Channel>,
+        /// Whether their faults are written.
+        print: bool,
+    },
+    /// `sum FILE..`
+    Sum {
+        files: Vec<&'a str>,
+    },
+    /// `report APP CASES.. [--title TEXT]`
+    Report {
+        app: &'a str,
+        cases: Vec<&'a str>,
+        title: Option<&'a str>,
     },
     /// `live APP`
     Live {
@@ -205,6 +229,9 @@ fn command_in<'a>(alloc: Global, name: &str, values: &ArgMatches<'a>) -> Result<
         "cover" => cover_in(alloc, values),
         "never" => never_in(values),
         "same" => same_in(values),
+        "campaign" => campaign_in(values),
+        "sum" => sum_in(alloc, values),
+        "report" => report_in(alloc, values),
         "live" => Ok(live_in(values)),
         "help" => help_in(alloc, given_in(values, "COMMAND")),
         _ => Err(Unread::Wrong(pages::NO_COMMAND)),

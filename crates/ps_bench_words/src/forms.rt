@@ -195,6 +195,44 @@ const STATES: Argument = argument!(
     "How many states may be held, from 1. Left out they are 1000000"
 );
 
+// The number of a first trial.
+const FROM: Argument = required!(
+    "FROM",
+    Given::Word,
+    "The number of the first trial, from 0: its fault is drawn from it"
+);
+
+// A number of trials.
+const COUNT: Argument = required!("COUNT", Given::Word, "How many trials are made");
+
+// The channel that is struck.
+const CHANNEL: Argument = argument!(
+    "channel",
+    Given::Value("CHANNEL"),
+    "The channel that each fault strikes: A or B. Left out it is drawn"
+);
+
+// Whether faults are written.
+const PRINT: Argument = argument!(
+    "print",
+    Given::Flag,
+    "Writes the fault of each trial first, as a line of a fault file"
+);
+
+// What campaigns wrote.
+const TOTALS: Argument = required!(
+    "FILE",
+    Given::Words,
+    "What campaign wrote, or sum, over one application and one trace"
+);
+
+// The title of a page.
+const TITLE: Argument = argument!(
+    "title",
+    Given::Value("TEXT"),
+    "The title of the page. Left out it is the application's name"
+);
+
 // The command that help is asked for.
 const TOPIC: Argument = argument!("COMMAND", Given::Word, "The command whose page is written");
 
@@ -208,7 +246,7 @@ pub(crate) fn all_forms() -> &'static [Form]
 }
 
 // The same as a table.
-static FORMS: [Form; 10] = [
+static FORMS: [Form; 13] = [
     Form {
         name: "test",
         call: "plcsafe-bench test",
@@ -264,6 +302,27 @@ static FORMS: [Form; 10] = [
         about: "Searches all scans that can come for one in which two applications differ in an output",
         example: "Example: plcsafe-bench same press.st mended.st",
         arguments: &[APP, OTHER, SETTINGS, STATES],
+    },
+    Form {
+        name: "campaign",
+        call: "plcsafe-bench campaign",
+        about: "Runs a trace with one drawn fault a trial, and counts what finds the faults, and how soon",
+        example: "Example: plcsafe-bench campaign press.st press.trace 0 10000",
+        arguments: &[APP, TRACE, FROM, COUNT, CHANNEL, PRINT],
+    },
+    Form {
+        name: "sum",
+        call: "plcsafe-bench sum",
+        about: "Adds the counts of campaigns over one application and one trace",
+        example: "Example: plcsafe-bench sum first.counts second.counts",
+        arguments: &[TOTALS],
+    },
+    Form {
+        name: "report",
+        call: "plcsafe-bench report",
+        about: "Writes a page in HTML for the safety file: the application, its cases and what they show",
+        example: "Example: plcsafe-bench report press.st press.cases --title Press > press.html",
+        arguments: &[APP, FILES, TITLE],
     },
     Form {
         name: "live",

@@ -13,6 +13,7 @@ use crate::pages;
 use clap::ArgMatches;
 use ps_base::Memory;
 use ps_coverage::Format as Output;
+use ps_model::Channel;
 use ps_trace::number;
 use std::alloc::Global;
 
@@ -135,6 +136,28 @@ fn states_said(word: Option<&str>) -> Result<u32, Unread>
     match word {
         Some(word) => some_said(word),
         None => Ok(USUAL_STATES),
+    }
+}
+
+// A number that all digits may give.
+fn number_said(word: &str) -> Result<u32, Unread>
+    ensures { IsRead result (number_of word.now) }
+{
+    match number(word.as_bytes()) {
+        Some(said) => Ok(said),
+        None => Err(Unread::Wrong(pages::NO_NUMBER)),
+    }
+}
+
+// The channel of a name, where one is named.
+fn channel_said(name: Option<&str>) -> Result<Option<Channel>, Unread>
+    ensures { IsRead result (asking.channel_of (option_map (λ n. n.now) name.entry)) }
+{
+    match name {
+        None => Ok(None),
+        Some("A") => Ok(Some(Channel::A)),
+        Some("B") => Ok(Some(Channel::B)),
+        Some(_) => Err(Unread::Wrong(pages::NO_CHANNEL)),
     }
 }
 
@@ -262,6 +285,43 @@ pub(crate) fn same_in<'a>(values: &ArgMatches<'a>) -> Result<Asked<'a>, Unread>
         other: value_in(values, "OTHER"),
         rules: given_in(values, "RULES"),
         states,
+    })
+}
+
+/// What `campaign` asks with what was given to it.
+pub(crate) fn campaign_in<'a>(values: &ArgMatches<'a>) -> Result<Asked<'a>, Unread>
+    ensures { IsAsked result (asking.campaign_asks (rows_of (found_of values.now))) }
+{
+    let from = number_said(value_in(values, "FROM"))?;
+    let count = number_said(value_in(values, "COUNT"))?;
+    let channel = channel_said(given_in(values, "channel"))?;
+    Ok(Asked::Campaign {
+        app: value_in(values, "APP"),
+        trace: value_in(values, "TRACE"),
+        from,
+        count,
+        channel,
+        print: values.get_count("print") > 0,
+    })
+}
+
+/// What `sum` asks with what was given to it.
+pub(crate) fn sum_in<'a>(alloc: Global, values: &ArgMatches<'a>) -> Result<Asked<'a>, Unread>
+    ensures { IsAsked result (asking.sum_asks (rows_of (found_of values.now))) }
+{
+    Ok(Asked::Sum {
+        files: values_in(alloc, values, "FILE")?,
+    })
+}
+
+/// What `report` asks with what was given to it.
+pub(crate) fn report_in<'a>(alloc: Global, values: &ArgMatches<'a>) -> Result<Asked<'a>, Unread>
+    ensures { IsAsked result (asking.report_asks (rows_of (found_of values.now))) }
+{
+    Ok(Asked::Report {
+        app: value_in(values, "APP"),
+        cases: values_in(alloc, values, "CASES")?,
+        title: given_in(values, "title"),
     })
 }
 

@@ -15,4 +15,4 @@ mod writing;
 
 pub use names::{Key, Tag};
 pub use page::{Page, Piece};
-pub use writing::text_of;
+pub use writing::add_page;

@@ -72,6 +72,15 @@ impl Page {
         Ok(())
     }
 
+    /// The pieces of another page at the end.
+    pub fn join(&mut self, other: Page) -> Result<(), Memory>
+        ensures { OnOk result (self.new ≡ self.old ++ other) }
+    {
+        let mut other = other;
+        self.pieces.append(&mut other.pieces)?;
+        Ok(())
+    }
+
     /// An attribute with this value.
     pub fn attribute(&mut self, key: Key, value: &[u8]) -> Result<(), Memory>
         ensures { OnOk result (self.new ≡ self.old ++ Piece.Attribute key value.now ∷ []) }

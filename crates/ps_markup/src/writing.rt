@@ -1,6 +1,6 @@
 // The text of a page.
 
-ghost use Rattle.std.specs.Prelude.{◌≡◌, ◌++◌, IfOk, OnOk, codes};
+ghost use Rattle.std.specs.Prelude.{◌≡◌, ◌++◌, OnOk, codes};
 ghost use Rattle.ps_markup.specs.Escaping.{escaped};
 ghost use Rattle.ps_markup.specs.Names.{key_name};
 ghost use Rattle.ps_markup.specs.Writing.{attribute_text, begin_text, end_text, piece_text, written};
@@ -9,7 +9,6 @@ use crate::escaping::add_escaped;
 use crate::names::{Key, Tag, key_name, tag_name};
 use crate::page::{Page, Piece};
 use ps_base::{Bytes, Memory};
-use std::alloc::Global;
 
 /// The beginning of every page: its language, its letters, and how it looks on a screen and on paper.
 pub(crate) const PROLOGUE: &[u8] = b"<!DOCTYPE html>
@@ -110,13 +109,12 @@ fn add_piece(text: &mut Bytes, piece: &Piece) -> Result<(), Memory>
     }
 }
 
-/// The text of a page: its pieces, one behind another. An error: memory is wanting.
-pub fn text_of(alloc: Global, page: &Page) -> Result<Bytes, Memory>
-    ensures { IfOk result (λ text. text ≡ written page.now) }
+/// The text of a page at the end of a text: its pieces, one behind another. An error: memory is wanting.
+pub fn add_page(text: &mut Bytes, page: &Page) -> Result<(), Memory>
+    ensures { OnOk result (text.new ≡ text.old ++ written page.now) }
 {
-    let mut text = Bytes::new(alloc);
     for piece in page.pieces() {
-        add_piece(&mut text, piece)?;
+        add_piece(text, piece)?;
     }
-    Ok(text)
+    Ok(())
 }

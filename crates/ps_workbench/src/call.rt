@@ -22,6 +22,7 @@ use ps_forbidding::{NeverAsked, never};
 use ps_hearing::Listener;
 use ps_live::{LiveAsked, live};
 use ps_outside::{Files, Output, write_all};
+use ps_reporting::{ReportAsked, report};
 use ps_stream::Stream;
 use ps_telling::{Names, tell};
 use ps_tester::{TestAsked, expand, test};
@@ -174,10 +175,19 @@ fn do_asked<F: Files, I: Stream, O: Output, L: Listener>(
             };
             same(alloc, files, out, listener, &asked)
         }
+        Asked::Report { app, cases, title } => {
+            let asked = ReportAsked {
+                app: *app,
+                cases: cases.as_slice(),
+                title: *title,
+            };
+            report(alloc, files, out, &asked)
+        }
         Asked::Live { app } => {
             let asked = LiveAsked { app: *app };
             live(alloc, files, input, out, &asked)
         }
+        Asked::Campaign { .. } | Asked::Sum { .. } => Ok(Status::Usage),
         Asked::Page { text } => {
             write_all(out, text.as_bytes())?;
             Ok(Status::Done)
@@ -236,6 +246,11 @@ fn names_in<'a>(asked: &'a Asked<'a>) -> Names<'a> {
             rules: rules.unwrap_or(""),
             ..Names::of_app(*app)
         },
+        Asked::Report { app, cases, .. } => Names {
+            cases: cases.as_slice(),
+            ..Names::of_app(*app)
+        },
+        Asked::Campaign { .. } | Asked::Sum { .. } => Names::of_app(""),
         Asked::Live { app } => Names::of_app(*app),
         Asked::Page { .. } | Asked::NotTaken { .. } => Names::of_app(""),
     }

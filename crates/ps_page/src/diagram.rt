@@ -93,7 +93,11 @@ fn add_above(
     if words.len() == 0 {
         return Ok(());
     }
-    let class: &[u8] = if fails_at(sheet.marks, moment.scan) { b"fail" } else { b"pass" };
+    let class: &[u8] = if fails_at(sheet.marks, moment.scan) {
+        b"fail"
+    } else {
+        b"pass"
+    };
     add_upright(page, sheet.alloc, b"mark", place.x, strip)?;
     add_words(page, class, place.x, 26, words.as_slice())
 }
@@ -101,7 +105,13 @@ fn add_above(
 // What stands above and below the scans of a picture.
 fn add_frame(page: &mut Page, sheet: &Sheet<'_>, strip: &Strip<'_>) -> Result<(), Memory> {
     add_words(page, b"name", LEFT - 8, 26, b"expected at")?;
-    add_words(page, b"name", LEFT - 8, strip.height.saturating_sub(4), b"time in ms")?;
+    add_words(
+        page,
+        b"name",
+        LEFT - 8,
+        strip.height.saturating_sub(4),
+        b"time in ms",
+    )?;
     for (moment, place) in strip.moments.iter().zip(strip.places) {
         add_time(page, sheet.alloc, moment, place, strip)?;
         add_above(page, sheet, moment, place, strip)?;
@@ -135,9 +145,15 @@ fn view_box(alloc: Global, height: u32) -> Result<Bytes, Memory> {
 fn title_of(alloc: Global, strip: &Strip<'_>) -> Result<Bytes, Memory> {
     let mut words = Bytes::new(alloc);
     words.extend_from_slice(b"Timing diagram from ")?;
-    add_short(&mut words, strip.moments.first().map_or(0, |moment| moment.now))?;
+    add_short(
+        &mut words,
+        strip.moments.first().map_or(0, |moment| moment.now),
+    )?;
     words.extend_from_slice(b" ms to ")?;
-    add_short(&mut words, strip.moments.last().map_or(0, |moment| moment.now))?;
+    add_short(
+        &mut words,
+        strip.moments.last().map_or(0, |moment| moment.now),
+    )?;
     words.extend_from_slice(b" ms; the table below it says the same")?;
     Ok(words)
 }
@@ -157,9 +173,17 @@ fn add_picture(
     page.attribute(Key::LabelledBy, id.as_slice())?;
     page.number(Key::Width, WIDTH)?;
     page.number(Key::Height, strip.height)?;
-    page.attribute(Key::ViewBox, view_box(sheet.alloc, strip.height)?.as_slice())?;
+    page.attribute(
+        Key::ViewBox,
+        view_box(sheet.alloc, strip.height)?.as_slice(),
+    )?;
     page.add(Piece::Inside)?;
-    page.marked(Tag::Title, Key::Id, id.as_slice(), title_of(sheet.alloc, strip)?.as_slice())?;
+    page.marked(
+        Tag::Title,
+        Key::Id,
+        id.as_slice(),
+        title_of(sheet.alloc, strip)?.as_slice(),
+    )?;
     add_frame(page, sheet, strip)?;
     add_lanes(page, sheet, strip)?;
     page.close(Tag::Svg)
@@ -195,12 +219,7 @@ fn add_pictures(page: &mut Page, sheet: &Sheet<'_>) -> Result<(), Memory> {
 }
 
 // A value that changed, or the first one, behind others.
-fn add_change(
-    words: &mut Bytes,
-    app: &App,
-    name: Name,
-    value: u16,
-) -> Result<(), Memory> {
+fn add_change(words: &mut Bytes, app: &App, name: Name, value: u16) -> Result<(), Memory> {
     words.extend_from_slice(if words.len() == 0 { b"" } else { b", " })?;
     add_name(words, app, name)?;
     words.extend_from_slice(b" ")?;
@@ -270,7 +289,9 @@ fn add_changes(page: &mut Page, sheet: &Sheet<'_>) -> Result<(), Memory> {
 // What of a case is not drawn, in words.
 fn left_out(alloc: Global, sheet: &Sheet<'_>) -> Result<Bytes, Memory> {
     let mut words = Bytes::new(alloc);
-    words.extend_from_slice(b"Inputs, outputs, instances and what is expected of others; scans in which nothing changes are left out.")?;
+    words.extend_from_slice(
+        b"Inputs, outputs, instances and what is expected of others; scans in which nothing changes are left out.",
+    )?;
     if sheet.lanes.len() < sheet.recording.names.len() {
         words.extend_from_slice(b" Of many names only those are drawn that change.")?;
     }

@@ -91,12 +91,7 @@ fn level_of(value: u16) -> u32 {
 }
 
 // The line of a signal or a pin over scans.
-fn level_line(
-    alloc: Global,
-    lane: usize,
-    top: u32,
-    strip: &Strip<'_>,
-) -> Result<Bytes, Memory> {
+fn level_line(alloc: Global, lane: usize, top: u32, strip: &Strip<'_>) -> Result<Bytes, Memory> {
     let mut lines = Bytes::new(alloc);
     for (moment, place) in strip.moments.iter().zip(strip.places) {
         let y = top.saturating_add(level_of(value_at(moment, lane)));
@@ -167,7 +162,13 @@ fn add_band(
     if shown.is_empty() {
         return Ok(());
     }
-    add_words(page, b"word", band.x.saturating_add(4), top.saturating_add(16), shown)
+    add_words(
+        page,
+        b"word",
+        band.x.saturating_add(4),
+        top.saturating_add(16),
+        shown,
+    )
 }
 
 // The bands of an instance over scans.
@@ -218,12 +219,22 @@ pub(crate) fn add_lane(
 ) -> Result<(), Memory> {
     let mut words = Bytes::new(alloc);
     add_name(&mut words, app, name)?;
-    add_words(page, b"name", LEFT - 8, top.saturating_add(16), words.as_slice())?;
+    add_words(
+        page,
+        b"name",
+        LEFT - 8,
+        top.saturating_add(16),
+        words.as_slice(),
+    )?;
     match name {
         Name::Code(_) => add_bands(page, alloc, app, name, lane, top, strip),
         Name::Signal(_) | Name::Pin { .. } => {
             add_path(page, b"base", base_line(alloc, top, strip)?.as_slice())?;
-            add_path(page, b"level", level_line(alloc, lane, top, strip)?.as_slice())
+            add_path(
+                page,
+                b"level",
+                level_line(alloc, lane, top, strip)?.as_slice(),
+            )
         }
     }
 }

@@ -122,7 +122,12 @@ pub fn add_case(page: &mut Page, alloc: Global, run: &CaseRun<'_>) -> Result<(),
     let scans = number_of(alloc, run.outcome.scans)?;
     let passed = run.passed();
     page.open(Tag::Tr)?;
-    page.marked(Tag::Th, Key::Scope, b"row", run.case.name.as_str().as_bytes())?;
+    page.marked(
+        Tag::Th,
+        Key::Scope,
+        b"row",
+        run.case.name.as_str().as_bytes(),
+    )?;
     page.element(Tag::Td, place.as_slice())?;
     page.marked(Tag::Td, Key::Class, class_of(passed), word_of(passed))?;
     page.element(Tag::Td, scans.as_slice())?;

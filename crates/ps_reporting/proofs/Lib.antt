@@ -2,3 +2,5 @@
 pub mod Rows
 -- how a call stops at a case file
 pub mod Stopped
+-- what comes of a call with an application
+pub mod Coming

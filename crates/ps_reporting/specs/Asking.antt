@@ -1,5 +1,5 @@
 -- What `report` writes of an application and of case files, and how it stops.
-use Rattle.std.specs.Prelude.{◌≡◌, ◌⊎◌, ℕ, Bool, List, ◌++◌, Any, Option}
+use Rattle.std.specs.Prelude.{◌≡◌, ◌⊎◌, ℕ, Bool, List, ◌++◌, Any, Option, Result, Ok, Err}
 use Rattle.ps_bench_base.specs.Opening.{IsOfApp, Source, source}
 use Rattle.ps_bench_base.specs.Refusing.{refused_line}
 use Rattle.ps_bench_base.specs.Stopping.{StopsAtApp, StopsAtCases, StopsIn, Took, TookNothing}
@@ -25,12 +25,6 @@ abbrev pub IsReport : Source → (app : List ℕ) → (names : List (List ℕ)) 
 IsReport from app names text =
     (fs : List FileRan) × AreRanFiles from app names fs × HasRows (files_rows fs) text
 
--- what is answered with the application: all was done, and the report was written
-abbrev pub AnswersIn : Source → (app : List ℕ) → (names : List (List ℕ)) → (tells : Bool) →
-    (before after : List ℕ) → Status → Type 0
-AnswersIn from app names tells before after status =
-    (status ≡ Done) × (text : List ℕ) × IsReport from app names text × Took text tells before after
-
 -- How a call stops with the application: its text cannot be read again, or memory is wanting, and nothing was written;
 -- without the cases of a file; or in the report that it writes.
 abbrev pub StopsWith : Source → (app : List ℕ) → (names : List (List ℕ)) → (tells : Bool) →
@@ -40,12 +34,19 @@ StopsWith from app names tells before after stop =
     ⊎ Any (λ (name : List ℕ). StopsAtCases from name refused_line stop tells before after) names
     ⊎ ((text : List ℕ) × IsReport from app names text × StopsIn text stop tells before after)
 
+-- How a call ends that has the application: all was done, and the report was written; or it stops.
+abbrev pub Ends : Source → (app : List ℕ) → (names : List (List ℕ)) → (tells : Bool) → (before after : List ℕ) →
+    Result Status Stop → Type 0
+Ends from app names tells before after (Ok status) =
+    (status ≡ Done) × (text : List ℕ) × IsReport from app names text × Took text tells before after
+Ends from app names tells before after (Err stop) = StopsWith from app names tells before after stop
+
 -- What `report` answers of the application of this name and of the case files of these names.
 abbrev pub AnswersReport : (app : List ℕ) → (names : List (List ℕ)) → (reading : Bool) →
     (held : List ℕ → Option (List ℕ)) → (tells : Bool) → (before after : List ℕ) → Status → Type 0
 AnswersReport app names reading held tells before after status =
     (net : Network) × (sizes : ImageSizes) × IsOfApp (source net sizes reading held) app
-    × AnswersIn (source net sizes reading held) app names tells before after status
+    × Ends (source net sizes reading held) app names tells before after (Ok status)
 
 -- How `report` stops before all is done: without the application of this name, or with it.
 abbrev pub StopsReport : (app : List ℕ) → (names : List (List ℕ)) → (reading : Bool) →
@@ -53,4 +54,4 @@ abbrev pub StopsReport : (app : List ℕ) → (names : List (List ℕ)) → (rea
 StopsReport app names reading held tells before after stop =
     StopsAtApp reading held app stop tells before after
     ⊎ ((net : Network) × (sizes : ImageSizes) × IsOfApp (source net sizes reading held) app
-    × StopsWith (source net sizes reading held) app names tells before after stop)
+    × Ends (source net sizes reading held) app names tells before after (Err stop))

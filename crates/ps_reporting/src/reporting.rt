@@ -3,12 +3,11 @@
 ghost use Rattle.std.specs.Prelude.{◌≡◌, ◌≤◌, ◌⊎◌, ◌∷◌, ◌++◌, ℕ, List, Any, IfOk, IfErr, IsErrOf, OnOk};
 ghost use Rattle.ps_bench_base.specs.Ending.{IsUnread};
 ghost use Rattle.ps_bench_base.specs.Opening.{source};
-ghost use Rattle.ps_bench_base.specs.Stopping.{StopsIn, Took};
 ghost use Rattle.ps_bench_words.specs.Seen.{seen};
 ghost use Rattle.ps_markup.specs.Writing.{written};
 ghost use Rattle.ps_model.specs.Typing.{Accepted};
 ghost use Rattle.ps_outside.specs.Outside.{Rose};
-ghost use Rattle.ps_reporting.specs.Asking.{AnswersIn, AnswersReport, HasRows, StopsReport, StopsWith};
+ghost use Rattle.ps_reporting.specs.Asking.{AnswersReport, Ends, HasRows, StopsReport};
 
 use crate::running::{Bench, Beside, run_files};
 use crate::texts::{Shown, add_texts};
@@ -52,7 +51,12 @@ fn front_of(alloc: Global, asked: &Asked<'_>, files: Page) -> Result<Page, Memor
     let mut page = Page::new(alloc);
     add_head(&mut page, title.as_slice())?;
     let columns: [&[u8]; 2] = [b"File", b"SHA-256"];
-    open_table(&mut page, b"Files", b"The application, and the case files", columns.as_slice())?;
+    open_table(
+        &mut page,
+        b"Files",
+        b"The application, and the case files",
+        columns.as_slice(),
+    )?;
     page.join(files)?;
     close_table(&mut page)?;
     let columns: [&[u8]; 4] = [b"Case", b"Line", b"Result", b"Scans"];
@@ -113,7 +117,8 @@ fn report_text(
     };
     let front = front_of(alloc, asked, files)?;
     let back = back_of(alloc, &shown, sections)?;
-    text_of(alloc, front, rows, back)
+    let page = text_of(alloc, front, rows, back)?;
+    Ok(page)
 }
 
 // The source of the application of this name, with its row among the files.
@@ -146,22 +151,6 @@ fn read_app<F: Files>(
     }
 }
 
-// Writes a text, all of it or a beginning.
-fn write_text<O: Output>(out: &mut O, text: &[u8]) -> Result<Status, Stop>
-    ensures all { OnOk result (Took text.now (O.tells out.old) (O.taken out.old) (O.taken out.new)) }
-    ensures done { IfOk result (λ status. status ≡ Status.Done) }
-    ensures stops { IfErr result (λ stop. StopsIn text.now stop (O.tells out.old) (O.taken out.old) (O.taken out.new)) }
-    ensures read { IfErr result (λ stop. ¬ IsUnread stop) }
-    ensures unwritten { IsErrOf result Stop.Unwritten → Rose (O.faults out.old) (O.faults out.new) }
-    ensures writes { O.faults out.old ≤ O.faults out.new }
-    ensures telling { O.tells out.new ≡ O.tells out.old }
-{
-    match write_all(out, text) {
-        Ok(()) => Ok(Status::Done),
-        Err(_) => Err(Stop::Unwritten),
-    }
-}
-
 // Runs the cases of an application, and writes the page.
 fn report_app<F: Files, O: Output>(
     alloc: Global,
@@ -171,12 +160,8 @@ fn report_app<F: Files, O: Output>(
     asked: &Asked<'_>,
 ) -> Result<Status, Stop>
     requires { Accepted sourced.now.opened.app }
-    ensures answers { IfOk result (AnswersIn
-        (source sourced.now.opened.app sourced.now.opened.sizes (F.tells files.old) (F.held files.old))
-        asked.now.app.now (seen asked.now.cases.now) (O.tells out.old) (O.taken out.old) (O.taken out.new)) }
-    ensures stops { IfErr result (StopsWith
-        (source sourced.now.opened.app sourced.now.opened.sizes (F.tells files.old) (F.held files.old))
-        asked.now.app.now (seen asked.now.cases.now) (O.tells out.old) (O.taken out.old) (O.taken out.new)) }
+    ensures ends { Ends (source sourced.now.opened.app sourced.now.opened.sizes (F.tells files.old) (F.held files.old))
+        asked.now.app.now (seen asked.now.cases.now) (O.tells out.old) (O.taken out.old) (O.taken out.new) result }
     ensures unread { IfErr result (λ stop. IsUnread stop →
         Any (λ (name : List ℕ). Rose (F.faults files.old name) (F.faults files.new name))
         (asked.now.app.now ∷ seen asked.now.cases.now)) }
@@ -209,9 +194,13 @@ fn report_app<F: Files, O: Output>(
         Ok(()) => (),
         Err(stop) => return Err(stop),
     }
-    match report_text(alloc, sourced, asked, text.as_slice(), rows, beside) {
-        Ok(page) => write_text(out, page.as_slice()),
-        Err(Memory) => Err(Stop::NoMemory),
+    let page = match report_text(alloc, sourced, asked, text.as_slice(), rows, beside) {
+        Ok(page) => page,
+        Err(Memory) => return Err(Stop::NoMemory),
+    };
+    match write_all(out, page.as_slice()) {
+        Ok(()) => Ok(Status::Done),
+        Err(_) => Err(Stop::Unwritten),
     }
 }
 

@@ -30,8 +30,8 @@ fn id_of(alloc: Global, place: usize, line: u32) -> Result<Bytes, Memory> {
     Ok(id)
 }
 
-/// The part of a case that was run, whose file stands at this place of the words: its name, what `test` tells of it, and
-/// its timing diagram.
+/// The part of a case that was run, whose file stands at this place of the words: its name, what `test` tells of it,
+/// and its timing diagram.
 pub(crate) fn add_section(
     page: &mut Page,
     alloc: Global,

@@ -90,12 +90,19 @@ fn coverage_of(
 
 // What a report claims, and what it does not.
 const CLAIMS: [&[u8]; 6] = [
-    b"A case is told as passed exactly where each of its expectations holds in its run, and no scan tripped that was not expected to. The run is that of both channels of the simulated controller.",
-    b"The rows of the table of results are proved to be those of the runs: name, place, result and number of scans. So is that no byte of a name or a text of this page stands where it could be read as a part of the page.",
-    b"The timing diagrams, the tables of what changes, notes, demands and coverage are what the program computed. Their drawing is tried, and not proved.",
-    b"A case that passes says nothing of other inputs, other times or other faults. Coverage counts what the cases have shown, and 100 % says no more than that.",
-    b"Times are those of the cases. Nothing is said of a real controller, its inputs and outputs, or how long it takes.",
-    b"The program is a simulator. This page is no certificate, and stands for no assessment by an independent person.",
+    b"A case is told as passed exactly where each of its expectations holds in its run, and no scan \
+      tripped that was not expected to. The run is that of both channels of the simulated controller.",
+    b"The rows of the table of results are proved to be those of the runs: name, place, result and number \
+      of scans. So is that no byte of a name or a text of this page stands where it could be read as a \
+      part of the page.",
+    b"The timing diagrams, the tables of what changes, notes, demands and coverage are what the program \
+      computed. Their drawing is tried, and not proved.",
+    b"A case that passes says nothing of other inputs, other times or other faults. Coverage counts what \
+      the cases have shown, and 100 % says no more than that.",
+    b"Times are those of the cases. Nothing is said of a real controller, its inputs and outputs, or how \
+      long it takes.",
+    b"The program is a simulator. This page is no certificate, and stands for no assessment by an \
+      independent person.",
 ];
 
 // What is claimed.
@@ -127,10 +134,25 @@ pub(crate) fn add_texts(page: &mut Page, alloc: Global, shown: &Shown<'_>) -> Re
     let listing = numbered(alloc, shown.text)?;
     add_text(page, b"Application", listing.as_slice(), b"It is empty.")?;
     let notes = notes_of(alloc, shown.name.as_bytes(), shown.source, shown.app)?;
-    add_text(page, b"Notes", notes.as_slice(), b"There are no notes on the application.")?;
+    add_text(
+        page,
+        b"Notes",
+        notes.as_slice(),
+        b"There are no notes on the application.",
+    )?;
     let demands = demands_of(alloc, shown.app)?;
-    add_text(page, b"Demands", demands.as_slice(), b"There is no SAFEBOOL output.")?;
+    add_text(
+        page,
+        b"Demands",
+        demands.as_slice(),
+        b"There is no SAFEBOOL output.",
+    )?;
     let coverage = coverage_of(alloc, shown.app, shown.source, shown.cover)?;
-    add_text(page, b"Coverage", coverage.as_slice(), b"Nothing is counted.")?;
+    add_text(
+        page,
+        b"Coverage",
+        coverage.as_slice(),
+        b"Nothing is counted.",
+    )?;
     add_claims(page)
 }

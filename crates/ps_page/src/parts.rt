@@ -79,7 +79,8 @@ pub fn add_file(page: &mut Page, name: &[u8], digest: &[u8]) -> Result<(), Memor
     page.open(Tag::Tr)?;
     page.marked(Tag::Th, Key::Scope, b"row", name)?;
     page.marked(Tag::Td, Key::Class, b"digest", digest)?;
-    page.close(Tag::Tr)
+    page.close(Tag::Tr)?;
+    Ok(())
 }
 
 // How a result looks.

@@ -1,0 +1,2 @@
+-- pieces, some behind others
+pub mod Joining

@@ -249,7 +249,24 @@ pub(crate) fn event_of(moment: &Moment) -> &'static [u8] {
     }
 }
 
-/// The time of a scan below the lines, and the sign of a break.
+// The sign of a break at the end of a scan.
+fn add_break(
+    page: &mut Page,
+    alloc: Global,
+    place: &Place,
+    strip: &Strip<'_>,
+) -> Result<(), Memory> {
+    let mut lines = Bytes::new(alloc);
+    add_start(
+        &mut lines,
+        place.end.saturating_sub(20),
+        strip.height.saturating_sub(14),
+    )?;
+    lines.extend_from_slice(b"l4 -9m4 0l-4 9")?;
+    add_path(page, b"break", lines.as_slice())
+}
+
+/// The time of a scan below the lines, where it has room, and the sign of a break.
 pub(crate) fn add_time(
     page: &mut Page,
     alloc: Global,
@@ -260,19 +277,23 @@ pub(crate) fn add_time(
     let mut words = Bytes::new(alloc);
     add_short(&mut words, moment.now)?;
     add_upright(page, alloc, b"tick", place.x, strip)?;
+    if place.is_broken {
+        add_break(page, alloc, place, strip)?;
+    }
+    if room_in(
+        words.as_slice(),
+        place.end.saturating_sub(place.x).saturating_add(6),
+    )
+    .len()
+        < words.len()
+    {
+        return Ok(());
+    }
     add_words(
         page,
         b"time",
         place.x,
         strip.height.saturating_sub(4),
         words.as_slice(),
-    )?;
-    if place.is_broken {
-        let x = place.end.saturating_sub(20);
-        let mut lines = Bytes::new(alloc);
-        add_start(&mut lines, x, strip.height.saturating_sub(14))?;
-        lines.extend_from_slice(b"l4 -9m4 0l-4 9")?;
-        add_path(page, b"break", lines.as_slice())?;
-    }
-    Ok(())
+    )
 }

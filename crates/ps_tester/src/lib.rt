@@ -11,4 +11,4 @@ mod telling;
 mod testing;
 
 pub use expanding::expand;
-pub use testing::{Asked as TestAsked, test};
+pub use testing::{Asked as TestAsked, outcome_of, test};

@@ -23,6 +23,7 @@ use ps_forbidding::{NeverAsked, never};
 use ps_hearing::Listener;
 use ps_live::{LiveAsked, live};
 use ps_outside::{Files, Output, write_all};
+use ps_reporting::{ReportAsked, report};
 use ps_stream::Stream;
 use ps_telling::{Names, tell};
 use ps_tester::{TestAsked, expand, test};
@@ -196,6 +197,14 @@ fn do_asked<F: Files, I: Stream, O: Output, L: Listener>(
             };
             campaign(alloc, files, out, listener, &asked)
         }
+        Asked::Report { app, cases, title } => {
+            let asked = ReportAsked {
+                app: *app,
+                cases: cases.as_slice(),
+                title: *title,
+            };
+            report(alloc, files, out, &asked)
+        }
         Asked::Live { app } => {
             let asked = LiveAsked { app: *app };
             live(alloc, files, input, out, &asked)
@@ -260,6 +269,10 @@ fn names_in<'a>(asked: &'a Asked<'a>) -> Names<'a> {
         },
         Asked::Campaign { app, trace, .. } => Names {
             trace: *trace,
+            ..Names::of_app(*app)
+        },
+        Asked::Report { app, cases, .. } => Names {
+            cases: cases.as_slice(),
             ..Names::of_app(*app)
         },
         Asked::Live { app } => Names::of_app(*app),

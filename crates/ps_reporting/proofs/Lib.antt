@@ -1,0 +1,6 @@
+-- rows, one more behind others
+pub mod Rows
+-- how a call stops at a case file
+pub mod Stopped
+-- what comes of a call with an application
+pub mod Coming

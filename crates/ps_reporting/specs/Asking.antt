@@ -1,0 +1,57 @@
+-- What `report` writes of an application and of case files, and how it stops.
+use Rattle.std.specs.Prelude.{◌≡◌, ◌⊎◌, ℕ, Bool, List, ◌++◌, Any, Option, Result, Ok, Err}
+use Rattle.ps_bench_base.specs.Opening.{IsOfApp, Source, source}
+use Rattle.ps_bench_base.specs.Refusing.{refused_line}
+use Rattle.ps_bench_base.specs.Stopping.{StopsAtApp, StopsAtCases, StopsIn, Took, TookNothing}
+use Rattle.ps_bench_base.specs.declared.ending.Status.{Status}
+use Rattle.ps_bench_base.specs.declared.ending.Status.TheVariants.{Done}
+use Rattle.ps_bench_base.specs.declared.ending.Stop.{Stop}
+use Rattle.ps_bench_base.specs.declared.ending.Stop.TheVariants.{NoMemory, UnreadApp}
+use Rattle.ps_markup.specs.Writing.{written}
+use Rattle.ps_markup.specs.declared.page.Piece.{Piece}
+use Rattle.ps_model.specs.Network.{Network}
+use Rattle.ps_model.specs.declared.channel.ImageSizes.{ImageSizes}
+use Rattle.ps_reporting.specs.Results.{files_rows}
+use Rattle.ps_tester.specs.Testing.{AreRanFiles, FileRan}
+
+-- The text is that of a page, each piece of which is the program's own or a value that is escaped; these rows stand in
+-- it, between what stands before them and behind them.
+abbrev pub HasRows : (rows : List Piece) → (text : List ℕ) → Type 0
+HasRows rows text = (front back : List Piece) × (text ≡ written (front ++ rows ++ back))
+
+-- The text is the report of an application of this name and of the files of these names: all of their cases were run,
+-- and the rows of its results are theirs.
+abbrev pub IsReport : Source → (app : List ℕ) → (names : List (List ℕ)) → (text : List ℕ) → Type 0
+IsReport from app names text =
+    (fs : List FileRan) × AreRanFiles from app names fs × HasRows (files_rows fs) text
+
+-- How a call stops with the application: its text cannot be read again, or memory is wanting, and nothing was written;
+-- without the cases of a file; or in the report that it writes.
+abbrev pub StopsWith : Source → (app : List ℕ) → (names : List (List ℕ)) → (tells : Bool) →
+    (before after : List ℕ) → Stop → Type 0
+StopsWith from app names tells before after stop =
+    (((stop ≡ UnreadApp) ⊎ (stop ≡ NoMemory)) × TookNothing tells before after)
+    ⊎ Any (λ (name : List ℕ). StopsAtCases from name refused_line stop tells before after) names
+    ⊎ ((text : List ℕ) × IsReport from app names text × StopsIn text stop tells before after)
+
+-- How a call ends that has the application: all was done, and the report was written; or it stops.
+abbrev pub Ends : Source → (app : List ℕ) → (names : List (List ℕ)) → (tells : Bool) → (before after : List ℕ) →
+    Result Status Stop → Type 0
+Ends from app names tells before after (Ok status) =
+    (status ≡ Done) × (text : List ℕ) × IsReport from app names text × Took text tells before after
+Ends from app names tells before after (Err stop) = StopsWith from app names tells before after stop
+
+-- What `report` answers of the application of this name and of the case files of these names.
+abbrev pub AnswersReport : (app : List ℕ) → (names : List (List ℕ)) → (reading : Bool) →
+    (held : List ℕ → Option (List ℕ)) → (tells : Bool) → (before after : List ℕ) → Status → Type 0
+AnswersReport app names reading held tells before after status =
+    (net : Network) × (sizes : ImageSizes) × IsOfApp (source net sizes reading held) app
+    × Ends (source net sizes reading held) app names tells before after (Ok status)
+
+-- How `report` stops before all is done: without the application of this name, or with it.
+abbrev pub StopsReport : (app : List ℕ) → (names : List (List ℕ)) → (reading : Bool) →
+    (held : List ℕ → Option (List ℕ)) → (tells : Bool) → (before after : List ℕ) → Stop → Type 0
+StopsReport app names reading held tells before after stop =
+    StopsAtApp reading held app stop tells before after
+    ⊎ ((net : Network) × (sizes : ImageSizes) × IsOfApp (source net sizes reading held) app
+    × Ends (source net sizes reading held) app names tells before after (Err stop))

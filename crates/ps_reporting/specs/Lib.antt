@@ -1,0 +1,3 @@
+-- what `report` writes, and how it stops: what a reader of the clauses has to believe
+pub mod Results
+pub mod Asking

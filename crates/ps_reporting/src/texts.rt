@@ -1,0 +1,158 @@
+// The parts of a report that are texts: the source, notes, demands, coverage, and what is claimed.
+
+ghost use Rattle.std.specs.Prelude.{◌≡◌};
+ghost use Rattle.ps_model.specs.Typing.{Accepted};
+
+use ps_base::{Bytes, Memory};
+use ps_bench_base::pieces::add_short;
+use ps_cover::{Cover, Exclusions};
+use ps_coverage::{Format, Told, coverage_text};
+use ps_demand::{NoLines, demand_lines};
+use ps_detail::placed_notes;
+use ps_markup::{Page, Tag};
+use ps_model::App;
+use ps_noted::note_line;
+use ps_operands::operand_places;
+use ps_page::parts::add_text;
+use ps_parser::Source;
+use std::alloc::Global;
+
+// The number of a line, with blanks before it.
+fn add_line_number(text: &mut Bytes, number: u32) -> Result<(), Memory> {
+    let blanks: &[u8] = match number {
+        0..=9 => b"     ",
+        10..=99 => b"    ",
+        100..=999 => b"   ",
+        1000..=9999 => b"  ",
+        _ => b" ",
+    };
+    text.extend_from_slice(blanks)?;
+    add_short(text, number)?;
+    text.extend_from_slice(b"  ")
+}
+
+// A text with the numbers of its lines.
+fn numbered(alloc: Global, text: &[u8]) -> Result<Bytes, Memory> {
+    let mut lines = Bytes::new(alloc);
+    let mut number = 0u32;
+    for line in text.split(|byte| *byte == b'\n') {
+        number = number.saturating_add(1);
+        add_line_number(&mut lines, number)?;
+        lines.extend_from_slice(line)?;
+        lines.extend_from_slice(b"\n")?;
+    }
+    Ok(lines)
+}
+
+// The notes on an application of this name, each in a line.
+fn notes_of(alloc: Global, name: &[u8], source: &Source, app: &App) -> Result<Bytes, Memory> {
+    let placed = placed_notes(alloc, source, app)?;
+    let mut lines = Bytes::new(alloc);
+    for note in placed.as_slice() {
+        let line = note_line(alloc, name, app, note)?;
+        lines.extend_from_slice(line.as_slice())?;
+    }
+    Ok(lines)
+}
+
+// What the outputs demand, or that it is too large.
+fn demands_of(alloc: Global, app: &App) -> Result<Bytes, Memory>
+    requires { Accepted app.now }
+{
+    match demand_lines(alloc, app) {
+        Ok(lines) => Ok(lines),
+        Err(NoLines::Large(_)) => {
+            Bytes::from_slice(alloc, b"The demand of an output has over 1,000 leaves.\n")
+        }
+        Err(NoLines::Memory) => Err(Memory),
+    }
+}
+
+// What the cases have shown of an application of this source.
+fn coverage_of(
+    alloc: Global,
+    app: &App,
+    source: &Source,
+    cover: &Cover<'_>,
+) -> Result<Bytes, Memory>
+    requires { Accepted app.now }
+{
+    let exclusions = Exclusions::new(alloc, app)?;
+    let places = operand_places(alloc, app, source, cover.points())?;
+    let told = Told {
+        app,
+        exclusions: &exclusions,
+        places: places.as_slice(),
+        cover,
+    };
+    coverage_text(alloc, &told, Format::Text)
+}
+
+// What a report claims, and what it does not.
+const CLAIMS: [&[u8]; 6] = [
+    b"A case is told as passed exactly where each of its expectations holds in its run, and no scan \
+      tripped that was not expected to. The run is that of both channels of the simulated controller.",
+    b"The rows of the table of results are proved to be those of the runs: name, place, result and number \
+      of scans. So is that no byte of a name or a text of this page stands where it could be read as a \
+      part of the page.",
+    b"The timing diagrams, the tables of what changes, notes, demands and coverage are what the program \
+      computed. Their drawing is tried, and not proved.",
+    b"A case that passes says nothing of other inputs, other times or other faults. Coverage counts what \
+      the cases have shown, and 100 % says no more than that.",
+    b"Times are those of the cases. Nothing is said of a real controller, its inputs and outputs, or how \
+      long it takes.",
+    b"The program is a simulator. This page is no certificate, and stands for no assessment by an \
+      independent person.",
+];
+
+// What is claimed.
+fn add_claims(page: &mut Page) -> Result<(), Memory> {
+    page.open(Tag::Section)?;
+    page.element(Tag::H2, b"What is claimed, and what is not")?;
+    page.open(Tag::Ul)?;
+    for claim in CLAIMS.as_slice() {
+        page.element(Tag::Li, *claim)?;
+    }
+    page.close(Tag::Ul)?;
+    page.close(Tag::Section)
+}
+
+/// The application of a report: its name, its text, its source, and what the cases have shown of it.
+#[derive(Clone, Copy)]
+pub(crate) struct Shown<'a> {
+    pub(crate) name: &'a str,
+    pub(crate) text: &'a [u8],
+    pub(crate) app: &'a App,
+    pub(crate) source: &'a Source,
+    pub(crate) cover: &'a Cover<'a>,
+}
+
+/// The parts that are texts.
+pub(crate) fn add_texts(page: &mut Page, alloc: Global, shown: &Shown<'_>) -> Result<(), Memory>
+    requires { Accepted shown.now.app.now }
+{
+    let listing = numbered(alloc, shown.text)?;
+    add_text(page, b"Application", listing.as_slice(), b"It is empty.")?;
+    let notes = notes_of(alloc, shown.name.as_bytes(), shown.source, shown.app)?;
+    add_text(
+        page,
+        b"Notes",
+        notes.as_slice(),
+        b"There are no notes on the application.",
+    )?;
+    let demands = demands_of(alloc, shown.app)?;
+    add_text(
+        page,
+        b"Demands",
+        demands.as_slice(),
+        b"There is no SAFEBOOL output.",
+    )?;
+    let coverage = coverage_of(alloc, shown.app, shown.source, shown.cover)?;
+    add_text(
+        page,
+        b"Coverage",
+        coverage.as_slice(),
+        b"Nothing is counted.",
+    )?;
+    add_claims(page)
+}

@@ -89,7 +89,12 @@ fn sorted(failures: Vec<Failure>) -> Result<Vec<Failure>, Memory>
 
 /// Runs a case, and gives what came of it, with its failures in the order of their lines and times. An error: memory is
 /// wanting.
-pub fn outcome_of(alloc: Global, app: &App, file: &CaseFile, case: &Case) -> Result<CaseOutcome, Memory>
+pub fn outcome_of(
+    alloc: Global,
+    app: &App,
+    file: &CaseFile,
+    case: &Case,
+) -> Result<CaseOutcome, Memory>
     requires accepted { Accepted app.now }
     requires runnable { IsRunnable app.now (whole_case file.now case.now) }
     ensures { IfOk result (IsOutcome app.now (whole_case file.now case.now)) }

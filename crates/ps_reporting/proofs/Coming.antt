@@ -1,11 +1,11 @@
 -- What comes of a call with an application.
-use Rattle.std.proofs.Common.{◌≡◌, ◌⊎◌, ◌≤◌, ◌<◌, ◌+◌, ◌++◌, ◌∷◌, [], ◌∙◌, ℕ, zero, Bool, List, Any, Option, Result, Ok, Err, IsTrue, length, inl, inr, refl, sym, ap, subst, arith}
+use Rattle.std.proofs.Common.{◌≡◌, ◌⊎◌, ◌≤◌, ◌<◌, ◌+◌, ◌++◌, ◌∷◌, [], ◌∙◌, ℕ, zero, Bool, List, Any, Option, Result, Ok, Err, IsTrue, length, take, inl, inr, refl, sym, ap, subst, arith}
 use Rattle.std.specs.Prelude.{IfErr, IfOk}
-use Rattle.ps_bench_base.proofs.Stopped.{rose_since}
+use Rattle.ps_bench_base.proofs.Stopped.{rose_since, took_part}
 use Rattle.ps_bench_base.specs.Ending.{IsUnread}
 use Rattle.ps_bench_base.specs.Opening.{IsOfApp, Source, source}
 use Rattle.ps_bench_base.specs.Refusing.{refused_line}
-use Rattle.ps_bench_base.specs.Stopping.{StopsAtCases, Took}
+use Rattle.ps_bench_base.specs.Stopping.{StopsAtCases, Took, TookSome}
 use Rattle.ps_bench_base.specs.declared.ending.Status.{Status}
 use Rattle.ps_bench_base.specs.declared.ending.Stop.{Stop}
 use Rattle.ps_markup.specs.declared.page.Piece.{Piece}
@@ -15,6 +15,7 @@ use Rattle.ps_outside.specs.Outside.{Rose}
 use Rattle.ps_reporting.specs.Asking.{AnswersReport, Ends, HasRows, IsReport, StopsReport}
 use Rattle.ps_reporting.specs.Results.{files_rows}
 use Rattle.ps_tester.specs.Testing.{AreRanFiles, FileRan}
+use Rattle.ps_tester.proofs.Stopped.{any_behind}
 
 -- what was answered of an application, and why the call stopped, by how it ended
 pub answered : (net : Network) (sizes : ImageSizes) (app : List ℕ) (names : List (List ℕ)) (reading : Bool)
@@ -80,3 +81,22 @@ unread_since reads mid reads' names (Ok status) on unread = tt
 unread_since reads mid reads' names (Err stop) on unread = λ is.
     let some = unread is in
     (some.0, some.1, some.2, some.3, rose_since (reads some.1) (mid some.1) (reads' some.1) (on some.1) some.4)
+
+-- of several files behind the first
+pub unread_behind : (reads mid reads' : List ℕ → ℕ) (app : List ℕ) (names : List (List ℕ)) → ((name : List ℕ) → reads name ≤ mid name) →
+    Any (λ (name : List ℕ). Rose (mid name) (reads' name)) names → Any (λ (name : List ℕ). Rose (reads name) (reads' name)) (app ∷ names)
+unread_behind reads mid reads' app names on some =
+    any_behind (λ (name : List ℕ). Rose (reads name) (reads' name)) (λ (name : List ℕ). Rose (mid name) (reads' name))
+    (λ name. rose_since (reads name) (mid name) (reads' name) (on name)) app names some
+
+-- a text was written behind what an output had taken before
+pub wrote_all : (piece text : List ℕ) (t t' : Bool) (b b' after : List ℕ) → t' ≡ t → b' ≡ b → piece ≡ text →
+    (IsTrue t' → after ≡ b' ++ piece) → Took text t b after
+wrote_all piece text t t' b b' after t_is b_is is took = λ told.
+    took (subst IsTrue (sym t_is) told) ∙ ap (λ (x : List ℕ). x ++ piece) b_is ∙ ap (λ (x : List ℕ). b ++ x) is
+
+-- or a beginning of it
+pub wrote_some : (n : ℕ) (piece text : List ℕ) (t t' : Bool) (b b' after : List ℕ) → t' ≡ t → b' ≡ b → piece ≡ text →
+    (IsTrue t' → after ≡ b' ++ take n piece) → TookSome text t b after
+wrote_some n piece text t t' b b' after t_is b_is is took = took_part t n b piece text after is
+    (λ told. took (subst IsTrue (sym t_is) told) ∙ ap (λ (x : List ℕ). x ++ take n piece) b_is)

@@ -2,7 +2,7 @@
 use Rattle.std.specs.Prelude.{◌≡◌, ◌⊎◌, ℕ, Bool, IsTrue, List, [], ◌∷◌, ◌++◌, Any, map, Option, Some, None}
 use Rattle.ps_bench_words.specs.Asking.{Asked}
 use Rattle.ps_bench_words.specs.Asking.Asked.{Test, Expand, Watch, Trace, Why, Cover, Never, Same, Campaign, Live}
-use Rattle.ps_bench_words.specs.Asking.Asked.{Page, NotTaken}
+use Rattle.ps_bench_words.specs.Asking.Asked.{Report, Page, NotTaken}
 use Rattle.ps_accounting.specs.Asking.{AnswersCover, StopsCover, Wanted as Covered}
 use Rattle.ps_campaigning.specs.Asking as campaigning
 use Rattle.ps_campaigning.specs.Asking.{AnswersCampaign, StopsCampaign}
@@ -18,6 +18,7 @@ use Rattle.ps_model.specs.Network.{Network}
 use Rattle.ps_model.specs.declared.channel.Channel.{Channel}
 use Rattle.ps_model.specs.declared.channel.ImageSizes.{ImageSizes}
 use Rattle.ps_outside.specs.Outside.{Rose}
+use Rattle.ps_reporting.specs.Asking.{AnswersReport, StopsReport}
 use Rattle.ps_tester.specs.Stopping.{StopsExpanding, StopsTesting}
 use Rattle.ps_tester.specs.Testing.{AreRanFiles, FileRan, test_status, test_text}
 use Rattle.ps_tracing.specs.Asking.{AnswersTrace, StopsTrace}
@@ -79,6 +80,8 @@ Answers (Same app other rules states) input reading held status tells before aft
     AnswersSame app other rules states reading held tells before after status
 Answers (Campaign app trace from count channel print) input reading held status tells before after =
     AnswersCampaign app (tried_of trace from count channel print) reading held tells before after status
+Answers (Report app cases title) input reading held status tells before after =
+    AnswersReport app cases reading held tells before after status
 Answers (Live app) input reading held status tells before after =
     AnswersLive app input reading held tells before after status
 Answers Page input reading held status tells before after = status ≡ Done
@@ -105,6 +108,8 @@ Stops (Same app other rules states) input reading held stop tells before after =
     StopsSame app other rules states reading held tells before after stop
 Stops (Campaign app trace from count channel print) input reading held stop tells before after =
     StopsCampaign app (tried_of trace from count channel print) reading held tells before after stop
+Stops (Report app cases title) input reading held stop tells before after =
+    StopsReport app cases reading held tells before after stop
 Stops (Live app) input reading held stop tells before after =
     StopsLive app input reading held tells before after stop
 Stops Page input reading held stop tells before after = stop ≡ Unwritten
@@ -135,6 +140,7 @@ names_of (Cover app traces output least ideas) = app ∷ map file_meant traces
 names_of (Never app rules states) = app ∷ rules ∷ []
 names_of (Same app other rules states) = app ∷ other ∷ file_of rules
 names_of (Campaign app trace from count channel print) = app ∷ file_meant trace ∷ []
+names_of (Report app cases title) = app ∷ cases
 names_of (Live app) = app ∷ []
 names_of Page = []
 names_of NotTaken = []

@@ -1,3 +1,4 @@
+use Rattle.std.proofs.Common.{◌∷◌}
 use Rattle.ps_bench_words.specs.Seen.{seen}
 use Rattle.ps_reporting.proofs.Coming.{answered, moved, stopped, unread_since}
 use Rattle.ps_reporting.proofs.reporting.report.Goals as goal
@@ -27,4 +28,4 @@ returns-in-Ok-clause-stops g c =
 pub returns-in-Ok-clause-unread : goal.returns-in-Ok-clause-unread
 returns-in-Ok-clause-unread g c =
     unread_since (g.F.Files.faults c.args.files.now) (g.F.Files.faults c.open_sourced.new.files) (g.F.Files.faults c.report_app.new.files)
-    _ c.report_app.result c.in-Ok.ensures.reads c.report_app.ensures.unread
+    (c.args.asked.now.app.now ∷ seen c.args.asked.now.cases.now) c.report_app.result c.in-Ok.ensures.reads c.report_app.ensures.unread

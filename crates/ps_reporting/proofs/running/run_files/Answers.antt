@@ -1,4 +1,4 @@
-use Rattle.std.proofs.Common.{◌≡◌, ◌<◌, ◌+◌, ◌∙◌, ◌++◌, ◌∷◌, [], ℕ, List, Bor, Err, length, take, get_or, refl, sym, ap, subst, arith}
+use Rattle.std.proofs.Common.{◌≡◌, ◌<◌, ◌+◌, ◌∙◌, ◌++◌, ◌∷◌, [], ℕ, List, Bor, Err, length, take, get_or, sym, ap, subst, arith}
 use Rattle.ps_bench_base.proofs.Stopped.{rose_since}
 use Rattle.ps_bench_base.specs.Ending.{stop_status}
 use Rattle.ps_bench_base.specs.Opening.{source}

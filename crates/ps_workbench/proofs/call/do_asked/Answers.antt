@@ -9,6 +9,7 @@ use Rattle.ps_bench_words.specs.Seen.{asked_seen, seen}
 use Rattle.ps_bench_words.specs.declared.asking.Asked.{Asked}
 use Rattle.ps_live.specs.Asking.{fed}
 use Rattle.ps_outside.specs.Outside.{Rose}
+use Rattle.ps_reporting.specs.Asking.{AnswersReport, StopsReport}
 use Rattle.ps_tester.specs.Stopping.{StopsTesting}
 use Rattle.ps_tester.proofs.Stopped.{err_is}
 use Rattle.ps_accounting.specs.Asking.{AnswersCover, StopsCover}
@@ -211,3 +212,29 @@ returns-in-Live-clause-unread g c =
     subst (λ (asked : Asked). IfErr c.live.result (λ stop. IsUnread stop → IsUnreadBy (asked_seen asked)
     (g.F.Files.faults c.args.files.now) (g.F.Files.faults c.live.new.files) (g.I.Stream.faults c.args.input.now) (g.I.Stream.faults c.live.new.input)))
     (sym c.in-Live.is) c.live.ensures.unread
+
+pub returns-in-Report-clause-answers : goal.returns-in-Report-clause-answers
+returns-in-Report-clause-answers g c =
+    subst (λ (asked : Asked). IfOk c.report.result (λ status. Answers (asked_seen asked) (fed (g.I.Stream.tells c.args.input.now) (g.I.Stream.coming c.args.input.now) (g.I.Stream.coming c.args.input.now))
+    (g.F.Files.tells c.args.files.now) (g.F.Files.held c.args.files.now)
+    status (g.O.Sink.tells c.args.out.now) (g.O.Sink.taken c.args.out.now) (g.O.Sink.taken c.report.new.out))) (sym c.in-Report.is)
+    (subst (λ (cases : List (Bor (List ℕ))). IfOk c.report.result (λ status. AnswersReport c.in-Report.app.now (seen cases) (g.F.Files.tells c.args.files.now) (g.F.Files.held c.args.files.now)
+    (g.O.Sink.tells c.args.out.now) (g.O.Sink.taken c.args.out.now) (g.O.Sink.taken c.report.new.out) status))
+    c.as_slice-in-Report.ensures.value c.report.ensures.answers)
+
+pub returns-in-Report-clause-stops : goal.returns-in-Report-clause-stops
+returns-in-Report-clause-stops g c =
+    subst (λ (asked : Asked). IfErr c.report.result (λ stop. Stops (asked_seen asked) (fed (g.I.Stream.tells c.args.input.now) (g.I.Stream.coming c.args.input.now) (g.I.Stream.coming c.args.input.now))
+    (g.F.Files.tells c.args.files.now) (g.F.Files.held c.args.files.now)
+    stop (g.O.Sink.tells c.args.out.now) (g.O.Sink.taken c.args.out.now) (g.O.Sink.taken c.report.new.out))) (sym c.in-Report.is)
+    (subst (λ (cases : List (Bor (List ℕ))). IfErr c.report.result (λ stop. StopsReport c.in-Report.app.now (seen cases) (g.F.Files.tells c.args.files.now) (g.F.Files.held c.args.files.now)
+    (g.O.Sink.tells c.args.out.now) (g.O.Sink.taken c.args.out.now) (g.O.Sink.taken c.report.new.out) stop))
+    c.as_slice-in-Report.ensures.value c.report.ensures.stops)
+
+pub returns-in-Report-clause-unread : goal.returns-in-Report-clause-unread
+returns-in-Report-clause-unread g c =
+    subst (λ (asked : Asked). IfErr c.report.result (λ stop. IsUnread stop → IsUnreadBy (asked_seen asked)
+    (g.F.Files.faults c.args.files.now) (g.F.Files.faults c.report.new.files) (g.I.Stream.faults c.args.input.now) (g.I.Stream.faults c.args.input.now))) (sym c.in-Report.is)
+    (subst (λ (cases : List (Bor (List ℕ))). IfErr c.report.result (λ stop. IsUnread stop → Any (λ (name : List ℕ).
+    Rose (g.F.Files.faults c.args.files.now name) (g.F.Files.faults c.report.new.files name)) (c.in-Report.app.now ∷ seen cases)))
+    c.as_slice-in-Report.ensures.value c.report.ensures.unread)

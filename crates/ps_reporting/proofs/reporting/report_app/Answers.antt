@@ -23,6 +23,6 @@ returns-clause-ends g c =
       reported (source net sizes reading held) app names c.run_files.new.rows _ c.in-Ok-report_text.page ran.0
           (ran_moved net sizes app names _ _ _ _ ran.0 c.in-Ok-read_app.ensures.reading c.in-Ok-read_app.ensures.kept ran.1)
           ran.2 c.new-rows.ensures c.in-Ok-report_text.ensures,
-      wrote_some c.in-Err-write_all.field-0.taken c.as_slice-in-Ok-report_text.result.now c.in-Ok-report_text.page (g.O.Sink.tells c.args.out.now) _ (g.O.Sink.taken c.args.out.now) _ (g.O.Sink.taken c.write_all.new.out)
-          c.in-Ok-run_files.ensures.telling c.in-Ok-run_files.ensures.unsaid c.as_slice-in-Ok-report_text.ensures c.in-Err-write_all.ensures.part,
+      wrote_some c.in-Err-write_all.field-0.taken c.as_slice-2.result.now c.in-Ok-report_text.page (g.O.Sink.tells c.args.out.now) _ (g.O.Sink.taken c.args.out.now) _ (g.O.Sink.taken c.write_all.new.out)
+          c.in-Ok-run_files.ensures.telling c.in-Ok-run_files.ensures.unsaid c.as_slice-2.ensures c.in-Err-write_all.ensures.part,
     ))

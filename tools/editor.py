@@ -153,9 +153,9 @@ def by_words(server):
 def by_last_parsed(server):
     """What a text does not declare while it is written is looked for in the last one that parsed."""
     undone = RIGHT.replace("S_Motor : SAFEBOOL", "S_Motor SAFEBOOL")
-    open_comment = RIGHT.replace("VAR_OUTPUT", "(* VAR_OUTPUT").replace("(* \u00e4\U0001f600 *) ", "").replace("E(Activate", "*) S_Motor(Activate")
+    unclosed = RIGHT.replace("VAR_OUTPUT S_Motor : SAFEBOOL; END_VAR\n", "").replace("END_PROGRAM", "(* END_PROGRAM")
     found, _ = served(server, BEGIN + opened(RIGHT) + opened(undone, "textDocument/didChange") + asked(2, "definition", 5, 12)
-                      + asked(3, "completion", 5, 0) + opened(open_comment, "textDocument/didChange") + asked(4, "definition", 4, 4) + END)
+                      + asked(3, "completion", 5, 0) + opened(unclosed, "textDocument/didChange") + asked(4, "definition", 4, 12) + END)
     for number in (2, 4):
         start = answers(found, number)["result"]["range"]["start"]
         expect(start == {"line": 2, "character": 11}, f"S_Motor is declared where it was in the last text that parsed, and not at {start}")

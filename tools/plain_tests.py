@@ -42,6 +42,7 @@ CANNOT = {
     "tools/plain_tests.py": [MANY, ["no_script_has_this_name"]],
     "tools/refusals": [[], ["nothing"], ["N2", "Z9"]],
     "tools/release": [[], MANY, ["one"], ["--verify"], ["--verify", "GONE"], ["--verify", "FOLDER"], ["--verify", "RECORDS"], ["--try", "a"], ["1.0", "FOLDER"], ["1.0", "EMPTY"]],
+    "tools/report.py": [[], ["BYTES"], ["BYTES", "plcsafe-bench=GONE"], ["GONE", "plcsafe-bench=BYTES"], ["FOLDER", "plcsafe-bench=FOLDER"]],
     "tools/rows.py": [[], MANY, ["GONE"], ["FOLDER"], ["BYTES", "no_row"]],
     "tools/rules.py": [[], MANY, ["BYTES"], ["BYTES", "plcsafe-bench=GONE"], ["plcsafe-bench=FOLDER"], ["plcsafe-bench=BYTES"]],
     "tools/shared": [["nothing"], MANY],

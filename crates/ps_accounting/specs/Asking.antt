@@ -18,10 +18,10 @@ use Rattle.ps_coverage.specs.Seen.{Known, known_by, part_of}
 use Rattle.ps_coverage.specs.Text.{coverage_text}
 use Rattle.ps_coverage.specs.declared.format.Format.{Format}
 use Rattle.ps_coverage.specs.declared.format.Format.TheVariants.{Text, Json}
-use Rattle.ps_ideas.specs.Ideas.{ideas_text}
+use Rattle.ps_accounting.specs.Ideas.{ideas_text}
 use Rattle.ps_model.specs.Network.{Network}
 use Rattle.ps_model.specs.declared.channel.ImageSizes.{ImageSizes}
-use Rattle.ps_operands.specs.Standing.{places_of}
+use Rattle.ps_accounting.specs.Standing.{places_of}
 use Rattle.ps_parser.specs.Tree.{SourceTree}
 use Rattle.ps_sourced.specs.Sourcing.{IsSourceOf}
 use Rattle.ps_traced.specs.Playing.{LacksCase}

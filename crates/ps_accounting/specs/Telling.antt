@@ -12,7 +12,7 @@ use Rattle.ps_cover.specs.declared.cover.Cover.{Cover}
 use Rattle.ps_cover.specs.declared.excluding.Row.{Row}
 use Rattle.ps_coverage.specs.Seen.{Known, known_in}
 use Rattle.ps_model.specs.Network.{Network}
-use Rattle.ps_operands.specs.Standing.{places_of}
+use Rattle.ps_accounting.specs.Standing.{places_of}
 use Rattle.ps_parser.specs.Tree.{SourceTree}
 use Rattle.ps_accounting.specs.Asking.{Wanted, cover_text, status_of}
 

@@ -14,13 +14,13 @@ ghost use Rattle.ps_accounting.specs.Asking.{is_less, status_of, wanted_by};
 ghost use Rattle.ps_accounting.specs.Telling.{Tells, TellsKept};
 
 use crate::adding::add_words;
+use crate::ideas::add_ideas;
+use crate::places::operand_places;
 use ps_base::{Bytes, Memory};
 use ps_bench_base::{Status, Stop};
 use ps_cover::{Cover, Exclusions, Sort, percent_of};
 use ps_coverage::{Format, Told, coverage_text};
 use ps_hearing::Listener;
-use ps_ideas::add_ideas;
-use ps_operands::operand_places;
 use ps_outside::{Files, Output, write_all};
 use ps_sourced::{Sourced, open_sourced};
 use std::alloc::Global;

@@ -17,10 +17,10 @@ ghost use Rattle.ps_accounting.specs.Adding.{AddsHeld, AddsWord, AreScansAll, St
 ghost use Rattle.ps_traced.specs.Refusing.{RefusesHeld, RefusesWord};
 ghost use Rattle.ps_traced.specs.Refusing.{StopsAtTrace, StopsAtWord};
 
+use crate::running::add_trace;
 use ps_base::Memory;
 use ps_bench_base::{Input, InputStop, Opened, Stop, word_of};
 use ps_cover::Cover;
-use ps_covering::add_trace;
 use ps_hearing::Listener;
 use ps_model::App;
 use ps_outside::{Files, Output};

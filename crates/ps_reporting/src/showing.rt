@@ -5,12 +5,12 @@ ghost use Rattle.ps_cases.specs.Meant.{whole_case};
 ghost use Rattle.ps_cases.specs.Runnable.{IsRunnable};
 ghost use Rattle.ps_model.specs.Typing.{Accepted};
 
+use ps_accounting::add_trace;
 use ps_base::{Bytes, Memory};
 use ps_bench_base::pieces::add_short;
 use ps_bench_words::Format;
 use ps_cases::{Case, CaseFile};
 use ps_cover::Cover;
-use ps_covering::add_trace;
 use ps_markup::{Page, Tag};
 use ps_model::App;
 use ps_outside::TextFail;

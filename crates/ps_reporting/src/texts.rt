@@ -3,6 +3,7 @@
 ghost use Rattle.std.specs.Prelude.{◌≡◌};
 ghost use Rattle.ps_model.specs.Typing.{Accepted};
 
+use ps_accounting::operand_places;
 use ps_base::{Bytes, Memory};
 use ps_bench_base::pieces::add_short;
 use ps_cover::{Cover, Exclusions};
@@ -12,7 +13,6 @@ use ps_detail::placed_notes;
 use ps_markup::{Page, Tag};
 use ps_model::App;
 use ps_noted::note_line;
-use ps_operands::operand_places;
 use ps_page::parts::add_text;
 use ps_parser::Source;
 use std::alloc::Global;

@@ -1,6 +1,6 @@
 use Rattle.std.proofs.Common.{◌≡◌, ℕ, Bool, IsTrue, List, Result, inl, inr, refl, subst}
 use Rattle.ps_bench_base.specs.Opening.{source}
-use Rattle.ps_covering.proofs.Begun.{begun_unseen, begun_whole}
+use Rattle.ps_accounting.proofs.Begun.{begun_unseen, begun_whole}
 use Rattle.ps_accounting.specs.Asking.{AnswersIn, wanted_by}
 use Rattle.ps_accounting.proofs.Coming.{moved}
 use Rattle.ps_accounting.proofs.Kept.{told_in}

@@ -1,2 +1,0 @@
--- what the loop over a trace makes of what was shown
-pub mod Taking

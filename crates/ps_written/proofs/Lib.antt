@@ -1,2 +1,0 @@
--- the operands of trees by their items
-pub mod Walking

@@ -3,3 +3,22 @@ mod Dumping
 mod Playing
 mod Called
 mod Coming
+-- what is written of a run is what a reader is to see
+mod Digits
+mod Rereading
+mod Rowing
+mod Objecting
+-- the bytes of fields, and fields with commas between them
+mod Bytes
+mod Cutting
+-- lists, and where one element passes a test
+mod Lists
+-- what stands for names, and where a header has its columns
+mod Labels
+mod Columns
+-- how long a row is, and what it says
+mod Sizes
+mod Rows
+-- the log of a run means its scans, and its trace is read back
+mod Whole
+mod Back

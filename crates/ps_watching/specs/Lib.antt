@@ -4,6 +4,14 @@ pub mod Showing
 pub mod Asking
 -- what the wires of a run are called
 pub mod Wires
+-- what a reader of value changes is to see
+pub mod Reread
+-- what a reader of CSV and of JSON is to see, and what it gives of a text
+pub mod Rows
+pub mod Objects
+-- what a log of a run keeps of it, which names it can tell apart, and that the run is read back from it
+pub mod Logged
+pub mod Retraced
 -- apparatus: the line of a refusal, and a run before its first scan
 pub mod Stopping
 pub mod Prepared

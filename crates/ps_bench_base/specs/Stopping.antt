@@ -1,13 +1,16 @@
 -- What a call leaves that stops before all is done.
-use Rattle.std.specs.Prelude.{◌≡◌, ℕ, Bool, IsTrue, List, ◌++◌, Option, Some, Err}
+use Rattle.std.specs.Prelude.{◌≡◌, ◌⊎◌, ℕ, Bool, IsTrue, List, ◌++◌, Option, Some, Err}
 use Rattle.ps_base.specs.declared.failing.Refusal.{Refusal}
 use Rattle.ps_cases.specs.File.{cases_of}
 use Rattle.ps_cases.specs.Writing.{TookBeginning}
 use Rattle.ps_cases.specs.declared.rule.CaseRefusal.{CaseRefusal}
+use Rattle.ps_logs.specs.declared.flaw.LogRefusal.{LogRefusal}
 use Rattle.ps_report.specs.Short.{refusal_text}
 use Rattle.ps_source.specs.Source.{IsAcceptedAs}
 use Rattle.ps_source.specs.Source.Reading.{is_refused}
 use Rattle.ps_bench_base.specs.Opening.{Source}
+use Rattle.ps_bench_base.specs.Refusing.{log_refused_line}
+use Rattle.ps_bench_base.specs.declared.ending.InputStop.TheVariants.{LogRefused}
 use Rattle.ps_bench_base.specs.declared.ending.Stop.{Stop}
 use Rattle.ps_bench_base.specs.declared.ending.Stop.TheVariants.{App, Cases, UnreadApp, UnreadCases, Input}
 use Rattle.ps_bench_base.specs.declared.ending.Stop.TheVariants.{Unwritten, NoMemory}
@@ -72,6 +75,12 @@ StopsAtCases from name told NoMemory tells before after = TookNothing tells befo
 StopsAtCases from name told (App refusal) tells before after = ⊥
 StopsAtCases from name told UnreadApp tells before after = ⊥
 StopsAtCases from name told (Input why) tells before after = ⊥
+
+-- How a call stops at this refusal of a log: its line is written, or a beginning of it.
+abbrev pub StopsAtLog : LogRefusal → (tells : Bool) → (before after : List ℕ) → Stop → Type 0
+StopsAtLog refusal tells before after stop =
+    ((stop ≡ Input (LogRefused refusal)) × Took (log_refused_line refusal) tells before after)
+    ⊎ (((stop ≡ Unwritten) ⊎ (stop ≡ NoMemory)) × TookSome (log_refused_line refusal) tells before after)
 
 -- How a call stops in this text, all of which it would write: a beginning of it is written.
 abbrev pub StopsIn : (text : List ℕ) → Stop → (tells : Bool) (before after : List ℕ) → Type 0

@@ -1,12 +1,17 @@
-// The line of a case file, of a rules file or of a log that is refused.
+// The line of a case file, of a rules file or of a log that is refused, and how a call ends that refuses a log.
 
-ghost use Rattle.std.specs.Prelude.{◌≡◌, ◌++◌, IfOk, OnOk};
+ghost use Rattle.std.specs.Prelude.{◌≡◌, ◌≤◌, ◌++◌, IfOk, OnOk};
+ghost use Rattle.ps_bench_base.specs.Ending.{IsUnread};
 ghost use Rattle.ps_bench_base.specs.Refusing.{log_refused_line, refused_line, rules_refused_line};
+ghost use Rattle.ps_bench_base.specs.Stopping.{StopsAtLog};
+ghost use Rattle.ps_outside.specs.Outside.{Rose};
 
+use crate::ending::{InputStop, Stop};
 use crate::pieces::add_short;
 use ps_base::{Bytes, Memory};
 use ps_cases::CaseRefusal;
 use ps_logs::LogRefusal;
+use ps_outside::{Output, write_all};
 use ps_rules::RulesRefusal;
 use std::alloc::Global;
 
@@ -54,4 +59,23 @@ pub fn log_refused_line(alloc: Global, refusal: LogRefusal) -> Result<Bytes, Mem
     add_short(&mut text, refusal.line)?;
     text.extend_from_slice(b"\n")?;
     Ok(text)
+}
+
+/// Ends a call at a refused line of a log: the line of the refusal is written.
+///
+/// `Unwritten` comes only where the output's count rose.
+pub fn refuse_log<O: Output>(alloc: Global, out: &mut O, refusal: LogRefusal) -> Stop
+    ensures refuses { StopsAtLog refusal (O.tells out.old) (O.taken out.old) (O.taken out.new) result }
+    ensures read { ¬ IsUnread result }
+    ensures unwritten { result ≡ Stop.Unwritten → Rose (O.faults out.old) (O.faults out.new) }
+    ensures writes { O.faults out.old ≤ O.faults out.new }
+    ensures telling { O.tells out.new ≡ O.tells out.old }
+{
+    match log_refused_line(alloc, refusal) {
+        Ok(line) => match write_all(out, line.as_slice()) {
+            Ok(()) => Stop::Input(InputStop::LogRefused(refusal)),
+            Err(_) => Stop::Unwritten,
+        },
+        Err(Memory) => Stop::NoMemory,
+    }
 }

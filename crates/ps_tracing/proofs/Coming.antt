@@ -5,6 +5,7 @@ use Rattle.std.specs.Prelude.{IfErr, IsSome, OnOk}
 use Rattle.ps_bench_base.proofs.Stopped.{rose_since}
 use Rattle.ps_bench_base.specs.Ending.{IsUnread}
 use Rattle.ps_bench_base.specs.Opening.{IsOfApp, Source, source}
+use Rattle.ps_bench_base.specs.Stopping.{StopsAtLog}
 use Rattle.ps_bench_base.specs.declared.ending.Stop.{Stop}
 use Rattle.ps_cases.specs.Writing.{TookBeginning}
 use Rattle.ps_logs.specs.Log.{End, log_of}
@@ -16,7 +17,7 @@ use Rattle.ps_outside.specs.Outside.{Rose}
 use Rattle.ps_recorded.specs.Recording.{IsRead, Leaves, log_trace}
 use Rattle.ps_recorded.specs.declared.recording.RecordFail.{RecordFail}
 use Rattle.ps_recorded.specs.declared.recording.RecordFail.TheVariants.{Memory, Fault, Unwritten, Refused}
-use Rattle.ps_tracing.specs.Asking.{AnswersIn, AnswersTrace, RefusedBy, StopsRefusing, StopsTrace, WhereTold}
+use Rattle.ps_tracing.specs.Asking.{AnswersIn, AnswersTrace, StopsRefusing, StopsTrace, WhereTold}
 
 -- what a name holds that holds something, with what is so of it
 with_text : (P : List ℕ → Type 0) (held : Option (List ℕ)) → IsSome held → ((text : List ℕ) → held ≡ Some text → P text) →
@@ -43,7 +44,7 @@ pub refused_at : (net : Network) (sizes : ImageSizes) (log : List ℕ) (reading 
     fail ≡ Refused refusal → mid_tells ≡ tells → (IsTrue reading → IsRead {A = Unit {0}} (Err fail) → IsSome (held log)) →
     (IsTrue reading → IsTrue tells → (text : List ℕ) → held log ≡ Some text →
     Leaves (log_trace net text) (log_of net text).end before mid (Err fail)) →
-    RefusedBy refusal mid_tells mid after stop → StopsRefusing (source net sizes reading held) log tells before after stop
+    StopsAtLog refusal mid_tells mid after stop → StopsRefusing (source net sizes reading held) log tells before after stop
 refused_at net sizes log reading held tells mid_tells before mid after fail refusal stop is same found gives by = (
   refusal,
   mid,
@@ -52,7 +53,7 @@ refused_at net sizes log reading held tells mid_tells before mid after fail refu
       (λ told. found told (subst (λ (why : RecordFail). IsRead {A = Unit {0}} (Err why)) (sym is) tt))
       (λ told out text at. subst (λ (why : RecordFail). Leaves (log_trace net text) (log_of net text).end before mid (Err why)) is
       (gives told out text at)),
-  subst (λ (tell : Bool). RefusedBy refusal tell mid after stop) same by,
+  subst (λ (tell : Bool). StopsAtLog refusal tell mid after stop) same by,
 )
 
 -- what was answered of an application, and why the call stopped, by what it came to

@@ -1,10 +1,9 @@
 -- What `trace` writes of an application and a log, and how it stops.
 use Rattle.std.specs.Prelude.{◌≡◌, ◌⊎◌, ◌++◌, ℕ, Bool, IsTrue, List, Option, Some, Result, Ok, Err}
 use Rattle.ps_bench_base.specs.Opening.{IsOfApp, Source, source}
-use Rattle.ps_bench_base.specs.Refusing.{log_refused_line}
-use Rattle.ps_bench_base.specs.Stopping.{StopsAtApp, Took, TookSome}
+use Rattle.ps_bench_base.specs.Stopping.{StopsAtApp, StopsAtLog}
 use Rattle.ps_bench_base.specs.declared.ending.Input.TheVariants.{Log}
-use Rattle.ps_bench_base.specs.declared.ending.InputStop.TheVariants.{LogRefused, Unread}
+use Rattle.ps_bench_base.specs.declared.ending.InputStop.TheVariants.{Unread}
 use Rattle.ps_bench_base.specs.declared.ending.Stop.{Stop}
 use Rattle.ps_bench_base.specs.declared.ending.Stop.TheVariants.{Input, Unwritten, NoMemory}
 use Rattle.ps_cases.specs.Writing.{TookBeginning}
@@ -26,19 +25,13 @@ Answered from log tells before after =
     WhereTold from log tells (λ text.
     ((log_of from.net text).end ≡ whole) × (after ≡ before ++ log_trace from.net text))
 
--- a call stops at this refusal: its line was written, or a beginning of it
-abbrev pub RefusedBy : LogRefusal → (tells : Bool) → (before after : List ℕ) → Stop → Type 0
-RefusedBy refusal tells before after stop =
-    ((stop ≡ Input (LogRefused refusal)) × Took (log_refused_line refusal) tells before after)
-    ⊎ (((stop ≡ Unwritten) ⊎ (stop ≡ NoMemory)) × TookSome (log_refused_line refusal) tells before after)
-
 -- how `trace` stops at a refused line: what stands before it was written (`mid`), and behind that the refusal
 abbrev pub StopsRefusing : Source → (log : List ℕ) → (tells : Bool) → (before after : List ℕ) → Stop → Type 0
 StopsRefusing from log tells before after stop =
     (refusal : LogRefusal) × (mid : List ℕ)
     × WhereTold from log tells (λ text.
     ((log_of from.net text).end ≡ refused refusal) × (mid ≡ before ++ log_trace from.net text))
-    × RefusedBy refusal tells mid after stop
+    × StopsAtLog refusal tells mid after stop
 
 -- how it stops in the trace that it writes: a beginning of that was written
 abbrev pub StopsWriting : Source → (log : List ℕ) → (tells : Bool) → (before after : List ℕ) → Stop → Type 0

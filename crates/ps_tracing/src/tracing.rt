@@ -3,14 +3,11 @@
 ghost use Rattle.std.specs.Prelude.{◌≡◌, ◌≤◌, ◌∷◌, [], ℕ, List, Any, IfErr, IsErrOf, OnOk};
 ghost use Rattle.ps_bench_base.specs.Ending.{IsUnread};
 ghost use Rattle.ps_bench_base.specs.Opening.{source};
-ghost use Rattle.ps_bench_base.specs.Refusing.{log_refused_line};
 ghost use Rattle.ps_outside.specs.Outside.{Rose};
-ghost use Rattle.ps_tracing.specs.Asking.{AnswersIn, AnswersTrace, RefusedBy, StopsTrace};
+ghost use Rattle.ps_tracing.specs.Asking.{AnswersIn, AnswersTrace, StopsTrace};
 
-use ps_base::Memory;
-use ps_bench_base::{Input, InputStop, Opened, Stop, log_refused_line, open_app};
-use ps_logs::LogRefusal;
-use ps_outside::{Files, Output, write_all};
+use ps_bench_base::{Input, InputStop, Opened, Stop, open_app, refuse_log};
+use ps_outside::{Files, Output};
 use ps_recorded::{RecordFail, record};
 use std::alloc::Global;
 
@@ -21,23 +18,6 @@ pub struct Asked<'a> {
     pub app: &'a str,
     /// The name of the log.
     pub log: &'a str,
-}
-
-// Ends a call at a refused line: the line of the refusal is written.
-fn refuse_log<O: Output>(alloc: Global, out: &mut O, refusal: LogRefusal) -> Stop
-    ensures refuses { RefusedBy refusal (O.tells out.old) (O.taken out.old) (O.taken out.new) result }
-    ensures read { ¬ IsUnread result }
-    ensures unwritten { result ≡ Stop.Unwritten → Rose (O.faults out.old) (O.faults out.new) }
-    ensures writes { O.faults out.old ≤ O.faults out.new }
-    ensures telling { O.tells out.new ≡ O.tells out.old }
-{
-    match log_refused_line(alloc, refusal) {
-        Ok(line) => match write_all(out, line.as_slice()) {
-            Ok(()) => Stop::Input(InputStop::LogRefused(refusal)),
-            Err(_) => Stop::Unwritten,
-        },
-        Err(Memory) => Stop::NoMemory,
-    }
 }
 
 // Writes the trace of the log of this name, of an application.

@@ -1,7 +1,7 @@
 use Rattle.std.proofs.Common.{[], ◌∙◌, append-nil, inl, inr, refl, sym}
 use Rattle.ps_bench_base.proofs.Stopped.{took_part}
 use Rattle.ps_bench_base.specs.Refusing.{log_refused_line}
-use Rattle.ps_tracing.proofs.tracing.refuse_log.Goals as goal
+use Rattle.ps_bench_base.proofs.refusing.refuse_log.Goals as goal
 
 pub returns-in-Ok-clause-refuses : goal.returns-in-Ok-clause-refuses
 returns-in-Ok-clause-refuses g c = inr (

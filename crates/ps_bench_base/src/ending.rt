@@ -11,7 +11,7 @@ use ps_outside::{Failed, Stopped};
 use ps_rules::RulesRefusal;
 
 /// How a call of the program ended.
-#[derive(Clone, Copy, Debug, PartialEq, Eq)]
+#[derive(Clone, Copy)]
 pub enum Status {
     /// All was done; of `test`, every case passed, of `never` every rule holds, and of `same` no output differs.
     Done,
@@ -49,7 +49,7 @@ pub fn exit_code(status: Status) -> u8
 }
 
 /// What a run or a search is made of beside the application.
-#[derive(Clone, Copy, Debug, PartialEq, Eq)]
+#[derive(Clone, Copy, PartialEq, Eq)]
 pub enum Input {
     /// A trace.
     Trace,

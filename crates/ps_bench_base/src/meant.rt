@@ -9,7 +9,7 @@ ghost use Rattle.ps_bench_base.specs.Meant.{by_line, is_of_cases, line_said, who
 use ps_trace::number;
 
 /// What of a file is meant in the place of a trace.
-#[derive(Clone, Copy, Debug, PartialEq, Eq)]
+#[derive(Clone, Copy)]
 pub enum Part {
     /// The trace that it is.
     Trace,

@@ -7,7 +7,7 @@ use ps_terms::{Name, Settings, Values};
 
 /// The scans that a statement makes: scan k, counted from 1, is `k * step` ms after `from`, but none is later than
 /// `upto`.
-#[derive(Clone, Copy, Debug, PartialEq, Eq)]
+#[derive(Clone, Copy)]
 pub struct Pace {
     /// The time in ms of the scan before, within the case; 0 where there is none.
     pub from: u32,
@@ -20,7 +20,7 @@ pub struct Pace {
 }
 
 /// How long an expectation is looked at, from the scan before it on.
-#[derive(Clone, Copy, Debug, PartialEq, Eq)]
+#[derive(Clone, Copy)]
 pub enum Window {
     /// In that scan.
     Now,
@@ -32,7 +32,7 @@ pub enum Window {
 
 /// What is to hold in a scan. A value is a number: of a signal or a pin 0 for FALSE and 1 for TRUE, of an instance its
 /// DiagCode.
-#[derive(Drop, Debug)]
+#[derive(Drop)]
 pub enum Check {
     /// The scan tripped or is down.
     Trip,
@@ -55,7 +55,7 @@ pub enum Check {
 }
 
 /// What a line expects: all of its checks, in the window of a scan.
-#[derive(Drop, Debug)]
+#[derive(Drop)]
 pub struct Expectation {
     /// The scan before the line, by its number in the case, counted from 1.
     pub scan: u32,
@@ -66,7 +66,7 @@ pub struct Expectation {
 }
 
 /// What a line of a case does once its inputs are set.
-#[derive(Drop, Debug)]
+#[derive(Drop)]
 pub enum Act {
     /// Nothing.
     Set,
@@ -81,7 +81,7 @@ pub enum Act {
 }
 
 /// A line of a case.
-#[derive(Drop, Debug)]
+#[derive(Drop)]
 pub struct Statement {
     /// The number of the line, from 1 on.
     pub line: u32,
@@ -93,7 +93,7 @@ pub struct Statement {
 
 /// A case. It means the statements before the first case of its file, and then its own: numbers of scans and times go
 /// on.
-#[derive(Drop, Debug)]
+#[derive(Drop)]
 pub struct Case {
     /// The number of its `case` line.
     pub line: u32,
@@ -104,7 +104,6 @@ pub struct Case {
 }
 
 /// A case file: what every case begins with, and the cases.
-#[derive(Debug)]
 pub struct CaseFile {
     /// The statements before the first case.
     pub begin: Statements,

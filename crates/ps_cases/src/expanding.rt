@@ -16,7 +16,7 @@ use ps_model::{App, Bits};
 use ps_outside::{Sink, write_all};
 
 /// Why a trace was not written to its end. What was written is a beginning of it.
-#[derive(Clone, Copy, Debug, PartialEq, Eq)]
+#[derive(Clone, Copy)]
 pub enum ExpandFail {
     /// Memory is wanting.
     Memory,

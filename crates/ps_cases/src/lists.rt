@@ -6,7 +6,7 @@ use std::alloc::Global;
 use std::marker::Model;
 
 /// The checks of an expectation, which contracts see as a list.
-#[derive(Drop, Debug)]
+#[derive(Drop)]
 pub struct Checks {
     items: Vec<Check>,
 }
@@ -49,7 +49,7 @@ impl Checks {
 }
 
 /// The statements in the order of their lines, which contracts see as a list.
-#[derive(Drop, Debug)]
+#[derive(Drop)]
 pub struct Statements {
     items: Vec<Statement>,
 }
@@ -92,7 +92,7 @@ impl Statements {
 }
 
 /// The cases in the order of their file, which contracts see as a list.
-#[derive(Drop, Debug)]
+#[derive(Drop)]
 pub struct Cases {
     items: Vec<Case>,
 }

@@ -7,7 +7,7 @@ use ps_base::Memory;
 use ps_outside::Failed;
 
 /// The rules by which a case file is refused.
-#[derive(Clone, Copy, Debug, PartialEq, Eq)]
+#[derive(Clone, Copy, PartialEq, Eq)]
 pub enum CaseRule {
     /// The form of a line; at the line behind the last one: there is no case.
     K1,
@@ -54,7 +54,7 @@ impl CaseRule {
 }
 
 /// A case file is refused: by this rule, at this line, counted from 1.
-#[derive(Clone, Copy, Debug, PartialEq, Eq)]
+#[derive(Clone, Copy)]
 pub struct CaseRefusal {
     /// The rule.
     pub rule: CaseRule,
@@ -63,7 +63,7 @@ pub struct CaseRefusal {
 }
 
 /// Why a case file has no answer.
-#[derive(Clone, Copy, Debug, PartialEq, Eq)]
+#[derive(Clone, Copy)]
 pub enum CasesFail {
     /// Memory is wanting.
     Memory,

@@ -10,7 +10,7 @@ use ps_model::App;
 use ps_seen::{Seen, is_stopped, value_of};
 
 /// Why an expectation fails.
-#[derive(Clone, Copy, Debug, PartialEq, Eq)]
+#[derive(Clone, Copy)]
 pub enum Why {
     /// A check does not hold in the scan.
     Broken {
@@ -26,7 +26,7 @@ pub enum Why {
 }
 
 /// A failure of a case.
-#[derive(Clone, Copy, Debug, PartialEq, Eq)]
+#[derive(Clone, Copy)]
 pub struct Failure {
     /// The line of the expectation, or of what made the scan that trips.
     pub line: u32,

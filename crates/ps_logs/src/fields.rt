@@ -9,7 +9,7 @@ use ps_base::Memory;
 use std::alloc::Global;
 
 /// Where a field stands in its line, without the quotation marks around it.
-#[derive(Clone, Copy, Debug, PartialEq, Eq)]
+#[derive(Clone, Copy)]
 pub(crate) struct Span {
     /// Its first byte.
     pub(crate) from: usize,

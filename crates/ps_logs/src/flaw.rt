@@ -1,7 +1,7 @@
 // Why a log has no answer.
 
 /// A column that a log is asked for.
-#[derive(Clone, Copy, Debug, PartialEq, Eq)]
+#[derive(Clone, Copy)]
 pub enum Column {
     /// `@time`, or `time` where there is no `@time`: the time of each scan in ms.
     Time,
@@ -12,7 +12,7 @@ pub enum Column {
 }
 
 /// What a line of a log is refused for.
-#[derive(Clone, Copy, Debug, PartialEq, Eq)]
+#[derive(Clone, Copy)]
 pub enum Flaw {
     /// The form: a quotation mark within a field, a field that is not closed in its line, other fields than the header
     /// has, a column that stands twice, a line that is too long, or no header.
@@ -43,7 +43,7 @@ impl Flaw {
 }
 
 /// A log is refused: for this, at this line, counted from 1.
-#[derive(Clone, Copy, Debug, PartialEq, Eq)]
+#[derive(Clone, Copy)]
 pub struct LogRefusal {
     /// What the line is refused for.
     pub flaw: Flaw,

@@ -39,7 +39,7 @@ impl Model for Table {
 }
 
 /// What a line behind the header says. The values of a scan are written aside.
-#[derive(Clone, Copy, Debug, PartialEq, Eq)]
+#[derive(Clone, Copy)]
 pub enum RowSays {
     /// Nothing: it is empty.
     Nothing,

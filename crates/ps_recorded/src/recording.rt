@@ -27,7 +27,7 @@ const LIMITS: Limits = Limits {
 };
 
 /// Why a log was not written as a trace to its end. What was written is a beginning of it.
-#[derive(Clone, Copy, Debug, PartialEq, Eq)]
+#[derive(Clone, Copy)]
 pub enum RecordFail {
     /// Memory is wanting.
     Memory,

@@ -16,7 +16,7 @@ use ps_model::App;
 use std::alloc::Global;
 
 /// What came of a case.
-#[derive(Drop, Debug)]
+#[derive(Drop)]
 pub struct CaseOutcome {
     /// How many scans it made, 4,294,967,295 at most.
     pub scans: u32,

@@ -58,7 +58,7 @@ pub struct RulesRefusal {
 }
 
 /// Why a rules file has no answer.
-#[derive(Clone, Copy, Debug, PartialEq, Eq)]
+#[derive(Clone, Copy)]
 pub enum RulesFail {
     /// Memory is wanting.
     Memory,

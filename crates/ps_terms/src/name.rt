@@ -5,7 +5,7 @@ use std::alloc::Global;
 use std::marker::Model;
 
 /// Whose value is looked at.
-#[derive(Clone, Copy, Debug, PartialEq, Eq)]
+#[derive(Clone, Copy, PartialEq, Eq)]
 pub enum Name {
     /// Of an input, an output or a local, by its number among them.
     Signal(u16),
@@ -21,7 +21,7 @@ pub enum Name {
 }
 
 /// The values of a check, which contracts see as a list.
-#[derive(Drop, Debug)]
+#[derive(Drop)]
 pub struct Values {
     items: Vec<u16>,
 }
@@ -63,7 +63,7 @@ impl Values {
 }
 
 /// An input takes a value.
-#[derive(Clone, Copy, Debug, PartialEq, Eq)]
+#[derive(Clone, Copy)]
 pub struct Setting {
     /// The number of the input, in order of declaration, counted from 0.
     pub input: u16,
@@ -72,7 +72,7 @@ pub struct Setting {
 }
 
 /// The settings of a line, which contracts see as a list.
-#[derive(Drop, Debug)]
+#[derive(Drop)]
 pub struct Settings {
     items: Vec<Setting>,
 }

@@ -3,6 +3,8 @@ mod Dumping
 mod Playing
 mod Called
 mod Coming
+-- what `trace` answers, and why it stops, by what it came to
+mod Recorded
 -- what is written of a run is what a reader is to see
 mod Digits
 mod Rereading

@@ -2,6 +2,8 @@
 pub mod Naming
 pub mod Showing
 pub mod Asking
+-- what `trace` writes of an application and a log, and how it stops
+pub mod Tracing
 -- what the wires of a run are called
 pub mod Wires
 -- what a reader of value changes is to see

@@ -21,7 +21,7 @@ use Rattle.ps_outside.specs.Outside.{Rose}
 use Rattle.ps_reporting.specs.Asking.{AnswersReport, StopsReport}
 use Rattle.ps_tester.specs.Stopping.{StopsExpanding, StopsTesting}
 use Rattle.ps_tester.specs.Testing.{AreRanFiles, FileRan, test_status, test_text}
-use Rattle.ps_tracing.specs.Asking.{AnswersTrace, StopsTrace}
+use Rattle.ps_watching.specs.Tracing.{AnswersTrace, StopsTrace}
 use Rattle.ps_watching.specs.Asking.{AnswersWatch, StopsWatch}
 use Rattle.ps_watching.specs.Showing.{Wanted}
 use Rattle.ps_bench_base.specs.Ending.{stop_status}

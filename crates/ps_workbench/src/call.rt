@@ -10,7 +10,7 @@ ghost use Rattle.ps_bench_base.specs.Ending.{IsUnread, exit_number, stop_status}
 ghost use Rattle.ps_bench_base.specs.Stopping.{TookNothing};
 ghost use Rattle.ps_bench_base.specs.declared.ending.Status.{Status as StatusOf};
 ghost use Rattle.ps_outside.specs.Outside.{Rose};
-ghost use Rattle.ps_tracing.specs.Asking.{AnswersTrace, StopsTrace};
+ghost use Rattle.ps_watching.specs.Tracing.{AnswersTrace, StopsTrace};
 
 use ps_accounting::{CoverAsked, cover};
 use ps_base::Memory;
@@ -27,9 +27,8 @@ use ps_reporting::{ReportAsked, report};
 use ps_stream::Stream;
 use ps_telling::{Names, tell};
 use ps_tester::{TestAsked, expand, test};
-use ps_tracing::{TraceAsked, trace};
 use ps_trialed::Campaign;
-use ps_watching::{WatchAsked, watch};
+use ps_watching::{TraceAsked, WatchAsked, trace, watch};
 use ps_words::Words;
 use std::alloc::Global;
 

@@ -5,8 +5,8 @@ use Rattle.ps_bench_base.specs.declared.ending.Stop.TheVariants.{Unwritten}
 use Rattle.ps_logs.specs.Log.{log_of}
 use Rattle.ps_logs.specs.Log.End.{whole}
 use Rattle.ps_recorded.specs.Recording.{log_trace}
-use Rattle.ps_tracing.proofs.Coming.{began, of_text, refused_at}
-use Rattle.ps_tracing.proofs.tracing.trace_app.Goals as goal
+use Rattle.ps_watching.proofs.Recorded.{began, of_text, refused_at}
+use Rattle.ps_watching.proofs.tracing.trace_app.Goals as goal
 
 pub returns-in-Ok-clause-answers : goal.returns-in-Ok-clause-answers
 returns-in-Ok-clause-answers g c =

@@ -17,7 +17,7 @@ use Rattle.ps_outside.specs.Outside.{Rose}
 use Rattle.ps_recorded.specs.Recording.{IsRead, Leaves, log_trace}
 use Rattle.ps_recorded.specs.declared.recording.RecordFail.{RecordFail}
 use Rattle.ps_recorded.specs.declared.recording.RecordFail.TheVariants.{Memory, Fault, Unwritten, Refused}
-use Rattle.ps_tracing.specs.Asking.{AnswersIn, AnswersTrace, StopsRefusing, StopsTrace, WhereTold}
+use Rattle.ps_watching.specs.Tracing.{AnswersIn, AnswersTrace, StopsRefusing, StopsTrace, WhereTold}
 
 -- what a name holds that holds something, with what is so of it
 with_text : (P : List ℕ → Type 0) (held : Option (List ℕ)) → IsSome held → ((text : List ℕ) → held ≡ Some text → P text) →

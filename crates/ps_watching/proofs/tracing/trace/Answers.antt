@@ -1,5 +1,5 @@
-use Rattle.ps_tracing.proofs.Coming.{answered, moved, stops, unread_since}
-use Rattle.ps_tracing.proofs.tracing.trace.Goals as goal
+use Rattle.ps_watching.proofs.Recorded.{answered, moved, stops, unread_since}
+use Rattle.ps_watching.proofs.tracing.trace.Goals as goal
 
 pub returns-in-Ok-clause-answers : goal.returns-in-Ok-clause-answers
 returns-in-Ok-clause-answers g c =

@@ -4,7 +4,7 @@ ghost use Rattle.std.specs.Prelude.{◌≡◌, ◌≤◌, ◌∷◌, [], ℕ, Li
 ghost use Rattle.ps_bench_base.specs.Ending.{IsUnread};
 ghost use Rattle.ps_bench_base.specs.Opening.{source};
 ghost use Rattle.ps_outside.specs.Outside.{Rose};
-ghost use Rattle.ps_tracing.specs.Asking.{AnswersIn, AnswersTrace, StopsTrace};
+ghost use Rattle.ps_watching.specs.Tracing.{AnswersIn, AnswersTrace, StopsTrace};
 
 use ps_bench_base::{Input, InputStop, Opened, Stop, open_app, refuse_log};
 use ps_outside::{Files, Output};

@@ -1,2 +1,0 @@
--- what `trace` writes of an application and a log, and how it stops
-pub mod Asking

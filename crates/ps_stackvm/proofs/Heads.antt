@@ -1,7 +1,7 @@
 -- Cells with another head: what is read from them, and what instructions leave of them.
 use Rattle.std.proofs.Common.{◌≡◌, ◌≢◌, ℕ, suc, ◌+◌, ◌-◌, ◌^◌, ◌<◌, ◌≤◌, true, false, List, [], ◌∷◌, length, refl, sym, ap, ◌∙◌, inl, inr, arith}
-use Rattle.std.specs.Prelude.{slice_set, slice_index, nat_le, nat_lt, ◌==◌, ◌||◌, Bool, not, Ok, Err}
-use Rattle.std.proofs.lemmas.Bool.{cond-true, cond-false, lt-leb, le-leb, lt-ltb, le-ltb, eq-eqb, ne_eqb, or_left, or_right, or_from, cases_lt, true≢false, false≢true}
+use Rattle.std.specs.Prelude.{slice_set, slice_index, nat_le, nat_lt, ◌==◌, ◌||◌, Ok, Err}
+use Rattle.std.proofs.lemmas.Bool.{cond-true, cond-false, lt-leb, le-leb, lt-ltb, le-ltb, eq-eqb, ne_eqb, or_left, or_right, or_from, cases_lt, true≢false}
 use Rattle.ps_model.specs.declared.channel.Progress.TheVariants.{Running}
 use Rattle.ps_machine.specs.Machines.{turned}
 use Rattle.ps_machine.specs.Progressing.{progress_said, is_running}
@@ -215,11 +215,6 @@ module _ (pc h : ℕ) (c : List ℕ) (room : SIGNALS_AT ≤ length c) where
 
   pub same_progress : progress_of (with_head pc h c) ≡ progress_of c
   same_progress = read_behind pc h c 5 (omega arith) room
-
--- what is not, is FALSE
-pub false_from_not : (b : Bool) → not b ≡ true → b ≡ false
-false_from_not true h = absurd (false≢true h)
-false_from_not false h = refl
 
 -- ---- A turn, by what is fetched at the place that the head names.
 

@@ -1,6 +1,6 @@
 // One turn: an instruction is read from the code and carried out.
 
-ghost use Rattle.std.specs.Prelude.{◌≡◌, ◌≢◌, ℕ, ◌+◌, ◌*◌, ◌<◌, ◌≤◌, ◌^◌, true, false, length};
+ghost use Rattle.std.specs.Prelude.{◌≡◌, ◌≢◌, ℕ, ◌+◌, ◌-◌, ◌*◌, ◌<◌, ◌≤◌, ◌^◌, true, false, length};
 ghost use Rattle.ps_machine.specs.Machines.{turned};
 ghost use Rattle.ps_machine.specs.Progressing.{progress_said};
 ghost use Rattle.ps_stackvm.specs.Cells.{progress_of, with_head};
@@ -106,7 +106,34 @@ fn advance(cells: &mut [u8], code: &[u8], signals: u16, instances: u16, head: He
     }
 }
 
-// Turns as long as the scan is Running, at most so many; the answer is how many there were.
+// Turns as long as the scan is Running, at most so many; the answer is how many are left.
+#[inline(always)]
+fn turns_left(cells: &mut [u8], code: &[u8], signals: u16, instances: u16, most: u32) -> u32
+    requires room { SIGNALS_AT + signals + INSTANCE_SIZE * instances ≤ length cells.old }
+    requires short { length code.now < 2 ^ 32 }
+    ensures cells { cells.new ≡ turned (turn_of signals instances code.now) (most - result) cells.old }
+    ensures running { (j : ℕ) → j < most - result → progress_of (turned (turn_of signals instances code.now) j cells.old) ≡ 0 }
+    ensures most { result ≤ most }
+    ensures stopped { 0 < result → progress_of cells.new ≢ 0 }
+{
+    let mut head = Head::of(cells);
+    if head.ended {
+        return most;
+    }
+    let mut left = most;
+    'turns: while left > 0 {
+        left -= 1;
+        head = advance(cells, code, signals, instances, head);
+        if head.ended {
+            head.write(cells);
+            return left;
+        }
+    }
+    head.write(cells);
+    0
+}
+
+// The same; the answer is how many there were.
 pub(crate) fn turns(cells: &mut [u8], code: &[u8], signals: u16, instances: u16, most: u32) -> u32
     requires room { SIGNALS_AT + signals + INSTANCE_SIZE * instances ≤ length cells.old }
     requires short { length code.now < 2 ^ 32 }
@@ -115,14 +142,7 @@ pub(crate) fn turns(cells: &mut [u8], code: &[u8], signals: u16, instances: u16,
     ensures most { result ≤ most }
     ensures stopped { result < most → progress_of cells.new ≢ 0 }
 {
-    let mut head = Head::of(cells);
-    let mut left = most;
-    'turns: while left > 0 && !head.ended {
-        head = advance(cells, code, signals, instances, head);
-        left -= 1;
-    }
-    head.write(cells);
-    most - left
+    most - turns_left(cells, code, signals, instances, most)
 }
 
 // One turn of a scan that is Running.

@@ -10,12 +10,12 @@ use Rattle.ps_model.specs.Budgets.{boolean_count}
 use Rattle.ps_model.specs.Kept.{stepped_at}
 use Rattle.ps_model.specs.Stored.{loaded, stored}
 use Rattle.ps_machine.specs.Bytes.{bit, replaced}
-use Rattle.ps_machine.proofs.Places.{length-replaced}
+use Rattle.ps_machine.proofs.Places.{length-replaced, index_before}
 use Rattle.ps_block.specs.declared.block.Pins.{Pins}
 use Rattle.ps_model.specs.PinBits.{pin_of}
 use Rattle.ps_stackvm.specs.declared.layout.TheConstants.{SIGNALS_AT}
 use Rattle.ps_stackvm.specs.declared.trap.Trap.TheVariants.{NoState}
-use Rattle.ps_stackvm.specs.Cells.{scan_time, block_bytes, with_pc, trapped}
+use Rattle.ps_stackvm.specs.Cells.{scan_time, block_bytes, progress_of, with_pc, trapped}
 use Rattle.ps_stackvm.specs.Calling.{topmost, pins_in, stepped_to, called_with}
 use Rattle.ps_block.specs.Stepping.{stepped_by}
 use Rattle.ps_stackvm.specs.Stepping.{HasStepped}
@@ -62,6 +62,16 @@ module _ (signals i first limit next : ℕ) (kind : Kind) (cells after : List �
       ∙ ap (λ s. stepped_to signals i first next kind s cells) state
       ∙ ap (λ s. called_with signals i first limit next kind s cells)
       (sym (ap (λ q. loaded kind (take 16 (drop q cells))) (sym is-place) ∙ steps.loads))
+
+  -- a step leaves the progress of the scan
+  pub progress_stays : (pins : Pins) → SIGNALS_AT + signals + 16 * i + 16 ≤ length cells → first ≤ signals → HasStepped kind pins p (SIGNALS_AT + first) cells after →
+      progress_of after ≡ progress_of cells
+  progress_stays pins end low steps =
+      let kept' = stepped_by kind pins steps.kept in
+      let size : length (replaced cells p (stored kept')) ≡ length cells = length-replaced cells p (stored kept') (omega arith) in
+      ap progress_of steps.writes
+      ∙ index_before (replaced cells p (stored kept')) (SIGNALS_AT + first) (map bit (outs kind kept'.code kept'.mode)) 5 (omega arith) (omega (arith, size))
+      ∙ index_before cells p (stored kept') 5 (omega arith) (omega arith)
 
 -- each kind has a pin
 pub has_pins : (kind : Kind) → 1 ≤ boolean_count kind

@@ -1,14 +1,14 @@
 // CALL: one step of an instance.
 
-ghost use Rattle.std.specs.Prelude.{◌≡◌, ℕ, ◌+◌, ◌*◌, ◌≤◌, length, slice_index};
+ghost use Rattle.std.specs.Prelude.{◌≡◌, ◌≢◌, ℕ, ◌+◌, ◌*◌, ◌≤◌, if◌then◌else◌, true, false, length, slice_index};
 ghost use Rattle.ps_model.specs.Blocks.{output_count};
 ghost use Rattle.ps_model.specs.Budgets.{boolean_count};
 ghost use Rattle.ps_model.specs.Stored.{loaded};
 ghost use Rattle.ps_model.specs.PinBits.{pin_of};
-ghost use Rattle.ps_stackvm.specs.Cells.{block_bytes};
+ghost use Rattle.ps_stackvm.specs.Cells.{block_bytes, progress_of, trapped, with_pc};
 ghost use Rattle.ps_stackvm.specs.Calling.{after_call, called_as, called_with, pins_in, topmost};
 
-use crate::cells::{set_pc, time, trap};
+use crate::cells::{time, trap};
 use crate::instance::step_instance;
 use crate::layout::{HEIGHT_AT, INSTANCE_SIZE, SIGNALS_AT, STACK_SIZE};
 use crate::pins::pins_on_stack;
@@ -22,14 +22,13 @@ use ps_operator::{EnableSwitch, ModeSelector, TwoHandThree, TwoHandTwo};
 use ps_sensors::{Antivalent, EmergencyStop, Equivalent, Espe};
 
 // What a CALL names beside a kind: the instance, its first output signal and its limit in ms. `signals` is how many
-// signals there are, and `next` is where the following instruction stands.
+// signals there are.
 #[derive(Clone, Copy)]
 pub(crate) struct Site {
     pub signals: u16,
     pub instance: u16,
     pub first: u16,
     pub limit: u32,
-    pub next: u32,
 }
 
 impl Site {
@@ -41,24 +40,42 @@ impl Site {
     }
 }
 
-// CALL of an instance, of which there are so many, as the kind with a number.
-pub(crate) fn call(cells: &mut [u8], instances: u16, kind: u8, site: Site)
-    requires { SIGNALS_AT + site.signals + INSTANCE_SIZE * instances ≤ length cells.old }
-    ensures { cells.new ≡ after_call site.signals instances site.instance kind site.first site.limit site.next cells.old }
+// Marks a trap, in place of a step.
+fn refuse(cells: &mut [u8], reason: Trap) -> bool
+    requires { SIGNALS_AT ≤ length cells.old }
+    ensures step { result ≡ false }
+    ensures cells { cells.new ≡ trapped reason cells.old }
+    ensures ended { progress_of cells.new ≢ 0 }
+{
+    trap(cells, reason);
+    false
+}
+
+// CALL of an instance, of which there are so many, as the kind with a number, in a scan that runs. Whether the instance
+// was stepped: then the place of the next instruction is still to be written, and else there was a trap.
+pub(crate) fn call(cells: &mut [u8], instances: u16, kind: u8, site: Site) -> bool
+    requires room { SIGNALS_AT + site.signals + INSTANCE_SIZE * instances ≤ length cells.old }
+    requires runs { progress_of cells.old ≡ 0 }
+    ensures cells { (next : ℕ) → (if result then with_pc next cells.new else cells.new) ≡ after_call site.signals instances site.instance kind site.first site.limit next cells.old }
+    ensures runs { result ≡ true → progress_of cells.new ≡ 0 }
+    ensures ended { result ≡ false → progress_of cells.new ≢ 0 }
 {
     if site.instance >= instances {
-        return trap(cells, Trap::NoInstance);
+        return refuse(cells, Trap::NoInstance);
     }
     match kind_by_number(kind) {
         Some(kind) => call_as(cells, kind, site),
-        None => trap(cells, Trap::NoInstance),
+        None => refuse(cells, Trap::NoInstance),
     }
 }
 
 // CALL of an instance that is there.
-fn call_as(cells: &mut [u8], kind: Kind, site: Site)
-    requires { SIGNALS_AT + site.signals + INSTANCE_SIZE * site.instance + 16 ≤ length cells.old }
-    ensures { cells.new ≡ called_as site.signals site.instance site.first site.limit site.next kind cells.old }
+fn call_as(cells: &mut [u8], kind: Kind, site: Site) -> bool
+    requires room { SIGNALS_AT + site.signals + INSTANCE_SIZE * site.instance + 16 ≤ length cells.old }
+    requires runs { progress_of cells.old ≡ 0 }
+    ensures cells { (next : ℕ) → (if result then with_pc next cells.new else cells.new) ≡ called_as site.signals site.instance site.first site.limit next kind cells.old }
+    ensures runs { result ≡ true → progress_of cells.new ≡ 0 }
+    ensures ended { result ≡ false → progress_of cells.new ≢ 0 }
 {
     match kind {
         Kind::Equivalent => call_block::<Equivalent>(cells, site),
@@ -79,18 +96,14 @@ fn call_as(cells: &mut [u8], kind: Kind, site: Site)
 
 // The same as a block. What the site has is passed part by part, in registers: a struct would go through memory.
 #[inline(always)]
-fn call_block<B: SafetyBlock>(cells: &mut [u8], site: Site)
-    requires { SIGNALS_AT + site.signals + INSTANCE_SIZE * site.instance + 16 ≤ length cells.old }
-    ensures { cells.new ≡ called_as site.signals site.instance site.first site.limit site.next B.KIND cells.old }
+fn call_block<B: SafetyBlock>(cells: &mut [u8], site: Site) -> bool
+    requires room { SIGNALS_AT + site.signals + INSTANCE_SIZE * site.instance + 16 ≤ length cells.old }
+    requires runs { progress_of cells.old ≡ 0 }
+    ensures cells { (next : ℕ) → (if result then with_pc next cells.new else cells.new) ≡ called_as site.signals site.instance site.first site.limit next B.KIND cells.old }
+    ensures runs { result ≡ true → progress_of cells.new ≡ 0 }
+    ensures ended { result ≡ false → progress_of cells.new ≢ 0 }
 {
-    call_apart::<B>(
-        cells,
-        site.signals,
-        site.instance,
-        site.first,
-        site.limit,
-        site.next,
-    );
+    call_apart::<B>(cells, site.signals, site.instance, site.first, site.limit)
 }
 
 // The same, with a code of its own for each kind, in which the counts of pins and outputs are constants. It is kept out
@@ -103,17 +116,19 @@ fn call_apart<B: SafetyBlock>(
     instance: u16,
     first: u16,
     limit: u32,
-    next: u32,
-)
-    requires { SIGNALS_AT + signals + INSTANCE_SIZE * instance + 16 ≤ length cells.old }
-    ensures { cells.new ≡ called_as signals instance first limit next B.KIND cells.old }
+) -> bool
+    requires room { SIGNALS_AT + signals + INSTANCE_SIZE * instance + 16 ≤ length cells.old }
+    requires runs { progress_of cells.old ≡ 0 }
+    ensures cells { (next : ℕ) → (if result then with_pc next cells.new else cells.new) ≡ called_as signals instance first limit next B.KIND cells.old }
+    ensures runs { result ≡ true → progress_of cells.new ≡ 0 }
+    ensures ended { result ≡ false → progress_of cells.new ≢ 0 }
 {
     if u32::from(first) + u32::from(output_count(B::KIND)) > u32::from(signals) {
-        return trap(cells, Trap::NoSignal);
+        return refuse(cells, Trap::NoSignal);
     }
     let count = boolean_count(B::KIND);
     if cells[HEIGHT_AT] > STACK_SIZE || cells[HEIGHT_AT] < count {
-        return trap(cells, Trap::StackHeight);
+        return refuse(cells, Trap::StackHeight);
     }
     match pins_on_stack(cells, count) {
         Some(bits) => {
@@ -122,22 +137,24 @@ fn call_apart<B: SafetyBlock>(
                 instance,
                 first,
                 limit,
-                next,
             };
             step_block::<B>(cells, bits, site)
         }
-        None => trap(cells, Trap::NotBoolean),
+        None => refuse(cells, Trap::NotBoolean),
     }
 }
 
 // The step of an instance as a block, with pins that are there. It pops them.
-fn step_block<B: SafetyBlock>(cells: &mut [u8], bits: u32, site: Site)
+fn step_block<B: SafetyBlock>(cells: &mut [u8], bits: u32, site: Site) -> bool
     requires end { SIGNALS_AT + site.signals + INSTANCE_SIZE * site.instance + 16 ≤ length cells.old }
     requires outs { site.first + output_count B.KIND ≤ site.signals }
     requires low { slice_index cells.old HEIGHT_AT ≤ STACK_SIZE }
     requires tall { boolean_count B.KIND ≤ slice_index cells.old HEIGHT_AT }
     requires pins { (j : ℕ) → pin_of bits j ≡ pins_in (topmost (boolean_count B.KIND) cells.old) j }
-    ensures { cells.new ≡ called_with site.signals site.instance site.first site.limit site.next B.KIND (loaded B.KIND (block_bytes site.signals site.instance cells.old)) cells.old }
+    requires runs { progress_of cells.old ≡ 0 }
+    ensures cells { (next : ℕ) → (if result then with_pc next cells.new else cells.new) ≡ called_with site.signals site.instance site.first site.limit next B.KIND (loaded B.KIND (block_bytes site.signals site.instance cells.old)) cells.old }
+    ensures runs { result ≡ true → progress_of cells.new ≡ 0 }
+    ensures ended { result ≡ false → progress_of cells.new ≢ 0 }
 {
     let height = cells[HEIGHT_AT] - boolean_count(B::KIND);
     let pins = Pins {
@@ -147,8 +164,8 @@ fn step_block<B: SafetyBlock>(cells: &mut [u8], bits: u32, site: Site)
     };
     let first = SIGNALS_AT + site.first as usize;
     if !step_instance::<B>(cells, site.place(), first, pins) {
-        return trap(cells, Trap::NoState);
+        return refuse(cells, Trap::NoState);
     }
     cells[HEIGHT_AT] = height;
-    set_pc(cells, site.next);
+    true
 }

@@ -22,9 +22,9 @@ fn call_at(code: &[u8], pc: usize) -> Instruction
     }
 }
 
-// The instruction at a place of the code that the longest instruction fits behind, so that none passes the code's end.
+// The instruction at a place of the code that the longest instruction but CALL fits behind. A CALL is tested by itself.
 fn fetch_inside(code: &[u8], pc: usize) -> Result<Instruction, Trap>
-    requires { pc + 10 ≤ length code.now }
+    requires { pc + 3 ≤ length code.now }
     ensures { result ≡ fetched code.now pc }
 {
     match code[pc] {
@@ -33,26 +33,24 @@ fn fetch_inside(code: &[u8], pc: usize) -> Result<Instruction, Trap>
         CONST => Ok(Instruction::Const(code[pc + 1])),
         AND => Ok(Instruction::And),
         OR => Ok(Instruction::Or),
-        CALL => Ok(call_at(code, pc)),
+        CALL if code.len() - pc >= 10 => Ok(call_at(code, pc)),
+        CALL => Err(Trap::CodeEnd),
         END => Ok(Instruction::End),
         _ => Err(Trap::NoOpcode),
     }
 }
 
-// The instruction at a place near the code's end or past it.
-fn fetch_near_end(code: &[u8], pc: usize) -> Result<Instruction, Trap>
-    requires near { length code.now < pc + 10 }
+// The instruction at one of the last two places of the code, or past its end.
+fn fetch_at_end(code: &[u8], pc: usize) -> Result<Instruction, Trap>
+    requires near { length code.now < pc + 3 }
     requires short { length code.now < 2 ^ 32 }
     ensures { result ≡ fetched code.now pc }
 {
     if pc >= code.len() {
         return Err(Trap::CodeEnd);
     }
-    let room = code.len() - pc;
     match code[pc] {
-        LOAD if room >= 3 => Ok(Instruction::Load(number_at(code, pc + 1))),
-        STORE if room >= 3 => Ok(Instruction::Store(number_at(code, pc + 1))),
-        CONST if room >= 2 => Ok(Instruction::Const(code[pc + 1])),
+        CONST if code.len() - pc >= 2 => Ok(Instruction::Const(code[pc + 1])),
         AND => Ok(Instruction::And),
         OR => Ok(Instruction::Or),
         END => Ok(Instruction::End),
@@ -68,9 +66,9 @@ pub(crate) fn fetch(code: &[u8], pc: usize) -> Result<Instruction, Trap>
     requires fits { pc < 2 ^ 32 }
     ensures { result ≡ fetched code.now pc }
 {
-    if pc < code.len().saturating_sub(9) {
+    if pc < code.len().saturating_sub(2) {
         fetch_inside(code, pc)
     } else {
-        fetch_near_end(code, pc)
+        fetch_at_end(code, pc)
     }
 }

@@ -1,9 +1,10 @@
 // One turn: an instruction is read from the code and carried out.
 
-ghost use Rattle.std.specs.Prelude.{◌≡◌, ◌≢◌, ℕ, ◌+◌, ◌*◌, ◌<◌, ◌≤◌, ◌^◌, true, false, length};
+ghost use Rattle.std.specs.Prelude.{◌≡◌, ◌≢◌, ℕ, ◌+◌, ◌-◌, ◌*◌, ◌<◌, ◌≤◌, ◌^◌, true, false, length};
 ghost use Rattle.ps_machine.specs.Machines.{turned};
 ghost use Rattle.ps_machine.specs.Progressing.{progress_said};
 ghost use Rattle.ps_stackvm.specs.Cells.{progress_of, with_head};
+ghost use Rattle.ps_stackvm.specs.Calling.{after_call};
 ghost use Rattle.ps_stackvm.specs.Turn.{after, turn_of};
 
 use crate::call::{Site, call};
@@ -13,6 +14,33 @@ use crate::instruction::Instruction;
 use crate::layout::{INSTANCE_SIZE, SIGNALS_AT};
 use crate::stack::{and, constant, end, load, or, store};
 use ps_model::Progress;
+
+// CALL. The head is written for it, and then its place stays apart again.
+#[inline(always)]
+fn step(cells: &mut [u8], instances: u16, kind: u8, site: Site, head: Head, next: usize) -> Head
+    requires room { SIGNALS_AT + site.signals + INSTANCE_SIZE * instances ≤ length cells.old }
+    requires runs { progress_of cells.old ≡ 0 }
+    requires next { next < 2 ^ 32 }
+    ensures cells { with_head result.pc result.height cells.new ≡ after_call site.signals instances site.instance kind site.first site.limit next (with_head head.pc head.height cells.old) }
+    ensures runs { result.ended ≡ false → progress_of cells.new ≡ 0 }
+    ensures ended { result.ended ≡ true → progress_of cells.new ≢ 0 }
+{
+    head.write(cells);
+    let is_stepped = call(cells, instances, kind, site);
+    let found = Head::of(cells);
+    if !is_stepped {
+        return Head {
+            pc: found.pc,
+            height: found.height,
+            ended: true,
+        };
+    }
+    Head {
+        pc: next,
+        height: found.height,
+        ended: false,
+    }
+}
 
 // Carries out an instruction, with so many signals and instances.
 #[inline(always)]
@@ -48,11 +76,8 @@ fn carry_out(
                 instance,
                 first,
                 limit,
-                next: next as u32,
             };
-            head.write(cells);
-            call(cells, instances, kind, site);
-            Head::of(cells)
+            step(cells, instances, kind, site, head, next)
         }
         Instruction::End => end(cells, head, next),
     }
@@ -81,7 +106,34 @@ fn advance(cells: &mut [u8], code: &[u8], signals: u16, instances: u16, head: He
     }
 }
 
-// Turns as long as the scan is Running, at most so many; the answer is how many there were.
+// Turns as long as the scan is Running, at most so many; the answer is how many are left.
+#[inline(always)]
+fn turns_left(cells: &mut [u8], code: &[u8], signals: u16, instances: u16, most: u32) -> u32
+    requires room { SIGNALS_AT + signals + INSTANCE_SIZE * instances ≤ length cells.old }
+    requires short { length code.now < 2 ^ 32 }
+    ensures cells { cells.new ≡ turned (turn_of signals instances code.now) (most - result) cells.old }
+    ensures running { (j : ℕ) → j < most - result → progress_of (turned (turn_of signals instances code.now) j cells.old) ≡ 0 }
+    ensures most { result ≤ most }
+    ensures stopped { 0 < result → progress_of cells.new ≢ 0 }
+{
+    let mut head = Head::of(cells);
+    if head.ended {
+        return most;
+    }
+    let mut left = most;
+    'turns: while left > 0 {
+        left -= 1;
+        head = advance(cells, code, signals, instances, head);
+        if head.ended {
+            head.write(cells);
+            return left;
+        }
+    }
+    head.write(cells);
+    0
+}
+
+// The same; the answer is how many there were.
 pub(crate) fn turns(cells: &mut [u8], code: &[u8], signals: u16, instances: u16, most: u32) -> u32
     requires room { SIGNALS_AT + signals + INSTANCE_SIZE * instances ≤ length cells.old }
     requires short { length code.now < 2 ^ 32 }
@@ -90,21 +142,7 @@ pub(crate) fn turns(cells: &mut [u8], code: &[u8], signals: u16, instances: u16,
     ensures most { result ≤ most }
     ensures stopped { result < most → progress_of cells.new ≢ 0 }
 {
-    let mut head = Head::of(cells);
-    if head.ended {
-        return 0;
-    }
-    let mut left = most;
-    'turns: while left > 0 {
-        head = advance(cells, code, signals, instances, head);
-        left -= 1;
-        if head.ended {
-            head.write(cells);
-            return most - left;
-        }
-    }
-    head.write(cells);
-    most
+    most - turns_left(cells, code, signals, instances, most)
 }
 
 // One turn of a scan that is Running.

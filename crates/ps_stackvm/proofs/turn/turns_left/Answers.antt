@@ -2,7 +2,7 @@ use Rattle.std.proofs.Common.{◌≡◌, ◌+◌, ◌-◌, ◌≤◌, length, �
 use Rattle.ps_stackvm.specs.declared.layout.TheConstants.{SIGNALS_AT}
 use Rattle.ps_stackvm.specs.Turn.{turn_of}
 use Rattle.ps_stackvm.proofs.Heads.{turned_more, running_more}
-use Rattle.ps_stackvm.proofs.turn.turns.Goals as goal
+use Rattle.ps_stackvm.proofs.turn.turns_left.Goals as goal
 
 pub turns-preserved : goal.turns-preserved
 turns-preserved c =

@@ -2,7 +2,7 @@ use Rattle.std.proofs.Common.{◌≡◌, ℕ, ◌-◌, ◌<◌, ◌≤◌}
 use Rattle.ps_machine.specs.Machines.{turned}
 use Rattle.ps_stackvm.specs.Cells.{progress_of, with_head}
 use Rattle.ps_stackvm.specs.Turn.{turn_of}
-use Rattle.ps_stackvm.proofs.turn.turns.Given as goal
+use Rattle.ps_stackvm.proofs.turn.turns_left.Given as goal
 
 -- turns were made, each of a running scan, which runs still; the head of the cells is kept apart
 abbrev pub invariant-turns : goal.invariant-turns

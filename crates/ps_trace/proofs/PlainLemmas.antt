@@ -1,13 +1,13 @@
 -- A time and values that stand behind one blank each.
-use Rattle.std.proofs.Common.{◌≡◌, ◌<◌, ◌≤◌, ◌+◌, ◌++◌, ℕ, List, [], ◌∷◌, Bool, true, false, is_some, length, map, take, drop, slice_set, refl, sym, ◌∙◌, ap, arith, length-take}
+use Rattle.std.proofs.Common.{◌≡◌, ◌<◌, ◌≤◌, ◌+◌, ◌*◌, ◌==◌, ◌++◌, ℕ, List, [], ◌∷◌, Bool, true, false, is_some, length, map, take, drop, slice_set, slice_index, refl, sym, subst, ◌∙◌, ap, arith, length-take}
 use Rattle.std.proofs.lemmas.Grind.{common_steps}
 use Rattle.std.proofs.lemmas.Bool.{and_parts}
-use Rattle.std.proofs.lemmas.List.{append_assoc, map-append, take_more_set, take-append-drop}
+use Rattle.std.proofs.lemmas.List.{append_assoc, take_more, take_more_set, take-append-drop}
 use Rattle.std.specs.List.{list_all, filter_map}
 use Rattle.std.specs.Char.{is_ascii_digit}
 use Rattle.ps_trace.specs.Words.{is_blank, words, fields, digits_value}
 use Rattle.ps_trace.specs.Trace.{value_of}
-use Rattle.ps_trace.specs.LineSays.{word_of, IsApart, IsNumbered, IsPlain}
+use Rattle.ps_trace.specs.LineSays.{word_of, is_pair, spaced, IsApart, IsNumbered, IsPlain, IsSpacedTo}
 use Rattle.ps_trace.proofs.WordLemmas.{words-blank, words-one, words-more}
 use Rattle.ps_trace.proofs.Numbers.{number_of-all, number_of-parts}
 
@@ -29,14 +29,42 @@ values-plain [] = refl
 values-plain (false ∷ values) = ap (λ (t : List Bool). false ∷ t) (values-plain values)
 values-plain (true ∷ values) = ap (λ (t : List Bool). true ∷ t) (values-plain values)
 
--- one value more
-pub plain-more : (bytes rest behind : List ℕ) (values : List Bool) (i : ℕ) (value : Bool) → i < length values →
-    words bytes ≡ map word_of (take i values) ++ words rest → words rest ≡ word_of value ∷ words behind →
-    words bytes ≡ map word_of (take (i + 1) (slice_set values i value)) ++ words behind
-plain-more bytes rest behind values i value within before next =
-    before ∙ ap (λ (t : List (List ℕ)). map word_of (take i values) ++ t) next
-    ∙ sym (append_assoc (map word_of (take i values)) (word_of value ∷ []) (words behind))
-    ∙ ap (λ (t : List (List ℕ)). t ++ words behind) (sym (ap (map word_of) (take_more_set values i value within) ∙ map-append word_of (take i values) (value ∷ [])))
+-- values behind one space each end no word in front of them
+pub apart-spaced : (values : List Bool) → IsApart (spaced values)
+apart-spaced [] some = absurd (omega arith)
+apart-spaced (value ∷ values) some = refl
+
+-- and their words are these values
+pub words-spaced : (values : List Bool) → words (spaced values) ≡ map word_of values
+words-spaced [] = refl
+words-spaced (value ∷ values) =
+    words-value 32 value (spaced (value ∷ values)) (spaced values) refl refl (apart-spaced values) ∙ ap (λ (t : List (List ℕ)). word_of value ∷ t) (words-spaced values)
+
+spaced-append : (values others : List Bool) → spaced (values ++ others) ≡ spaced values ++ spaced others
+spaced-append [] others = refl
+spaced-append (value ∷ values) others =
+    ap (λ (t : List ℕ). 32 ∷ (word_of value ++ t)) (spaced-append values others)
+    ∙ ap (λ (t : List ℕ). 32 ∷ t) (sym (append_assoc (word_of value) (spaced values) (spaced others)))
+
+-- a pair is its value behind a space
+pair_spaced : (space digit : ℕ) → is_pair space digit ≡ true → space ∷ digit ∷ [] ≡ spaced ((digit == 49) ∷ [])
+pair_spaced space digit pair = grind (arith, common_steps)
+
+-- one pair more
+pub spaced-more : (bytes : List ℕ) (at next : ℕ) (values : List Bool) (value : Bool) → next ≡ at + 1 → at < length values → 2 * next ≤ length bytes →
+    is_pair (slice_index bytes (2 * at)) (slice_index bytes (2 * at + 1)) ≡ true → value ≡ (slice_index bytes (2 * at + 1) == 49) →
+    IsSpacedTo bytes at values → IsSpacedTo bytes next (slice_set values at value)
+spaced-more bytes at next values value behind place within pair is before =
+    let space = slice_index bytes (2 * at) in
+    let digit = slice_index bytes (2 * at + 1) in
+    let first = take_more bytes (2 * at) 0 (omega arith) in
+    let second = take_more bytes (2 * at + 1) 0 (omega arith) in
+    let count : 2 * next ≡ 2 * at + 1 + 1 = omega arith in
+    ap (λ (n : ℕ). take n bytes) count ∙ second ∙ ap (λ (t : List ℕ). t ++ (digit ∷ [])) (first ∙ ap (λ (t : List ℕ). t ++ (space ∷ [])) before)
+    ∙ append_assoc (spaced (take at values)) (space ∷ []) (digit ∷ [])
+    ∙ ap (λ (t : List ℕ). spaced (take at values) ++ t) (pair_spaced space digit pair ∙ ap (λ (v : Bool). spaced (v ∷ [])) (sym is))
+    ∙ sym (ap (λ (n : ℕ). spaced (take n (slice_set values at value))) behind ∙ ap spaced (take_more_set values at value place)
+    ∙ spaced-append (take at values) (value ∷ []))
 
 -- a digit is no blank
 digit_apart : (b : ℕ) → is_ascii_digit b ≡ true → is_blank b ≡ false
@@ -62,8 +90,10 @@ fields-digits (b ∷ digits) behind some all =
     grind (arith, common_steps)
 
 -- a line that begins with digits, with values behind them
-pub plain-line : (line behind : List ℕ) (now : ℕ) (values : List Bool) → IsNumbered line now behind → IsApart behind → words behind ≡ map word_of values → IsPlain line now values
-plain-line line behind now values numbered apart values_are =
+pub plain-line : (line behind : List ℕ) (now : ℕ) (values : List Bool) → IsNumbered line now behind → behind ≡ spaced values → IsPlain line now values
+plain-line line behind now values numbered is =
+    let apart : IsApart behind = subst IsApart (sym is) (apart-spaced values) in
+    let values_are : words behind ≡ map word_of values = ap words is ∙ words-spaced values in
     let digits = number_of-parts numbered.digits now numbered.number in
     record {
       time = numbered.digits;

@@ -1,5 +1,5 @@
 -- What the code says of a line.
-use Rattle.std.specs.Prelude.{◌≡◌, ◌<◌, ◌++◌, ℕ, List, [], ◌∷◌, Bool, true, false, Some, length, map, slice_index}
+use Rattle.std.specs.Prelude.{◌≡◌, ◌<◌, ◌++◌, ◌*◌, ◌==◌, ◌&&◌, ◌||◌, ℕ, List, [], ◌∷◌, Bool, true, false, Some, length, map, take, slice_index}
 use Rattle.ps_trace.specs.Words.{is_blank, fields, number_of}
 use Rattle.ps_trace.specs.Trace.{Said}
 use Rattle.ps_trace.specs.Trace.Said.{skips, restarts, scans, breaks}
@@ -17,6 +17,19 @@ said_by (Broken rule) values = breaks rule
 abbrev pub word_of : Bool → List ℕ
 word_of false = 48 ∷ []
 word_of true = 49 ∷ []
+
+-- these values, each behind one space
+abbrev pub spaced : List Bool → List ℕ
+spaced [] = []
+spaced (value ∷ values) = 32 ∷ (word_of value ++ spaced values)
+
+-- two bytes are a space and a value
+abbrev pub is_pair : (space value : ℕ) → Bool
+is_pair space value = space == 32 && (value == 48 || value == 49)
+
+-- the first bytes are as many of these values, each behind one space
+abbrev pub IsSpacedTo : List ℕ → ℕ → List Bool → Type 0
+IsSpacedTo bytes count values = take (2 * count) bytes ≡ spaced (take count values)
 
 -- no byte of these belongs to a word that ends in front of them
 abbrev pub IsApart : List ℕ → Type 0

@@ -1,9 +1,8 @@
 // The lines of a trace as most of them are: a time where the line begins, and behind it values that stand behind one
-// blank each.
+// space each.
 
-ghost use Rattle.std.specs.Prelude.{◌≡◌, ◌≤◌, ◌∷◌, IsTrue, length, map, IfSome};
-ghost use Rattle.ps_trace.specs.Words.{words};
-ghost use Rattle.ps_trace.specs.LineSays.{word_of, IsApart, IsNumbered, IsPlain};
+ghost use Rattle.std.specs.Prelude.{◌≡◌, ◌≤◌, ◌<◌, ◌+◌, ◌*◌, ◌==◌, IsTrue, length, slice_index, IfSome};
+ghost use Rattle.ps_trace.specs.LineSays.{is_pair, spaced, IsNumbered, IsPlain, IsSpacedTo};
 
 // The most digits of a time that is read here. As many always have a value of 32 bits.
 const MOST_DIGITS: usize = 9;
@@ -52,31 +51,100 @@ fn number_within(bytes: &[u8], most: usize) -> Option<(u32, &[u8])>
     Some((value, &bytes[end..]))
 }
 
-// Reads values that stand behind one blank each, one for each place, up to the end. False: the bytes have another
-// form.
+// Reads values, one for each place, each behind one space, and nothing else. False: the bytes have another form.
 fn plain_values(bytes: &[u8], values: &mut [bool]) -> bool
-    ensures words { IsTrue result → words bytes.now ≡ map word_of values.new }
-    ensures apart { IsTrue result → IsApart bytes.now }
+    ensures { IsTrue result → bytes.now ≡ spaced values.new }
 {
-    let mut rest = bytes;
-    for i in 0..values.len() {
-        let Some((value, behind)) = plain_value(rest) else {
-            return false;
-        };
-        values[i] = value;
-        rest = behind;
+    if bytes.len() != 2 * values.len() {
+        return false;
     }
-    rest.is_empty()
+    let mut at = 0;
+    'fours: while values.len() - at >= 4 {
+        if !put_four(bytes, values, at) {
+            return false;
+        }
+        at += 4;
+    }
+    if values.len() - at >= 2 {
+        if !put_two(bytes, values, at) {
+            return false;
+        }
+        at += 2;
+    }
+    at == values.len() || put_one(bytes, values, at)
 }
 
-// The value that stands behind one blank, and the bytes behind it.
-fn plain_value(bytes: &[u8]) -> Option<(bool, &[u8])>
-    ensures apart { IfSome result (λ _. IsApart bytes.now) }
-    ensures value { IfSome result (λ found. IsApart found.1.now → words bytes.now ≡ word_of found.0 ∷ words found.1.now) }
+// Puts the values of four pairs from pair `at` on. False: they are none. All bytes are read before a value is put, so
+// that the compiler reads and tests them at once.
+fn put_four(bytes: &[u8], values: &mut [bool], at: usize) -> bool
+    requires places { at + 4 ≤ length values.old }
+    requires pairs { 2 * (at + 4) ≤ length bytes.now }
+    ensures put { IsTrue result → IsSpacedTo bytes.now at values.old → IsSpacedTo bytes.now (at + 4) values.new }
+    ensures size { length values.new ≡ length values.old }
 {
-    match bytes {
-        [b' ' | b'\t', b'0', behind @ ..] => Some((false, behind)),
-        [b' ' | b'\t', b'1', behind @ ..] => Some((true, behind)),
-        _ => None,
+    if !(is_pair(bytes, at)
+        & is_pair(bytes, at + 1)
+        & is_pair(bytes, at + 2)
+        & is_pair(bytes, at + 3))
+    {
+        return false;
     }
+    let first = is_one(bytes, at);
+    let second = is_one(bytes, at + 1);
+    let third = is_one(bytes, at + 2);
+    let fourth = is_one(bytes, at + 3);
+    values[at] = first;
+    values[at + 1] = second;
+    values[at + 2] = third;
+    values[at + 3] = fourth;
+    true
+}
+
+// The same of two pairs.
+fn put_two(bytes: &[u8], values: &mut [bool], at: usize) -> bool
+    requires places { at + 2 ≤ length values.old }
+    requires pairs { 2 * (at + 2) ≤ length bytes.now }
+    ensures put { IsTrue result → IsSpacedTo bytes.now at values.old → IsSpacedTo bytes.now (at + 2) values.new }
+    ensures size { length values.new ≡ length values.old }
+{
+    if !(is_pair(bytes, at) & is_pair(bytes, at + 1)) {
+        return false;
+    }
+    let first = is_one(bytes, at);
+    let second = is_one(bytes, at + 1);
+    values[at] = first;
+    values[at + 1] = second;
+    true
+}
+
+// The same of one pair.
+fn put_one(bytes: &[u8], values: &mut [bool], at: usize) -> bool
+    requires places { at + 1 ≤ length values.old }
+    requires pairs { 2 * (at + 1) ≤ length bytes.now }
+    ensures put { IsTrue result → IsSpacedTo bytes.now at values.old → IsSpacedTo bytes.now (at + 1) values.new }
+    ensures size { length values.new ≡ length values.old }
+{
+    if !is_pair(bytes, at) {
+        return false;
+    }
+    values[at] = is_one(bytes, at);
+    true
+}
+
+// Whether pair `at` of these bytes is a space and a value.
+fn is_pair(bytes: &[u8], at: usize) -> bool
+    requires { 2 * (at + 1) ≤ length bytes.now }
+    ensures { result ≡ is_pair (slice_index bytes.now (2 * at)) (slice_index bytes.now (2 * at + 1)) }
+{
+    let space = bytes[2 * at];
+    let value = bytes[2 * at + 1];
+    (space == b' ') & ((value == b'0') | (value == b'1'))
+}
+
+// Whether the value of pair `at` is TRUE.
+fn is_one(bytes: &[u8], at: usize) -> bool
+    requires { 2 * (at + 1) ≤ length bytes.now }
+    ensures { result ≡ (slice_index bytes.now (2 * at + 1) == 49) }
+{
+    bytes[2 * at + 1] == b'1'
 }

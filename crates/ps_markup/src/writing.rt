@@ -26,7 +26,7 @@ h3 { margin-top: 2rem; }
 table { width: 100%; border-collapse: collapse; }
 caption { padding: .3rem 0; text-align: left; font-weight: bold; }
 th, td { padding: .2rem .5rem; border: 1px solid #767676; text-align: left; vertical-align: top; }
-thead th { background: #eee; }
+thead th { background: #eee; overflow-wrap: normal; }
 .digest, .time { font-family: ui-monospace, monospace; }
 .fail { color: #900; font-weight: bold; text-decoration: underline; }
 pre { padding: .5rem; border: 1px solid #767676; overflow-x: auto; font: 12px/1.45 ui-monospace, monospace; }

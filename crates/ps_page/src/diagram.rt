@@ -1,7 +1,7 @@
 // The timing diagram of a case, and what changed in it in a table.
 
 use crate::drawing::{
-    LANE, Strip, TOP, add_lane, add_time, add_upright, add_words, event_of, value_at,
+    LANE, Strip, TOP, add_lane, add_ticks, add_time, add_upright, add_words, event_of, value_at,
 };
 use crate::marks::{Mark, marks_of};
 use crate::recording::{Course, MOST_MOMENTS, Moment, Recording};
@@ -112,6 +112,7 @@ fn add_frame(page: &mut Page, sheet: &Sheet<'_>, strip: &Strip<'_>) -> Result<()
         strip.height.saturating_sub(4),
         b"time in ms",
     )?;
+    add_ticks(page, sheet.alloc, strip)?;
     for (moment, place) in strip.moments.iter().zip(strip.places) {
         add_time(page, sheet.alloc, moment, place, strip)?;
         add_above(page, sheet, moment, place, strip)?;

@@ -85,22 +85,39 @@ pub(crate) fn add_upright(
     add_path(page, class, lines.as_slice())
 }
 
+/// An upright line at the beginning of each scan.
+pub(crate) fn add_ticks(page: &mut Page, alloc: Global, strip: &Strip<'_>) -> Result<(), Memory> {
+    let mut lines = Bytes::new(alloc);
+    for place in strip.places {
+        add_start(&mut lines, place.x, TOP - 4)?;
+        add_step(&mut lines, b"V", strip.height.saturating_sub(18))?;
+    }
+    add_path(page, b"tick", lines.as_slice())
+}
+
 // Where the line of a value is, below the top of its lane: high for TRUE.
 fn level_of(value: u16) -> u32 {
     if value == 0 { 19 } else { 5 }
 }
 
-// The line of a signal or a pin over scans.
+// The line of a signal or a pin over scans, with a step where its value changes.
 fn level_line(alloc: Global, lane: usize, top: u32, strip: &Strip<'_>) -> Result<Bytes, Memory> {
     let mut lines = Bytes::new(alloc);
+    let mut open: Option<(u32, u32)> = None;
     for (moment, place) in strip.moments.iter().zip(strip.places) {
         let y = top.saturating_add(level_of(value_at(moment, lane)));
-        if lines.len() == 0 {
-            add_start(&mut lines, place.x, y)?;
-        } else {
-            add_step(&mut lines, b"V", y)?;
+        match open {
+            None => add_start(&mut lines, place.x, y)?,
+            Some((level, end)) if level != y => {
+                add_step(&mut lines, b"H", end)?;
+                add_step(&mut lines, b"V", y)?;
+            }
+            Some(_) => (),
         }
-        add_step(&mut lines, b"H", place.end)?;
+        open = Some((y, place.end));
+    }
+    if let Some((_, end)) = open {
+        add_step(&mut lines, b"H", end)?;
     }
     Ok(lines)
 }
@@ -276,7 +293,6 @@ pub(crate) fn add_time(
 ) -> Result<(), Memory> {
     let mut words = Bytes::new(alloc);
     add_short(&mut words, moment.now)?;
-    add_upright(page, alloc, b"tick", place.x, strip)?;
     if place.is_broken {
         add_break(page, alloc, place, strip)?;
     }

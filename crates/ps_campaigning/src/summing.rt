@@ -112,8 +112,8 @@ pub fn sum<F: Files, O: Output>(
     ensures writes { O.faults out.old ≤ O.faults out.new }
     ensures telling { O.tells out.new ≡ O.tells out.old }
 {
-    if names.is_empty() {
-        return Ok(Status::Usage);
+    match names.split_first() {
+        Some((first, others)) => sum_named(alloc, files, out, *first, others),
+        None => Ok(Status::Usage),
     }
-    sum_named(alloc, files, out, names[0], &names[1..])
 }

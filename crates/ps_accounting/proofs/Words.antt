@@ -7,7 +7,7 @@ use Rattle.ps_bench_base.specs.Ending.{IsUnread, stop_at, stop_status}
 use Rattle.ps_bench_base.specs.Opening.{Source, source}
 use Rattle.ps_model.specs.Network.{Network}
 use Rattle.ps_model.specs.declared.channel.ImageSizes.{ImageSizes}
-use Rattle.ps_bench_base.specs.declared.ending.InputStop.TheVariants.{Refused, RulesRefused, LogRefused, OtherRefused, Unlike, Unread}
+use Rattle.ps_bench_base.specs.declared.ending.InputStop.TheVariants.{Refused, RulesRefused, LogRefused, SumRefused, OtherRefused, Unlike, Unread}
 use Rattle.ps_bench_base.specs.declared.ending.Stop.{Stop}
 use Rattle.ps_bench_base.specs.declared.ending.Stop.TheVariants.{App, Cases, UnreadApp, UnreadCases, Input, Unwritten, NoMemory}
 use Rattle.ps_accounting.specs.Adding.{AreScansAll, AreScansAt, StopsAmong}
@@ -58,6 +58,7 @@ status_at place (UnreadCases other) = refl
 status_at place (Input (Refused input refusal)) = refl
 status_at place (Input (RulesRefused refusal)) = refl
 status_at place (Input (LogRefused refusal)) = refl
+status_at place (Input (SumRefused refusal)) = refl
 status_at place (Input (OtherRefused refusal)) = refl
 status_at place (Input Unlike) = refl
 status_at place (Input (Unread input)) = refl

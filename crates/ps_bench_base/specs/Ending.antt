@@ -7,7 +7,7 @@ use Rattle.ps_bench_base.specs.declared.ending.Input.{Input as InputOf}
 use Rattle.ps_bench_base.specs.declared.ending.Input.TheVariants.{Trace, TraceAt, Faults, Rules, Log, Other}
 use Rattle.ps_bench_base.specs.declared.ending.InputStop.{InputStop}
 use Rattle.ps_bench_base.specs.declared.ending.InputStop.TheVariants.{Refused as IsRefused, RulesRefused, LogRefused}
-use Rattle.ps_bench_base.specs.declared.ending.InputStop.TheVariants.{Unread}
+use Rattle.ps_bench_base.specs.declared.ending.InputStop.TheVariants.{SumRefused, Unread}
 use Rattle.ps_bench_base.specs.declared.ending.InputStop.TheVariants.{OtherRefused, Unlike}
 use Rattle.ps_bench_base.specs.declared.ending.Stop.{Stop}
 use Rattle.ps_bench_base.specs.declared.ending.Stop.TheVariants.{App, Cases, UnreadApp, UnreadCases, Input}
@@ -29,6 +29,7 @@ abbrev pub input_stop_status : InputStop → Status
 input_stop_status (IsRefused input refusal) = BadInput
 input_stop_status (RulesRefused refusal) = BadInput
 input_stop_status (LogRefused refusal) = BadInput
+input_stop_status (SumRefused refusal) = BadInput
 input_stop_status (OtherRefused refusal) = Refused
 input_stop_status Unlike = Refused
 input_stop_status (Unread input) = ReadFault
@@ -71,6 +72,7 @@ abbrev pub input_stop_at : (place : ℕ) → InputStop → InputStop
 input_stop_at place (IsRefused input refusal) = IsRefused (input_at place input) refusal
 input_stop_at place (RulesRefused refusal) = RulesRefused refusal
 input_stop_at place (LogRefused refusal) = LogRefused refusal
+input_stop_at place (SumRefused refusal) = SumRefused refusal
 input_stop_at place (OtherRefused refusal) = OtherRefused refusal
 input_stop_at place Unlike = Unlike
 input_stop_at place (Unread input) = Unread (input_at place input)

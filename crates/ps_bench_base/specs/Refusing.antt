@@ -1,4 +1,4 @@
--- The line of a case file, of a rules file or of a log that is refused.
+-- The line of a case file, of a rules file, of a log or of a file of counts that is refused.
 use Rattle.std.specs.Prelude.{ℕ, List, ◌++◌, codes, decimal}
 use Rattle.ps_cases.specs.declared.rule.CaseRefusal.{CaseRefusal}
 use Rattle.ps_cases.specs.Parts.{rank}
@@ -6,6 +6,8 @@ use Rattle.ps_logs.specs.Log.{rank as log_rank}
 use Rattle.ps_logs.specs.declared.flaw.LogRefusal.{LogRefusal}
 use Rattle.ps_rules.specs.Parts.{rank as flaw_rank}
 use Rattle.ps_rules.specs.declared.flaw.RulesRefusal.{RulesRefusal}
+use Rattle.ps_totals.specs.Sums.{rank as sum_rank}
+use Rattle.ps_totals.specs.declared.refusal.SumRefusal.{SumRefusal}
 
 -- the line of a refusal, as `refused K2 line 3`
 abbrev pub refused_line : CaseRefusal → List ℕ
@@ -18,3 +20,7 @@ rules_refused_line r = codes "refused R" ++ decimal (flaw_rank r.flaw) ++ codes 
 -- the line of a refusal of a log, as `refused V2 line 1`
 abbrev pub log_refused_line : LogRefusal → List ℕ
 log_refused_line r = codes "refused V" ++ decimal (log_rank r.flaw) ++ codes " line " ++ decimal r.line ++ codes "\n"
+
+-- the line of a refusal of a file of counts, as `refused U2 line 1`
+abbrev pub sum_refused_line : SumRefusal → List ℕ
+sum_refused_line r = codes "refused U" ++ decimal (sum_rank r.rule) ++ codes " line " ++ decimal r.line ++ codes "\n"

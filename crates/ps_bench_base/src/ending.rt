@@ -9,6 +9,7 @@ use ps_cases::CaseRefusal;
 use ps_logs::LogRefusal;
 use ps_outside::{Failed, Stopped};
 use ps_rules::RulesRefusal;
+use ps_totals::SumRefusal;
 
 /// How a call of the program ended.
 #[derive(Clone, Copy)]
@@ -19,7 +20,8 @@ pub enum Status {
     Refused,
     /// The words are not taken.
     Usage,
-    /// A case file, a trace, a fault file, a rules file or a log is refused, by a rule K, T, F, R or V.
+    /// A case file, a trace, a fault file, a rules file, a log or a file of counts is refused, by a rule K, T, F, R, V or
+    /// U.
     BadInput,
     /// A case failed, and all were run; of `never`, a rule fails or stays open, and of `same`, an output differs or it
     /// stays open.
@@ -89,6 +91,8 @@ pub enum InputStop {
     RulesRefused(RulesRefusal),
     /// A rule V refuses the log.
     LogRefused(LogRefusal),
+    /// A rule U refuses a file of counts.
+    SumRefused(SumRefusal),
     /// A rule refuses the application with which another one is compared.
     OtherRefused(Refusal),
     /// The applications that are compared have not the same inputs and outputs, which is told.
@@ -103,9 +107,10 @@ impl InputStop {
         ensures { result ≡ input_stop_status self }
     {
         match self {
-            InputStop::Refused(..) | InputStop::RulesRefused(_) | InputStop::LogRefused(_) => {
-                Status::BadInput
-            }
+            InputStop::Refused(..)
+            | InputStop::RulesRefused(_)
+            | InputStop::LogRefused(_)
+            | InputStop::SumRefused(_) => Status::BadInput,
             InputStop::OtherRefused(_) | InputStop::Unlike => Status::Refused,
             InputStop::Unread(_) => Status::ReadFault,
         }
@@ -122,6 +127,7 @@ impl InputStop {
             ),
             InputStop::RulesRefused(refusal) => InputStop::RulesRefused(refusal),
             InputStop::LogRefused(refusal) => InputStop::LogRefused(refusal),
+            InputStop::SumRefused(refusal) => InputStop::SumRefused(refusal),
             InputStop::OtherRefused(refusal) => InputStop::OtherRefused(refusal),
             InputStop::Unlike => InputStop::Unlike,
             InputStop::Unread(input) => InputStop::Unread(input.at_place(place)),

@@ -3,8 +3,8 @@
 //! - `opening` is how a command comes to an application and to the cases of a file.
 //! - `meant` is what a word means that stands in the place of a trace.
 //! - `ending` has the numbers with which the program exits, and why a call stops.
-//! - `refusing` is the line of a case file, a rules file or a log that is refused, and how a call ends that refuses a
-//!   log.
+//! - `refusing` is the line of a case file, a rules file, a log or a file of counts that is refused, and how a call
+//!   ends that refuses a log.
 //! - `pieces` is pieces of what is told.
 #![tactic(auto)]
 
@@ -17,4 +17,6 @@ mod refusing;
 pub use ending::{Input, InputStop, Status, Stop, exit_code};
 pub use meant::{Part, Word, word_of};
 pub use opening::{Opened, open_app, open_cases, open_written_cases, refuse_app, sized};
-pub use refusing::{add_refusal, log_refused_line, refuse_log, refused_line, rules_refused_line};
+pub use refusing::{
+    add_refusal, log_refused_line, refuse_log, refused_line, rules_refused_line, sum_refused_line,
+};

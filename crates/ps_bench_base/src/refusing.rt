@@ -1,8 +1,9 @@
-// The line of a case file, of a rules file or of a log that is refused, and how a call ends that refuses a log.
+// The line of a case file, of a rules file, of a log or of a file of counts that is refused, and how a call ends that
+// refuses a log.
 
 ghost use Rattle.std.specs.Prelude.{◌≡◌, ◌≤◌, ◌++◌, IfOk, OnOk};
 ghost use Rattle.ps_bench_base.specs.Ending.{IsUnread};
-ghost use Rattle.ps_bench_base.specs.Refusing.{log_refused_line, refused_line, rules_refused_line};
+ghost use Rattle.ps_bench_base.specs.Refusing.{log_refused_line, refused_line, rules_refused_line, sum_refused_line};
 ghost use Rattle.ps_bench_base.specs.Stopping.{StopsAtLog};
 ghost use Rattle.ps_outside.specs.Outside.{Rose};
 
@@ -13,6 +14,7 @@ use ps_cases::CaseRefusal;
 use ps_logs::LogRefusal;
 use ps_outside::{Output, write_all};
 use ps_rules::RulesRefusal;
+use ps_totals::SumRefusal;
 use std::alloc::Global;
 
 /// The line of a refusal at the end of a text, as `refused K2 line 3`.
@@ -55,6 +57,19 @@ pub fn log_refused_line(alloc: Global, refusal: LogRefusal) -> Result<Bytes, Mem
     let mut text = Bytes::new(alloc);
     text.extend_from_slice(b"refused V")?;
     add_short(&mut text, u32::from(refusal.flaw.number()))?;
+    text.extend_from_slice(b" line ")?;
+    add_short(&mut text, refusal.line)?;
+    text.extend_from_slice(b"\n")?;
+    Ok(text)
+}
+
+/// The line of a refusal of a file of counts, as `refused U2 line 1`.
+pub fn sum_refused_line(alloc: Global, refusal: SumRefusal) -> Result<Bytes, Memory>
+    ensures { IfOk result (λ bytes. bytes ≡ sum_refused_line refusal) }
+{
+    let mut text = Bytes::new(alloc);
+    text.extend_from_slice(b"refused U")?;
+    add_short(&mut text, u32::from(refusal.rule.number()))?;
     text.extend_from_slice(b" line ")?;
     add_short(&mut text, refusal.line)?;
     text.extend_from_slice(b"\n")?;

@@ -33,6 +33,7 @@ pub data Asked : Type 0 where
   Never : (app rules : List ℕ) (states : ℕ) → Asked
   Same : (app other : List ℕ) (rules : Option (List ℕ)) (states : ℕ) → Asked
   Campaign : (app trace : List ℕ) (from count : ℕ) (channel : Option Channel) (print : Bool) → Asked
+  Sum : (files : List (List ℕ)) → Asked
   Report : (app : List ℕ) (cases : List (List ℕ)) (title : Option (List ℕ)) → Asked
   Live : (app : List ℕ) → Asked
   Page : Asked
@@ -175,6 +176,10 @@ campaign_asks rows = asks_by (number_of (value_of (codes "FROM") rows)) (λ from
     Campaign (value_of (codes "APP") rows) (value_of (codes "TRACE") rows) from count channel
     (nat_lt 0 (count_of (codes "print") rows)))))
 
+-- `sum`
+abbrev pub sum_asks : List Row → Asked
+sum_asks rows = Sum (values_of (codes "FILE") rows)
+
 -- `report`
 abbrev pub report_asks : List Row → Asked
 report_asks rows =
@@ -205,6 +210,7 @@ command_asks name rows =
     else if bytes_eq name (codes "never") then never_asks rows
     else if bytes_eq name (codes "same") then same_asks rows
     else if bytes_eq name (codes "campaign") then campaign_asks rows
+    else if bytes_eq name (codes "sum") then sum_asks rows
     else if bytes_eq name (codes "report") then report_asks rows
     else if bytes_eq name (codes "live") then live_asks rows
     else if bytes_eq name (codes "help") then help_asks (first_of (codes "COMMAND") rows)

@@ -28,7 +28,7 @@ flag name = record (new_rule name) { long = Some name; action = Some Count }
 abbrev pub required : Rule → Rule
 required rule = record rule { required = true }
 
--- APP, which each command but `help` has
+-- APP, which each command but `sum` and `help` has
 abbrev pub app : Rule
 app = required (word (codes "APP"))
 
@@ -76,6 +76,10 @@ abbrev pub campaign : Shape
 campaign = command (codes "campaign") (app ∷ required (word (codes "TRACE")) ∷ required (word (codes "FROM"))
     ∷ required (word (codes "COUNT")) ∷ option (codes "channel") ∷ flag (codes "print") ∷ [])
 
+-- `sum FILE..`
+abbrev pub sum : Shape
+sum = command (codes "sum") (required (words (codes "FILE")) ∷ [])
+
 -- `report APP CASES.. [--title TEXT]`
 abbrev pub report : Shape
 report = command (codes "report") (app ∷ required (words (codes "CASES")) ∷ option (codes "title") ∷ [])
@@ -90,8 +94,8 @@ help = command (codes "help") (word (codes "COMMAND") ∷ [])
 
 -- the commands of the program
 unfoldable pub commands : List Shape
-commands = test ∷ expand ∷ watch ∷ trace ∷ why ∷ cover ∷ never ∷ same ∷ campaign ∷ report ∷ live ∷ help
-    ∷ []
+commands = test ∷ expand ∷ watch ∷ trace ∷ why ∷ cover ∷ never ∷ same ∷ campaign ∷ sum ∷ report ∷ live
+    ∷ help ∷ []
 
 -- a command without subcommands
 abbrev pub leaf : Shape → App

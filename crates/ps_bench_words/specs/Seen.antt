@@ -6,12 +6,12 @@ use Rattle.clap.specs.Walk.{Rule}
 use Rattle.ps_bench_words.specs.Asking as asking
 use Rattle.ps_bench_words.specs.Asking.Asked.{Test as TestOf, Expand as ExpandOf, Watch as WatchOf, Trace as TraceOf}
 use Rattle.ps_bench_words.specs.Asking.Asked.{Why as WhyOf, Cover as CoverOf, Never as NeverOf, Same as SameOf, Live as LiveOf}
-use Rattle.ps_bench_words.specs.Asking.Asked.{Campaign as CampaignOf, Report as ReportOf}
+use Rattle.ps_bench_words.specs.Asking.Asked.{Campaign as CampaignOf, Sum as SumOf, Report as ReportOf}
 use Rattle.ps_bench_words.specs.Asking.Asked.{Page as PageOf, NotTaken as NotTakenOf}
 use Rattle.ps_bench_words.specs.Commands.{flag, option, word, words}
 use Rattle.ps_bench_words.specs.declared.asking.Asked.{Asked}
 use Rattle.ps_bench_words.specs.declared.asking.Asked.TheVariants.{Test, Expand, Watch, Trace, Why, Cover, Never, Same}
-use Rattle.ps_bench_words.specs.declared.asking.Asked.TheVariants.{Campaign, Report, Live, Page, NotTaken}
+use Rattle.ps_bench_words.specs.declared.asking.Asked.TheVariants.{Campaign, Sum, Report, Live, Page, NotTaken}
 use Rattle.ps_bench_words.specs.declared.forms.Argument.{Argument}
 use Rattle.ps_bench_words.specs.declared.forms.Form.{Form}
 use Rattle.ps_bench_words.specs.declared.forms.Given.{Given}
@@ -36,6 +36,7 @@ asked_seen (Never app rules states) = NeverOf app.now rules.now states
 asked_seen (Same app other rules states) =
     SameOf app.now other.now (option_map (λ name. name.now) rules) states
 asked_seen (Campaign app trace from count channel print) = CampaignOf app.now trace.now from count channel print
+asked_seen (Sum files) = SumOf (seen files.items)
 asked_seen (Report app cases title) = ReportOf app.now (seen cases.items) (option_map (λ text. text.now) title)
 asked_seen (Live app) = LiveOf app.now
 asked_seen (Page text) = PageOf

@@ -18,7 +18,7 @@ use crate::forms::{Form, all_forms};
 use crate::pages;
 use crate::reading::{
     Unread, campaign_in, cover_in, expand_in, given_in, live_in, never_in, report_in, same_in,
-    test_in, trace_in, watch_in, why_in,
+    sum_in, test_in, trace_in, watch_in, why_in,
 };
 use clap::error::ErrorKind;
 use clap::{ArgMatches, Command, Error};
@@ -125,6 +125,10 @@ pub enum Asked<'a> {
         /// Whether their faults are written.
         print: bool,
     },
+    /// `sum FILE..`
+    Sum {
+        files: Vec<&'a str>,
+    },
     /// `report APP CASES.. [--title TEXT]`
     Report {
         app: &'a str,
@@ -226,6 +230,7 @@ fn command_in<'a>(alloc: Global, name: &str, values: &ArgMatches<'a>) -> Result<
         "never" => never_in(values),
         "same" => same_in(values),
         "campaign" => campaign_in(values),
+        "sum" => sum_in(alloc, values),
         "report" => report_in(alloc, values),
         "live" => Ok(live_in(values)),
         "help" => help_in(alloc, given_in(values, "COMMAND")),

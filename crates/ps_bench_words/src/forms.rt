@@ -219,6 +219,13 @@ const PRINT: Argument = argument!(
     "Writes the fault of each trial first, as a line of a fault file"
 );
 
+// Files of counts.
+const COUNTS: Argument = required!(
+    "FILE",
+    Given::Words,
+    "What campaign or sum wrote, of one application and one trace, in any order"
+);
+
 // The title of a page.
 const TITLE: Argument = argument!(
     "title",
@@ -239,7 +246,7 @@ pub(crate) fn all_forms() -> &'static [Form]
 }
 
 // The same as a table.
-static FORMS: [Form; 12] = [
+static FORMS: [Form; 13] = [
     Form {
         name: "test",
         call: "plcsafe-bench test",
@@ -302,6 +309,13 @@ static FORMS: [Form; 12] = [
         about: "Runs a trace with one drawn fault a trial, and counts what finds the faults, and how soon",
         example: "Example: plcsafe-bench campaign press.st press.trace 0 10000",
         arguments: &[APP, TRACE, FROM, COUNT, CHANNEL, PRINT],
+    },
+    Form {
+        name: "sum",
+        call: "plcsafe-bench sum",
+        about: "Adds what campaigns counted in parts, which may be made on many machines",
+        example: "Example: plcsafe-bench sum first.counts second.counts",
+        arguments: &[COUNTS],
     },
     Form {
         name: "report",

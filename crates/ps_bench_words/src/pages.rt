@@ -17,7 +17,7 @@ pub(crate) const PROGRAM: &str =
 pub(crate) const PROGRAM_EXAMPLE: &str = "Example: plcsafe-bench test press.st press.cases\n\
     \n\
     Status: 0 all was done and every case passed, 1 an application is refused, 2 the words are not taken,\n\
-    3 a case file, trace, fault file, rules file or CSV is refused,\n\
+    3 a case file, trace, fault file, rules file, CSV or file of counts is refused,\n\
     4 a case failed, a rule does not hold, less was covered or a scan tripped,\n\
     5 a file cannot be read, 6 the output failed, 7 memory is wanting, 8 the words are no text";
 
@@ -47,5 +47,5 @@ pub(crate) const NO_PERCENT: &str = "PERCENT is a number from 0 to 100";
 
 /// A command that there is not.
 pub(crate) const NO_COMMAND: &str =
-    "there is no such command: COMMAND is test, expand, watch, trace, why, cover, never, same, campaign, report, live \
-    or help";
+    "there is no such command: COMMAND is test, expand, watch, trace, why, cover, never, same, campaign, sum, report, \
+    live or help";

@@ -305,6 +305,15 @@ pub(crate) fn campaign_in<'a>(values: &ArgMatches<'a>) -> Result<Asked<'a>, Unre
     })
 }
 
+/// What `sum` asks with what was given to it.
+pub(crate) fn sum_in<'a>(alloc: Global, values: &ArgMatches<'a>) -> Result<Asked<'a>, Unread>
+    ensures { IsAsked result (asking.sum_asks (rows_of (found_of values.now))) }
+{
+    Ok(Asked::Sum {
+        files: values_in(alloc, values, "FILE")?,
+    })
+}
+
 /// What `report` asks with what was given to it.
 pub(crate) fn report_in<'a>(alloc: Global, values: &ArgMatches<'a>) -> Result<Asked<'a>, Unread>
     ensures { IsAsked result (asking.report_asks (rows_of (found_of values.now))) }

@@ -6,3 +6,5 @@ pub mod Keeping
 pub mod Numbered
 -- what is told of the trials
 pub mod Ending
+-- counts that are added and written
+pub mod Summed

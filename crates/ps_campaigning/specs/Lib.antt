@@ -2,5 +2,7 @@
 pub mod Printing
 -- what `campaign` is asked, what it writes by that, and how it stops
 pub mod Asking
+-- what `sum` writes, and how it stops
+pub mod Summing
 -- apparatus: the trace that was read, by what is kept of it
 pub mod Recorded

@@ -35,8 +35,8 @@ pub struct Asked<'a> {
     pub print: bool,
 }
 
-// Writes a text, all of which is told.
-fn write_told<O: Output>(out: &mut O, text: &[u8]) -> Result<Status, Stop>
+/// Writes a text, all of which is told.
+pub(crate) fn write_told<O: Output>(out: &mut O, text: &[u8]) -> Result<Status, Stop>
     ensures all { IfOk result (λ status. (status ≡ Status.Done)
         × Took text.now (O.tells out.old) (O.taken out.old) (O.taken out.new)) }
     ensures some { IfErr result (λ stop. (stop ≡ Stop.Unwritten)

@@ -3,7 +3,7 @@ use Rattle.std.proofs.Common.{◌≡◌, ◌⊎◌, ◌∙◌, ℕ, Bool, List, 
 use Rattle.ps_bench_base.specs.Ending.{IsUnread, stop_at, stop_status}
 use Rattle.ps_bench_base.specs.Opening.{Source, source}
 use Rattle.ps_bench_base.specs.Stopping.{StopsAtCases}
-use Rattle.ps_bench_base.specs.declared.ending.InputStop.TheVariants.{LogRefused, OtherRefused, Refused, RulesRefused, Unlike, Unread}
+use Rattle.ps_bench_base.specs.declared.ending.InputStop.TheVariants.{LogRefused, OtherRefused, Refused, RulesRefused, SumRefused, Unlike, Unread}
 use Rattle.ps_bench_base.specs.declared.ending.Stop.{Stop}
 use Rattle.ps_bench_base.specs.declared.ending.Stop.TheVariants.{App, Cases, Input, NoMemory, UnreadApp, UnreadCases, Unwritten}
 use Rattle.ps_cases.specs.declared.rule.CaseRefusal.{CaseRefusal}
@@ -31,6 +31,7 @@ status_placed place (UnreadCases other) = refl
 status_placed place (Input (Refused input refusal)) = refl
 status_placed place (Input (RulesRefused refusal)) = refl
 status_placed place (Input (LogRefused refusal)) = refl
+status_placed place (Input (SumRefused refusal)) = refl
 status_placed place (Input (OtherRefused refusal)) = refl
 status_placed place (Input Unlike) = refl
 status_placed place (Input (Unread input)) = refl

@@ -2,3 +2,5 @@
 pub mod Growing
 -- lists that are added, and what is counted of trials in parts
 pub mod Adding
+-- counts all of which their text tells
+pub mod Plain

@@ -6,3 +6,4 @@ pub mod Adding
 pub mod Laws
 -- the counts as text
 pub mod Telling
+pub mod Plain

@@ -15,6 +15,6 @@ mod telling;
 
 pub use line::{FLOORS, Line};
 pub use outcome::Outcome;
-pub use reading::read_tally;
+pub use reading::{read_tally, seeming_tally};
 pub use tally::Tally;
 pub use telling::{add_number, add_tally};

@@ -1,7 +1,8 @@
 // The counts of trials, read from the lines that tell them.
 
-ghost use Rattle.std.specs.Prelude.{◌≡◌, ◌≤◌, ◌<◌, IfOk, IfSome, length};
-ghost use Rattle.ps_tally.specs.Telling.{tally_text};
+ghost use Rattle.std.specs.Prelude.{◌≡◌, ◌≤◌, ◌<◌, IfOk, IfSome, false, length};
+ghost use Rattle.ps_tally.specs.Plain.{ArePlain, IsPlain, of_count};
+ghost use Rattle.ps_tally.specs.Telling.{is_of_trips, tally_text};
 
 use crate::line::{FLOORS, Line};
 use crate::tally::Tally;
@@ -103,7 +104,9 @@ fn behind_name(text: &[u8], place: usize) -> Option<&[u8]> {
 }
 
 // The line of a place, without its end.
-fn read_counts(text: &[u8], place: usize) -> Option<Read<'_, Line>> {
+fn read_counts(text: &[u8], place: usize) -> Option<Read<'_, Line>>
+    ensures { IfSome result (λ read. is_of_trips place ≡ false → read.what ≡ of_count read.what.count) }
+{
     let count = read_number(behind_name(text, place)?);
     if is_of_trips(place) {
         return read_latencies(count.rest, count.what);
@@ -117,24 +120,43 @@ fn read_counts(text: &[u8], place: usize) -> Option<Read<'_, Line>> {
     })
 }
 
-// The line of a place; no trial where its name does not stand there.
-fn read_line(text: &[u8], place: usize) -> Option<Read<'_, Line>> {
+// The line of a place, which has a trial; none where no such line stands there.
+fn read_line(text: &[u8], place: usize) -> Option<Read<'_, Line>>
+    ensures { IfSome result (λ read. IsPlain read.what place) }
+{
     let counts = read_counts(text, place)?;
+    if counts.what.count == 0 {
+        return None;
+    }
+    let rest = counts.rest.strip_prefix(b"\n")?;
     Some(Read {
         what: counts.what,
-        rest: counts.rest.strip_prefix(b"\n")?,
+        rest,
     })
 }
 
-// The counts that lines tell, if they tell any.
-fn seeming_tally(alloc: Global, text: &[u8]) -> Result<Tally, Memory> {
+// Puts the line of a place, where it stands at the beginning of a text, and says what stands behind it.
+fn put_line<'a>(tally: &mut Tally, place: usize, text: &'a [u8]) -> &'a [u8]
+    requires { place < 24 }
+    ensures { ArePlain tally.old → ArePlain tally.new }
+{
+    match read_line(text, place) {
+        Some(line) => {
+            tally.put(place, line.what);
+            line.rest
+        }
+        None => text,
+    }
+}
+
+/// The counts that lines seem to tell: a line that stands where it may not is passed over, with all behind it.
+pub fn seeming_tally(alloc: Global, text: &[u8]) -> Result<Tally, Memory>
+    ensures { IfOk result ArePlain }
+{
     let mut tally = Tally::new(alloc)?;
     let mut rest = text;
     for place in 0..24 {
-        if let Some(line) = read_line(rest, place) {
-            tally.put(place, line.what);
-            rest = line.rest;
-        }
+        rest = put_line(&mut tally, place, rest);
     }
     Ok(tally)
 }
@@ -142,6 +164,7 @@ fn seeming_tally(alloc: Global, text: &[u8]) -> Result<Tally, Memory> {
 /// The counts that a text tells, as `add_tally` writes them. None: it is another text.
 pub fn read_tally(alloc: Global, text: &[u8]) -> Result<Option<Tally>, Memory>
     ensures told { IfOk result (λ read. IfSome read (λ tally. text.now ≡ tally_text tally)) }
+    ensures plain { IfOk result (λ read. IfSome read ArePlain) }
 {
     let tally = seeming_tally(alloc, text)?;
     let mut told = Bytes::new(alloc);

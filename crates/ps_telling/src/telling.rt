@@ -3,6 +3,7 @@
 use crate::advising::{MOST_LOOKED_AT, case_message};
 use crate::logged::log_message;
 use crate::ruled::rules_message;
+use crate::summed::sum_message;
 use ps_base::limits::{LARGEST_SOURCE, LARGEST_TRACE, LONGEST_FAULT_LINE, MOST_FAULT_LINES};
 use ps_base::{Bytes, Fail, Memory, Refusal, Rule};
 use ps_bench_base::pieces::add_shown;
@@ -15,6 +16,7 @@ use ps_model::ImageSizes;
 use ps_refused::refusal_of_app;
 use ps_source::accept_text;
 use ps_statuses::{NO_MEMORY, UNWRITTEN, Unread, unread_message};
+use ps_totals::{LARGEST_SUM, SumRefusal};
 use ps_world::World;
 use std::alloc::Global;
 
@@ -34,7 +36,7 @@ pub struct Names<'a> {
     pub cases: &'a [&'a str],
     /// The word in the place of a trace; empty of a call whose trace comes by standard input.
     pub trace: &'a str,
-    /// The words in the place of traces, of a call that names several.
+    /// The words in the place of traces, of a call that names several; of one that adds counts, their files.
     pub traces: &'a [&'a str],
     /// The fault file.
     pub faults: &'a str,
@@ -228,6 +230,24 @@ fn input_refused<L: Listener>(
     )
 }
 
+// The message of a refusal of a file of counts.
+fn sum_refused<L: Listener>(
+    alloc: Global,
+    listener: &L,
+    names: &Names<'_>,
+    refusal: SumRefusal,
+) -> Result<Bytes, Memory> {
+    let name = name_at(names.traces, refusal.place);
+    let text = listener.text_of(alloc, name, LARGEST_SUM + 1);
+    sum_message(
+        alloc,
+        name_at(names.traces, 0),
+        name.as_bytes(),
+        text.as_slice(),
+        refusal,
+    )
+}
+
 // What is told of a call that stopped at what a run or a search is made of.
 fn input_message<L: Listener>(
     alloc: Global,
@@ -261,6 +281,7 @@ fn input_message<L: Listener>(
                 refusal,
             )
         }
+        InputStop::SumRefused(refusal) => sum_refused(alloc, listener, names, refusal),
         InputStop::OtherRefused(refusal) => app_refused(alloc, listener, names.other, &refusal),
         InputStop::Unlike => Ok(Bytes::new(alloc)),
         InputStop::Unread(input) if is_fed(names, input) => {

@@ -2,3 +2,5 @@
 mod Held
 -- files that are added one after another
 pub mod Behind
+-- files that are added in any order
+pub mod Orders

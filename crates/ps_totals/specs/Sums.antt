@@ -1,14 +1,44 @@
 -- What campaigns wrote, read again and added.
-use Rattle.std.specs.Prelude.{◌≡◌, ◌≢◌, ℕ, List}
+use Rattle.std.specs.Prelude.{◌≡◌, ◌≢◌, ◌≤◌, ℕ, List, length}
 use Rattle.ps_tally.specs.Adding.{added}
+use Rattle.ps_tally.specs.Plain.{ArePlain}
 use Rattle.ps_totals.specs.Totals.{totals_text}
-use Rattle.ps_totals.specs.declared.summing.Flaw.{Flaw}
-use Rattle.ps_totals.specs.declared.summing.Flaw.TheVariants.{Application, Trace}
+use Rattle.ps_totals.specs.declared.adding.SumStop.{SumStop}
+use Rattle.ps_totals.specs.declared.adding.SumStop.TheVariants.{Unread, Refused, NoMemory}
+use Rattle.ps_totals.specs.declared.refusal.SumRule.{SumRule}
+use Rattle.ps_totals.specs.declared.refusal.SumRule.TheVariants.{U1, U2, U3}
+use Rattle.ps_totals.specs.declared.summing.TheConstants.{LARGEST_SUM}
 use Rattle.ps_totals.specs.declared.summing.Totals.{Totals}
+
+-- the number of a rule
+abbrev pub rank : SumRule → ℕ
+rank U1 = 1
+rank U2 = 2
+rank U3 = 3
+
+-- the line of the head that a rule is about
+abbrev pub head_line : SumRule → ℕ
+head_line U1 = 1
+head_line U2 = 1
+head_line U3 = 2
 
 -- the text that tells these counts
 abbrev pub text_of : Totals → List ℕ
 text_of totals = totals_text totals.app totals.trace totals.tally
+
+-- the text tells these counts, and all of them
+abbrev pub IsTold : (text : List ℕ) → Totals → Type 0
+IsTold text totals = (text ≡ text_of totals) × ArePlain totals.tally
+
+-- the same of a text that is no longer than a file may be
+abbrev pub IsWholly : (text : List ℕ) → Totals → Type 0
+IsWholly text totals = (length text ≤ LARGEST_SUM) × IsTold text totals
+
+-- a text is not added for its form, or for want of memory
+abbrev pub IsOfForm : SumStop → Type 0
+IsOfForm (Unread place) = ⊥
+IsOfForm (Refused refusal) = refusal.rule ≡ U1
+IsOfForm NoMemory = Unit {0}
 
 -- others of the same application and the same trace add their counts
 pub record Adds (before more after : Totals) : Type 0 where
@@ -17,6 +47,7 @@ pub record Adds (before more after : Totals) : Type 0 where
   pub counts : after.tally ≡ added before.tally more.tally
 
 -- others are not added that are of another application or another trace
-abbrev pub IsFlaw : Flaw → (before more : Totals) → Type 0
-IsFlaw Application before more = more.app ≢ before.app
-IsFlaw Trace before more = (more.app ≡ before.app) × (more.trace ≢ before.trace)
+abbrev pub IsFlaw : SumRule → (before more : Totals) → Type 0
+IsFlaw U1 before more = ⊥
+IsFlaw U2 before more = more.app ≢ before.app
+IsFlaw U3 before more = (more.app ≡ before.app) × (more.trace ≢ before.trace)

@@ -1,12 +1,17 @@
 // What campaigns wrote, read again and added.
 
-ghost use Rattle.std.specs.Prelude.{◌≡◌, IfErr, IfOk, IfSome, OnOk};
-ghost use Rattle.ps_totals.specs.Sums.{Adds, IsFlaw, text_of};
+ghost use Rattle.std.specs.Prelude.{◌≡◌, ◌×◌, IfErr, IfOk, IfSome, IsTrue, OnOk};
+ghost use Rattle.ps_tally.specs.Plain.{ArePlain};
+ghost use Rattle.ps_totals.specs.Sums.{Adds, IsFlaw, IsTold, text_of};
 
+use crate::refusal::SumRule;
 use crate::telling::add_totals;
 use ps_base::{Bytes, Memory};
-use ps_tally::{Tally, read_tally};
+use ps_tally::{Tally, read_tally, seeming_tally};
 use std::alloc::Global;
+
+/// As many bytes as a file that is added may have: a head and all lines have fewer.
+pub const LARGEST_SUM: u32 = 65_536;
 
 /// What a campaign wrote.
 pub struct Totals {
@@ -29,15 +34,6 @@ impl Drop for Totals {
     }
 }
 
-/// Why counts are not added.
-#[derive(Clone, Copy, Debug, PartialEq, Eq)]
-pub enum Flaw {
-    /// They are of another application.
-    Application,
-    /// They are of another trace.
-    Trace,
-}
-
 // What a text seems to tell: two names of so many digits, and lines of counts.
 #[derive(Clone, Copy)]
 struct Parts<'a> {
@@ -46,24 +42,44 @@ struct Parts<'a> {
     lines: &'a [u8],
 }
 
+// Whether bytes are small hexadecimal digits.
+fn are_digits(name: &[u8]) -> bool {
+    for byte in name {
+        if !(byte.is_ascii_digit() || (b'a' <= *byte && *byte <= b'f')) {
+            return false;
+        }
+    }
+    true
+}
+
 // The digits of a name, and what stands behind its line.
 fn name_at(text: &[u8]) -> Option<(&[u8], &[u8])> {
     if text.len() < 64 {
         return None;
     }
     let (name, rest) = text.split_at(64);
+    if !are_digits(name) {
+        return None;
+    }
     Some((name, rest.strip_prefix(b"\n")?))
+}
+
+// What names the application, and what stands behind its line.
+fn first_line(text: &[u8]) -> Option<(&[u8], &[u8])> {
+    name_at(text.strip_prefix(b"application ")?)
 }
 
 // The parts of a text.
 fn parts_of(text: &[u8]) -> Option<Parts<'_>> {
-    let (app, text) = name_at(text.strip_prefix(b"application ")?)?;
+    let (app, text) = first_line(text)?;
     let (trace, lines) = name_at(text.strip_prefix(b"trace ")?)?;
     Some(Parts { app, trace, lines })
 }
 
 // What the parts of a text tell, if they tell anything.
-fn seeming_totals(alloc: Global, parts: &Parts<'_>) -> Result<Option<Totals>, Memory> {
+fn seeming_totals(alloc: Global, parts: &Parts<'_>) -> Result<Option<Totals>, Memory>
+    ensures { IfOk result (λ read. IfSome read (λ totals. ArePlain totals.tally)) }
+{
     match read_tally(alloc, parts.lines)? {
         Some(tally) => Ok(Some(Totals {
             app: Bytes::from_slice(alloc, parts.app)?,
@@ -74,9 +90,9 @@ fn seeming_totals(alloc: Global, parts: &Parts<'_>) -> Result<Option<Totals>, Me
     }
 }
 
-// The same, if the text tells just that.
-fn told_by(alloc: Global, totals: Totals, text: &[u8]) -> Result<Option<Totals>, Memory>
-    ensures { IfOk result (λ read. IfSome read (λ told. text.now ≡ text_of told)) }
+// Whether a text tells just this.
+fn is_told(alloc: Global, totals: &Totals, text: &[u8]) -> Result<bool, Memory>
+    ensures { IfOk result (λ told. IsTrue told → text.now ≡ text_of totals.now) }
 {
     let mut told = Bytes::new(alloc);
     add_totals(
@@ -85,40 +101,67 @@ fn told_by(alloc: Global, totals: Totals, text: &[u8]) -> Result<Option<Totals>,
         totals.trace.as_slice(),
         &totals.tally,
     )?;
-    if told.as_slice() == text {
+    Ok(told.as_slice() == text)
+}
+
+/// What a text tells, as `add_totals` writes it. None: it is another text.
+pub fn read_totals(alloc: Global, text: &[u8]) -> Result<Option<Totals>, Memory>
+    ensures told { IfOk result (λ read. IfSome read (IsTold text.now)) }
+{
+    let parts = match parts_of(text) {
+        Some(parts) => parts,
+        None => return Ok(None),
+    };
+    let totals = match seeming_totals(alloc, &parts)? {
+        Some(totals) => totals,
+        None => return Ok(None),
+    };
+    if is_told(alloc, &totals, text)? {
         Ok(Some(totals))
     } else {
         Ok(None)
     }
 }
 
-/// What a text tells, as `add_totals` writes it. None: it is another text.
-pub fn read_totals(alloc: Global, text: &[u8]) -> Result<Option<Totals>, Memory>
-    ensures told { IfOk result (λ read. IfSome read (λ told. text.now ≡ text_of told)) }
-{
+// The line of a text, counted from 1, that is the first in which it differs from another one.
+fn differing_line(text: &[u8], other: &[u8]) -> u32 {
+    let mut line: u32 = 1;
+    for place in 0..text.len() {
+        if place >= other.len() || text[place] != other[place] {
+            return line;
+        }
+        if text[place] == b'\n' {
+            line = line.saturating_add(1);
+        }
+    }
+    line
+}
+
+/// The line, counted from 1, in which a text is the first time not as a campaign would write what it seems to tell.
+pub(crate) fn flawed_line(alloc: Global, text: &[u8]) -> Result<u32, Memory> {
     let parts = match parts_of(text) {
         Some(parts) => parts,
-        None => return Ok(None),
+        None => return Ok(if first_line(text).is_some() { 2 } else { 1 }),
     };
-    match seeming_totals(alloc, &parts)? {
-        Some(totals) => told_by(alloc, totals, text),
-        None => Ok(None),
-    }
+    let tally = seeming_tally(alloc, parts.lines)?;
+    let mut told = Bytes::new(alloc);
+    add_totals(&mut told, parts.app, parts.trace, &tally)?;
+    Ok(differing_line(text, told.as_slice()))
 }
 
 impl Totals {
-    /// Adds the counts of others of the same application and the same trace. An error says of which of the two they are
-    /// another one, and then nothing changed. It takes no memory.
-    pub fn add(&mut self, more: &Totals) -> Result<(), Flaw>
+    /// Adds the counts of others of the same application and the same trace. An error is the rule U2 or U3, and then
+    /// nothing changed. It takes no memory.
+    pub fn add(&mut self, more: &Totals) -> Result<(), SumRule>
         ensures adds { OnOk result (Adds self.old more.now self.new) }
-        ensures kept { IfErr result (λ flaw. self.new ≡ self.old) }
-        ensures flaw { IfErr result (λ flaw. IsFlaw flaw self.old more.now) }
+        ensures kept { IfErr result (λ rule. self.new ≡ self.old) }
+        ensures flaw { IfErr result (λ rule. IsFlaw rule self.old more.now) }
     {
         if more.app.as_slice() != self.app.as_slice() {
-            return Err(Flaw::Application);
+            return Err(SumRule::U2);
         }
         if more.trace.as_slice() != self.trace.as_slice() {
-            return Err(Flaw::Trace);
+            return Err(SumRule::U3);
         }
         self.tally.add(&more.tally);
         Ok(())

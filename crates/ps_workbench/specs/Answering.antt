@@ -2,10 +2,11 @@
 use Rattle.std.specs.Prelude.{◌≡◌, ◌⊎◌, ℕ, Bool, IsTrue, List, [], ◌∷◌, ◌++◌, Any, map, Option, Some, None}
 use Rattle.ps_bench_words.specs.Asking.{Asked}
 use Rattle.ps_bench_words.specs.Asking.Asked.{Test, Expand, Watch, Trace, Why, Cover, Never, Same, Campaign, Live}
-use Rattle.ps_bench_words.specs.Asking.Asked.{Report, Page, NotTaken}
+use Rattle.ps_bench_words.specs.Asking.Asked.{Sum, Report, Page, NotTaken}
 use Rattle.ps_accounting.specs.Asking.{AnswersCover, StopsCover, Wanted as Covered}
 use Rattle.ps_campaigning.specs.Asking as campaigning
 use Rattle.ps_campaigning.specs.Asking.{AnswersCampaign, StopsCampaign}
+use Rattle.ps_campaigning.specs.Summing.{AnswersSum, StopsSum}
 use Rattle.ps_cases.specs.Expanded.{expanded}
 use Rattle.ps_cases.specs.declared.case.CaseFile.{CaseFile}
 use Rattle.ps_comparing.specs.Asking.{AnswersSame, StopsSame}
@@ -80,6 +81,8 @@ Answers (Same app other rules states) input reading held status tells before aft
     AnswersSame app other rules states reading held tells before after status
 Answers (Campaign app trace from count channel print) input reading held status tells before after =
     AnswersCampaign app (tried_of trace from count channel print) reading held tells before after status
+Answers (Sum files) input reading held status tells before after =
+    AnswersSum files reading held tells before after status
 Answers (Report app cases title) input reading held status tells before after =
     AnswersReport app cases reading held tells before after status
 Answers (Live app) input reading held status tells before after =
@@ -108,6 +111,8 @@ Stops (Same app other rules states) input reading held stop tells before after =
     StopsSame app other rules states reading held tells before after stop
 Stops (Campaign app trace from count channel print) input reading held stop tells before after =
     StopsCampaign app (tried_of trace from count channel print) reading held tells before after stop
+Stops (Sum files) input reading held stop tells before after =
+    StopsSum files reading held tells before after stop
 Stops (Report app cases title) input reading held stop tells before after =
     StopsReport app cases reading held tells before after stop
 Stops (Live app) input reading held stop tells before after =
@@ -140,6 +145,7 @@ names_of (Cover app traces output least ideas) = app ∷ map file_meant traces
 names_of (Never app rules states) = app ∷ rules ∷ []
 names_of (Same app other rules states) = app ∷ other ∷ file_of rules
 names_of (Campaign app trace from count channel print) = app ∷ file_meant trace ∷ []
+names_of (Sum files) = files
 names_of (Report app cases title) = app ∷ cases
 names_of (Live app) = app ∷ []
 names_of Page = []

@@ -16,7 +16,7 @@ use ps_accounting::{CoverAsked, cover};
 use ps_base::Memory;
 use ps_bench_base::{Status, Stop, exit_code};
 use ps_bench_words::{Asked, asked_of, texts_of};
-use ps_campaigning::{CampaignAsked, campaign};
+use ps_campaigning::{CampaignAsked, campaign, sum};
 use ps_comparing::{SameAsked, same};
 use ps_explaining::{WhyAsked, why};
 use ps_forbidding::{NeverAsked, never};
@@ -196,6 +196,7 @@ fn do_asked<F: Files, I: Stream, O: Output, L: Listener>(
             };
             campaign(alloc, files, out, listener, &asked)
         }
+        Asked::Sum { files: names } => sum(alloc, files, out, names.as_slice()),
         Asked::Report { app, cases, title } => {
             let asked = ReportAsked {
                 app: *app,
@@ -269,6 +270,10 @@ fn names_in<'a>(asked: &'a Asked<'a>) -> Names<'a> {
         Asked::Campaign { app, trace, .. } => Names {
             trace: *trace,
             ..Names::of_app(*app)
+        },
+        Asked::Sum { files } => Names {
+            traces: files.as_slice(),
+            ..Names::of_app("")
         },
         Asked::Report { app, cases, .. } => Names {
             cases: cases.as_slice(),

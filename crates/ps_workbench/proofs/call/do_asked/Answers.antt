@@ -13,6 +13,7 @@ use Rattle.ps_reporting.specs.Asking.{AnswersReport, StopsReport}
 use Rattle.ps_tester.specs.Stopping.{StopsTesting}
 use Rattle.ps_tester.proofs.Stopped.{err_is}
 use Rattle.ps_accounting.specs.Asking.{AnswersCover, StopsCover}
+use Rattle.ps_campaigning.specs.Summing.{AnswersSum, StopsSum}
 use Rattle.ps_workbench.specs.Answering.{Answers, IsUnreadBy, Stops, covered_of, wanted_of}
 use Rattle.ps_workbench.proofs.Risen.{risen_any}
 use Rattle.ps_watching.specs.Asking.{AnswersWatch, StopsWatch}
@@ -238,3 +239,29 @@ returns-in-Report-clause-unread g c =
     (subst (λ (cases : List (Bor (List ℕ))). IfErr c.report.result (λ stop. IsUnread stop → Any (λ (name : List ℕ).
     Rose (g.F.Files.faults c.args.files.now name) (g.F.Files.faults c.report.new.files name)) (c.in-Report.app.now ∷ seen cases)))
     c.as_slice-in-Report.ensures.value c.report.ensures.unread)
+
+pub returns-in-Sum-clause-answers : goal.returns-in-Sum-clause-answers
+returns-in-Sum-clause-answers g c =
+    subst (λ (asked : Asked). IfOk c.sum.result (λ status. Answers (asked_seen asked) (fed (g.I.Stream.tells c.args.input.now) (g.I.Stream.coming c.args.input.now) (g.I.Stream.coming c.args.input.now))
+    (g.F.Files.tells c.args.files.now) (g.F.Files.held c.args.files.now)
+    status (g.O.Sink.tells c.args.out.now) (g.O.Sink.taken c.args.out.now) (g.O.Sink.taken c.sum.new.out))) (sym c.in-Sum.is)
+    (subst (λ (names : List (Bor (List ℕ))). IfOk c.sum.result (λ status. AnswersSum (seen names) (g.F.Files.tells c.args.files.now) (g.F.Files.held c.args.files.now)
+    (g.O.Sink.tells c.args.out.now) (g.O.Sink.taken c.args.out.now) (g.O.Sink.taken c.sum.new.out) status))
+    c.as_slice-in-Sum.ensures.value c.sum.ensures.answers)
+
+pub returns-in-Sum-clause-stops : goal.returns-in-Sum-clause-stops
+returns-in-Sum-clause-stops g c =
+    subst (λ (asked : Asked). IfErr c.sum.result (λ stop. Stops (asked_seen asked) (fed (g.I.Stream.tells c.args.input.now) (g.I.Stream.coming c.args.input.now) (g.I.Stream.coming c.args.input.now))
+    (g.F.Files.tells c.args.files.now) (g.F.Files.held c.args.files.now)
+    stop (g.O.Sink.tells c.args.out.now) (g.O.Sink.taken c.args.out.now) (g.O.Sink.taken c.sum.new.out))) (sym c.in-Sum.is)
+    (subst (λ (names : List (Bor (List ℕ))). IfErr c.sum.result (λ stop. StopsSum (seen names) (g.F.Files.tells c.args.files.now) (g.F.Files.held c.args.files.now)
+    (g.O.Sink.tells c.args.out.now) (g.O.Sink.taken c.args.out.now) (g.O.Sink.taken c.sum.new.out) stop))
+    c.as_slice-in-Sum.ensures.value c.sum.ensures.stops)
+
+pub returns-in-Sum-clause-unread : goal.returns-in-Sum-clause-unread
+returns-in-Sum-clause-unread g c =
+    subst (λ (asked : Asked). IfErr c.sum.result (λ stop. IsUnread stop → IsUnreadBy (asked_seen asked)
+    (g.F.Files.faults c.args.files.now) (g.F.Files.faults c.sum.new.files) (g.I.Stream.faults c.args.input.now) (g.I.Stream.faults c.args.input.now))) (sym c.in-Sum.is)
+    (subst (λ (names : List (Bor (List ℕ))). IfErr c.sum.result (λ stop. IsUnread stop → Any (λ (name : List ℕ).
+    Rose (g.F.Files.faults c.args.files.now name) (g.F.Files.faults c.sum.new.files name)) (seen names)))
+    c.as_slice-in-Sum.ensures.value c.sum.ensures.unread)

@@ -1,0 +1,106 @@
+-- Counts that are added and written.
+use Rattle.std.proofs.Common.{◌≡◌, ◌∙◌, ◌⊎◌, inl, inr, ℕ, ◌+◌, Bool, IsTrue, List, [], ◌∷◌, Any, Option, Some, Result, Ok, Err, refl, sym, ap, subst, arith}
+use Rattle.std.specs.Prelude.{IfErr, IfOk, sum}
+use Rattle.ps_bench_base.specs.Ending.{IsUnread}
+use Rattle.ps_bench_base.specs.Stopping.{Took, TookSome}
+use Rattle.ps_bench_base.specs.declared.ending.Status.{Status}
+use Rattle.ps_bench_base.specs.declared.ending.Status.TheVariants.{Done}
+use Rattle.ps_bench_base.specs.declared.ending.Stop.{Stop}
+use Rattle.ps_bench_base.specs.declared.ending.Stop.TheVariants.{Unwritten}
+use Rattle.ps_model.specs.Meaning.{Item}
+use Rattle.ps_model.specs.Network.{Network}
+use Rattle.ps_tally.proofs.Plain.{all_plain, none_plain}
+use Rattle.ps_tally.specs.Plain.{ArePlain}
+use Rattle.ps_tally.specs.declared.line.Line.{Line}
+use Rattle.ps_totals.specs.Files.{AddsFiles, IsSum, Tells}
+use Rattle.ps_totals.specs.Sums.{text_of}
+use Rattle.ps_totals.specs.declared.summing.Totals.{Totals}
+use Rattle.ps_trialed.proofs.Parts.{parts_are_whole}
+use Rattle.ps_trialed.specs.Campaigns.{campaign}
+use Rattle.ps_trials.specs.declared.drawing.Room.{Room}
+use Rattle.ps_world.specs.Worlds.{Machines}
+use Rattle.ps_campaigning.specs.Summing.{AnswersNames, AnswersSum, ArePartsFrom, PartsSumUp, StopsSum, Writes, part_text}
+
+-- ---- what is written
+
+-- a text that is written to its end, or up to where its writing stopped
+pub written : (total : Totals) (text : List ℕ) (tells : Bool) (before after : List ℕ) (ended : Result Status Stop) → text ≡ text_of total →
+    IfOk ended (λ status. (status ≡ Done) × Took text tells before after) →
+    IfErr ended (λ stop. (stop ≡ Unwritten) × TookSome text tells before after) → Writes total tells before after ended
+written total text tells before after (Ok status) is all some =
+    (all.0, subst (λ (t : List ℕ). Took t tells before after) is all.1)
+written total text tells before after (Err stop) is all some =
+    inl (some.0, subst (λ (t : List ℕ). TookSome t tells before after) is some.1)
+
+-- a sum that was written
+pub told : (names : List (List ℕ)) (reading : Bool) (held : List ℕ → Option (List ℕ)) (total : Totals) (tells : Bool) (before after : List ℕ)
+    (ended : Result Status Stop) → (IsTrue reading → IsSum held names total) → Writes total tells before after ended →
+    AnswersNames names reading held tells before after ended
+told names reading held total tells before after (Ok status) sums writes = inl (total, sums, writes)
+told names reading held total tells before after (Err stop) sums (inl (is, some)) = inr (inl (total, sums, is, some))
+told names reading held total tells before after (Err stop) sums (inr (is, none)) = inr (inr (inr is, none))
+
+-- what `sum` answers, and how it stops, by the names as they are given
+pub answered : (names given : List (List ℕ)) (reading : Bool) (held : List ℕ → Option (List ℕ)) (tells : Bool) (before after : List ℕ)
+    (ended : Result Status Stop) → given ≡ names → AnswersNames given reading held tells before after ended →
+    IfOk ended (AnswersSum names reading held tells before after)
+answered names given reading held tells before after (Ok status) is answers =
+    subst (λ (ns : List (List ℕ)). AnswersSum ns reading held tells before after status) is answers
+answered names given reading held tells before after (Err stop) is answers = tt
+
+pub stopped : (names given : List (List ℕ)) (reading : Bool) (held : List ℕ → Option (List ℕ)) (tells : Bool) (before after : List ℕ)
+    (ended : Result Status Stop) → given ≡ names → AnswersNames given reading held tells before after ended →
+    IfErr ended (StopsSum names reading held tells before after)
+stopped names given reading held tells before after (Ok status) is answers = tt
+stopped names given reading held tells before after (Err stop) is answers =
+    subst (λ (ns : List (List ℕ)). StopsSum ns reading held tells before after stop) is answers
+
+-- ---- parts of the trials
+
+module _ (net : Network) (m : Machines) (items : List Item) (room : Room) (app trace : List ℕ) (held : List ℕ → Option (List ℕ)) where
+  -- what a campaign counts of so many trials from a number on
+  of_part : (from count : ℕ) → Totals
+  of_part from count = record { app = app; trace = trace; tally = campaign net m items room from count }
+
+  part_plain : (from count : ℕ) → ArePlain (campaign net m items room from count)
+  part_plain from count = all_plain _ _ none_plain
+
+  part_told : (name : List ℕ) (from count : ℕ) → held name ≡ Some (part_text net m items room app trace from count) →
+      Tells (held name) (of_part from count)
+  part_told name from count is = (part_text net m items room app trace from count, is, refl, part_plain from count)
+
+  -- parts behind those from a number on
+  parts_behind : (from done : ℕ) (names : List (List ℕ)) (counts : List ℕ) →
+      ArePartsFrom held (part_text net m items room app trace) (from + done) names counts →
+      AddsFiles held names (of_part from done) (of_part from (done + sum counts))
+  parts_behind from done [] [] parts = let e : done + 0 ≡ done = omega arith in ap (of_part from) e
+  parts_behind from done [] (count ∷ counts) parts = absurd parts
+  parts_behind from done (name ∷ names) [] parts = absurd parts
+  parts_behind from done (name ∷ names) (count ∷ counts) (is, rest) =
+      let on : (from + done) + count ≡ from + (done + count) = omega arith in
+      let all : (done + count) + sum counts ≡ done + (count + sum counts) = omega arith in (
+        of_part from (done + count),
+        (
+          of_part (from + done) count,
+          part_told name (from + done) count is,
+          record {
+            app = (refl, refl);
+            trace = (refl, refl);
+            counts = parts_are_whole net m items room from done count;
+          },
+        ),
+        subst (λ (n : ℕ). AddsFiles held names (of_part from (done + count)) (of_part from n)) all
+            (parts_behind from (done + count) names counts
+            (subst (λ (n : ℕ). ArePartsFrom held (part_text net m items room app trace) n names counts) on rest)),
+      )
+
+pub parts_sum_up : PartsSumUp
+parts_sum_up net m items room app trace held from count counts name names (is, rest) = (
+  of_part net m items room app trace held from (count + sum counts),
+  (
+    of_part net m items room app trace held from count,
+    part_told net m items room app trace held name from count is,
+    parts_behind net m items room app trace held from count names counts rest,
+  ),
+  refl,
+)

@@ -80,9 +80,9 @@ campaign = command (codes "campaign") (app ∷ required (word (codes "TRACE")) �
 abbrev pub report : Shape
 report = command (codes "report") (app ∷ required (words (codes "CASES")) ∷ option (codes "title") ∷ [])
 
--- `live APP`
+-- `live APP [--names]`
 abbrev pub live : Shape
-live = command (codes "live") (app ∷ [])
+live = command (codes "live") (app ∷ flag (codes "names") ∷ [])
 
 -- `help [COMMAND]`
 abbrev pub help : Shape

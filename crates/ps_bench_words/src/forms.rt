@@ -219,6 +219,13 @@ const PRINT: Argument = argument!(
     "Writes the fault of each trial first, as a line of a fault file"
 );
 
+// Whether scans are told by name.
+const NAMED: Argument = argument!(
+    "names",
+    Given::Flag,
+    "Tells what changes by name, as watch does, in place of the lines of reports"
+);
+
 // The title of a page.
 const TITLE: Argument = argument!(
     "title",
@@ -315,7 +322,7 @@ static FORMS: [Form; 12] = [
         call: "plcsafe-bench live",
         about: "Runs a trace that comes at standard input, and answers each scan before it reads on",
         example: "Example: plcsafe-bench live press.st < press.trace",
-        arguments: &[APP],
+        arguments: &[APP, NAMED],
     },
     Form {
         name: "help",

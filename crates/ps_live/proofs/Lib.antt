@@ -3,3 +3,4 @@ pub mod Coming
 mod Going
 mod Quiet
 mod Ran
+mod Told

@@ -3,5 +3,6 @@
 pub mod Asking
 pub mod Living
 pub mod Fault
--- what is done of the lines of a stream
+-- what is done of the lines of a stream, and by whom
 pub mod Answering
+pub mod Telling

@@ -4,3 +4,4 @@ mod Going
 mod Quiet
 mod Ran
 mod Told
+mod Watched

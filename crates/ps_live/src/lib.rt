@@ -4,7 +4,7 @@
 //! - `teller`: who makes the scans of an application in both channels, and tells of them by report lines or by name.
 //! - `living`: a run of a stream.
 //! - `running`: `live APP [--names]`.
-//! - `laws`: what is written of lines is what `run` and `fault` write of a trace with these lines.
+//! - `laws`: what is written of lines is what `run` and `fault`, or by name `watch`, write of a trace with these lines.
 #![tactic(auto)]
 
 mod answering;

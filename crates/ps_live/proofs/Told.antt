@@ -51,17 +51,13 @@ pub none_refused_beside : (net : Network) (p : Watched StruckWorld) (item : Item
     Watches Performs net p item (refuses refusal) after → ⊥
 none_refused_beside net p item after refusal watches = none_refused net p.performer item after.performer refusal watches.done
 
--- whoever takes the lines of a run takes every outcome
-abbrev pub takes_any : {T : Type 0} → T → Outcome Verdict → T → Type 0
-takes_any t outcome t' = ⊤
-
 -- a run that is told by report lines
 pub lines_come : {T : Type 0} (net : Network) (p after : StruckWorld) (t t' : T) (first : IsBeginning net p) → p.faults ≡ [] →
     (time : ℕ) (scans : Scans) (bytes : List ℕ) (ended : Result (Unit {0}) Cut) →
     Did (Performs net) (λ u q outcome. outcome_line net outcome) (λ u q outcome u'. ⊤) time p t scans bytes ended after t' →
     ComesTo false net p.world first.world after.tripped scans bytes ended
 lines_come net p after t t' first spared time scans bytes ended did =
-    let to = runs_to net takes_any time p after t t' scans bytes ended first did in
+    let to = runs_to net (λ u outcome u'. ⊤) time p after t t' scans bytes ended first did in
     record {
       text = answer_lines net scans.items (answered net [] 1 scans.items p.world);
       says = refl;
@@ -97,7 +93,7 @@ pub names_come : (net : Network) → IsSound net → (p after : Watched StruckWo
 names_come net sound p after w w' begun spared time scans bytes ended did =
     let means = one_run net sound nothing scans.items in
     let lone = alone net (watcher_said net) (watcher_takes net) time p w scans bytes ended after w' did in
-    let to = runs_to net takes_any time p.performer after.performer tt tt scans lone.0 ended begun.world lone.1 in
+    let to = runs_to net (λ u outcome u'. ⊤) time p.performer after.performer tt tt scans lone.0 ended begun.world lone.1 in
     record {
       text = watch_text net Text (main_names net) scans.items (answered net [] 1 scans.items p.performer.world) means.0;
       says = (means.0, means.1, refl);

@@ -10,6 +10,7 @@ _plcsafe_bench() {
     never | same) options="--states --help" ;;
     campaign) options="--channel --print --help" ;;
     report) options="--title --help" ;;
+    live) options="--names --help" ;;
   esac
   if [ "$COMP_CWORD" -eq 1 ]; then
     mapfile -t COMPREPLY < <(compgen -W "$commands --help --version" -- "$word")

@@ -35,7 +35,7 @@ pub data Asked : Type 0 where
   Campaign : (app trace : List ℕ) (from count : ℕ) (channel : Option Channel) (print : Bool) → Asked
   Sum : (files : List (List ℕ)) → Asked
   Report : (app : List ℕ) (cases : List (List ℕ)) (title : Option (List ℕ)) → Asked
-  Live : (app : List ℕ) → Asked
+  Live : (app : List ℕ) (names : Bool) → Asked
   Page : Asked
   NotTaken : Asked
 
@@ -187,7 +187,7 @@ report_asks rows =
 
 -- `live`
 abbrev pub live_asks : List Row → Asked
-live_asks rows = Live (value_of (codes "APP") rows)
+live_asks rows = Live (value_of (codes "APP") rows) (nat_lt 0 (count_of (codes "names") rows))
 
 -- the program has a command of this name
 abbrev pub is_command : List ℕ → Bool

@@ -84,9 +84,9 @@ sum = command (codes "sum") (required (words (codes "FILE")) ∷ [])
 abbrev pub report : Shape
 report = command (codes "report") (app ∷ required (words (codes "CASES")) ∷ option (codes "title") ∷ [])
 
--- `live APP`
+-- `live APP [--names]`
 abbrev pub live : Shape
-live = command (codes "live") (app ∷ [])
+live = command (codes "live") (app ∷ flag (codes "names") ∷ [])
 
 -- `help [COMMAND]`
 abbrev pub help : Shape

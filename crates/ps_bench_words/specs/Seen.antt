@@ -38,7 +38,7 @@ asked_seen (Same app other rules states) =
 asked_seen (Campaign app trace from count channel print) = CampaignOf app.now trace.now from count channel print
 asked_seen (Sum files) = SumOf (seen files.items)
 asked_seen (Report app cases title) = ReportOf app.now (seen cases.items) (option_map (λ text. text.now) title)
-asked_seen (Live app) = LiveOf app.now
+asked_seen (Live app names) = LiveOf app.now names
 asked_seen (Page text) = PageOf
 asked_seen (NotTaken text) = NotTakenOf
 

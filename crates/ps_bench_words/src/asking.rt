@@ -135,9 +135,11 @@ pub enum Asked<'a> {
         cases: Vec<&'a str>,
         title: Option<&'a str>,
     },
-    /// `live APP`
+    /// `live APP [--names]`
     Live {
         app: &'a str,
+        /// Whether scans are told by name, in place of their report lines.
+        names: bool,
     },
     /// Help or the version was asked for: the page, for standard output.
     Page {

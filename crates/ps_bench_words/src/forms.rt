@@ -226,6 +226,13 @@ const COUNTS: Argument = required!(
     "What campaign or sum wrote, of one application and one trace, in any order"
 );
 
+// Whether scans are told by name.
+const NAMED: Argument = argument!(
+    "names",
+    Given::Flag,
+    "Tells what changes by name, as watch does, in place of the lines of reports"
+);
+
 // The title of a page.
 const TITLE: Argument = argument!(
     "title",
@@ -329,7 +336,7 @@ static FORMS: [Form; 13] = [
         call: "plcsafe-bench live",
         about: "Runs a trace that comes at standard input, and answers each scan before it reads on",
         example: "Example: plcsafe-bench live press.st < press.trace",
-        arguments: &[APP],
+        arguments: &[APP, NAMED],
     },
     Form {
         name: "help",

@@ -331,5 +331,6 @@ pub(crate) fn live_in<'a>(values: &ArgMatches<'a>) -> Asked<'a>
 {
     Asked::Live {
         app: value_in(values, "APP"),
+        names: values.get_count("names") > 0,
     }
 }

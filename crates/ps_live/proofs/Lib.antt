@@ -3,3 +3,5 @@ pub mod Coming
 mod Going
 mod Quiet
 mod Ran
+mod Told
+mod Watched

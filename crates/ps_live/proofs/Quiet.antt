@@ -60,7 +60,7 @@ module _ (net : Network) (m : Machines) where
 
 module _ (net : Network) (sound : IsSound net) (quiet : Accepted net → (setup : Setup) → IsSetupOf net setup → QuietRunsRelease net (machines_in setup))
     (timely : (text : List ℕ) (net : Network) → AreTimely (input_count net) 0 (scans_of text net).items) (untripped : NoFaultNoTrip)
-    (bytes : List ℕ) (left : List Line) (end : End) (said : List ℕ) (trips : Bool) (are : AreRun net bytes left end said trips)
+    (by_name : Bool) (bytes : List ℕ) (left : List Line) (end : End) (said : List ℕ) (trips : Bool) (are : AreRun by_name net bytes left end said trips)
     (held : Held) (app trace text : List ℕ) (is : AreHeld held app trace net text) (lines_are : trace_lines text ≡ are.done) where
   abbrev scans : Scans
   scans = scans_of text net
@@ -81,44 +81,46 @@ module _ (net : Network) (sound : IsSound net) (quiet : Accepted net → (setup 
   released : ReleaseAll net (given net machines 1 scans.items (world_0 machines)) meaning
   released = quiet is.accepted.1 are.world.setup are.of_net.setup scans.items meaning (timely text net) means
 
+  end_is : end ≡ scans.end
+  end_is = sym are.ends ∙ ap (λ (s : Scans). s.end) same
+
   -- what the world answers to them
   answers_are : answered net [] 1 (scans_in are.done net).items are.world ≡ given net machines 1 scans.items (world_0 machines)
   answers_are =
       ap (λ (s : Scans). answered net [] 1 s.items are.world) same
       ∙ ap (λ (x : World_state). given net machines 1 scans.items x) are.of_net.beginning
 
-  said_is : said ≡ item_lines net [] 1 false scans.items meaning
-  said_is =
-      are.says
-      ∙ (λ i. answer_lines net (same i).items (answers_are i))
-      ∙ quiet_lines net machines 1 scans.items (world_0 machines) meaning released
-
   pub none_trips : trips ≡ false
   none_trips = are.trips_so ∙ ap any_trips answers_are ∙ quiet_trips net machines 1 scans.items (world_0 machines) meaning released
 
-  end_is : end ≡ scans.end
-  end_is = sym are.ends ∙ ap (λ (s : Scans). s.end) same
+  -- told by report lines
+  module _ (says : said ≡ answer_lines net (scans_in are.done net).items (answered net [] 1 (scans_in are.done net).items are.world)) where
+    said_is : said ≡ item_lines net [] 1 false scans.items meaning
+    said_is =
+        says
+        ∙ (λ i. answer_lines net (same i).items (answers_are i))
+        ∙ quiet_lines net machines 1 scans.items (world_0 machines) meaning released
 
-  answer_is : whole_answer said end ≡ told net (trips_of are.world.setup [] scans) scans meaning
-  answer_is =
-      (λ i. answer (said_is i ++ end_line (end_is i)) (end_status (end_is i) []))
-      ∙ ap (λ tripped. told net tripped scans meaning) (sym (untripped is.source text net are.world.setup is.accepted are.of_net.setup))
+    answer_is : whole_answer said end ≡ told net (trips_of are.world.setup [] scans) scans meaning
+    answer_is =
+        (λ i. answer (said_is i ++ end_line (end_is i)) (end_status (end_is i) []))
+        ∙ ap (λ tripped. told net tripped scans meaning) (sym (untripped is.source text net are.world.setup is.accepted are.of_net.setup))
 
-  -- the trace is answered so, where no fault strikes
-  named : IsAnswer (run_named net are.world.setup [] trace) held (whole_answer said end)
-  named = (text, is.text_is, (meaning, means, answer_is))
+    -- the trace is answered so, where no fault strikes
+    named : IsAnswer (run_named net are.world.setup [] trace) held (whole_answer said end)
+    named = (text, is.text_is, (meaning, means, answer_is))
 
-  pub says_as_run : IsAnswer (run app trace) held (whole_answer said end)
-  says_as_run = (is.source, is.source_is, (stands_for net, is.accepted, (are.world.setup, are.of_net.setup, named)))
+    pub says_as_run : IsAnswer (run app trace) held (whole_answer said end)
+    says_as_run = (is.source, is.source_is, (stands_for net, is.accepted, (are.world.setup, are.of_net.setup, named)))
 
-  pub says_as_fault : (name : List ℕ) → HasFaults held name net are.world.setup [] → IsAnswer (fault app trace name) held (whole_answer said end)
-  says_as_fault name has =
-      let struck : IsAnswer (unless_refused (λ (list : List Fault). run_named net are.world.setup list trace) [] None) held (whole_answer said end) = named in
-      let behind : IsAnswer (unless_refused (λ (list : List Fault). run_named net are.world.setup list trace) (faults_of has.text (region_sizes are.world.setup)).faults
-      (faults_of has.text (region_sizes are.world.setup)).refusal) held (whole_answer said end) =
-      subst (λ (l : FaultList Fault). IsAnswer (unless_refused (λ (list : List Fault). run_named net are.world.setup list trace) l.faults l.refusal) held (whole_answer said end))
-      (sym has.faults_are) struck in (
-        is.source,
-        is.source_is,
-        (stands_for net, is.accepted, (are.world.setup, are.of_net.setup, (has.text, has.text_is, behind))),
-      )
+    pub says_as_fault : (name : List ℕ) → HasFaults held name net are.world.setup [] → IsAnswer (fault app trace name) held (whole_answer said end)
+    says_as_fault name has =
+        let struck : IsAnswer (unless_refused (λ (list : List Fault). run_named net are.world.setup list trace) [] None) held (whole_answer said end) = named in
+        let behind : IsAnswer (unless_refused (λ (list : List Fault). run_named net are.world.setup list trace) (faults_of has.text (region_sizes are.world.setup)).faults
+        (faults_of has.text (region_sizes are.world.setup)).refusal) held (whole_answer said end) =
+        subst (λ (l : FaultList Fault). IsAnswer (unless_refused (λ (list : List Fault). run_named net are.world.setup list trace) l.faults l.refusal) held (whole_answer said end))
+        (sym has.faults_are) struck in (
+          is.source,
+          is.source_is,
+          (stands_for net, is.accepted, (are.world.setup, are.of_net.setup, (has.text, has.text_is, behind))),
+        )

@@ -31,10 +31,11 @@ fed tells coming left = record { tells = tells; coming = coming; left = left }
 abbrev pub status_by : Bool → Status
 status_by trips = if trips then Failed else Done
 
--- What a run of the stream wrote, by how it ended, where the stream tells its bytes.
-abbrev pub Runs : Network → Fed → (tells : Bool) → (before after : List ℕ) → Result Bool LiveStop → Type 0
-Runs net from tells before after ended =
-    IsTrue from.tells → RunsStream net from.coming from.left tells before after ended
+-- What a run of the stream wrote, by name or by report lines, by how it ended, where the stream tells its bytes.
+abbrev pub Runs : (by_name : Bool) → Network → Fed → (tells : Bool) → (before after : List ℕ) → Result Bool LiveStop →
+    Type 0
+Runs by_name net from tells before after ended =
+    IsTrue from.tells → RunsStream by_name net from.coming from.left tells before after ended
 
 -- a call stops at a refusal of a line: that is written, or a beginning of it
 abbrev pub StopsAtLine : Refusal → (tells : Bool) → (before after : List ℕ) → Stop → Type 0
@@ -44,31 +45,33 @@ StopsAtLine refusal tells before after stop =
 
 -- How a call stops that has the application: at a line that is refused, whose refusal stands behind what is said of the
 -- lines before (`mid`); or as the run does, at a read or a write that failed, or for want of memory.
-abbrev pub StopsRun : Network → Fed → (tells : Bool) → (before after : List ℕ) → Stop → Type 0
-StopsRun net from tells before after stop =
-    ((refusal : Refusal) × (mid : List ℕ) × Runs net from tells before mid (Err (living.TheVariants.Refused refusal))
+abbrev pub StopsRun : (by_name : Bool) → Network → Fed → (tells : Bool) → (before after : List ℕ) → Stop → Type 0
+StopsRun by_name net from tells before after stop =
+    ((refusal : Refusal) × (mid : List ℕ)
+    × Runs by_name net from tells before mid (Err (living.TheVariants.Refused refusal))
     × StopsAtLine refusal tells mid after stop)
-    ⊎ ((stop ≡ Input (IsUnread Trace)) × Runs net from tells before after (Err living.TheVariants.Unread))
-    ⊎ ((stop ≡ Unwritten) × Runs net from tells before after (Err living.TheVariants.Unwritten))
-    ⊎ ((stop ≡ NoMemory) × Runs net from tells before after (Err living.TheVariants.Memory))
+    ⊎ ((stop ≡ Input (IsUnread Trace)) × Runs by_name net from tells before after (Err living.TheVariants.Unread))
+    ⊎ ((stop ≡ Unwritten) × Runs by_name net from tells before after (Err living.TheVariants.Unwritten))
+    ⊎ ((stop ≡ NoMemory) × Runs by_name net from tells before after (Err living.TheVariants.Memory))
 
 -- How a call ends that has the application: the stream ended, and the status is that of its run; or it stops.
-abbrev pub Ends : Network → Fed → (tells : Bool) → (before after : List ℕ) → Result Status Stop → Type 0
-Ends net from tells before after (Ok status) =
-    (trips : Bool) × (status ≡ status_by trips) × Runs net from tells before after (Ok trips)
-Ends net from tells before after (Err stop) = StopsRun net from tells before after stop
+abbrev pub Ends : (by_name : Bool) → Network → Fed → (tells : Bool) → (before after : List ℕ) →
+    Result Status Stop → Type 0
+Ends by_name net from tells before after (Ok status) =
+    (trips : Bool) × (status ≡ status_by trips) × Runs by_name net from tells before after (Ok trips)
+Ends by_name net from tells before after (Err stop) = StopsRun by_name net from tells before after stop
 
--- What `live` answers of the application of this name.
-abbrev pub AnswersLive : (app : List ℕ) → Fed → (reading : Bool) (held : List ℕ → Option (List ℕ)) → (tells : Bool) →
-    (before after : List ℕ) → Status → Type 0
-AnswersLive app from reading held tells before after status =
+-- What `live` answers of the application of this name, by name or by report lines.
+abbrev pub AnswersLive : (app : List ℕ) (by_name : Bool) → Fed → (reading : Bool)
+    (held : List ℕ → Option (List ℕ)) → (tells : Bool) → (before after : List ℕ) → Status → Type 0
+AnswersLive app by_name from reading held tells before after status =
     (net : Network) × (sizes : ImageSizes) × IsOfApp (source net sizes reading held) app
-    × Ends net from tells before after (Ok status)
+    × Ends by_name net from tells before after (Ok status)
 
 -- How `live` stops before the stream's end: without the application of this name, or with it.
-abbrev pub StopsLive : (app : List ℕ) → Fed → (reading : Bool) (held : List ℕ → Option (List ℕ)) → (tells : Bool) →
-    (before after : List ℕ) → Stop → Type 0
-StopsLive app from reading held tells before after stop =
+abbrev pub StopsLive : (app : List ℕ) (by_name : Bool) → Fed → (reading : Bool) (held : List ℕ → Option (List ℕ)) →
+    (tells : Bool) → (before after : List ℕ) → Stop → Type 0
+StopsLive app by_name from reading held tells before after stop =
     StopsAtApp reading held app stop tells before after
     ⊎ ((net : Network) × (sizes : ImageSizes) × IsOfApp (source net sizes reading held) app
-    × Ends net from tells before after (Err stop))
+    × Ends by_name net from tells before after (Err stop))

@@ -13,11 +13,11 @@ use Rattle.ps_live.specs.Living.{AreRun}
 abbrev pub whole_answer : (said : List ℕ) → End → Answer
 whole_answer said end = answer (said ++ end_line end) (end_status end [])
 
--- Of the first lines of a stream was said what `run` answers to a trace with just these lines.
+-- Of the first lines of a stream was said, by report lines, what `run` answers to a trace with just these lines.
 abbrev pub SaysAsRun : Network → Type 0
 SaysAsRun net =
     (bytes : List ℕ) (left : List Line) (end : End) (said : List ℕ) (trips : Bool)
-    (are : AreRun net bytes left end said trips) (held : Held) (app trace text : List ℕ) →
+    (are : AreRun false net bytes left end said trips) (held : Held) (app trace text : List ℕ) →
     AreHeld held app trace net text → trace_lines text ≡ are.done →
     IsAnswer (run app trace) held (whole_answer said end)
 
@@ -25,13 +25,13 @@ SaysAsRun net =
 abbrev pub SaysAsFault : Network → Type 0
 SaysAsFault net =
     (bytes : List ℕ) (left : List Line) (end : End) (said : List ℕ) (trips : Bool)
-    (are : AreRun net bytes left end said trips) (held : Held) (app trace name text : List ℕ) →
+    (are : AreRun false net bytes left end said trips) (held : Held) (app trace name text : List ℕ) →
     AreHeld held app trace net text → HasFaults held name net are.world.setup [] → trace_lines text ≡ are.done →
     IsAnswer (fault app trace name) held (whole_answer said end)
 
--- And no scan of them trips.
+-- And no scan of them trips, however they are told.
 abbrev pub NoneTrips : Network → Type 0
 NoneTrips net =
-    (bytes : List ℕ) (left : List Line) (end : End) (said : List ℕ) (trips : Bool)
-    (are : AreRun net bytes left end said trips) (held : Held) (app trace text : List ℕ) →
+    (by_name : Bool) (bytes : List ℕ) (left : List Line) (end : End) (said : List ℕ) (trips : Bool)
+    (are : AreRun by_name net bytes left end said trips) (held : Held) (app trace text : List ℕ) →
     AreHeld held app trace net text → trace_lines text ≡ are.done → trips ≡ false

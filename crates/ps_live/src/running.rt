@@ -1,4 +1,4 @@
-// `live APP`: the run of a trace that comes as a stream.
+// `live APP [--names]`: the run of a trace that comes as a stream.
 
 ghost use Rattle.std.specs.Prelude.{◌≡◌, ◌⊎◌, ◌≤◌, [], ℕ, List, IfOk, IfErr, IsErrOf, Err};
 ghost use Rattle.ps_bench_base.specs.Ending.{IsUnread};
@@ -19,6 +19,8 @@ use std::alloc::Global;
 pub struct Asked<'a> {
     /// The name of the application.
     pub app: &'a str,
+    /// Whether scans are told by name, as `watch` tells them, in place of their report lines.
+    pub names: bool,
 }
 
 // The status of a run, by whether a scan tripped.
@@ -45,15 +47,16 @@ fn refuse_line<O: Output>(out: &mut O, refusal: Refusal) -> Stop
     }
 }
 
-// Runs the trace of an application that comes as a stream.
+// Runs the trace of an application that comes as a stream, and tells of it by name or by report lines.
 fn run_app<I: Stream, O: Output>(
     alloc: Global,
     app: &App,
+    names: bool,
     input: &mut I,
     out: &mut O,
 ) -> Result<Status, Stop>
     requires accepted { Accepted app.now }
-    ensures ends { Ends app.now (fed (I.tells input.old) (I.coming input.old) (I.coming input.new))
+    ensures ends { Ends names app.now (fed (I.tells input.old) (I.coming input.old) (I.coming input.new))
         (O.tells out.old) (O.taken out.old) (O.taken out.new) result }
     ensures handed_on_before { result ≡ Err (Stop.Input (InputStop.Unread Input.Trace)) → O.held_back out.new ≡ [] }
     ensures unread { IfErr result (λ stop. IsUnread stop → Rose (I.faults input.old) (I.faults input.new)) }
@@ -61,7 +64,7 @@ fn run_app<I: Stream, O: Output>(
     ensures writes { O.faults out.old ≤ O.faults out.new }
     ensures telling { O.tells out.new ≡ O.tells out.old }
 {
-    match run_stream(alloc, app, input, out) {
+    match run_stream(alloc, app, names, input, out) {
         Ok(trips) => Ok(status_by(trips)),
         Err(LiveStop::Refused(refusal)) => Err(refuse_line(out, refusal)),
         Err(LiveStop::Unread) => Err(Stop::Input(InputStop::Unread(Input::Trace))),
@@ -70,9 +73,9 @@ fn run_app<I: Stream, O: Output>(
     }
 }
 
-/// `live APP`: runs the trace of the application of this name that comes as a stream, the header first, and writes the
-/// line of each scan and restart, and hands it on, before it reads on. Both channels run. The end of the stream ends
-/// it.
+/// `live APP [--names]`: runs the trace of the application of this name that comes as a stream, the header first, and
+/// writes the line of each scan and restart, and hands it on, before it reads on: its report line, or by name what
+/// `watch` writes of it where no names are given. Both channels run. The end of the stream ends it.
 ///
 /// The status is Failed where a scan tripped, and else Done; a trip ends nothing. Where the application is refused, or
 /// a line of the stream, the line of the refusal is written: of a line of the stream behind what is said of those
@@ -88,10 +91,10 @@ pub fn live<F: Files, I: Stream, O: Output>(
     out: &mut O,
     asked: &Asked<'_>,
 ) -> Result<Status, Stop>
-    ensures answers { IfOk result (AnswersLive asked.now.app.now
+    ensures answers { IfOk result (AnswersLive asked.now.app.now asked.now.names
         (fed (I.tells input.old) (I.coming input.old) (I.coming input.new))
         (F.tells files.old) (F.held files.old) (O.tells out.old) (O.taken out.old) (O.taken out.new)) }
-    ensures stops { IfErr result (StopsLive asked.now.app.now
+    ensures stops { IfErr result (StopsLive asked.now.app.now asked.now.names
         (fed (I.tells input.old) (I.coming input.old) (I.coming input.new))
         (F.tells files.old) (F.held files.old) (O.tells out.old) (O.taken out.old) (O.taken out.new)) }
     ensures handed_on_before { result ≡ Err (Stop.Input (InputStop.Unread Input.Trace)) → O.held_back out.new ≡ [] }
@@ -103,7 +106,7 @@ pub fn live<F: Files, I: Stream, O: Output>(
     ensures telling { O.tells out.new ≡ O.tells out.old }
 {
     match open_app(alloc, files, out, asked.app) {
-        Ok(opened) => run_app(alloc, &opened.app, input, out),
+        Ok(opened) => run_app(alloc, &opened.app, asked.names, input, out),
         Err(stop) => Err(stop),
     }
 }

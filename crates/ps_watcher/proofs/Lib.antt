@@ -1,5 +1,6 @@
 mod Renewing
 -- what any taker writes that sees each scan
 pub mod Seeing
-mod Running
+-- what a watcher writes of a run from its beginning
+pub mod Running
 mod Anyway

@@ -85,8 +85,8 @@ Answers (Sum files) input reading held status tells before after =
     AnswersSum files reading held tells before after status
 Answers (Report app cases title) input reading held status tells before after =
     AnswersReport app cases reading held tells before after status
-Answers (Live app) input reading held status tells before after =
-    AnswersLive app input reading held tells before after status
+Answers (Live app names) input reading held status tells before after =
+    AnswersLive app names input reading held tells before after status
 Answers Page input reading held status tells before after = status ≡ Done
 Answers NotTaken input reading held status tells before after = (status ≡ Usage) × (IsTrue tells → after ≡ before)
 
@@ -115,8 +115,8 @@ Stops (Sum files) input reading held stop tells before after =
     StopsSum files reading held tells before after stop
 Stops (Report app cases title) input reading held stop tells before after =
     StopsReport app cases reading held tells before after stop
-Stops (Live app) input reading held stop tells before after =
-    StopsLive app input reading held tells before after stop
+Stops (Live app names) input reading held stop tells before after =
+    StopsLive app names input reading held tells before after stop
 Stops Page input reading held stop tells before after = stop ≡ Unwritten
 Stops NotTaken input reading held stop tells before after = ⊥
 
@@ -147,11 +147,11 @@ names_of (Same app other rules states) = app ∷ other ∷ file_of rules
 names_of (Campaign app trace from count channel print) = app ∷ file_meant trace ∷ []
 names_of (Sum files) = files
 names_of (Report app cases title) = app ∷ cases
-names_of (Live app) = app ∷ []
+names_of (Live app names) = app ∷ []
 names_of Page = []
 names_of NotTaken = []
 
 -- The count of failed reads rose of what a call reads: of one of its files, or, of `live`, of the stream at its input.
 abbrev pub IsUnreadBy : Asked → (reads reads' : List ℕ → ℕ) → (fed fed' : ℕ) → Type 0
-IsUnreadBy (Live app) reads reads' fed fed' = Rose (reads app) (reads' app) ⊎ Rose fed fed'
+IsUnreadBy (Live app names) reads reads' fed fed' = Rose (reads app) (reads' app) ⊎ Rose fed fed'
 IsUnreadBy asked reads reads' fed fed' = Any (λ (name : List ℕ). Rose (reads name) (reads' name)) (names_of asked)

@@ -205,8 +205,11 @@ fn do_asked<F: Files, I: Stream, O: Output, L: Listener>(
             };
             report(alloc, files, out, &asked)
         }
-        Asked::Live { app } => {
-            let asked = LiveAsked { app: *app };
+        Asked::Live { app, names } => {
+            let asked = LiveAsked {
+                app: *app,
+                names: *names,
+            };
             live(alloc, files, input, out, &asked)
         }
         Asked::Page { text } => {
@@ -279,7 +282,7 @@ fn names_in<'a>(asked: &'a Asked<'a>) -> Names<'a> {
             cases: cases.as_slice(),
             ..Names::of_app(*app)
         },
-        Asked::Live { app } => Names::of_app(*app),
+        Asked::Live { app, .. } => Names::of_app(*app),
         Asked::Page { .. } | Asked::NotTaken { .. } => Names::of_app(""),
     }
 }

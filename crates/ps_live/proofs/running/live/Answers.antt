@@ -11,18 +11,18 @@ use Rattle.ps_live.proofs.running.live.Goals as goal
 pub returns-in-Ok-clause-answers : goal.returns-in-Ok-clause-answers
 returns-in-Ok-clause-answers g c =
     let from = fed (g.I.Stream.tells c.args.input.now) (g.I.Stream.coming c.args.input.now) (g.I.Stream.coming c.run_app.new.input) in
-    answered c.in-Ok.opened.app c.in-Ok.opened.sizes c.args.asked.now.app.now from
+    answered c.args.asked.now.names c.in-Ok.opened.app c.in-Ok.opened.sizes c.args.asked.now.app.now from
     (g.F.Files.tells c.args.files.now) (g.F.Files.held c.args.files.now) (g.O.Sink.tells c.args.out.now)
     (g.O.Sink.taken c.args.out.now) (g.O.Sink.taken c.run_app.new.out) c.run_app.result c.in-Ok.ensures.app
-    (moved c.in-Ok.opened.app from _ _ _ _ _ c.run_app.result c.in-Ok.ensures.telling c.in-Ok.ensures.unsaid c.run_app.ensures.ends)
+    (moved c.args.asked.now.names c.in-Ok.opened.app from _ _ _ _ _ c.run_app.result c.in-Ok.ensures.telling c.in-Ok.ensures.unsaid c.run_app.ensures.ends)
 
 pub returns-in-Ok-clause-stops : goal.returns-in-Ok-clause-stops
 returns-in-Ok-clause-stops g c =
     let from = fed (g.I.Stream.tells c.args.input.now) (g.I.Stream.coming c.args.input.now) (g.I.Stream.coming c.run_app.new.input) in
-    stopped c.in-Ok.opened.app c.in-Ok.opened.sizes c.args.asked.now.app.now from
+    stopped c.args.asked.now.names c.in-Ok.opened.app c.in-Ok.opened.sizes c.args.asked.now.app.now from
     (g.F.Files.tells c.args.files.now) (g.F.Files.held c.args.files.now) (g.O.Sink.tells c.args.out.now)
     (g.O.Sink.taken c.args.out.now) (g.O.Sink.taken c.run_app.new.out) c.run_app.result c.in-Ok.ensures.app
-    (moved c.in-Ok.opened.app from _ _ _ _ _ c.run_app.result c.in-Ok.ensures.telling c.in-Ok.ensures.unsaid c.run_app.ensures.ends)
+    (moved c.args.asked.now.names c.in-Ok.opened.app from _ _ _ _ _ c.run_app.result c.in-Ok.ensures.telling c.in-Ok.ensures.unsaid c.run_app.ensures.ends)
 
 pub returns-in-Ok-clause-unread : goal.returns-in-Ok-clause-unread
 returns-in-Ok-clause-unread g c =

@@ -14,7 +14,7 @@ returns-in-Ok-clause-ends g c = (c.in-Ok.trips, c.status_by.ensures, c.in-Ok.ens
 
 pub returns-in-Err-Refused-clause-ends : goal.returns-in-Err-Refused-clause-ends
 returns-in-Err-Refused-clause-ends g c =
-    at_line c.args.app.now
+    at_line c.args.names c.args.app.now
     (fed (g.I.Stream.tells c.args.input.now) (g.I.Stream.coming c.args.input.now) (g.I.Stream.coming c.run_stream.new.input))
     (g.O.Sink.tells c.args.out.now) (g.O.Sink.tells c.run_stream.new.out) (g.O.Sink.taken c.args.out.now)
     (g.O.Sink.taken c.run_stream.new.out) (g.O.Sink.taken c.refuse_line.new.out) c.in-Err-Refused.field-0 c.in-Err-Refused.refusal
@@ -34,7 +34,7 @@ returns-in-Err-Refused-clause-unwritten g c = λ is.
 pub returns-in-Err-Unread-clause-ends : goal.returns-in-Err-Unread-clause-ends
 returns-in-Err-Unread-clause-ends g c = inr (inl (
   refl,
-  ran c.args.app.now
+  ran c.args.names c.args.app.now
       (fed (g.I.Stream.tells c.args.input.now) (g.I.Stream.coming c.args.input.now) (g.I.Stream.coming c.run_stream.new.input))
       (g.O.Sink.tells c.args.out.now) (g.O.Sink.taken c.args.out.now) (g.O.Sink.taken c.run_stream.new.out) c.in-Err-Unread.field-0
       living.TheVariants.Unread c.in-Err-Unread.field-0-is c.in-Err-Unread.ensures.runs,
@@ -43,7 +43,7 @@ returns-in-Err-Unread-clause-ends g c = inr (inl (
 pub returns-in-Err-Unwritten-clause-ends : goal.returns-in-Err-Unwritten-clause-ends
 returns-in-Err-Unwritten-clause-ends g c = inr (inr (inl (
   refl,
-  ran c.args.app.now
+  ran c.args.names c.args.app.now
       (fed (g.I.Stream.tells c.args.input.now) (g.I.Stream.coming c.args.input.now) (g.I.Stream.coming c.run_stream.new.input))
       (g.O.Sink.tells c.args.out.now) (g.O.Sink.taken c.args.out.now) (g.O.Sink.taken c.run_stream.new.out) c.in-Err-Unwritten.field-0
       living.TheVariants.Unwritten c.in-Err-Unwritten.field-0-is c.in-Err-Unwritten.ensures.runs,
@@ -52,7 +52,7 @@ returns-in-Err-Unwritten-clause-ends g c = inr (inr (inl (
 pub returns-in-Err-Memory-clause-ends : goal.returns-in-Err-Memory-clause-ends
 returns-in-Err-Memory-clause-ends g c = inr (inr (inr (
   refl,
-  ran c.args.app.now
+  ran c.args.names c.args.app.now
       (fed (g.I.Stream.tells c.args.input.now) (g.I.Stream.coming c.args.input.now) (g.I.Stream.coming c.run_stream.new.input))
       (g.O.Sink.tells c.args.out.now) (g.O.Sink.taken c.args.out.now) (g.O.Sink.taken c.run_stream.new.out) c.in-Err-Memory.field-0
       living.TheVariants.Memory c.in-Err-Memory.field-0-is c.in-Err-Memory.ensures.runs,

@@ -1,4 +1,4 @@
-use Rattle.ps_live.proofs.living.first_world.Goals as goal
+use Rattle.ps_live.proofs.teller.first_world.Goals as goal
 
 pub returns-clause-begins : goal.returns-clause-begins
 returns-clause-begins c = c.new-struck.ensures.begins c.args.app.now c.in_ok-world.ensures

@@ -4,6 +4,7 @@ pub mod PlainLemmas
 pub mod SaidLemmas
 pub mod HeaderLemmas
 pub mod ScanLemmas
+pub mod CopyLemmas
 pub mod FaultLemmas
 pub mod FaultOrderLemmas
 pub mod WholeFile

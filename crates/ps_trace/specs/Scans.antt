@@ -1,5 +1,5 @@
 -- The scans and restarts of a trace.
-use Rattle.std.specs.Prelude.{ℕ, List, [], ◌∷◌, ◌+◌, Bool, false, map, length, slice_index_or}
+use Rattle.std.specs.Prelude.{◌≡◌, ◌<◌, ℕ, List, [], ◌∷◌, ◌+◌, Bool, false, map, length, slice_index, slice_index_or}
 use Rattle.ps_base.specs.declared.failing.Rule.{Rule}
 use Rattle.ps_base.specs.declared.failing.Rule.TheVariants.{T1, T8, T9}
 use Rattle.ps_base.specs.declared.failing.Refusal.{Refusal}
@@ -49,6 +49,10 @@ last_after _ last = last
 -- each input's value: the one that stands at the input's place
 abbrev pub inputs_of : List ℕ → List Bool → List Bool
 inputs_of found values = map (λ place. slice_index_or values place false) found
+
+-- each input's value stands at the input's number
+abbrev pub IsInOrder : List ℕ → Type 0
+IsInOrder found = (i : ℕ) → i < length found → slice_index found i ≡ i
 
 -- what a line with this number says, in front of what the later lines give
 abbrev pub onto_scans : List ℕ → Said → ℕ → Scans → Scans

@@ -2,6 +2,7 @@
 #![tactic(auto)]
 
 mod channels;
+mod copying;
 mod fault_file;
 mod fault_line;
 mod faults;

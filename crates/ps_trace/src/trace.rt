@@ -12,11 +12,12 @@ ghost use Rattle.ps_trace.specs.Feeds.{feeds_of};
 ghost use Rattle.ps_base.specs.declared.failing.Refusal.{Refusal};
 ghost use Rattle.ps_trace.specs.declared.trace.Next.{Next};
 ghost use Rattle.ps_trace.specs.LineSays.{said_by};
-ghost use Rattle.ps_trace.specs.Scans.{at_line, header_in, inputs_of, scans_of};
+ghost use Rattle.ps_trace.specs.Scans.{at_line, header_in, inputs_of, scans_of, IsInOrder};
 ghost use Rattle.ps_trace.specs.Scans.Headed.{fails};
 ghost use Rattle.ps_base.specs.declared.failing.Rule.{Rule};
 
 use crate::TraceFail;
+use crate::copying::{are_in_order, copy};
 use crate::header::{HeaderSays, read_header};
 use crate::scan_line::{LineSays, read_line};
 use ps_base::limits::{LARGEST_TRACE, LONGEST_TRACE_LINE};
@@ -54,6 +55,8 @@ pub struct TraceReader {
     // for each input the place of its value on a scan line, and the values of a line
     places: Vec<usize>,
     values: Vec<bool>,
+    // whether each input's value stands at the input's number
+    in_order: bool,
     // the number of the next line: one more than the line feeds before it
     number: u32,
     // the time of the last scan
@@ -62,6 +65,7 @@ pub struct TraceReader {
     ghost one_each: { vec_len values ≡ vec_len places },
     ghost counted: { number ≤ begin_of lines + 1 },
     ghost limited: { (limits_of lines).largest ≡ LARGEST_TRACE },
+    ghost straight: { IsTrue in_order → IsInOrder places.items },
     ghost near: { begin_of lines ≤ LARGEST_TRACE },
 }
 
@@ -72,6 +76,7 @@ impl Drop for TraceReader {
             lines: _,
             places: _,
             values: _,
+            in_order: _,
             number: _,
             last: _,
             refusal: _,
@@ -130,10 +135,12 @@ impl TraceReader {
                 }
                 HeaderSays::Places(places) => {
                     let values = vec![in alloc; false; places.len()]?;
+                    let in_order = are_in_order(&places);
                     return Ok(TraceReader {
                         lines,
                         places,
                         values,
+                        in_order,
                         number: number + feeds,
                         last: 0,
                         refusal: None,
@@ -280,7 +287,7 @@ impl TraceReader {
             LineSays::Scan(now) => {
                 self.number += feeds;
                 self.last = now;
-                fill(into, now, &self.places, &self.values);
+                fill_by(into, now, &self.places, &self.values, self.in_order);
             }
             LineSays::Nothing | LineSays::Restart => self.number += feeds,
         }
@@ -322,4 +329,20 @@ pub fn fill(into: &mut Scan, now: u32, places: &[usize], values: &[bool])
             .set(i, values.get(*place).copied().unwrap_or(false));
     }
     into.now = now;
+}
+
+// The same, by a copy where the values are known to be in order.
+#[tactic(auto, using(crate::proofs::CopyLemmas::inputs_in_order))]
+fn fill_by(into: &mut Scan, now: u32, places: &[usize], values: &[bool], in_order: bool)
+    requires sizes { length into.old.ins ≡ length places.now }
+    requires one_each { length values.now ≡ length places.now }
+    requires straight { IsTrue in_order → IsInOrder places.now }
+    ensures { into.new ≡ record { now = now; ins = inputs_of places.now values.now } }
+{
+    if in_order {
+        copy(&mut into.ins, values);
+        into.now = now;
+    } else {
+        fill(into, now, places, values);
+    }
 }

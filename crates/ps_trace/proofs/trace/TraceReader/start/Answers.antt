@@ -6,7 +6,7 @@ use Rattle.ps_trace.specs.Header.{input_names, header_said}
 use Rattle.ps_trace.specs.Header.Header.{no_header, places}
 use Rattle.ps_trace.specs.HeaderSays.{header_by}
 use Rattle.ps_trace.specs.Feeds.{feeds_of}
-use Rattle.ps_trace.specs.Scans.{scans_behind}
+use Rattle.ps_trace.specs.Scans.{scans_behind, IsInOrder}
 use Rattle.ps_trace.specs.Reading.{IsHeaded}
 use Rattle.ps_trace.proofs.ScanLemmas.{begins_later, headed_skip, headed_begins}
 use Rattle.ps_trace.proofs.trace.TraceReader.start.Goals as goal
@@ -58,3 +58,6 @@ returns-in-Places-clause-headed g c = λ tells text is.
     subst IsHeaded (sym (c.lines.invariant.headed tells text is
     ∙ headed_begins c.in_ok-got.got (input_names c.args.app.now) c.lines.number c.in-Ok.feeds c.in-Places.places.items _ _ (line_of c.next_line.new.self)
     (c.in_ok-got.ensures.gives (subst IsTrue (sym c.lines.invariant.telling) tells) text (grind (arith, common_steps)) (c.lines.invariant.reads tells text is)) feeds says)) tt
+
+pub invariant_of-result-clause-straight : goal.invariant_of-result-clause-straight
+invariant_of-result-clause-straight g c = λ yes. subst IsInOrder c.deref.ensures.value (c.are_in_order-in_order.ensures yes)

@@ -1,6 +1,6 @@
 # Completion of plcsafe-bench for bash: a command, its options, the formats that it has, and then the names of files.
 _plcsafe_bench() {
-  local commands="test expand watch trace why cover never same campaign report live help"
+  local commands="test expand watch trace why cover never same campaign sum report live help"
   local word=${COMP_WORDS[COMP_CWORD]} before=${COMP_WORDS[COMP_CWORD - 1]} options=--help formats=
   case ${COMP_WORDS[1]} in
     test) options="--format --help" formats="text tap junit" ;;

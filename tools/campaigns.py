@@ -1,5 +1,5 @@
 #!/usr/bin/env python3
-"""Compares what plcsafe-bench campaign counts with a count of its own, trial by trial.
+"""Compares what plcsafe-bench campaign counts with a count of its own, trial by trial, and what sum adds with one call.
 
 campaigns.py [--count N] plcsafe-bench=FILE, or campaigns.py [--count N] PLCSAFE plcsafe-bench=FILE    the programs; the first is not
                                                                                 called; N trials of each campaign, 40 where it is left out
@@ -7,11 +7,14 @@ campaigns.py [--count N] plcsafe-bench=FILE, or campaigns.py [--count N] PLCSAFE
 Trials: the faults that `--print` writes are made one by one by `watch --faults`, over traces and cases of examples/; which of them trip,
 and how long after the scan that was struck, is counted here and compared with the lines. Lines: those of two parts, added here, are those
 of both together; with `--channel` no other channel is struck; nothing is told to be wrong. Words: calls whose words are not taken, whose
-case there is not, or whose files are refused or gone, each with its status. The status is 0 where nothing differs.
+case there is not, or whose files are refused or gone, each with its status. Sums: the parts of a campaign are added by `sum` in every
+order, and sums of them, and each sum is byte for byte what one call writes; files of another application or trace, cut off at each byte,
+mixed, empty, too large or no counts at all are refused at the line that is known beforehand. The status is 0 where nothing differs.
 """
 import collections
 import csv
 import hashlib
+import itertools
 import pathlib
 import re
 import subprocess
@@ -36,6 +39,29 @@ CALLS = [
     ("stop/motor.st stop/restart.trace x 1", 2), ("stop/motor.st stop/restart.trace 0 -1", 2), ("stop/motor.st stop/restart.trace 0 4294967296", 2),
     ("stop/motor.st stop/restart.trace 0 1 --channel C", 2), ("tutorial/door.st tutorial/door.cases:1 0 1", 2), ("stop/motor.st stop/motor.st 0 1", 3),
     ("stop/restart.trace stop/restart.trace 0 1", 1), ("stop/motor.st stop/gone.trace 0 1", 5), ("stop/gone.st stop/restart.trace 0 1", 5),
+]
+
+
+# The first numbers of parts of a campaign of 40 trials, and where the last one ends.
+PARTS = (0, 7, 20, 21, 40)
+LARGEST = 2**64 - 1
+HEAD = f"application {'0' * 64}\ntrace {'a' * 64}\n"
+
+# Texts that are no counts, each with the line that is refused.
+FORMLESS = [
+    ("nothing", "", 1), ("a trace", "time S_Stop Ack Run\n0 0 0 0\n", 1), ("an application", "PROGRAM P\nEND_PROGRAM\n", 1),
+    ("half a head", HEAD[:77], 2), ("a head without its end", HEAD[:-1], 2), ("capital digits", HEAD.replace("a" * 64, "A" * 64), 2),
+    ("a digit less", HEAD.replace("0" * 64, "0" * 63), 1), ("a digit more", HEAD.replace("0" * 64, "0" * 65), 1),
+    ("lines of CR LF", HEAD.replace("\n", "\r\n"), 1), ("a mark", "\ufeff" + HEAD, 1), ("an empty line", HEAD + "\n", 3), ("an empty line before", "\n" + HEAD, 1),
+    ("no trial", HEAD + "A code silent 0\n", 3), ("a leading 0", HEAD + "A code silent 04\n", 3), ("no end", HEAD + "A code silent 4", 3),
+    ("a sign", HEAD + "A code silent +4\n", 3), ("a blank more", HEAD + "A code silent 4 \n", 3), ("another channel", HEAD + "C code silent 4\n", 3),
+    ("another word", HEAD + "A code wrong 1\nA code quiet 4\n", 4), ("a line twice", HEAD + "A code silent 4\nA code silent 4\n", 4),
+    ("another order", HEAD + "B code silent 4\nA code silent 4\n", 4), ("latencies of none", HEAD + "A code silent 4 sum 0 largest 0 table 0:4\n", 3),
+    ("no latencies", HEAD + "A code trap 4\n", 3), ("half a table", HEAD + "A code trap 4 sum 0 largest 0 table 0:\n", 3),
+    ("no such column", HEAD + "A code trap 4 sum 12 largest 3 table 3:4\n", 3), ("a column of none", HEAD + "A code trap 4 sum 0 largest 0 table 0:4 1:0\n", 3),
+    ("columns in another order", HEAD + "A code trap 4 sum 2 largest 1 table 1:2 0:2\n", 3), ("a count that is too large", HEAD + f"A code silent {LARGEST + 1}\n", 3),
+    ("a latency that is too large", HEAD + f"A code trap 1 sum 0 largest {2**32} table 0:1\n", 3), ("two campaigns", HEAD + "A code silent 4\n" + HEAD, 4),
+    ("a fault", "before 1 A code 0 00\n" + HEAD, 1),
 ]
 
 
@@ -137,6 +163,92 @@ def counted(found):
     return all_of_them
 
 
+def sum_of(bench, files):
+    """What `sum` writes of files, its status and its message."""
+    run = subprocess.run([bench, "sum", *files], stdout=subprocess.PIPE, stderr=subprocess.PIPE, text=True)
+    return run.stdout, run.returncode, run.stderr
+
+
+def refuses(bench, files, line, place, what):
+    """Whether `sum` refuses files with this line, and its message names the file at this place first."""
+    told, status, message = sum_of(bench, files)
+    expect((told, status) == (f"refused {line}\n", 3), f"sum refuses {what} with {line}: status {status}\n{told[:200]}")
+    expect(message.startswith(f"{files[place]}:{line.split()[2]}: {line.split()[0]}: "), f"sum tells which file is refused, of {what}:\n{message}")
+
+
+def written(folder, name, content):
+    """The name of a file with this content."""
+    path = folder / name
+    path.write_bytes(content if isinstance(content, bytes) else content.encode())
+    return str(path)
+
+
+def told_of(bench, words):
+    """What a campaign writes."""
+    return subprocess.run([bench, "campaign", *placed(words.split())], stdout=subprocess.PIPE, check=True).stdout
+
+
+def by_sums(bench, folder):
+    """The parts of a campaign in every order, and files that are none. How many sums were made."""
+    press, whole = "press/press.st press/closing.trace", told_of(bench, f"press/press.st press/closing.trace {PARTS[0]} {PARTS[-1] - PARTS[0]}")
+    pieces = [told_of(bench, f"{press} {first} {last - first}") for first, last in zip(PARTS, PARTS[1:])]
+    parts = [written(folder, f"{number}.counts", piece) for number, piece in enumerate(pieces)]
+    none = written(folder, "none.counts", told_of(bench, f"{press} 5 0"))
+    for order in itertools.permutations(parts):
+        told, status, message = sum_of(bench, order)
+        expect((told.encode(), status, message) == (whole, 0, ""), f"the sum of parts in any order is one campaign: {order}\n{told}")
+    for one in (*parts, none):
+        expect(sum_of(bench, [one])[0].encode() == pathlib.Path(one).read_bytes(), f"the sum of {one} alone is that file")
+    sums = [written(folder, f"{name}.sum", sum_of(bench, some)[0]) for name, some in (("first", parts[:2]), ("last", [*parts[2:], none]))]
+    expect(sum_of(bench, sums[::-1])[0].encode() == whole, "the sum of sums is one campaign")
+    twice = counts(sum_of(bench, [parts[1], parts[1]])[0].splitlines()[2:])
+    once = counts(pieces[1].decode().splitlines()[2:])
+    expect(twice == added(once, once), "a file that is named twice counts twice")
+    channels = [written(folder, f"{channel}.counts", told_of(bench, f"{press} 0 9 --channel {channel}")) for channel in "AB"]
+    expect(sum_of(bench, channels)[1] == 0, "counts of both channels are added")
+    other = written(folder, "other.counts", told_of(bench, "stop/motor.st stop/restart.trace 0 5"))
+    trace = written(folder, "trace.counts", told_of(bench, "press/press.st press/strokes.trace 0 5"))
+    faults = written(folder, "faults.counts", told_of(bench, f"{press} 0 5 --print"))
+    for files, line, place, what in [
+        ([parts[0], other], "U2 line 1", 1, "another application"), ([parts[0], parts[1], trace], "U3 line 2", 2, "another trace"),
+        ([trace, parts[0]], "U3 line 2", 1, "another trace first"), ([other, trace], "U2 line 1", 1, "both"), ([parts[0], faults], "U1 line 1", 1, "faults"),
+    ]:
+        refuses(bench, files, line, place, what)
+    return 24 + 14 + by_formless(bench, folder, parts[0], pieces[1]) + by_largest(bench, folder)
+
+
+def by_formless(bench, folder, good, piece):
+    """Files that are no counts, alone and behind one that has some; and one that is cut off at each byte."""
+    for what, text, line in FORMLESS:
+        file = written(folder, "formless", text)
+        refuses(bench, [file], f"U1 line {line}", 0, what)
+        refuses(bench, [good, file], f"U1 line {line}", 1, f"{what}, behind counts")
+    for end in range(len(piece)):
+        file, lines = written(folder, "cut", piece[:end]), piece[:end].count(b"\n")
+        if lines < 2 or not piece[:end].endswith(b"\n"):
+            refuses(bench, [file], f"U1 line {lines + 1}", 0, f"a file that is cut off behind {end} bytes")
+        else:
+            expect(sum_of(bench, [file])[0].encode() == piece[:end], f"a file that ends with a line is taken: {end} bytes")
+    for what, content, line in [("64 MiB of one byte", b"a" * 2**26, 1), ("64 MiB of lines", b"\n" * 2**26, 1), ("64 MiB behind counts", piece + b"\n" * 2**26, piece.count(b"\n") + 1)]:
+        refuses(bench, [written(folder, "large", content)], f"U1 line {line}", 0, what)
+    for files, what in ([good, str(folder)], "a folder"), ([str(folder / "gone"), good], "a file that is not there"):
+        told, status, message = sum_of(bench, files)
+        expect((told, status) == ("", 5) and message, f"sum of {what} ends with status 5: {status}\n{told}")
+    told, status, message = sum_of(bench, [])
+    expect((told, status) == ("", 2) and "Usage: " in message, f"sum of no file ends with status 2: {status}\n{told}")
+    return 2 * len(FORMLESS) + len(piece) + 6
+
+
+def by_largest(bench, folder):
+    """Counts stay at the largest value."""
+    line = "A code trap {0} sum {0} largest 4294967295 table 0:{0} 2147483648:{1}\n"
+    full, some = (written(folder, f"{name}.counts", HEAD + line.format(*values)) for name, values in (("full", (LARGEST, LARGEST - 1)), ("some", (2, 1))))
+    for files in ([full, some], [some, full], [full, full], [some, full, some]):
+        told, status, _ = sum_of(bench, files)
+        expect((told, status) == (HEAD + line.format(LARGEST, LARGEST), 0), f"counts stay at the largest value:\n{told}")
+    return 4
+
+
 def by_words(bench):
     """Each call of CALLS, with its status."""
     for words, status in CALLS:
@@ -159,8 +271,8 @@ def main(words):
         raise Stop(f"{bench} is no program")
     by_words(bench)
     with tempfile.TemporaryDirectory() as folder:
-        trials = by_trials(bench, count, pathlib.Path(folder))
-    print(f"{trials} trials made once more, and {len(CALLS)} calls by their words")
+        trials, sums = by_trials(bench, count, pathlib.Path(folder)), by_sums(bench, pathlib.Path(folder))
+    print(f"{trials} trials made once more, {sums} sums, and {len(CALLS)} calls by their words")
     return 0
 
 

@@ -57,9 +57,11 @@ CANNOT = {
     "bench/mutants.py": [["nothing"], MANY],
     "bench/measure.py": [MANY, ["FOLDER", "GONE"], ["FOLDER", "FOLDER"]],
     "bench/trials.py": [[], ["1"], ["a", "1"], ["1", "-1"], ["1", "²"], MANY, ["1", "1", "0", "GONE"], ["--few", "FOLDER"], ["--few", "BYTES"]],
+    "dist/campaign-parallel": [[], ["a"], ["GONE", "a", "t", "0", "1"], ["FOLDER", "a", "t", "0", "1"], ["EMPTY", "a", "t", "x", "1"], ["EMPTY", "a", "t", "0", "1", "--print"]],
+    "dist/campaign-slurm": [[], ["a"], ["EMPTY", "a", "t", "0", "1"], ["FOLDER", "a", "t", "0", "1"], ["new", "a", "t", "0", "x"], ["new", "a", "t", "0", "1", "--print"]],
     "dist/install": [["a", "b"], ["--help"]],
 }
-NO_HELP = ("tools/launch.py", "dist/install")  # the words of the one are a program's, and the other is no Python
+NO_HELP = ("tools/launch.py", "dist/campaign-parallel", "dist/campaign-slurm", "dist/install")  # the words of the first are a program's, and the others are no Python
 
 
 class Trial:
@@ -76,7 +78,7 @@ class Trial:
 
     def call(self, script, words, stdin=subprocess.DEVNULL, **more):
         more = {"stdout": subprocess.PIPE, "stderr": subprocess.PIPE, **more}
-        runner = [] if script == "dist/install" else [sys.executable]
+        runner = [] if script.startswith("dist/") else [sys.executable]
         return subprocess.run([*runner, ROOT / script, *words], cwd=self.folder, stdin=stdin, timeout=120,
                               env={**os.environ, "HOME": str(self.folder)}, **more)
 

@@ -1,6 +1,6 @@
 // What the files of several names tell, added.
 
-ghost use Rattle.std.specs.Prelude.{◌≡◌, ◌≤◌, ◌×◌, ◌∷◌, ℕ, List, Any, IsTrue, Err, IfErr, IfOk, OnOk, length, map};
+ghost use Rattle.std.specs.Prelude.{◌≡◌, ◌≤◌, ◌∷◌, ℕ, List, Any, IsTrue, Err, IfErr, IfOk, OnOk, length, map};
 ghost use Rattle.ps_outside.specs.Outside.{Rose};
 ghost use Rattle.ps_totals.specs.Files.{AddsFile, AddsFiles, IsOther, IsOtherFile, IsRefused, IsSum, Tells};
 ghost use Rattle.ps_totals.specs.Sums.{IsOfForm, IsWholly};

@@ -1,6 +1,6 @@
 // Why a file is not added.
 
-ghost use Rattle.std.specs.Prelude.{◌≡◌, ◌×◌};
+ghost use Rattle.std.specs.Prelude.{◌≡◌};
 ghost use Rattle.ps_totals.specs.Sums.{head_line, rank};
 
 /// The rule by which a file is not added.

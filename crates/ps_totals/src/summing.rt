@@ -1,6 +1,6 @@
 // What campaigns wrote, read again and added.
 
-ghost use Rattle.std.specs.Prelude.{◌≡◌, ◌×◌, IfErr, IfOk, IfSome, IsTrue, OnOk};
+ghost use Rattle.std.specs.Prelude.{◌≡◌, IfErr, IfOk, IfSome, IsTrue, OnOk};
 ghost use Rattle.ps_tally.specs.Plain.{ArePlain};
 ghost use Rattle.ps_totals.specs.Sums.{Adds, IsFlaw, IsTold, text_of};
 

@@ -1,5 +1,6 @@
 -- Counts that are added and written.
 use Rattle.std.proofs.Common.{◌≡◌, ◌∙◌, ◌⊎◌, inl, inr, ℕ, ◌+◌, Bool, IsTrue, List, [], ◌∷◌, Any, Option, Some, Result, Ok, Err, refl, sym, ap, subst, arith}
+use Rattle.std.proofs.lemmas.List.Sums.{sum_by-cons}
 use Rattle.std.specs.Prelude.{IfErr, IfOk, sum}
 use Rattle.ps_bench_base.specs.Ending.{IsUnread}
 use Rattle.ps_bench_base.specs.Stopping.{Took, TookSome}
@@ -78,7 +79,8 @@ module _ (net : Network) (m : Machines) (items : List Item) (room : Room) (app t
   parts_behind from done (name ∷ names) [] parts = absurd parts
   parts_behind from done (name ∷ names) (count ∷ counts) (is, rest) =
       let on : (from + done) + count ≡ from + (done + count) = omega arith in
-      let all : (done + count) + sum counts ≡ done + (count + sum counts) = omega arith in (
+      let rest_is : sum (count ∷ counts) ≡ count + sum counts = sum_by-cons (λ (n : ℕ). n) count counts in
+      let all : (done + count) + sum counts ≡ done + sum (count ∷ counts) = omega (arith, rest_is) in (
         of_part from (done + count),
         (
           of_part (from + done) count,

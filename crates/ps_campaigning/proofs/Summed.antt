@@ -1,5 +1,5 @@
 -- Counts that are added and written.
-use Rattle.std.proofs.Common.{◌≡◌, ◌∙◌, ◌⊎◌, inl, inr, ℕ, ◌+◌, Bool, IsTrue, List, [], ◌∷◌, Any, Option, Some, Result, Ok, Err, refl, sym, ap, subst, arith}
+use Rattle.std.proofs.Common.{◌≡◌, ◌∙◌, ◌⊎◌, inl, inr, ℕ, ◌+◌, Bool, IsTrue, List, [], ◌∷◌, Bor, Option, Some, Result, Ok, Err, length, map, refl, sym, ap, subst, arith}
 use Rattle.std.proofs.lemmas.List.Sums.{sum_by-cons}
 use Rattle.std.specs.Prelude.{IfErr, IfOk, sum}
 use Rattle.ps_bench_base.specs.Ending.{IsUnread}
@@ -55,6 +55,24 @@ pub stopped : (names given : List (List ℕ)) (reading : Bool) (held : List ℕ 
 stopped names given reading held tells before after (Ok status) is answers = tt
 stopped names given reading held tells before after (Err stop) is answers =
     subst (λ (ns : List (List ℕ)). StopsSum ns reading held tells before after stop) is answers
+
+-- ---- names, as the code has them
+
+-- the bytes of names
+abbrev pub names_in : List (Bor (List ℕ)) → List (List ℕ)
+names_in = map (λ name. name.now)
+
+-- a first name and others
+abbrev pub named : (first : List ℕ) → (others : List (Bor (List ℕ))) → List (List ℕ)
+named first others = first ∷ names_in others
+
+pub parted : (names : List (Bor (List ℕ))) (first : Bor (List ℕ)) (others : List (Bor (List ℕ))) → names ≡ first ∷ others →
+    named first.now others ≡ names_in names
+parted names first others is = ap names_in (sym is)
+
+pub none_in : (names : List (Bor (List ℕ))) → length names ≡ 0 → names_in names ≡ []
+none_in [] none = refl
+none_in (name ∷ names) none = let no : ⊥ = omega (arith, none) in absurd no
 
 -- ---- parts of the trials
 

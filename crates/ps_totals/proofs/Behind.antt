@@ -14,7 +14,7 @@ use Rattle.ps_totals.specs.declared.summing.TheConstants.{LARGEST_SUM}
 use Rattle.ps_totals.specs.declared.summing.Totals.{Totals}
 
 -- the bytes of names
-abbrev names_in : List (Bor (List ℕ)) → List (List ℕ)
+abbrev pub names_in : List (Bor (List ℕ)) → List (List ℕ)
 names_in = map (λ name. name.now)
 
 -- one file more

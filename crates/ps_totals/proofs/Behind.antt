@@ -109,9 +109,10 @@ other_any held names i none a b refusal within adds other =
     name_any (λ name. IsOtherFile (held name) a refusal) names i none within
     (other_kept (held (get_or names i none).now) a b refusal head.0 head.1 other)
 
--- behind a first file
-pub any_behind : (P : List ℕ → Type 0) (first : List ℕ) (others : List (List ℕ)) → Any P others → Any P (first ∷ others)
-any_behind P first others some = (suc some.0, some.1, omega (arith, some.2), some.3, some.4)
+-- a first file, and those behind it
+pub rose_first : (reads reads' : List ℕ → ℕ) (first : List ℕ) (others : List (List ℕ)) → Rose (reads first) (reads' first) →
+    Any (λ (name : List ℕ). Rose (reads name) (reads' name)) (first ∷ others)
+rose_first reads reads' first others rose = (0, first, omega arith, refl, rose)
 
 pub rose_behind : (reads mid reads' : List ℕ → ℕ) (first : List ℕ) (others : List (List ℕ)) → ((name : List ℕ) → reads name ≤ mid name) →
     Any (λ (name : List ℕ). Rose (mid name) (reads' name)) others → Any (λ (name : List ℕ). Rose (reads name) (reads' name)) (first ∷ others)

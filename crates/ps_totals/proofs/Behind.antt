@@ -1,10 +1,10 @@
 -- Files that are read, and added one after another.
-use Rattle.std.proofs.Common.{◌≡◌, ◌∙◌, ◌<◌, ◌≤◌, ◌+◌, ◌++◌, ◌∷◌, [], ◌⊎◌, inl, inr, ℕ, suc, zero, List, Bor, Any, Option, Some, None, IsSome, Result, Ok, Err, length, map, take, get_or, refl, sym, ap, subst, arith}
+use Rattle.std.proofs.Common.{◌≡◌, ◌∙◌, ◌<◌, ◌≤◌, ◌+◌, ◌++◌, ◌∷◌, [], inl, inr, ℕ, suc, zero, List, Bor, Any, Option, Some, None, IsSome, Result, Ok, Err, length, map, take, get_or, refl, sym, ap, subst, arith}
 use Rattle.std.proofs.lemmas.List.{get_or-map, length-map, map-append, take_more}
-use Rattle.std.specs.Prelude.{IfErr, IfOk, IfSome, IsTrue}
+use Rattle.std.specs.Prelude.{IfErr, IfOk}
 use Rattle.ps_outside.specs.Outside.{Rose}
-use Rattle.ps_totals.specs.Files.{AddsFile, AddsFiles, IsOther, IsOtherFile, IsRefused, Tells}
-use Rattle.ps_totals.specs.Sums.{Adds, IsFlaw, IsOfForm, IsTold, IsWholly}
+use Rattle.ps_totals.specs.Files.{AddsFile, AddsFiles, IsOther, IsOtherFile, Tells}
+use Rattle.ps_totals.specs.Sums.{IsFlaw, IsOfForm, IsTold, IsWholly}
 use Rattle.ps_totals.specs.declared.adding.SumStop.{SumStop}
 use Rattle.ps_totals.specs.declared.adding.SumStop.TheVariants.{Refused, Unread, NoMemory}
 use Rattle.ps_totals.specs.declared.refusal.SumRefusal.{SumRefusal}
@@ -35,7 +35,10 @@ one_more held names i none a b c within adds more =
 
 -- what was read of a text that is held, to its end
 short_of : (n : ℕ) (text : List ℕ) → length (take (n + 1) text) ≤ n → take (n + 1) text ≡ text
-short_of n [] few = let e : n + 1 ≡ suc n = omega arith in ap (λ m. take m ([] {A = ℕ})) e
+short_of n [] few =
+    let none : List ℕ = [] in
+    let e : n + 1 ≡ suc n = omega arith in
+    ap (λ m. take m none) e
 short_of zero (x ∷ text) few = let no : ⊥ = omega (arith, few) in absurd no
 short_of (suc n) (x ∷ text) few =
     let e : suc n + 1 ≡ suc (n + 1) = omega arith in

@@ -1,5 +1,6 @@
 -- Counts that are added and written.
-use Rattle.std.proofs.Common.{◌≡◌, ◌∙◌, ◌⊎◌, inl, inr, ℕ, ◌+◌, Bool, IsTrue, List, [], ◌∷◌, Any, Option, Some, Result, Ok, Err, refl, sym, ap, subst, arith}
+use Rattle.std.proofs.Common.{◌≡◌, ◌∙◌, ◌⊎◌, inl, inr, ℕ, ◌+◌, Bool, IsTrue, List, [], ◌∷◌, Bor, Option, Some, Result, Ok, Err, length, map, refl, sym, ap, subst, arith}
+use Rattle.std.proofs.lemmas.List.Sums.{sum_by-cons}
 use Rattle.std.specs.Prelude.{IfErr, IfOk, sum}
 use Rattle.ps_bench_base.specs.Ending.{IsUnread}
 use Rattle.ps_bench_base.specs.Stopping.{Took, TookSome}
@@ -55,6 +56,24 @@ stopped names given reading held tells before after (Ok status) is answers = tt
 stopped names given reading held tells before after (Err stop) is answers =
     subst (λ (ns : List (List ℕ)). StopsSum ns reading held tells before after stop) is answers
 
+-- ---- names, as the code has them
+
+-- the bytes of names
+abbrev pub names_in : List (Bor (List ℕ)) → List (List ℕ)
+names_in = map (λ name. name.now)
+
+-- a first name and others
+abbrev pub named : (first : List ℕ) → (others : List (Bor (List ℕ))) → List (List ℕ)
+named first others = first ∷ names_in others
+
+pub parted : (names : List (Bor (List ℕ))) (first : Bor (List ℕ)) (others : List (Bor (List ℕ))) → names ≡ first ∷ others →
+    named first.now others ≡ names_in names
+parted names first others is = ap names_in (sym is)
+
+pub none_in : (names : List (Bor (List ℕ))) → length names ≡ 0 → names_in names ≡ []
+none_in [] none = refl
+none_in (name ∷ names) none = let no : ⊥ = omega (arith, none) in absurd no
+
 -- ---- parts of the trials
 
 module _ (net : Network) (m : Machines) (items : List Item) (room : Room) (app trace : List ℕ) (held : List ℕ → Option (List ℕ)) where
@@ -78,7 +97,8 @@ module _ (net : Network) (m : Machines) (items : List Item) (room : Room) (app t
   parts_behind from done (name ∷ names) [] parts = absurd parts
   parts_behind from done (name ∷ names) (count ∷ counts) (is, rest) =
       let on : (from + done) + count ≡ from + (done + count) = omega arith in
-      let all : (done + count) + sum counts ≡ done + (count + sum counts) = omega arith in (
+      let rest_is : sum (count ∷ counts) ≡ count + sum counts = sum_by-cons (λ (n : ℕ). n) count counts in
+      let all : (done + count) + sum counts ≡ done + sum (count ∷ counts) = omega (arith, rest_is) in (
         of_part from (done + count),
         (
           of_part (from + done) count,

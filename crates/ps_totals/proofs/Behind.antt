@@ -1,10 +1,10 @@
 -- Files that are read, and added one after another.
-use Rattle.std.proofs.Common.{◌≡◌, ◌∙◌, ◌<◌, ◌≤◌, ◌+◌, ◌++◌, ◌∷◌, [], ◌⊎◌, inl, inr, ℕ, suc, zero, List, Bor, Any, Option, Some, None, IsSome, Result, Ok, Err, length, map, take, get_or, refl, sym, ap, subst, arith}
+use Rattle.std.proofs.Common.{◌≡◌, ◌∙◌, ◌<◌, ◌≤◌, ◌+◌, ◌++◌, ◌∷◌, [], inl, inr, ℕ, suc, zero, List, Bor, Any, Option, Some, None, IsSome, Result, Ok, Err, length, map, take, get_or, refl, sym, ap, subst, arith}
 use Rattle.std.proofs.lemmas.List.{get_or-map, length-map, map-append, take_more}
-use Rattle.std.specs.Prelude.{IfErr, IfOk, IfSome, IsTrue}
+use Rattle.std.specs.Prelude.{IfErr, IfOk}
 use Rattle.ps_outside.specs.Outside.{Rose}
-use Rattle.ps_totals.specs.Files.{AddsFile, AddsFiles, IsOther, IsOtherFile, IsRefused, Tells}
-use Rattle.ps_totals.specs.Sums.{Adds, IsFlaw, IsOfForm, IsTold, IsWholly}
+use Rattle.ps_totals.specs.Files.{AddsFile, AddsFiles, IsOther, IsOtherFile, Tells}
+use Rattle.ps_totals.specs.Sums.{IsFlaw, IsOfForm, IsTold, IsWholly}
 use Rattle.ps_totals.specs.declared.adding.SumStop.{SumStop}
 use Rattle.ps_totals.specs.declared.adding.SumStop.TheVariants.{Refused, Unread, NoMemory}
 use Rattle.ps_totals.specs.declared.refusal.SumRefusal.{SumRefusal}
@@ -14,7 +14,7 @@ use Rattle.ps_totals.specs.declared.summing.TheConstants.{LARGEST_SUM}
 use Rattle.ps_totals.specs.declared.summing.Totals.{Totals}
 
 -- the bytes of names
-abbrev names_in : List (Bor (List ℕ)) → List (List ℕ)
+abbrev pub names_in : List (Bor (List ℕ)) → List (List ℕ)
 names_in = map (λ name. name.now)
 
 -- one file more
@@ -35,7 +35,10 @@ one_more held names i none a b c within adds more =
 
 -- what was read of a text that is held, to its end
 short_of : (n : ℕ) (text : List ℕ) → length (take (n + 1) text) ≤ n → take (n + 1) text ≡ text
-short_of n [] few = let e : n + 1 ≡ suc n = omega arith in ap (λ m. take m ([] {A = ℕ})) e
+short_of n [] few =
+    let none : List ℕ = [] in
+    let e : n + 1 ≡ suc n = omega arith in
+    ap (λ m. take m none) e
 short_of zero (x ∷ text) few = let no : ⊥ = omega (arith, few) in absurd no
 short_of (suc n) (x ∷ text) few =
     let e : suc n + 1 ≡ suc (n + 1) = omega arith in
@@ -109,9 +112,10 @@ other_any held names i none a b refusal within adds other =
     name_any (λ name. IsOtherFile (held name) a refusal) names i none within
     (other_kept (held (get_or names i none).now) a b refusal head.0 head.1 other)
 
--- behind a first file
-pub any_behind : (P : List ℕ → Type 0) (first : List ℕ) (others : List (List ℕ)) → Any P others → Any P (first ∷ others)
-any_behind P first others some = (suc some.0, some.1, omega (arith, some.2), some.3, some.4)
+-- a first file, and those behind it
+pub rose_first : (reads reads' : List ℕ → ℕ) (first : List ℕ) (others : List (List ℕ)) → Rose (reads first) (reads' first) →
+    Any (λ (name : List ℕ). Rose (reads name) (reads' name)) (first ∷ others)
+rose_first reads reads' first others rose = (0, first, omega arith, refl, rose)
 
 pub rose_behind : (reads mid reads' : List ℕ → ℕ) (first : List ℕ) (others : List (List ℕ)) → ((name : List ℕ) → reads name ≤ mid name) →
     Any (λ (name : List ℕ). Rose (mid name) (reads' name)) others → Any (λ (name : List ℕ). Rose (reads name) (reads' name)) (first ∷ others)

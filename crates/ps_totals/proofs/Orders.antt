@@ -2,7 +2,7 @@
 use Rattle.std.proofs.Common.{◌≡◌, ◌∙◌, ℕ, List, [], ◌∷◌, ◌++◌, Option, refl, sym, ap}
 use Rattle.ps_tally.proofs.Adding.{any_order as tallies_any_order}
 use Rattle.ps_tally.specs.Adding.{added}
-use Rattle.ps_totals.specs.Files.{AddsFiles, IsSum}
+use Rattle.ps_totals.specs.Files.{AddsFiles}
 use Rattle.ps_totals.specs.Laws.{IsOfAnyOrder}
 use Rattle.ps_totals.specs.Sums.{Adds}
 use Rattle.ps_totals.specs.declared.summing.Totals.{Totals}
@@ -37,14 +37,14 @@ begun_turned x y c adds = record {
 -- two files beside each other, behind others
 files_turned : (held : List ℕ → Option (List ℕ)) (names others : List (List ℕ)) (one other : List ℕ) (a c : Totals) →
     AddsFiles held (names ++ one ∷ other ∷ others) a c → AddsFiles held (names ++ other ∷ one ∷ others) a c
-files_turned held [] others one other a c (b, (x, tells, first), d, (y, told, second), rest) =
+files_turned held [] others one other a c (b, (x, tells, first), (d, (y, told, second), rest)) =
     let other_way = turned a x y b d first second in
-    (other_way.0, (y, told, other_way.1), d, (x, tells, other_way.2), rest)
+    (other_way.0, (y, told, other_way.1), (d, (x, tells, other_way.2), rest))
 files_turned held (name ∷ names) others one other a c (b, adds, rest) =
     (b, adds, files_turned held names others one other b c rest)
 
 pub any_order : IsOfAnyOrder
-any_order held [] others one other total (x, tells, c, (y, told, adds), rest) =
-    (y, told, c, (x, tells, begun_turned x y c adds), rest)
+any_order held [] others one other total (x, tells, (c, (y, told, adds), rest)) =
+    (y, told, (c, (x, tells, begun_turned x y c adds), rest))
 any_order held (name ∷ names) others one other total (begun, tells, adds) =
     (begun, tells, files_turned held names others one other begun total adds)

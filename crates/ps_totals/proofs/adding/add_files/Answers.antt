@@ -1,4 +1,4 @@
-use Rattle.std.proofs.Common.{◌≡◌, ◌<◌, ◌∙◌, [], ℕ, IsTrue, List, Bor, Err, Option, length, get_or, sym, ap, subst, arith}
+use Rattle.std.proofs.Common.{◌<◌, ◌∙◌, [], ℕ, IsTrue, List, Bor, Option, length, get_or, sym, subst, arith}
 use Rattle.ps_outside.specs.Outside.{Rose}
 use Rattle.ps_totals.specs.Files.{AddsFile, IsOtherFile}
 use Rattle.ps_totals.proofs.Behind.{name_any, one_more, other_any, rose_since}

@@ -6,7 +6,7 @@ use std::alloc::Global;
 use std::marker::Model;
 
 /// The inputs that follow a signal, which contracts see as a list.
-#[derive(Drop, Debug)]
+#[derive(Drop)]
 pub struct Follows {
     items: Vec<Follow>,
 }
@@ -49,7 +49,7 @@ impl Follows {
 }
 
 /// The conditions of a rule, which contracts see as a list.
-#[derive(Drop, Debug)]
+#[derive(Drop)]
 pub struct Conditions {
     items: Vec<Condition>,
 }
@@ -101,7 +101,7 @@ impl Conditions {
 }
 
 /// The rules in the order of their file, which contracts see as a list.
-#[derive(Drop, Debug)]
+#[derive(Drop)]
 pub struct Rules {
     items: Vec<Rule>,
 }

@@ -9,7 +9,7 @@ use ps_base::Label;
 use ps_terms::{Name, Settings, Values};
 
 /// What a rules file is read for.
-#[derive(Clone, Copy, Debug, PartialEq, Eq)]
+#[derive(Clone, Copy)]
 pub enum Purpose {
     /// For what must never be: there is one rule at least.
     Never,
@@ -18,7 +18,7 @@ pub enum Purpose {
 }
 
 /// How scans come.
-#[derive(Clone, Copy, Debug, PartialEq, Eq)]
+#[derive(Clone, Copy)]
 pub enum Pace {
     /// So many ms apart, from 1 on.
     Every(u32),
@@ -28,7 +28,7 @@ pub enum Pace {
 
 /// An input that is the value of a signal after the scan before, or its negation. In a first scan the signal counts as
 /// FALSE.
-#[derive(Clone, Copy, Debug, PartialEq, Eq)]
+#[derive(Clone, Copy)]
 pub struct Follow {
     /// The number of the input.
     pub input: u16,
@@ -40,7 +40,7 @@ pub struct Follow {
 
 /// What is to hold in a scan. A value is a number: of a signal or a pin 0 for FALSE and 1 for TRUE, of an instance its
 /// DiagCode.
-#[derive(Drop, Debug)]
+#[derive(Drop)]
 pub struct Condition {
     /// Whose value.
     pub name: Name,
@@ -53,7 +53,7 @@ pub struct Condition {
 }
 
 /// What must never be: a scan in which all of its conditions hold.
-#[derive(Drop, Debug)]
+#[derive(Drop)]
 pub struct Rule {
     /// The number of its `never` line.
     pub line: u32,
@@ -64,7 +64,7 @@ pub struct Rule {
 }
 
 /// A rules file. Each input stands in one of `fixed`, `follows` and `first` at most, and once.
-#[derive(Drop, Debug)]
+#[derive(Drop)]
 pub struct RulesFile {
     /// How scans come, where the file says it.
     pub pace: Option<Pace>,

@@ -19,7 +19,7 @@ use ps_verdict::do_all_hold;
 use std::alloc::Global;
 
 /// What is told of the rules of a file.
-#[derive(Drop, Debug)]
+#[derive(Drop)]
 pub struct Told {
     /// What is written of them.
     pub text: Bytes,
@@ -28,7 +28,7 @@ pub struct Told {
 }
 
 /// Why the rules of a file have no answer.
-#[derive(Clone, Copy, Debug, PartialEq, Eq)]
+#[derive(Clone, Copy)]
 pub enum NeverFail {
     /// The file is refused.
     Refused(RulesRefusal),

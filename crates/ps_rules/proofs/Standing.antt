@@ -6,18 +6,17 @@ use Rattle.std.proofs.lemmas.Bool.{ltb-true}
 use Rattle.std.proofs.lemmas.Grind.{common_steps}
 use Rattle.std.proofs.lemmas.List.Elements.{All-nil, All-push, All-append}
 use Rattle.ps_base.specs.LetterCase.{is_same_name}
-use Rattle.ps_model.specs.Blocks.{block}
 use Rattle.ps_model.specs.Network.{Network, declared_count, input_count, instance_count, kind_at}
 use Rattle.ps_model.specs.Pins.{pin_count, pin_names, pin_rows}
 use Rattle.ps_model.specs.declared.pins.PinRow.{PinRow}
 use Rattle.ps_terms.specs.Names.{IsNameOf, boolean_pin, either_name, has_equals, input_in, instance_names, is_denied, is_dot, is_time, name_of, name_part, number_named, pin_at, pin_named, pin_of, signal_names, truth_of, value_part}
 use Rattle.ps_terms.specs.declared.name.Name.{Name}
-use Rattle.ps_terms.specs.declared.name.Name.TheVariants.{Signal, Code, Pin}
+use Rattle.ps_terms.specs.declared.name.Name.TheVariants.{Pin}
 use Rattle.ps_terms.specs.declared.name.Setting.{Setting}
 use Rattle.ps_terms.proofs.Naming.{signal_names-length, instance_names-length}
 use Rattle.ps_rules.specs.Parts.{and_then}
 use Rattle.ps_rules.specs.Standing.{IsFollow, IsOfApplication, IsOfInput, IsOfName, IsOfNames}
-use Rattle.ps_rules.specs.Words.{among_said, asked_name, is_at, may_ask, compare_said, condition_of, condition_said, conditions_said, denied_said, named_when, setting_of, setting_said, settings_said, term_of}
+use Rattle.ps_rules.specs.Words.{among_said, is_at, compare_said, condition_of, condition_said, conditions_said, denied_said, named_when, setting_of, setting_said, settings_said, term_of}
 use Rattle.ps_rules.specs.declared.flaw.Flaw.{Flaw}
 use Rattle.ps_rules.specs.declared.rules.Condition.{Condition}
 
@@ -125,19 +124,6 @@ module _ (net : Network) where
       chosen None = tt
       chosen (Some signal) = one signal (nat_lt signal (input_count net)) (λ is. ltb-true signal (input_count net) is)
 
-  may_ask_has : (name : Option Name) → IfSome name (IsNameOf net) → IfSome (may_ask net name) (IsNameOf net)
-  may_ask_has None has = tt
-  may_ask_has (Some (Signal s)) has = has
-  may_ask_has (Some (Code i)) has = has
-  may_ask_has (Some (Pin i j)) has = chosen (nat_lt j (length (block (kind_at net i)).inputs))
-    where
-      chosen : (b : Bool) → IfSome (if b then None else Some (Pin i j)) (IsNameOf net)
-      chosen true = tt
-      chosen false = has
-
-  asked_has : (word : List ℕ) → IfSome (asked_name net word) (IsNameOf net)
-  asked_has word = may_ask_has (name_of net word) (name_has word)
-
   -- ---- Conditions.
 
   -- what is named is of the application
@@ -150,8 +136,8 @@ module _ (net : Network) where
 
   term_has : (word : List ℕ) → IfSome (term_of net word) IsTerm
   term_has word =
-      chosen (list_any is_at word) (bytes_eq (after_first is_at word) (codes "before")) (asked_name net (before_first is_at word)) (asked_name net word)
-      (asked_has (before_first is_at word)) (asked_has word)
+      chosen (list_any is_at word) (bytes_eq (after_first is_at word) (codes "before")) (name_of net (before_first is_at word)) (name_of net word)
+      (name_has (before_first is_at word)) (name_has word)
     where
       chosen : (b c : Bool) (first whole : Option Name) → IfSome first (IsNameOf net) → IfSome whole (IsNameOf net) →
           IfSome (if b then (if c then named_when true first else None) else named_when false whole) IsTerm

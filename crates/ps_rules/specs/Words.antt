@@ -1,14 +1,12 @@
 -- The settings and conditions that words of a rules file are.
-use Rattle.std.specs.Prelude.{ℕ, ◌-◌, List, [], ◌∷◌, ◌==◌, Bool, true, false, nat_lt, if◌then◌else◌, length, take, codes, fold}
+use Rattle.std.specs.Prelude.{ℕ, ◌-◌, List, [], ◌∷◌, ◌==◌, Bool, true, false, if◌then◌else◌, length, take, codes, fold}
 use Rattle.std.specs.Prelude.{Option, Some, None, Result, Ok, Err}
 use Rattle.std.specs.List.{list_any, before_first, after_first}
 use Rattle.std.specs.Str.{bytes_eq}
-use Rattle.ps_model.specs.Blocks.{block}
-use Rattle.ps_model.specs.Network.{Network, kind_at}
+use Rattle.ps_model.specs.Network.{Network}
 use Rattle.ps_terms.specs.Names.{has_equals, input_in, is_denied, name_of, name_part, number_named, signal_names}
 use Rattle.ps_terms.specs.Names.{truth_of, value_of, value_part, values_of}
 use Rattle.ps_terms.specs.declared.name.Name.{Name}
-use Rattle.ps_terms.specs.declared.name.Name.TheVariants.{Signal, Code, Pin}
 use Rattle.ps_terms.specs.declared.name.Setting.{Setting}
 use Rattle.ps_rules.specs.Parts.{and_then}
 use Rattle.ps_rules.specs.declared.flaw.Flaw.{Flaw}
@@ -45,24 +43,13 @@ abbrev pub named_when : Bool → Option Name → Option (Name × Bool)
 named_when before None = None
 named_when before (Some name) = Some (name, before)
 
--- what a condition may ask for: of the pins of an instance the outputs alone
-abbrev pub may_ask : Network → Option Name → Option Name
-may_ask net None = None
-may_ask net (Some (Signal s)) = Some (Signal s)
-may_ask net (Some (Code i)) = Some (Code i)
-may_ask net (Some (Pin i j)) = if nat_lt j (length (block (kind_at net i)).inputs) then None else Some (Pin i j)
-
--- what a name may ask for
-abbrev pub asked_name : Network → List ℕ → Option Name
-asked_name net word = may_ask net (name_of net word)
-
 -- NAME, or NAME@before, whose value after the scan before is meant
 abbrev pub term_of : Network → List ℕ → Option (Name × Bool)
 term_of net word =
     if list_any is_at word
-    then if bytes_eq (after_first is_at word) (codes "before") then named_when true (asked_name net (before_first is_at word))
+    then if bytes_eq (after_first is_at word) (codes "before") then named_when true (name_of net (before_first is_at word))
     else None
-    else named_when false (asked_name net word)
+    else named_when false (name_of net word)
 
 -- a condition of these values: R3 where one of them is none
 abbrev pub condition_of : Name → (before denied : Bool) → Option (List ℕ) → Result Condition Flaw

@@ -204,7 +204,7 @@ impl Draft {
         if let Some(refusal) = self.bare_rule() {
             return Ok(Err(refusal));
         }
-        if purpose == Purpose::Never && self.head.is_none() {
+        if matches!(purpose, Purpose::Never) && self.head.is_none() {
             return Ok(Err(at(Flaw::R1, number)));
         }
         self.close(alloc)?;

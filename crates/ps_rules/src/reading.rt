@@ -26,9 +26,9 @@ const LIMITS: Limits = Limits {
 ///
 /// The first refused line decides; in a line R5 for its bytes or its number comes first, then the least number. R1: a
 /// line has not its form, a setting stands behind a rule or how scans come is said twice, a rule has no condition (at its
-/// `never` line), or at the line behind the last one: there is no rule. R2: a NAME that there is not, or of another sort: an input pin of an instance is none, what stands at it is.
-/// R3: a value. R4: an input that stands twice behind `fixed`, `follows` and `first`. R5: over 65,536 bytes in a line,
-/// 200 in a name of a rule, 100,000 lines, 1,000 rules, or 4,294,967,295 in the file or as a number of ms. For a
+/// `never` line), or at the line behind the last one: there is no rule. R2: a NAME that there is not, or of another
+/// sort. R3: a value. R4: an input that stands twice behind `fixed`, `follows` and `first`. R5: over 65,536 bytes in a
+/// line, 200 in a name of a rule, 100,000 lines, 1,000 rules, or 4,294,967,295 in the file or as a number of ms. For a
 /// comparison a rule is R1, and what an input follows is an input or an output.
 ///
 /// All that an accepted file names is of the application: inputs, signals that are followed, and names of conditions.

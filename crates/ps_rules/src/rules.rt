@@ -9,7 +9,7 @@ use ps_base::Label;
 use ps_terms::{Name, Settings, Values};
 
 /// What a rules file is read for.
-#[derive(Clone, Copy, PartialEq, Eq)]
+#[derive(Clone, Copy)]
 pub enum Purpose {
     /// For what must never be: there is one rule at least.
     Never,

@@ -4,7 +4,7 @@ ghost use Rattle.std.specs.Prelude.{◌≡◌, ◌≤◌, ◌<◌, ℕ, Bool, le
 ghost use Rattle.ps_model.specs.Network.{instance_count};
 ghost use Rattle.ps_trace.specs.Words.{words};
 ghost use Rattle.ps_terms.specs.Words.{counted};
-ghost use Rattle.ps_rules.specs.Words.{among_said, asked_name, compare_said, condition_said, conditions_said, denied_said};
+ghost use Rattle.ps_rules.specs.Words.{among_said, compare_said, condition_said, conditions_said, denied_said};
 ghost use Rattle.ps_rules.specs.Words.{setting_said, settings_said, term_of};
 
 use crate::flaw::Flaw;
@@ -12,7 +12,7 @@ use crate::lists::Conditions;
 use crate::parts::{and_condition, and_setting};
 use crate::rules::Condition;
 use ps_base::Memory;
-use ps_model::{App, input_count};
+use ps_model::App;
 use ps_terms::{
     Name, Setting, Settings, Values, cut, input_named, name_of, next_counted, truth_of, value_of,
     values_of,
@@ -100,18 +100,6 @@ fn compare_said(
     }
 }
 
-// What a name may ask for: of the pins of an instance the outputs alone.
-fn asked_name(app: &App, word: &[u8]) -> Option<Name>
-    ensures named { result ≡ asked_name app.now word.now }
-    ensures within { (i : ℕ) → result ≡ Some (Name.Code i) → i < instance_count app.now }
-{
-    let name = name_of(app, word)?;
-    match name {
-        Name::Pin { instance, pin } if pin < input_count(app.instance_kind(instance)) => None,
-        Name::Pin { .. } | Name::Signal(_) | Name::Code(_) => Some(name),
-    }
-}
-
 // What is named, and whether its value after the scan before is meant.
 fn term_of(app: &App, word: &[u8]) -> Option<(Name, bool)>
     ensures named { result ≡ term_of app.now word.now }
@@ -122,9 +110,9 @@ fn term_of(app: &App, word: &[u8]) -> Option<(Name, bool)>
             if when != b"before".as_slice() {
                 return None;
             }
-            Some((asked_name(app, name)?, true))
+            Some((name_of(app, name)?, true))
         }
-        (_, None) => Some((asked_name(app, word)?, false)),
+        (_, None) => Some((name_of(app, word)?, false)),
     }
 }
 

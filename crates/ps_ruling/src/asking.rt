@@ -107,7 +107,7 @@ pub fn inputs_of_two(
     Ok(rules)
 }
 
-// Whose value a name asks for: an output pin of an instance is a signal.
+// Whose value a name asks for: what is read at an input pin of an instance, and an output pin is a signal.
 fn subject_of(app: &App, name: Name) -> Subject
     requires { IsNameOf app.now name }
     ensures { result ≡ subject_of app.now name }
@@ -118,7 +118,11 @@ fn subject_of(app: &App, name: Name) -> Subject
         Name::Code(instance) => Subject::Code(instance),
         Name::Pin { instance, pin } => {
             let inputs = input_count(app.instance_kind(instance));
-            Subject::Signal(app.first_pin(instance) + u16::from(pin.saturating_sub(inputs)))
+            if pin < inputs {
+                Subject::Pin { instance, pin }
+            } else {
+                Subject::Signal(app.first_pin(instance) + u16::from(pin - inputs))
+            }
         }
     }
 }

@@ -26,7 +26,7 @@ use ps_verdict::{Compared, do_all_hold};
 use std::alloc::Global;
 
 /// What is told of two applications.
-#[derive(Drop, Debug)]
+#[derive(Drop)]
 pub struct Told {
     /// What is written of them.
     pub text: Bytes,
@@ -35,7 +35,7 @@ pub struct Told {
 }
 
 /// Why two applications have no answer.
-#[derive(Clone, Copy, Debug, PartialEq, Eq)]
+#[derive(Clone, Copy)]
 pub enum SameFail {
     /// The rules file is refused.
     Refused(RulesRefusal),

@@ -10,7 +10,7 @@ use crate::telling::alike;
 use ps_model::{App, is_safe};
 
 /// Where the inputs and outputs of two applications are not the same.
-#[derive(Clone, Copy, Debug, PartialEq, Eq)]
+#[derive(Clone, Copy)]
 pub enum Unlike {
     /// There are not as many inputs.
     Inputs,

@@ -25,7 +25,7 @@ fn said_of(flaw: Flaw) -> Said {
         Flaw::R2 => Said {
             rule: "R2",
             sentence: "a name is unknown, or it is of a sort that may not stand here",
-            remedy: "fix and follow with inputs; ask for inputs, outputs, locals, instances, or INSTANCE.PIN for an output",
+            remedy: "fix and follow with inputs; ask for inputs, outputs, locals, instances, or INSTANCE.PIN for a BOOL or SAFEBOOL pin",
         },
         Flaw::R3 => Said {
             rule: "R3",

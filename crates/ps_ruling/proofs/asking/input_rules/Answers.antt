@@ -1,11 +1,11 @@
-use Rattle.std.proofs.Common.{◌≡◌, ◌<◌, ◌∙◌, ◌+◌, ◌++◌, ◌∷◌, [], List, map, sym, ap, arith}
+use Rattle.std.proofs.Common.{◌≡◌, ◌<◌, ◌∙◌, ◌++◌, ◌∷◌, [], map, sym, ap, arith}
 use Rattle.std.proofs.lemmas.Grind.{common_steps}
 use Rattle.std.specs.List.{range_with_len}
 use Rattle.std.proofs.lemmas.List.FromFn.{map-range_with_len_more}
 use Rattle.ps_model.specs.Network.{input_count}
 use Rattle.ps_reach.specs.declared.asked.InputRule.{InputRule}
 use Rattle.ps_ruling.specs.Asked.{input_rule, rule_by}
-use Rattle.ps_ruling.specs.Wanted.{is_wanted, marked_at}
+use Rattle.ps_ruling.specs.Wanted.{marked_at}
 use Rattle.ps_ruling.proofs.asking.input_rules.Goals as goal
 
 pub loop-i-preserved : goal.loop-i-preserved

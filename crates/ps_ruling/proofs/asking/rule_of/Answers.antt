@@ -1,4 +1,4 @@
-use Rattle.std.proofs.Common.{◌≡◌, ◌<◌, ◌∙◌, length, get_or, sym, ap, arith}
+use Rattle.std.proofs.Common.{◌≡◌, ◌<◌, ◌∙◌, length, get_or, ap, arith}
 use Rattle.ps_rules.specs.declared.rules.Condition.{Condition}
 use Rattle.ps_ruling.specs.Asked.{IsCheckOf}
 use Rattle.ps_ruling.proofs.Matching.{alike_more}

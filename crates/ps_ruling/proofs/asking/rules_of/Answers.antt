@@ -1,4 +1,4 @@
-use Rattle.std.proofs.Common.{◌≡◌, ◌<◌, length, arith}
+use Rattle.std.proofs.Common.{◌<◌, length, arith}
 use Rattle.ps_ruling.specs.Asked.{IsRuleOf}
 use Rattle.ps_ruling.proofs.Matching.{alike_more}
 use Rattle.ps_ruling.proofs.asking.rules_of.Goals as goal

@@ -1,6 +1,6 @@
-use Rattle.std.proofs.Common.{◌≡◌, ◌≤◌, ◌<◌, ◌+◌, ◌∙◌, length, sym, ap, subst, arith}
-use Rattle.ps_model.specs.Blocks.{block, output_count}
-use Rattle.ps_model.specs.Network.{first_pin, kind_at}
+use Rattle.std.proofs.Common.{◌≡◌, ◌∙◌, length, ap, subst, arith}
+use Rattle.ps_model.specs.Blocks.{block}
+use Rattle.ps_model.specs.Network.{kind_at}
 use Rattle.ps_model.proofs.FirstPinBound.{first_pin-bound}
 use Rattle.ps_terms.specs.Names.{IsNameOf}
 use Rattle.ps_ruling.proofs.Pins.{pins_counted}
@@ -14,4 +14,4 @@ overflow_add-result c =
     let bound = first_pin-bound net c.in-Pin.instance stands.0 in
     let pins = pins_counted kind in
     let inputs : c.input_count-inputs.result ≡ length (block kind).inputs = c.input_count-inputs.ensures ∙ ap (λ k. length (block k).inputs) c.instance_kind.ensures in
-    omega (arith, stands.1, bound, pins, inputs, c.first_pin.ensures, c.from.ensures, c.saturating_sub.ensures, c.sound.ensures.few_signals)
+    omega (arith, stands.1, bound, pins, inputs, c.first_pin.ensures, c.from.ensures, c.if-pin-inputs, c.sound.ensures.few_signals)

@@ -4,7 +4,7 @@
 editor.py PROGRAM [NAME=PROGRAM..]    PROGRAM, or the one that is given as plcsafe-lsp=FILE, is the server
 
 Each request has to be answered once, under its id; a refusal has to stand at its place, in UTF-16 code units; and no message may end
-the server with anything but the status that it has for it. A change of a text of 1 MiB has to be answered in time.
+the server with anything but the status that it has for it. Each change of a text of 1 MiB has to be answered in time.
 """
 import json
 import os
@@ -34,7 +34,7 @@ WRONG = TEXT.replace(", );", ", Reset := Reset);")
 RIGHT = WRONG.replace("S_None", "E.S_EStopOut")
 BROKEN_BODIES, BROKEN_TEXTS, BROKEN_STREAMS = 6_000, 3_900, 100
 METHODS = ("hover", "completion", "definition", "documentSymbol")
-WANTED_SECONDS, MOST_SECONDS = 0.2, 1.0  # for the answer to a change of a text of 1 MiB: on a quiet machine, and on any
+MOST_SECONDS, CHANGES = 0.2, 9  # for the answer to each change of a text of 1 MiB, and how many are tried
 
 
 def frame(body):
@@ -266,23 +266,33 @@ def large_text(bad):
     return head + line * ((1_048_576 - len(head) - len(tail)) // len(line.encode())) + tail
 
 
+def worked(process):
+    """The seconds that a process has been on a processor, where the system says it."""
+    try:
+        return int(pathlib.Path(f"/proc/{process.pid}/schedstat").read_text().split()[0]) / 1e9
+    except OSError:
+        return None
+
+
+def answer_time(talk, change):
+    """How long the notice on a change takes, in seconds; without what the server waits while others are at work."""
+    before, begun = worked(talk.run), time.monotonic()
+    talk.say(change)
+    talk.hear()
+    took, after = time.monotonic() - begun, worked(talk.run)
+    return took if before is None or after is None else min(took, after - before)
+
+
 def by_large_texts(server):
-    """How long the notice on a change of a text of 1 MiB takes, in seconds: the least of some, for each of two texts."""
+    """How long the notices on changes of a text of 1 MiB take, in seconds and in order of size, for each of two texts."""
     took = {}
     for name, text in (("bad statements", large_text(True)), ("comments", large_text(False))):
         talk = Talk(server)
         talk.say(BEGIN + opened(text))
         while "method" not in talk.hear():
             pass
-        took[name] = 99.0
-        for _ in range(7):
-            change = opened(text, "textDocument/didChange")
-            begun = time.monotonic()
-            talk.say(change)
-            talk.hear()
-            took[name] = min(took[name], time.monotonic() - begun)
-            if took[name] < WANTED_SECONDS:
-                break
+        change = opened(text, "textDocument/didChange")
+        took[name] = sorted(answer_time(talk, change) for _ in range(CHANGES))
         talk.end()
     return took
 
@@ -352,9 +362,11 @@ def main(words):
     by_last_parsed(server)
     count = by_broken_bodies(server) + by_broken_texts(server) + by_broken_streams(server)
     took = by_large_texts(server)
-    print("a change of 1 MiB is answered in " + ", ".join(f"{1000 * seconds:.0f} ms ({name})" for name, seconds in took.items()))
-    if b"__asan_init" not in pathlib.Path(server).read_bytes() and not server.endswith(".by-rattle"):
-        expect(max(took.values()) < MOST_SECONDS, f"it is answered in {1000 * MOST_SECONDS:.0f} ms")
+    for name, times in took.items():
+        least, middle, most = (1000 * times[at] for at in (0, CHANGES // 2, -1))
+        print(f"a change of 1 MiB of {name} is answered in {least:.0f} ms at least, {middle:.0f} in the middle, {most:.0f} at most")
+        if b"__asan_init" not in pathlib.Path(server).read_bytes() and not server.endswith(".by-rattle"):
+            expect(times[-1] < MOST_SECONDS, f"each is answered in {1000 * MOST_SECONDS:.0f} ms")
     print(by_neovim(server))
     print(f"a whole talk, and {count} broken messages, texts and streams, have the answers that they are to have")
     return 0

@@ -7,7 +7,7 @@ ghost use Rattle.ps_findings.specs.Findings.{Diagnoses, IsFirst, Tells};
 use crate::finding::{Finding, Findings, What};
 use crate::spans::range_at;
 use crate::wording::words_of;
-use ps_base::{Bytes, Fail, Memory, Place, Refusal};
+use ps_base::{Bytes, Fail, Memory, Place, Refusal, Rule};
 use ps_columns::range_from;
 use ps_detail::{detail_on, further_refusals, odd_comments, placed_notes};
 use ps_lexer::{Token, TokenList, Tokens, lex};
@@ -27,7 +27,8 @@ pub const MOST_FINDINGS: usize = 20;
 // takes a reading of the whole text each time; of a longer one only the first refusal is told with what the text tells.
 const LONGEST_TOLD: usize = 65_536;
 
-// The longest text, in bytes, of which refusals behind the first one are told: that takes one more reading of it.
+// The longest text, in bytes, of which refusals behind the first one are told, and of the first one how many there are of
+// what is too many: each takes one more reading of it.
 const LONGEST_SEARCHED: usize = 262_144;
 
 // The finding of a refusal, with what the text tells of it besides.
@@ -47,6 +48,20 @@ fn refused(
         range: range_at(text, tokens, refusal.place),
         words,
     })
+}
+
+// Whether what a text tells of a refusal is how many there are of what has a limit, for which all of it is parsed.
+fn is_counted(rule: Rule) -> bool {
+    matches!(rule, Rule::N11 | Rule::B4)
+}
+
+// What a text tells of its first refusal: not how many there are of what is too many, where the text is long.
+fn detail_first(alloc: Global, text: &[u8], refusal: &Refusal) -> Result<Bytes, Memory> {
+    if text.len() > LONGEST_SEARCHED && is_counted(refusal.rule) {
+        Ok(Bytes::new(alloc))
+    } else {
+        detail_on(alloc, text, refusal)
+    }
 }
 
 // What a text tells of a refusal behind its first one: nothing, where the text is long.
@@ -122,7 +137,7 @@ fn refusals_behind(alloc: Global, text: &[u8], first: &Refusal) -> Result<Vec<Re
 fn findings_behind(alloc: Global, text: &[u8], refusal: &Refusal) -> Result<Findings, Memory>
     ensures { IfOk result (λ findings. IsFirst text.now (Err (Fail.Refused refusal.now)) findings.first) }
 {
-    let given = detail_on(alloc, text, refusal)?;
+    let given = detail_first(alloc, text, refusal)?;
     let further = refusals_behind(alloc, text, refusal)?;
     let tokens = tokens_shown(alloc, text)?;
     let first = refused(alloc, text, tokens.as_slice(), refusal, given.as_slice())?;

@@ -1,7 +1,9 @@
 // From the beginning of a stream to its end.
 
-ghost use Rattle.std.specs.Prelude.{◌≡◌, IsTrue, OnOk};
-ghost use Rattle.ps_lsp_main.specs.Streaming.{Serves};
+ghost use Rattle.std.specs.Prelude.{◌≡◌, IfErr, IfOk, IfSome, IsTrue, OnErr, OnOk};
+ghost use Rattle.ps_rpc.specs.Sending.{Continues};
+ghost use Rattle.ps_lsp_main.specs.Streaming.{EndsWith, IsShort, IsWhole, Serves, ServesFrame, ServesNext};
+ghost use Rattle.ps_lsp_main.specs.Streaming.{ServesStream};
 
 use ps_lsp::Server;
 use ps_outside::{Output, ReadFail};
@@ -46,6 +48,8 @@ pub(crate) fn serve_one<O: Output>(
     out: &mut O,
 ) -> Result<(), Ending>
     ensures serves { IsTrue (O.tells out.old) → OnOk result (Serves body.now (O.taken out.old) (O.taken out.new)) }
+    ensures short { IfErr result IsShort }
+    ensures begun { IsTrue (O.tells out.old) → OnErr result (Continues (O.taken out.old) (O.taken out.new)) }
     ensures telling { O.tells out.new ≡ O.tells out.old }
 {
     let Ok(reply) = server.reply(alloc, body) else {
@@ -59,7 +63,9 @@ pub(crate) fn serve_one<O: Output>(
 }
 
 // How a server ended, if it did.
-fn ending_of(server: &Server) -> Option<Ending> {
+fn ending_of(server: &Server) -> Option<Ending>
+    ensures { IfSome result IsWhole }
+{
     match server.ended() {
         Some(true) => Some(Ending::Exit),
         Some(false) => Some(Ending::Broken),
@@ -67,40 +73,72 @@ fn ending_of(server: &Server) -> Option<Ending> {
     }
 }
 
-// Serves the next message; how the server ended, if it did.
+// Serves what is read; how the server ended behind it, if it did.
+fn serve_frame<O: Output>(
+    alloc: Global,
+    server: &mut Server,
+    frame: &Frame,
+    out: &mut O,
+) -> Result<Option<Ending>, Ending>
+    ensures served { IsTrue (O.tells out.old) → OnOk result (ServesFrame frame.now (O.taken out.old) (O.taken out.new)) }
+    ensures whole { IfOk result (λ given. IfSome given IsWhole) }
+    ensures short { IfErr result IsShort }
+    ensures begun { IsTrue (O.tells out.old) → OnErr result (Continues (O.taken out.old) (O.taken out.new)) }
+    ensures telling { O.tells out.new ≡ O.tells out.old }
+{
+    match frame {
+        Frame::Message(body) => {
+            serve_one(alloc, server, body.as_slice(), out)?;
+            Ok(ending_of(server))
+        }
+        // what has no length has no body that is JSON either
+        Frame::Headless => {
+            serve_one(alloc, server, &[], out)?;
+            Ok(ending_of(server))
+        }
+        Frame::TooLong => {
+            serve_one(alloc, server, &[], out)?;
+            Ok(Some(Ending::Broken))
+        }
+        Frame::End | Frame::Cut => Ok(Some(Ending::Broken)),
+    }
+}
+
+// Reads the next message and serves it; how the server ended, if it did.
 fn serve_next<I: Incoming, O: Output>(
     alloc: Global,
     server: &mut Server,
     input: &mut I,
     out: &mut O,
-) -> Result<Option<Ending>, Ending> {
+) -> Result<Option<Ending>, Ending>
+    ensures served { OnOk result (ServesNext (I.tells input.old) (O.tells out.old) (I.ahead input.old) (I.ahead input.new)
+        (O.taken out.old) (O.taken out.new)) }
+    ensures whole { IfOk result (λ given. IfSome given IsWhole) }
+    ensures fails { IfErr result (λ ending. EndsWith (I.tells input.old) (O.tells out.old) ending (I.ahead input.old)
+        (I.ahead input.new) (O.taken out.old) (O.taken out.new)) }
+    ensures reading { I.tells input.new ≡ I.tells input.old }
+    ensures writing { O.tells out.new ≡ O.tells out.old }
+{
     match read_frame(alloc, input) {
-        Ok(Frame::Message(body)) => {
-            serve_one(alloc, server, body.as_slice(), out)?;
-            Ok(ending_of(server))
-        }
-        // what has no length has no body that is JSON either
-        Ok(Frame::Headless) => {
-            serve_one(alloc, server, &[], out)?;
-            Ok(ending_of(server))
-        }
-        Ok(Frame::TooLong) => {
-            serve_one(alloc, server, &[], out)?;
-            Ok(Some(Ending::Broken))
-        }
-        Ok(Frame::End | Frame::Cut) => Ok(Some(Ending::Broken)),
+        Ok(frame) => serve_frame(alloc, server, &frame, out),
         Err(ReadFail::Fault) => Err(Ending::Unread),
         Err(ReadFail::Memory) => Err(Ending::Memory),
     }
 }
 
-/// Serves the messages of a stream, one after the other, until one tells it to exit or the stream ends.
-pub(crate) fn serve<I: Incoming, O: Output>(alloc: Global, input: &mut I, out: &mut O) -> Ending {
+/// Serves the messages of a stream, one after the other, until one tells it to exit or the stream ends. Each message
+/// that is read is answered by just its answer and its notice, in the order of the messages, but for the last one where
+/// the output fails or memory is wanting.
+pub(crate) fn serve<I: Incoming, O: Output>(alloc: Global, input: &mut I, out: &mut O) -> Ending
+    ensures { ServesStream (I.tells input.old) (O.tells out.old) result (I.ahead input.old) (I.ahead input.new)
+        (O.taken out.old) (O.taken out.new) }
+{
     let mut server = Server::new(alloc);
     'messages: for _ in 0..u64::MAX {
         match serve_next(alloc, &mut server, input, out) {
             Ok(None) => (),
-            Ok(Some(ending)) | Err(ending) => return ending,
+            Ok(Some(ending)) => return ending,
+            Err(ending) => return ending,
         }
     }
     Ending::Unread

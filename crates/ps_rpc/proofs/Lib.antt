@@ -1,3 +1,4 @@
+mod Growing
 mod Lengths
 mod Saying
 mod Sent

@@ -18,3 +18,7 @@ pub record SendsReply (reply : Reply) (before after : List ℕ) : Type 0 where
   pub between : List ℕ
   pub answers : Sends (option_map view reply.answer) before between
   pub notifies : Sends (option_map view reply.notice) between after
+
+-- what was written before stays, and something or nothing is written behind it
+abbrev pub Continues : (before after : List ℕ) → Type 0
+Continues before after = (more : List ℕ) × (after ≡ before ++ more)

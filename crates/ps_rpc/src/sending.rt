@@ -1,8 +1,8 @@
 // What is written for a message.
 
-ghost use Rattle.std.specs.Prelude.{◌≡◌, IsTrue, OnOk, option_map};
+ghost use Rattle.std.specs.Prelude.{◌≡◌, IsTrue, OnErr, OnOk, option_map};
 ghost use Rattle.serde_json.specs.View.{view};
-ghost use Rattle.ps_rpc.specs.Sending.{Sends, SendsReply};
+ghost use Rattle.ps_rpc.specs.Sending.{Continues, Sends, SendsReply};
 
 use crate::writing::write_frame;
 use ps_outside::Output;
@@ -38,6 +38,7 @@ pub enum Unsent {
 fn send<O: Output>(alloc: Global, out: &mut O, value: Option<&Value>) -> Result<(), Unsent>
     ensures sends { IsTrue (O.tells out.old) →
         OnOk result (Sends (option_map (λ v. view v.now) value.entry) (O.taken out.old) (O.taken out.new)) }
+    ensures begun { IsTrue (O.tells out.old) → OnErr result (Continues (O.taken out.old) (O.taken out.new)) }
     ensures telling { O.tells out.new ≡ O.tells out.old }
 {
     let Some(value) = value else {
@@ -53,9 +54,10 @@ fn send<O: Output>(alloc: Global, out: &mut O, value: Option<&Value>) -> Result<
 }
 
 /// Writes a reply: its answer, once where there is one, and then its notice, where there is one; and hands all of it
-/// on.
+/// on. Where that fails, what was written before stays, and a part of the reply may stand behind it.
 pub fn send_reply<O: Output>(alloc: Global, out: &mut O, reply: &Reply) -> Result<(), Unsent>
     ensures sends { IsTrue (O.tells out.old) → OnOk result (SendsReply reply.now (O.taken out.old) (O.taken out.new)) }
+    ensures begun { IsTrue (O.tells out.old) → OnErr result (Continues (O.taken out.old) (O.taken out.new)) }
     ensures telling { O.tells out.new ≡ O.tells out.old }
 {
     send(alloc, out, reply.answer.as_ref())?;

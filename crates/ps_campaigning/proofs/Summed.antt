@@ -37,7 +37,7 @@ written total text tells before after (Err stop) is all some =
 pub told : (names : List (List ℕ)) (reading : Bool) (held : List ℕ → Option (List ℕ)) (total : Totals) (tells : Bool) (before after : List ℕ)
     (ended : Result Status Stop) → (IsTrue reading → IsSum held names total) → Writes total tells before after ended →
     AnswersNames names reading held tells before after ended
-told names reading held total tells before after (Ok status) sums writes = inl (total, sums, writes)
+told names reading held total tells before after (Ok status) sums writes = inl (total, sums, writes.0, writes.1)
 told names reading held total tells before after (Err stop) sums (inl (is, some)) = inr (inl (total, sums, is, some))
 told names reading held total tells before after (Err stop) sums (inr (is, none)) = inr (inr (inr is, none))
 

@@ -1,6 +1,7 @@
 -- Counts that are added and written.
 use Rattle.std.proofs.Common.{◌≡◌, ◌∙◌, ◌⊎◌, inl, inr, ℕ, ◌+◌, Bool, IsTrue, List, [], ◌∷◌, Bor, Option, Some, Result, Ok, Err, length, map, refl, sym, ap, subst, arith}
 use Rattle.std.proofs.lemmas.List.Sums.{sum_by-cons}
+use Rattle.std.specs.List.{range_with_len}
 use Rattle.std.specs.Prelude.{IfErr, IfOk, sum}
 use Rattle.ps_bench_base.specs.Ending.{IsUnread}
 use Rattle.ps_bench_base.specs.Stopping.{Took, TookSome}
@@ -12,12 +13,13 @@ use Rattle.ps_model.specs.Meaning.{Item}
 use Rattle.ps_model.specs.Network.{Network}
 use Rattle.ps_tally.proofs.Plain.{all_plain, none_plain}
 use Rattle.ps_tally.specs.Plain.{ArePlain}
+use Rattle.ps_tally.specs.Tallies.{none_counted}
 use Rattle.ps_tally.specs.declared.line.Line.{Line}
 use Rattle.ps_totals.specs.Files.{AddsFiles, IsSum, Tells}
 use Rattle.ps_totals.specs.Sums.{text_of}
 use Rattle.ps_totals.specs.declared.summing.Totals.{Totals}
 use Rattle.ps_trialed.proofs.Parts.{parts_are_whole}
-use Rattle.ps_trialed.specs.Campaigns.{campaign}
+use Rattle.ps_trialed.specs.Campaigns.{campaign, result_of}
 use Rattle.ps_trials.specs.declared.drawing.Room.{Room}
 use Rattle.ps_world.specs.Worlds.{Machines}
 use Rattle.ps_campaigning.specs.Summing.{AnswersNames, AnswersSum, ArePartsFrom, PartsSumUp, StopsSum, Writes, part_text}
@@ -82,11 +84,11 @@ module _ (net : Network) (m : Machines) (items : List Item) (room : Room) (app t
   of_part from count = record { app = app; trace = trace; tally = campaign net m items room from count }
 
   part_plain : (from count : ℕ) → ArePlain (campaign net m items room from count)
-  part_plain from count = all_plain _ _ none_plain
+  part_plain from count = all_plain (map (result_of net m items room) (range_with_len from count)) none_counted none_plain
 
   part_told : (name : List ℕ) (from count : ℕ) → held name ≡ Some (part_text net m items room app trace from count) →
       Tells (held name) (of_part from count)
-  part_told name from count is = (part_text net m items room app trace from count, is, refl, part_plain from count)
+  part_told name from count is = (part_text net m items room app trace from count, is, (refl, part_plain from count))
 
   -- parts behind those from a number on
   parts_behind : (from done : ℕ) (names : List (List ℕ)) (counts : List ℕ) →

@@ -80,7 +80,7 @@ none_in (name ∷ names) none = let no : ⊥ = omega (arith, none) in absurd no
 
 module _ (net : Network) (m : Machines) (items : List Item) (room : Room) (app trace : List ℕ) (held : List ℕ → Option (List ℕ)) where
   -- what a campaign counts of so many trials from a number on
-  of_part : (from count : ℕ) → Totals
+  abbrev of_part : (from count : ℕ) → Totals
   of_part from count = record { app = app; trace = trace; tally = campaign net m items room from count }
 
   part_plain : (from count : ℕ) → ArePlain (campaign net m items room from count)

@@ -3,7 +3,6 @@
 ghost use Rattle.ps_campaigning.specs.Summing.{PartsSumUp};
 
 /// The files of campaigns over parts of the trials have a sum that is what one campaign over all of them writes.
-#[tactic(auto, using(crate::proofs::Summed::parts_sum_up))]
 pub fn parts_sum_up()
     ensures { PartsSumUp }
 {}

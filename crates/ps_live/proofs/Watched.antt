@@ -1,5 +1,5 @@
 -- What is said by name of the lines of a stream is what `watch` shows of a trace with these lines.
-use Rattle.std.proofs.Common.{◌≡◌, ◌∙◌, ◌++◌, [], ℕ, List, Bool, true, length, inl, refl, sym, ap, subst, append-nil}
+use Rattle.std.proofs.Common.{◌≡◌, ◌∙◌, ◌++◌, [], ℕ, List, Bool, true, length, inl, sym, ap, subst, append-nil, append_assoc}
 use Rattle.ps_bench_words.specs.declared.asking.Layout.TheVariants as layout
 use Rattle.ps_lines.specs.Lines.{Line}
 use Rattle.ps_model.specs.Meaning.{Meaning, nothing}
@@ -63,7 +63,7 @@ module _ (net : Network) (sound : IsSound net) (bytes : List ℕ) (left : List L
   pub says_as_watch : (before : List ℕ) → ComesOf net (text_in net layout.Text run) text true before (before ++ said ++ end_line end) (watch_ended end)
   says_as_watch before = inl (record {
     bytes = said ++ end_line end;
-    written = λ on. refl;
+    written = λ on. append_assoc before said (end_line end);
     ends = λ ws means. ends_as end (text_in net layout.Text run scans.items ws) said (said_is ws means) scans.end
         (sym (ap (λ (s : Scans). s.end) same) ∙ are.ends);
   })

@@ -25,7 +25,7 @@ pub fn live_is_fault(app: &App)
 /// with just these lines, where neither names nor faults are given to it: the same bytes, and behind them the line of a
 /// refusal where the last line is refused, which `live` writes as it stops.
 pub fn live_is_watch(app: &App)
-    ensures watch { SaysAsWatch app.now }
+    ensures { SaysAsWatch app.now }
 {
     app.sound();
 }

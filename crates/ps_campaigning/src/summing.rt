@@ -1,7 +1,8 @@
 // `sum FILE..`: what campaigns in parts counted, added.
 
-ghost use Rattle.std.specs.Prelude.{◌≡◌, ◌≤◌, ◌∷◌, ℕ, List, Any, IfOk, IfErr, IsErrOf, map};
+ghost use Rattle.std.specs.Prelude.{◌≡◌, ◌≤◌, ◌<◌, ◌∷◌, ℕ, List, Any, IsTrue, IfOk, IfErr, IsErrOf, length, map};
 ghost use Rattle.ps_bench_base.specs.Ending.{IsUnread};
+ghost use Rattle.ps_bench_base.specs.Stopping.{Took};
 ghost use Rattle.ps_campaigning.specs.Summing.{AnswersNames, AnswersSum, RefusedBy, StopsSum, Writes};
 ghost use Rattle.ps_outside.specs.Outside.{Rose};
 ghost use Rattle.ps_totals.specs.Sums.{text_of};

@@ -1,4 +1,4 @@
-use Rattle.std.proofs.Common.{◌∙◌, Err, inl, inr, refl, ap}
+use Rattle.std.proofs.Common.{◌≡◌, ◌∙◌, Err, inl, inr, refl, ap}
 use Rattle.ps_campaigning.proofs.Summed.{named, told}
 use Rattle.ps_campaigning.proofs.summing.sum_named.Goals as goal
 

@@ -30,7 +30,7 @@ VOID = {"meta"}
 ELEMENTS = set("html head meta style title body main section h1 h2 h3 p pre span ul li table caption thead tbody tr th td figure figcaption svg desc g rect "
                "path text".split())
 ATTRIBUTES = set("lang charset name content class id scope role aria-labelledby x y width height d viewbox".split())
-MOST_SECONDS, MOST_BYTES = 2.0, 8_000_000
+MOST_SECONDS, MOST_BYTES = 2.0, 6_000_000
 
 
 class Element:

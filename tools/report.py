@@ -8,7 +8,7 @@ once, and what names a picture is there; each picture has a title, each table a 
 results and what is told of each case, the source with its lines, demands and coverage, as the other commands have them; the values of
 the tables of changes, and the lines and bands of the pictures, as `watch` has them. Hostile: a case named as an element, comments that end
 one, a title, a name of a file, control bytes, a text of 1 MiB. Refused: an application and a case file. Limits: 100 cases of 100 scans in
-two seconds and 8 MB. The status is 0 where all is as it should be.
+two seconds and 5 MB. The status is 0 where all is as it should be.
 """
 import csv
 import hashlib
@@ -30,7 +30,7 @@ VOID = {"meta"}
 ELEMENTS = set("html head meta style title body main section h1 h2 h3 p pre span ul li table caption thead tbody tr th td figure figcaption svg desc g rect "
                "path text".split())
 ATTRIBUTES = set("lang charset name content class id scope role aria-labelledby x y width height d viewbox".split())
-MOST_SECONDS, MOST_BYTES = 2.0, 6_000_000
+MOST_SECONDS, MOST_BYTES = 2.0, 5_000_000
 
 
 class Element:

@@ -15,7 +15,7 @@ use Rattle.ps_runs.specs.Watching.{EvaluatesAs, StandsAt}
 use Rattle.ps_runs.specs.declared.items.Cut.{Cut}
 use Rattle.ps_runs.specs.declared.items.Cut.TheVariants.{Refused}
 use Rattle.ps_runs.specs.declared.watching.Evaluated.{Evaluated}
-use Rattle.ps_alone.specs.Applying.{scans_of}
+use Rattle.ps_cover.specs.Applying.{scans_of}
 use Rattle.ps_cover.specs.Covers.{IsAt, Knows, Renews}
 use Rattle.ps_accounting.specs.Taking.{cover_takes}
 use Rattle.ps_accounting.specs.declared.covering.Shown.{Shown}

@@ -1,8 +1,8 @@
 -- A trace whose scans are added, or that is refused.
 use Rattle.std.proofs.Common.{◌≡◌, ◌<◌, ◌≤◌, ◌∙◌, ◌++◌, ℕ, Bool, IsTrue, List, [], ◌∷◌, Option, Some, None, Result, Ok, Err, refl, sym, ap, subst, inl, inr, arith}
 use Rattle.std.specs.Prelude.{IfOk, OnOk}
-use Rattle.ps_alone.specs.Applying as applying
-use Rattle.ps_alone.specs.Applying.{ScanStep}
+use Rattle.ps_cover.specs.Applying as applying
+use Rattle.ps_cover.specs.Applying.{ScanStep}
 use Rattle.ps_base.specs.declared.failing.Memory.{Memory}
 use Rattle.ps_base.specs.declared.failing.Refusal.{Refusal}
 use Rattle.ps_bench_base.specs.Stopping.{Took}

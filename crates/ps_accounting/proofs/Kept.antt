@@ -1,6 +1,6 @@
 -- What is told is what the traces show, by what is kept.
 use Rattle.std.proofs.Common.{◌≡◌, ◌∙◌, ℕ, Bool, IsTrue, List, map, Result, Ok, Err, inl, inr, sym, ap, subst}
-use Rattle.ps_alone.specs.Applying.{ScanStep}
+use Rattle.ps_cover.specs.Applying.{ScanStep}
 use Rattle.ps_bench_base.specs.Opening.{Source}
 use Rattle.ps_bench_base.specs.declared.ending.Status.{Status}
 use Rattle.ps_bench_base.specs.declared.ending.Stop.{Stop}
@@ -12,7 +12,7 @@ use Rattle.ps_cover.specs.declared.cover.Cover.{Cover}
 use Rattle.ps_coverage.specs.Seen.{Known}
 use Rattle.ps_coverage.proofs.OfTraces.{known_is}
 use Rattle.ps_parser.specs.Tree.{SourceTree}
-use Rattle.ps_sourced.specs.Sourcing.{IsSourceOf}
+use Rattle.ps_bench_base.specs.Sourcing.{IsSourceOf}
 use Rattle.ps_accounting.specs.Adding.{AreScansAll}
 use Rattle.ps_accounting.specs.Asking.{AnswersIn, IsKnown, Wanted}
 use Rattle.ps_accounting.specs.Telling.{IsKept, TellsKept}

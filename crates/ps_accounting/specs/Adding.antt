@@ -1,7 +1,7 @@
 -- The scans of the traces that a call names, and what they add to what is known.
 use Rattle.std.specs.Prelude.{◌≡◌, ℕ, Bool, IsTrue, List, [], ◌∷◌, ◌++◌, Option, Some, slice_get, take}
-use Rattle.ps_alone.specs.Applying as applying
-use Rattle.ps_alone.specs.Applying.{ScanStep}
+use Rattle.ps_cover.specs.Applying as applying
+use Rattle.ps_cover.specs.Applying.{ScanStep}
 use Rattle.ps_bench_base.specs.Ending.{stop_at}
 use Rattle.ps_bench_base.specs.Opening.{Source}
 use Rattle.ps_bench_base.specs.declared.ending.Stop.{Stop}

@@ -2,7 +2,7 @@
 use Rattle.std.specs.Prelude.{◌≡◌, ◌⊎◌, ℕ, Bool, true, false, IsTrue, List, [], ◌∷◌, ◌++◌, Option, Some, None}
 use Rattle.std.specs.Prelude.{Any, map, nat_lt, if◌then◌else◌, Result, Ok, Err}
 use Rattle.std.specs.List.{list_any}
-use Rattle.ps_alone.specs.Applying.{ScanStep}
+use Rattle.ps_cover.specs.Applying.{ScanStep}
 use Rattle.ps_base.specs.declared.failing.Place.{Place}
 use Rattle.ps_bench_base.specs.Opening.{IsOfApp, Source, source}
 use Rattle.ps_bench_base.specs.Stopping.{StopsAtApp, Took, TookNothing, TookSome}
@@ -23,7 +23,7 @@ use Rattle.ps_model.specs.Network.{Network}
 use Rattle.ps_model.specs.declared.channel.ImageSizes.{ImageSizes}
 use Rattle.ps_accounting.specs.Standing.{places_of}
 use Rattle.ps_parser.specs.Tree.{SourceTree}
-use Rattle.ps_sourced.specs.Sourcing.{IsSourceOf}
+use Rattle.ps_bench_base.specs.Sourcing.{IsSourceOf}
 use Rattle.ps_traced.specs.Playing.{LacksCase}
 use Rattle.ps_accounting.specs.Adding.{AreScansAll, StopsAmong}
 use Rattle.ps_accounting.specs.declared.accounting.Asked.{Asked}

@@ -8,7 +8,7 @@ ghost use Rattle.ps_coverage.specs.Seen.{part_of};
 ghost use Rattle.ps_coverage.specs.Telling.{known_of};
 ghost use Rattle.ps_model.specs.Typing.{Accepted};
 ghost use Rattle.ps_outside.specs.Outside.{Rose};
-ghost use Rattle.ps_sourced.specs.Sourcing.{IsSourceOf};
+ghost use Rattle.ps_bench_base.specs.Sourcing.{IsSourceOf};
 ghost use Rattle.ps_accounting.specs.Asking.{AnswersCover, AnswersIn, StopsCover, cover_text, ideas_asked};
 ghost use Rattle.ps_accounting.specs.Asking.{is_less, status_of, wanted_by};
 ghost use Rattle.ps_accounting.specs.Telling.{Tells, TellsKept};
@@ -17,12 +17,11 @@ use crate::adding::add_words;
 use crate::ideas::add_ideas;
 use crate::places::operand_places;
 use ps_base::{Bytes, Memory};
-use ps_bench_base::{Status, Stop};
+use ps_bench_base::{Sourced, Status, Stop, open_sourced};
 use ps_cover::{Cover, Exclusions, Sort, percent_of};
 use ps_coverage::{Format, Told, coverage_text};
 use ps_hearing::Listener;
 use ps_outside::{Files, Output, write_all};
-use ps_sourced::{Sourced, open_sourced};
 use std::alloc::Global;
 
 /// What `cover` is asked.

@@ -2,7 +2,7 @@
 
 ghost use Rattle.std.specs.Prelude.{◌≡◌, ◌≤◌, ℕ, List, IsTrue, OnOk, Some, Err};
 ghost use Rattle.ps_base.specs.declared.failing.Refusal.{Refusal as RefusalOf};
-ghost use Rattle.ps_alone.specs.Applying.{scans_of};
+ghost use Rattle.ps_cover.specs.Applying.{scans_of};
 ghost use Rattle.ps_cover.specs.Covers.{IsAt, IsCoverFor, Knows};
 ghost use Rattle.ps_model.specs.Meaning.{Meaning, nothing};
 ghost use Rattle.ps_model.specs.Network.{input_count};

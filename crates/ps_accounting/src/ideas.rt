@@ -3,7 +3,6 @@
 ghost use Rattle.std.specs.Prelude.{◌≡◌, ◌<◌, ◌++◌, IfSome, OnOk, Some, slice_get};
 ghost use Rattle.ps_conditions.specs.Conditions.{condition_of};
 ghost use Rattle.ps_cover.specs.Covering.{point_of};
-ghost use Rattle.ps_coverage.specs.Lines.{condition_text};
 ghost use Rattle.ps_coverage.specs.Telling.{known_of};
 ghost use Rattle.ps_model.specs.Network.{input_count, instance_count, kind_at};
 ghost use Rattle.ps_accounting.specs.Ideas as ideas;
@@ -14,9 +13,9 @@ ghost use Rattle.ps_accounting.specs.Shares.{share_text};
 use crate::asked::{input_asked, value_before};
 use ps_base::{Bytes, Memory};
 use ps_bench_base::pieces::add_code;
-use ps_conditions::{Condition, subject_of, told_of};
+use ps_conditions::Condition;
 use ps_cover::Point;
-use ps_coverage::Told;
+use ps_coverage::{Told, add_condition};
 use ps_model::{App, Args, Kind, Step};
 use ps_ways::{Literal, Way, ways};
 
@@ -39,15 +38,6 @@ fn add_setting(text: &mut Bytes, app: &App, input: Option<u16>, value: bool) -> 
     text.extend_from_slice(b" ")?;
     text.extend_from_slice(app.signal_name(s).as_bytes())?;
     text.extend_from_slice(if value { b"=1" } else { b"=0" })
-}
-
-// Puts a condition of a guard.
-fn add_condition(text: &mut Bytes, kind: Kind, condition: Condition) -> Result<(), Memory>
-    ensures { OnOk result (text.new ≡ text.old ++ condition_text kind condition) }
-{
-    text.extend_from_slice(subject_of(kind, condition).as_bytes())?;
-    text.extend_from_slice(b" ")?;
-    text.extend_from_slice(told_of(condition).as_bytes())
 }
 
 // Puts a condition in words, where it is none of an input.

@@ -2,7 +2,7 @@
 
 ghost use Rattle.std.specs.Prelude.{◌≡◌, ◌≤◌, ◌∷◌, ◌++◌, [], ℕ, List, IsTrue, IfOk, OnOk, Some, Ok, Err};
 ghost use Rattle.ps_base.specs.declared.failing.Refusal.{Refusal as RefusalOf};
-ghost use Rattle.ps_alone.specs.Applying.{ScanStep, scans_of};
+ghost use Rattle.ps_cover.specs.Applying.{ScanStep, scans_of};
 ghost use Rattle.ps_cover.specs.Tallied.{IsWhole, KnowsTraces};
 ghost use Rattle.ps_cover.specs.declared.cover.Cover.{Cover as CoverOf};
 ghost use Rattle.ps_model.specs.Meaning.{Meaning, nothing};

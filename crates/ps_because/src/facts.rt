@@ -9,7 +9,7 @@ ghost use Rattle.ps_because.specs.Facts.{signal_is, signal_was, since_text, so_t
 ghost use Rattle.ps_because.specs.Facts.{stayed_in, waits_text, waits_words};
 ghost use Rattle.ps_because.specs.Moments.{moment_of};
 ghost use Rattle.ps_conditions.specs.Conditions.{subject_words};
-ghost use Rattle.ps_coverage.specs.Lines.{condition_text, truth};
+ghost use Rattle.ps_coverage.specs.Lines.{truth};
 ghost use Rattle.ps_report.specs.Lines.{code_text};
 
 use crate::naming::{add_call_pin, add_signal, called_name, kind_of, name_of};
@@ -18,6 +18,7 @@ use itoa::Buffer;
 use ps_base::{Bytes, Memory};
 use ps_conditions::{Condition, awaited_of, subject_of, told_of};
 use ps_cover::called_kind;
+use ps_coverage::add_condition;
 use ps_facts::{CallScene, Fact, Moment};
 use ps_model::{App, Arg, Args, Kind, Step};
 use ps_outline::is_error;
@@ -150,15 +151,6 @@ fn add_pin_is(text: &mut Bytes, app: &App, k: u16, j: u8, value: bool) -> Result
     text.extend_from_slice(b" is ")?;
     text.extend_from_slice(truth(value))?;
     text.extend_from_slice(pin_ending(app, k, j))
-}
-
-// Puts a condition of a guard.
-fn add_condition(text: &mut Bytes, kind: Kind, condition: Condition) -> Result<(), Memory>
-    ensures { OnOk result (text.new ≡ text.old ++ condition_text kind condition) }
-{
-    text.extend_from_slice(subject_of(kind, condition).as_bytes())?;
-    text.extend_from_slice(b" ")?;
-    text.extend_from_slice(told_of(condition).as_bytes())
 }
 
 // The state of an instance, if it stayed in it.

@@ -5,6 +5,8 @@ pub mod Refusing
 pub mod Meant
 -- what a command takes its application and its case files from
 pub mod Opening
+-- what a text gives besides its application
+pub mod Sourcing
 -- how a call ends, and what it leaves that stops
 pub mod Ending
 pub mod Stopping

@@ -141,7 +141,8 @@ fn campaign_app<F: Files, O: Output, L: Listener>(
 ///
 /// The status is Done. It is Usage where the line of the word is in no case: that is told, and nothing is written.
 /// Where the application, the case file or the trace is refused, the line of the refusal is written in the place of all
-/// else. Memory is taken for the trace and for the faults that are written; nothing is written before all is there.
+/// else. Memory is taken for the trace, for at most 65 worlds and for the faults that are written; nothing is written
+/// before all is there.
 ///
 /// A file that cannot be read is one of the two, whose count of the files rose in this call; `Unwritten` comes only
 /// where the output's count rose.

@@ -1,5 +1,5 @@
 -- The number of a scan of a run.
-use Rattle.std.specs.Prelude.{ℕ, ◌+◌, true, false, min}
+use Rattle.std.specs.Prelude.{◌+◌, true, false, min}
 use Rattle.ps_changes.specs.declared.count.Count.{Count}
 
 -- scans are counted from 1

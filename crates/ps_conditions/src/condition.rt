@@ -6,7 +6,7 @@ ghost use Rattle.ps_conditions.specs.Conditions.{condition_of};
 use ps_ways::{Ask, Literal};
 
 /// What a guard can ask of a step, and whether it holds.
-#[derive(Clone, Copy, PartialEq, Eq, Debug)]
+#[derive(Clone, Copy)]
 pub struct Condition {
     /// What is asked.
     pub ask: Ask,

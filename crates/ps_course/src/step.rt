@@ -3,7 +3,7 @@
 use ps_model::{Report, Scan};
 
 /// What comes next in a course.
-#[derive(Drop, Debug)]
+#[derive(Drop)]
 pub enum Step {
     /// A scan, with the report that it has without a fault.
     Scanned(Scan, Report),

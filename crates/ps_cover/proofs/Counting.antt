@@ -8,7 +8,7 @@ use Rattle.std.proofs.lemmas.Bool.{false≢true}
 use Rattle.std.proofs.lemmas.Grind.{flat_map-append}
 use Rattle.std.proofs.lemmas.List.Concat.{flat_map-cons}
 use Rattle.std.proofs.lemmas.List.Folds.{list_any-append}
-use Rattle.ps_alone.specs.Applying.{ScanStep}
+use Rattle.ps_cover.specs.Applying.{ScanStep}
 use Rattle.ps_cover.specs.Covers.{Knows, KnowsOf}
 use Rattle.ps_model.specs.Network.{Network}
 use Rattle.ps_cover.specs.Covering.{point_of}

@@ -6,7 +6,7 @@ use Rattle.std.proofs.Math.Bool.{or_assoc}
 use Rattle.std.proofs.lemmas.Grind.{flat_map-append}
 use Rattle.std.proofs.lemmas.List.Folds.{list_any-append}
 use Rattle.std.proofs.lemmas.Option.{same_Some, slice_get-map, slice_get_within}
-use Rattle.ps_alone.specs.Applying.{ScanStep}
+use Rattle.ps_cover.specs.Applying.{ScanStep}
 use Rattle.ps_model.specs.Network.{Network}
 use Rattle.ps_cover.specs.Covering.{point_of}
 use Rattle.ps_cover.specs.Covers.{JoinsBits, Knows, KnowsOf}

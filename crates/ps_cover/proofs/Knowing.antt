@@ -6,10 +6,10 @@ use Rattle.std.proofs.Math.Bool.{or-false, or_assoc}
 use Rattle.ps_model.specs.Meaning.{Past, last, nothing, old_state, passed}
 use Rattle.ps_model.specs.Network.{Network}
 use Rattle.ps_model.specs.Scanning.{State, Solves}
-use Rattle.ps_alone.specs.Applying.{ScanStep}
+use Rattle.ps_cover.specs.Applying.{ScanStep}
 use Rattle.ps_cover.specs.Covering.{AreScanned, Looks, point_of}
 use Rattle.ps_cover.specs.Covers.{IsAt, IsCoverFor, Knows, KnowsOf, Renews, TakesScan, time_of}
-use Rattle.ps_points.specs.Clock.{since}
+use Rattle.ps_marks.specs.Clock.{since}
 use Rattle.ps_cover.specs.Points.{shows}
 use Rattle.ps_cover.specs.declared.cover.Cover.{Cover}
 use Rattle.ps_cover.specs.declared.point.Point.{Point}

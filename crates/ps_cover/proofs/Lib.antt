@@ -1,11 +1,16 @@
+pub mod Applying
 pub mod Calling
 pub mod Counting
 pub mod Deciding
-pub mod Excluded
 pub mod Fixing
+pub mod Inputs
 pub mod Joining
 pub mod Knowing
 pub mod Listed
 pub mod Listings
 pub mod Looking
+pub mod Numbering
+pub mod Searched
+pub mod Showing
 pub mod Standing
+pub mod Unshown

@@ -13,14 +13,14 @@ use Rattle.ps_model.specs.Scanning.{Solves, State, block_in, limit_of, pins_unde
 use Rattle.ps_model.specs.declared.kind.Kind.{Kind}
 use Rattle.ps_model.proofs.Keeping.{count_down}
 use Rattle.ps_rows.specs.Counted.{kept_of}
-use Rattle.ps_alone.specs.Applying.{ScanStep}
-use Rattle.ps_alone.specs.Marks.{marked}
+use Rattle.ps_cover.specs.Applying.{ScanStep}
+use Rattle.ps_cover.specs.Marks.{marked}
 use Rattle.ps_marks.specs.Marks.{made, number_taken}
 use Rattle.ps_marks.specs.Moving.{moved_by}
 use Rattle.ps_cover.specs.Blocks.{called_in, moved_in}
 use Rattle.ps_cover.specs.Covering.{AreCalls, AreScanned, makes_in, operands_in, point_of, shows_in}
 use Rattle.ps_cover.specs.Covers.{StandsFor, idle_call, idle_step}
-use Rattle.ps_points.specs.Deciding.{is_value}
+use Rattle.ps_marks.specs.Deciding.{is_value}
 use Rattle.ps_cover.specs.Points.{decides, makes_at, shows}
 use Rattle.ps_pins.specs.Reading.{read_in}
 use Rattle.ps_pins.proofs.Between.{reads_are as read_as}

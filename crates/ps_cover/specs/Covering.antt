@@ -11,7 +11,7 @@ use Rattle.ps_cover.specs.Blocks.{called_in}
 use Rattle.ps_cover.specs.Points as points
 use Rattle.ps_model.specs.Formula.{Formula}
 use Rattle.ps_cover.specs.Points.{decides, leaves, others_leave}
-use Rattle.ps_points.specs.Deciding.{is_value}
+use Rattle.ps_marks.specs.Deciding.{is_value}
 use Rattle.ps_pins.specs.Reading.{read_in}
 use Rattle.ps_cover.specs.declared.block.Called.{Called}
 use Rattle.ps_cover.specs.declared.point.Point.{Point}

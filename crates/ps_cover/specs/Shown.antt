@@ -2,7 +2,7 @@
 use Rattle.std.specs.Prelude.{ℕ, Bool, false, true, List, ◌&&◌, count_by}
 use Rattle.std.specs.List.{list_any}
 use Rattle.ps_model.specs.Network.{Network}
-use Rattle.ps_alone.specs.Applying.{ScanStep}
+use Rattle.ps_cover.specs.Applying.{ScanStep}
 use Rattle.ps_cover.specs.Points.{Point, shows}
 
 -- some scan of some trace shows the point with value b

@@ -3,7 +3,7 @@ use Rattle.std.specs.Prelude.{◌≡◌, ℕ, false, List, [], ◌∷◌, ◌++�
 use Rattle.std.specs.Prelude.{slice_index_or}
 use Rattle.std.specs.List.{flat_map}
 use Rattle.ps_model.specs.Network.{Network}
-use Rattle.ps_alone.specs.Applying.{ScanStep}
+use Rattle.ps_cover.specs.Applying.{ScanStep}
 use Rattle.ps_cover.specs.Covering.{point_of}
 use Rattle.ps_cover.specs.Covers.{BeginsAnew, Joins, Knows}
 use Rattle.ps_cover.specs.Listing.{points_of}

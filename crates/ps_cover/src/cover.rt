@@ -10,16 +10,15 @@ use crate::block::{Called, begin_calls, scan_calls};
 use crate::listing::{push_steps, push_values};
 use crate::point::{Point, look};
 use ps_base::Memory;
+use ps_marks::Clock;
 use ps_model::App;
 use ps_pins::{Signals, bit_at};
-use ps_points::Clock;
 use std::alloc::Global;
 
 /// What the scans so far have shown of an application: of each point whether one of them showed it.
 ///
 /// No scan takes memory. Several traces are taken one after another, with
 /// `begin_anew` between them, or each apart, and joined.
-#[derive(Drop)]
 pub struct Cover<'a> {
     // each step of the application, with the block that it calls
     pub(crate) calls: Vec<Called>,
@@ -31,6 +30,19 @@ pub struct Cover<'a> {
     pub(crate) on: Vec<bool>,
     // when the last scan was
     pub(crate) clock: Clock,
+}
+
+impl<'a> Drop for Cover<'a> {
+    // One call for whoever owns one, in place of a walk through all that it holds.
+    fn drop(self) {
+        let Cover {
+            calls: _,
+            points: _,
+            off: _,
+            on: _,
+            clock: _,
+        } = self;
+    }
 }
 
 // Each step of an application, with its block before the first scan.

@@ -12,8 +12,8 @@ ghost use Rattle.ps_cover.specs.Listing.{signal_points, step_points, steps_point
 
 use crate::point::{Decision, Point};
 use ps_base::Memory;
+use ps_marks::is_and;
 use ps_model::{App, Arg, Args, Expr, Exprs, Kind, Step};
-use ps_points::is_and;
 use ps_ways::{Way, ways};
 
 // Lists a signal.

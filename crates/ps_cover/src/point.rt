@@ -4,9 +4,9 @@ ghost use Rattle.std.specs.Prelude.{◌≡◌, ◌<◌, ◌||◌, length, slice_
 ghost use Rattle.ps_cover.specs.Covering.{Looks, decides_in, leaves_in, makes_in, others_leave_in, shows_in};
 
 use crate::block::{Called, makes};
+use ps_marks::{is_value, leaves_decision};
 use ps_model::{App, Exprs, Step};
 use ps_pins::{Signals, bit_at, read_value};
-use ps_points::{is_value, leaves_decision};
 
 /// An operand of an AND or an OR.
 #[derive(Clone, Copy)]

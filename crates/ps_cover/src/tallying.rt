@@ -8,13 +8,13 @@ ghost use Rattle.ps_cover.specs.Tallying.{percent, percent_of, seen_with, shown_
 use crate::cover::Cover;
 use crate::excluding::Exclusions;
 use crate::point::Point;
+use ps_marks::is_missed;
 use ps_model::{App, Kind, Step};
 use ps_pins::bit_at;
-use ps_points::is_missed;
 use ps_ways::ways;
 
 /// What is counted.
-#[derive(Clone, Copy, PartialEq, Eq, Debug)]
+#[derive(Clone, Copy)]
 pub enum Sort {
     /// The states beside Idle that a block entered.
     States,
@@ -27,7 +27,7 @@ pub enum Sort {
 }
 
 /// What became of a point.
-#[derive(Clone, Copy, PartialEq, Eq, Debug)]
+#[derive(Clone, Copy)]
 pub enum Status {
     /// It was shown, with both values, and is not excluded.
     Covered,

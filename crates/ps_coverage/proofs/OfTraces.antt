@@ -4,7 +4,7 @@ use Rattle.std.specs.Prelude.{option_map}
 use Rattle.std.proofs.lemmas.List.{length-map}
 use Rattle.std.proofs.lemmas.Option.{slice_get-map}
 use Rattle.ps_base.specs.declared.failing.Place.{Place}
-use Rattle.ps_alone.specs.Applying.{ScanStep}
+use Rattle.ps_cover.specs.Applying.{ScanStep}
 use Rattle.ps_model.specs.Network.{Network}
 use Rattle.ps_cover.specs.Covering.{point_of}
 use Rattle.ps_cover.specs.Listing.{points_of}

@@ -5,4 +5,5 @@ pub mod Text
 -- and that it is so of traces
 pub mod OfTraces
 -- apparatus
+pub mod Said
 pub mod Telling

@@ -1,7 +1,7 @@
 -- What is told is so of the traces.
 use Rattle.std.specs.Prelude.{◌≡◌, List, map}
 use Rattle.ps_base.specs.declared.failing.Place.{Place}
-use Rattle.ps_alone.specs.Applying.{ScanStep}
+use Rattle.ps_cover.specs.Applying.{ScanStep}
 use Rattle.ps_model.specs.Network.{Network}
 use Rattle.ps_cover.specs.Covering.{point_of}
 use Rattle.ps_cover.specs.Listing.{points_of}

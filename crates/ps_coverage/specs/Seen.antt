@@ -2,7 +2,7 @@
 use Rattle.std.specs.Prelude.{ℕ, ◌&&◌, Bool, false, true, List, Option, Some, None, count_by, length, slice_get}
 use Rattle.std.specs.List.{range_with_len}
 use Rattle.ps_base.specs.declared.failing.Place.{Place}
-use Rattle.ps_alone.specs.Applying.{ScanStep}
+use Rattle.ps_cover.specs.Applying.{ScanStep}
 use Rattle.ps_model.specs.Network.{Network}
 use Rattle.ps_cover.specs.Covering.{point_of}
 use Rattle.ps_cover.specs.Listing.{points_of}

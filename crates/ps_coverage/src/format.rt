@@ -1,7 +1,7 @@
 // How coverage is written.
 
 /// How coverage is written.
-#[derive(Clone, Copy, Debug, PartialEq, Eq)]
+#[derive(Clone, Copy)]
 pub enum Format {
     /// For a person.
     Text,

@@ -10,8 +10,8 @@ use ps_conditions::{Condition, subject_of, told_of};
 use ps_model::Kind;
 use ps_ways::{Literal, Way, ways};
 
-// Puts a condition of a guard.
-fn add_condition(text: &mut Bytes, kind: Kind, condition: Condition) -> Result<(), Memory>
+/// Puts a condition of a guard. An error: memory is wanting.
+pub fn add_condition(text: &mut Bytes, kind: Kind, condition: Condition) -> Result<(), Memory>
     ensures { OnOk result (text.new ≡ text.old ++ condition_text kind condition) }
 {
     text.extend_from_slice(subject_of(kind, condition).as_bytes())?;

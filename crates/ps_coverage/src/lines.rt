@@ -9,31 +9,42 @@ ghost use Rattle.ps_coverage.specs.Lines.{state_line, unless, value_line, way_li
 
 use crate::format::Format;
 use crate::guard::add_guard;
-use crate::pieces::{add_code, add_number, add_ordinal, add_state, joined_by, json_truth, truth};
+use crate::pieces::{add_code, add_number};
+use crate::said::{Said, add_said};
 use ps_base::{Bytes, Memory, Place};
 use ps_cover::{Exclusions, Point, called_kind};
+use ps_marks::{is_missed, seen_with};
 use ps_model::{App, Kind, Step};
-use ps_points::{is_missed, seen_with};
 use ps_ways::{Way, ways};
 
 // Puts a state that a block never entered, for a person.
 fn add_never_entered(text: &mut Bytes, kind: Kind, way: &Way) -> Result<(), Memory>
     ensures { OnOk result (text.new ≡ text.old ++ never_entered kind way.now) }
 {
-    text.extend_from_slice(b"  never: ")?;
-    add_state(text, kind, way.state)?;
-    text.extend_from_slice(b"\n")
+    add_said(
+        text,
+        &[
+            Said::Words(b"  never: "),
+            Said::State(kind, way.state),
+            Said::Words(b"\n"),
+        ],
+    )
 }
 
 // Puts a state that a block never entered, in JSON.
 fn add_json_entered(text: &mut Bytes, name: &str, way: &Way) -> Result<(), Memory>
     ensures { OnOk result (text.new ≡ text.old ++ json_entered name.now way.now) }
 {
-    text.extend_from_slice(b"{\"never\":\"state\",\"instance\":\"")?;
-    text.extend_from_slice(name.as_bytes())?;
-    text.extend_from_slice(b"\",\"state\":\"")?;
-    add_code(text, way.state)?;
-    text.extend_from_slice(b"\"}\n")
+    add_said(
+        text,
+        &[
+            Said::Words(b"{\"never\":\"state\",\"instance\":\""),
+            Said::Name(name),
+            Said::Words(b"\",\"state\":\""),
+            Said::Code(way.state),
+            Said::Words(b"\"}\n"),
+        ],
+    )
 }
 
 // Puts a state that a block of this name never entered.
@@ -56,13 +67,18 @@ fn add_state_line(
 fn add_never_taken(text: &mut Bytes, kind: Kind, place: usize, way: &Way) -> Result<(), Memory>
     ensures { OnOk result (text.new ≡ text.old ++ never_taken kind place way.now) }
 {
-    text.extend_from_slice(b"  never: ")?;
-    add_code(text, way.next)?;
-    text.extend_from_slice(b" from ")?;
-    add_state(text, kind, way.state)?;
-    text.extend_from_slice(b": ")?;
-    add_guard(text, kind, place, way)?;
-    text.extend_from_slice(b"\n")
+    add_said(
+        text,
+        &[
+            Said::Words(b"  never: "),
+            Said::Code(way.next),
+            Said::Words(b" from "),
+            Said::State(kind, way.state),
+            Said::Words(b": "),
+            Said::Guard(kind, place, way),
+            Said::Words(b"\n"),
+        ],
+    )
 }
 
 // Puts a way that a block never took, in JSON.
@@ -194,22 +210,32 @@ fn signal_label(app: &App, signal: u16) -> &str
 fn add_never_had(text: &mut Bytes, app: &App, signal: u16, value: bool) -> Result<(), Memory>
     ensures { OnOk result (text.new ≡ text.old ++ never_had app.now signal value) }
 {
-    text.extend_from_slice(b"  never ")?;
-    text.extend_from_slice(truth(value))?;
-    text.extend_from_slice(b": ")?;
-    text.extend_from_slice(signal_label(app, signal).as_bytes())?;
-    text.extend_from_slice(b"\n")
+    add_said(
+        text,
+        &[
+            Said::Words(b"  never "),
+            Said::Truth(value),
+            Said::Words(b": "),
+            Said::Name(signal_label(app, signal)),
+            Said::Words(b"\n"),
+        ],
+    )
 }
 
 // Puts a value that a signal never had, in JSON.
 fn add_json_had(text: &mut Bytes, app: &App, signal: u16, value: bool) -> Result<(), Memory>
     ensures { OnOk result (text.new ≡ text.old ++ json_had app.now signal value) }
 {
-    text.extend_from_slice(b"{\"never\":\"value\",\"signal\":\"")?;
-    text.extend_from_slice(signal_label(app, signal).as_bytes())?;
-    text.extend_from_slice(b"\",\"value\":")?;
-    text.extend_from_slice(json_truth(value))?;
-    text.extend_from_slice(b"}\n")
+    add_said(
+        text,
+        &[
+            Said::Words(b"{\"never\":\"value\",\"signal\":\""),
+            Said::Name(signal_label(app, signal)),
+            Said::Words(b"\",\"value\":"),
+            Said::JsonTruth(value),
+            Said::Words(b"}\n"),
+        ],
+    )
 }
 
 // Puts a value that a signal never had, unless it was seen.
@@ -262,17 +288,22 @@ fn add_never_decided(
 ) -> Result<(), Memory>
     ensures { OnOk result (text.new ≡ text.old ++ never_decided at of_and place value) }
 {
-    text.extend_from_slice(b"  never decided ")?;
-    text.extend_from_slice(truth(value))?;
-    text.extend_from_slice(b": line ")?;
-    add_number(text, u64::from(at.line))?;
-    text.extend_from_slice(b" column ")?;
-    add_number(text, u64::from(at.column))?;
-    text.extend_from_slice(b", operand ")?;
-    add_ordinal(text, place)?;
-    text.extend_from_slice(b" of an ")?;
-    text.extend_from_slice(joined_by(of_and))?;
-    text.extend_from_slice(b"\n")
+    add_said(
+        text,
+        &[
+            Said::Words(b"  never decided "),
+            Said::Truth(value),
+            Said::Words(b": line "),
+            Said::Number(at.line),
+            Said::Words(b" column "),
+            Said::Number(at.column),
+            Said::Words(b", operand "),
+            Said::Ordinal(place),
+            Said::Words(b" of an "),
+            Said::Joined(of_and),
+            Said::Words(b"\n"),
+        ],
+    )
 }
 
 // Puts a value with which an operand never decided, in JSON.
@@ -285,17 +316,22 @@ fn add_json_decided(
 ) -> Result<(), Memory>
     ensures { OnOk result (text.new ≡ text.old ++ json_decided at of_and place value) }
 {
-    text.extend_from_slice(b"{\"never\":\"decision\",\"line\":")?;
-    add_number(text, u64::from(at.line))?;
-    text.extend_from_slice(b",\"column\":")?;
-    add_number(text, u64::from(at.column))?;
-    text.extend_from_slice(b",\"operand\":")?;
-    add_ordinal(text, place)?;
-    text.extend_from_slice(b",\"of\":\"")?;
-    text.extend_from_slice(joined_by(of_and))?;
-    text.extend_from_slice(b"\",\"value\":")?;
-    text.extend_from_slice(json_truth(value))?;
-    text.extend_from_slice(b"}\n")
+    add_said(
+        text,
+        &[
+            Said::Words(b"{\"never\":\"decision\",\"line\":"),
+            Said::Number(at.line),
+            Said::Words(b",\"column\":"),
+            Said::Number(at.column),
+            Said::Words(b",\"operand\":"),
+            Said::Ordinal(place),
+            Said::Words(b",\"of\":\""),
+            Said::Joined(of_and),
+            Said::Words(b"\",\"value\":"),
+            Said::JsonTruth(value),
+            Said::Words(b"}\n"),
+        ],
+    )
 }
 
 // Puts a value with which an operand never decided, unless it was seen.

@@ -17,6 +17,7 @@ ghost use Rattle.ps_model.specs.Network.{instance_count, instance_name, kind_at}
 use crate::format::Format;
 use crate::lines::{add_missed_decisions, add_missed_mark, add_missed_values};
 use crate::pieces::add_number;
+use crate::said::{Said, add_said};
 use ps_base::{Bytes, Memory, Place};
 use ps_cover::{Cover, Exclusions, Sort, Status, percent_of, tally};
 use ps_model::{App, Step, kind_name};
@@ -56,13 +57,18 @@ fn add_said_counts(text: &mut Bytes, counts: Counts) -> Result<(), Memory>
 fn add_json_counts(text: &mut Bytes, counts: Counts) -> Result<(), Memory>
     ensures { OnOk result (text.new ≡ text.old ++ json_counts counts.covered counts.counted counts.excluded) }
 {
-    text.extend_from_slice(b"{\"covered\":")?;
-    add_number(text, counts.covered as u64)?;
-    text.extend_from_slice(b",\"of\":")?;
-    add_number(text, counts.counted as u64)?;
-    text.extend_from_slice(b",\"excluded\":")?;
-    add_number(text, counts.excluded as u64)?;
-    text.extend_from_slice(b"}")
+    add_said(
+        text,
+        &[
+            Said::Words(b"{\"covered\":"),
+            Said::Count(counts.covered),
+            Said::Words(b",\"of\":"),
+            Said::Count(counts.counted),
+            Said::Words(b",\"excluded\":"),
+            Said::Count(counts.excluded),
+            Said::Words(b"}"),
+        ],
+    )
 }
 
 // Puts counts.
@@ -353,15 +359,20 @@ fn add_said_parts(text: &mut Bytes, parts: Parts) -> Result<(), Memory>
     ensures { OnOk result (text.new ≡ text.old
         ++ said_parts parts.states parts.ways parts.values parts.decisions) }
 {
-    text.extend_from_slice(b"states ")?;
-    add_number(text, u64::from(parts.states))?;
-    text.extend_from_slice(b" %  ways ")?;
-    add_number(text, u64::from(parts.ways))?;
-    text.extend_from_slice(b" %  values ")?;
-    add_number(text, u64::from(parts.values))?;
-    text.extend_from_slice(b" %  decisions ")?;
-    add_number(text, u64::from(parts.decisions))?;
-    text.extend_from_slice(b" %\n")
+    add_said(
+        text,
+        &[
+            Said::Words(b"states "),
+            Said::Small(parts.states),
+            Said::Words(b" %  ways "),
+            Said::Small(parts.ways),
+            Said::Words(b" %  values "),
+            Said::Small(parts.values),
+            Said::Words(b" %  decisions "),
+            Said::Small(parts.decisions),
+            Said::Words(b" %\n"),
+        ],
+    )
 }
 
 // Puts the percentages in JSON.
@@ -369,15 +380,20 @@ fn add_json_parts(text: &mut Bytes, parts: Parts) -> Result<(), Memory>
     ensures { OnOk result (text.new ≡ text.old
         ++ json_parts parts.states parts.ways parts.values parts.decisions) }
 {
-    text.extend_from_slice(b"{\"percent\":{\"states\":")?;
-    add_number(text, u64::from(parts.states))?;
-    text.extend_from_slice(b",\"ways\":")?;
-    add_number(text, u64::from(parts.ways))?;
-    text.extend_from_slice(b",\"values\":")?;
-    add_number(text, u64::from(parts.values))?;
-    text.extend_from_slice(b",\"decisions\":")?;
-    add_number(text, u64::from(parts.decisions))?;
-    text.extend_from_slice(b"}}\n")
+    add_said(
+        text,
+        &[
+            Said::Words(b"{\"percent\":{\"states\":"),
+            Said::Small(parts.states),
+            Said::Words(b",\"ways\":"),
+            Said::Small(parts.ways),
+            Said::Words(b",\"values\":"),
+            Said::Small(parts.values),
+            Said::Words(b",\"decisions\":"),
+            Said::Small(parts.decisions),
+            Said::Words(b"}}\n"),
+        ],
+    )
 }
 
 // Puts the percentages.

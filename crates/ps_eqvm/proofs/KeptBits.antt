@@ -113,3 +113,9 @@ even_cells value odd counted clear i low =
     let own : slice_index (plain_cells value odd counted) i ≡ bit_in value i =
     index-cells value odd counted i (omega (arith, low, length-cells value odd counted)) ∙ ap (λ b. cond (b == 1) (slice_index counted i) (bit_in value i)) (clear i) in
     subst (λ (b : ℕ). b < 2) (sym own) (bit_at-lt (slice_index value (i / 64)) (i % 64))
+
+-- as many cells, as many bytes that may count
+pub same_counts : (value odd counted value' odd' counted' : List ℕ) →
+    length (plain_cells value odd counted) ≡ length (plain_cells value' odd' counted') → length counted ≡ length counted'
+same_counts value odd counted value' odd' counted' same =
+    sym (length-cells value odd counted) ∙ same ∙ length-cells value' odd' counted'

@@ -1,7 +1,7 @@
 // Cells that are kept as bits.
 
 ghost use Rattle.std.specs.Prelude.{◌≡◌, ℕ, ◌+◌, ◌*◌, ◌/◌, ◌%◌, ◌<◌, ◌≤◌, Bool, List, length, map, slice_index};
-ghost use Rattle.std.specs.Prelude.{slice_set};
+ghost use Rattle.std.specs.Prelude.{slice_set, true};
 ghost use Rattle.ps_machine.specs.Bytes.{bit, replaced};
 ghost use Rattle.ps_eqvm.specs.Bits.{bit_in, plain_cell, plain_cells, truth_of, words_for, AreCells};
 ghost use Rattle.ps_eqvm.specs.LowBits.{AreLowBits};
@@ -98,6 +98,27 @@ fn write_run(value: &mut [u64], odd: &mut [u64], counted: &[u8], i: usize, count
     place_run(value, i, count, number);
 }
 
+// Whether words are the same.
+fn same_words(one: &[u64], other: &[u64]) -> bool
+    ensures { result ≡ true → one.now ≡ other.now }
+{
+    one == other
+}
+
+// True only where the bytes that count are the same in cells with these odd words, none of which is odd where they are
+// even.
+fn same_counted(odd: &[u64], counted: &[u8], other: &[u8], even: bool) -> bool
+    requires clear { even ≡ true → (i : ℕ) → bit_in odd.now i ≡ 0 }
+    requires count { length counted.now ≡ length other.now }
+    ensures { (value : List ℕ) → result ≡ true →
+        plain_cells value odd.now counted.now ≡ plain_cells value odd.now other.now }
+{
+    if even {
+        return true;
+    }
+    counted == other
+}
+
 // The values of bytes are below 256.
 fn are_bytes(bytes: &[u8])
     ensures { (i : ℕ) → slice_index bytes.now i < 256 }
@@ -131,6 +152,30 @@ impl BitCells {
         ensures { result ≡ length self.now }
     {
         self.counted.len()
+    }
+
+    /// Each cell becomes what it is in others of the same number.
+    #[tactic(auto, using(crate::proofs::KeptBits::same_counts))]
+    pub fn copy_from(&mut self, other: &BitCells)
+        requires { length self.old ≡ length other.now }
+        ensures { self.new ≡ other.now }
+    {
+        self.value.copy_from_slice(&other.value);
+        self.odd.copy_from_slice(&other.odd);
+        self.counted.copy_from_slice(&other.counted);
+        self.even = other.even;
+    }
+
+    /// True only where each cell is as in others of the same number. It is FALSE too where a byte is neither 0 nor 1, or
+    /// was so and nobody has looked since, and a byte that does not count differs.
+    #[tactic(auto, using(crate::proofs::KeptBits::same_counts))]
+    pub fn is_twin_of(&self, other: &BitCells) -> bool
+        requires { length self.now ≡ length other.now }
+        ensures { result ≡ true → self.now ≡ other.now }
+    {
+        same_words(&self.value, &other.value)
+            && same_words(&self.odd, &other.odd)
+            && same_counted(&self.odd, &self.counted, &other.counted, self.even)
     }
 
     /// Each cell is a byte. It does nothing when it runs.

@@ -8,7 +8,7 @@ use crate::own_sizes::copy_of;
 use crate::plain::PlainCells;
 use crate::{report, turn};
 use ps_base::Memory;
-use ps_machine::{CodeImage, ScanMachine, overwrite, progress_of_byte};
+use ps_machine::{CodeImage, ScanMachine, TwinMachine, overwrite, progress_of_byte};
 use ps_model::{OutOfRegion, Progress, Region, Report, Scan, Sizes};
 use std::alloc::Global;
 use std::marker::Model;
@@ -183,6 +183,24 @@ impl EquationChannel {
         self.plain.odd_words()
     }
 
+    /// The channel becomes what another one is, of the same sizes and with a code of the same length.
+    pub fn copy_from(&mut self, other: &EquationChannel)
+        requires sizes { self.old.sizes ≡ other.now.sizes }
+        requires code { length self.old.code ≡ length other.now.code }
+        ensures { self.new ≡ other.now }
+    {
+        self.code.copy_from_slice(&other.code);
+        self.plain.copy_from(&other.plain);
+    }
+
+    /// True only where the channel is what another one is, of the same sizes.
+    pub fn is_twin_of(&self, other: &EquationChannel) -> bool
+        requires { self.now.sizes ≡ other.now.sizes }
+        ensures { result ≡ true → self.now ≡ other.now }
+    {
+        self.plain.is_twin_of(&other.plain) && self.code == other.code
+    }
+
     /// The length of a region in bytes.
     pub fn region_len(&self, region: Region) -> u32
         ensures { result ≡ length (region_of region self.now) }
@@ -276,5 +294,15 @@ impl ScanMachine for EquationChannel {
 
     fn spoil(&mut self, region: Region, at: u32, bytes: &[u8]) -> Result<(), OutOfRegion> {
         self.spoil(region, at, bytes)
+    }
+}
+
+impl TwinMachine for EquationChannel {
+    fn copy_from(&mut self, other: &EquationChannel) {
+        self.copy_from(other);
+    }
+
+    fn is_twin_of(&self, other: &EquationChannel) -> bool {
+        self.is_twin_of(other)
     }
 }

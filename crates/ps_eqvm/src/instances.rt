@@ -26,7 +26,7 @@ impl Model for InstanceBytes {
 }
 
 impl InstanceBytes {
-    ghost use Rattle.std.specs.Prelude.{◌≡◌, ℕ, ◌+◌, ◌*◌, ◌<◌, ◌≤◌, ◌^◌, IfOk, IfSome, IfNone, length, replicate, slice_index, slice_set};
+    ghost use Rattle.std.specs.Prelude.{◌≡◌, ℕ, ◌+◌, ◌*◌, ◌<◌, ◌≤◌, ◌^◌, IfOk, IfSome, IfNone, length, replicate, slice_index, slice_set, true};
     ghost use Rattle.ps_model.specs.Stored.{stored};
     ghost use Rattle.ps_rows.specs.Counted.{kept_of};
     ghost use Rattle.ps_eqvm.specs.Instances.{LoadAs, LoadNowhere};
@@ -45,6 +45,21 @@ impl InstanceBytes {
         ensures { result ≡ length self.now }
     {
         self.stored.len()
+    }
+
+    /// Each byte becomes what it is in others of the same number.
+    pub fn copy_from(&mut self, other: &InstanceBytes)
+        requires { length self.old ≡ length other.now }
+        ensures { self.new ≡ other.now }
+    {
+        self.stored.copy_from_slice(&other.stored);
+    }
+
+    /// True only where each byte is as in others.
+    pub fn is_twin_of(&self, other: &InstanceBytes) -> bool
+        ensures { result ≡ true → self.now ≡ other.now }
+    {
+        self.stored == other.stored
     }
 
     /// Each byte is a byte. It does nothing when it runs.

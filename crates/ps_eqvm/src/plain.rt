@@ -178,6 +178,33 @@ impl PlainCells {
         self.blocks.clear();
     }
 
+    /// All becomes what it is in others of the same sizes.
+    pub fn copy_from(&mut self, other: &PlainCells)
+        requires cells { length self.old.cells ≡ length other.now.cells }
+        requires blocks { length self.old.blocks ≡ length other.now.blocks }
+        ensures { self.new ≡ other.now }
+    {
+        self.offset = other.offset;
+        self.progress = other.progress;
+        self.last = other.last;
+        self.passed = other.passed;
+        self.cells.copy_from(&other.cells);
+        self.blocks.copy_from(&other.blocks);
+    }
+
+    /// True only where all is as in others of the same sizes.
+    pub fn is_twin_of(&self, other: &PlainCells) -> bool
+        requires { length self.now.cells ≡ length other.now.cells }
+        ensures { result ≡ true → self.now ≡ other.now }
+    {
+        self.offset == other.offset
+            && self.progress == other.progress
+            && self.last == other.last
+            && self.passed == other.passed
+            && self.cells.is_twin_of(&other.cells)
+            && self.blocks.is_twin_of(&other.blocks)
+    }
+
     /// Its numbers and bytes are in range. It does nothing when it runs.
     pub fn sound(&self)
         ensures { IsPlain self.now }

@@ -16,7 +16,7 @@ use Rattle.ps_trace.specs.Scans.{Scans, scans_of}
 use Rattle.ps_traced.specs.Playing.{IsPlay}
 use Rattle.ps_explaining.specs.declared.walker.LastScan.{LastScan}
 use Rattle.ps_parser.specs.Tree.{SourceTree}
-use Rattle.ps_sourced.specs.Sourcing.{IsSourceOf}
+use Rattle.ps_bench_base.specs.Sourcing.{IsSourceOf}
 use Rattle.ps_terms.specs.Names.{name_of}
 use Rattle.ps_terms.specs.declared.name.Name.{Name}
 use Rattle.ps_explaining.specs.Asking.{IsFoundAt, IsTold, Wanted}

@@ -2,7 +2,7 @@
 use Rattle.std.proofs.Common.{◌≡◌, ◌≢◌, ◌∙◌, ◌<◌, ◌≤◌, ◌==◌, ◌||◌, ◌++◌, ◌∷◌, [], inl, inr, not, ℕ, zero, suc, Bool, true, false, List, Option, Some, None, replicate, length, slice_get, refl, sym, ap, subst, arith, if◌then◌else◌}
 use Rattle.std.specs.Prelude.{is_none, option_map, slice_index_or}
 use Rattle.std.proofs.lemmas.Option.{same_Some, slice_get-get_or, slice_get_within}
-use Rattle.ps_points.specs.Clock.{since}
+use Rattle.ps_marks.specs.Clock.{since}
 use Rattle.ps_cover.specs.Covers.{time_of}
 use Rattle.ps_model.specs.Action.{Actual, calls}
 use Rattle.ps_model.specs.Blocks.{Block_state, idle}

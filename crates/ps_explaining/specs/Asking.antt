@@ -16,7 +16,7 @@ use Rattle.ps_model.specs.declared.channel.ImageSizes.{ImageSizes}
 use Rattle.ps_explaining.specs.Scanned as scanned
 use Rattle.ps_explaining.specs.Scanned.{Scanned, last_upto}
 use Rattle.ps_parser.specs.Tree.{SourceTree}
-use Rattle.ps_sourced.specs.Sourcing.{IsSourceOf}
+use Rattle.ps_bench_base.specs.Sourcing.{IsSourceOf}
 use Rattle.ps_terms.specs.Names.{name_of}
 use Rattle.ps_terms.specs.declared.name.Name.{Name}
 use Rattle.ps_trace.specs.Scans.{scans_of}

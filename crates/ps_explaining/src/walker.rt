@@ -2,7 +2,7 @@
 
 ghost use Rattle.std.specs.Prelude.{◌≡◌, ◌<◌, ◌≤◌, ℕ, IfOk, None, Some, is_none, length, map, option_map, replicate};
 ghost use Rattle.std.specs.Prelude.{slice_get};
-ghost use Rattle.ps_points.specs.Clock.{since};
+ghost use Rattle.ps_marks.specs.Clock.{since};
 ghost use Rattle.ps_model.specs.Meaning.{Past, last, last_time, nothing, old_state, passed};
 ghost use Rattle.ps_model.specs.Network.{input_count, instance_count};
 ghost use Rattle.ps_model.specs.Scanning.{Solves, State};

@@ -25,8 +25,8 @@ use Rattle.ps_runs.specs.declared.items.Cut.TheVariants.{Unread}
 use Rattle.ps_runs.specs.declared.striking.StruckWorld.{StruckWorld}
 use Rattle.ps_runs.specs.declared.watching.Watched.{Watched}
 use Rattle.ps_runs.proofs.Standing.{runs_to}
-use Rattle.ps_shown.specs.Names.{main_names}
-use Rattle.ps_shown.specs.declared.format.Format.TheVariants.{Text}
+use Rattle.ps_watcher.specs.Names.{main_names}
+use Rattle.ps_watcher.specs.declared.format.Format.TheVariants.{Text}
 use Rattle.ps_trace.specs.Scans.{Scans}
 use Rattle.ps_watcher.specs.Watched.{IsBegun}
 use Rattle.ps_watcher.specs.Watcher.{watcher_said, watcher_takes}

@@ -9,8 +9,8 @@ use Rattle.ps_model.specs.Sound.{IsSound}
 use Rattle.ps_model.proofs.Runs.{one_run}
 use Rattle.ps_report.specs.Short.{refusal_text}
 use Rattle.ps_runs.specs.Resting.{answered}
-use Rattle.ps_shown.specs.Names.{main_names}
-use Rattle.ps_shown.specs.declared.format.Format.TheVariants.{Text}
+use Rattle.ps_watcher.specs.Names.{main_names}
+use Rattle.ps_watcher.specs.declared.format.Format.TheVariants.{Text}
 use Rattle.ps_top.specs.Program.{end_line}
 use Rattle.ps_trace.specs.Header.{input_names}
 use Rattle.ps_trace.specs.Scans.{End, Scans, header_from, scans_behind, scans_of, trace_lines}

@@ -14,8 +14,8 @@ use Rattle.ps_runs.specs.declared.items.Cut.{Cut}
 use Rattle.ps_runs.specs.declared.items.Cut.TheVariants.{Refused as IsRefused, Unread as IsUnread}
 use Rattle.ps_runs.specs.declared.items.Cut.TheVariants.{Unwritten as IsUnwritten}
 use Rattle.ps_runs.specs.Resting.{answer_lines, answered, any_trips}
-use Rattle.ps_shown.specs.Names.{main_names}
-use Rattle.ps_shown.specs.declared.format.Format.TheVariants.{Text}
+use Rattle.ps_watcher.specs.Names.{main_names}
+use Rattle.ps_watcher.specs.declared.format.Format.TheVariants.{Text}
 use Rattle.ps_trace.specs.Scans.{End}
 use Rattle.ps_trace.specs.Scans.End.{whole, refused}
 use Rattle.ps_watcher.specs.Watching.{watch_text}

@@ -5,8 +5,8 @@ use Rattle.ps_report.specs.Lines.{line_room}
 use Rattle.ps_runs.specs.Performing.{IsStruckWorldFor}
 use Rattle.ps_runs.specs.Running.{Fits, IsBeginning}
 use Rattle.ps_runs.specs.Watching.{IsWatchedFor}
-use Rattle.ps_shown.specs.Names.{main_names}
-use Rattle.ps_shown.specs.declared.format.Format.TheVariants.{Text}
+use Rattle.ps_watcher.specs.Names.{main_names}
+use Rattle.ps_watcher.specs.declared.format.Format.TheVariants.{Text}
 use Rattle.ps_watcher.specs.Watched.{IsBegun}
 use Rattle.ps_watcher.specs.Watcher.{IsWatcherFor}
 use Rattle.ps_live.specs.declared.teller.Teller.{Teller}

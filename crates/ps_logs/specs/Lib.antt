@@ -7,3 +7,7 @@ pub mod Log
 -- where the code has the fields of a line, and what it says of a row
 pub mod Spans
 pub mod Saying
+-- the trace of a log, and what a call leaves that writes it: what a reader of the clauses has to believe
+pub mod Recording
+-- what comes of a line of a log
+pub mod Lines

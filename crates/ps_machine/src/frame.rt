@@ -32,7 +32,7 @@ impl Drop for Frame {
 }
 
 impl Frame {
-    ghost use Rattle.std.specs.Prelude.{◌≡◌, ◌+◌, ◌*◌, ◌<◌, ◌≤◌, ◌^◌, IfOk, is_err, length, nat_lt, replicate};
+    ghost use Rattle.std.specs.Prelude.{◌≡◌, ◌+◌, ◌*◌, ◌<◌, ◌≤◌, ◌^◌, IfOk, is_err, length, nat_lt, replicate, true};
     ghost use Rattle.ps_machine.specs.Carrying.{carried, filled};
     ghost use Rattle.ps_machine.specs.Frames.{channel_in};
     ghost use Rattle.ps_machine.specs.StoredChannel.{region_of, restored_channel, spoiled};
@@ -102,6 +102,26 @@ impl Frame {
         ensures { bytes.new ≡ carried self.now.sizes signals_at (channel_in self.now).cells }
     {
         bytes.copy_from_slice(&self.cells[signals_at..]);
+    }
+
+    /// The code and the cells become those of another frame, which has the same sizes, and code and cells of the same
+    /// lengths.
+    pub fn copy_from(&mut self, other: &Frame)
+        requires sizes { self.old.sizes ≡ other.now.sizes }
+        requires code { length (channel_in self.old).code ≡ length (channel_in other.now).code }
+        requires cells { length (channel_in self.old).cells ≡ length (channel_in other.now).cells }
+        ensures { channel_in self.new ≡ channel_in other.now }
+    {
+        self.code.copy_from_slice(&other.code);
+        self.cells.copy_from_slice(&other.cells);
+    }
+
+    /// Whether code and cells are those of another frame, which has the same sizes.
+    pub fn is_twin_of(&self, other: &Frame) -> bool
+        requires { self.now.sizes ≡ other.now.sizes }
+        ensures { result ≡ true → channel_in self.now ≡ channel_in other.now }
+    {
+        self.cells == other.cells && self.code == other.code
     }
 
     /// The length of a region in bytes.

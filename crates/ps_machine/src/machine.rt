@@ -86,3 +86,18 @@ pub trait ScanMachine: Drop {
         ensures bytes { stored self.new ≡ spoiled region at bytes.now (stored self.old) }
         ensures refused { is_err result ≡ nat_lt (length (region_of region (stored self.old))) (at + length bytes.now) };
 }
+
+/// A machine that can become what another one is, and be compared with it. Both are of one application: their sizes are
+/// the same, and their codes have one length. Neither call takes memory.
+pub trait TwinMachine: ScanMachine {
+    /// The channel becomes what the other one is.
+    fn copy_from(&mut self, other: &Self)
+        requires sizes { (Self.stored self.old).sizes ≡ (Self.stored other.now).sizes }
+        requires code { length (Self.stored self.old).code ≡ length (Self.stored other.now).code }
+        ensures { Self.stored self.new ≡ Self.stored other.now };
+
+    /// True only where the channel is what the other one is.
+    fn is_twin_of(&self, other: &Self) -> bool
+        requires sizes { (Self.stored self.now).sizes ≡ (Self.stored other.now).sizes }
+        ensures { result ≡ true → Self.stored self.now ≡ Self.stored other.now };
+}

@@ -3,3 +3,7 @@ pub mod Marks
 pub mod Fixed
 -- a step of a block, as the code keeps it
 pub mod Moving
+-- values that decide, what is missed, and the time between two scans
+pub mod Deciding
+pub mod Missing
+pub mod Clock

@@ -2,3 +2,5 @@
 pub mod Digits
 -- what is written of a value, byte by byte
 pub mod Bytewise
+-- the value at a place of spans that are merged
+pub mod Merging

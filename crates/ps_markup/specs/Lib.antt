@@ -5,4 +5,8 @@ pub mod Unescaping
 pub mod Names
 -- pieces that stand together, and the text of pieces
 pub mod Pieces
+pub mod Parts
 pub mod Writing
+-- pictures: values in scans side by side
+pub mod Lanes
+pub mod Picture

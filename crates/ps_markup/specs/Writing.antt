@@ -6,7 +6,8 @@ use Rattle.ps_markup.specs.Names.{key_name, tag_name}
 use Rattle.ps_markup.specs.declared.names.Key.{Key}
 use Rattle.ps_markup.specs.declared.names.Tag.{Tag}
 use Rattle.ps_markup.specs.declared.page.Piece.{Piece}
-use Rattle.ps_markup.specs.declared.page.Piece.TheVariants.{Attribute, Begin, Body, End, Epilogue, Inside, Prologue, Value}
+use Rattle.ps_markup.specs.declared.page.Piece.TheVariants.{Alone, Attribute, Begin, Body, End, Epilogue}
+use Rattle.ps_markup.specs.declared.page.Piece.TheVariants.{Inside, Prologue, Value}
 use Rattle.ps_markup.specs.declared.writing.TheConstants.{BODY, EPILOGUE, PROLOGUE}
 
 -- the beginning of an element, as `<td`
@@ -29,6 +30,7 @@ piece_text Epilogue = EPILOGUE.now
 piece_text (Begin tag) = begin_text tag
 piece_text (Attribute key value) = attribute_text key value
 piece_text Inside = codes ">"
+piece_text Alone = codes "/>"
 piece_text (Value value) = escaped value
 piece_text (End tag) = end_text tag
 

@@ -24,6 +24,8 @@ pub enum Piece {
     Attribute(Key, Bytes),
     /// The end of the attributes, behind which an element has what it holds.
     Inside,
+    /// The end of the attributes, and of an element of a picture that holds nothing.
+    Alone,
     /// A text.
     Value(Bytes),
     /// The end of an element.

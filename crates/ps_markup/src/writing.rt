@@ -35,13 +35,12 @@ svg { display: block; margin: .5rem 0; }
 svg text { fill: #111; font: 11px system-ui, sans-serif; }
 svg .name { text-anchor: end; }
 svg .fail { fill: #900; }
-svg path { fill: none; stroke: #111; }
-svg .level { stroke-width: 1.6; }
-svg .base { stroke: #bbb; }
-svg .tick { stroke: #ccc; }
-svg .mark { stroke: #555; stroke-dasharray: 3 3; }
+svg path { fill: none; stroke: #111; stroke-width: 1.6; }
+svg .base { stroke: #bbb; stroke-width: 1; }
+svg .tick { stroke: #ccc; stroke-width: 1; }
+svg .mark { stroke: #555; stroke-width: 1; stroke-dasharray: 3 3; }
 svg .event { stroke-width: 2.5; }
-svg .break { stroke: #111; }
+svg .break { stroke-width: 1; }
 svg rect { stroke: #333; fill: #dbe9f6; }
 svg .idle { fill: #f2f2f2; }
 svg .well { fill: #d8efd3; }
@@ -49,7 +48,7 @@ svg .error { fill: #f9d7d0; stroke-width: 2; }
 @page { size: A4; margin: 15mm; }
 @media print {
 body { font-size: 11pt; }
-main { max-width: none; padding: 0; }
+main { max-width: none; padding: 1px; }
 pre { overflow: visible; white-space: pre-wrap; overflow-wrap: anywhere; font-size: 8.5pt; }
 figure { overflow: visible; }
 svg { max-width: 100%; height: auto; break-inside: avoid; }
@@ -104,6 +103,7 @@ fn add_piece(text: &mut Bytes, piece: &Piece) -> Result<(), Memory>
         Piece::Begin(tag) => add_begin(text, *tag),
         Piece::Attribute(key, value) => add_attribute(text, *key, value.as_slice()),
         Piece::Inside => text.extend_from_slice(b">"),
+        Piece::Alone => text.extend_from_slice(b"/>"),
         Piece::Value(value) => add_escaped(text, value.as_slice()),
         Piece::End(tag) => add_end(text, *tag),
     }

@@ -6,16 +6,17 @@ ghost use Rattle.ps_rules.specs.File.{pace_of};
 ghost use Rattle.ps_rules.specs.Standing.{IsOfApplication};
 ghost use Rattle.ps_rules.specs.declared.flaw.RulesRefusal.{RulesRefusal as RulesRefusalOf};
 ghost use Rattle.ps_rules.specs.declared.rules.Pace.TheVariants.{Every as ComesEvery};
-ghost use Rattle.ps_ruling.specs.Asked.{IsAskedBy};
+ghost use Rattle.ps_never.specs.Asked.{IsAskedBy};
 ghost use Rattle.ps_never.specs.Answering.{HasManyFree, IsToldBy};
 
+use crate::ruling::asked_of;
 use crate::telling::{Asking, told};
 use ps_base::{Bytes, Memory};
+use ps_counted::do_all_hold;
 use ps_model::App;
 use ps_reach::{Asked, MOST_FREE, free_inputs, never};
 use ps_rules::{Flaw, RulesFile, RulesRefusal};
-use ps_ruling::asked_of;
-use ps_verdict::do_all_hold;
+use ps_search::Observer;
 use std::alloc::Global;
 
 /// What is told of the rules of a file.
@@ -76,13 +77,14 @@ pub fn asked_if_few(
 /// The answer to a rules file that is read, whose scans come so many ms apart, of which so many states may be held: what
 /// is told of its rules, and whether all hold. `Refused` comes where over 20 inputs are free (R5, at the line behind the
 /// last one).
-pub fn answer_every(
+pub fn answer_every<W: Observer>(
     alloc: Global,
     app: &App,
     name: &str,
     file: &RulesFile,
     every: u32,
     most: u32,
+    observer: &mut W,
 ) -> Result<Told, NeverFail>
     requires some { 0 < most }
     requires stands { IsOfApplication app.now file.now }
@@ -93,7 +95,7 @@ pub fn answer_every(
     ensures read { ¬ IsErrOf result NeverFail.Fault }
 {
     let asked = asked_if_few(alloc, app, file, every)?;
-    let found = never(alloc, app, &asked, most)?;
+    let found = never(alloc, app, &asked, most, observer)?;
     let asking = Asking {
         app,
         file: name,

@@ -1,2 +1,0 @@
--- pieces, some behind others
-pub mod Joining

@@ -1,14 +1,21 @@
 // The timing diagram of a case, and what changed in it in a table.
 
+ghost use Rattle.std.specs.Prelude.{◌≡◌, ◌++◌, IfOk, OnOk};
+ghost use Rattle.std.specs.List.{flat_map};
+ghost use Rattle.ps_page.specs.Diagram.{above_pieces, change_row, event_pieces, expected_pieces, fails, further_text};
+ghost use Rattle.ps_page.specs.Diagram.{is_turn, lane_pieces, mark_text};
+ghost use Rattle.ps_page.specs.Diagram.{marks_at, marks_class, marks_text, scan_pieces};
+
 use crate::drawing::{
-    LANE, Strip, TOP, add_lane, add_ticks, add_time, add_upright, add_words, event_of, value_at,
+    Lane, add_lane, add_upright_path, base_lines, break_lines, event_of, tick_lines, time_of,
+    value_at,
 };
 use crate::marks::{Mark, marks_of};
 use crate::recording::{Course, MOST_MOMENTS, Moment, Recording};
-use crate::scale::{LEFT, Place, places_of, unit_of};
+use crate::scale::{Scan, scans_of, unit_of};
 use ps_base::{Bytes, Memory};
 use ps_bench_base::pieces::add_short;
-use ps_markup::{Key, Page, Piece, Tag};
+use ps_markup::{Key, LANE, LEFT, Page, Part, TOP, Tag, add_parts, add_path, add_words};
 use ps_model::App;
 use ps_terms::Name;
 use ps_told::{CaseRun, add_name, add_value};
@@ -27,109 +34,244 @@ struct Sheet<'a> {
     app: &'a App,
     recording: &'a Recording,
     marks: &'a [Mark],
-    // the numbers of the names that are drawn
-    lanes: &'a [usize],
+    // the names that are drawn
+    lanes: &'a [Lane],
     // what the pictures are called within the page, up to their number
     id: &'a [u8],
 }
 
 // Whether a name has the same value in all of these scans.
-fn is_constant(moments: &[Moment], lane: usize) -> bool {
+fn is_constant(moments: &[Moment], number: usize) -> bool {
     match moments {
         [] => true,
         [first, rest @ ..] => {
-            let value = value_at(first, lane);
-            rest.iter().all(|moment| value_at(moment, lane) == value)
+            let value = value_at(first, number);
+            rest.iter().all(|moment| value_at(moment, number) == value)
         }
     }
 }
 
-// The numbers of the names that are drawn: all of a few, and of many those that change.
-fn lanes_of(alloc: Global, recording: &Recording) -> Result<Vec<usize>, Memory> {
+// The names that are drawn: all of a few, and of many those that change.
+fn lanes_of(alloc: Global, recording: &Recording) -> Result<Vec<Lane>, Memory> {
     let mut lanes = Vec::new(alloc);
-    let count = recording.names.len();
-    for lane in 0..count {
-        if count <= FEW_NAMES || !is_constant(recording.moments.as_slice(), lane) {
-            lanes.push(lane)?;
+    let few = recording.names.len() <= FEW_NAMES;
+    let mut row = 0u16;
+    for (number, name) in recording.names.as_slice().iter().enumerate() {
+        if few || !is_constant(recording.moments.as_slice(), number) {
+            lanes.push(Lane {
+                name: *name,
+                number,
+                row,
+            })?;
+            row = row.saturating_add(1);
         }
     }
     Ok(lanes)
 }
 
-// The lines of a case that expect something of a scan, with those that failed, as `23, 25 FAIL`.
-fn expected_at(alloc: Global, marks: &[Mark], scan: u32) -> Result<Bytes, Memory> {
-    let mut words = Bytes::new(alloc);
+// The expectations of a scan.
+fn marks_at(alloc: Global, marks: &[Mark], scan: u32) -> Result<Vec<Mark>, Memory>
+    ensures { IfOk result (λ list. list.items ≡ marks_at scan marks.now) }
+{
+    let mut list = Vec::new(alloc);
     for mark in marks {
         if mark.scan == scan {
-            words.extend_from_slice(if words.len() == 0 { b"line " } else { b", " })?;
-            add_short(&mut words, mark.line)?;
-            words.extend_from_slice(if mark.failed { b" FAIL" } else { b"" })?;
+            list.push(*mark)?;
         }
     }
-    Ok(words)
+    Ok(list)
 }
 
-// Whether an expectation of a scan failed.
-fn fails_at(marks: &[Mark], scan: u32) -> bool {
-    marks.iter().any(|mark| mark.scan == scan && mark.failed)
+// An expectation by its line, and whether it failed, behind others.
+fn add_mark(words: &mut Bytes, mark: &Mark) -> Result<(), Memory>
+    ensures { OnOk result (words.new ≡ words.old ++ mark_text mark.now) }
+{
+    add_short(words, mark.line)?;
+    words.extend_from_slice(if mark.failed { b" FAIL" } else { b"" })
+}
+
+// Further expectations by their lines, behind others.
+fn add_marks(words: &mut Bytes, marks: &[Mark]) -> Result<(), Memory>
+    ensures { OnOk result (words.new ≡ words.old ++ flat_map further_text marks.now) }
+{
+    for mark in marks {
+        words.extend_from_slice(b", ")?;
+        add_mark(words, mark)?;
+    }
+    Ok(())
+}
+
+// Expectations by their lines, as `line 23, 25 FAIL`.
+fn marks_text(alloc: Global, marks: &[Mark]) -> Result<Bytes, Memory>
+    ensures { IfOk result (λ words. words ≡ marks_text marks.now) }
+{
+    let mut words = Bytes::new(alloc);
+    match marks {
+        [] => Ok(words),
+        [first, rest @ ..] => {
+            words.extend_from_slice(b"line ")?;
+            add_mark(&mut words, first)?;
+            add_marks(&mut words, rest)?;
+            Ok(words)
+        }
+    }
+}
+
+// Whether one of some expectations failed.
+fn fails(marks: &[Mark]) -> bool
+    ensures { result ≡ fails marks.now }
+{
+    marks.iter().any(|mark| mark.failed)
+}
+
+// How expectations look: as one that failed, where one of them did.
+fn marks_class(marks: &[Mark]) -> &'static [u8]
+    ensures { result.now ≡ marks_class marks.now }
+{
+    if fails(marks) { b"fail" } else { b"pass" }
+}
+
+// Words of a class above the lines, where there are any.
+fn add_above<'x>(
+    page: &mut Page,
+    class: &'x [u8],
+    x: u32,
+    y: u32,
+    words: &'x [u8],
+) -> Result<(), Memory>
+    ensures { OnOk result (page.new ≡ page.old ++ above_pieces class.now x y words.now) }
+{
+    if words.is_empty() {
+        return Ok(());
+    }
+    add_words(page, class, x, y, words)
+}
+
+// Whether a scan is the first one behind a restart, or trips.
+fn is_turn(moment: &Moment) -> bool
+    ensures { result ≡ is_turn moment.entry.now.course moment.entry.now.restarted }
+{
+    match moment.course {
+        Course::Trips => true,
+        Course::Down => moment.restarted,
+        Course::Runs => moment.restarted,
+    }
+}
+
+// What stands above a scan of what happens to the world.
+fn add_event(page: &mut Page, alloc: Global, scan: &Scan<'_>, bottom: u32) -> Result<(), Memory>
+    ensures { OnOk result (page.new ≡ page.old ++ event_pieces bottom scan.now) }
+{
+    add_above(page, b"happens", scan.x, 12, event_of(scan.moment))?;
+    if !is_turn(scan.moment) {
+        return Ok(());
+    }
+    add_upright_path(page, alloc, b"event", scan.x, bottom)
+}
+
+// What stands above a scan of which these are expected, of which there is one at least.
+fn add_expected(
+    page: &mut Page,
+    alloc: Global,
+    marks: &[Mark],
+    x: u32,
+    bottom: u32,
+) -> Result<(), Memory>
+    ensures { OnOk result (page.new ≡ page.old ++ expected_pieces bottom x marks.now) }
+{
+    if marks.is_empty() {
+        return Ok(());
+    }
+    let words = marks_text(alloc, marks)?;
+    add_upright_path(page, alloc, b"mark", x, bottom)?;
+    add_words(page, marks_class(marks), x, 26, words.as_slice())
 }
 
 // What stands above a scan: what happens to the world, and what is expected.
-fn add_above(
+fn add_scan(
     page: &mut Page,
-    sheet: &Sheet<'_>,
-    moment: &Moment,
-    place: &Place,
-    strip: &Strip<'_>,
-) -> Result<(), Memory> {
-    let event = event_of(moment);
-    if !event.is_empty() {
-        add_words(page, b"happens", place.x, 12, event)?;
-    }
-    if moment.restarted || moment.course == Course::Trips {
-        add_upright(page, sheet.alloc, b"event", place.x, strip)?;
-    }
-    let words = expected_at(sheet.alloc, sheet.marks, moment.scan)?;
-    if words.len() == 0 {
-        return Ok(());
-    }
-    let class: &[u8] = if fails_at(sheet.marks, moment.scan) {
-        b"fail"
-    } else {
-        b"pass"
-    };
-    add_upright(page, sheet.alloc, b"mark", place.x, strip)?;
-    add_words(page, class, place.x, 26, words.as_slice())
+    alloc: Global,
+    marks: &[Mark],
+    scan: &Scan<'_>,
+    bottom: u32,
+) -> Result<(), Memory>
+    ensures { OnOk result (page.new ≡ page.old ++ scan_pieces bottom marks.now scan.now) }
+{
+    let expected = marks_at(alloc, marks, scan.moment.scan)?;
+    add_event(page, alloc, scan, bottom)?;
+    add_expected(page, alloc, expected.as_slice(), scan.x, bottom)
 }
 
-// What stands above and below the scans of a picture.
-fn add_frame(page: &mut Page, sheet: &Sheet<'_>, strip: &Strip<'_>) -> Result<(), Memory> {
-    add_words(page, b"name", LEFT - 8, 26, b"expected at")?;
-    add_words(
-        page,
-        b"name",
-        LEFT - 8,
-        strip.height.saturating_sub(4),
-        b"time in ms",
-    )?;
-    add_ticks(page, sheet.alloc, strip)?;
-    for (moment, place) in strip.moments.iter().zip(strip.places) {
-        add_time(page, sheet.alloc, moment, place, strip)?;
-        add_above(page, sheet, moment, place, strip)?;
+// What stands above scans.
+fn add_scans(
+    page: &mut Page,
+    sheet: &Sheet<'_>,
+    scans: &[Scan<'_>],
+    bottom: u32,
+) -> Result<(), Memory>
+    ensures { OnOk result (page.new
+        ≡ page.old ++ flat_map (scan_pieces bottom sheet.now.marks.now) scans.now) }
+{
+    for scan in scans {
+        add_scan(page, sheet.alloc, sheet.marks, scan, bottom)?;
+    }
+    Ok(())
+}
+
+// The times of scans below the lines.
+fn add_times(
+    page: &mut Page,
+    alloc: Global,
+    scans: &[Scan<'_>],
+    bottom: u32,
+) -> Result<(), Memory> {
+    for scan in scans {
+        let words = time_of(alloc, scan)?;
+        add_above(
+            page,
+            b"time",
+            scan.x,
+            bottom.saturating_add(14),
+            words.as_slice(),
+        )?;
     }
     Ok(())
 }
 
 // The lines of a picture, each with its name.
-fn add_lanes(page: &mut Page, sheet: &Sheet<'_>, strip: &Strip<'_>) -> Result<(), Memory> {
-    let mut top = TOP;
+fn add_lanes(page: &mut Page, sheet: &Sheet<'_>, scans: &[Scan<'_>]) -> Result<(), Memory>
+    ensures { OnOk result (page.new
+        ≡ page.old ++ flat_map (lane_pieces sheet.now.app.now scans.now) sheet.now.lanes.now) }
+{
     for lane in sheet.lanes {
-        if let Some(name) = sheet.recording.names.as_slice().get(*lane) {
-            add_lane(page, sheet.alloc, sheet.app, *name, *lane, top, strip)?;
-        }
-        top = top.saturating_add(LANE);
+        add_lane(page, sheet.alloc, sheet.app, lane, scans)?;
     }
     Ok(())
+}
+
+// What stands below the lines of a picture, and what they are drawn on.
+fn add_ground(
+    page: &mut Page,
+    sheet: &Sheet<'_>,
+    scans: &[Scan<'_>],
+    bottom: u32,
+) -> Result<(), Memory> {
+    let end = scans.last().map_or(LEFT, |scan| scan.end);
+    let ticks = tick_lines(sheet.alloc, scans, bottom)?;
+    let bases = base_lines(sheet.alloc, sheet.lanes, end)?;
+    let breaks = break_lines(sheet.alloc, scans, bottom)?;
+    add_path(page, b"tick", ticks.as_slice())?;
+    add_path(page, b"base", bases.as_slice())?;
+    add_path(page, b"break", breaks.as_slice())?;
+    add_words(page, b"name", LEFT - 8, 26, b"expected at")?;
+    add_words(
+        page,
+        b"name",
+        LEFT - 8,
+        bottom.saturating_add(14),
+        b"time in ms",
+    )?;
+    add_times(page, sheet.alloc, scans, bottom)
 }
 
 // The part of a picture that is seen.
@@ -143,51 +285,22 @@ fn view_box(alloc: Global, height: u32) -> Result<Bytes, Memory> {
 }
 
 // What a picture shows, in words.
-fn title_of(alloc: Global, strip: &Strip<'_>) -> Result<Bytes, Memory> {
+fn title_of(alloc: Global, scans: &[Scan<'_>]) -> Result<Bytes, Memory> {
     let mut words = Bytes::new(alloc);
     words.extend_from_slice(b"Timing diagram from ")?;
-    add_short(
-        &mut words,
-        strip.moments.first().map_or(0, |moment| moment.now),
-    )?;
+    add_short(&mut words, scans.first().map_or(0, |scan| scan.moment.now))?;
     words.extend_from_slice(b" ms to ")?;
-    add_short(
-        &mut words,
-        strip.moments.last().map_or(0, |moment| moment.now),
-    )?;
+    add_short(&mut words, scans.last().map_or(0, |scan| scan.moment.now))?;
     words.extend_from_slice(b" ms; the table below it says the same")?;
     Ok(words)
 }
 
-// A picture, by its number among those of the case.
-fn add_picture(
-    page: &mut Page,
-    sheet: &Sheet<'_>,
-    number: u32,
-    strip: &Strip<'_>,
-) -> Result<(), Memory> {
-    let mut id = Bytes::from_slice(sheet.alloc, sheet.id)?;
-    id.extend_from_slice(b"-")?;
-    add_short(&mut id, number)?;
-    page.add(Piece::Begin(Tag::Svg))?;
-    page.attribute(Key::Role, b"img")?;
-    page.attribute(Key::LabelledBy, id.as_slice())?;
-    page.number(Key::Width, WIDTH)?;
-    page.number(Key::Height, strip.height)?;
-    page.attribute(
-        Key::ViewBox,
-        view_box(sheet.alloc, strip.height)?.as_slice(),
-    )?;
-    page.add(Piece::Inside)?;
-    page.marked(
-        Tag::Title,
-        Key::Id,
-        id.as_slice(),
-        title_of(sheet.alloc, strip)?.as_slice(),
-    )?;
-    add_frame(page, sheet, strip)?;
-    add_lanes(page, sheet, strip)?;
-    page.close(Tag::Svg)
+// What a picture is called within the page.
+fn id_of(alloc: Global, id: &[u8], number: u32) -> Result<Bytes, Memory> {
+    let mut words = Bytes::from_slice(alloc, id)?;
+    words.extend_from_slice(b"-")?;
+    add_short(&mut words, number)?;
+    Ok(words)
 }
 
 // How high a picture of so many names is.
@@ -195,26 +308,61 @@ fn height_of(lanes: usize) -> u32 {
     (lanes.min(1000) as u32) * LANE + TOP + 20
 }
 
+// The beginning of a picture, by its number among those of the case.
+fn add_front(
+    page: &mut Page,
+    sheet: &Sheet<'_>,
+    number: u32,
+    scans: &[Scan<'_>],
+    height: u32,
+) -> Result<(), Memory> {
+    let id = id_of(sheet.alloc, sheet.id, number)?;
+    let view = view_box(sheet.alloc, height)?;
+    let title = title_of(sheet.alloc, scans)?;
+    add_parts(
+        page,
+        &[
+            Part::Begin(Tag::Svg),
+            Part::Attribute(Key::Role, b"img"),
+            Part::Attribute(Key::LabelledBy, id.as_slice()),
+            Part::Number(Key::Width, WIDTH),
+            Part::Number(Key::Height, height),
+            Part::Attribute(Key::ViewBox, view.as_slice()),
+            Part::Inside,
+            Part::Marked(Tag::Title, Key::Id, id.as_slice(), title.as_slice()),
+        ],
+    )
+}
+
+// A picture, by its number among those of the case.
+fn add_picture(
+    page: &mut Page,
+    sheet: &Sheet<'_>,
+    number: u32,
+    scans: &[Scan<'_>],
+) -> Result<(), Memory> {
+    let height = height_of(sheet.lanes.len());
+    let bottom = height.saturating_sub(18);
+    add_front(page, sheet, number, scans, height)?;
+    add_ground(page, sheet, scans, bottom)?;
+    add_scans(page, sheet, scans, bottom)?;
+    add_lanes(page, sheet, scans)?;
+    add_parts(page, &[Part::End(Tag::Svg)])
+}
+
 // The pictures of a case, one below another.
 fn add_pictures(page: &mut Page, sheet: &Sheet<'_>) -> Result<(), Memory> {
     let moments = sheet.recording.moments.as_slice();
     let unit = unit_of(moments);
     let mut rest = moments;
-    let mut number = 0u32;
-    for _ in 0..moments.len() {
-        let places = places_of(sheet.alloc, rest, sheet.marks, unit)?;
-        let (shown, later) = rest.split_at(places.len().min(rest.len()));
-        let strip = Strip {
-            moments: shown,
-            places: places.as_slice(),
-            height: height_of(sheet.lanes.len()),
-        };
-        add_picture(page, sheet, number, &strip)?;
-        number = number.saturating_add(1);
-        rest = later;
+    for picture in 0..moments.len() {
         if rest.is_empty() {
             return Ok(());
         }
+        let scans = scans_of(sheet.alloc, rest, sheet.marks, unit)?;
+        add_picture(page, sheet, picture.min(1_000_000) as u32, scans.as_slice())?;
+        let (_, later) = rest.split_at(scans.len().min(rest.len()));
+        rest = later;
     }
     Ok(())
 }
@@ -234,10 +382,10 @@ fn changes_of(
     moment: &Moment,
 ) -> Result<Bytes, Memory> {
     let mut words = Bytes::from_slice(sheet.alloc, event_of(moment))?;
-    for (lane, name) in sheet.recording.names.as_slice().iter().enumerate() {
-        let value = value_at(moment, lane);
+    for (number, name) in sheet.recording.names.as_slice().iter().enumerate() {
+        let value = value_at(moment, number);
         let stays = match before {
-            Some(before) => value_at(before, lane) == value,
+            Some(before) => value_at(before, number) == value,
             None => false,
         };
         if !stays {
@@ -247,7 +395,28 @@ fn changes_of(
     Ok(words)
 }
 
-// A row of the table of changes.
+// A row of the table of changes: a time, what changes, and what is expected.
+fn add_cells<'x>(
+    page: &mut Page,
+    time: &'x [u8],
+    changes: &'x [u8],
+    expected: &'x [u8],
+) -> Result<(), Memory>
+    ensures { OnOk result (page.new ≡ page.old ++ change_row time.now changes.now expected.now) }
+{
+    add_parts(
+        page,
+        &[
+            Part::Open(Tag::Tr),
+            Part::Marked(Tag::Th, Key::Scope, b"row", time),
+            Part::Element(Tag::Td, changes),
+            Part::Element(Tag::Td, expected),
+            Part::End(Tag::Tr),
+        ],
+    )
+}
+
+// The row of a scan in the table of changes.
 fn add_row(
     page: &mut Page,
     sheet: &Sheet<'_>,
@@ -256,35 +425,46 @@ fn add_row(
 ) -> Result<(), Memory> {
     let mut time = Bytes::new(sheet.alloc);
     add_short(&mut time, moment.now)?;
-    page.open(Tag::Tr)?;
-    page.marked(Tag::Th, Key::Scope, b"row", time.as_slice())?;
-    page.element(Tag::Td, changes_of(sheet, before, moment)?.as_slice())?;
-    page.element(
-        Tag::Td,
-        expected_at(sheet.alloc, sheet.marks, moment.scan)?.as_slice(),
-    )?;
-    page.close(Tag::Tr)
+    let changes = changes_of(sheet, before, moment)?;
+    let marks = marks_at(sheet.alloc, sheet.marks, moment.scan)?;
+    let expected = marks_text(sheet.alloc, marks.as_slice())?;
+    add_cells(
+        page,
+        time.as_slice(),
+        changes.as_slice(),
+        expected.as_slice(),
+    )
 }
 
-// The table of changes.
-fn add_changes(page: &mut Page, sheet: &Sheet<'_>) -> Result<(), Memory> {
-    page.open(Tag::Table)?;
-    page.element(Tag::Caption, b"What changes, and what is expected")?;
-    page.open(Tag::Thead)?;
-    page.open(Tag::Tr)?;
-    page.marked(Tag::Th, Key::Scope, b"col", b"Time in ms")?;
-    page.marked(Tag::Th, Key::Scope, b"col", b"What changes")?;
-    page.marked(Tag::Th, Key::Scope, b"col", b"Expected")?;
-    page.close(Tag::Tr)?;
-    page.close(Tag::Thead)?;
-    page.open(Tag::Tbody)?;
+// The rows of the table of changes.
+fn add_rows(page: &mut Page, sheet: &Sheet<'_>) -> Result<(), Memory> {
     let mut before = None;
     for moment in sheet.recording.moments.as_slice() {
         add_row(page, sheet, before, moment)?;
         before = Some(moment);
     }
-    page.close(Tag::Tbody)?;
-    page.close(Tag::Table)
+    Ok(())
+}
+
+// The table of changes.
+fn add_changes(page: &mut Page, sheet: &Sheet<'_>) -> Result<(), Memory> {
+    add_parts(
+        page,
+        &[
+            Part::Open(Tag::Table),
+            Part::Element(Tag::Caption, b"What changes, and what is expected"),
+            Part::Open(Tag::Thead),
+            Part::Open(Tag::Tr),
+            Part::Marked(Tag::Th, Key::Scope, b"col", b"Time in ms"),
+            Part::Marked(Tag::Th, Key::Scope, b"col", b"What changes"),
+            Part::Marked(Tag::Th, Key::Scope, b"col", b"Expected"),
+            Part::End(Tag::Tr),
+            Part::End(Tag::Thead),
+            Part::Open(Tag::Tbody),
+        ],
+    )?;
+    add_rows(page, sheet)?;
+    add_parts(page, &[Part::End(Tag::Tbody), Part::End(Tag::Table)])
 }
 
 // What of a case is not drawn, in words.
@@ -323,9 +503,15 @@ pub fn add_diagram(
         lanes: lanes.as_slice(),
         id,
     };
-    page.open(Tag::Figure)?;
+    let words = left_out(alloc, &sheet)?;
+    add_parts(page, &[Part::Open(Tag::Figure)])?;
     add_pictures(page, &sheet)?;
-    page.element(Tag::Figcaption, left_out(alloc, &sheet)?.as_slice())?;
-    page.close(Tag::Figure)?;
+    add_parts(
+        page,
+        &[
+            Part::Element(Tag::Figcaption, words.as_slice()),
+            Part::End(Tag::Figure),
+        ],
+    )?;
     add_changes(page, &sheet)
 }

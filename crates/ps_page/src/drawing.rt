@@ -1,315 +1,185 @@
 // The lines, bands and words of a picture.
 
+ghost use Rattle.std.specs.Prelude.{◌≡◌, ◌++◌, IfOk, OnOk, map};
+ghost use Rattle.std.specs.List.{flat_map};
+ghost use Rattle.ps_page.specs.Diagram.{band_of, event_of, lane_pieces, span_of, upright_pieces, value_at, values_of};
+
 use crate::recording::{Course, Moment};
-use crate::scale::{LEFT, Place};
+use crate::scale::Scan;
 use ps_base::{Bytes, Memory};
 use ps_bench_base::pieces::add_short;
-use ps_markup::{Key, Page, Piece, Tag};
+use ps_markup::{
+    Page, Span, TOP, add_band, add_base, add_level, add_path, add_row_name, add_upright, merged,
+    room_in,
+};
 use ps_model::App;
 use ps_terms::Name;
 use ps_told::{add_name, add_value};
 use std::alloc::Global;
 
-/// How high the line of a name is.
-pub(crate) const LANE: u32 = 24;
-
-/// How high the words above the lines are.
-pub(crate) const TOP: u32 = 34;
-
-// How wide a letter of a picture is.
-const LETTER: usize = 6;
-
-/// Scans of a case side by side, with their places.
+/// A name that is drawn: its number among the names of the case, and the number of its line in the picture.
 #[derive(Clone, Copy)]
-pub(crate) struct Strip<'a> {
-    pub(crate) moments: &'a [Moment],
-    pub(crate) places: &'a [Place],
-    /// How high the picture is.
-    pub(crate) height: u32,
+pub(crate) struct Lane {
+    pub(crate) name: Name,
+    pub(crate) number: usize,
+    pub(crate) row: u16,
 }
 
 /// The value of a name of this number in a scan.
-pub(crate) fn value_at(moment: &Moment, lane: usize) -> u16 {
-    moment.values.as_slice().get(lane).copied().unwrap_or(0)
-}
-
-/// A text with its class at a place.
-pub(crate) fn add_words(
-    page: &mut Page,
-    class: &[u8],
-    x: u32,
-    y: u32,
-    words: &[u8],
-) -> Result<(), Memory> {
-    page.add(Piece::Begin(Tag::Text))?;
-    page.attribute(Key::Class, class)?;
-    page.number(Key::X, x)?;
-    page.number(Key::Y, y)?;
-    page.add(Piece::Inside)?;
-    page.value(words)?;
-    page.close(Tag::Text)
-}
-
-/// Lines with their class.
-pub(crate) fn add_path(page: &mut Page, class: &[u8], lines: &[u8]) -> Result<(), Memory> {
-    page.add(Piece::Begin(Tag::Path))?;
-    page.attribute(Key::Class, class)?;
-    page.attribute(Key::D, lines)?;
-    page.add(Piece::Inside)?;
-    page.close(Tag::Path)
-}
-
-// A step of lines: a letter and a number.
-fn add_step(lines: &mut Bytes, letter: &[u8], number: u32) -> Result<(), Memory> {
-    lines.extend_from_slice(letter)?;
-    add_short(lines, number)
-}
-
-// The beginning of lines at a place.
-fn add_start(lines: &mut Bytes, x: u32, y: u32) -> Result<(), Memory> {
-    add_step(lines, b"M", x)?;
-    add_step(lines, b" ", y)
-}
-
-/// An upright line from the top to the bottom.
-pub(crate) fn add_upright(
-    page: &mut Page,
-    alloc: Global,
-    class: &[u8],
-    x: u32,
-    strip: &Strip<'_>,
-) -> Result<(), Memory> {
-    let mut lines = Bytes::new(alloc);
-    add_start(&mut lines, x, TOP - 4)?;
-    add_step(&mut lines, b"V", strip.height.saturating_sub(18))?;
-    add_path(page, class, lines.as_slice())
-}
-
-/// An upright line at the beginning of each scan.
-pub(crate) fn add_ticks(page: &mut Page, alloc: Global, strip: &Strip<'_>) -> Result<(), Memory> {
-    let mut lines = Bytes::new(alloc);
-    for place in strip.places {
-        add_start(&mut lines, place.x, TOP - 4)?;
-        add_step(&mut lines, b"V", strip.height.saturating_sub(18))?;
-    }
-    add_path(page, b"tick", lines.as_slice())
-}
-
-// Where the line of a value is, below the top of its lane: high for TRUE.
-fn level_of(value: u16) -> u32 {
-    if value == 0 { 19 } else { 5 }
-}
-
-// The line of a signal or a pin over scans, with a step where its value changes.
-fn level_line(alloc: Global, lane: usize, top: u32, strip: &Strip<'_>) -> Result<Bytes, Memory> {
-    let mut lines = Bytes::new(alloc);
-    let mut open: Option<(u32, u32)> = None;
-    for (moment, place) in strip.moments.iter().zip(strip.places) {
-        let y = top.saturating_add(level_of(value_at(moment, lane)));
-        match open {
-            None => add_start(&mut lines, place.x, y)?,
-            Some((level, end)) if level != y => {
-                add_step(&mut lines, b"H", end)?;
-                add_step(&mut lines, b"V", y)?;
-            }
-            Some(_) => (),
-        }
-        open = Some((y, place.end));
-    }
-    if let Some((_, end)) = open {
-        add_step(&mut lines, b"H", end)?;
-    }
-    Ok(lines)
-}
-
-// The line of FALSE below a lane.
-fn base_line(alloc: Global, top: u32, strip: &Strip<'_>) -> Result<Bytes, Memory> {
-    let mut lines = Bytes::new(alloc);
-    let end = strip.places.last().map_or(LEFT, |place| place.end);
-    add_start(&mut lines, LEFT, top.saturating_add(21))?;
-    add_step(&mut lines, b"H", end)?;
-    Ok(lines)
-}
-
-// How a band of a code looks.
-fn class_of(code: u16) -> &'static [u8] {
-    match code {
-        0 => b"idle",
-        0x8000 => b"well",
-        0xC000..=0xFFFF => b"error",
-        _ => b"state",
+pub(crate) fn value_at(moment: &Moment, number: usize) -> u16
+    ensures { result ≡ value_at moment.entry.now number }
+{
+    match moment.values.as_slice().get(number) {
+        Some(value) => *value,
+        None => 0,
     }
 }
 
-// What of the words of a band has room in it: all of them, the code alone, or nothing.
-fn room_in(words: &[u8], width: u32) -> &[u8] {
-    let letters = (width as usize).saturating_sub(6) / LETTER;
-    if words.len() <= letters {
-        words
-    } else if letters >= 4 && words.len() >= 4 {
-        &words[..4]
-    } else {
-        &[]
+// The values of a name in scans side by side.
+fn spans_of(alloc: Global, scans: &[Scan<'_>], number: usize) -> Result<Vec<Span>, Memory>
+    ensures { IfOk result (λ spans. spans.items ≡ map (span_of number) scans.now) }
+{
+    let mut spans = Vec::new(alloc);
+    for scan in scans {
+        spans.push(Span {
+            value: value_at(scan.moment, number),
+            x: scan.x,
+            end: scan.end,
+        })?;
     }
+    Ok(spans)
 }
 
-// A band of a code.
-fn add_band(
-    page: &mut Page,
-    alloc: Global,
-    app: &App,
-    name: Name,
-    code: u16,
-    top: u32,
-    band: Place,
-) -> Result<(), Memory> {
-    let mut words = Bytes::new(alloc);
-    add_value(&mut words, app, name, code)?;
-    let width = band.end.saturating_sub(band.x);
-    page.add(Piece::Begin(Tag::Rect))?;
-    page.attribute(Key::Class, class_of(code))?;
-    page.number(Key::X, band.x)?;
-    page.number(Key::Y, top.saturating_add(3))?;
-    page.number(Key::Width, width)?;
-    page.number(Key::Height, 18)?;
-    page.add(Piece::Inside)?;
-    page.element(Tag::Title, words.as_slice())?;
-    page.close(Tag::Rect)?;
-    let shown = room_in(words.as_slice(), width);
-    if shown.is_empty() {
-        return Ok(());
-    }
-    add_words(
-        page,
-        b"word",
-        band.x.saturating_add(4),
-        top.saturating_add(16),
-        shown,
-    )
-}
-
-// The bands of an instance over scans.
+// The bands of an instance, by its codes in scans side by side.
 fn add_bands(
     page: &mut Page,
     alloc: Global,
     app: &App,
-    name: Name,
-    lane: usize,
-    top: u32,
-    strip: &Strip<'_>,
-) -> Result<(), Memory> {
-    let mut open: Option<(u16, Place)> = None;
-    for (moment, place) in strip.moments.iter().zip(strip.places) {
-        let code = value_at(moment, lane);
-        open = match open {
-            Some((before, band)) if before == code => Some((
-                code,
-                Place {
-                    x: band.x,
-                    end: place.end,
-                    is_broken: false,
-                },
-            )),
-            Some((before, band)) => {
-                add_band(page, alloc, app, name, before, top, band)?;
-                Some((code, *place))
-            }
-            None => Some((code, *place)),
-        };
+    lane: &Lane,
+    spans: &[Span],
+) -> Result<(), Memory>
+    ensures { OnOk result (page.new ≡ page.old ++ flat_map (band_of app.now lane.now) spans.now) }
+{
+    for span in spans {
+        let mut words = Bytes::new(alloc);
+        add_value(&mut words, app, lane.name, span.value)?;
+        add_band(page, lane.row, span, words.as_slice())?;
     }
-    match open {
-        Some((code, band)) => add_band(page, alloc, app, name, code, top, band),
-        None => Ok(()),
+    Ok(())
+}
+
+// What a name is in scans side by side: of an instance bands of its states, of all else a line that is high for TRUE.
+fn add_values(
+    page: &mut Page,
+    alloc: Global,
+    app: &App,
+    lane: &Lane,
+    spans: &[Span],
+) -> Result<(), Memory>
+    ensures { OnOk result (page.new ≡ page.old ++ values_of app.now lane.now spans.now lane.now.name) }
+{
+    match lane.name {
+        Name::Code(_) => {
+            let spans = merged(alloc, spans)?;
+            add_bands(page, alloc, app, lane, spans.as_slice())
+        }
+        Name::Signal(_) => add_level(page, alloc, lane.row, spans),
+        Name::Pin { .. } => add_level(page, alloc, lane.row, spans),
     }
 }
 
-/// The line of a name over scans, with the name before it: of an instance bands of its states, of all else a line that
-/// is high for TRUE.
+/// The line of a name over scans, with the name before it.
 pub(crate) fn add_lane(
     page: &mut Page,
     alloc: Global,
     app: &App,
-    name: Name,
-    lane: usize,
-    top: u32,
-    strip: &Strip<'_>,
-) -> Result<(), Memory> {
+    lane: &Lane,
+    scans: &[Scan<'_>],
+) -> Result<(), Memory>
+    ensures { OnOk result (page.new ≡ page.old ++ lane_pieces app.now scans.now lane.now) }
+{
     let mut words = Bytes::new(alloc);
-    add_name(&mut words, app, name)?;
-    add_words(
-        page,
-        b"name",
-        LEFT - 8,
-        top.saturating_add(16),
-        words.as_slice(),
-    )?;
-    match name {
-        Name::Code(_) => add_bands(page, alloc, app, name, lane, top, strip),
-        Name::Signal(_) | Name::Pin { .. } => {
-            add_path(page, b"base", base_line(alloc, top, strip)?.as_slice())?;
-            add_path(
-                page,
-                b"level",
-                level_line(alloc, lane, top, strip)?.as_slice(),
-            )
+    add_name(&mut words, app, lane.name)?;
+    add_row_name(page, lane.row, words.as_slice())?;
+    let spans = spans_of(alloc, scans, lane.number)?;
+    add_values(page, alloc, app, lane, spans.as_slice())
+}
+
+/// The lines of FALSE below the lines of signals and pins, up to a right side.
+pub(crate) fn base_lines(alloc: Global, lanes: &[Lane], end: u32) -> Result<Bytes, Memory> {
+    let mut lines = Bytes::new(alloc);
+    for lane in lanes {
+        match lane.name {
+            Name::Code(_) => (),
+            Name::Signal(_) => add_base(&mut lines, lane.row, end)?,
+            Name::Pin { .. } => add_base(&mut lines, lane.row, end)?,
         }
     }
+    Ok(lines)
+}
+
+/// An upright line of this class from the top to a bottom.
+pub(crate) fn add_upright_path(
+    page: &mut Page,
+    alloc: Global,
+    class: &[u8],
+    x: u32,
+    bottom: u32,
+) -> Result<(), Memory>
+    ensures { OnOk result (page.new ≡ page.old ++ upright_pieces class.now x bottom) }
+{
+    let mut lines = Bytes::new(alloc);
+    add_upright(&mut lines, x, TOP - 4, bottom)?;
+    add_path(page, class, lines.as_slice())
+}
+
+/// An upright line at the beginning of each scan.
+pub(crate) fn tick_lines(alloc: Global, scans: &[Scan<'_>], bottom: u32) -> Result<Bytes, Memory> {
+    let mut lines = Bytes::new(alloc);
+    for scan in scans {
+        add_upright(&mut lines, scan.x, TOP - 4, bottom)?;
+    }
+    Ok(lines)
 }
 
 /// What happens to the world at a scan, in words; nothing where it runs on.
-pub(crate) fn event_of(moment: &Moment) -> &'static [u8] {
+pub(crate) fn event_of(moment: &Moment) -> &'static [u8]
+    ensures { result.now ≡ event_of moment.entry.now }
+{
     match moment.course {
         Course::Trips => b"TRIP",
         Course::Down => b"down",
-        Course::Runs if moment.restarted => b"restart",
-        Course::Runs => b"",
+        Course::Runs => { if moment.restarted { b"restart" } else { b"" } }
     }
 }
 
-// The sign of a break at the end of a scan.
-fn add_break(
-    page: &mut Page,
-    alloc: Global,
-    place: &Place,
-    strip: &Strip<'_>,
-) -> Result<(), Memory> {
+// The sign of a break at the end of a scan, behind other lines.
+fn add_break(lines: &mut Bytes, scan: &Scan<'_>, bottom: u32) -> Result<(), Memory> {
+    lines.extend_from_slice(b"M")?;
+    add_short(lines, scan.end.saturating_sub(20))?;
+    lines.extend_from_slice(b" ")?;
+    add_short(lines, bottom.saturating_add(4))?;
+    lines.extend_from_slice(b"l4 -9m4 0l-4 9")
+}
+
+/// The signs of breaks at the ends of scans.
+pub(crate) fn break_lines(alloc: Global, scans: &[Scan<'_>], bottom: u32) -> Result<Bytes, Memory> {
     let mut lines = Bytes::new(alloc);
-    add_start(
-        &mut lines,
-        place.end.saturating_sub(20),
-        strip.height.saturating_sub(14),
-    )?;
-    lines.extend_from_slice(b"l4 -9m4 0l-4 9")?;
-    add_path(page, b"break", lines.as_slice())
+    for scan in scans {
+        if scan.is_broken {
+            add_break(&mut lines, scan, bottom)?;
+        }
+    }
+    Ok(lines)
 }
 
-/// The time of a scan below the lines, where it has room, and the sign of a break.
-pub(crate) fn add_time(
-    page: &mut Page,
-    alloc: Global,
-    moment: &Moment,
-    place: &Place,
-    strip: &Strip<'_>,
-) -> Result<(), Memory> {
+/// The time of a scan, where it has room.
+pub(crate) fn time_of(alloc: Global, scan: &Scan<'_>) -> Result<Bytes, Memory> {
     let mut words = Bytes::new(alloc);
-    add_short(&mut words, moment.now)?;
-    if place.is_broken {
-        add_break(page, alloc, place, strip)?;
+    add_short(&mut words, scan.moment.now)?;
+    let width = scan.end.saturating_sub(scan.x).saturating_add(6);
+    if room_in(words.as_slice(), width).len() < words.len() {
+        return Ok(Bytes::new(alloc));
     }
-    if room_in(
-        words.as_slice(),
-        place.end.saturating_sub(place.x).saturating_add(6),
-    )
-    .len()
-        < words.len()
-    {
-        return Ok(());
-    }
-    add_words(
-        page,
-        b"time",
-        place.x,
-        strip.height.saturating_sub(4),
-        words.as_slice(),
-    )
+    Ok(words)
 }

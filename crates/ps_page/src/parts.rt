@@ -2,85 +2,122 @@
 
 ghost use Rattle.std.specs.Prelude.{◌≡◌, ◌++◌, IfOk, OnOk, codes, decimal, if◌then◌else◌};
 ghost use Rattle.ps_bench_base.specs.Pieces.{place_text};
-ghost use Rattle.ps_page.specs.Results.{case_row, class_of, word_of};
-ghost use Rattle.ps_page.specs.Files.{file_row};
+ghost use Rattle.ps_page.specs.Results.{case_front, case_row, class_of, result_row, word_of};
+ghost use Rattle.ps_page.specs.Files.{file_row, text_part};
 ghost use Rattle.ps_told.specs.Outcome.{passes, ran_of};
 
 use ps_base::{Bytes, Memory};
 use ps_bench_base::pieces::{add_place, add_short};
-use ps_markup::{Key, Page, Piece, Tag};
+use ps_markup::{Key, Page, Part, Tag, add_parts};
 use ps_told::CaseRun;
 use std::alloc::Global;
 
 /// The head of a page with this title, up to its first part.
 pub fn add_head(page: &mut Page, title: &[u8]) -> Result<(), Memory> {
-    page.add(Piece::Prologue)?;
-    page.element(Tag::Title, title)?;
-    page.add(Piece::Body)?;
-    page.open(Tag::Main)?;
-    page.element(Tag::H1, title)
+    add_parts(
+        page,
+        &[
+            Part::Prologue,
+            Part::Element(Tag::Title, title),
+            Part::Body,
+            Part::Open(Tag::Main),
+            Part::Element(Tag::H1, title),
+        ],
+    )
 }
 
 /// The foot of a page.
 pub fn add_foot(page: &mut Page) -> Result<(), Memory> {
-    page.close(Tag::Main)?;
-    page.add(Piece::Epilogue)
+    add_parts(page, &[Part::End(Tag::Main), Part::Epilogue])
 }
 
 /// A part that is a text, with its blanks and lines, or one sentence where the text is empty.
-pub fn add_text(page: &mut Page, heading: &[u8], text: &[u8], none: &[u8]) -> Result<(), Memory> {
-    page.open(Tag::Section)?;
-    page.element(Tag::H2, heading)?;
-    if text.is_empty() {
-        page.element(Tag::P, none)?;
-    } else {
-        page.element(Tag::Pre, text)?;
-    }
-    page.close(Tag::Section)
-}
-
-// The row of a table that names these columns.
-fn add_columns(page: &mut Page, columns: &[&[u8]]) -> Result<(), Memory> {
-    page.open(Tag::Thead)?;
-    page.open(Tag::Tr)?;
-    for column in columns {
-        page.marked(Tag::Th, Key::Scope, b"col", *column)?;
-    }
-    page.close(Tag::Tr)?;
-    page.close(Tag::Thead)
-}
-
-/// The beginning of a table with this heading and these columns, up to its first row.
-pub fn open_table(
+pub fn add_text<'x>(
     page: &mut Page,
-    heading: &[u8],
-    caption: &[u8],
+    heading: &'x [u8],
+    text: &'x [u8],
+    none: &'x [u8],
+) -> Result<(), Memory>
+    ensures { OnOk result (page.new ≡ page.old ++ text_part heading.now text.now none.now) }
+{
+    let told = if text.is_empty() {
+        Part::Element(Tag::P, none)
+    } else {
+        Part::Element(Tag::Pre, text)
+    };
+    add_parts(
+        page,
+        &[
+            Part::Open(Tag::Section),
+            Part::Element(Tag::H2, heading),
+            told,
+            Part::End(Tag::Section),
+        ],
+    )
+}
+
+// The columns of a table, each with its name.
+fn add_columns(page: &mut Page, columns: &[&[u8]]) -> Result<(), Memory> {
+    for column in columns {
+        add_parts(page, &[Part::Marked(Tag::Th, Key::Scope, b"col", *column)])?;
+    }
+    Ok(())
+}
+
+/// A part that is a table, with its heading and these columns, up to its first row.
+pub fn open_table<'x>(
+    page: &mut Page,
+    heading: &'x [u8],
+    caption: &'x [u8],
     columns: &[&[u8]],
 ) -> Result<(), Memory> {
-    page.open(Tag::Section)?;
-    page.element(Tag::H2, heading)?;
-    page.open(Tag::Table)?;
-    page.element(Tag::Caption, caption)?;
+    add_parts(
+        page,
+        &[
+            Part::Open(Tag::Section),
+            Part::Element(Tag::H2, heading),
+            Part::Open(Tag::Table),
+            Part::Element(Tag::Caption, caption),
+            Part::Open(Tag::Thead),
+            Part::Open(Tag::Tr),
+        ],
+    )?;
     add_columns(page, columns)?;
-    page.open(Tag::Tbody)
+    add_parts(
+        page,
+        &[
+            Part::End(Tag::Tr),
+            Part::End(Tag::Thead),
+            Part::Open(Tag::Tbody),
+        ],
+    )
 }
 
 /// The end of a table.
 pub fn close_table(page: &mut Page) -> Result<(), Memory> {
-    page.close(Tag::Tbody)?;
-    page.close(Tag::Table)?;
-    page.close(Tag::Section)
+    add_parts(
+        page,
+        &[
+            Part::End(Tag::Tbody),
+            Part::End(Tag::Table),
+            Part::End(Tag::Section),
+        ],
+    )
 }
 
 /// The row of a file: its name, and what it is named by.
-pub fn add_file(page: &mut Page, name: &[u8], digest: &[u8]) -> Result<(), Memory>
+pub fn add_file<'x>(page: &mut Page, name: &'x [u8], digest: &'x [u8]) -> Result<(), Memory>
     ensures { OnOk result (page.new ≡ page.old ++ file_row name.now digest.now) }
 {
-    page.open(Tag::Tr)?;
-    page.marked(Tag::Th, Key::Scope, b"row", name)?;
-    page.marked(Tag::Td, Key::Class, b"digest", digest)?;
-    page.close(Tag::Tr)?;
-    Ok(())
+    add_parts(
+        page,
+        &[
+            Part::Open(Tag::Tr),
+            Part::Marked(Tag::Th, Key::Scope, b"row", name),
+            Part::Marked(Tag::Td, Key::Class, b"digest", digest),
+            Part::End(Tag::Tr),
+        ],
+    )
 }
 
 // How a result looks.
@@ -115,22 +152,49 @@ fn number_of(alloc: Global, number: u32) -> Result<Bytes, Memory>
     Ok(text)
 }
 
+// The row of a case of this name: its place, its result, and how many scans it made.
+fn add_result<'x>(
+    page: &mut Page,
+    name: &'x [u8],
+    place: &'x [u8],
+    passed: bool,
+    scans: &'x [u8],
+) -> Result<(), Memory>
+    ensures { OnOk result (page.new ≡ page.old ++ result_row name.now place.now passed scans.now) }
+{
+    add_parts(
+        page,
+        &[
+            Part::Open(Tag::Tr),
+            Part::Marked(Tag::Th, Key::Scope, b"row", name),
+            Part::Element(Tag::Td, place),
+            Part::Marked(Tag::Td, Key::Class, class_of(passed), word_of(passed)),
+            Part::Element(Tag::Td, scans),
+            Part::End(Tag::Tr),
+        ],
+    )
+}
+
 /// The row of a case that was run: its name, its place, its result, and how many scans it made.
 pub fn add_case(page: &mut Page, alloc: Global, run: &CaseRun<'_>) -> Result<(), Memory>
     ensures { OnOk result (page.new ≡ page.old ++ case_row (ran_of run.now)) }
 {
     let place = place_of(alloc, run.name.as_bytes(), run.case.line)?;
     let scans = number_of(alloc, run.outcome.scans)?;
-    let passed = run.passed();
-    page.open(Tag::Tr)?;
-    page.marked(
-        Tag::Th,
-        Key::Scope,
-        b"row",
-        run.case.name.as_str().as_bytes(),
-    )?;
-    page.element(Tag::Td, place.as_slice())?;
-    page.marked(Tag::Td, Key::Class, class_of(passed), word_of(passed))?;
-    page.element(Tag::Td, scans.as_slice())?;
-    page.close(Tag::Tr)
+    let name = run.case.name.as_str().as_bytes();
+    add_result(page, name, place.as_slice(), run.passed(), scans.as_slice())
+}
+
+/// The beginning of the part of a case: its name, and what is told of it.
+pub fn open_case<'x>(page: &mut Page, name: &'x [u8], told: &'x [u8]) -> Result<(), Memory>
+    ensures { OnOk result (page.new ≡ page.old ++ case_front name.now told.now) }
+{
+    add_parts(
+        page,
+        &[
+            Part::Open(Tag::Section),
+            Part::Element(Tag::H3, name),
+            Part::Element(Tag::Pre, told),
+        ],
+    )
 }

@@ -1,12 +1,13 @@
 // Where scans stand in a picture: time to scale, with breaks where nothing happens for long.
 
+ghost use Rattle.std.specs.Prelude.{◌≡◌, IfOk, length, take};
+ghost use Rattle.ps_page.specs.Diagram.{shown_in};
+
 use crate::marks::Mark;
 use crate::recording::Moment;
 use ps_base::Memory;
+use ps_markup::LEFT;
 use std::alloc::Global;
-
-/// The place of the first scan of a picture, behind the names.
-pub(crate) const LEFT: u32 = 140;
 
 // How wide the scans of a picture are together at most.
 const MOST_WIDTH: u32 = 540;
@@ -22,7 +23,9 @@ const BREAK_WIDTH: u32 = 90;
 
 /// A scan in a picture.
 #[derive(Clone, Copy)]
-pub(crate) struct Place {
+pub(crate) struct Scan<'a> {
+    /// What is shown of it.
+    pub(crate) moment: &'a Moment,
     /// Its left side.
     pub(crate) x: u32,
     /// Its right side.
@@ -66,23 +69,30 @@ fn width_of(moment: &Moment, marks: &[Mark], unit: u32) -> u32 {
     scaled(moment, unit).max(least).min(BREAK_WIDTH)
 }
 
-/// The places of the first scans of these, as many as a picture has room for; of one at least, if there is one.
-pub(crate) fn places_of(
+/// The first scans of these, side by side, as many as a picture has room for; one at least, if there is one.
+pub(crate) fn scans_of<'a>(
     alloc: Global,
-    moments: &[Moment],
+    moments: &'a [Moment],
     marks: &[Mark],
     unit: u32,
-) -> Result<Vec<Place>, Memory> {
-    let mut places = Vec::new(alloc);
+) -> Result<Vec<Scan<'a>>, Memory>
+    ensures { IfOk result (λ scans. shown_in scans.items ≡ take (length scans.items) moments.now) }
+{
+    let mut scans = Vec::new(alloc);
     let mut x = LEFT;
     for moment in moments {
         let end = x.saturating_add(width_of(moment, marks, unit));
-        if places.len() > 0 && end > LEFT + MOST_WIDTH {
-            return Ok(places);
+        if scans.len() > 0 && end > LEFT + MOST_WIDTH {
+            return Ok(scans);
         }
         let is_broken = scaled(moment, unit) > BREAK_WIDTH;
-        places.push(Place { x, end, is_broken })?;
+        scans.push(Scan {
+            moment,
+            x,
+            end,
+            is_broken,
+        })?;
         x = end;
     }
-    Ok(places)
+    Ok(scans)
 }

@@ -7,3 +7,6 @@ pub mod Following
 pub mod Answering
 pub mod Behind
 pub mod Stepping
+-- What the arrangement cites.
+pub mod Spans
+pub mod Taking

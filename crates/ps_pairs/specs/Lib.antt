@@ -9,3 +9,7 @@ pub mod Telling
 -- apparatus: what is known of a pair of states
 pub mod Standing
 pub mod Keys
+-- a source in the order of an application: what a reader of the clauses has to believe
+pub mod Arranging
+-- apparatus: which names are taken
+pub mod Wanting

@@ -12,13 +12,12 @@ ghost use Rattle.ps_reporting.specs.Asking.{AnswersReport, Ends, HasRows, StopsR
 use crate::running::{Bench, Beside, run_files};
 use crate::texts::{Shown, add_texts};
 use ps_base::{Bytes, Memory};
-use ps_bench_base::{Status, Stop};
+use ps_bench_base::{Sourced, Status, Stop, open_sourced};
 use ps_cover::Cover;
-use ps_markup::{Page, Tag, add_page};
+use ps_markup::{Page, Part, Tag, add_page, add_parts};
 use ps_outside::{Files, Output, ReadFail, write_all};
 use ps_page::parts::{add_file, add_foot, add_head, close_table, open_table};
 use ps_source::read_source;
-use ps_sourced::{Sourced, open_sourced};
 use ps_totals::name_of_file;
 use std::alloc::Global;
 
@@ -70,10 +69,12 @@ fn back_of(alloc: Global, shown: &Shown<'_>, sections: Page) -> Result<Page, Mem
 {
     let mut page = Page::new(alloc);
     close_table(&mut page)?;
-    page.open(Tag::Section)?;
-    page.element(Tag::H2, b"Cases")?;
+    add_parts(
+        &mut page,
+        &[Part::Open(Tag::Section), Part::Element(Tag::H2, b"Cases")],
+    )?;
     page.join(sections)?;
-    page.close(Tag::Section)?;
+    add_parts(&mut page, &[Part::End(Tag::Section)])?;
     add_texts(&mut page, alloc, shown)?;
     add_foot(&mut page)?;
     Ok(page)

@@ -11,9 +11,10 @@ use ps_bench_base::pieces::add_short;
 use ps_bench_words::Format;
 use ps_cases::{Case, CaseFile};
 use ps_cover::Cover;
-use ps_markup::{Page, Tag};
+use ps_markup::{Page, Part, Tag, add_parts};
 use ps_model::App;
 use ps_outside::TextFail;
+use ps_page::parts::open_case;
 use ps_page::{add_diagram, record_case};
 use ps_results::report::case_report;
 use ps_told::{CaseRun, Tally};
@@ -30,6 +31,23 @@ fn id_of(alloc: Global, place: usize, line: u32) -> Result<Bytes, Memory> {
     Ok(id)
 }
 
+// The timing diagram of a case that was run.
+fn add_drawn(page: &mut Page, alloc: Global, place: usize, run: &CaseRun<'_>) -> Result<(), Memory>
+    requires accepted { Accepted run.now.app.now }
+    requires runnable { IsRunnable run.now.app.now (whole_case run.now.file.now run.now.case.now) }
+{
+    match record_case(alloc, run.app, run.file, run.case)? {
+        Some(recording) => {
+            let id = id_of(alloc, place, run.case.line)?;
+            add_diagram(page, alloc, run, &recording, id.as_slice())
+        }
+        None => add_parts(
+            page,
+            &[Part::Element(Tag::P, b"There is no timing diagram of this case.")],
+        ),
+    }
+}
+
 /// The part of a case that was run, whose file stands at this place of the words: its name, what `test` tells of it,
 /// and its timing diagram.
 pub(crate) fn add_section(
@@ -42,17 +60,9 @@ pub(crate) fn add_section(
     requires runnable { IsRunnable run.now.app.now (whole_case run.now.file.now run.now.case.now) }
 {
     let told = case_report(alloc, Format::Text, &Tally::none(), run)?;
-    page.open(Tag::Section)?;
-    page.element(Tag::H3, run.case.name.as_str().as_bytes())?;
-    page.element(Tag::Pre, told.as_slice())?;
-    match record_case(alloc, run.app, run.file, run.case)? {
-        Some(recording) => {
-            let id = id_of(alloc, place, run.case.line)?;
-            add_diagram(page, alloc, run, &recording, id.as_slice())?;
-        }
-        None => page.element(Tag::P, b"There is no timing diagram of this case.")?,
-    }
-    page.close(Tag::Section)
+    open_case(page, run.case.name.as_str().as_bytes(), told.as_slice())?;
+    add_drawn(page, alloc, place, run)?;
+    add_parts(page, &[Part::End(Tag::Section)])
 }
 
 /// Adds what the scans of a case show of the application to what others have shown.

@@ -10,7 +10,7 @@ use ps_cover::{Cover, Exclusions};
 use ps_coverage::{Format, Told, coverage_text};
 use ps_demand::{NoLines, demand_lines};
 use ps_detail::placed_notes;
-use ps_markup::{Page, Tag};
+use ps_markup::{Page, Part, Tag, add_parts};
 use ps_model::App;
 use ps_noted::note_line;
 use ps_page::parts::add_text;
@@ -95,8 +95,10 @@ const CLAIMS: [&[u8]; 6] = [
     b"The rows of the table of results are proved to be those of the runs: name, place, result and number \
       of scans. So is that no byte of a name or a text of this page stands where it could be read as a \
       part of the page.",
-    b"The timing diagrams, the tables of what changes, notes, demands and coverage are what the program \
-      computed. Their drawing is tried, and not proved.",
+    b"Of the timing diagrams it is proved that each line and band of a name has the values that were recorded \
+      of it, and that each expectation stands above its scan, with FAIL where it failed. All else of them, the \
+      tables of what changes, notes, demands and coverage are what the program computed: that is tried, and not \
+      proved.",
     b"A case that passes says nothing of other inputs, other times or other faults. Coverage counts what \
       the cases have shown, and 100 % says no more than that.",
     b"Times are those of the cases. Nothing is said of a real controller, its inputs and outputs, or how \
@@ -107,14 +109,18 @@ const CLAIMS: [&[u8]; 6] = [
 
 // What is claimed.
 fn add_claims(page: &mut Page) -> Result<(), Memory> {
-    page.open(Tag::Section)?;
-    page.element(Tag::H2, b"What is claimed, and what is not")?;
-    page.open(Tag::Ul)?;
+    add_parts(
+        page,
+        &[
+            Part::Open(Tag::Section),
+            Part::Element(Tag::H2, b"What is claimed, and what is not"),
+            Part::Open(Tag::Ul),
+        ],
+    )?;
     for claim in CLAIMS.as_slice() {
-        page.element(Tag::Li, *claim)?;
+        add_parts(page, &[Part::Element(Tag::Li, *claim)])?;
     }
-    page.close(Tag::Ul)?;
-    page.close(Tag::Section)
+    add_parts(page, &[Part::End(Tag::Ul), Part::End(Tag::Section)])
 }
 
 /// The application of a report: its name, its text, its source, and what the cases have shown of it.
@@ -127,32 +133,68 @@ pub(crate) struct Shown<'a> {
     pub(crate) cover: &'a Cover<'a>,
 }
 
-/// The parts that are texts.
-pub(crate) fn add_texts(page: &mut Page, alloc: Global, shown: &Shown<'_>) -> Result<(), Memory>
-    requires { Accepted shown.now.app.now }
-{
-    let listing = numbered(alloc, shown.text)?;
-    add_text(page, b"Application", listing.as_slice(), b"It is empty.")?;
-    let notes = notes_of(alloc, shown.name.as_bytes(), shown.source, shown.app)?;
+// The part of the text of the application.
+fn add_listing(page: &mut Page, alloc: Global, text: &[u8]) -> Result<(), Memory> {
+    let listing = numbered(alloc, text)?;
+    add_text(page, b"Application", listing.as_slice(), b"It is empty.")
+}
+
+// The part of the notes on an application of this name.
+fn add_notes(
+    page: &mut Page,
+    alloc: Global,
+    name: &[u8],
+    source: &Source,
+    app: &App,
+) -> Result<(), Memory> {
+    let notes = notes_of(alloc, name, source, app)?;
     add_text(
         page,
         b"Notes",
         notes.as_slice(),
         b"There are no notes on the application.",
-    )?;
-    let demands = demands_of(alloc, shown.app)?;
+    )
+}
+
+// The part of the demands of an application.
+fn add_demands(page: &mut Page, alloc: Global, app: &App) -> Result<(), Memory>
+    requires { Accepted app.now }
+{
+    let demands = demands_of(alloc, app)?;
     add_text(
         page,
         b"Demands",
         demands.as_slice(),
         b"There is no SAFEBOOL output.",
-    )?;
-    let coverage = coverage_of(alloc, shown.app, shown.source, shown.cover)?;
+    )
+}
+
+// The part of what the cases have shown of an application of this source.
+fn add_coverage(
+    page: &mut Page,
+    alloc: Global,
+    app: &App,
+    source: &Source,
+    cover: &Cover<'_>,
+) -> Result<(), Memory>
+    requires { Accepted app.now }
+{
+    let coverage = coverage_of(alloc, app, source, cover)?;
     add_text(
         page,
         b"Coverage",
         coverage.as_slice(),
         b"Nothing is counted.",
-    )?;
+    )
+}
+
+/// The parts that are texts.
+pub(crate) fn add_texts(page: &mut Page, alloc: Global, shown: &Shown<'_>) -> Result<(), Memory>
+    requires { Accepted shown.now.app.now }
+{
+    add_listing(page, alloc, shown.text)?;
+    add_notes(page, alloc, shown.name.as_bytes(), shown.source, shown.app)?;
+    add_demands(page, alloc, shown.app)?;
+    add_coverage(page, alloc, shown.app, shown.source, shown.cover)?;
     add_claims(page)
 }

@@ -7,7 +7,7 @@ use Rattle.ps_pairs.specs.Promised.{HaveAsMany}
 use Rattle.ps_reach.specs.Promised.{SaysOfEach}
 use Rattle.ps_reach.specs.declared.asked.Asked.{Asked}
 use Rattle.ps_rules.specs.declared.rules.RulesFile.{RulesFile}
-use Rattle.ps_ruling.specs.Asked.{rule_of_two, rules_of_two}
+use Rattle.ps_never.specs.Asked.{rule_of_two, rules_of_two}
 
 pub says_of_each : (net other : Network) (file : RulesFile) (q : Asked) → q.inputs.items ≡ rules_of_two net other file → SaysOfEach net q
 says_of_each net other file q inputs = ap length inputs ∙ length-map-range_with_len (rule_of_two net other file) 0 (input_count net)

@@ -8,3 +8,5 @@ pub mod Asking
 pub mod Finding
 -- the output that is named differs
 pub mod Naming
+-- how the call ends, by what stood before its parts
+pub mod Coming

@@ -10,7 +10,7 @@ use Rattle.ps_reach.specs.declared.asked.Asked.{Asked}
 use Rattle.ps_rules.specs.declared.rules.RulesFile.{RulesFile}
 use Rattle.ps_search.specs.declared.answer.Path.{Path}
 use Rattle.ps_same.specs.Answering.{IsToldBy}
-use Rattle.ps_verdict.specs.Comparing.{Two}
+use Rattle.ps_counted.specs.Comparing.{Two}
 use Rattle.ps_same.specs.Telling.{met_text}
 use Rattle.ps_same.specs.declared.answering.Told.{Told}
 

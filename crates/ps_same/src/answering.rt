@@ -9,20 +9,21 @@ ghost use Rattle.ps_rules.specs.declared.flaw.RulesRefusal.{RulesRefusal as Rule
 ghost use Rattle.ps_rules.specs.declared.rules.Pace.TheVariants.{Any as AtAnyTimes};
 ghost use Rattle.ps_rules.specs.declared.rules.Follow.{Follow as FollowOf};
 ghost use Rattle.ps_same.specs.Answering.{HasManyFree, IsFound, IsFoundBy, IsFoundOf, IsFoundPlain, IsToldBy, are_shared, names_of, no_settings, refused_by};
-ghost use Rattle.ps_verdict.specs.Comparing.{two_of};
+ghost use Rattle.ps_counted.specs.Comparing.{two_of};
 
 use crate::telling::told;
 use ps_base::{Bytes, Memory};
+use ps_counted::{Compared, do_all_hold};
 use ps_model::App;
+use ps_never::inputs_of_two;
 use ps_outside::Files;
 use ps_pairs::{asked_of_outputs, compare};
 use ps_reach::{MOST_FREE, free_inputs};
 use ps_rules::{
     Flaw, Follow, Follows, Pace, Purpose, Rules, RulesFail, RulesFile, RulesRefusal, read_rules,
 };
-use ps_ruling::inputs_of_two;
+use ps_search::Observer;
 use ps_terms::Settings;
-use ps_verdict::{Compared, do_all_hold};
 use std::alloc::Global;
 
 /// What is told of two applications.
@@ -93,7 +94,12 @@ fn are_shared(app: &App, file: &RulesFile) -> bool
 }
 
 // The answer by the settings of a rules file.
-fn answer_by(alloc: Global, compared: &Compared<'_>, file: &RulesFile) -> Result<Told, SameFail>
+fn answer_by<W: Observer>(
+    alloc: Global,
+    compared: &Compared<'_>,
+    file: &RulesFile,
+    observer: &mut W,
+) -> Result<Told, SameFail>
     requires some { 0 < compared.now.most }
     requires many { HaveAsMany compared.now.app.now compared.now.other.now }
     requires shared { are_shared compared.now.app.now file.now ≡ true }
@@ -112,7 +118,14 @@ fn answer_by(alloc: Global, compared: &Compared<'_>, file: &RulesFile) -> Result
     if free_inputs(asked.inputs.as_slice()) > MOST_FREE as usize {
         return Err(SameFail::ManyFree);
     }
-    let found = compare(alloc, compared.app, compared.other, &asked, compared.most)?;
+    let found = compare(
+        alloc,
+        compared.app,
+        compared.other,
+        &asked,
+        compared.most,
+        observer,
+    )?;
     let text = told(alloc, compared, &asked, &found)?;
     Ok(Told {
         text,
@@ -121,13 +134,17 @@ fn answer_by(alloc: Global, compared: &Compared<'_>, file: &RulesFile) -> Result
 }
 
 // The answer where no rules file is named: scans come 10 ms apart, and nothing is said of any input.
-fn answer_plain(alloc: Global, compared: &Compared<'_>) -> Result<Told, SameFail>
+fn answer_plain<W: Observer>(
+    alloc: Global,
+    compared: &Compared<'_>,
+    observer: &mut W,
+) -> Result<Told, SameFail>
     requires some { 0 < compared.now.most }
     requires many { HaveAsMany compared.now.app.now compared.now.other.now }
     ensures found { IsFoundPlain (two_of compared.now) result }
     ensures read { ¬ IsErrOf result SameFail.Fault }
 {
-    answer_by(alloc, compared, &no_settings(alloc))
+    answer_by(alloc, compared, &no_settings(alloc), observer)
 }
 
 // Why a file has no answer whose settings were read: too many free inputs are refused.
@@ -147,7 +164,12 @@ fn refused_by(fail: SameFail, file: &RulesFile) -> SameFail
 }
 
 // The answer by the settings that were read of a rules file.
-fn answer_read(alloc: Global, compared: &Compared<'_>, file: &RulesFile) -> Result<Told, SameFail>
+fn answer_read<W: Observer>(
+    alloc: Global,
+    compared: &Compared<'_>,
+    file: &RulesFile,
+    observer: &mut W,
+) -> Result<Told, SameFail>
     requires some { 0 < compared.now.most }
     requires many { HaveAsMany compared.now.app.now compared.now.other.now }
     ensures { IsFoundOf (two_of compared.now) file.now result }
@@ -158,18 +180,19 @@ fn answer_read(alloc: Global, compared: &Compared<'_>, file: &RulesFile) -> Resu
             line: file.end,
         }));
     }
-    match answer_by(alloc, compared, file) {
+    match answer_by(alloc, compared, file, observer) {
         Ok(told) => Ok(told),
         Err(fail) => Err(refused_by(fail, file)),
     }
 }
 
 // The answer by the rules file of this name.
-fn answer_file<F: Files>(
+fn answer_file<F: Files, W: Observer>(
     alloc: Global,
     files: &mut F,
     compared: &Compared<'_>,
     name: &str,
+    observer: &mut W,
 ) -> Result<Told, SameFail>
     requires some { 0 < compared.now.most }
     requires many { HaveAsMany compared.now.app.now compared.now.other.now }
@@ -180,7 +203,7 @@ fn answer_file<F: Files>(
     ensures telling { F.tells files.new ≡ F.tells files.old }
 {
     match read_rules(alloc, files, name, compared.app, Purpose::Same) {
-        Ok(file) => answer_read(alloc, compared, &file),
+        Ok(file) => answer_read(alloc, compared, &file, observer),
         Err(RulesFail::Refused(refusal)) => Err(SameFail::Refused(refusal)),
         Err(RulesFail::Fault) => Err(SameFail::Fault),
         Err(RulesFail::Memory) => Err(SameFail::Memory),
@@ -194,11 +217,12 @@ fn answer_file<F: Files>(
 /// were an input to follow what is no input or output (R2). `ManyFree` comes of free inputs where no file is named.
 /// `AnyTimes` comes only where the file asks for scans at any times, `Fault` only where the files' count of the name rose
 /// in this call.
-pub fn answer<F: Files>(
+pub fn answer<F: Files, W: Observer>(
     alloc: Global,
     files: &mut F,
     compared: &Compared<'_>,
     rules: Option<&str>,
+    observer: &mut W,
 ) -> Result<Told, SameFail>
     requires some { 0 < compared.now.most }
     requires many { HaveAsMany compared.now.app.now compared.now.other.now }
@@ -212,7 +236,7 @@ pub fn answer<F: Files>(
     ensures telling { F.tells files.new ≡ F.tells files.old }
 {
     match rules {
-        Some(name) => answer_file(alloc, files, compared, name),
-        None => answer_plain(alloc, compared),
+        Some(name) => answer_file(alloc, files, compared, name, observer),
+        None => answer_plain(alloc, compared, observer),
     }
 }

@@ -14,16 +14,16 @@ ghost use Rattle.ps_search.specs.declared.answer.Path.{Path as PathOf};
 ghost use Rattle.ps_same.specs.Telling.{IsSaid, alike, counts_text, difference_case, expects_text, failing_text, fails_text};
 ghost use Rattle.ps_same.specs.Telling.{first_place, first_text, met_text, names_text, other_text, output_text, outputs_text};
 ghost use Rattle.ps_same.specs.Telling.{pairs_text, place_text, remark_text, scans_text, shortage_text, unmet_text, value_text};
-ghost use Rattle.ps_verdict.specs.Comparing.{two_of};
+ghost use Rattle.ps_counted.specs.Comparing.{two_of};
 
 use ps_base::{Bytes, Memory};
 use ps_bench_base::pieces::{add_count, add_shown};
+use ps_counted::{Behind, Compared};
 use ps_model::App;
 use ps_never::{add_case, add_set, signal_text};
 use ps_pairs::outputs_behind;
 use ps_reach::{Asked, inputs_of};
 use ps_search::{End, Found, Path};
-use ps_verdict::{Behind, Compared};
 use std::alloc::Global;
 
 // The names of both.

@@ -29,6 +29,12 @@ new_seat workings sizes image budget =
 abbrev pub stored_in : Seat_state → Stored
 stored_in s = record { sizes = s.sizes; code = s.channel.code; cells = s.channel.cells }
 
+-- Two seats of one application: they have its sizes, the same code as compiled and the same budget.
+pub record AreOfOne (s t : Seat_state) : Type 0 where
+  pub sizes : s.sizes ≡ t.sizes
+  pub image : s.image ≡ t.image
+  pub budget : s.budget ≡ t.budget
+
 -- the seat after so many turns, one after another
 abbrev pub after_turns : (Sizes → Workings) → ℕ → Seat_state → Seat_state
 after_turns workings k s = turned (meeting workings makes_turn) k s

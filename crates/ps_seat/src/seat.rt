@@ -5,12 +5,12 @@ ghost use Rattle.ps_model.specs.Fields.{blank_report};
 ghost use Rattle.ps_machine.specs.Channels.{ended};
 ghost use Rattle.ps_machine.specs.Channels.Own.{begins, makes_turn, struck, restarts, is_remade};
 ghost use Rattle.ps_machine.specs.StoredChannel.{region_of};
-ghost use Rattle.ps_seat.specs.Seats.{machine_in, meeting, new_seat, stored_in, Finishes};
+ghost use Rattle.ps_seat.specs.Seats.{machine_in, meeting, new_seat, stored_in, AreOfOne, Finishes};
 ghost use Rattle.ps_seat.specs.Outcomes.{outcome};
 ghost use Rattle.ps_seat.specs.Outcomes.Outcome.{gives, lacks};
 
 use ps_base::Memory;
-use ps_machine::{CodeImage, ScanMachine};
+use ps_machine::{CodeImage, ScanMachine, TwinMachine};
 use ps_model::{OutOfRegion, Progress, Region, Report, Scan, Sizes};
 use std::alloc::Global;
 use std::marker::Model;
@@ -184,5 +184,25 @@ impl<C: ScanMachine> Seat<C> {
                 }
             }
         }
+    }
+}
+
+impl<C: TwinMachine> Seat<C> {
+    /// Becomes what another seat of the same application is: of the same sizes, the same code as compiled and the same
+    /// budget. It takes no memory.
+    pub fn copy_from(&mut self, other: &Seat<C>)
+        requires { AreOfOne self.old other.now }
+        ensures { self.new ≡ other.now }
+    {
+        self.channel.copy_from(&other.channel);
+        self.turns = other.turns;
+    }
+
+    /// True only where this is what another seat of the same application is.
+    pub fn is_twin_of(&self, other: &Seat<C>) -> bool
+        requires { AreOfOne self.now other.now }
+        ensures { result ≡ true → self.now ≡ other.now }
+    {
+        self.turns == other.turns && self.channel.is_twin_of(&other.channel)
     }
 }

@@ -5,6 +5,7 @@ pub mod Cells
 pub mod Instructions
 pub mod Stack
 pub mod Calling
+pub mod Readies
 pub mod Turn
 pub mod Channel
 pub mod Code

@@ -4,10 +4,10 @@ ghost use Rattle.std.specs.Prelude.{◌≡◌, ◌+◌, ◌*◌};
 
 use crate::cells::{begin, progress};
 use crate::layout::{INSTANCE_SIZE, SIGNALS_AT, TIME_AT};
-use crate::report::read_report;
+use crate::report::{read_report, ready_signals};
 use crate::turn::{turn, turns};
 use ps_base::Memory;
-use ps_machine::{CodeImage, Frame, ScanMachine};
+use ps_machine::{CodeImage, Frame, ScanMachine, TwinMachine};
 use ps_model::{OutOfRegion, Progress, Region, Report, Scan, Sizes};
 use std::alloc::Global;
 use std::marker::Model;
@@ -18,12 +18,17 @@ use std::marker::Model;
 #[derive(Debug)]
 pub struct StackChannel {
     frame: Frame,
+    // of each instance the signal of its Ready, as `new` found it by the sizes
+    readies: Vec<u16>,
 }
 
 impl Drop for StackChannel {
     // One call for whoever owns one, in place of a walk through all that it holds.
     fn drop(self) {
-        let StackChannel { frame: _ } = self;
+        let StackChannel {
+            frame: _,
+            readies: _,
+        } = self;
     }
 }
 
@@ -32,13 +37,15 @@ impl Model for StackChannel {
     ghost use Rattle.ps_machine.specs.Frames.{channel_in};
     ghost use Rattle.ps_machine.specs.StoredChannel.{Stored};
     ghost use Rattle.ps_stackvm.specs.declared.layout.TheConstants.{INSTANCE_SIZE, SIGNALS_AT};
+    ghost use Rattle.ps_stackvm.specs.Readies.{AreReadies};
 
     ghost Value = { Stored };
 
     ghost view = { λ c. channel_in c.frame };
 
     ghost invariant = { λ c. (length c.frame.cells.items ≡ SIGNALS_AT + c.frame.sizes.signals + INSTANCE_SIZE * c.frame.sizes.instances)
-        × (length c.frame.cells.items < 2 ^ 32) × (length c.frame.code.items < 2 ^ 32) };
+        × (length c.frame.cells.items < 2 ^ 32) × (length c.frame.code.items < 2 ^ 32)
+        × AreReadies c.frame.sizes c.readies.items };
 }
 
 impl StackChannel {
@@ -56,7 +63,8 @@ impl StackChannel {
         ensures { IfOk result (λ c. c ≡ record { sizes = sizes.now; code = image.now; cells = blank_a sizes.now }) }
     {
         let frame = Frame::new(alloc, image, sizes, SIGNALS_AT)?;
-        Ok(StackChannel { frame })
+        let readies = ready_signals(alloc, &frame.sizes)?;
+        Ok(StackChannel { frame, readies })
     }
 
     /// Makes the channel as `new` makes it from this image, which has the length of the channel's code.
@@ -145,7 +153,24 @@ impl StackChannel {
         ensures kept { result ≡ false → into.new ≡ into.old }
         ensures sized { (length into.new.outs ≡ length into.old.outs) × (length into.new.diags ≡ length into.old.diags) }
     {
-        read_report(&self.frame.cells, SIGNALS_AT, &self.frame.sizes, into)
+        read_report(&self.frame.cells, &self.frame.sizes, &self.readies, into)
+    }
+
+    /// The channel becomes what another one is, of the same sizes and with a code of the same length.
+    pub fn copy_from(&mut self, other: &StackChannel)
+        requires sizes { self.old.sizes ≡ other.now.sizes }
+        requires code { length self.old.code ≡ length other.now.code }
+        ensures { self.new ≡ other.now }
+    {
+        self.frame.copy_from(&other.frame);
+    }
+
+    /// Whether the channel is what another one is, of the same sizes.
+    pub fn is_twin_of(&self, other: &StackChannel) -> bool
+        requires { self.now.sizes ≡ other.now.sizes }
+        ensures { result ≡ true → self.now ≡ other.now }
+    {
+        self.frame.is_twin_of(&other.frame)
     }
 
     /// The length of a region in bytes.
@@ -222,5 +247,15 @@ impl ScanMachine for StackChannel {
 
     fn spoil(&mut self, region: Region, at: u32, bytes: &[u8]) -> Result<(), OutOfRegion> {
         self.spoil(region, at, bytes)
+    }
+}
+
+impl TwinMachine for StackChannel {
+    fn copy_from(&mut self, other: &StackChannel) {
+        self.copy_from(other);
+    }
+
+    fn is_twin_of(&self, other: &StackChannel) -> bool {
+        self.is_twin_of(other)
     }
 }

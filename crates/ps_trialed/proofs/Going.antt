@@ -5,26 +5,29 @@ use Rattle.ps_course.specs.Courses.{AreStepsFor, items_in, meant_in}
 use Rattle.ps_course.specs.declared.step.Step.{Step}
 use Rattle.ps_course.specs.declared.step.Step.TheVariants.{Scanned, Anew}
 use Rattle.ps_model.specs.Fields.{first_difference}
-use Rattle.ps_model.specs.Network.{Network, input_count, instance_count}
+use Rattle.ps_model.specs.Network.{Network, instance_count}
 use Rattle.ps_model.specs.declared.channel.Fault.{Fault}
 use Rattle.ps_model.specs.declared.channel.Verdict.{Verdict}
 use Rattle.ps_model.specs.declared.report.Report.{Report}
 use Rattle.ps_model.specs.declared.report.Scan.{Scan}
 use Rattle.ps_tally.specs.declared.outcome.Outcome.{Outcome}
-use Rattle.ps_tally.specs.declared.outcome.Outcome.TheVariants.{Silent}
 use Rattle.ps_world.specs.Answers.{answers}
 use Rattle.ps_world.specs.Orders.{at_compare, of_scan, scan_events}
 use Rattle.ps_world.specs.Verdicts.{report_given, verdict}
-use Rattle.ps_world.specs.Whole.{Whole, IsSetupOf, IsWorldOf, after_events, happened, machines_in}
-use Rattle.ps_world.specs.Worlds.{World_state, Restart, world_0}
+use Rattle.ps_world.specs.Whole.{Whole, IsSetupOf, after_events, happened, machines_in}
+use Rattle.ps_world.specs.Worlds.{Restart, world_0}
 use Rattle.ps_trialed.specs.Showing.{ended_by, shown}
 
 -- steps that a world can run from a time on it can run from an earlier one on
-earlier : (net : Network) (time latest : ℕ) (steps : List Step) → time ≤ latest → AreStepsFor net latest steps → AreStepsFor net time steps
+pub earlier : (net : Network) (time latest : ℕ) (steps : List Step) → time ≤ latest → AreStepsFor net latest steps → AreStepsFor net time steps
 earlier net time latest [] before fits = tt
 earlier net time latest (Anew ∷ steps) before fits = earlier net time latest steps before fits
 earlier net time latest (Scanned s r ∷ steps) before fits =
     ((let due : time ≤ s.now = omega (arith, before, fits.0) in due), fits.1, fits.2, fits.3, fits.4)
+
+-- a world as it was at the beginning
+abbrev pub at_first : Whole → Whole
+at_first w = record { setup = w.setup; state = world_0 (machines_in w.setup) }
 
 module _ (net : Network) (faults : List Fault) (struck : ℕ) where
   -- what steps show from where a world stands, behind so many scans
@@ -38,15 +41,6 @@ module _ (net : Network) (faults : List Fault) (struck : ℕ) where
     pub rest : w.state.begun ≡ false
     pub fits : AreStepsFor net w.state.last steps
     pub shows : showing done steps w ≡ whole
-
-  -- a trial at its beginning
-  pub goes_first : (w : Whole) (steps : List Step) → IsWorldOf net w → AreStepsFor net 0 steps → Goes (showing 0 steps w) 0 steps w
-  goes_first w steps is fits = record {
-    setup = is.setup;
-    rest = ap (λ (x : World_state). x.begun) is.beginning;
-    fits = subst (λ (t : ℕ). AreStepsFor net t steps) (sym (ap (λ (x : World_state). x.last) is.beginning)) fits;
-    shows = refl;
-  }
 
   -- behind a restart
   pub goes_anew : (whole : Outcome) (done : ℕ) (steps : List Step) (w w' : Whole) → Goes whole done (Anew ∷ steps) w → w' ≡ happened Restart w →

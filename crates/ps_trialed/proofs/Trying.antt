@@ -1,15 +1,15 @@
--- What a trial comes to in a world of its own is what it comes to by the definition.
+-- What a trial comes to in a world of the application is what it comes to by the definition.
 use Rattle.std.proofs.Common.{◌≡◌, ◌∙◌, ℕ, List, [], ◌∷◌, length, sym, subst}
-use Rattle.ps_course.specs.Courses.{quiet_reports}
+use Rattle.ps_course.specs.Courses.{items_in, meant_in, quiet_reports}
+use Rattle.ps_course.specs.declared.step.Step.{Step}
 use Rattle.ps_eqgen.proofs.SameSizes.{same_sizes}
-use Rattle.ps_model.specs.Meaning.{Item}
 use Rattle.ps_model.specs.Network.{Network, instance_count}
 use Rattle.ps_model.specs.declared.channel.Fault.{Fault}
-use Rattle.ps_model.specs.declared.report.Report.{Report}
 use Rattle.ps_tally.specs.declared.outcome.Outcome.{Outcome}
 use Rattle.ps_world.specs.Answers.{answers}
-use Rattle.ps_world.specs.Whole.{Setup, Whole, IsSetupOf, IsWorldOf, machines_in}
+use Rattle.ps_world.specs.Whole.{Setup, IsSetupOf, machines_in}
 use Rattle.ps_world.specs.Worlds.{world_0}
+use Rattle.ps_trialed.specs.Marks.{shown_from}
 use Rattle.ps_trialed.specs.Showing.{outcome_of, shown, time_in}
 
 -- what never changes of an application's world is one
@@ -26,13 +26,13 @@ one_setup net s t is is' =
       budget_b = (is.budget_b ∙ sym is'.budget_b) i;
     }
 
-pub outcome_is : (net : Network) (w : Whole) (setup : Setup) (items : List Item) (meant : List Report) (f : Fault) (struck : ℕ) (outcome : Outcome) →
-    IsWorldOf net w → IsSetupOf net setup →
-    ((s : Setup) → IsSetupOf net s → meant ≡ quiet_reports net (machines_in s) items (world_0 (machines_in s))) →
-    struck ≡ time_in f.scan items →
-    outcome ≡ shown struck items meant (answers (machines_in w.setup) (length net.outputs) (instance_count net) (f ∷ []) 1 items w.state) →
-    outcome ≡ outcome_of net (machines_in setup) items f
-outcome_is net w setup items meant f struck outcome is setup_is meant_are struck_is shows =
-    subst (λ (s : Setup). outcome ≡ outcome_of net (machines_in s) items f) (one_setup net w.setup setup is.setup setup_is)
-    (shows ∙ (λ i. shown (struck_is i) items (meant_are w.setup is.setup i)
-    (answers (machines_in w.setup) (length net.outputs) (instance_count net) (f ∷ []) 1 items (is.beginning i))))
+pub outcome_is : (net : Network) (own setup : Setup) (steps : List Step) (f : Fault) (struck : ℕ) (outcome : Outcome) →
+    IsSetupOf net own → IsSetupOf net setup →
+    ((s : Setup) → IsSetupOf net s → meant_in steps ≡ quiet_reports net (machines_in s) (items_in steps) (world_0 (machines_in s))) →
+    struck ≡ time_in f.scan (items_in steps) →
+    outcome ≡ shown_from (machines_in own) (length net.outputs) (instance_count net) (f ∷ []) struck 0 steps (world_0 (machines_in own)) →
+    outcome ≡ outcome_of net (machines_in setup) (items_in steps) f
+outcome_is net own setup steps f struck outcome own_is setup_is meant_are struck_is shows =
+    subst (λ (s : Setup). outcome ≡ outcome_of net (machines_in s) (items_in steps) f) (one_setup net own setup own_is setup_is)
+    (shows ∙ (λ i. shown (struck_is i) (items_in steps) (meant_are own own_is i)
+    (answers (machines_in own) (length net.outputs) (instance_count net) (f ∷ []) 1 (items_in steps) (world_0 (machines_in own)))))

@@ -3,3 +3,5 @@ pub mod Showing
 pub mod Right
 pub mod Campaigns
 pub mod Parts
+-- where a trial may begin and end early
+pub mod Marks

@@ -1,7 +1,7 @@
 // The trials of a campaign, one after another.
 
 ghost use Rattle.std.specs.Prelude.{◌≡◌, ◌<◌, ◌^◌, ◌+◌, IfOk, length, max};
-ghost use Rattle.ps_course.specs.Courses.{AreStepsFor, IsCourse, items_in};
+ghost use Rattle.ps_course.specs.Courses.{IsCourse, items_in};
 ghost use Rattle.ps_eqvm.specs.Code.{code_b};
 ghost use Rattle.ps_model.specs.Network.{instance_count};
 ghost use Rattle.ps_model.specs.Typing.{Accepted};
@@ -9,8 +9,10 @@ ghost use Rattle.ps_stackvm.specs.Code.{code_a};
 ghost use Rattle.ps_trials.specs.Faults.{fault_by};
 ghost use Rattle.ps_world.specs.Whole.{Setup, IsSetupOf, machines_in};
 ghost use Rattle.ps_trialed.specs.Campaigns.{campaign, result_of, room_of};
+ghost use Rattle.ps_trialed.specs.Marks.{AreMarks};
 ghost use Rattle.ps_trialed.specs.Showing.{outcome_of};
 
+use crate::marks::{Marks, mark_course};
 use crate::trialing::{run_trial, time_in};
 use ps_base::Memory;
 use ps_course::Course;
@@ -24,7 +26,7 @@ use ps_world::World;
 use std::alloc::Global;
 
 /// What a campaign is made of: which trials, and where they strike.
-#[derive(Clone, Copy, Debug, PartialEq, Eq)]
+#[derive(Clone, Copy)]
 pub struct Campaign {
     /// The number of the first trial.
     pub from: u32,
@@ -72,35 +74,40 @@ pub fn room_of(app: &App, sizes: ImageSizes, scans: u32, channel: Option<Channel
     }
 }
 
-// What a trial comes to, in a world of its own.
+// What a trial comes to, in a world whose state is room for work.
 fn try_trial(
     alloc: Global,
     app: &App,
     course: &Course,
     codes: &Codes,
     trial: &Trial,
+    marks: &Marks,
+    world: &mut World,
     report: &mut Report,
 ) -> Result<Outcome, Memory>
-    requires accepted { Accepted app.now }
     requires course { IsCourse app.now course.now }
+    requires marks { AreMarks app.now course.now.steps.items marks.now }
+    requires setup { IsSetupOf app.now world.old.setup }
     requires outputs { length report.old.outs ≡ length app.now.outputs }
     requires diagnoses { length report.old.diags ≡ instance_count app.now }
     ensures outcome { (setup : Setup) → IsSetupOf app.now setup → IfOk result (λ outcome.
         outcome ≡ outcome_of app.now (machines_in setup) (items_in course.now.steps.items)
         (fault_by codes.now.a codes.now.b trial.now)) }
+    ensures setup { IsSetupOf app.now world.new.setup }
     ensures outputs { length report.new.outs ≡ length app.now.outputs }
     ensures diagnoses { length report.new.diags ≡ instance_count app.now }
 {
     let fault = fault_of(alloc, trial, codes.a.as_slice(), codes.b.as_slice())?;
     let faults = [fault];
-    let mut world = World::build(alloc, app)?;
     let steps = course.steps.as_slice();
     let struck = time_in(steps, trial.scan);
-    Ok(run_trial(app, &mut world, steps, &faults, struck, report))
+    Ok(run_trial(app, world, steps, marks, &faults, struck, report))
 }
 
-/// Makes the trials of a campaign over a course, each in a world of its own, and counts what they come to. The regions
-/// of the channels have these sizes. `Err` comes only where memory is wanting.
+/// Makes the trials of a campaign over a course, and counts what they come to. The regions of the channels have these
+/// sizes. It takes memory for at most 65 worlds: one in which the trials run, and those of the run without a fault at
+/// marks that divide the course into at most 64 parts; a trial begins at one of these, and may end at another. `Err`
+/// comes only where memory is wanting.
 pub fn run_campaign(
     alloc: Global,
     app: &App,
@@ -116,11 +123,22 @@ pub fn run_campaign(
 {
     let codes = codes_of(alloc, app)?;
     let room = room_of(app, sizes, course.scans, asked.channel);
+    let marks = mark_course(alloc, app, course)?;
+    let mut world = World::build(alloc, app)?;
     let mut report = Report::for_app(alloc, app)?;
     let mut tally = Tally::new(alloc)?;
     for done in 0..asked.count {
         let trial = draw_trial(u64::from(asked.from) + u64::from(done), &room);
-        let outcome = try_trial(alloc, app, course, &codes, &trial, &mut report)?;
+        let outcome = try_trial(
+            alloc,
+            app,
+            course,
+            &codes,
+            &trial,
+            &marks,
+            &mut world,
+            &mut report,
+        )?;
         tally.count(trial.channel, trial.region, outcome);
     }
     Ok(tally)

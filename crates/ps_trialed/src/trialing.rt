@@ -1,13 +1,15 @@
 // The run of a trial.
 
 ghost use Rattle.std.specs.Prelude.{◌≡◌, ◌≤◌, ◌+◌, ◌*◌, ◌^◌, ◌-◌, ◌∷◌, [], length, nat_eq};
-ghost use Rattle.ps_course.specs.Courses.{AreStepsFor, items_in, meant_in};
+ghost use Rattle.ps_course.specs.Courses.{items_in};
 ghost use Rattle.ps_model.specs.Network.{instance_count};
-ghost use Rattle.ps_world.specs.Answers.{answers};
 ghost use Rattle.ps_world.specs.Orders.{of_scan};
-ghost use Rattle.ps_world.specs.Whole.{IsWorldOf, machines_in};
-ghost use Rattle.ps_trialed.specs.Showing.{ended_by, shown, time_in};
+ghost use Rattle.ps_world.specs.Whole.{IsSetupOf, machines_in};
+ghost use Rattle.ps_world.specs.Worlds.{world_0};
+ghost use Rattle.ps_trialed.specs.Marks.{AreMarks, shown_from};
+ghost use Rattle.ps_trialed.specs.Showing.{ended_by, time_in};
 
+use crate::marks::{Marks, is_over, start_of};
 use ps_course::Step;
 use ps_model::{App, Fault, Report, Verdict};
 use ps_tally::Outcome;
@@ -59,31 +61,40 @@ fn few_fields(app: &App)
     app.sound();
 }
 
-/// Runs the steps of a course in a world at its beginning, where one fault strikes, up to the first scan that trips or
-/// is released with another report than without the fault. `report` is room for work: what it has then is not said. It
-/// takes no memory.
-pub fn run_trial(
+// Runs the steps of a course where one fault strikes, up to the first scan that trips or is released with another report
+// than without the fault. It begins at the last mark before the struck scan, and ends at the first mark behind it where
+// the world is what it is without the fault: neither changes what it comes to. `report` and the world are room for work:
+// what they have then is not said. It takes no memory.
+pub(crate) fn run_trial(
     app: &App,
     world: &mut World,
     steps: &[Step],
+    marks: &Marks,
     faults: &[Fault],
     struck: u32,
     report: &mut Report,
 ) -> Outcome
-    requires world { IsWorldOf app.now world.old }
-    requires steps { AreStepsFor app.now 0 steps.now }
+    requires setup { IsSetupOf app.now world.old.setup }
+    requires marks { AreMarks app.now steps.now marks.now }
     requires one { length faults.now ≡ 1 }
     requires outputs { length report.old.outs ≡ length app.now.outputs }
     requires diagnoses { length report.old.diags ≡ instance_count app.now }
-    ensures shows { result ≡ shown struck (items_in steps.now) (meant_in steps.now)
-        (answers (machines_in world.old.setup) (length app.now.outputs) (instance_count app.now) faults.now 1
-        (items_in steps.now) world.old.state) }
+    ensures shows { result ≡ shown_from (machines_in world.old.setup) (length app.now.outputs) (instance_count app.now)
+        faults.now struck 0 steps.now (world_0 (machines_in world.old.setup)) }
+    ensures setup { IsSetupOf app.now world.new.setup }
     ensures outputs { length report.new.outs ≡ length app.now.outputs }
     ensures diagnoses { length report.new.diags ≡ instance_count app.now }
 {
     few_fields(app);
-    let mut number = 0;
-    for step in steps {
+    let strikes = faults[0].scan;
+    let start = start_of(app, steps, marks, strikes);
+    world.copy_from(&start.world);
+    let mut number = start.scans;
+    for place in start.place..steps.len() {
+        if is_over(app, steps, marks, place, number, strikes, world) {
+            return Outcome::Silent;
+        }
+        let step = &steps[place];
         match step {
             Step::Anew => world.restart(),
             Step::Scanned(scan, meant) => {

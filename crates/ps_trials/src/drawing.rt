@@ -11,7 +11,7 @@ use rand_xoshiro::Xoshiro256PlusPlus;
 
 /// What a trial's fault may strike: the regions of the channels, the scans of the run, and the turns of a scan; and, if
 /// one alone is struck, the channel.
-#[derive(Clone, Copy, Debug, PartialEq, Eq)]
+#[derive(Clone, Copy)]
 pub struct Room {
     /// The lengths of the regions in bytes.
     pub sizes: ImageSizes,
@@ -24,7 +24,7 @@ pub struct Room {
 }
 
 /// What was drawn for a trial: where and when its fault strikes, and with which bits.
-#[derive(Clone, Copy, Debug, PartialEq, Eq)]
+#[derive(Clone, Copy)]
 pub struct Trial {
     /// The channel.
     pub channel: Channel,

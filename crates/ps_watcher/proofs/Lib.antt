@@ -1,3 +1,5 @@
+mod Quoting
+mod Ranges
 mod Renewing
 -- what any taker writes that sees each scan
 pub mod Seeing

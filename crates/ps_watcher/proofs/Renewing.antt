@@ -8,7 +8,7 @@ use Rattle.ps_model.specs.Network.{Network}
 use Rattle.ps_watcher.specs.Room.{IsKeyed, column_room, columns_room, renewed}
 use Rattle.ps_watcher.specs.declared.column.Column.{Column}
 use Rattle.ps_watcher.specs.Watcher.{IsWatcherFor, TakesScan, next_columns}
-use Rattle.ps_shown.specs.declared.format.Format.{Format}
+use Rattle.ps_watcher.specs.declared.format.Format.{Format}
 use Rattle.ps_watcher.specs.declared.watcher.Watcher.{Watcher}
 
 module _ (net : Network) (is_first : Bool) (m : Moment) where

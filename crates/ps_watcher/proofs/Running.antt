@@ -17,13 +17,13 @@ use Rattle.ps_runs.specs.declared.striking.StruckWorld.{StruckWorld}
 use Rattle.ps_runs.specs.declared.watching.Watched.{Watched}
 use Rattle.ps_runs.proofs.ToCome.{first_stands}
 use Rattle.ps_watcher.proofs.Seeing.{watched}
-use Rattle.ps_shown.specs.Lines.{Cell, restart_text, scan_text}
+use Rattle.ps_watcher.specs.Lines.{Cell, restart_text, scan_text}
 use Rattle.ps_watcher.specs.Room.{cell_of, cells_of, renewed}
 use Rattle.ps_watcher.specs.Watched.{IsBegun, lines_of}
 use Rattle.ps_watcher.specs.Watcher.{TakesRestart, TakesScan, next_columns, seen_behind, watcher_said, watcher_takes}
 use Rattle.ps_watcher.specs.Watching.{Before, at_first, at_restart, behind_scan, cell_in, moment_text}
 use Rattle.ps_watcher.specs.declared.column.Column.{Column}
-use Rattle.ps_shown.specs.declared.format.Format.{Format}
+use Rattle.ps_watcher.specs.declared.format.Format.{Format}
 use Rattle.ps_watcher.specs.declared.watcher.Watcher.{Watcher}
 
 -- the names of columns

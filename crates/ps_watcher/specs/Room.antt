@@ -5,9 +5,9 @@ use Rattle.ps_seen.specs.Moments.{Moment}
 use Rattle.ps_seen.specs.Named.{value_in}
 use Rattle.ps_terms.specs.declared.name.Name.{Name}
 use Rattle.ps_model.specs.Network.{Network}
-use Rattle.ps_shown.specs.Lines.{Cell, key_text}
+use Rattle.ps_watcher.specs.Lines.{Cell, key_text}
 use Rattle.ps_watcher.specs.declared.column.Column.{Column}
-use Rattle.ps_shown.specs.declared.format.Format.{Format}
+use Rattle.ps_watcher.specs.declared.format.Format.{Format}
 
 -- the most bytes of a column beside what stands for its name
 abbrev pub column_room : ℕ

@@ -15,7 +15,7 @@ use Rattle.ps_runs.specs.declared.watching.Watched.{Watched}
 use Rattle.ps_trace.specs.Scans.{Scans}
 use Rattle.ps_watcher.specs.Watching.{at_first, items_text}
 use Rattle.ps_watcher.specs.declared.column.Column.{Column}
-use Rattle.ps_shown.specs.declared.format.Format.{Format}
+use Rattle.ps_watcher.specs.declared.format.Format.{Format}
 use Rattle.ps_watcher.specs.declared.watcher.Watcher.{Watcher}
 
 -- A run that is watched is at its beginning: its world and its evaluator are, and its watcher watches these names and

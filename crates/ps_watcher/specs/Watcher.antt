@@ -7,7 +7,7 @@ use Rattle.ps_model.specs.Network.{Network}
 use Rattle.ps_runs.specs.Outcomes.{Outcome, performed, refuses, anew}
 use Rattle.ps_runs.specs.declared.striking.StruckWorld.{StruckWorld}
 use Rattle.ps_runs.specs.declared.watching.Watched.{Watched}
-use Rattle.ps_shown.specs.Lines.{restart_text, scan_text}
+use Rattle.ps_watcher.specs.Lines.{restart_text, scan_text}
 use Rattle.ps_watcher.specs.Room.{IsKeyed, cells_of, columns_room, frame_room, renewed}
 use Rattle.ps_watcher.specs.declared.column.Column.{Column}
 use Rattle.ps_watcher.specs.declared.watcher.Watcher.{Watcher}

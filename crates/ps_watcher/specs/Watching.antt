@@ -9,8 +9,8 @@ use Rattle.ps_model.specs.Meaning.Item.{scan, restart}
 use Rattle.ps_model.specs.Network.{Network}
 use Rattle.ps_model.specs.Scanning.{State}
 use Rattle.ps_world.specs.Answers.{Answer}
-use Rattle.ps_shown.specs.Lines.{Cell, head_text, restart_text, scan_text}
-use Rattle.ps_shown.specs.declared.format.Format.{Format}
+use Rattle.ps_watcher.specs.Lines.{Cell, head_text, restart_text, scan_text}
+use Rattle.ps_watcher.specs.declared.format.Format.{Format}
 
 -- what was seen before a scan: the last scan, where there is one since the beginning or a restart; and whether this is
 -- the first scan behind a restart

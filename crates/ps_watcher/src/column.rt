@@ -4,11 +4,12 @@ ghost use Rattle.std.specs.Prelude.{◌≡◌, ◌+◌, ◌≤◌, All, IfOk, If
 ghost use Rattle.ps_seen.specs.Moments.{moment_of};
 ghost use Rattle.ps_watcher.specs.Room.{IsKeyed, columns_room, frame_room, renewed};
 
+use crate::format::Format;
+use crate::key::key_of;
 use ps_base::{Bytes, Memory};
 use ps_changes::Field;
 use ps_model::App;
 use ps_seen::{Seen, value_of};
-use ps_shown::{Format, key_of};
 use ps_terms::Name;
 use std::alloc::Global;
 

@@ -2,14 +2,15 @@
 
 ghost use Rattle.std.specs.Prelude.{◌≡◌, ◌+◌, ◌≤◌, ◌++◌, All, length};
 ghost use Rattle.ps_model.specs.Stored.{bit};
-ghost use Rattle.ps_shown.specs.Lines.{csv_row, fields_text, json_line, members_text};
+ghost use Rattle.ps_watcher.specs.Lines.{csv_row, fields_text, json_line, members_text};
 ghost use Rattle.ps_watcher.specs.Room.{IsKeyed, cells_of, columns_room, frame_room};
-ghost use Rattle.ps_shown.specs.declared.format.Format.TheVariants.{Json};
+ghost use Rattle.ps_watcher.specs.declared.format.Format.TheVariants.{Json};
 
 use crate::column::Column;
+use crate::line::Line;
+use crate::shown::{put_digit, put_field, put_json_value, put_truth};
 use ps_model::{App, Verdict};
 use ps_seen::is_stopped;
-use ps_shown::{Line, put_digit, put_field, put_json_value, put_truth};
 
 // A truth value as a number.
 fn number(value: bool) -> u16

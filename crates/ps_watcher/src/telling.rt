@@ -1,16 +1,17 @@
 // The line of a scan in words: what changed.
 
 ghost use Rattle.std.specs.Prelude.{◌≡◌, ◌+◌, ◌≤◌, ◌++◌, All, length};
-ghost use Rattle.ps_shown.specs.Lines as lines;
-ghost use Rattle.ps_shown.specs.Lines.{change_text, changes_told, line_unless_none, time_text, told};
+ghost use Rattle.ps_watcher.specs.Lines as lines;
+ghost use Rattle.ps_watcher.specs.Lines.{change_text, changes_told, line_unless_none, time_text, told};
 ghost use Rattle.ps_watcher.specs.Room.{IsKeyed, cells_of, column_room, columns_room, frame_room};
-ghost use Rattle.ps_shown.specs.declared.format.Format.TheVariants.{Text};
+ghost use Rattle.ps_watcher.specs.declared.format.Format.TheVariants.{Text};
 
 use crate::column::Column;
+use crate::line::Line;
+use crate::shown::put_value;
 use ps_changes::Field;
 use ps_model::{App, Verdict};
 use ps_seen::is_trip;
-use ps_shown::{Line, put_value};
 use ps_terms::Name;
 
 // What stands between the value before and the value now.

@@ -2,10 +2,12 @@
 
 ghost use Rattle.std.specs.Prelude.{◌≡◌, ◌+◌, ◌≤◌, All, IfOk, false, true, map};
 ghost use Rattle.ps_model.specs.Network.{Network};
-ghost use Rattle.ps_shown.specs.Lines.{scan_text};
+ghost use Rattle.ps_watcher.specs.Lines.{scan_text};
 ghost use Rattle.ps_watcher.specs.Room.{IsKeyed, cells_of, columns_room, frame_room};
 
 use crate::column::{Column, columns_of, renew, room_for};
+use crate::format::Format;
+use crate::line::Line;
 use crate::rows::{make_csv_row, make_json_line};
 use crate::telling::make_text_line;
 use ps_base::Memory;
@@ -14,7 +16,6 @@ use ps_model::{App, Report, Verdict};
 use ps_outside::{Sink, Stopped, write_all};
 use ps_runs::{StruckWorld, Taker, Watched};
 use ps_seen::Seen;
-use ps_shown::{Format, Line};
 use ps_terms::Name;
 use std::alloc::Global;
 

@@ -10,7 +10,7 @@ ghost use Rattle.ps_runs.specs.Watching.{IsWatchedFor};
 ghost use Rattle.ps_trace.specs.Reading.{IsReadingTrace, file_of, input_count_of, items_left, last_of};
 ghost use Rattle.ps_watcher.specs.Watched.{IsBegun, WritesWatched};
 ghost use Rattle.ps_watcher.specs.Watcher.{IsWatcherFor};
-ghost use Rattle.ps_shown.specs.declared.format.Format.{Format};
+ghost use Rattle.ps_watcher.specs.declared.format.Format.{Format};
 
 use crate::watcher::Watcher;
 use ps_model::App;

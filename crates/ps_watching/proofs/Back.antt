@@ -16,7 +16,7 @@ use Rattle.ps_model.specs.Meaning.Item.{scan, restart}
 use Rattle.ps_model.specs.Network.{Network, input_count, instance_count, signal_name}
 use Rattle.ps_model.specs.Scanning.{State}
 use Rattle.ps_model.specs.Sound.{IsSound}
-use Rattle.ps_recorded.specs.Recording.{log_trace, trace_text, written_behind}
+use Rattle.ps_logs.specs.Recording.{log_trace, trace_text, written_behind}
 use Rattle.ps_watching.specs.Logged.{IsSpelt, is_name_byte, is_unbroken, logged}
 use Rattle.ps_watching.specs.Retraced.{IsLogOf, run_log}
 use Rattle.ps_watching.proofs.Bytes.{all_more}

@@ -13,7 +13,7 @@ use Rattle.ps_base.specs.LetterCase.{folded, is_same_name}
 use Rattle.ps_cases.proofs.ReadBack.{both_hold, digits_of_traces}
 use Rattle.ps_report.specs.Lines.{code_text}
 use Rattle.ps_watching.specs.Logged.{is_name_byte}
-use Rattle.ps_shown.specs.Shown.{digit}
+use Rattle.ps_watcher.specs.Shown.{digit}
 
 -- a byte ends no line
 abbrev pub is_line_byte : ℕ → Bool

@@ -7,7 +7,7 @@ use Rattle.std.specs.Borrow.{Bor}
 use Rattle.ps_bench_words.specs.Seen.{seen}
 use Rattle.ps_terms.specs.declared.name.Name.{Name}
 use Rattle.ps_model.specs.Network.{Network}
-use Rattle.ps_shown.specs.Names.{all_names}
+use Rattle.ps_watcher.specs.Names.{all_names}
 use Rattle.ps_watching.specs.Naming.{Adds, HasUnnamed, called_among, name_called}
 
 -- words that name these, and one more that names another

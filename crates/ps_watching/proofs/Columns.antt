@@ -15,9 +15,9 @@ use Rattle.ps_watching.specs.Logged.{HasLogNames, is_name_byte}
 use Rattle.ps_watching.proofs.Bytes.{at_apart, is_at, no_at, no_mark, same_self}
 use Rattle.ps_watching.proofs.Labels.{IsOfInstance, IsOther, instances_within, of_instance, of_signal, signal_labelled, signal_spelt, signals_apart}
 use Rattle.ps_watching.proofs.Lists.{all_at, only_place}
-use Rattle.ps_shown.specs.Lines.{csv_names}
-use Rattle.ps_shown.specs.Names.{all_names, names_of_instance}
-use Rattle.ps_shown.specs.Shown.{label}
+use Rattle.ps_watcher.specs.Lines.{csv_names}
+use Rattle.ps_watcher.specs.Names.{all_names, names_of_instance}
+use Rattle.ps_watcher.specs.Shown.{label}
 use Rattle.ps_terms.specs.declared.name.Name.{Name}
 use Rattle.ps_terms.specs.declared.name.Name.TheVariants.{Signal}
 

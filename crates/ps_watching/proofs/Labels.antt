@@ -20,8 +20,8 @@ use Rattle.ps_watching.specs.Logged.{HasLogNames, IsSpelt, has_dot, is_name_byte
 use Rattle.ps_watching.proofs.Bytes.{bare_names, differs, dot_apart, is_bare}
 use Rattle.ps_trace.specs.Header.{input_names}
 use Rattle.ps_watching.proofs.Lists.{all_both, all_ranged}
-use Rattle.ps_shown.specs.Names.{all_names, names_of_instance, pin_of}
-use Rattle.ps_shown.specs.Shown.{label}
+use Rattle.ps_watcher.specs.Names.{all_names, names_of_instance, pin_of}
+use Rattle.ps_watcher.specs.Shown.{label}
 use Rattle.ps_terms.proofs.Naming.{instance_name_at, instance_names-length, signal_name_at, signal_names-length}
 use Rattle.ps_terms.specs.Names.{instance_names, is_time, signal_names}
 use Rattle.ps_terms.specs.declared.name.Name.{Name}

@@ -23,9 +23,9 @@ use Rattle.ps_model.specs.Meaning.Item.{scan, restart}
 use Rattle.ps_model.specs.Network.{Network}
 use Rattle.ps_model.specs.Stored.{bit}
 use Rattle.ps_report.specs.Lines.{code_text}
-use Rattle.ps_shown.specs.Lines.{json_line, members_text}
-use Rattle.ps_shown.specs.Shown.{json_key, json_value, label, truth_text}
-use Rattle.ps_shown.specs.declared.format.Format.TheVariants.{Json as AsJson}
+use Rattle.ps_watcher.specs.Lines.{json_line, members_text}
+use Rattle.ps_watcher.specs.Shown.{json_key, json_value, label, truth_text}
+use Rattle.ps_watcher.specs.declared.format.Format.TheVariants.{Json as AsJson}
 use Rattle.ps_watcher.specs.Watching.{Before, at_restart, behind_scan, cell_in, items_text}
 use Rattle.ps_watching.proofs.Digits.{AllBelow, below, code_digits, four_digits, hex_digit}
 use Rattle.ps_watching.specs.Objects.{json_of, lines_in, members_of, object_of, objects_seen, onto_line, values_read}

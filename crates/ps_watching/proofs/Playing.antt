@@ -16,11 +16,11 @@ use Rattle.ps_runs.specs.declared.items.Runner.{Runner}
 use Rattle.ps_runs.specs.declared.striking.StruckWorld.{StruckWorld}
 use Rattle.ps_runs.specs.declared.watching.Watched.{Watched}
 use Rattle.ps_trace.specs.Scans.{Scans}
-use Rattle.ps_shown.specs.Lines.{head_text}
+use Rattle.ps_watcher.specs.Lines.{head_text}
 use Rattle.ps_watcher.specs.Watched.{IsBegun, WritesWatched}
 use Rattle.ps_watcher.specs.Watching.{at_first, items_text}
-use Rattle.ps_shown.specs.declared.format.Format.{Format}
-use Rattle.ps_shown.specs.declared.format.Format.TheVariants.{Text, Csv, Json}
+use Rattle.ps_watcher.specs.declared.format.Format.{Format}
+use Rattle.ps_watcher.specs.declared.format.Format.TheVariants.{Text, Csv, Json}
 use Rattle.ps_watcher.specs.declared.watcher.Watcher.{Watcher}
 use Rattle.ps_world.specs.Answers.{answers, answers_of_run}
 use Rattle.ps_world.specs.Whole.{machines_in}

@@ -14,9 +14,9 @@ use Rattle.ps_logs.specs.declared.flaw.LogRefusal.{LogRefusal}
 use Rattle.ps_model.specs.Network.{Network}
 use Rattle.ps_model.specs.declared.channel.ImageSizes.{ImageSizes}
 use Rattle.ps_outside.specs.Outside.{Rose}
-use Rattle.ps_recorded.specs.Recording.{IsRead, Leaves, log_trace}
-use Rattle.ps_recorded.specs.declared.recording.RecordFail.{RecordFail}
-use Rattle.ps_recorded.specs.declared.recording.RecordFail.TheVariants.{Memory, Fault, Unwritten, Refused}
+use Rattle.ps_logs.specs.Recording.{IsRead, Leaves, log_trace}
+use Rattle.ps_logs.specs.declared.recording.RecordFail.{RecordFail}
+use Rattle.ps_logs.specs.declared.recording.RecordFail.TheVariants.{Memory, Fault, Unwritten, Refused}
 use Rattle.ps_watching.specs.Tracing.{AnswersIn, AnswersTrace, StopsRefusing, StopsTrace, WhereTold}
 
 -- what a name holds that holds something, with what is so of it

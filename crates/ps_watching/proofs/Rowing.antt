@@ -22,9 +22,9 @@ use Rattle.ps_model.specs.Meaning.Item.{scan, restart}
 use Rattle.ps_model.specs.Network.{Network}
 use Rattle.ps_model.specs.Stored.{bit}
 use Rattle.ps_report.specs.Lines.{code_text}
-use Rattle.ps_shown.specs.Lines.{csv_names, csv_row, fields_text, head_text}
-use Rattle.ps_shown.specs.Shown.{digit, field_text}
-use Rattle.ps_shown.specs.declared.format.Format.TheVariants.{Csv}
+use Rattle.ps_watcher.specs.Lines.{csv_names, csv_row, fields_text, head_text}
+use Rattle.ps_watcher.specs.Shown.{digit, field_text}
+use Rattle.ps_watcher.specs.declared.format.Format.TheVariants.{Csv}
 use Rattle.ps_watcher.specs.Watching.{Before, at_first, at_restart, behind_scan, cell_in, items_text}
 use Rattle.ps_watching.proofs.Digits.{AllBelow, below, code_digits, four_digits, hex_digit}
 use Rattle.ps_watching.specs.Reread.{IsInBits}

@@ -20,9 +20,9 @@ use Rattle.ps_watching.proofs.Columns.{found, name_at, names-length, shown-lengt
 use Rattle.ps_watching.proofs.Cutting.{fields_back, tail_text}
 use Rattle.ps_seen.specs.Moments.{Moment, is_stopped}
 use Rattle.ps_seen.specs.Named.{is_output, signal_in, value_in}
-use Rattle.ps_shown.specs.Lines.{csv_row, fields_text}
-use Rattle.ps_shown.specs.Names.{all_names}
-use Rattle.ps_shown.specs.Shown.{digit, field_text}
+use Rattle.ps_watcher.specs.Lines.{csv_row, fields_text}
+use Rattle.ps_watcher.specs.Names.{all_names}
+use Rattle.ps_watcher.specs.Shown.{digit, field_text}
 use Rattle.ps_terms.specs.Names.{truth_of}
 use Rattle.ps_terms.specs.declared.name.Name.{Name}
 use Rattle.ps_terms.specs.declared.name.Name.TheVariants.{Signal, Code, Pin}

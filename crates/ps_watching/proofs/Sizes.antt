@@ -13,8 +13,8 @@ use Rattle.ps_model.specs.declared.kind.Kind.TheVariants.{Equivalent, Antivalent
 use Rattle.ps_model.specs.declared.pins.PinRow.{PinRow}
 use Rattle.ps_watching.proofs.Bytes.{code_length}
 use Rattle.ps_watching.proofs.Cutting.{tail_text}
-use Rattle.ps_shown.specs.Names.{all_names, names_of_instance, pin_of}
-use Rattle.ps_shown.specs.Shown.{digit, field_text}
+use Rattle.ps_watcher.specs.Names.{all_names, names_of_instance, pin_of}
+use Rattle.ps_watcher.specs.Shown.{digit, field_text}
 use Rattle.ps_terms.specs.Names.{is_time}
 use Rattle.ps_terms.specs.declared.name.Name.{Name}
 use Rattle.ps_terms.specs.declared.name.Name.TheVariants.{Signal, Code, Pin}

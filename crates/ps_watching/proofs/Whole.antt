@@ -38,10 +38,10 @@ use Rattle.ps_seat.specs.Items.{AreTimely}
 use Rattle.ps_seen.specs.Moments.{Moment, is_stopped}
 use Rattle.ps_seen.specs.Named.{value_in}
 use Rattle.ps_seen.specs.Runs.{moments_of, seen_as}
-use Rattle.ps_shown.specs.Lines.{csv_row, head_text}
-use Rattle.ps_shown.specs.Names.{all_names}
-use Rattle.ps_shown.specs.Shown.{label}
-use Rattle.ps_shown.specs.declared.format.Format.TheVariants.{Csv}
+use Rattle.ps_watcher.specs.Lines.{csv_row, head_text}
+use Rattle.ps_watcher.specs.Names.{all_names}
+use Rattle.ps_watcher.specs.Shown.{label}
+use Rattle.ps_watcher.specs.declared.format.Format.TheVariants.{Csv}
 use Rattle.ps_watcher.specs.Watching.{Before, at_first, at_restart, behind_scan, cell_in, items_text, watch_text}
 use Rattle.ps_world.specs.Answers.{Answer}
 

@@ -21,10 +21,10 @@ use Rattle.ps_model.specs.declared.channel.ImageSizes.{ImageSizes}
 use Rattle.ps_outside.specs.Outside.{Rose}
 use Rattle.ps_traced.specs.Opening.{RosesIn}
 use Rattle.ps_traced.specs.Playing.{LacksCase}
-use Rattle.ps_shown.specs.Lines.{head_text}
-use Rattle.ps_shown.specs.Names.{all_names, default_names}
+use Rattle.ps_watcher.specs.Lines.{head_text}
+use Rattle.ps_watcher.specs.Names.{all_names, default_names}
 use Rattle.ps_watcher.specs.Watching.{at_first, items_text}
-use Rattle.ps_shown.specs.declared.format.Format.TheVariants.{Text, Csv, Json}
+use Rattle.ps_watcher.specs.declared.format.Format.TheVariants.{Text, Csv, Json}
 use Rattle.ps_watcher.specs.Dumped.{dump_text}
 use Rattle.ps_watching.specs.Wires.{dump_head}
 use Rattle.ps_watching.specs.Naming.{HasUnnamed}

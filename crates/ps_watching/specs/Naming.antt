@@ -4,8 +4,8 @@ use Rattle.std.specs.Prelude.{[], ◌∷◌, ◌++◌, map, Option, Some, None, 
 use Rattle.ps_base.specs.LetterCase.{is_same_name}
 use Rattle.ps_terms.specs.declared.name.Name.{Name}
 use Rattle.ps_model.specs.Network.{Network}
-use Rattle.ps_shown.specs.Names.{all_names}
-use Rattle.ps_shown.specs.Shown.{label}
+use Rattle.ps_watcher.specs.Names.{all_names}
+use Rattle.ps_watcher.specs.Shown.{label}
 
 -- the first of these names that is called so, without letter case
 abbrev pub called_among : Network → List Name → (word : List ℕ) → Option Name

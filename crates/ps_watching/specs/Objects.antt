@@ -10,7 +10,7 @@ use Rattle.ps_model.specs.Meaning.{Item}
 use Rattle.ps_model.specs.Meaning.Item.{scan, restart}
 use Rattle.ps_model.specs.Network.{Network}
 use Rattle.ps_report.specs.Lines.{code_text}
-use Rattle.ps_shown.specs.Shown.{label}
+use Rattle.ps_watcher.specs.Shown.{label}
 
 -- the value of a name: of an instance a string, its DiagCode in four hexadecimal digits, and of others a truth value
 abbrev pub json_of : Name → ℕ → Json

@@ -19,8 +19,8 @@ use Rattle.ps_trace.specs.Scans.{Scans}
 use Rattle.ps_vcd.specs.Dumping.{has_begun, wire_count}
 use Rattle.ps_watcher.specs.Watched.{IsBegun}
 use Rattle.ps_watcher.specs.Watcher.{IsWatcherFor}
-use Rattle.ps_shown.specs.declared.format.Format.{Format}
-use Rattle.ps_shown.specs.declared.format.Format.TheVariants.{Text, Csv, Json}
+use Rattle.ps_watcher.specs.declared.format.Format.{Format}
+use Rattle.ps_watcher.specs.declared.format.Format.TheVariants.{Text, Csv, Json}
 use Rattle.ps_watching.specs.Asking.{body_in, head_in, seen_of_run}
 use Rattle.ps_watcher.specs.Dumped.{dump_text}
 use Rattle.ps_watcher.specs.Dumping.{IsDumperFor}

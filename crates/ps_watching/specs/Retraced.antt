@@ -10,11 +10,11 @@ use Rattle.ps_model.specs.Meaning.{Item, Meaning}
 use Rattle.ps_model.specs.Network.{Network}
 use Rattle.ps_model.specs.Scanning.{State}
 use Rattle.ps_model.specs.Sound.{IsSound}
-use Rattle.ps_recorded.specs.Recording.{log_trace}
+use Rattle.ps_logs.specs.Recording.{log_trace}
 use Rattle.ps_watching.specs.Logged.{HasLogNames, logged}
-use Rattle.ps_shown.specs.Lines.{head_text}
-use Rattle.ps_shown.specs.Names.{all_names}
-use Rattle.ps_shown.specs.declared.format.Format.TheVariants.{Csv}
+use Rattle.ps_watcher.specs.Lines.{head_text}
+use Rattle.ps_watcher.specs.Names.{all_names}
+use Rattle.ps_watcher.specs.declared.format.Format.TheVariants.{Csv}
 use Rattle.ps_trace.specs.Scans.{scans_of}
 use Rattle.ps_trace.specs.Scans.End.{whole as whole_trace}
 use Rattle.ps_watcher.specs.Watching.{watch_text}

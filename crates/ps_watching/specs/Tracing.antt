@@ -12,7 +12,7 @@ use Rattle.ps_logs.specs.Log.End.{whole, refused}
 use Rattle.ps_logs.specs.declared.flaw.LogRefusal.{LogRefusal}
 use Rattle.ps_model.specs.Network.{Network}
 use Rattle.ps_model.specs.declared.channel.ImageSizes.{ImageSizes}
-use Rattle.ps_recorded.specs.Recording.{log_trace}
+use Rattle.ps_logs.specs.Recording.{log_trace}
 
 -- what is so of the text of this name and of what an output took, where both are known
 abbrev pub WhereTold : Source → (log : List ℕ) → (tells : Bool) → (List ℕ → Type 0) → Type 0

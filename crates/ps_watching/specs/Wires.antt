@@ -8,7 +8,7 @@ use Rattle.ps_vcd.specs.Declarations.{header_text}
 use Rattle.ps_vcd.specs.declared.wire.Shape.{Shape}
 use Rattle.ps_vcd.specs.declared.wire.Shape.TheVariants as shape
 use Rattle.ps_vcd.specs.declared.wire.Wire.{Wire}
-use Rattle.ps_shown.specs.Shown.{label}
+use Rattle.ps_watcher.specs.Shown.{label}
 use Rattle.ps_watcher.specs.Parts.{parts_of}
 use Rattle.ps_watcher.specs.declared.parts.Part.{Part}
 use Rattle.ps_watcher.specs.declared.parts.Part.TheVariants.{Restart, Trip, Scan, Bit, Code, State}

@@ -16,11 +16,11 @@ ghost use Rattle.ps_watching.specs.Objects.{objects_seen, values_read};
 ghost use Rattle.ps_watching.specs.Reread.{IsInBits, scans_held};
 ghost use Rattle.ps_watching.specs.Retraced.{LogMeansTrace, TraceComesBack};
 ghost use Rattle.ps_watching.specs.Rows.{rows_seen, table_read};
-ghost use Rattle.ps_shown.specs.Lines.{csv_names, head_text};
-ghost use Rattle.ps_shown.specs.declared.format.Format.TheVariants.{Csv, Json};
+ghost use Rattle.ps_watcher.specs.Lines.{csv_names, head_text};
+ghost use Rattle.ps_watcher.specs.declared.format.Format.TheVariants.{Csv, Json};
 ghost use Rattle.ps_watcher.specs.Watching.{at_first, items_text};
 
-use ps_recorded::recorded_trace_is_read;
+use ps_logs::recorded_trace_is_read;
 use ps_top::laws::scans_in_order;
 use ps_vcd::read_back;
 

@@ -3,15 +3,15 @@
 ghost use Rattle.std.specs.Prelude.{◌≡◌, Some, IfOk, IfErr, map};
 ghost use Rattle.ps_base.specs.LetterCase.{is_same_name};
 ghost use Rattle.ps_bench_words.specs.Seen.{seen};
-ghost use Rattle.ps_shown.specs.Shown.{label};
+ghost use Rattle.ps_watcher.specs.Shown.{label};
 ghost use Rattle.ps_watching.specs.Asking as asking;
 ghost use Rattle.ps_watching.specs.Naming.{Adds, AreWatched, HasUnnamed, called_among, name_called};
 
 use ps_base::Memory;
 use ps_bench_words::Layout;
 use ps_model::App;
-use ps_shown::{Format, all_names, default_names, label_of};
 use ps_terms::Name;
+use ps_watcher::{Format, all_names, default_names, label_of};
 use std::alloc::Global;
 
 // Whether a name is called so, without letter case.

@@ -21,10 +21,9 @@ use ps_base::Memory;
 use ps_model::App;
 use ps_outside::{Files, Sink};
 use ps_runs::{Cut, Runner, StruckWorld, Watched, do_items};
-use ps_shown::Format;
 use ps_terms::Name;
 use ps_trace::TraceReader;
-use ps_watcher::{Dumper, Part, Watcher, watch_items};
+use ps_watcher::{Dumper, Format, Part, Watcher, watch_items};
 use std::alloc::Global;
 
 /// Who makes the scans of a run, and who writes what is watched of them.

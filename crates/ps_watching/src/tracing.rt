@@ -7,8 +7,8 @@ ghost use Rattle.ps_outside.specs.Outside.{Rose};
 ghost use Rattle.ps_watching.specs.Tracing.{AnswersIn, AnswersTrace, StopsTrace};
 
 use ps_bench_base::{Input, InputStop, Opened, Stop, open_app, refuse_log};
+use ps_logs::{RecordFail, record};
 use ps_outside::{Files, Output};
-use ps_recorded::{RecordFail, record};
 use std::alloc::Global;
 
 /// What `trace` is asked.

@@ -35,13 +35,12 @@ use ps_hearing::Listener;
 use ps_model::App;
 use ps_outside::{Files, Output, write_all};
 use ps_runs::{Cut, StruckWorld};
-use ps_shown::{Format, head_of};
 use ps_telling::tell_no_name;
 use ps_terms::Name;
 use ps_trace::{Faults, TraceReader};
 use ps_traced::{Expansion, Play, open_faults, open_play, open_trace, refuse_input};
 use ps_vcd::header_of;
-use ps_watcher::parts_of;
+use ps_watcher::{Format, head_of, parts_of};
 use ps_world::World;
 use std::alloc::Global;
 

@@ -2,15 +2,14 @@
 
 ghost use Rattle.std.specs.Prelude.{◌≡◌, IfOk, map};
 ghost use Rattle.ps_terms.specs.declared.name.Name.TheVariants as names;
-ghost use Rattle.ps_shown.specs.Shown.{label};
+ghost use Rattle.ps_watcher.specs.Shown.{label};
 ghost use Rattle.ps_watching.specs.Wires as wires;
 
 use ps_base::{Label, Memory};
 use ps_model::App;
-use ps_shown::label_of;
 use ps_terms::Name;
 use ps_vcd::{Shape, Wire};
-use ps_watcher::Part;
+use ps_watcher::{Part, label_of};
 use std::alloc::Global;
 
 // The scope of what is about the run, and not about the application: no name of the language has an `@`.

@@ -8,7 +8,7 @@ ghost use Rattle.ps_ways.specs.Stepping.{IsLastOf, conditions_of, pins_of};
 use ps_model::{Kind, auxiliary_pin, reset_pin};
 
 /// What a step keeps of the last one: its Reset, its auxiliary input, and the latched mode.
-#[derive(Clone, Copy, PartialEq, Eq, Debug)]
+#[derive(Clone, Copy)]
 pub struct LastStep {
     /// Reset was TRUE.
     pub reset: bool,
@@ -20,7 +20,7 @@ pub struct LastStep {
 
 /// What the guards of a step see: its pins, what became of Reset and of the auxiliary input since the last step,
 /// whether the limit has elapsed, and the modes.
-#[derive(Clone, Copy, PartialEq, Eq, Debug)]
+#[derive(Clone, Copy)]
 pub struct StepConditions {
     /// The Boolean input pins: bit j is pin j of the kind.
     pub pins: u32,

@@ -7,7 +7,7 @@ ghost use Rattle.ps_ways.specs.Stepping.{conditions_of};
 use crate::step::StepConditions;
 
 /// What a guard asks of a step: of its pins, of Reset, of the time, and of the modes of SF_ModeSelector.
-#[derive(Clone, Copy, PartialEq, Eq, Debug)]
+#[derive(Clone, Copy)]
 pub enum Ask {
     /// A Boolean input pin is TRUE, by its number, from 0.
     Pin(u8),
@@ -30,7 +30,7 @@ pub enum Ask {
 }
 
 /// A part of a guard: that something holds, or that it does not.
-#[derive(Clone, Copy, PartialEq, Eq, Debug)]
+#[derive(Clone, Copy)]
 pub enum Literal {
     /// Nothing is asked here, nor behind it.
     Any,
@@ -45,7 +45,7 @@ pub(crate) const ANY: Literal = Literal::Any;
 
 /// A way from a state to the next: all of its literals hold. A guard has one such way, or one for each of its
 /// alternatives, which stand one behind the other and have the guard's number.
-#[derive(Clone, Copy, PartialEq, Eq, Debug)]
+#[derive(Clone, Copy)]
 pub struct Way {
     /// The DiagCode of the state.
     pub state: u16,

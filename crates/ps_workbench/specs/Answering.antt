@@ -9,11 +9,11 @@ use Rattle.ps_campaigning.specs.Asking.{AnswersCampaign, StopsCampaign}
 use Rattle.ps_campaigning.specs.Summing.{AnswersSum, StopsSum}
 use Rattle.ps_cases.specs.Expanded.{expanded}
 use Rattle.ps_cases.specs.declared.case.CaseFile.{CaseFile}
-use Rattle.ps_comparing.specs.Asking.{AnswersSame, StopsSame}
+use Rattle.ps_same.specs.Asking.{AnswersSame, StopsSame}
 use Rattle.ps_coverage.specs.declared.format.Format.{Format}
 use Rattle.ps_explaining.specs.Asking as explaining
 use Rattle.ps_explaining.specs.Asking.{AnswersWhy, StopsWhy}
-use Rattle.ps_forbidding.specs.Asking.{AnswersNever, StopsNever}
+use Rattle.ps_never.specs.Asking.{AnswersNever, StopsNever}
 use Rattle.ps_live.specs.Asking.{AnswersLive, Fed, StopsLive}
 use Rattle.ps_model.specs.Network.{Network}
 use Rattle.ps_model.specs.declared.channel.Channel.{Channel}

@@ -17,13 +17,14 @@ use ps_base::Memory;
 use ps_bench_base::{Status, Stop, exit_code};
 use ps_bench_words::{Asked, asked_of, texts_of};
 use ps_campaigning::{CampaignAsked, campaign, sum};
-use ps_comparing::{SameAsked, same};
 use ps_explaining::{WhyAsked, why};
-use ps_forbidding::{NeverAsked, never};
 use ps_hearing::Listener;
 use ps_live::{LiveAsked, live};
+use ps_never::{NeverAsked, never};
 use ps_outside::{Files, Output, write_all};
 use ps_reporting::{ReportAsked, report};
+use ps_same::{SameAsked, same};
+use ps_search::Observer;
 use ps_stream::Stream;
 use ps_telling::{Names, tell};
 use ps_tester::{TestAsked, expand, test};
@@ -64,13 +65,14 @@ fn do_trace<F: Files, O: Output>(
 }
 
 // Does what is asked. Words that are not taken are told.
-fn do_asked<F: Files, I: Stream, O: Output, L: Listener>(
+fn do_asked<F: Files, I: Stream, O: Output, L: Listener, W: Observer>(
     alloc: Global,
     asked: &Asked<'_>,
     files: &mut F,
     input: &mut I,
     out: &mut O,
     listener: &mut L,
+    observer: &mut W,
 ) -> Result<Status, Stop>
     ensures answers { IfOk result (λ status.
         Answers (asked_seen asked.now) (fed (I.tells input.old) (I.coming input.old) (I.coming input.new))
@@ -160,7 +162,7 @@ fn do_asked<F: Files, I: Stream, O: Output, L: Listener>(
                 rules: *rules,
                 states: *states,
             };
-            never(alloc, files, out, &asked)
+            never(alloc, files, out, &asked, observer)
         }
         Asked::Same {
             app,
@@ -174,7 +176,7 @@ fn do_asked<F: Files, I: Stream, O: Output, L: Listener>(
                 rules: *rules,
                 states: *states,
             };
-            same(alloc, files, out, listener, &asked)
+            same(alloc, files, out, listener, &asked, observer)
         }
         Asked::Campaign {
             app,
@@ -320,13 +322,14 @@ fn stopped<O: Output, L: Listener>(
 }
 
 // Does what is asked, has the output hand on what it holds back, and tells why it stopped, where it did.
-fn end_asked<F: Files, I: Stream, O: Output, L: Listener>(
+fn end_asked<F: Files, I: Stream, O: Output, L: Listener, W: Observer>(
     alloc: Global,
     asked: &Asked<'_>,
     files: &mut F,
     input: &mut I,
     out: &mut O,
     listener: &mut L,
+    observer: &mut W,
 ) -> Status
     ensures answers { IsAnswered result →
         Answers (asked_seen asked.now) (fed (I.tells input.old) (I.coming input.old) (I.coming input.new))
@@ -340,7 +343,7 @@ fn end_asked<F: Files, I: Stream, O: Output, L: Listener>(
         (F.faults files.old) (F.faults files.new) (I.faults input.old) (I.faults input.new) }
     ensures unwritten { result ≡ StatusOf.WriteFault → Rose (O.faults out.old) (O.faults out.new) }
 {
-    let done = do_asked(alloc, asked, files, input, out, listener);
+    let done = do_asked(alloc, asked, files, input, out, listener, observer);
     match finished(done, out) {
         Ok(status) => status,
         Err(stop) => stopped(alloc, out, listener, &names_in(asked), stop),
@@ -348,13 +351,14 @@ fn end_asked<F: Files, I: Stream, O: Output, L: Listener>(
 }
 
 // Does what the words ask. An error: memory is wanting before anything was done.
-fn do_words<F: Files, I: Stream, O: Output, L: Listener>(
+fn do_words<F: Files, I: Stream, O: Output, L: Listener, W: Observer>(
     alloc: Global,
     words: &Words,
     files: &mut F,
     input: &mut I,
     out: &mut O,
     listener: &mut L,
+    observer: &mut W,
 ) -> Result<Status, Memory>
     ensures answers { IfOk result (λ status. IsAnswered status → (asked : asking.Asked) × Asks words.now asked
         × Answers asked (fed (I.tells input.old) (I.coming input.old) (I.coming input.new))
@@ -372,7 +376,7 @@ fn do_words<F: Files, I: Stream, O: Output, L: Listener>(
 {
     let texts = texts_of(alloc, words)?;
     let asked = asked_of(alloc, texts.as_slice())?;
-    Ok(end_asked(alloc, &asked, files, input, out, listener))
+    Ok(end_asked(alloc, &asked, files, input, out, listener, observer))
 }
 
 // The status of a call for which there is no memory before anything was done, and tells of it.
@@ -384,17 +388,18 @@ fn without_memory<L: Listener>(alloc: Global, listener: &mut L) -> Status
 }
 
 /// Does what the words ask, and says the number with which the program exits: all that the program does, over any
-/// files, any input, any output, and whoever is told in words why a call did not do all.
+/// files, any input, any output, whoever is told in words why a call did not do all, and whoever watches a search.
 ///
 /// `words` are those behind the program's name. The number is that of a status, 0 to 7. Nothing is told of an output
 /// that nobody reads any more.
-pub fn exit_of_call<F: Files, I: Stream, O: Output, L: Listener>(
+pub fn exit_of_call<F: Files, I: Stream, O: Output, L: Listener, W: Observer>(
     alloc: Global,
     words: &Words,
     files: &mut F,
     input: &mut I,
     out: &mut O,
     listener: &mut L,
+    observer: &mut W,
 ) -> u8
     // The number is that of a status. Where nothing stopped the call, the status and what was written are those of what
     // the words ask: of `test`, 0 exactly where every case passed, and else 4; of `never`, 0 where every rule holds,
@@ -417,7 +422,7 @@ pub fn exit_of_call<F: Files, I: Stream, O: Output, L: Listener>(
         (F.faults files.old) (F.faults files.new) (I.faults input.old) (I.faults input.new))))
         × (status ≡ StatusOf.WriteFault → Rose (O.faults out.old) (O.faults out.new)) }
 {
-    match do_words(alloc, words, files, input, out, listener) {
+    match do_words(alloc, words, files, input, out, listener, observer) {
         Ok(status) => exit_code(status),
         Err(Memory) => exit_code(without_memory(alloc, listener)),
     }

@@ -3,25 +3,28 @@
 ghost use Rattle.std.specs.Prelude.{◌≤◌};
 
 use crate::call::exit_of_call;
+use crate::progress::ProgressLine;
 use ps_bench_base::{Status, exit_code};
 use ps_edge::words_given;
-use ps_hearing::StandardError;
+use ps_hearing::{Listener, StandardError};
 use ps_outside::{DiskFiles, StdSink};
 use ps_stream::StdStream;
 use ps_words::Words;
 use std::io::{BufWriter, Eprint, Input, Print};
-use std::rt::Env;
+use std::rt::{Clock, Env};
 use std::{env, io, rt};
 
 // Does what the words ask, over the files, the standard input and the standard output of the system.
-fn exit_of_words<R: Env + rt::Files + Input + Print + Eprint + AllocGlobal>(
+fn exit_of_words<R: Env + rt::Files + Input + Print + Eprint + Clock + AllocGlobal>(
     system: &R,
     words: &Words,
+    is_terminal: bool,
 ) -> u8
     ensures in_range { result ≤ 7 }
 {
     let alloc = system.alloc();
     let mut listener = StandardError::new(system);
+    let mut line = ProgressLine::new(system, is_terminal && !listener.is_quiet());
     match BufWriter::new(alloc, io::writer(system)) {
         Ok(out) => {
             let mut files = DiskFiles::new(system);
@@ -34,18 +37,23 @@ fn exit_of_words<R: Env + rt::Files + Input + Print + Eprint + AllocGlobal>(
                 &mut input,
                 &mut sink,
                 &mut listener,
+                &mut line,
             )
         }
         Err(_) => exit_code(Status::Memory),
     }
 }
 
-/// Does all that the program does, and says the number with which it exits: 0 to 7, or 8 where there are no words.
-pub fn exit_of_program<R: Env + rt::Files + Input + Print + Eprint + AllocGlobal>(system: &R) -> u8
+/// Does all that the program does, and says the number with which it exits: 0 to 7, or 8 where there are no words. Where
+/// standard error is a terminal, it tells there how far a search has come, unless no messages are asked for.
+pub fn exit_of_program<R: Env + rt::Files + Input + Print + Eprint + Clock + AllocGlobal>(
+    system: &R,
+    is_terminal: bool,
+) -> u8
     ensures in_range { result ≤ 8 }
 {
     match words_given(system.alloc(), env::args(system)) {
-        Ok(words) => exit_of_words(system, &words),
+        Ok(words) => exit_of_words(system, &words, is_terminal),
         Err(number) => number,
     }
 }

@@ -273,6 +273,31 @@ impl World {
         self.tripped = false;
     }
 
+    /// Becomes what another world of the same application is. It takes no memory.
+    pub fn copy_from(&mut self, other: &World)
+        requires { self.old.setup ≡ other.now.setup }
+        ensures { self.new ≡ other.now }
+    {
+        self.a.copy_from(&other.a);
+        self.b.copy_from(&other.b);
+        self.last = other.last;
+        self.begun = other.begun;
+        self.tripped = other.tripped;
+    }
+
+    /// True only where this is what another world of the same application is: code, cells and turns of both channels, and
+    /// where the scan stands.
+    pub fn is_twin_of(&self, other: &World) -> bool
+        requires { self.now.setup ≡ other.now.setup }
+        ensures { result ≡ true → self.now ≡ other.now }
+    {
+        self.last == other.last
+            && self.begun == other.begun
+            && self.tripped == other.tripped
+            && self.a.is_twin_of(&other.a)
+            && self.b.is_twin_of(&other.b)
+    }
+
     /// Makes a scan by the order of events of a run, where `faults` are those of the scan in the order of the fault
     /// file: the Spoils before it, Begin, turns of A and B in turn with the Spoils before each, and Compare. In a
     /// tripped world it is Compare alone. Verdict and report are those of the Compare. It takes no memory.

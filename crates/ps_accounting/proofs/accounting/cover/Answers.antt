@@ -1,5 +1,5 @@
 use Rattle.std.proofs.Common.{ℕ, IsTrue, List, Option, sym, subst}
-use Rattle.ps_sourced.specs.Sourcing.{IsSourceOf}
+use Rattle.ps_bench_base.specs.Sourcing.{IsSourceOf}
 use Rattle.ps_accounting.specs.Asking.{wanted_by}
 use Rattle.ps_accounting.proofs.Coming.{answered, moved, stops, unread_since}
 use Rattle.ps_accounting.proofs.accounting.cover.Goals as goal

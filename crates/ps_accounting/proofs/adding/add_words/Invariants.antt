@@ -1,5 +1,5 @@
 use Rattle.std.proofs.Common.{◌≡◌, ◌≤◌, ℕ, IsTrue, List, take}
-use Rattle.ps_alone.specs.Applying.{ScanStep}
+use Rattle.ps_cover.specs.Applying.{ScanStep}
 use Rattle.ps_bench_base.specs.Opening.{source}
 use Rattle.ps_cover.specs.Tallied.{KnowsTraces}
 use Rattle.ps_accounting.specs.Adding.{AreScansAll}

@@ -1,6 +1,6 @@
 use Rattle.std.proofs.Common.{◌≡◌, ap, subst, sym}
 use Rattle.std.specs.Prelude.{OnOk}
-use Rattle.ps_alone.specs.Applying.{scans_of}
+use Rattle.ps_cover.specs.Applying.{scans_of}
 use Rattle.ps_model.specs.Meaning.{nothing}
 use Rattle.ps_runs.specs.Watching.{StandsAt}
 use Rattle.ps_cover.specs.Covers.{IsAt, Knows}

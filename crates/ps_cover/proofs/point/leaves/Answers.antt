@@ -1,7 +1,7 @@
 use Rattle.std.proofs.Common.{sym, ap, ◌∙◌, ◌||◌}
 use Rattle.std.specs.Prelude.{◌==◌}
 use Rattle.ps_pins.specs.Reading.{read_in}
-use Rattle.ps_points.specs.Deciding.{is_value}
+use Rattle.ps_marks.specs.Deciding.{is_value}
 use Rattle.ps_cover.proofs.Deciding.{value_of}
 use Rattle.ps_cover.proofs.point.leaves.Goals as goal
 

@@ -1,6 +1,6 @@
 use Rattle.std.proofs.Common.{ℕ, IsTrue, List, Option, sym, subst}
 use Rattle.ps_bench_base.specs.Meant.{file_meant}
-use Rattle.ps_sourced.specs.Sourcing.{IsSourceOf}
+use Rattle.ps_bench_base.specs.Sourcing.{IsSourceOf}
 use Rattle.ps_explaining.specs.Asking.{wanted_by}
 use Rattle.ps_explaining.proofs.Coming.{answered, moved, stops, unread_since}
 use Rattle.ps_explaining.proofs.explaining.why.Goals as goal

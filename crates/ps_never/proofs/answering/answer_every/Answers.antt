@@ -1,24 +1,24 @@
 use Rattle.std.proofs.Common.{◌∙◌, List, length, sym, ap}
 use Rattle.ps_rules.specs.declared.rules.Rule.{Rule}
-use Rattle.ps_ruling.specs.Asked.{IsRuleOf}
+use Rattle.ps_never.specs.Asked.{IsRuleOf}
 use Rattle.ps_never.specs.Telling.{told_text}
 use Rattle.ps_never.proofs.Alike.{as_many, says_of_each}
 use Rattle.ps_never.proofs.answering.answer_every.Goals as goal
 
 pub never-requires-clause-says : goal.never-requires-clause-says
-never-requires-clause-says c = says_of_each c.args.app.now c.args.file.now c.args.every c.in_ok-asked.asked c.in_ok-asked.ensures.asks
+never-requires-clause-says g c = says_of_each c.args.app.now c.args.file.now c.args.every c.in_ok-asked.asked c.in_ok-asked.ensures.asks
 
 pub told-requires-clause-says : goal.told-requires-clause-says
-told-requires-clause-says c = says_of_each c.args.app.now c.args.file.now c.args.every c.in_ok-asked.asked c.in_ok-asked.ensures.asks
+told-requires-clause-says g c = says_of_each c.args.app.now c.args.file.now c.args.every c.in_ok-asked.asked c.in_ok-asked.ensures.asks
 
 pub told-requires-clause-each : goal.told-requires-clause-each
-told-requires-clause-each c =
+told-requires-clause-each g c =
     c.in_ok-found.ensures.answers.each
     ∙ as_many (IsRuleOf c.args.app.now) c.args.file.now.rules c.in_ok-asked.asked.rules.items c.in_ok-asked.ensures.asks.rules
     ∙ ap (λ (rules : List Rule). length rules) (sym c.as_slice.ensures)
 
 pub returns-clause-tells : goal.returns-clause-tells
-returns-clause-tells c = record {
+returns-clause-tells g c = record {
   every = c.args.every;
   asked = c.in_ok-asked.asked;
   found = c.in_ok-found.found;

@@ -7,7 +7,7 @@ use Rattle.ps_same.proofs.Sharing.{follows_shared}
 use Rattle.ps_same.proofs.answering.answer_by.Goals as goal
 
 pub returns-then-free_inputs-clause-many : goal.returns-then-free_inputs-clause-many
-returns-then-free_inputs-clause-many c = λ e. record {
+returns-then-free_inputs-clause-many g c = λ e. record {
   every = c.in-Every.every;
   asked = c.in_ok-asked.asked;
   asks = record {
@@ -19,17 +19,17 @@ returns-then-free_inputs-clause-many c = λ e. record {
 }
 
 pub compare-requires-clause-says : goal.compare-requires-clause-says
-compare-requires-clause-says c =
+compare-requires-clause-says g c =
     says_of_each c.args.compared.now.app.now c.args.compared.now.other.now c.args.file.now c.in_ok-asked.asked
     (c.in_ok-asked.ensures.inputs ∙ c.in_ok-inputs.ensures)
 
 pub told-requires-clause-says : goal.told-requires-clause-says
-told-requires-clause-says c =
+told-requires-clause-says g c =
     says_of_each c.args.compared.now.app.now c.args.compared.now.other.now c.args.file.now c.in_ok-asked.asked
     (c.in_ok-asked.ensures.inputs ∙ c.in_ok-inputs.ensures)
 
 pub returns-clause-tells : goal.returns-clause-tells
-returns-clause-tells c =
+returns-clause-tells g c =
     let net = c.args.compared.now.app.now in
     let other = c.args.compared.now.other.now in
     let inputs = c.in_ok-asked.ensures.inputs ∙ c.in_ok-inputs.ensures in

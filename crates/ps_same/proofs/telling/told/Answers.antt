@@ -4,7 +4,7 @@ use Rattle.std.proofs.lemmas.Grind.{common_steps}
 use Rattle.ps_reach.specs.declared.asked.Asked.{Asked}
 use Rattle.ps_search.specs.declared.answer.Found.{Found}
 use Rattle.ps_search.specs.declared.answer.Path.{Path}
-use Rattle.ps_verdict.specs.Comparing.{Two, two_of}
+use Rattle.ps_counted.specs.Comparing.{Two, two_of}
 use Rattle.ps_same.specs.Telling.{IsSaid}
 use Rattle.ps_same.proofs.telling.told.Goals as goal
 

@@ -1,10 +1,10 @@
-use Rattle.std.proofs.Common.{◌≡◌, ◌∙◌, ◌+◌}
+use Rattle.std.proofs.Common.{◌≡◌, ◌∙◌, ◌+◌, arith}
 use Rattle.ps_course.specs.Courses.{items_in}
 use Rattle.ps_tally.specs.Tallies.{Result_of, counted}
 use Rattle.ps_trials.specs.Faults.{fault_by}
 use Rattle.ps_trials.specs.Trials.{trial_of}
 use Rattle.ps_world.specs.Whole.{machines_in}
-use Rattle.ps_trialed.specs.Campaigns.{result_of}
+use Rattle.ps_trialed.specs.Campaigns.{campaign, result_of}
 use Rattle.ps_trialed.specs.Showing.{outcome_of}
 use Rattle.ps_trialed.proofs.Counting.{one_more}
 use Rattle.ps_trialed.proofs.campaigning.run_campaign.Goals as goal
@@ -26,6 +26,16 @@ loop-done-preserved c = record {
       ∙ (λ i. outcome_of net m items (fault_by (c.in_ok-codes.ensures.a i) (c.in_ok-codes.ensures.b i) (trial_is i))) in
       c.count.ensures ∙ (λ i. counted tally (trial_is i).channel (trial_is i).region (outcome_is i))
       ∙ one_more (result_of net m items room) from done tally (c.loop-done.invariant.counts setup is);
+  setup = c.in_ok-outcome.ensures.setup;
   outputs = c.in_ok-outcome.ensures.outputs;
   diagnoses = c.in_ok-outcome.ensures.diagnoses;
+}
+
+pub returns : goal.returns
+returns c = record {
+  counts = λ setup is.
+      let items = items_in c.args.course.now.steps.items in
+      let all : c.loop-done.done ≡ c.args.asked.now.count = omega arith in
+      c.loop-done.invariant.counts setup is
+      ∙ (λ i. campaign c.args.app.now (machines_in setup) items (c.room_of-room.ensures i) c.args.asked.now.from (all i));
 }

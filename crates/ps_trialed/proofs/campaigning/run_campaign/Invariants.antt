@@ -11,6 +11,7 @@ abbrev pub invariant-loop-done : goal.invariant-loop-done
 invariant-loop-done l = record {
   counts : (setup : Setup) → IsSetupOf l.app setup →
       l.tally ≡ all_counted none_counted (map (result_of l.app (machines_in setup) (items_in l.course.steps.items) l.room) (range_with_len l.asked.from l.done));
+  setup : IsSetupOf l.app l.world.setup;
   outputs : length l.report.outs ≡ length l.app.outputs;
   diagnoses : length l.report.diags ≡ instance_count l.app;
 }

@@ -1,20 +1,25 @@
 use Rattle.std.proofs.Common.{◌≡◌, ◌∙◌, List, [], ◌∷◌, length, sym, ap, subst}
-use Rattle.ps_course.specs.Courses.{items_in, meant_in}
+use Rattle.ps_course.specs.Courses.{items_in}
 use Rattle.ps_course.specs.declared.step.Step.{Step}
 use Rattle.ps_model.specs.Network.{instance_count}
 use Rattle.ps_model.specs.declared.channel.Fault.{Fault}
 use Rattle.ps_trials.specs.Faults.{fault_by}
-use Rattle.ps_world.specs.Answers.{answers}
 use Rattle.ps_world.specs.Whole.{machines_in}
-use Rattle.ps_trialed.specs.Showing.{outcome_of, shown, time_in}
+use Rattle.ps_world.specs.Worlds.{world_0}
+use Rattle.ps_trialed.specs.Marks.{AreMarks, shown_from}
+use Rattle.ps_trialed.specs.Showing.{outcome_of, time_in}
 use Rattle.ps_trialed.proofs.Trying.{outcome_is}
 use Rattle.ps_trialed.proofs.campaigning.try_trial.Goals as goal
+
+pub run_trial-requires-clause-marks : goal.run_trial-requires-clause-marks
+run_trial-requires-clause-marks c =
+    subst (λ (ss : List Step). AreMarks c.args.app.now ss c.args.marks.now) (sym c.as_slice-steps.ensures.value) c.requires.marks
 
 pub returns-clause-outcome : goal.returns-clause-outcome
 returns-clause-outcome c = λ setup is.
     let net = c.args.app.now in
     let t = c.args.trial.now in
-    let w = c.in_ok-world.world in
+    let own = c.args.world.now.setup in
     let steps = c.args.course.now.steps.items in
     let items = items_in steps in
     let f = c.in_ok-fault.fault in
@@ -23,10 +28,9 @@ returns-clause-outcome c = λ setup is.
     let struck_is : struck ≡ time_in f.scan items =
     c.time_in-struck.ensures ∙ ap (λ (ss : List Step). time_in t.scan (items_in ss)) there
     ∙ ap (λ (x : Fault). time_in x.scan items) (sym c.in_ok-fault.ensures) in
-    let shows : c.run_trial.result ≡ shown struck items (meant_in steps)
-    (answers (machines_in w.setup) (length net.outputs) (instance_count net) (f ∷ []) 1 items w.state) =
-    c.run_trial.ensures.shows ∙ ap (λ (ss : List Step). shown struck (items_in ss) (meant_in ss)
-    (answers (machines_in w.setup) (length net.outputs) (instance_count net) (f ∷ []) 1 (items_in ss) w.state)) there in
+    let shows : c.run_trial.result ≡ shown_from (machines_in own) (length net.outputs) (instance_count net) (f ∷ []) struck 0 steps (world_0 (machines_in own)) =
+    c.run_trial.ensures.shows
+    ∙ ap (λ (ss : List Step). shown_from (machines_in own) (length net.outputs) (instance_count net) (f ∷ []) struck 0 ss (world_0 (machines_in own))) there in
     subst (λ (x : Fault). c.run_trial.result ≡ outcome_of net (machines_in setup) items x)
     (c.in_ok-fault.ensures ∙ (λ i. fault_by (c.as_slice.ensures.bytes i) (c.as_slice-2.ensures.bytes i) t))
-    (outcome_is net w setup items (meant_in steps) f struck c.run_trial.result c.in_ok-world.ensures is c.requires.course.meant struck_is shows)
+    (outcome_is net own setup steps f struck c.run_trial.result c.requires.setup is c.requires.course.meant struck_is shows)

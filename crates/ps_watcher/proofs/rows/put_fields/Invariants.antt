@@ -1,5 +1,5 @@
 use Rattle.std.proofs.Common.{◌≡◌, ◌≤◌, ◌+◌, ◌++◌, drop, length}
-use Rattle.ps_shown.specs.Lines.{fields_text}
+use Rattle.ps_watcher.specs.Lines.{fields_text}
 use Rattle.ps_watcher.specs.Room.{cells_of, columns_room}
 use Rattle.ps_watcher.proofs.rows.put_fields.Given as goal
 

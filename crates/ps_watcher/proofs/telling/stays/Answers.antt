@@ -1,6 +1,6 @@
 use Rattle.std.proofs.Common.{◌≡◌, ◌==◌, ◌∙◌, ℕ, false, Option, Some, None, refl}
 use Rattle.std.specs.Option.{option_map_or}
-use Rattle.ps_shown.specs.Lines.{stays}
+use Rattle.ps_watcher.specs.Lines.{stays}
 use Rattle.ps_watcher.proofs.telling.stays.Goals as goal
 
 same : (before : Option ℕ) (value : ℕ) → option_map_or (λ (u : ℕ). u == value) before false ≡ stays before value

@@ -4,7 +4,7 @@ use Rattle.ps_bench_base.specs.Opening.{source}
 use Rattle.ps_bench_base.specs.declared.ending.Stop.TheVariants.{Unwritten}
 use Rattle.ps_logs.specs.Log.{log_of}
 use Rattle.ps_logs.specs.Log.End.{whole}
-use Rattle.ps_recorded.specs.Recording.{log_trace}
+use Rattle.ps_logs.specs.Recording.{log_trace}
 use Rattle.ps_watching.proofs.Recorded.{began, of_text, refused_at}
 use Rattle.ps_watching.proofs.tracing.trace_app.Goals as goal
 

@@ -2,7 +2,7 @@ use Rattle.std.proofs.Common.{◌≡◌, ◌∙◌, ◌≤◌, ℕ, List, Option
 use Rattle.std.specs.Prelude.{is_none, slice_get}
 use Rattle.std.specs.Vec.{with_items}
 use Rattle.std.proofs.lemmas.List.{with_items_is}
-use Rattle.ps_points.specs.Clock.{since}
+use Rattle.ps_marks.specs.Clock.{since}
 use Rattle.ps_cover.specs.Covers.{time_of}
 use Rattle.ps_model.specs.Meaning.{last, last_time, old_state, passed}
 use Rattle.ps_model.specs.Scanning.{Solves}

@@ -1,3 +1,0 @@
--- What the arrangement cites.
-pub mod Ranges
-pub mod Taking

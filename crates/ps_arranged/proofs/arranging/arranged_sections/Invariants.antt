@@ -1,7 +1,0 @@
-use Rattle.std.proofs.Common.{◌≡◌}
-use Rattle.std.specs.List.{flat_map, range_with_len}
-use Rattle.ps_arranged.specs.Arranging.{is_shared_at, taken}
-use Rattle.ps_arranged.proofs.arranging.arranged_sections.Given as goal
-
-abbrev pub invariant-loop-s : goal.invariant-loop-s
-invariant-loop-s l = l.written ≡ flat_map (λ s. taken (is_shared_at l.app s) l.sections) (range_with_len 0 l.s)

@@ -1,9 +1,0 @@
-use Rattle.std.proofs.Common.{◌≡◌, ◌++◌, drop}
-use Rattle.std.specs.List.{flat_map}
-use Rattle.ps_arranged.specs.Arranging.{taken_section}
-use Rattle.ps_arranged.specs.Wanting.{wants}
-use Rattle.ps_arranged.proofs.copying.add_taken.Given as goal
-
-abbrev pub invariant-loop-section : goal.invariant-loop-section
-invariant-loop-section l =
-    l.written ++ flat_map (taken_section (wants l.wanted)) (drop l.section-index l.sections) ≡ l.initial.written ++ flat_map (taken_section (wants l.wanted)) l.sections

@@ -1,2 +1,0 @@
--- how the call ends, by what stood before its parts
-pub mod Coming

@@ -1,2 +1,0 @@
--- what `never` is asked, what it writes by that, and how it stops
-pub mod Asking

@@ -1,2 +1,0 @@
-mod Quoting
-mod Ranges

@@ -1,2 +1,0 @@
--- what a text gives, by what its bytes give
-pub mod Giving

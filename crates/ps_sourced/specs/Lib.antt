@@ -1,2 +1,0 @@
--- what a text gives besides its application
-pub mod Sourcing

@@ -1,4 +1,0 @@
-pub mod Pacing
-pub mod Saying
-pub mod Finding
-pub mod Joining

@@ -5,5 +5,3 @@ pub mod Identifiers
 pub mod Fields
 pub mod Marks
 pub mod Counts
--- which cases passed, how many failed, and which lines are from a line on
-pub mod Passed

@@ -15,8 +15,8 @@ use Rattle.ps_model.proofs.Keeping.{count_down}
 use Rattle.ps_rows.specs.Counted.{kept_of}
 use Rattle.ps_cover.specs.Applying.{ScanStep}
 use Rattle.ps_cover.specs.Marks.{marked}
-use Rattle.ps_marks.specs.Marks.{made, number_taken}
-use Rattle.ps_marks.specs.Moving.{moved_by}
+use Rattle.ps_ways.specs.Marks.{made, number_taken}
+use Rattle.ps_ways.specs.Moving.{moved_by}
 use Rattle.ps_cover.specs.Blocks.{called_in, moved_in}
 use Rattle.ps_cover.specs.Covering.{AreCalls, AreScanned, makes_in, operands_in, point_of, shows_in}
 use Rattle.ps_cover.specs.Covers.{StandsFor, idle_call, idle_step}
@@ -25,7 +25,7 @@ use Rattle.ps_cover.specs.Points.{decides, makes_at, shows}
 use Rattle.ps_pins.specs.Reading.{read_in}
 use Rattle.ps_pins.proofs.Between.{reads_are as read_as}
 use Rattle.ps_cover.specs.declared.block.Called.{Called}
-use Rattle.ps_marks.specs.declared.moving.Moved.{Moved}
+use Rattle.ps_ways.specs.declared.moving.Moved.{Moved}
 use Rattle.ps_cover.specs.declared.point.Point.{Point}
 use Rattle.ps_cover.specs.declared.point.Point.TheVariants.{Mark, Value, Decides}
 use Rattle.ps_cover.proofs.Calling.{no_call}

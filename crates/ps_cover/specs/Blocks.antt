@@ -5,8 +5,8 @@ use Rattle.ps_model.specs.Network.{Network, kind_at}
 use Rattle.ps_model.specs.Scanning.{limit_of, pins_under}
 use Rattle.ps_pins.specs.Reading.{read_in}
 use Rattle.ps_cover.specs.declared.block.Called.{Called}
-use Rattle.ps_marks.specs.Moving.{moved_by}
-use Rattle.ps_marks.specs.declared.moving.Moved.{Moved}
+use Rattle.ps_ways.specs.Moving.{moved_by}
+use Rattle.ps_ways.specs.declared.moving.Moved.{Moved}
 use Rattle.ps_pins.specs.declared.signals.Signals.{Signals}
 
 -- what a step makes of the block that it calls

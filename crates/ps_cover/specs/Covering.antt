@@ -6,7 +6,7 @@ use Rattle.ps_model.specs.Exprs.{formula}
 use Rattle.ps_model.specs.Network.{Network, kind_at}
 use Rattle.ps_model.specs.Stored.{IsKept}
 use Rattle.ps_rows.specs.Counted.{kept_of}
-use Rattle.ps_marks.specs.Marks.{made}
+use Rattle.ps_ways.specs.Marks.{made}
 use Rattle.ps_cover.specs.Blocks.{called_in}
 use Rattle.ps_cover.specs.Points as points
 use Rattle.ps_model.specs.Formula.{Formula}

@@ -9,7 +9,7 @@ use Rattle.ps_model.specs.Network.{Network, kind_at}
 use Rattle.ps_model.specs.Scanning.{block_in, limit_of}
 use Rattle.ps_rows.specs.Counted.{kept_of}
 use Rattle.ps_cover.specs.Applying.{ScanStep}
-use Rattle.ps_marks.specs.Moving.{counted_of}
+use Rattle.ps_ways.specs.Moving.{counted_of}
 use Rattle.ps_marks.specs.Clock.{since}
 use Rattle.ps_cover.specs.Covering.{AreCalls, AreScanned, Looks, point_of}
 use Rattle.ps_cover.specs.Points.{shows}

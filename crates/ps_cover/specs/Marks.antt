@@ -1,7 +1,7 @@
 -- Which ways and states a step of a block is of.
 use Rattle.std.specs.Prelude.{◌-◌, ℕ, Bool, ◌&&◌, ◌==◌, length, nat_lt, slice_get}
 use Rattle.std.specs.Prelude.{if◌then◌else◌}
-use Rattle.ps_marks.specs.Marks.{number_taken, of_way}
+use Rattle.ps_ways.specs.Marks.{number_taken, of_way}
 use Rattle.ps_model.specs.Blocks.{next}
 use Rattle.ps_model.specs.Table.{Conditions}
 use Rattle.ps_model.specs.declared.kind.Kind.{Kind}

@@ -1,16 +1,16 @@
 // The block of a call, step by step, and the marks of its steps.
 
 ghost use Rattle.std.specs.Prelude.{◌≡◌, ℕ, option_map, slice_get};
-ghost use Rattle.ps_marks.specs.Marks.{made};
+ghost use Rattle.ps_ways.specs.Marks.{made};
 ghost use Rattle.ps_cover.specs.Blocks.{called_in};
 ghost use Rattle.ps_cover.specs.Covers.{idle_call, idle_step};
 ghost use Rattle.ps_cover.specs.Covering.{AreCalls, AreScanned, IsCallKept};
 
 use ps_machine::call_limit;
-use ps_marks::{Moved, Taken, moved_by};
 use ps_model::{App, Kind, Step};
 use ps_pins::{Signals, read_pins};
 use ps_rows::CountedBlock;
+use ps_ways::{Moved, Taken, moved_by};
 
 /// A step of an application, with the block that it calls, if it calls one.
 #[derive(Clone, Copy)]

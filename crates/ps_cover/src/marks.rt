@@ -3,10 +3,10 @@
 ghost use Rattle.std.specs.Prelude.{◌≡◌, ◌<◌, ℕ, false, length, slice_index_or};
 ghost use Rattle.ps_model.specs.Blocks.{next};
 ghost use Rattle.ps_model.specs.Table.{Conditions};
-ghost use Rattle.ps_marks.specs.Marks.{number_taken};
+ghost use Rattle.ps_ways.specs.Marks.{number_taken};
 ghost use Rattle.ps_cover.specs.Marks.{marked};
 
-use ps_marks::Taken;
+use ps_ways::Taken;
 
 /// Says of each mark whether a step makes it.
 pub fn mark_taken(taken: &Taken, met: &mut [bool])

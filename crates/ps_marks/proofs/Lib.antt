@@ -1,4 +1,2 @@
--- What the steps and the fixed pins cite.
+-- What the fixed pins cite.
 pub mod Allowing
-mod Marking
-pub mod Pins

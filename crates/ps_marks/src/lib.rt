@@ -1,7 +1,5 @@
-//! The step of a block, the pins that have one value in every scan, and small rules of what scans show.
+//! The pins that have one value in every scan, and small rules of what scans show.
 //!
-//! - `moving`: a step of a block, with the guard by which it leaves its state.
-//! - `taken`: the ways and states that a step is of.
 //! - `fixed`: pins that have one value in every scan.
 //! - `trying`: what the search of a block without times tries.
 //! - `deciding`: whether an operand leaves the decision to another one.
@@ -13,14 +11,10 @@ mod clock;
 mod deciding;
 mod fixed;
 mod missing;
-mod moving;
-mod taken;
 mod trying;
 
 pub use clock::Clock;
 pub use deciding::{is_and, is_value, leaves_decision};
 pub use fixed::{allows, are_same, is_on};
 pub use missing::{is_missed, seen_with};
-pub use moving::{Moved, moved_by, number_taken};
-pub use taken::Taken;
 pub use trying::{does_close, input_count, passed_if};

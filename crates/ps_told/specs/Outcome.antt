@@ -1,6 +1,6 @@
 -- A case that was run, and how many were told.
 use Rattle.std.specs.Prelude.{ℕ, ◌+◌, Bool, List, length, min}
-use Rattle.ps_changes.specs.Passed.{failed_behind, has_passed}
+use Rattle.ps_judge.specs.Passed.{failed_behind, has_passed}
 use Rattle.ps_cases.specs.declared.case.Case.{Case}
 use Rattle.ps_cases.specs.declared.case.CaseFile.{CaseFile}
 use Rattle.ps_rig.specs.declared.run.CaseOutcome.{CaseOutcome}

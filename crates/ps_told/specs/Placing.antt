@@ -1,6 +1,6 @@
 -- Statements by their lines.
 use Rattle.std.specs.Prelude.{ℕ, List, [], ◌∷◌, if◌then◌else◌}
-use Rattle.ps_changes.specs.Passed.{is_from}
+use Rattle.ps_judge.specs.Passed.{is_from}
 use Rattle.ps_cases.specs.declared.case.Statement.{Statement}
 
 -- statements from a line on

@@ -4,7 +4,7 @@ ghost use Rattle.std.specs.Prelude.{◌≡◌};
 ghost use Rattle.ps_told.specs.Outcome.{counted, none_told, passes, ran_of};
 
 use ps_cases::{Case, CaseFile};
-use ps_changes::{failed_behind, has_passed};
+use ps_judge::{failed_behind, has_passed};
 use ps_model::App;
 use ps_rig::CaseOutcome;
 

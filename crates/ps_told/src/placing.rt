@@ -4,7 +4,7 @@ ghost use Rattle.std.specs.Prelude.{◌≡◌};
 ghost use Rattle.ps_told.specs.Placing.{from_line};
 
 use ps_cases::Statement;
-use ps_changes::is_from;
+use ps_judge::is_from;
 
 /// The statements from a line on, where they stand in the order of their lines. It takes no memory.
 pub fn from_line(statements: &[Statement], line: u32) -> &[Statement]

@@ -2,3 +2,6 @@
 pub mod Choices
 pub mod Agreeing
 pub mod EachKind
+-- of the marks of a step, and of pins in a number
+mod Marking
+pub mod Pins

@@ -4,3 +4,6 @@ pub mod Ways
 pub mod Tables
 pub mod Stepping
 pub mod Calling
+-- which ways and states a step is of, and a step of a block as the code keeps it
+pub mod Marks
+pub mod Moving

@@ -4,6 +4,8 @@
 //! - `way`: a way, and whether what it asks holds. `step`: what the guards of a step see.
 //! - `equivalent` to `edm`: the ways of each kind, as a static that the definitions import.
 //! - `table`: the ways by kind, and which of them a step takes.
+//! - `moving`: a step of a block, with the guard by which it leaves its state. `taken`: the ways and states that a step
+//!   is of.
 //! - `laws`: the ways are those of the transition tables.
 #![tactic(auto)]
 
@@ -15,15 +17,19 @@ mod guard_locking;
 mod guard_monitoring;
 pub mod laws;
 mod modes;
+mod moving;
 mod out_control;
 mod safety_request;
 mod step;
 mod stop;
 mod table;
+mod taken;
 mod two_hand_three;
 mod two_hand_two;
 mod way;
 
+pub use moving::{Moved, moved_by, number_taken};
 pub use step::{LastStep, StepConditions};
 pub use table::{guard_taken, ways};
+pub use taken::Taken;
 pub use way::{Ask, Literal, Way};

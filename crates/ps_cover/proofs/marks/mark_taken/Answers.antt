@@ -2,7 +2,7 @@ use Rattle.std.proofs.Common.{◌≡◌, ◌+◌, ◌<◌, ◌≤◌, ◌⊎◌,
 use Rattle.std.specs.Prelude.{slice_index_or}
 use Rattle.std.proofs.lemmas.Bool.{cases_lt}
 use Rattle.std.proofs.lemmas.List.{length-set, get_or-set_same, get_or-set_other}
-use Rattle.ps_marks.specs.Marks.{made}
+use Rattle.ps_ways.specs.Marks.{made}
 use Rattle.ps_cover.proofs.marks.mark_taken.Goals as goal
 
 -- what was so of the marks before one, and is of this one, is so of those before the next

@@ -2,7 +2,7 @@ use Rattle.std.proofs.Common.{◌≡◌, ◌<◌, ℕ, false, length, slice_inde
 use Rattle.ps_model.specs.Blocks.{next}
 use Rattle.ps_model.specs.Table.{Conditions}
 use Rattle.ps_cover.specs.Marks.{marked}
-use Rattle.ps_marks.specs.Marks.{number_taken}
+use Rattle.ps_ways.specs.Marks.{number_taken}
 use Rattle.ps_cover.proofs.marks.mark_taken.Given as goal
 
 abbrev pub invariant-loop-mark : goal.invariant-loop-mark

@@ -2,11 +2,11 @@ use Rattle.std.proofs.Common.{◌≡◌, sym, ap, ◌∙◌, Some, slice_get}
 use Rattle.ps_model.specs.Action.{calls}
 use Rattle.ps_model.specs.Scanning.{limit_of, pins_under}
 use Rattle.ps_model.specs.Steps.{action}
-use Rattle.ps_marks.specs.Moving.{moved_by}
+use Rattle.ps_ways.specs.Moving.{moved_by}
 use Rattle.ps_cover.specs.Blocks.{moved_in}
 use Rattle.ps_pins.specs.Reading.{read_in}
 use Rattle.ps_cover.specs.declared.block.Called.{Called}
-use Rattle.ps_marks.specs.declared.moving.Moved.{Moved}
+use Rattle.ps_ways.specs.declared.moving.Moved.{Moved}
 use Rattle.ps_cover.proofs.block.Called.scanned.Goals as goal
 
 pub returns-in-Call-clause-scans : goal.returns-in-Call-clause-scans

@@ -1,7 +1,7 @@
 use Rattle.std.proofs.Common.{◌∙◌}
 use Rattle.std.proofs.lemmas.Bool.{le-ltb}
-use Rattle.ps_marks.proofs.Marking.{made_entering, made_past, made_taking}
-use Rattle.ps_marks.proofs.taken.Taken.makes.Goals as goal
+use Rattle.ps_ways.proofs.Marking.{made_entering, made_past, made_taking}
+use Rattle.ps_ways.proofs.taken.Taken.makes.Goals as goal
 
 pub returns-then-mark-ways : goal.returns-then-mark-ways
 returns-then-mark-ways c =

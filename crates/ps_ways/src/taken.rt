@@ -1,10 +1,11 @@
 // Which ways and states a step of a block is of.
 
 ghost use Rattle.std.specs.Prelude.{◌≡◌, ◌==◌, ◌&&◌};
-ghost use Rattle.ps_marks.specs.Marks.{made};
+ghost use Rattle.ps_ways.specs.Marks.{made};
 
+use crate::table::ways;
+use crate::way::Way;
 use ps_model::Kind;
-use ps_ways::{Way, ways};
 
 /// A step of a block: its state before, the number of the guard by which it leaves it, or 0, and its state behind.
 #[derive(Clone, Copy)]

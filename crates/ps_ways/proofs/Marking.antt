@@ -6,7 +6,7 @@ use Rattle.std.proofs.lemmas.Option.{slice_get-get_or, slice_get_past}
 use Rattle.ps_model.specs.declared.kind.Kind.{Kind}
 use Rattle.ps_ways.specs.Tables.{ways_of}
 use Rattle.ps_ways.specs.declared.way.Way.{Way}
-use Rattle.ps_marks.specs.Marks.{made, of_way}
+use Rattle.ps_ways.specs.Marks.{made, of_way}
 
 module _ (kind : Kind) (q n q' mark : ℕ) where
   abbrev taking : Way → Bool

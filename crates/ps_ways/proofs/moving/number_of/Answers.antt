@@ -3,8 +3,8 @@ use Rattle.std.specs.Prelude.{◌==◌}
 use Rattle.ps_model.specs.Kept.{seen}
 use Rattle.ps_model.specs.PinBits.{pin_of}
 use Rattle.ps_rows.specs.Counted.{kept_of}
-use Rattle.ps_marks.specs.Marks.{number_taken}
-use Rattle.ps_marks.proofs.moving.number_of.Goals as goal
+use Rattle.ps_ways.specs.Marks.{number_taken}
+use Rattle.ps_ways.proofs.moving.number_of.Goals as goal
 
 pub returns : goal.returns
 returns c =

@@ -4,8 +4,8 @@ use Rattle.ps_model.specs.Kept.{Kept, counted_down, seen}
 use Rattle.ps_model.specs.declared.kind.Kind.{Kind}
 use Rattle.ps_rows.specs.Counted.{kept_of}
 use Rattle.ps_rows.specs.declared.step.CountedBlock.{CountedBlock}
-use Rattle.ps_marks.specs.Marks.{number_taken}
-use Rattle.ps_marks.specs.declared.moving.Moved.{Moved}
+use Rattle.ps_ways.specs.Marks.{number_taken}
+use Rattle.ps_ways.specs.declared.moving.Moved.{Moved}
 
 -- a block of which this is kept
 abbrev pub counted_of : Kept → CountedBlock

@@ -6,12 +6,13 @@ ghost use Rattle.ps_model.specs.PinBits.{pin_of};
 ghost use Rattle.ps_model.specs.Stored.{IsKept};
 ghost use Rattle.ps_rows.specs.Counted.{kept_of};
 ghost use Rattle.ps_ways.specs.Stepping.{IsLastOf};
-ghost use Rattle.ps_marks.specs.Marks.{number_taken};
-ghost use Rattle.ps_marks.specs.Moving.{moved_by};
+ghost use Rattle.ps_ways.specs.Marks.{number_taken};
+ghost use Rattle.ps_ways.specs.Moving.{moved_by};
 
+use crate::step::{LastStep, StepConditions};
+use crate::table::guard_taken;
 use ps_model::Kind;
 use ps_rows::CountedBlock;
-use ps_ways::{LastStep, StepConditions, guard_taken};
 
 /// A block behind a step of it.
 #[derive(Clone, Copy)]

@@ -1,7 +1,7 @@
 // Which cases passed, and which statements of a case are from a line on.
 
 ghost use Rattle.std.specs.Prelude.{◌≡◌};
-ghost use Rattle.ps_changes.specs.Passed.{failed_behind, has_passed, is_from};
+ghost use Rattle.ps_judge.specs.Passed.{failed_behind, has_passed, is_from};
 
 /// Whether a case with so many failures passed.
 pub fn has_passed(failures: usize) -> bool

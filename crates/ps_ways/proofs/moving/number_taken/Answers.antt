@@ -7,8 +7,8 @@ use Rattle.ps_model.specs.PinBits.{pin_of}
 use Rattle.ps_model.specs.Table.{Conditions, row_at}
 use Rattle.ps_ways.specs.Stepping.{conditions_of}
 use Rattle.ps_ways.specs.Ways.{first_rule}
-use Rattle.ps_marks.proofs.Pins.{same_pins}
-use Rattle.ps_marks.proofs.moving.number_taken.Goals as goal
+use Rattle.ps_ways.proofs.Pins.{same_pins}
+use Rattle.ps_ways.proofs.moving.number_taken.Goals as goal
 
 none : (b : Bool) → (b && false) ≡ false
 none true = refl

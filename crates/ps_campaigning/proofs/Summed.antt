@@ -14,7 +14,7 @@ use Rattle.ps_model.specs.Network.{Network}
 use Rattle.ps_tally.proofs.Plain.{all_plain, none_plain}
 use Rattle.ps_tally.specs.Plain.{ArePlain}
 use Rattle.ps_tally.specs.Tallies.{none_counted}
-use Rattle.ps_tally.specs.declared.line.Line.{Line}
+use Rattle.ps_outcomes.specs.declared.line.Line.{Line}
 use Rattle.ps_totals.specs.Files.{AddsFiles, IsSum, Tells}
 use Rattle.ps_totals.specs.Sums.{text_of}
 use Rattle.ps_totals.specs.declared.summing.Totals.{Totals}

@@ -1,50 +1,14 @@
 -- Lists that are added place by place, and what is counted of trials in parts.
-use Rattle.std.proofs.Common.{◌≡◌, ◌∙◌, ℕ, zero, suc, ◌+◌, ◌<◌, List, [], ◌∷◌, ◌++◌, Option, Some, None, length, map, max, get_or, set, refl, ap, arith}
-use Rattle.std.specs.Prelude.{zip}
-use Rattle.ps_tally.specs.Adding.{added, added_line}
+use Rattle.std.proofs.Common.{◌≡◌, ◌∙◌, ℕ, zero, suc, List, [], ◌∷◌, ◌++◌, Option, Some, None, max, get_or, set, refl, ap, arith}
+use Rattle.ps_outcomes.proofs.Upto.{together}
+use Rattle.ps_outcomes.specs.Lines.{added_line, column_of, counted_in, more, no_trial}
+use Rattle.ps_outcomes.specs.Outcomes.{latency_in, place_of}
+use Rattle.ps_outcomes.specs.declared.line.Line.{Line}
+use Rattle.ps_tally.specs.Adding.{added}
 use Rattle.ps_tally.specs.Laws.{IsOfAnyOrder, PartsAdd}
-use Rattle.ps_tally.specs.Lines.{column_of, counted_in, more, no_trial}
-use Rattle.ps_tally.specs.Outcomes.{latency_in, place_of}
 use Rattle.ps_tally.specs.Tallies.{Result_of, all_counted, counted, none_counted}
-use Rattle.ps_tally.specs.declared.line.Line.{Line}
 
 -- ---- two lists together, place by place
-
-abbrev pub together : {A : Type 0} (f : A → A → A) (xs ys : List A) → List A
-together f xs ys = map (λ p. f p.0 p.1) (zip xs ys)
-
--- the same up to a place, behind which the first list stands as it was
-abbrev pub upto : {A : Type 0} (f : A → A → A) (n : ℕ) (xs ys : List A) → List A
-upto f zero xs ys = xs
-upto f (suc n) [] ys = []
-upto f (suc n) (x ∷ xs) [] = x ∷ xs
-upto f (suc n) (x ∷ xs) (y ∷ ys) = f x y ∷ upto f n xs ys
-
-upto_next : {A : Type 0} (f : A → A → A) (n : ℕ) (xs ys : List A) (d : A) → n < length xs → n < length ys →
-    set (upto f n xs ys) n (f (get_or (upto f n xs ys) n d) (get_or ys n d)) ≡ upto f (suc n) xs ys
-upto_next f zero [] ys d first second = let no : ⊥ = omega (arith, first) in absurd no
-upto_next f zero (x ∷ xs) [] d first second = let no : ⊥ = omega (arith, second) in absurd no
-upto_next f zero (x ∷ xs) (y ∷ ys) d first second = refl
-upto_next f (suc n) [] ys d first second = let no : ⊥ = omega (arith, first) in absurd no
-upto_next f (suc n) (x ∷ xs) [] d first second = let no : ⊥ = omega (arith, second) in absurd no
-upto_next f (suc n) (x ∷ xs) (y ∷ ys) d first second =
-    ap (λ zs. f x y ∷ zs) (upto_next f n xs ys d (omega (arith, first)) (omega (arith, second)))
-
--- one place more
-pub upto_more : {A : Type 0} (f : A → A → A) (n : ℕ) (xs ys zs : List A) (d : A) → n < length xs → n < length ys →
-    zs ≡ upto f n xs ys → set zs n (f (get_or zs n d) (get_or ys n d)) ≡ upto f (n + 1) xs ys
-upto_more f n xs ys zs d first second is =
-    let next : suc n ≡ n + 1 = omega arith in
-    ap (λ ws. set ws n (f (get_or ws n d) (get_or ys n d))) is ∙ upto_next f n xs ys d first second ∙ ap (λ m. upto f m xs ys) next
-
--- all places
-pub upto_all : {A : Type 0} (f : A → A → A) (n : ℕ) (xs ys : List A) → length xs ≡ n → length ys ≡ n → upto f n xs ys ≡ together f xs ys
-upto_all f zero [] ys first second = refl
-upto_all f zero (x ∷ xs) ys first second = let no : ⊥ = omega (arith, first) in absurd no
-upto_all f (suc n) [] ys first second = refl
-upto_all f (suc n) (x ∷ xs) [] first second = let no : ⊥ = omega (arith, second) in absurd no
-upto_all f (suc n) (x ∷ xs) (y ∷ ys) first second =
-    ap (λ zs. f x y ∷ zs) (upto_all f n xs ys (omega (arith, first)) (omega (arith, second)))
 
 -- what changes at a place of the first list changes there of both together
 changed : {A : Type 0} (f : A → A → A) (g : A → A) → ((x y : A) → g (f x y) ≡ f (g x) y) → (xs ys : List A) (i : ℕ) (d : A) →

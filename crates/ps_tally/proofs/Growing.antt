@@ -2,9 +2,9 @@
 use Rattle.std.proofs.Common.{◌≡◌, ℕ, zero, suc, ◌+◌, List, [], ◌∷◌, ◌++◌, refl, sym, ap, ◌∙◌, append_assoc, append-nil, arith}
 use Rattle.std.specs.List.{flat_map, range_with_len}
 use Rattle.std.specs.Prelude.{slice_index_or}
-use Rattle.ps_tally.specs.Lines.{no_trial}
+use Rattle.ps_outcomes.specs.Lines.{no_trial}
 use Rattle.ps_tally.specs.Telling.{column_text, columns_text, line_text, tally_text}
-use Rattle.ps_tally.specs.declared.line.Line.{Line}
+use Rattle.ps_outcomes.specs.declared.line.Line.{Line}
 use Rattle.std.proofs.lemmas.Grind.{flat_map-append}
 
 -- one number more

@@ -6,14 +6,14 @@ use Rattle.ps_model.specs.declared.channel.Channel.{Channel}
 use Rattle.ps_model.specs.declared.channel.Channel.TheVariants.{A, B}
 use Rattle.ps_model.specs.declared.channel.Region.{Region}
 use Rattle.ps_model.specs.declared.channel.Region.TheVariants.{Code, Cells}
-use Rattle.ps_tally.specs.Lines.{counted_in, more, no_trial, with_trial}
-use Rattle.ps_tally.specs.Outcomes.{latency_in, place_of}
+use Rattle.ps_outcomes.specs.Lines.{counted_in, more, no_trial, with_trial}
+use Rattle.ps_outcomes.specs.Outcomes.{latency_in, place_of}
 use Rattle.ps_tally.specs.Plain.{ArePlain, IsPlain, of_count}
 use Rattle.ps_tally.specs.Tallies.{Result_of, all_counted, counted, none_counted}
 use Rattle.ps_tally.specs.Telling.{is_of_trips}
-use Rattle.ps_tally.specs.declared.line.Line.{Line}
-use Rattle.ps_tally.specs.declared.outcome.Outcome.{Outcome}
-use Rattle.ps_tally.specs.declared.outcome.Outcome.TheVariants.{Silent, Tripped, Wrong}
+use Rattle.ps_outcomes.specs.declared.line.Line.{Line}
+use Rattle.ps_outcomes.specs.declared.outcome.Outcome.{Outcome}
+use Rattle.ps_outcomes.specs.declared.outcome.Outcome.TheVariants.{Silent, Tripped, Wrong}
 
 -- what is so at each place of a list is so of it with another element that it is so of
 pub still : {X : Type 0} (P : ℕ → X → Type 0) (xs : List X) (n : ℕ) (x d : X) → ((p : ℕ) → P p (get_or xs p d)) → P n x →

@@ -2,7 +2,7 @@
 use Rattle.std.specs.Prelude.{◌≡◌, List, ◌++◌}
 use Rattle.ps_tally.specs.Adding.{added}
 use Rattle.ps_tally.specs.Tallies.{Result_of, all_counted, none_counted}
-use Rattle.ps_tally.specs.declared.line.Line.{Line}
+use Rattle.ps_outcomes.specs.declared.line.Line.{Line}
 
 -- what is counted of two lists of trials, one behind the other, is what is counted of each, added
 abbrev pub PartsAdd : Type 0

@@ -1,6 +1,4 @@
--- what trials come to, and what is counted of them
-pub mod Outcomes
-pub mod Lines
+-- what is counted of trials
 pub mod Tallies
 pub mod Adding
 pub mod Laws

@@ -1,7 +1,7 @@
 -- Counts all of which their text tells.
 use Rattle.std.specs.Prelude.{◌≡◌, ℕ, false, List, replicate, slice_index_or}
-use Rattle.ps_tally.specs.declared.line.Line.{Line}
-use Rattle.ps_tally.specs.Lines.{no_trial}
+use Rattle.ps_outcomes.specs.declared.line.Line.{Line}
+use Rattle.ps_outcomes.specs.Lines.{no_trial}
 use Rattle.ps_tally.specs.Telling.{is_of_trips}
 
 -- a line of so many trials, none of which tripped

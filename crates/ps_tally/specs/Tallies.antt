@@ -2,10 +2,10 @@
 use Rattle.std.specs.Prelude.{List, [], ◌∷◌, replicate, slice_index_or, slice_set}
 use Rattle.ps_model.specs.declared.channel.Channel.{Channel}
 use Rattle.ps_model.specs.declared.channel.Region.{Region}
-use Rattle.ps_tally.specs.declared.line.Line.{Line}
-use Rattle.ps_tally.specs.declared.outcome.Outcome.{Outcome}
-use Rattle.ps_tally.specs.Lines.{counted_in, no_trial}
-use Rattle.ps_tally.specs.Outcomes.{latency_in, place_of}
+use Rattle.ps_outcomes.specs.declared.line.Line.{Line}
+use Rattle.ps_outcomes.specs.declared.outcome.Outcome.{Outcome}
+use Rattle.ps_outcomes.specs.Lines.{counted_in, no_trial}
+use Rattle.ps_outcomes.specs.Outcomes.{latency_in, place_of}
 
 -- no trials: each of the 24 lines is empty
 abbrev pub none_counted : List Line

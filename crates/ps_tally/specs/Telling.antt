@@ -2,9 +2,9 @@
 use Rattle.std.specs.Prelude.{ℕ, Bool, List, [], ◌++◌, ◌==◌, ◌&&◌, ◌%◌, codes, decimal, if◌then◌else◌, nat_lt}
 use Rattle.std.specs.Prelude.{slice_index, slice_index_or}
 use Rattle.std.specs.List.{flat_map, range_with_len}
-use Rattle.ps_tally.specs.declared.line.Line.{Line}
-use Rattle.ps_tally.specs.declared.line.TheConstants.{FLOORS}
-use Rattle.ps_tally.specs.Lines.{no_trial}
+use Rattle.ps_outcomes.specs.declared.line.Line.{Line}
+use Rattle.ps_outcomes.specs.declared.line.TheConstants.{FLOORS}
+use Rattle.ps_outcomes.specs.Lines.{no_trial}
 
 -- a column of a table, by its least latency and how many trips are of it: nothing where none is
 abbrev pub column_text : (table : List ℕ) → (column : ℕ) → List ℕ

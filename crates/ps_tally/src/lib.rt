@@ -1,20 +1,16 @@
 //! What trials come to, counted: by channel, region and outcome, with the latencies of trips; and the lines that tell
 //! it.
 //!
-//! - `outcome`: what a trial comes to, and the line that it counts in. `line`: the counts of a line. `tally`: those of
-//!   all lines, which take one trial more, or those of another tally; `laws`: in parts and in any order.
+//! - `tally`: the counts of all lines, which take one trial more, or those of another tally; `laws`: in parts and in any
+//!   order.
 //! - `telling`: the lines as text. `reading`: the lines that a text tells.
 #![tactic(auto)]
 
 pub mod laws;
-mod line;
-mod outcome;
 mod reading;
 mod tally;
 mod telling;
 
-pub use line::{FLOORS, Line};
-pub use outcome::Outcome;
 pub use reading::{read_tally, seeming_tally};
 pub use tally::Tally;
 pub use telling::{add_number, add_tally};

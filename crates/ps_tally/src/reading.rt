@@ -4,10 +4,10 @@ ghost use Rattle.std.specs.Prelude.{◌≡◌, ◌≤◌, ◌<◌, IfOk, IfSome,
 ghost use Rattle.ps_tally.specs.Plain.{ArePlain, IsPlain, of_count};
 ghost use Rattle.ps_tally.specs.Telling.{is_of_trips, tally_text};
 
-use crate::line::{FLOORS, Line};
 use crate::tally::Tally;
 use crate::telling::{add_tally, channel_text, is_of_trips, outcome_text, region_text};
 use ps_base::{Bytes, Memory};
+use ps_outcomes::{FLOORS, Line};
 use std::alloc::Global;
 
 // Something that was read at the beginning of a text, and what stands behind it.

@@ -4,22 +4,21 @@ ghost use Rattle.std.specs.Prelude.{◌≡◌, ◌<◌, length, slice_set};
 ghost use Rattle.ps_tally.specs.Adding.{added};
 ghost use Rattle.ps_tally.specs.Tallies.{counted, none_counted};
 
-use crate::line::Line;
-use crate::outcome::{Outcome, latency_in, place_of};
 use ps_base::Memory;
 use ps_model::{Channel, Region};
+use ps_outcomes::{Line, Outcome, latency_in, place_of};
 use std::alloc::Global;
 use std::marker::Model;
 
 /// The counts of trials, a line for each channel, region and outcome. Contracts see them as the list of the lines.
-#[derive(Drop, Debug)]
+#[derive(Drop)]
 pub struct Tally {
     lines: Vec<Line>,
 }
 
 impl Model for Tally {
     ghost use Rattle.std.specs.Prelude.{◌≡◌, List, length};
-    ghost use Rattle.ps_tally.specs.declared.line.Line.{Line};
+    ghost use Rattle.ps_outcomes.specs.declared.line.Line.{Line};
 
     ghost Value = { List Line };
 

@@ -1,14 +1,14 @@
 // The lines as text.
 
 ghost use Rattle.std.specs.Prelude.{◌≡◌, ◌<◌, ◌++◌, OnOk, decimal, length, slice_index_or};
-ghost use Rattle.ps_tally.specs.Lines.{no_trial};
+ghost use Rattle.ps_outcomes.specs.Lines.{no_trial};
 ghost use Rattle.ps_tally.specs.Telling.{channel_text, column_text, columns_text, counts_text, is_of_trips};
 ghost use Rattle.ps_tally.specs.Telling.{latencies_text, line_text, name_text, outcome_text, region_text, tally_text};
 
-use crate::line::{FLOORS, Line};
 use crate::tally::Tally;
 use itoa::Buffer;
 use ps_base::{Bytes, Memory};
+use ps_outcomes::{FLOORS, Line};
 
 /// A number in decimal digits, at the end of a text.
 pub fn add_number(text: &mut Bytes, number: u64) -> Result<(), Memory>
@@ -16,6 +16,14 @@ pub fn add_number(text: &mut Bytes, number: u64) -> Result<(), Memory>
 {
     let mut digits = Buffer::new();
     text.extend_from_slice(digits.format(number).as_bytes())
+}
+
+// A word and a number behind it.
+fn add_worded(text: &mut Bytes, word: &[u8], number: u64) -> Result<(), Memory>
+    ensures { OnOk result (text.new ≡ text.old ++ word.now ++ decimal number) }
+{
+    text.extend_from_slice(word)?;
+    add_number(text, number)
 }
 
 // A column of a table; nothing where no trip is of it.
@@ -27,10 +35,8 @@ fn add_column(text: &mut Bytes, table: &[u64; 33], column: usize) -> Result<(), 
     if count == 0 {
         return Ok(());
     }
-    text.extend_from_slice(b" ")?;
-    add_number(text, u64::from(FLOORS[column]))?;
-    text.extend_from_slice(b":")?;
-    add_number(text, count)
+    add_worded(text, b" ", u64::from(FLOORS[column]))?;
+    add_worded(text, b":", count)
 }
 
 // The columns of a table.
@@ -48,10 +54,8 @@ fn add_columns(text: &mut Bytes, table: &[u64; 33]) -> Result<(), Memory>
 fn add_latencies(text: &mut Bytes, line: &Line) -> Result<(), Memory>
     ensures { OnOk result (text.new ≡ text.old ++ latencies_text line.now) }
 {
-    text.extend_from_slice(b" sum ")?;
-    add_number(text, line.sum)?;
-    text.extend_from_slice(b" largest ")?;
-    add_number(text, u64::from(line.largest))?;
+    add_worded(text, b" sum ", line.sum)?;
+    add_worded(text, b" largest ", u64::from(line.largest))?;
     text.extend_from_slice(b" table")?;
     add_columns(text, &line.table)
 }

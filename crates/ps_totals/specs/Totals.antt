@@ -1,7 +1,7 @@
 -- What a campaign writes: a head and lines.
 use Rattle.std.specs.Prelude.{ℕ, List, ◌++◌, codes}
 use Rattle.ps_tally.specs.Telling.{tally_text}
-use Rattle.ps_tally.specs.declared.line.Line.{Line}
+use Rattle.ps_outcomes.specs.declared.line.Line.{Line}
 
 -- a line that says what names something
 abbrev pub name_line : (what name : List ℕ) → List ℕ

@@ -34,7 +34,7 @@ impl Drop for Totals {
     }
 }
 
-// What a text seems to tell: two names of so many digits, and lines of counts.
+// What a text seems to tell: what stands where the two names and the lines of counts would stand.
 #[derive(Clone, Copy)]
 struct Parts<'a> {
     app: &'a [u8],
@@ -42,38 +42,35 @@ struct Parts<'a> {
     lines: &'a [u8],
 }
 
-// Whether bytes are small hexadecimal digits.
-fn are_digits(name: &[u8]) -> bool {
-    for byte in name {
+// Whether bytes are a name: 64 small hexadecimal digits.
+fn is_name(bytes: &[u8]) -> bool {
+    for byte in bytes {
         if !(byte.is_ascii_digit() || (b'a' <= *byte && *byte <= b'f')) {
             return false;
         }
     }
-    true
+    bytes.len() == 64
 }
 
-// The digits of a name, and what stands behind its line.
-fn name_at(text: &[u8]) -> Option<(&[u8], &[u8])> {
-    if text.len() < 64 {
-        return None;
+// What stands in a text behind so many bytes; nothing where it ends before.
+fn behind(text: &[u8], bytes: usize) -> &[u8] {
+    text.get(bytes..).unwrap_or(&[])
+}
+
+// Its first 64 bytes; all where it has fewer.
+fn first_64(text: &[u8]) -> &[u8] {
+    text.get(..64).unwrap_or(text)
+}
+
+// The parts of a text: a name stands behind `application `, the other one behind its line and `trace `, and the lines
+// of counts behind both.
+fn parts_of(text: &[u8]) -> Parts<'_> {
+    let trace = behind(text, 83);
+    Parts {
+        app: first_64(behind(text, 12)),
+        trace: first_64(trace),
+        lines: behind(trace, 65),
     }
-    let (name, rest) = text.split_at(64);
-    if !are_digits(name) {
-        return None;
-    }
-    Some((name, rest.strip_prefix(b"\n")?))
-}
-
-// What names the application, and what stands behind its line.
-fn first_line(text: &[u8]) -> Option<(&[u8], &[u8])> {
-    name_at(text.strip_prefix(b"application ")?)
-}
-
-// The parts of a text.
-fn parts_of(text: &[u8]) -> Option<Parts<'_>> {
-    let (app, text) = first_line(text)?;
-    let (trace, lines) = name_at(text.strip_prefix(b"trace ")?)?;
-    Some(Parts { app, trace, lines })
 }
 
 // What the parts of a text tell, if they tell anything.
@@ -108,10 +105,10 @@ fn is_told(alloc: Global, totals: &Totals, text: &[u8]) -> Result<bool, Memory>
 pub fn read_totals(alloc: Global, text: &[u8]) -> Result<Option<Totals>, Memory>
     ensures told { IfOk result (λ read. IfSome read (IsTold text.now)) }
 {
-    let parts = match parts_of(text) {
-        Some(parts) => parts,
-        None => return Ok(None),
-    };
+    let parts = parts_of(text);
+    if !is_name(parts.app) || !is_name(parts.trace) {
+        return Ok(None);
+    }
     let totals = match seeming_totals(alloc, &parts)? {
         Some(totals) => totals,
         None => return Ok(None),
@@ -139,14 +136,19 @@ fn differing_line(text: &[u8], other: &[u8]) -> u32 {
 
 /// The line, counted from 1, in which a text is the first time not as a campaign would write what it seems to tell.
 pub(crate) fn flawed_line(alloc: Global, text: &[u8]) -> Result<u32, Memory> {
-    let parts = match parts_of(text) {
-        Some(parts) => parts,
-        None => return Ok(if first_line(text).is_some() { 2 } else { 1 }),
-    };
+    let parts = parts_of(text);
+    if !is_name(parts.app) {
+        return Ok(1);
+    }
     let tally = seeming_tally(alloc, parts.lines)?;
     let mut told = Bytes::new(alloc);
     add_totals(&mut told, parts.app, parts.trace, &tally)?;
-    Ok(differing_line(text, told.as_slice()))
+    let line = differing_line(text, told.as_slice());
+    Ok(if is_name(parts.trace) {
+        line
+    } else {
+        line.min(2)
+    })
 }
 
 impl Totals {

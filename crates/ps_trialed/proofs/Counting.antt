@@ -3,7 +3,7 @@ use Rattle.std.proofs.Common.{◌≡◌, ◌∙◌, ◌+◌, ℕ, zero, suc, Lis
 use Rattle.std.specs.List.{range_with_len}
 use Rattle.std.proofs.lemmas.List.{map-append}
 use Rattle.ps_tally.specs.Tallies.{Result_of, all_counted, counted, none_counted}
-use Rattle.ps_tally.specs.declared.line.Line.{Line}
+use Rattle.ps_outcomes.specs.declared.line.Line.{Line}
 
 range_more : (a n : ℕ) → range_with_len a (suc n) ≡ range_with_len a n ++ (a + n) ∷ []
 range_more a zero = ap (λ m. m ∷ []) (let e : a ≡ a + 0 = omega arith in e)

@@ -3,8 +3,8 @@ use Rattle.std.proofs.Common.{◌≡◌, ◌∙◌, ◌≤◌, ◌-◌, ℕ, Lis
 use Rattle.ps_course.specs.declared.step.Step.{Step}
 use Rattle.ps_model.specs.Network.{Network, instance_count}
 use Rattle.ps_model.specs.declared.channel.Fault.{Fault}
-use Rattle.ps_tally.specs.declared.outcome.Outcome.{Outcome}
-use Rattle.ps_tally.specs.declared.outcome.Outcome.TheVariants.{Silent}
+use Rattle.ps_outcomes.specs.declared.outcome.Outcome.{Outcome}
+use Rattle.ps_outcomes.specs.declared.outcome.Outcome.TheVariants.{Silent}
 use Rattle.ps_world.specs.Whole.{Setup, Whole, IsSetupOf, machines_in}
 use Rattle.ps_world.specs.Worlds.{world_0}
 use Rattle.ps_trialed.specs.Marks.{GoQuietly, IsMoment, shown_from}

@@ -10,13 +10,14 @@ use Rattle.ps_model.specs.declared.channel.Fault.{Fault}
 use Rattle.ps_model.specs.declared.channel.Verdict.{Verdict}
 use Rattle.ps_model.specs.declared.report.Report.{Report}
 use Rattle.ps_model.specs.declared.report.Scan.{Scan}
-use Rattle.ps_tally.specs.declared.outcome.Outcome.{Outcome}
+use Rattle.ps_outcomes.specs.declared.outcome.Outcome.{Outcome}
 use Rattle.ps_world.specs.Answers.{answers}
 use Rattle.ps_world.specs.Orders.{at_compare, of_scan, scan_events}
 use Rattle.ps_world.specs.Verdicts.{report_given, verdict}
 use Rattle.ps_world.specs.Whole.{Whole, IsSetupOf, after_events, happened, machines_in}
 use Rattle.ps_world.specs.Worlds.{Restart, world_0}
-use Rattle.ps_trialed.specs.Showing.{ended_by, shown}
+use Rattle.ps_outcomes.specs.Outcomes.{ended_by}
+use Rattle.ps_trialed.specs.Showing.{shown}
 
 -- steps that a world can run from a time on it can run from an earlier one on
 pub earlier : (net : Network) (time latest : ℕ) (steps : List Step) → time ≤ latest → AreStepsFor net latest steps → AreStepsFor net time steps

@@ -17,8 +17,8 @@ use Rattle.ps_model.specs.declared.channel.Verdict.TheVariants.{Released}
 use Rattle.ps_model.specs.declared.report.Report.{Report}
 use Rattle.ps_model.specs.declared.report.Scan.{Scan}
 use Rattle.ps_seat.specs.Items.{AreTimely}
-use Rattle.ps_tally.specs.declared.outcome.Outcome.{Outcome}
-use Rattle.ps_tally.specs.declared.outcome.Outcome.TheVariants.{Silent}
+use Rattle.ps_outcomes.specs.declared.outcome.Outcome.{Outcome}
+use Rattle.ps_outcomes.specs.declared.outcome.Outcome.TheVariants.{Silent}
 use Rattle.ps_world.specs.Answers.{ReleaseAll, answers}
 use Rattle.ps_world.specs.Orders.{at_compare, of_scan, scan_events}
 use Rattle.ps_world.specs.Steps.{after, world_step}
@@ -26,7 +26,7 @@ use Rattle.ps_world.specs.Verdicts.{report_given, verdict}
 use Rattle.ps_world.specs.Whole.{Whole, IsWorldOf, machines_in}
 use Rattle.ps_world.specs.Worlds.{Machines, World_state, Restart, world_0}
 use Rattle.ps_trialed.specs.Marks.{GoQuietly, IsMoment, IsShort, passed, scans_of, shown_from}
-use Rattle.ps_trialed.specs.Showing.{ended_by}
+use Rattle.ps_outcomes.specs.Outcomes.{ended_by}
 use Rattle.ps_trialed.proofs.Going.{earlier}
 
 -- a fault strikes no other scan than its own

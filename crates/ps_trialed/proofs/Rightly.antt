@@ -12,12 +12,13 @@ use Rattle.ps_model.specs.declared.channel.Fault.{Fault}
 use Rattle.ps_model.specs.declared.channel.Verdict.{Verdict}
 use Rattle.ps_model.specs.declared.channel.Verdict.TheVariants as verdicts
 use Rattle.ps_model.proofs.FieldPlaces.{no_difference_from_equal}
-use Rattle.ps_tally.specs.declared.outcome.Outcome.{Outcome}
-use Rattle.ps_tally.specs.declared.outcome.Outcome.TheVariants.{Silent, Tripped, Wrong}
+use Rattle.ps_outcomes.specs.declared.outcome.Outcome.{Outcome}
+use Rattle.ps_outcomes.specs.declared.outcome.Outcome.TheVariants.{Silent, Tripped, Wrong}
 use Rattle.ps_world.specs.Answers.{Answer, ReleaseAll, ReleaseRight, SpareChannel}
 use Rattle.ps_world.specs.Lists.{is_same}
 use Rattle.ps_world.specs.Orders.{other}
-use Rattle.ps_trialed.specs.Showing.{ended_by, shown}
+use Rattle.ps_outcomes.specs.Outcomes.{ended_by}
+use Rattle.ps_trialed.specs.Showing.{shown}
 
 -- a scan ends no trial as wrong whose report does not differ where it is released
 not_wrong : (v : Verdict) (struck now : ℕ) (differs : Option ℕ) (later : Outcome) → (v ≡ verdicts.Released → differs ≡ None) → later ≢ Wrong →

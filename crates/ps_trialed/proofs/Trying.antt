@@ -5,12 +5,13 @@ use Rattle.ps_course.specs.declared.step.Step.{Step}
 use Rattle.ps_eqgen.proofs.SameSizes.{same_sizes}
 use Rattle.ps_model.specs.Network.{Network, instance_count}
 use Rattle.ps_model.specs.declared.channel.Fault.{Fault}
-use Rattle.ps_tally.specs.declared.outcome.Outcome.{Outcome}
+use Rattle.ps_outcomes.specs.declared.outcome.Outcome.{Outcome}
 use Rattle.ps_world.specs.Answers.{answers}
 use Rattle.ps_world.specs.Whole.{Setup, IsSetupOf, machines_in}
 use Rattle.ps_world.specs.Worlds.{world_0}
 use Rattle.ps_trialed.specs.Marks.{shown_from}
-use Rattle.ps_trialed.specs.Showing.{outcome_of, shown, time_in}
+use Rattle.ps_moments.specs.Times.{time_in}
+use Rattle.ps_trialed.specs.Showing.{outcome_of, shown}
 
 -- what never changes of an application's world is one
 pub one_setup : (net : Network) (s t : Setup) → IsSetupOf net s → IsSetupOf net t → s ≡ t

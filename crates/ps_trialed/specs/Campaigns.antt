@@ -9,7 +9,7 @@ use Rattle.ps_model.specs.declared.channel.Channel.{Channel}
 use Rattle.ps_model.specs.declared.channel.ImageSizes.{ImageSizes}
 use Rattle.ps_stackvm.specs.Code.{code_a}
 use Rattle.ps_tally.specs.Tallies.{Result_of, all_counted, none_counted}
-use Rattle.ps_tally.specs.declared.line.Line.{Line}
+use Rattle.ps_outcomes.specs.declared.line.Line.{Line}
 use Rattle.ps_trials.specs.Faults.{fault_by}
 use Rattle.ps_trials.specs.Trials.{trial_of}
 use Rattle.ps_trials.specs.declared.drawing.Room.{Room}

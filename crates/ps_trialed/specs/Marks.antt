@@ -7,7 +7,7 @@ use Rattle.ps_course.specs.declared.step.Step.TheVariants.{Scanned, Anew}
 use Rattle.ps_model.specs.Network.{Network, instance_count}
 use Rattle.ps_model.specs.declared.channel.Fault.{Fault}
 use Rattle.ps_model.specs.declared.channel.Verdict.TheVariants.{Released}
-use Rattle.ps_tally.specs.declared.outcome.Outcome.{Outcome}
+use Rattle.ps_outcomes.specs.declared.outcome.Outcome.{Outcome}
 use Rattle.ps_world.specs.Answers.{answers}
 use Rattle.ps_world.specs.Orders.{at_compare, scan_events}
 use Rattle.ps_world.specs.Steps.{after, world_step}
@@ -15,8 +15,8 @@ use Rattle.ps_world.specs.Verdicts.{report_given, verdict}
 use Rattle.ps_world.specs.Whole.{Whole, IsSetupOf, after_events, happened, machines_in}
 use Rattle.ps_world.specs.Worlds.{Machines, World_state, Restart, world_0}
 use Rattle.ps_trialed.specs.Showing.{shown}
-use Rattle.ps_trialed.specs.declared.marks.Mark.{Mark}
-use Rattle.ps_trialed.specs.declared.marks.Marks.{Marks}
+use Rattle.ps_moments.specs.declared.mark.Mark.{Mark}
+use Rattle.ps_moments.specs.declared.mark.Marks.{Marks}
 
 -- the time of a scan has 32 bits
 abbrev pub IsShort : Step → Type 0

@@ -4,7 +4,7 @@ use Rattle.ps_model.specs.Meaning.{Item}
 use Rattle.ps_model.specs.Network.{Network, input_count}
 use Rattle.ps_model.specs.declared.channel.Fault.{Fault}
 use Rattle.ps_seat.specs.Items.{AreTimely}
-use Rattle.ps_tally.specs.declared.outcome.Outcome.TheVariants.{Wrong}
+use Rattle.ps_outcomes.specs.declared.outcome.Outcome.TheVariants.{Wrong}
 use Rattle.ps_world.specs.Whole.{Setup, IsSetupOf, machines_in}
 use Rattle.ps_trialed.specs.Showing.{outcome_of}
 

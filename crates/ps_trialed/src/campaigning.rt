@@ -12,15 +12,17 @@ ghost use Rattle.ps_trialed.specs.Campaigns.{campaign, result_of, room_of};
 ghost use Rattle.ps_trialed.specs.Marks.{AreMarks};
 ghost use Rattle.ps_trialed.specs.Showing.{outcome_of};
 
-use crate::marks::{Marks, mark_course};
-use crate::trialing::{run_trial, time_in};
+use crate::marks::mark_course;
+use crate::trialing::run_trial;
 use ps_base::Memory;
 use ps_course::Course;
 use ps_eqgen::equation_image;
 use ps_machine::CodeImage;
 use ps_model::{App, Channel, ImageSizes, Report};
+use ps_moments::{Marks, struck_at};
+use ps_outcomes::Outcome;
 use ps_stackgen::stack_image;
-use ps_tally::{Outcome, Tally};
+use ps_tally::Tally;
 use ps_trials::{Room, Trial, draw_trial, fault_of};
 use ps_world::World;
 use std::alloc::Global;
@@ -100,7 +102,7 @@ fn try_trial(
     let fault = fault_of(alloc, trial, codes.a.as_slice(), codes.b.as_slice())?;
     let faults = [fault];
     let steps = course.steps.as_slice();
-    let struck = time_in(steps, trial.scan);
+    let struck = struck_at(steps, trial);
     Ok(run_trial(app, world, steps, marks, &faults, struck, report))
 }
 

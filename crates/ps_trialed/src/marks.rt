@@ -13,51 +13,10 @@ use ps_base::Memory;
 use ps_course::{Course, Step};
 use ps_model::laws::one_meaning;
 use ps_model::{App, Report};
+use ps_moments::{Mark, Marks};
 use ps_world::World;
 use ps_world::laws::quiet_runs_release;
 use std::alloc::Global;
-
-// A moment between two steps of a course, in the run without a fault.
-pub(crate) struct Mark {
-    // How many steps are done.
-    pub(crate) place: usize,
-    // How many scans are among these.
-    pub(crate) scans: u64,
-    // The world.
-    pub(crate) world: World,
-}
-
-impl Drop for Mark {
-    // One call for whoever owns one, in place of a walk through all that it holds.
-    fn drop(self) {
-        let Mark {
-            place: _,
-            scans: _,
-            world: _,
-        } = self;
-    }
-}
-
-// The marks of a course: one at its beginning, and at most 63 behind it, the same number of steps apart.
-pub(crate) struct Marks {
-    // The beginning.
-    pub(crate) first: Mark,
-    // The others, in order.
-    pub(crate) later: Vec<Mark>,
-    // How many steps lie between two.
-    pub(crate) every: usize,
-}
-
-impl Drop for Marks {
-    // One call for whoever owns one, in place of a walk through all that it holds.
-    fn drop(self) {
-        let Marks {
-            first: _,
-            later: _,
-            every: _,
-        } = self;
-    }
-}
 
 // A world of its own that is what another world of the application is.
 fn copy_of(alloc: Global, app: &App, world: &World) -> Result<World, Memory>
@@ -237,10 +196,7 @@ fn is_at(app: &App, steps: &[Step], mark: &Mark, place: usize, world: &World) ->
     ensures { result ≡ true → GoQuietly (machines_in world.now.setup) (length app.now.outputs) (instance_count app.now)
         (drop place steps.now) world.now.state }
 {
-    if mark.place != place {
-        return false;
-    }
-    world.is_twin_of(&mark.world)
+    mark.is_at(place, world)
 }
 
 // Whether a run is over behind so many steps and scans: its fault has struck, in the scan of this number, and the world

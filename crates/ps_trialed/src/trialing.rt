@@ -1,18 +1,17 @@
 // The run of a trial.
 
 ghost use Rattle.std.specs.Prelude.{◌≡◌, ◌≤◌, ◌+◌, ◌*◌, ◌^◌, ◌-◌, ◌∷◌, [], length, nat_eq};
-ghost use Rattle.ps_course.specs.Courses.{items_in};
 ghost use Rattle.ps_model.specs.Network.{instance_count};
 ghost use Rattle.ps_world.specs.Orders.{of_scan};
 ghost use Rattle.ps_world.specs.Whole.{IsSetupOf, machines_in};
 ghost use Rattle.ps_world.specs.Worlds.{world_0};
 ghost use Rattle.ps_trialed.specs.Marks.{AreMarks, shown_from};
-ghost use Rattle.ps_trialed.specs.Showing.{ended_by, time_in};
 
-use crate::marks::{Marks, is_over, start_of};
+use crate::marks::{is_over, start_of};
 use ps_course::Step;
-use ps_model::{App, Fault, Report, Verdict};
-use ps_tally::Outcome;
+use ps_model::{App, Fault, Report};
+use ps_moments::Marks;
+use ps_outcomes::{Outcome, ended_by};
 use ps_world::World;
 
 // The faults that strike the scan of this number: the one, or none.
@@ -24,34 +23,6 @@ fn due(faults: &[Fault], number: u64) -> &[Fault]
         [fault] if u64::from(fault.scan) == number => faults,
         _ => &[],
     }
-}
-
-// What a scan ends a trial with, if it does.
-fn ended_by(verdict: Verdict, struck: u32, now: u32, differs: Option<u16>) -> Option<Outcome>
-    ensures { result ≡ ended_by verdict struck now differs }
-{
-    match (verdict, differs) {
-        (Verdict::Released, None) => None,
-        (Verdict::Released, Some(_)) => Some(Outcome::Wrong),
-        (Verdict::Tripped(cause), _) => Some(Outcome::Tripped(cause, now.saturating_sub(struck))),
-        (Verdict::Down, _) => None,
-    }
-}
-
-/// The time of the scan of this number, counted from 1; 0 where there is none.
-pub(crate) fn time_in(steps: &[Step], number: u32) -> u32
-    ensures { result ≡ time_in number (items_in steps.now) }
-{
-    let mut left = number;
-    for step in steps {
-        if let Step::Scanned(scan, _) = step {
-            if left == 1 {
-                return scan.now;
-            }
-            left = left.saturating_sub(1);
-        }
-    }
-    0
 }
 
 // A report has few fields.

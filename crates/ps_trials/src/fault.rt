@@ -1,11 +1,12 @@
 // The fault that a trial makes.
 
 ghost use Rattle.std.specs.Prelude.{◌≡◌, ◌∷◌, [], IfOk};
-ghost use Rattle.ps_trials.specs.Faults.{byte_left, code_of, fault_by};
+ghost use Rattle.ps_trials.specs.Faults.{code_of, fault_by};
 
 use crate::drawing::Trial;
 use ps_base::{Bytes, Memory};
-use ps_model::{Channel, Fault, Region};
+use ps_model::{Channel, Fault};
+use ps_outcomes::byte_left;
 use std::alloc::Global;
 
 // The code of a channel.
@@ -15,16 +16,6 @@ fn code_of<'a>(code_a: &'a [u8], code_b: &'a [u8], channel: Channel) -> &'a [u8]
     match channel {
         Channel::A => code_a,
         Channel::B => code_b,
-    }
-}
-
-// The byte that a trial leaves.
-fn byte_left(code: &[u8], region: Region, at: u32, bits: u8) -> u8
-    ensures { result ≡ byte_left code.now region at bits }
-{
-    match region {
-        Region::Code => code.get(at as usize).copied().unwrap_or(0) ^ bits,
-        Region::Cells => bits,
     }
 }
 

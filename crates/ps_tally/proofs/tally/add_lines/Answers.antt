@@ -1,7 +1,7 @@
 use Rattle.std.proofs.Common.{◌≡◌, ◌∙◌, ℕ, ap, arith, slice_set}
-use Rattle.ps_tally.specs.Adding.{added_line}
-use Rattle.ps_tally.specs.declared.line.Line.{Line}
-use Rattle.ps_tally.proofs.Adding.{upto, upto_all, upto_more}
+use Rattle.ps_outcomes.specs.Lines.{added_line}
+use Rattle.ps_outcomes.specs.declared.line.Line.{Line}
+use Rattle.ps_outcomes.proofs.Upto.{upto, upto_all, upto_more}
 use Rattle.ps_tally.proofs.tally.add_lines.Goals as goal
 
 pub loop-place-preserved : goal.loop-place-preserved

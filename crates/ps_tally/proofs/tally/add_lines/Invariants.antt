@@ -1,6 +1,6 @@
 use Rattle.std.proofs.Common.{◌≡◌}
-use Rattle.ps_tally.specs.Adding.{added_line}
-use Rattle.ps_tally.proofs.Adding.{upto}
+use Rattle.ps_outcomes.specs.Lines.{added_line}
+use Rattle.ps_outcomes.proofs.Upto.{upto}
 use Rattle.ps_tally.proofs.tally.add_lines.Given as goal
 
 abbrev pub invariant-loop-place : goal.invariant-loop-place

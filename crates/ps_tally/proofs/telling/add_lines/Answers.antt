@@ -1,6 +1,6 @@
 use Rattle.std.proofs.Common.{◌∙◌, ◌++◌, ℕ, List, ap, arith}
 use Rattle.std.specs.Prelude.{slice_index_or}
-use Rattle.ps_tally.specs.Lines.{no_trial}
+use Rattle.ps_outcomes.specs.Lines.{no_trial}
 use Rattle.ps_tally.specs.Telling.{line_text}
 use Rattle.ps_tally.proofs.Growing.{all_told, lines_are, one_more}
 use Rattle.ps_tally.proofs.telling.add_lines.Goals as goal

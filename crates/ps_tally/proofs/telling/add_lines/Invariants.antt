@@ -1,7 +1,7 @@
 use Rattle.std.proofs.Common.{◌≡◌, ◌++◌}
 use Rattle.std.specs.List.{flat_map, range_with_len}
 use Rattle.std.specs.Prelude.{slice_index_or}
-use Rattle.ps_tally.specs.Lines.{no_trial}
+use Rattle.ps_outcomes.specs.Lines.{no_trial}
 use Rattle.ps_tally.specs.Telling.{line_text}
 use Rattle.ps_tally.proofs.telling.add_lines.Given as goal
 

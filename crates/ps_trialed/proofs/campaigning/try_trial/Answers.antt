@@ -3,11 +3,12 @@ use Rattle.ps_course.specs.Courses.{items_in}
 use Rattle.ps_course.specs.declared.step.Step.{Step}
 use Rattle.ps_model.specs.Network.{instance_count}
 use Rattle.ps_model.specs.declared.channel.Fault.{Fault}
+use Rattle.ps_moments.specs.Times.{time_in}
 use Rattle.ps_trials.specs.Faults.{fault_by}
 use Rattle.ps_world.specs.Whole.{machines_in}
 use Rattle.ps_world.specs.Worlds.{world_0}
 use Rattle.ps_trialed.specs.Marks.{AreMarks, shown_from}
-use Rattle.ps_trialed.specs.Showing.{outcome_of, time_in}
+use Rattle.ps_trialed.specs.Showing.{outcome_of}
 use Rattle.ps_trialed.proofs.Trying.{outcome_is}
 use Rattle.ps_trialed.proofs.campaigning.try_trial.Goals as goal
 
@@ -23,10 +24,10 @@ returns-clause-outcome c = λ setup is.
     let steps = c.args.course.now.steps.items in
     let items = items_in steps in
     let f = c.in_ok-fault.fault in
-    let struck = c.time_in-struck.result in
+    let struck = c.struck_at-struck.result in
     let there = c.as_slice-steps.ensures.value in
     let struck_is : struck ≡ time_in f.scan items =
-    c.time_in-struck.ensures ∙ ap (λ (ss : List Step). time_in t.scan (items_in ss)) there
+    c.struck_at-struck.ensures ∙ ap (λ (ss : List Step). time_in t.scan (items_in ss)) there
     ∙ ap (λ (x : Fault). time_in x.scan items) (sym c.in_ok-fault.ensures) in
     let shows : c.run_trial.result ≡ shown_from (machines_in own) (length net.outputs) (instance_count net) (f ∷ []) struck 0 steps (world_0 (machines_in own)) =
     c.run_trial.ensures.shows

@@ -1,6 +1,6 @@
 use Rattle.std.proofs.Common.{[], ◌∷◌}
 use Rattle.ps_world.specs.Orders.{other}
-use Rattle.ps_trialed.specs.Showing.{time_in}
+use Rattle.ps_moments.specs.Times.{time_in}
 use Rattle.ps_trialed.proofs.Rightly.{never_wrong, spares}
 use Rattle.ps_trialed.proofs.laws.none_is_wrong.Goals as goal
 

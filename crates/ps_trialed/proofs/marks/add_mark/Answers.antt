@@ -2,7 +2,7 @@ use Rattle.std.proofs.Common.{List, sym, subst}
 use Rattle.std.specs.List.{All}
 use Rattle.std.proofs.lemmas.List.Elements.{All-push}
 use Rattle.ps_trialed.specs.Marks.{IsMark}
-use Rattle.ps_trialed.specs.declared.marks.Mark.{Mark}
+use Rattle.ps_moments.specs.declared.mark.Mark.{Mark}
 use Rattle.ps_trialed.proofs.marks.add_mark.Goals as goal
 
 pub returns : goal.returns

@@ -2,7 +2,7 @@ use Rattle.std.proofs.Common.{◌-◌, ◌/◌, ◌<◌, ℕ, List, length, subs
 use Rattle.std.specs.List.{All}
 use Rattle.std.proofs.lemmas.List.Elements.{All-get_or}
 use Rattle.ps_trialed.specs.Marks.{IsMark}
-use Rattle.ps_trialed.specs.declared.marks.Mark.{Mark}
+use Rattle.ps_moments.specs.declared.mark.Mark.{Mark}
 use Rattle.ps_trialed.proofs.marks.is_over.Goals as goal
 
 pub is_at-requires-clause-mark : goal.is_at-requires-clause-mark

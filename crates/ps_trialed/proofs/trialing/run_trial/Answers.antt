@@ -5,7 +5,7 @@ use Rattle.ps_model.proofs.Rest.{rest_at}
 use Rattle.ps_model.specs.declared.channel.Fault.{Fault}
 use Rattle.ps_model.specs.declared.report.Report.{Report}
 use Rattle.ps_world.specs.Whole.{Whole}
-use Rattle.ps_trialed.specs.Showing.{ended_by}
+use Rattle.ps_outcomes.specs.Outcomes.{ended_by}
 use Rattle.ps_trialed.proofs.Early.{begins, is_silent, only}
 use Rattle.ps_trialed.proofs.Going.{Goes, at_first, ends, goes_anew, goes_on, showing}
 use Rattle.ps_trialed.proofs.Trying.{one_setup}

@@ -1,12 +1,12 @@
 // What a trial comes to, and the line that it counts in.
 
 ghost use Rattle.std.specs.Prelude.{◌≡◌, ◌<◌};
-ghost use Rattle.ps_tally.specs.Outcomes.{channel_number, kind_number, latency_in, place_of, region_number};
+ghost use Rattle.ps_outcomes.specs.Outcomes.{channel_number, ended_by, kind_number, latency_in, place_of, region_number};
 
-use ps_model::{Cause, Channel, Region};
+use ps_model::{Cause, Channel, Region, Verdict};
 
 /// What a trial comes to.
-#[derive(Clone, Copy, Debug, PartialEq, Eq)]
+#[derive(Clone, Copy)]
 pub enum Outcome {
     /// Every scan was released as without the fault, up to the end.
     Silent,
@@ -51,8 +51,8 @@ fn kind_number(outcome: Outcome) -> usize
     }
 }
 
-// The latency of a trip.
-pub(crate) fn latency_in(outcome: Outcome) -> Option<u32>
+/// The latency of a trip.
+pub fn latency_in(outcome: Outcome) -> Option<u32>
     ensures { result ≡ latency_in outcome }
 {
     match outcome {
@@ -62,9 +62,22 @@ pub(crate) fn latency_in(outcome: Outcome) -> Option<u32>
 }
 
 /// The place of the line in which a trial counts: by channel, then by region, then by outcome.
-pub(crate) fn place_of(channel: Channel, region: Region, outcome: Outcome) -> usize
+pub fn place_of(channel: Channel, region: Region, outcome: Outcome) -> usize
     ensures place { result ≡ place_of channel region outcome }
     ensures few { result < 24 }
 {
     12 * channel_number(channel) + 6 * region_number(region) + kind_number(outcome)
+}
+
+/// What a scan at this time ends a trial with, if it does, where it differs from the run without the fault in this field
+/// of its report, if in any. `struck` is the time of the scan that was struck.
+pub fn ended_by(verdict: Verdict, struck: u32, now: u32, differs: Option<u16>) -> Option<Outcome>
+    ensures { result ≡ ended_by verdict struck now differs }
+{
+    match (verdict, differs) {
+        (Verdict::Released, None) => None,
+        (Verdict::Released, Some(_)) => Some(Outcome::Wrong),
+        (Verdict::Tripped(cause), _) => Some(Outcome::Tripped(cause, now.saturating_sub(struck))),
+        (Verdict::Down, _) => None,
+    }
 }

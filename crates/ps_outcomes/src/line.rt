@@ -1,8 +1,7 @@
 // The counts of a line.
 
 ghost use Rattle.std.specs.Prelude.{◌≡◌, ◌≤◌, ◌<◌, count_by, length, nat_le};
-ghost use Rattle.ps_tally.specs.Adding.{added_line, added_table};
-ghost use Rattle.ps_tally.specs.Lines.{column_of, counted_in, more, with_latency};
+ghost use Rattle.ps_outcomes.specs.Lines.{added_line, added_table, column_of, counted_in, more, with_latency};
 
 /// The least latency of each column of a table of latencies, in ms: 0, 1, 2 to 3, 4 to 7, and so on.
 pub const FLOORS: [u32; 33] = [
@@ -42,7 +41,7 @@ pub const FLOORS: [u32; 33] = [
 ];
 
 /// The counts of the trials of one channel, region and outcome. Each count stays at its largest value.
-#[derive(Clone, Copy, Debug, PartialEq, Eq)]
+#[derive(Clone, Copy)]
 pub struct Line {
     /// How many trials there were.
     pub count: u64,
@@ -98,8 +97,8 @@ impl Line {
         table: [0; 33],
     };
 
-    // The two lines together.
-    pub(crate) fn with_line(self, other: &Line) -> Line
+    /// The two lines together.
+    pub fn with_line(self, other: &Line) -> Line
         ensures { result ≡ added_line self other.now }
     {
         let mut table = self.table;
@@ -127,8 +126,8 @@ impl Line {
         }
     }
 
-    // The line with a trial more.
-    pub(crate) fn counted(self, latency: Option<u32>) -> Line
+    /// The line with a trial more, which has this latency if it tripped.
+    pub fn counted(self, latency: Option<u32>) -> Line
         ensures { result ≡ counted_in self latency }
     {
         let line = Line {

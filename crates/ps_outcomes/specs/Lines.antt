@@ -1,9 +1,9 @@
--- What is counted in a line.
-use Rattle.std.specs.Prelude.{ℕ, ◌+◌, ◌-◌, Option, Some, None, count_by, max, min, nat_le, replicate, slice_index}
-use Rattle.std.specs.Prelude.{slice_set}
+-- What is counted in a line, and in two lines together.
+use Rattle.std.specs.Prelude.{ℕ, ◌+◌, ◌-◌, List, Option, Some, None, count_by, map, max, min, nat_le, replicate}
+use Rattle.std.specs.Prelude.{slice_index, slice_set, zip}
 use Rattle.ps_outside.specs.Outside.{last_count}
-use Rattle.ps_tally.specs.declared.line.Line.{Line}
-use Rattle.ps_tally.specs.declared.line.TheConstants.{FLOORS}
+use Rattle.ps_outcomes.specs.declared.line.Line.{Line}
+use Rattle.ps_outcomes.specs.declared.line.TheConstants.{FLOORS}
 
 -- no trial
 abbrev pub no_trial : Line
@@ -34,3 +34,16 @@ with_trial l = record { count = more l.count 1; sum = l.sum; largest = l.largest
 abbrev pub counted_in : Line → Option ℕ → Line
 counted_in l None = with_trial l
 counted_in l (Some latency) = with_latency (with_trial l) latency
+
+-- two tables together, column by column
+abbrev pub added_table : (table other : List ℕ) → List ℕ
+added_table table other = map (λ p. more p.0 p.1) (zip table other)
+
+-- two lines together: the counts and the latencies of both, and the larger one of their largest latencies
+abbrev pub added_line : (line other : Line) → Line
+added_line line other = record {
+  count = more line.count other.count;
+  sum = more line.sum other.sum;
+  largest = max line.largest other.largest;
+  table = added_table line.table other.table;
+}

@@ -1,7 +1,7 @@
 use Rattle.std.proofs.Common.{◌≡◌, ◌∙◌, ℕ, ap, arith, slice_set}
-use Rattle.ps_tally.specs.Lines.{more}
-use Rattle.ps_tally.proofs.Adding.{upto, upto_all, upto_more}
-use Rattle.ps_tally.proofs.line.add_table.Goals as goal
+use Rattle.ps_outcomes.specs.Lines.{more}
+use Rattle.ps_outcomes.proofs.Upto.{upto, upto_all, upto_more}
+use Rattle.ps_outcomes.proofs.line.add_table.Goals as goal
 
 pub loop-column-preserved : goal.loop-column-preserved
 loop-column-preserved c =

@@ -1,0 +1,2 @@
+-- when the scans of a course are
+pub mod Times

@@ -1,0 +1,2 @@
+-- two lists together, place by place
+pub mod Upto

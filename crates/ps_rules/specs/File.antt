@@ -82,6 +82,11 @@ with_follow file f = record file { follows = file.follows ++ f ∷ [] }
 abbrev pub with_first : RulesFile → Setting → RulesFile
 with_first file s = record file { first = file.first ++ s ∷ [] }
 
+-- one more value in a first scan, or one that never changes
+abbrev pub with_setting : (is_first : Bool) → RulesFile → Setting → RulesFile
+with_setting true = with_first
+with_setting false = with_fixed
+
 -- settings come to a file one by one: R4 where the input stands already
 abbrev pub settings_after : (RulesFile → Setting → RulesFile) → Draft → (number : ℕ) → List Setting →
     Result Draft RulesRefusal

@@ -1,5 +1,5 @@
 -- The parts of a line: each is right, or has a flaw. Of several flaws of a line the one with the least number counts.
-use Rattle.std.specs.Prelude.{ℕ, List, [], ◌∷◌, ◌++◌, if◌then◌else◌, nat_le, Result, Ok, Err}
+use Rattle.std.specs.Prelude.{ℕ, List, [], ◌∷◌, ◌++◌, if◌then◌else◌, nat_le, Option, Some, None, Result, Ok, Err}
 use Rattle.ps_rules.specs.declared.flaw.Flaw.{Flaw}
 use Rattle.ps_rules.specs.declared.flaw.Flaw.TheVariants.{R1, R2, R3, R4, R5}
 
@@ -21,3 +21,8 @@ and_then (Ok found) (Ok a) = Ok (found ++ a ∷ [])
 and_then (Ok found) (Err s) = Err s
 and_then (Err r) (Ok a) = Err r
 and_then (Err r) (Err s) = Err (least r s)
+
+-- the parts of a line so far, unless one of them has a flaw
+abbrev pub so_far : {A : Type 0} → Option Flaw → A → Result A Flaw
+so_far None found = Ok found
+so_far (Some flaw) found = Err flaw

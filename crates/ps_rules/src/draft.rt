@@ -1,22 +1,16 @@
 // A rules file as far as it was read.
 
-ghost use Rattle.std.specs.Prelude.{◌≡◌, ◌==◌, [], true, IfOk, IfNone, OnOk};
-ghost use Rattle.std.specs.List.{list_any};
+ghost use Rattle.std.specs.Prelude.{◌≡◌, [], true, IfOk, IfNone, OnOk};
 ghost use Rattle.ps_terms.specs.Titles.{is_case_name};
-ghost use Rattle.ps_rules.specs.File.{asked_after, at, bare_rule, closed, file_ended, has_begun, no_lines, paced_after};
-ghost use Rattle.ps_rules.specs.File.{rule_after, rule_judged, said_after, settings_after, stands, tied_after, with_first};
-ghost use Rattle.ps_rules.specs.File.{with_fixed};
-ghost use Rattle.ps_terms.specs.declared.name.Setting.{Setting};
-ghost use Rattle.ps_rules.specs.declared.rules.Follow.{Follow};
-ghost use Rattle.ps_rules.specs.Saying.{after_by, said_by};
+ghost use Rattle.ps_rules.specs.File.{at, bare_rule, closed, file_ended, has_begun, no_lines, rule_after, rule_judged};
+ghost use Rattle.ps_rules.specs.Saying.{after_by, file_by};
 
 use crate::flaw::{Flaw, RulesRefusal};
 use crate::limits::{LONGEST_RULE_NAME, MOST_RULES};
-use crate::line::{LineSays, rule_name};
 use crate::lists::{Conditions, Follows, Rules};
-use crate::rules::{Follow, Pace, Purpose, Rule, RulesFile};
+use crate::rules::{Purpose, Rule, RulesFile};
 use ps_base::{Label, Memory};
-use ps_terms::{Setting, Settings, is_case_name};
+use ps_terms::{Settings, is_case_name};
 use std::alloc::Global;
 use std::{mem, str};
 
@@ -29,11 +23,21 @@ pub(crate) struct Head {
 
 // A rules file as far as it was read: the rule of the last `never` line, `head`, and its conditions are not yet in
 // `file`.
-#[derive(Drop)]
 pub(crate) struct Draft {
     pub(crate) file: RulesFile,
     pub(crate) head: Option<Head>,
     pub(crate) conditions: Conditions,
+}
+
+impl Drop for Draft {
+    // One call for whoever owns one, in place of a walk through all that it holds.
+    fn drop(self) {
+        let Draft {
+            file: _,
+            head: _,
+            conditions: _,
+        } = self;
+    }
 }
 
 impl Draft {
@@ -62,82 +66,6 @@ impl Draft {
         self.head.is_some()
     }
 
-    // A line with this number, of these bytes, says this. None: it is not refused.
-    pub(crate) fn take(
-        &mut self,
-        alloc: Global,
-        number: u32,
-        line: &[u8],
-        says: LineSays,
-    ) -> Result<Option<RulesRefusal>, Memory>
-        ensures { IfOk result (λ refusal.
-            said_after self.old number (said_by says line.now) ≡ after_by refusal self.new) }
-    {
-        match says {
-            LineSays::Nothing => Ok(None),
-            LineSays::Paces(pace) => Ok(self.pace(number, pace)),
-            LineSays::Fixes(settings) => self.fix(number, settings.as_slice()),
-            LineSays::Ties(follow) => self.tie(number, follow),
-            LineSays::Starts(settings) => self.start(number, settings.as_slice()),
-            LineSays::Begins => self.begin_rule(alloc, number, rule_name(line)),
-            LineSays::Asks(conditions) => {
-                self.ask(conditions)?;
-                Ok(None)
-            }
-            LineSays::Broken(flaw) => Ok(Some(at(flaw, number))),
-        }
-    }
-
-    // How scans come is said, once.
-    fn pace(&mut self, number: u32, pace: Pace) -> Option<RulesRefusal>
-        ensures { paced_after self.old number pace ≡ after_by result self.new }
-    {
-        if self.file.pace.is_some() {
-            return Some(at(Flaw::R1, number));
-        }
-        self.file.pace = Some(pace);
-        None
-    }
-
-    // Inputs never change.
-    fn fix(&mut self, number: u32, settings: &[Setting]) -> Result<Option<RulesRefusal>, Memory>
-        ensures { IfOk result (λ refusal.
-            settings_after with_fixed self.old number settings.now ≡ after_by refusal self.new) }
-    {
-        for setting in settings {
-            if stands(&self.file, setting.input) {
-                return Ok(Some(at(Flaw::R4, number)));
-            }
-            self.file.fixed.push(*setting)?;
-        }
-        Ok(None)
-    }
-
-    // Inputs have values in a first scan.
-    fn start(&mut self, number: u32, settings: &[Setting]) -> Result<Option<RulesRefusal>, Memory>
-        ensures { IfOk result (λ refusal.
-            settings_after with_first self.old number settings.now ≡ after_by refusal self.new) }
-    {
-        for setting in settings {
-            if stands(&self.file, setting.input) {
-                return Ok(Some(at(Flaw::R4, number)));
-            }
-            self.file.first.push(*setting)?;
-        }
-        Ok(None)
-    }
-
-    // An input follows a signal.
-    fn tie(&mut self, number: u32, follow: Follow) -> Result<Option<RulesRefusal>, Memory>
-        ensures { IfOk result (λ refusal. tied_after self.old number follow ≡ after_by refusal self.new) }
-    {
-        if stands(&self.file, follow.input) {
-            return Ok(Some(at(Flaw::R4, number)));
-        }
-        self.file.follows.push(follow)?;
-        Ok(None)
-    }
-
     // The rule that ends here has no conditions.
     fn bare_rule(&self) -> Option<RulesRefusal>
         ensures { result ≡ bare_rule self.now.head self.now.conditions }
@@ -149,7 +77,7 @@ impl Draft {
     }
 
     // A rule begins by this name.
-    fn begin_rule(
+    pub(crate) fn begin_rule(
         &mut self,
         alloc: Global,
         number: u32,
@@ -185,14 +113,27 @@ impl Draft {
         Ok(())
     }
 
-    // Conditions of the rule that has begun.
-    fn ask(&mut self, conditions: Conditions) -> Result<(), Memory>
-        ensures { OnOk result (self.new ≡ asked_after self.old conditions) }
+    // The file ends, at the line with this number. None: it is not refused.
+    fn finish(
+        &mut self,
+        alloc: Global,
+        purpose: Purpose,
+        number: u32,
+    ) -> Result<Option<RulesRefusal>, Memory>
+        ensures { IfOk result (λ refusal. file_ended purpose self.old number ≡ file_by refusal self.new.file) }
     {
-        self.conditions.append(conditions)
+        if let Some(refusal) = self.bare_rule() {
+            return Ok(Some(refusal));
+        }
+        if matches!(purpose, Purpose::Never) && self.head.is_none() {
+            return Ok(Some(at(Flaw::R1, number)));
+        }
+        self.close(alloc)?;
+        self.file.end = number;
+        Ok(None)
     }
 
-    // The file ends, at the line with this number.
+    // The file that ends at the line with this number.
     pub(crate) fn end(
         mut self,
         alloc: Global,
@@ -201,15 +142,10 @@ impl Draft {
     ) -> Result<Result<RulesFile, RulesRefusal>, Memory>
         ensures { IfOk result (λ file. file ≡ file_ended purpose self number) }
     {
-        if let Some(refusal) = self.bare_rule() {
-            return Ok(Err(refusal));
+        match self.finish(alloc, purpose, number)? {
+            None => Ok(Ok(self.into_file())),
+            Some(refusal) => Ok(Err(refusal)),
         }
-        if matches!(purpose, Purpose::Never) && self.head.is_none() {
-            return Ok(Err(at(Flaw::R1, number)));
-        }
-        self.close(alloc)?;
-        self.file.end = number;
-        Ok(Ok(self.into_file()))
     }
 
     // The file as far as its rules ended.
@@ -230,29 +166,6 @@ pub(crate) fn at(flaw: Flaw, line: u32) -> RulesRefusal
     ensures { result ≡ at flaw line }
 {
     RulesRefusal { flaw, line }
-}
-
-// Whether an input stands behind `fixed`, `follows` or `first`.
-fn stands(file: &RulesFile, input: u16) -> bool
-    ensures { result ≡ stands file.now input }
-{
-    has_setting(file.fixed.as_slice(), input)
-        || has_follow(file.follows.as_slice(), input)
-        || has_setting(file.first.as_slice(), input)
-}
-
-// Whether one of these is of the input.
-fn has_setting(settings: &[Setting], input: u16) -> bool
-    ensures { result ≡ list_any (λ (s : Setting). s.input == input) settings.now }
-{
-    settings.iter().any(|setting| setting.input == input)
-}
-
-// Whether one of these inputs that follow is this one.
-fn has_follow(follows: &[Follow], input: u16) -> bool
-    ensures { result ≡ list_any (λ (f : Follow). f.input == input) follows.now }
-{
-    follows.iter().any(|follow| follow.input == input)
 }
 
 // The flaw of a rule of this name behind so many others.

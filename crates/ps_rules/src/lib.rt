@@ -2,9 +2,9 @@
 //!
 //! - `rules` has what a file says: how scans come, which inputs are fixed or follow a signal, and rules with their
 //!   conditions, in lists (`lists`). `flaw` has why it has no answer.
-//! - `line` reads a line by its words: settings and conditions (`words`), and `parts` puts together what is right and
+//! - `line` and `words` read the parts of a line, settings and conditions, and `parts` puts together what is right and
 //!   what breaks a rule of the form.
-//! - `draft` is a file as far as it was read, and `reading` reads it, within `limits`.
+//! - `draft` is a file as far as it was read, `taking` what a line does to it, and `reading` reads it, within `limits`.
 #![tactic(auto)]
 
 mod draft;
@@ -15,6 +15,7 @@ mod lists;
 mod parts;
 mod reading;
 mod rules;
+mod taking;
 mod words;
 
 pub use flaw::{Flaw, RulesFail, RulesRefusal};

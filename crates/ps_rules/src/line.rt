@@ -1,81 +1,26 @@
-// What a line says.
+// The parts of a line: its settings, and the name of a rule.
 
-ghost use Rattle.std.specs.Prelude.{◌≡◌, ◌≤◌, ℕ, List, length, drop, IfOk};
+ghost use Rattle.std.specs.Prelude.{◌≡◌, ◌≤◌, length, drop, IfOk};
 ghost use Rattle.ps_trace.specs.Words.{words};
 ghost use Rattle.ps_terms.specs.Names.{number_named, signal_names};
 ghost use Rattle.ps_terms.specs.Words.{counted};
-ghost use Rattle.ps_rules.specs.Line.{follow_of, follow_said, followed, is_setting, line_said, pace_of_word, pace_said};
-ghost use Rattle.ps_rules.specs.Line.{rule_begins, rule_name, setting_line, some_settings};
-ghost use Rattle.ps_rules.specs.Saying.{said_by};
+ghost use Rattle.ps_rules.specs.Line.{follow_of, follow_said, followed, is_setting, pace_of_word, pace_said};
+ghost use Rattle.ps_rules.specs.Line.{rule_name, some_settings};
 
 use crate::flaw::Flaw;
-use crate::lists::Conditions;
 use crate::rules::{Follow, Pace, Purpose};
-use crate::words::{conditions_said, settings_said};
+use crate::words::settings_said;
 use ps_base::Memory;
 use ps_model::App;
 use ps_terms::{
-    Settings, before_blanks, behind_blanks, input_named, is_digits, is_none_left, next_counted,
-    signal_named, take_word,
+    Settings, before_blanks, behind_blanks, input_named, is_digits, is_none_left, signal_named,
+    take_word,
 };
 use ps_trace::number;
 use std::alloc::Global;
 
-// What a line says. The name of a rule is read apart.
-#[derive(Drop)]
-pub(crate) enum LineSays {
-    Nothing,
-    Paces(Pace),
-    Fixes(Settings),
-    Ties(Follow),
-    Starts(Settings),
-    Begins,
-    Asks(Conditions),
-    Broken(Flaw),
-}
-
-// What a line says, by whether a rule has begun.
-pub(crate) fn read_line(
-    alloc: Global,
-    app: &App,
-    purpose: Purpose,
-    begun: bool,
-    line: &[u8],
-) -> Result<LineSays, Memory>
-    ensures { IfOk result (λ says. line_said app.now purpose begun line.now ≡ said_by says line.now) }
-{
-    let Some((from, upto)) = next_counted(line, 0) else {
-        return Ok(LineSays::Nothing);
-    };
-    let word = &line[from..upto];
-    if word == b"never".as_slice() {
-        return Ok(rule_line(purpose));
-    }
-    let is_setting = is_setting(word);
-    if is_setting == begun {
-        return Ok(LineSays::Broken(Flaw::R1));
-    }
-    if is_setting {
-        return setting_line(alloc, app, purpose, line, word, upto);
-    }
-    match conditions_said(alloc, app, line, 0)? {
-        Ok(conditions) => Ok(LineSays::Asks(conditions)),
-        Err(flaw) => Ok(LineSays::Broken(flaw)),
-    }
-}
-
-// A rule begins; a comparison has none.
-fn rule_line(purpose: Purpose) -> LineSays
-    ensures { (line : List ℕ) → rule_begins purpose line ≡ said_by result line }
-{
-    match purpose {
-        Purpose::Never => LineSays::Begins,
-        Purpose::Same => LineSays::Broken(Flaw::R1),
-    }
-}
-
 // Whether a word begins a setting.
-fn is_setting(word: &[u8]) -> bool
+pub(crate) fn is_setting(word: &[u8]) -> bool
     ensures { result ≡ is_setting word.now }
 {
     word == b"every".as_slice()
@@ -84,40 +29,8 @@ fn is_setting(word: &[u8]) -> bool
         || word == b"first".as_slice()
 }
 
-// What a setting says: its first word, and those from `at` on.
-fn setting_line(
-    alloc: Global,
-    app: &App,
-    purpose: Purpose,
-    line: &[u8],
-    word: &[u8],
-    at: usize,
-) -> Result<LineSays, Memory>
-    requires { at ≤ length line.now }
-    ensures { IfOk result (λ says.
-        setting_line app.now purpose word.now (counted (words (drop at line.now))) ≡ said_by says line.now) }
-{
-    if word == b"every".as_slice() {
-        return Ok(match pace_said(line, at) {
-            Ok(pace) => LineSays::Paces(pace),
-            Err(flaw) => LineSays::Broken(flaw),
-        });
-    }
-    if word == b"follows".as_slice() {
-        return Ok(match follow_said(app, purpose, line, at) {
-            Ok(follow) => LineSays::Ties(follow),
-            Err(flaw) => LineSays::Broken(flaw),
-        });
-    }
-    match some_settings(alloc, app, line, at)? {
-        Ok(settings) if word == b"fixed".as_slice() => Ok(LineSays::Fixes(settings)),
-        Ok(settings) => Ok(LineSays::Starts(settings)),
-        Err(flaw) => Ok(LineSays::Broken(flaw)),
-    }
-}
-
 // How scans come, by one word.
-fn pace_said(line: &[u8], at: usize) -> Result<Pace, Flaw>
+pub(crate) fn pace_said(line: &[u8], at: usize) -> Result<Pace, Flaw>
     requires { at ≤ length line.now }
     ensures { result ≡ pace_said (counted (words (drop at line.now))) }
 {
@@ -147,7 +60,7 @@ fn pace_of_word(word: &[u8]) -> Result<Pace, Flaw>
 }
 
 // Settings, of which there is one at least.
-fn some_settings(
+pub(crate) fn some_settings(
     alloc: Global,
     app: &App,
     line: &[u8],
@@ -163,7 +76,12 @@ fn some_settings(
 }
 
 // An input and a signal, perhaps with NOT between them.
-fn follow_said(app: &App, purpose: Purpose, line: &[u8], at: usize) -> Result<Follow, Flaw>
+pub(crate) fn follow_said(
+    app: &App,
+    purpose: Purpose,
+    line: &[u8],
+    at: usize,
+) -> Result<Follow, Flaw>
     requires { at ≤ length line.now }
     ensures { result ≡ follow_said app.now purpose (counted (words (drop at line.now))) }
 {

@@ -1,7 +1,7 @@
 // The parts of a line, of which each is right or has a flaw.
 
 ghost use Rattle.std.specs.Prelude.{◌≡◌, IfOk};
-ghost use Rattle.ps_rules.specs.Parts.{and_then};
+ghost use Rattle.ps_rules.specs.Parts.{and_then, so_far};
 
 use crate::flaw::Flaw;
 use crate::lists::Conditions;
@@ -9,36 +9,38 @@ use crate::rules::Condition;
 use ps_base::Memory;
 use ps_terms::{Setting, Settings};
 
-// Settings, and one more behind them.
+// The flaw of settings behind one more, which is put behind them where there is none.
 pub(crate) fn and_setting(
-    found: Result<Settings, Flaw>,
+    settings: &mut Settings,
+    flaw: Option<Flaw>,
     setting: Result<Setting, Flaw>,
-) -> Result<Result<Settings, Flaw>, Memory>
-    ensures { IfOk result (λ settings. settings ≡ and_then found setting) }
+) -> Result<Option<Flaw>, Memory>
+    ensures { IfOk result (λ now. so_far now settings.new ≡ and_then (so_far flaw settings.old) setting) }
 {
-    match (found, setting) {
-        (Ok(mut settings), Ok(setting)) => {
+    match (flaw, setting) {
+        (None, Ok(setting)) => {
             settings.push(setting)?;
-            Ok(Ok(settings))
+            Ok(None)
         }
-        (Ok(_), Err(flaw)) | (Err(flaw), Ok(_)) => Ok(Err(flaw)),
-        (Err(flaw), Err(other)) => Ok(Err(flaw.least(other))),
+        (None, Err(flaw)) | (Some(flaw), Ok(_)) => Ok(Some(flaw)),
+        (Some(flaw), Err(other)) => Ok(Some(flaw.least(other))),
     }
 }
 
-// Conditions, and one more behind them.
+// The flaw of conditions behind one more, which is put behind them where there is none.
 pub(crate) fn and_condition(
-    found: Result<Conditions, Flaw>,
+    conditions: &mut Conditions,
+    flaw: Option<Flaw>,
     condition: Result<Condition, Flaw>,
-) -> Result<Result<Conditions, Flaw>, Memory>
-    ensures { IfOk result (λ conditions. conditions ≡ and_then found condition) }
+) -> Result<Option<Flaw>, Memory>
+    ensures { IfOk result (λ now. so_far now conditions.new ≡ and_then (so_far flaw conditions.old) condition) }
 {
-    match (found, condition) {
-        (Ok(mut conditions), Ok(condition)) => {
+    match (flaw, condition) {
+        (None, Ok(condition)) => {
             conditions.push(condition)?;
-            Ok(Ok(conditions))
+            Ok(None)
         }
-        (Ok(_), Err(flaw)) | (Err(flaw), Ok(_)) => Ok(Err(flaw)),
-        (Err(flaw), Err(other)) => Ok(Err(flaw.least(other))),
+        (None, Err(flaw)) | (Some(flaw), Ok(_)) => Ok(Some(flaw)),
+        (Some(flaw), Err(other)) => Ok(Some(flaw.least(other))),
     }
 }

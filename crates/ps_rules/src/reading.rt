@@ -10,7 +10,6 @@ ghost use Rattle.ps_rules.specs.declared.flaw.RulesRefusal.{RulesRefusal};
 use crate::draft::{Draft, at};
 use crate::flaw::{Flaw, RulesFail};
 use crate::limits::{LARGEST_RULES_FILE, LONGEST_RULES_LINE, MOST_RULES_LINES};
-use crate::line::read_line;
 use crate::rules::{Purpose, RulesFile};
 use ps_lines::{Got, Limits, LineReader};
 use ps_model::App;
@@ -70,9 +69,8 @@ pub fn read_rules<F: Files>(
         if number > MOST_RULES_LINES || got == Got::TooLong || got == Got::TooLarge {
             return Err(RulesFail::Refused(at(Flaw::R5, number)));
         }
-        let says = read_line(alloc, app, purpose, draft.has_begun(), lines.line())?;
         let line = lines.line();
-        if let Some(refusal) = draft.take(alloc, number, line, says)? {
+        if let Some(refusal) = draft.take(alloc, app, purpose, number, line)? {
             return Err(RulesFail::Refused(refusal));
         }
         number += 1;

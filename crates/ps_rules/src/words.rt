@@ -4,8 +4,9 @@ ghost use Rattle.std.specs.Prelude.{◌≡◌, ◌≤◌, ◌<◌, ℕ, Bool, le
 ghost use Rattle.ps_model.specs.Network.{instance_count};
 ghost use Rattle.ps_trace.specs.Words.{words};
 ghost use Rattle.ps_terms.specs.Words.{counted};
+ghost use Rattle.ps_terms.specs.Names.{name_of};
 ghost use Rattle.ps_rules.specs.Words.{among_said, compare_said, condition_said, conditions_said, denied_said};
-ghost use Rattle.ps_rules.specs.Words.{setting_said, settings_said, term_of};
+ghost use Rattle.ps_rules.specs.Words.{named_when, setting_said, settings_said, term_of};
 
 use crate::flaw::Flaw;
 use crate::lists::Conditions;
@@ -45,13 +46,17 @@ pub(crate) fn settings_said(
     requires { at ≤ length line.now }
     ensures { IfOk result (λ settings. settings ≡ settings_said app.now (counted (words (drop at line.now)))) }
 {
-    let mut found = Ok(Settings::new(alloc));
+    let mut settings = Settings::new(alloc);
+    let mut flaw = None;
     let mut next = at;
     'words: while let Some((from, upto)) = next_counted(line, next) {
-        found = and_setting(found, setting_said(app, &line[from..upto]))?;
+        flaw = and_setting(&mut settings, flaw, setting_said(app, &line[from..upto]))?;
         next = upto;
     }
-    Ok(found)
+    match flaw {
+        None => Ok(Ok(settings)),
+        Some(flaw) => Ok(Err(flaw)),
+    }
 }
 
 // The conditions that the words of a line are from `at` on.
@@ -64,14 +69,18 @@ pub(crate) fn conditions_said(
     requires { at ≤ length line.now }
     ensures { IfOk result (λ conditions. conditions ≡ conditions_said app.now (counted (words (drop at line.now)))) }
 {
-    let mut found = Ok(Conditions::new(alloc));
+    let mut conditions = Conditions::new(alloc);
+    let mut flaw = None;
     let mut next = at;
     'words: while let Some((from, upto)) = next_counted(line, next) {
         let condition = condition_said(alloc, app, &line[from..upto])?;
-        found = and_condition(found, condition)?;
+        flaw = and_condition(&mut conditions, flaw, condition)?;
         next = upto;
     }
-    Ok(found)
+    match flaw {
+        None => Ok(Ok(conditions)),
+        Some(flaw) => Ok(Err(flaw)),
+    }
 }
 
 // The condition that a word is.
@@ -100,19 +109,24 @@ fn compare_said(
     }
 }
 
+// What is named so, and whether its value after the scan before is meant.
+fn named_when(app: &App, before: bool, name: &[u8]) -> Option<(Name, bool)>
+    ensures named { result ≡ named_when before (name_of app.now name.now) }
+    ensures within { (i : ℕ) (when : Bool) → result ≡ Some (Name.Code i, when) → i < instance_count app.now }
+{
+    let name = name_of(app, name)?;
+    Some((name, before))
+}
+
 // What is named, and whether its value after the scan before is meant.
 fn term_of(app: &App, word: &[u8]) -> Option<(Name, bool)>
     ensures named { result ≡ term_of app.now word.now }
     ensures within { (i : ℕ) (before : Bool) → result ≡ Some (Name.Code i, before) → i < instance_count app.now }
 {
     match cut(word, b'@') {
-        (name, Some(when)) => {
-            if when != b"before".as_slice() {
-                return None;
-            }
-            Some((name_of(app, name)?, true))
-        }
-        (_, None) => Some((name_of(app, word)?, false)),
+        (name, Some(when)) if when == b"before".as_slice() => named_when(app, true, name),
+        (_, Some(_)) => None,
+        (_, None) => named_when(app, false, word),
     }
 }
 

@@ -1,4 +1,4 @@
-use Rattle.std.proofs.Common.{length, ◌≡◌, ◌≢◌, ◌≤◌, ◌<◌, ◌∙◌, ℕ, List, [], Bool, Option, None, Result, Ok, Err, IfOk, IfNone, IsTrue, IsSome, refl, subst, sym, ap, arith}
+use Rattle.std.proofs.Common.{length, ◌≡◌, ◌≢◌, ◌≤◌, ◌<◌, ◌∙◌, ℕ, List, [], Option, None, Result, Ok, Err, IfOk, IfNone, IsTrue, IsSome, refl, subst, sym, ap, arith}
 use Rattle.std.proofs.lemmas.Grind.{common_steps}
 use Rattle.ps_lines.specs.Reader.{Gives, IsFresh, left, line_of, begin_of, read_of, name_of}
 use Rattle.ps_lines.specs.declared.reader.Limits.{Limits}
@@ -10,8 +10,8 @@ use Rattle.ps_rules.specs.declared.flaw.RulesRefusal.{RulesRefusal}
 use Rattle.ps_rules.specs.declared.flaw.RulesFail.{RulesFail}
 use Rattle.ps_rules.specs.declared.rules.RulesFile.{RulesFile}
 use Rattle.ps_rules.specs.declared.draft.Draft.{Draft}
-use Rattle.ps_rules.specs.Line.{Said, line_said}
-use Rattle.ps_rules.specs.Saying.{after_by, said_by}
+use Rattle.ps_rules.specs.Line.{line_said}
+use Rattle.ps_rules.specs.Saying.{after_by}
 use Rattle.ps_rules.specs.File.{has_begun, rules_of, lines_read, no_lines, said_after, file_ended}
 use Rattle.ps_rules.proofs.Keeping.{Stands, ended_stands, line_has, no_lines_stand, said_stands}
 use Rattle.ps_rules.specs.Standing.{IsOfApplication}
@@ -66,7 +66,7 @@ returns-in-Some-clause-refuses g c = λ tells text is refusal same.
     let small : c.in_ok-got.got ≢ TooLarge = grind (arith, common_steps) in
     let few : c.lines.number ≤ MOST_RULES_LINES = omega arith in
     let says : said_after c.lines.draft c.lines.number (line_said c.args.app.now c.args.purpose (has_begun c.lines.draft) (line_of c.next_line.new.self)) ≡ Err c.in-Some.refusal =
-    ap (λ (said : Said). said_after c.lines.draft c.lines.number said) (ap (line_said c.args.app.now c.args.purpose (has_begun c.lines.draft)) (sym c.line.ensures) ∙ ap (λ (b : Bool). line_said c.args.app.now c.args.purpose b c.line.result.now) (sym c.has_begun.ensures) ∙ c.in_ok-says.ensures ∙ ap (said_by c.in_ok-says.says) (c.line.ensures ∙ sym c.line-line.ensures)) ∙ c.in_ok-refusal.ensures
+    ap (λ (bytes : List ℕ). said_after c.lines.draft c.lines.number (line_said c.args.app.now c.args.purpose (has_begun c.lines.draft) bytes)) (sym c.line-line.ensures) ∙ c.in_ok-refusal.ensures
     ∙ ap (λ (r : Option RulesRefusal). after_by r c.take.new.self) c.in-Some.is in
     let which : c.in-Some.refusal ≡ refusal = cc in
     c.lines.invariant.says tells text is
@@ -88,7 +88,7 @@ lines-preserved g c =
     let none : c.in_ok-refusal.field-0 ≡ None = grind (arith, common_steps) in
     let on : begin_of c.lines.lines < begin_of c.next_line.new.self = goes_past c.in_ok-got.got c.lines.lines c.next_line.new.self c.in_ok-got.ensures.goes_on more small in
     let says : said_after c.lines.draft c.lines.number (line_said c.args.app.now c.args.purpose (has_begun c.lines.draft) (line_of c.next_line.new.self)) ≡ Ok c.take.new.self =
-    ap (λ (said : Said). said_after c.lines.draft c.lines.number said) (ap (line_said c.args.app.now c.args.purpose (has_begun c.lines.draft)) (sym c.line.ensures) ∙ ap (λ (b : Bool). line_said c.args.app.now c.args.purpose b c.line.result.now) (sym c.has_begun.ensures) ∙ c.in_ok-says.ensures ∙ ap (said_by c.in_ok-says.says) (c.line.ensures ∙ sym c.line-line.ensures)) ∙ c.in_ok-refusal.ensures
+    ap (λ (bytes : List ℕ). said_after c.lines.draft c.lines.number (line_said c.args.app.now c.args.purpose (has_begun c.lines.draft) bytes)) (sym c.line-line.ensures) ∙ c.in_ok-refusal.ensures
     ∙ ap (λ (r : Option RulesRefusal). after_by r c.take.new.self) none in
     record {
       reads = λ tells text is. c.next_line.ensures.reads (subst IsTrue (sym c.lines.invariant.telling) tells) text (grind (arith, common_steps)) (c.lines.invariant.reads tells text is);

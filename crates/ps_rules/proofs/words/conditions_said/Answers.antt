@@ -2,7 +2,7 @@ use Rattle.std.proofs.Common.{◌≡◌, ◌≤◌, ◌<◌, ◌∙◌, ◌-◌,
 use Rattle.std.proofs.lemmas.Grind.{common_steps}
 use Rattle.ps_trace.specs.Words.{words}
 use Rattle.ps_terms.specs.Words.{counted}
-use Rattle.ps_rules.specs.Parts.{and_then}
+use Rattle.ps_rules.specs.Parts.{and_then, so_far}
 use Rattle.ps_rules.specs.Words.{condition_said}
 use Rattle.ps_rules.specs.declared.flaw.Flaw.{Flaw}
 use Rattle.ps_rules.specs.declared.rules.Condition.{Condition}
@@ -14,9 +14,11 @@ words-preserved c =
     let step : Result (List Condition) Flaw → List ℕ → Result (List Condition) Flaw = λ found word. and_then found (condition_said c.args.app.now word) in
     let rest = counted (words (drop c.in-Some.upto line)) in
     let word = take (c.in-Some.upto - c.in-Some.from) (drop c.in-Some.from line) in
+    let before = so_far c.words.flaw c.words.conditions in
+    let behind = so_far c.in_ok-flaw.flaw c.and_condition.new.conditions in
     let said : c.in_ok-condition.condition ≡ condition_said c.args.app.now word = c.in_ok-condition.ensures in
-    let found : c.in_ok-found.found ≡ and_then c.words.found (condition_said c.args.app.now word) = c.in_ok-found.ensures ∙ ap (and_then c.words.found) said in
+    let found : behind ≡ and_then before (condition_said c.args.app.now word) = c.in_ok-flaw.ensures ∙ ap (and_then before) said in
     record {
       within = grind (arith, common_steps);
-      found = ap (λ f. fold step f rest) found ∙ ap (fold step c.words.found) (sym c.in-Some.ensures.first) ∙ c.words.invariant.found;
+      found = ap (λ f. fold step f rest) found ∙ ap (fold step before) (sym c.in-Some.ensures.first) ∙ c.words.invariant.found;
     }

@@ -1,6 +1,6 @@
 use Rattle.std.proofs.Common.{◌≡◌, ◌≤◌, ◌-◌, length, drop, fold, Ok, []}
 use Rattle.ps_trace.specs.Words.{words}
-use Rattle.ps_rules.specs.Parts.{and_then}
+use Rattle.ps_rules.specs.Parts.{and_then, so_far}
 use Rattle.ps_terms.specs.Words.{counted}
 use Rattle.ps_rules.specs.Words.{condition_said}
 use Rattle.ps_rules.proofs.words.conditions_said.Given as goal
@@ -9,7 +9,7 @@ use Rattle.ps_rules.proofs.words.conditions_said.Given as goal
 abbrev pub invariant-words : goal.invariant-words
 invariant-words l = record {
   within : l.next ≤ length l.line;
-  found : fold (λ found word. and_then found (condition_said l.app word)) l.found (counted (words (drop l.next l.line)))
+  found : fold (λ found word. and_then found (condition_said l.app word)) (so_far l.flaw l.conditions) (counted (words (drop l.next l.line)))
       ≡ fold (λ found word. and_then found (condition_said l.app word)) (Ok []) (counted (words (drop l.at l.line)));
 }
 

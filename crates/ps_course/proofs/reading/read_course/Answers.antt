@@ -1,11 +1,14 @@
-use Rattle.std.proofs.Common.{◌≡◌, ◌∙◌, ℕ, Bool, List, IsTrue, Some, Ok, Err, sym, ap, subst, arith}
+use Rattle.std.proofs.Common.{◌≡◌, ◌∙◌, ◌≤◌, ℕ, Bool, List, IsTrue, Some, Ok, Err, sym, ap, subst, arith}
 use Rattle.ps_course.specs.Courses.{IsCourse, items_in}
+use Rattle.ps_course.specs.declared.recorder.Course.{Course}
 use Rattle.ps_model.specs.Meaning.Item.{scan as scan_item, restart as restart_item}
 use Rattle.ps_outside.specs.Outside.{Rose}
 use Rattle.ps_trace.specs.Reading.{Comes, Fills, GoesOn, file_of, items_left}
+use Rattle.ps_trace.specs.Scans.{Scans}
+use Rattle.ps_trace.specs.Scans.End.{whole, refused}
 use Rattle.ps_trace.specs.declared.trace.Next.{Next}
-use Rattle.ps_trace.specs.declared.trace.TraceStop.TheVariants.{Fault}
-use Rattle.ps_course.proofs.Leading.{leads_more}
+use Rattle.ps_trace.specs.declared.trace.TraceStop.TheVariants.{Fault, Refused}
+use Rattle.ps_course.proofs.Leading.{leads_all, leads_end, leads_more}
 use Rattle.ps_course.proofs.Recorded.{is_course}
 use Rattle.ps_course.proofs.reading.read_course.Goals as goal
 
@@ -85,3 +88,45 @@ returns-in-Err-clause-fault g c = λ e.
     let rose = c.next_scan.ensures.fault (c.in-Err.is ∙ ap Err is) in
     subst (λ (n : ℕ). Rose n (faults c.next_scan.new.files name)) (inv.all_read name)
     (subst (λ (file : List ℕ). Rose (faults c.items.files file) (faults c.next_scan.new.files file)) inv.name rose)
+
+pub returns-in-Ok-End-clause-items : goal.returns-in-Ok-End-clause-items
+returns-in-Ok-End-clause-items g c = λ ft text is reading.
+    let inv = c.items.invariant in
+    let here : g.F.Files.held c.items.files (file_of c.items.trace) ≡ Some text =
+    ap (λ (h : List ℕ → _). h (file_of c.items.trace)) inv.kept ∙ ap (g.F.Files.held c.args.files.now) inv.name ∙ is in
+    let ft' : IsTrue (g.F.Files.tells c.items.files) = subst (λ (b : Bool). IsTrue b) (sym inv.telling) ft in
+    let comes = subst (λ (n : Next). Comes (items_left c.items.trace text) n c.next_scan.new.into (items_left c.next_scan.new.self text)) c.in-Ok-End.field-0-is
+    (c.in-Ok-End.ensures.comes ft' text here (inv.reads ft text is reading)) in
+    leads_all (items_left c.args.trace.now text) (items_left c.items.trace text) (items_in c.items.recorder.course.steps.items) (inv.leads ft text is reading) comes.0
+    ∙ ap (λ (course : Course). record { items = items_in course.steps.items; end = whole }) (sym c.finish.ensures)
+
+pub returns-in-Ok-End-clause-reads : goal.returns-in-Ok-End-clause-reads
+returns-in-Ok-End-clause-reads g c = λ name.
+    subst (λ (n : ℕ). n ≤ g.F.Files.faults c.next_scan.new.files name) (c.items.invariant.all_read name) (c.in-Ok-End.ensures.counts name)
+
+pub returns-in-Ok-End-clause-kept : goal.returns-in-Ok-End-clause-kept
+returns-in-Ok-End-clause-kept g c = c.in-Ok-End.ensures.kept ∙ c.items.invariant.kept
+
+pub returns-in-Ok-End-clause-reading : goal.returns-in-Ok-End-clause-reading
+returns-in-Ok-End-clause-reading g c = c.in-Ok-End.ensures.telling ∙ c.items.invariant.telling
+
+pub returns-in-Err-clause-refuses : goal.returns-in-Err-clause-refuses
+returns-in-Err-clause-refuses g c = λ ft text is reading refusal e.
+    let inv = c.items.invariant in
+    let here : g.F.Files.held c.items.files (file_of c.items.trace) ≡ Some text =
+    ap (λ (h : List ℕ → _). h (file_of c.items.trace)) inv.kept ∙ ap (g.F.Files.held c.args.files.now) inv.name ∙ is in
+    let ft' : IsTrue (g.F.Files.tells c.items.files) = subst (λ (b : Bool). IsTrue b) (sym inv.telling) ft in
+    let at : c.in-Err.stop ≡ Refused refusal = cc in
+    leads_end (items_left c.args.trace.now text) (items_left c.items.trace text) (items_in c.items.recorder.course.steps.items) (refused refusal)
+    (inv.leads ft text is reading)
+    (ap (λ (s : Scans). s.end) (c.next_scan.ensures.refuses ft' text here (inv.reads ft text is reading) refusal (c.in-Err.is ∙ ap Err at)))
+
+pub returns-in-Err-clause-reads : goal.returns-in-Err-clause-reads
+returns-in-Err-clause-reads g c = λ name.
+    subst (λ (n : ℕ). n ≤ g.F.Files.faults c.next_scan.new.files name) (c.items.invariant.all_read name) (c.next_scan.ensures.counts name)
+
+pub returns-in-Err-clause-kept : goal.returns-in-Err-clause-kept
+returns-in-Err-clause-kept g c = c.next_scan.ensures.kept ∙ c.items.invariant.kept
+
+pub returns-in-Err-clause-reading : goal.returns-in-Err-clause-reading
+returns-in-Err-clause-reading g c = c.next_scan.ensures.telling ∙ c.items.invariant.telling

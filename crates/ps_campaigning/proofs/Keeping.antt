@@ -3,7 +3,6 @@ use Rattle.std.proofs.Common.{◌≡◌, ◌∙◌, ℕ, Bool, List, Option, Som
 use Rattle.std.specs.Prelude.{IfErr, IfOk, OnOk}
 use Rattle.std.proofs.lemmas.Option.{same_Some}
 use Rattle.ps_traced.specs.Refusing.{StopsAtTrace}
-use Rattle.ps_base.specs.declared.failing.Memory.{Memory}
 use Rattle.ps_base.specs.declared.failing.Refusal.{Refusal}
 use Rattle.ps_bench_base.specs.Ending.{IsOfRun}
 use Rattle.ps_bench_base.specs.Opening.{Source}

@@ -1,5 +1,5 @@
 -- The lines of the faults of trials, one after another.
-use Rattle.std.proofs.Common.{◌≡◌, ◌∙◌, ◌+◌, ◌++◌, ℕ, List}
+use Rattle.std.proofs.Common.{◌+◌, ℕ, List}
 use Rattle.ps_campaigning.specs.Printing.{fault_text}
 use Rattle.ps_trials.specs.Faults.{fault_by}
 use Rattle.ps_trials.specs.Trials.{trial_of}

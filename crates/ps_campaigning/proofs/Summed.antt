@@ -1,9 +1,8 @@
 -- Counts that are added and written.
-use Rattle.std.proofs.Common.{◌≡◌, ◌∙◌, ◌⊎◌, inl, inr, ℕ, ◌+◌, Bool, IsTrue, List, [], ◌∷◌, Bor, Option, Some, Result, Ok, Err, length, map, refl, sym, ap, subst, arith}
+use Rattle.std.proofs.Common.{◌≡◌, inl, inr, ℕ, ◌+◌, Bool, IsTrue, List, [], ◌∷◌, Bor, Option, Some, Result, Ok, Err, length, map, refl, sym, ap, subst, arith}
 use Rattle.std.proofs.lemmas.List.Sums.{sum_by-cons}
 use Rattle.std.specs.List.{range_with_len}
 use Rattle.std.specs.Prelude.{IfErr, IfOk, sum}
-use Rattle.ps_bench_base.specs.Ending.{IsUnread}
 use Rattle.ps_bench_base.specs.Stopping.{Took, TookSome}
 use Rattle.ps_bench_base.specs.declared.ending.Status.{Status}
 use Rattle.ps_bench_base.specs.declared.ending.Status.TheVariants.{Done}
@@ -14,7 +13,6 @@ use Rattle.ps_model.specs.Network.{Network}
 use Rattle.ps_tally.proofs.Plain.{all_plain, none_plain}
 use Rattle.ps_tally.specs.Plain.{ArePlain}
 use Rattle.ps_tally.specs.Tallies.{none_counted}
-use Rattle.ps_outcomes.specs.declared.line.Line.{Line}
 use Rattle.ps_totals.specs.Files.{AddsFiles, IsSum, Tells}
 use Rattle.ps_totals.specs.Sums.{text_of}
 use Rattle.ps_totals.specs.declared.summing.Totals.{Totals}

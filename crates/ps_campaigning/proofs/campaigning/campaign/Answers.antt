@@ -1,4 +1,4 @@
-use Rattle.std.proofs.Common.{◌∙◌, ◌≤◌, [], ◌∷◌, arith}
+use Rattle.std.proofs.Common.{◌∙◌, [], ◌∷◌, arith}
 use Rattle.ps_bench_base.proofs.Stopped.{rose_since}
 use Rattle.ps_bench_base.specs.Meant.{file_meant}
 use Rattle.ps_campaigning.specs.Asking.{wanted_by}

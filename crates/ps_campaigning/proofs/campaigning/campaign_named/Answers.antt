@@ -1,4 +1,4 @@
-use Rattle.std.proofs.Common.{◌∙◌, ◌≤◌, arith, refl}
+use Rattle.std.proofs.Common.{◌∙◌, arith, refl}
 use Rattle.std.proofs.lemmas.Result.{IfErr-weaker}
 use Rattle.ps_bench_base.proofs.Stopped.{rose_since}
 use Rattle.ps_traced.proofs.Refused.{of_some}

@@ -1,4 +1,4 @@
-use Rattle.std.proofs.Common.{◌∙◌, List, ℕ, refl, inl, inr, ap}
+use Rattle.std.proofs.Common.{◌∙◌, List, ℕ, refl, inr, ap}
 use Rattle.ps_campaigning.specs.Asking.{campaign_text, wanted_by}
 use Rattle.ps_campaigning.proofs.Ending.{told_ended, told_in}
 use Rattle.ps_course.specs.Courses.{items_in}

@@ -1,4 +1,4 @@
-use Rattle.std.proofs.Common.{◌≡◌, ◌∙◌, ◌+◌, ◌++◌, ℕ, ap, refl, arith}
+use Rattle.std.proofs.Common.{◌∙◌, ◌+◌, ◌++◌, refl, arith}
 use Rattle.ps_campaigning.specs.Printing.{fault_text}
 use Rattle.ps_campaigning.proofs.Numbered.{line_of}
 use Rattle.ps_tally.proofs.Growing.{all_told, one_more}

@@ -1,4 +1,4 @@
-use Rattle.std.proofs.Common.{◌≡◌, ◌∙◌, ◌≤◌, ◌++◌, arith, ℕ, IsTrue, List, Some, Ok, Err, refl, sym, ap, subst}
+use Rattle.std.proofs.Common.{◌≡◌, ◌∙◌, ◌++◌, arith, ℕ, IsTrue, List, Ok, Err, sym, ap, subst}
 use Rattle.std.proofs.lemmas.Result.{IfErr-weaker}
 use Rattle.std.specs.Prelude.{IfOk}
 use Rattle.ps_bench_base.proofs.Stopped.{rose_since}
@@ -7,7 +7,6 @@ use Rattle.ps_course.specs.Courses.{IsCourse}
 use Rattle.ps_outside.specs.Outside.{Rose}
 use Rattle.ps_report.specs.Short.{refusal_text}
 use Rattle.ps_totals.specs.Naming.{Names}
-use Rattle.ps_trace.specs.Reading.{items_left}
 use Rattle.ps_trace.specs.Scans.{Scans}
 use Rattle.ps_campaigning.proofs.Keeping.{course_kept, in_any_case, of_both, records, unnamed_stops, unnamed_written}
 use Rattle.ps_campaigning.proofs.recording.record_named.Goals as goal

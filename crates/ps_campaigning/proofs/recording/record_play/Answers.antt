@@ -1,7 +1,9 @@
 use Rattle.std.proofs.Common.{◌≡◌, ℕ, IsTrue, List, Option, refl, sym, subst}
 use Rattle.std.proofs.lemmas.Result.{IfErr-weaker}
 use Rattle.std.specs.Prelude.{IfErr, IfOk}
+use Rattle.ps_bench_base.specs.Ending.{IsUnread}
 use Rattle.ps_bench_base.specs.Meant.{file_meant}
+use Rattle.ps_outside.specs.Outside.{Rose}
 use Rattle.ps_traced.specs.Playing.{trace_held}
 use Rattle.ps_traced.specs.Refusing.{RefusesHeld, StopsAtTrace}
 use Rattle.ps_traced.proofs.Refused.{stops_weaker}
@@ -39,3 +41,9 @@ returns-in-Some-clause-stops g c =
     subst (λ (o : Option (List ℕ)). RefusesHeld c.args.app.now (trace_held o (g.F.Files.held c.args.files.now (file_meant c.args.word.now))) refusal)
     (sym c.in-Some.is) (why refl)) stops)
     c.record_named.ensures.stops
+
+pub returns-in-None-clause-unread : goal.returns-in-None-clause-unread
+returns-in-None-clause-unread g c =
+    subst (λ (name : List ℕ). IfErr c.record_named-in-None.result (λ stop. IsUnread stop →
+    Rose (g.F.Files.faults c.args.files.now name) (g.F.Files.faults c.record_named-in-None.new.files name)))
+    c.word_of-word.ensures.file c.record_named-in-None.ensures.unread

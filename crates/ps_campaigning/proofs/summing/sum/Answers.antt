@@ -1,4 +1,4 @@
-use Rattle.std.proofs.Common.{◌≡◌, ℕ, List, Any, inr, refl, subst}
+use Rattle.std.proofs.Common.{ℕ, List, Any, inr, refl, subst}
 use Rattle.std.specs.Prelude.{IfErr}
 use Rattle.ps_bench_base.specs.Ending.{IsUnread}
 use Rattle.ps_outside.specs.Outside.{Rose}

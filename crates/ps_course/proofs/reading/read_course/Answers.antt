@@ -150,9 +150,9 @@ items-init g c =
       room = omega (arith, many);
       reads = λ ft text is reading. reading;
       leads = λ ft text is reading. sym (ap (λ (steps : List Step). record {
-          items = items_in steps ++ (items_left c.args.trace.now text).items;
-          end = (items_left c.args.trace.now text).end;
-        }) none);
+        items = items_in steps ++ (items_left c.args.trace.now text).items;
+        end = (items_left c.args.trace.now text).end;
+      }) none);
       all_read = λ name. refl;
       kept = refl;
       telling = refl;

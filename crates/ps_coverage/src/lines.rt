@@ -9,43 +9,12 @@ ghost use Rattle.ps_coverage.specs.Lines.{state_line, unless, value_line, way_li
 
 use crate::format::Format;
 use crate::guard::add_guard;
-use crate::pieces::{add_code, add_number};
 use crate::said::{Said, add_said};
 use ps_base::{Bytes, Memory, Place};
 use ps_cover::{Exclusions, Point, called_kind};
 use ps_marks::{is_missed, seen_with};
 use ps_model::{App, Kind, Step};
 use ps_ways::{Way, ways};
-
-// Puts a state that a block never entered, for a person.
-fn add_never_entered(text: &mut Bytes, kind: Kind, way: &Way) -> Result<(), Memory>
-    ensures { OnOk result (text.new ≡ text.old ++ never_entered kind way.now) }
-{
-    add_said(
-        text,
-        &[
-            Said::Words(b"  never: "),
-            Said::State(kind, way.state),
-            Said::Words(b"\n"),
-        ],
-    )
-}
-
-// Puts a state that a block never entered, in JSON.
-fn add_json_entered(text: &mut Bytes, name: &str, way: &Way) -> Result<(), Memory>
-    ensures { OnOk result (text.new ≡ text.old ++ json_entered name.now way.now) }
-{
-    add_said(
-        text,
-        &[
-            Said::Words(b"{\"never\":\"state\",\"instance\":\""),
-            Said::Name(name),
-            Said::Words(b"\",\"state\":\""),
-            Said::Code(way.state),
-            Said::Words(b"\"}\n"),
-        ],
-    )
-}
 
 // Puts a state that a block of this name never entered.
 fn add_state_line(
@@ -58,8 +27,24 @@ fn add_state_line(
     ensures { OnOk result (text.new ≡ text.old ++ state_line format name.now kind (Some way.now)) }
 {
     match format {
-        Format::Text => add_never_entered(text, kind, way),
-        Format::Json => add_json_entered(text, name, way),
+        Format::Text => add_said(
+            text,
+            &[
+                Said::Words(b"  never: "),
+                Said::State(kind, way.state),
+                Said::Words(b"\n"),
+            ],
+        ),
+        Format::Json => add_said(
+            text,
+            &[
+                Said::Words(b"{\"never\":\"state\",\"instance\":\""),
+                Said::Name(name),
+                Said::Words(b"\",\"state\":\""),
+                Said::Code(way.state),
+                Said::Words(b"\"}\n"),
+            ],
+        ),
     }
 }
 
@@ -82,26 +67,31 @@ fn add_never_taken(text: &mut Bytes, kind: Kind, place: usize, way: &Way) -> Res
 }
 
 // Puts a way that a block never took, in JSON.
-fn add_json_taken(
+fn add_json_taken<'a>(
     text: &mut Bytes,
-    name: &str,
+    name: &'a str,
     kind: Kind,
     place: usize,
-    way: &Way,
+    way: &'a Way,
 ) -> Result<(), Memory>
     ensures { OnOk result (text.new ≡ text.old ++ json_taken name.now kind place way.now) }
 {
-    text.extend_from_slice(b"{\"never\":\"way\",\"instance\":\"")?;
-    text.extend_from_slice(name.as_bytes())?;
-    text.extend_from_slice(b"\",\"from\":\"")?;
-    add_code(text, way.state)?;
-    text.extend_from_slice(b"\",\"to\":\"")?;
-    add_code(text, way.next)?;
-    text.extend_from_slice(b"\",\"guard\":")?;
-    add_number(text, u64::from(way.number))?;
-    text.extend_from_slice(b",\"when\":\"")?;
-    add_guard(text, kind, place, way)?;
-    text.extend_from_slice(b"\"}\n")
+    add_said(
+        text,
+        &[
+            Said::Words(b"{\"never\":\"way\",\"instance\":\""),
+            Said::Name(name),
+            Said::Words(b"\",\"from\":\""),
+            Said::Code(way.state),
+            Said::Words(b"\",\"to\":\""),
+            Said::Code(way.next),
+            Said::Words(b"\",\"guard\":"),
+            Said::Small(way.number),
+            Said::Words(b",\"when\":\""),
+            Said::Guard(kind, place, way),
+            Said::Words(b"\"}\n"),
+        ],
+    )
 }
 
 // Puts a way that a block of this name never took.
@@ -206,38 +196,6 @@ fn signal_label(app: &App, signal: u16) -> &str
     }
 }
 
-// Puts a value that a signal never had, for a person.
-fn add_never_had(text: &mut Bytes, app: &App, signal: u16, value: bool) -> Result<(), Memory>
-    ensures { OnOk result (text.new ≡ text.old ++ never_had app.now signal value) }
-{
-    add_said(
-        text,
-        &[
-            Said::Words(b"  never "),
-            Said::Truth(value),
-            Said::Words(b": "),
-            Said::Name(signal_label(app, signal)),
-            Said::Words(b"\n"),
-        ],
-    )
-}
-
-// Puts a value that a signal never had, in JSON.
-fn add_json_had(text: &mut Bytes, app: &App, signal: u16, value: bool) -> Result<(), Memory>
-    ensures { OnOk result (text.new ≡ text.old ++ json_had app.now signal value) }
-{
-    add_said(
-        text,
-        &[
-            Said::Words(b"{\"never\":\"value\",\"signal\":\""),
-            Said::Name(signal_label(app, signal)),
-            Said::Words(b"\",\"value\":"),
-            Said::JsonTruth(value),
-            Said::Words(b"}\n"),
-        ],
-    )
-}
-
 // Puts a value that a signal never had, unless it was seen.
 fn add_value_line(
     text: &mut Bytes,
@@ -252,9 +210,28 @@ fn add_value_line(
     if seen {
         return Ok(());
     }
+    let name = signal_label(app, signal);
     match format {
-        Format::Text => add_never_had(text, app, signal, value),
-        Format::Json => add_json_had(text, app, signal, value),
+        Format::Text => add_said(
+            text,
+            &[
+                Said::Words(b"  never "),
+                Said::Truth(value),
+                Said::Words(b": "),
+                Said::Name(name),
+                Said::Words(b"\n"),
+            ],
+        ),
+        Format::Json => add_said(
+            text,
+            &[
+                Said::Words(b"{\"never\":\"value\",\"signal\":\""),
+                Said::Name(name),
+                Said::Words(b"\",\"value\":"),
+                Said::JsonTruth(value),
+                Said::Words(b"}\n"),
+            ],
+        ),
     }
 }
 

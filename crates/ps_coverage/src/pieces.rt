@@ -5,6 +5,7 @@ ghost use Rattle.std.specs.Char.{to_ascii_uppercase};
 ghost use Rattle.hex.specs.Hex.{lower_digits};
 ghost use Rattle.ps_report.specs.Lines.{code_text};
 ghost use Rattle.ps_coverage.specs.Lines.{joined_by, json_truth, state_text, truth};
+ghost use Rattle.ps_coverage.specs.Text.{excluded_text};
 
 use itoa::Buffer;
 use ps_base::{Bytes, Memory};
@@ -17,6 +18,18 @@ pub(crate) fn add_number(text: &mut Bytes, number: u64) -> Result<(), Memory>
 {
     let mut digits = Buffer::new();
     text.extend_from_slice(digits.format(number).as_bytes())
+}
+
+/// Puts how many are excluded, where some are.
+pub(crate) fn add_excluded(text: &mut Bytes, excluded: usize) -> Result<(), Memory>
+    ensures { OnOk result (text.new ≡ text.old ++ excluded_text excluded) }
+{
+    if excluded == 0 {
+        return Ok(());
+    }
+    text.extend_from_slice(b" (")?;
+    add_number(text, excluded as u64)?;
+    text.extend_from_slice(b" excluded)")
 }
 
 /// Puts the number of a place that is counted from 0, from 1 on.

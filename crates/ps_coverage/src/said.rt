@@ -5,7 +5,9 @@ ghost use Rattle.std.specs.List.{flat_map};
 ghost use Rattle.ps_coverage.specs.Said.{said_text};
 
 use crate::guard::add_guard;
-use crate::pieces::{add_code, add_number, add_ordinal, add_state, joined_by, json_truth, truth};
+use crate::pieces::{
+    add_code, add_excluded, add_number, add_ordinal, add_state, joined_by, json_truth, truth,
+};
 use ps_base::{Bytes, Memory};
 use ps_model::Kind;
 use ps_ways::Way;
@@ -29,6 +31,8 @@ pub(crate) enum Said<'a> {
     Code(u16),
     /// A state of a kind, with its words.
     State(Kind, u16),
+    /// How many are excluded, where some are.
+    Excluded(usize),
     /// A truth value in capitals.
     Truth(bool),
     /// A truth value as JSON has it.
@@ -52,6 +56,7 @@ fn add_piece(text: &mut Bytes, piece: &Said<'_>) -> Result<(), Memory>
         Said::Ordinal(place) => add_ordinal(text, *place),
         Said::Code(code) => add_code(text, *code),
         Said::State(kind, code) => add_state(text, *kind, *code),
+        Said::Excluded(count) => add_excluded(text, *count),
         Said::Truth(value) => text.extend_from_slice(truth(*value)),
         Said::JsonTruth(value) => text.extend_from_slice(json_truth(*value)),
         Said::Joined(of_and) => text.extend_from_slice(joined_by(*of_and)),

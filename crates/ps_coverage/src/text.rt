@@ -1,39 +1,21 @@
 // The whole text of what was shown, and of what was not.
 
 ghost use Rattle.std.specs.Prelude.{◌≡◌, ◌<◌, ◌++◌, IfOk, OnOk, Some, length, slice_get, slice_index_or};
-ghost use Rattle.ps_coverage.specs.Seen.{count_of, part_of};
+ghost use Rattle.ps_coverage.specs.Seen.{count_of, known_in, part_of};
 ghost use Rattle.ps_coverage.specs.Telling.{known_of};
-ghost use Rattle.ps_coverage.specs.Seen.{known_in};
 ghost use Rattle.ps_coverage.specs.Text.{counts_of, counts_text, coverage_text, decisions_at, decisions_text};
-ghost use Rattle.ps_coverage.specs.Text.{excluded_text};
-ghost use Rattle.ps_coverage.specs.Text.{head_line, json_counts, json_head, json_parts, last_line, marks_at};
-ghost use Rattle.ps_coverage.specs.Text.{missed_marks};
-ghost use Rattle.ps_coverage.specs.Text.{json_sort, nowhere, place_of, said_counts, said_head, said_parts, said_sort};
-ghost use Rattle.ps_coverage.specs.Text.{sort_line, step_text};
+ghost use Rattle.ps_coverage.specs.Text.{head_line, json_head, json_parts, json_sort, last_line, marks_at, missed_marks};
+ghost use Rattle.ps_coverage.specs.Text.{nowhere, place_of, said_head, said_parts, said_sort, sort_line, step_text};
 ghost use Rattle.ps_coverage.specs.Text.{steps_text, values_at, values_text};
-ghost use Rattle.ps_model.specs.Blocks.{block};
-ghost use Rattle.ps_model.specs.Network.{instance_count, instance_name, kind_at};
+ghost use Rattle.ps_model.specs.Network.{instance_count};
 
 use crate::format::Format;
 use crate::lines::{add_missed_decisions, add_missed_mark, add_missed_values};
-use crate::pieces::add_number;
 use crate::said::{Said, add_said};
 use ps_base::{Bytes, Memory, Place};
 use ps_cover::{Cover, Exclusions, Sort, Status, percent_of, tally};
 use ps_model::{App, Step, kind_name};
 use std::alloc::Global;
-
-// Puts how many are excluded, where some are.
-fn add_excluded(text: &mut Bytes, excluded: usize) -> Result<(), Memory>
-    ensures { OnOk result (text.new ≡ text.old ++ excluded_text excluded) }
-{
-    if excluded == 0 {
-        return Ok(());
-    }
-    text.extend_from_slice(b" (")?;
-    add_number(text, excluded as u64)?;
-    text.extend_from_slice(b" excluded)")
-}
 
 // How many were shown, how many are not excluded, and how many are.
 #[derive(Clone, Copy)]
@@ -43,41 +25,32 @@ struct Counts {
     excluded: usize,
 }
 
-// Puts counts for a person.
-fn add_said_counts(text: &mut Bytes, counts: Counts) -> Result<(), Memory>
-    ensures { OnOk result (text.new ≡ text.old ++ said_counts counts.covered counts.counted counts.excluded) }
-{
-    add_number(text, counts.covered as u64)?;
-    text.extend_from_slice(b" of ")?;
-    add_number(text, counts.counted as u64)?;
-    add_excluded(text, counts.excluded)
-}
-
-// Puts counts in JSON.
-fn add_json_counts(text: &mut Bytes, counts: Counts) -> Result<(), Memory>
-    ensures { OnOk result (text.new ≡ text.old ++ json_counts counts.covered counts.counted counts.excluded) }
-{
-    add_said(
-        text,
-        &[
-            Said::Words(b"{\"covered\":"),
-            Said::Count(counts.covered),
-            Said::Words(b",\"of\":"),
-            Said::Count(counts.counted),
-            Said::Words(b",\"excluded\":"),
-            Said::Count(counts.excluded),
-            Said::Words(b"}"),
-        ],
-    )
-}
-
 // Puts counts.
 fn add_counts(text: &mut Bytes, format: Format, counts: Counts) -> Result<(), Memory>
     ensures { OnOk result (text.new ≡ text.old ++ counts_text format counts.covered counts.counted counts.excluded) }
 {
     match format {
-        Format::Text => add_said_counts(text, counts),
-        Format::Json => add_json_counts(text, counts),
+        Format::Text => add_said(
+            text,
+            &[
+                Said::Count(counts.covered),
+                Said::Words(b" of "),
+                Said::Count(counts.counted),
+                Said::Excluded(counts.excluded),
+            ],
+        ),
+        Format::Json => add_said(
+            text,
+            &[
+                Said::Words(b"{\"covered\":"),
+                Said::Count(counts.covered),
+                Said::Words(b",\"of\":"),
+                Said::Count(counts.counted),
+                Said::Words(b",\"excluded\":"),
+                Said::Count(counts.excluded),
+                Said::Words(b"}"),
+            ],
+        ),
     }
 }
 
@@ -126,31 +99,20 @@ fn add_counts_of(
     add_counts(text, format, counts)
 }
 
-// Puts the name of an instance.
-fn add_name(text: &mut Bytes, app: &App, instance: u16) -> Result<(), Memory>
-    requires { instance < instance_count app.now }
-    ensures { OnOk result (text.new ≡ text.old ++ instance_name app.now instance) }
-{
-    text.extend_from_slice(app.instance_name(instance).as_bytes())
-}
-
-// Puts the name of the kind of an instance.
-fn add_kind(text: &mut Bytes, app: &App, instance: u16) -> Result<(), Memory>
-    requires { instance < instance_count app.now }
-    ensures { OnOk result (text.new ≡ text.old ++ (block (kind_at app.now instance)).name) }
-{
-    text.extend_from_slice(kind_name(app.instance_kind(instance)).as_bytes())
-}
-
 // Puts an instance with the states and the ways of its block, for a person.
 fn add_said_head(text: &mut Bytes, told: &Told<'_>, step: u16, instance: u16) -> Result<(), Memory>
     requires { instance < instance_count told.now.app.now }
     ensures { OnOk result (text.new ≡ text.old ++ said_head (known_of told.entry.now) step instance) }
 {
-    add_name(text, told.app, instance)?;
-    text.extend_from_slice(b" ")?;
-    add_kind(text, told.app, instance)?;
-    text.extend_from_slice(b"  states ")?;
+    add_said(
+        text,
+        &[
+            Said::Name(told.app.instance_name(instance)),
+            Said::Words(b" "),
+            Said::Name(kind_name(told.app.instance_kind(instance))),
+            Said::Words(b"  states "),
+        ],
+    )?;
     add_counts_of(text, told, Format::Text, Sort::States, Some(step))?;
     text.extend_from_slice(b"  ways ")?;
     add_counts_of(text, told, Format::Text, Sort::Ways, Some(step))?;
@@ -162,11 +124,16 @@ fn add_json_head(text: &mut Bytes, told: &Told<'_>, step: u16, instance: u16) ->
     requires { instance < instance_count told.now.app.now }
     ensures { OnOk result (text.new ≡ text.old ++ json_head (known_of told.entry.now) step instance) }
 {
-    text.extend_from_slice(b"{\"instance\":\"")?;
-    add_name(text, told.app, instance)?;
-    text.extend_from_slice(b"\",\"kind\":\"")?;
-    add_kind(text, told.app, instance)?;
-    text.extend_from_slice(b"\",\"states\":")?;
+    add_said(
+        text,
+        &[
+            Said::Words(b"{\"instance\":\""),
+            Said::Name(told.app.instance_name(instance)),
+            Said::Words(b"\",\"kind\":\""),
+            Said::Name(kind_name(told.app.instance_kind(instance))),
+            Said::Words(b"\",\"states\":"),
+        ],
+    )?;
     add_counts_of(text, told, Format::Json, Sort::States, Some(step))?;
     text.extend_from_slice(b",\"ways\":")?;
     add_counts_of(text, told, Format::Json, Sort::Ways, Some(step))?;
@@ -252,8 +219,7 @@ fn add_steps(text: &mut Bytes, told: &Told<'_>, format: Format) -> Result<(), Me
 fn add_said_sort(text: &mut Bytes, told: &Told<'_>, sort: Sort, word: &[u8]) -> Result<(), Memory>
     ensures { OnOk result (text.new ≡ text.old ++ said_sort (known_of told.entry.now) sort word.now) }
 {
-    text.extend_from_slice(word)?;
-    text.extend_from_slice(b" ")?;
+    add_said(text, &[Said::Words(word), Said::Words(b" ")])?;
     add_counts_of(text, told, Format::Text, sort, None)?;
     text.extend_from_slice(b"\n")
 }
@@ -262,9 +228,10 @@ fn add_said_sort(text: &mut Bytes, told: &Told<'_>, sort: Sort, word: &[u8]) -> 
 fn add_json_sort(text: &mut Bytes, told: &Told<'_>, sort: Sort, word: &[u8]) -> Result<(), Memory>
     ensures { OnOk result (text.new ≡ text.old ++ json_sort (known_of told.entry.now) sort word.now) }
 {
-    text.extend_from_slice(b"{\"")?;
-    text.extend_from_slice(word)?;
-    text.extend_from_slice(b"\":")?;
+    add_said(
+        text,
+        &[Said::Words(b"{\""), Said::Words(word), Said::Words(b"\":")],
+    )?;
     add_counts_of(text, told, Format::Json, sort, None)?;
     text.extend_from_slice(b"}\n")
 }

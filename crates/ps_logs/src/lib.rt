@@ -6,7 +6,7 @@
 //! - `columns` is where the header names its columns.
 //! - `table` has the columns that a header names, and reads a row by them.
 //! - `limits` has the limits of a log.
-//! - `recording` reads a log line by line and writes the trace of its scans, by `writing`.
+//! - `recording` reads a log line by line and writes the trace of its scans.
 //! - `laws` has what holds of every such trace.
 #![tactic(auto)]
 
@@ -17,7 +17,6 @@ mod laws;
 pub mod limits;
 mod recording;
 mod table;
-mod writing;
 
 pub use flaw::{Column, Flaw, LogRefusal};
 pub use laws::recorded_trace_is_read;

@@ -14,9 +14,8 @@ ghost use Rattle.ps_logs.specs.Recording.{IsRead, Leaves, items_text, log_trace}
 use crate::flaw::{Flaw, LogRefusal};
 use crate::limits::{LARGEST_LOG, LONGEST_LOG_LINE};
 use crate::table::{RowSays, Table};
-use crate::writing::{put, put_header, put_scan};
 use ps_base::Memory;
-use ps_cases::ExpandFail;
+use ps_cases::{ExpandFail, put, put_header, put_scan};
 use ps_lines::{Got, Limits, LineReader};
 use ps_model::{App, Bits};
 use ps_outside::{Failed, Files, Sink};
@@ -48,17 +47,6 @@ impl From<Memory> for RecordFail {
 
     fn from(_memory: Memory) -> RecordFail {
         RecordFail::Memory
-    }
-}
-
-impl From<Failed> for RecordFail {
-    ghost use Rattle.std.specs.Prelude.{◌≡◌};
-    ghost use Rattle.ps_logs.specs.declared.recording.RecordFail.TheVariants.{Fault as IsFault};
-
-    ghost from_gives = { λ _ fail. fail ≡ IsFault };
-
-    fn from(_failed: Failed) -> RecordFail {
-        RecordFail::Fault
     }
 }
 
@@ -112,18 +100,11 @@ fn restart_text(is_restarted: bool) -> &'static [u8]
     if is_restarted { b"restart\n" } else { b"" }
 }
 
-// Writes a restart, where there is one.
-fn put_restart<S: Sink>(out: &mut S, is_restarted: bool) -> Result<(), ExpandFail>
-    ensures { Wrote S.tells S.taken S.faults (restart_text is_restarted) out.old out.new result }
-{
-    put(out, restart_text(is_restarted))
-}
-
 // Writes a scan, and before it the restart behind which it is the first.
 fn put_row<S: Sink>(out: &mut S, now: u32, is_restarted: bool, ins: &Bits) -> Result<(), ExpandFail>
     ensures { Wrote S.tells S.taken S.faults (items_text (items_of now is_restarted ins.now)) out.old out.new result }
 {
-    match put_restart(out, is_restarted) {
+    match put(out, restart_text(is_restarted)) {
         Ok(()) => put_scan(out, u64::from(now), ins),
         Err(fail) => Err(fail),
     }

@@ -1,6 +1,7 @@
 // The faults of trials, each as a line of a fault file.
 
-ghost use Rattle.std.specs.Prelude.{◌≡◌, ◌+◌, ◌++◌, OnOk};
+ghost use Rattle.std.specs.Prelude.{◌≡◌, ◌++◌, OnOk, decimal};
+ghost use Rattle.hex.specs.Hex.{encode_lower};
 ghost use Rattle.ps_campaigning.specs.Printing.{fault_text, faults_text, moment_text, target_text};
 ghost use Rattle.ps_cases.specs.Expanded.{region_text, turn_text};
 ghost use Rattle.ps_trials.specs.Faults.{fault_by};
@@ -25,6 +26,23 @@ fn region_text(channel: Channel, region: Region) -> &'static [u8]
     }
 }
 
+// A number between two pieces.
+fn add_between(text: &mut Bytes, before: &[u8], number: u32, behind: &[u8]) -> Result<(), Memory>
+    ensures { OnOk result (text.new ≡ text.old ++ before.now ++ decimal number ++ behind.now) }
+{
+    text.extend_from_slice(before)?;
+    add_short(text, number)?;
+    text.extend_from_slice(behind)
+}
+
+// Bytes in hexadecimal digits.
+fn add_digits(alloc: Global, text: &mut Bytes, bytes: &[u8]) -> Result<(), Memory>
+    ensures { OnOk result (text.new ≡ text.old ++ encode_lower bytes.now) }
+{
+    let digits = hex::encode(alloc, bytes)?;
+    text.extend_from_slice(digits.as_bytes())
+}
+
 // The turn of a fault, where it strikes before one.
 fn add_turn(text: &mut Bytes, turn: u32) -> Result<(), Memory>
     ensures { OnOk result (text.new ≡ text.old ++ turn_text turn) }
@@ -32,18 +50,14 @@ fn add_turn(text: &mut Bytes, turn: u32) -> Result<(), Memory>
     if turn == 0 {
         return Ok(());
     }
-    text.extend_from_slice(b"turn ")?;
-    add_short(text, turn)?;
-    text.extend_from_slice(b" ")
+    add_between(text, b"turn ", turn, b" ")
 }
 
 // When a fault strikes.
 fn add_moment(text: &mut Bytes, scan: u32, turn: u32) -> Result<(), Memory>
     ensures { OnOk result (text.new ≡ text.old ++ moment_text scan turn) }
 {
-    text.extend_from_slice(b"before ")?;
-    add_short(text, scan)?;
-    text.extend_from_slice(b" ")?;
+    add_between(text, b"before ", scan, b" ")?;
     add_turn(text, turn)
 }
 
@@ -51,11 +65,9 @@ fn add_moment(text: &mut Bytes, scan: u32, turn: u32) -> Result<(), Memory>
 fn add_target(alloc: Global, text: &mut Bytes, fault: &Fault) -> Result<(), Memory>
     ensures { OnOk result (text.new ≡ text.old ++ target_text fault.now) }
 {
-    text.extend_from_slice(region_text(fault.channel, fault.region))?;
-    add_short(text, fault.at)?;
-    text.extend_from_slice(b" ")?;
-    let digits = hex::encode(alloc, fault.bytes.as_slice())?;
-    text.extend_from_slice(digits.as_bytes())?;
+    let region = region_text(fault.channel, fault.region);
+    add_between(text, region, fault.at, b" ")?;
+    add_digits(alloc, text, fault.bytes.as_slice())?;
     text.extend_from_slice(b"\n")
 }
 

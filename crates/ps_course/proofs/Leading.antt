@@ -1,5 +1,5 @@
 -- The items of a trace, as far as they were read, and those that are left.
-use Rattle.std.proofs.Common.{◌≡◌, ◌∙◌, List, [], ◌∷◌, ◌++◌, refl, sym, ap, append_assoc, append-nil}
+use Rattle.std.proofs.Common.{◌≡◌, ◌∙◌, List, [], ◌∷◌, ◌++◌, sym, ap, append_assoc, append-nil}
 use Rattle.ps_model.specs.Meaning.{Item}
 use Rattle.ps_trace.specs.Reading.{Begins}
 use Rattle.ps_trace.specs.Scans.{End, Scans}

@@ -1,16 +1,14 @@
 -- What is known of the steps that were recorded, with one more.
 use Rattle.std.proofs.Common.{◌≡◌, ◌∙◌, ◌≤◌, ◌+◌, ℕ, suc, false, List, [], ◌∷◌, ◌++◌, length, refl, sym, ap, subst, arith}
 use Rattle.std.proofs.lemmas.List.{length-append}
-use Rattle.ps_course.specs.Courses.{AreRecorded, AreStepsFor, IsCourse, behind, items_in, latest_in, meant_in, quiet_reports, reports_of, scan_count}
+use Rattle.ps_course.specs.Courses.{AreRecorded, IsCourse, behind, items_in, latest_in, meant_in, quiet_reports, scan_count}
 use Rattle.ps_course.specs.declared.recorder.Course.{Course}
 use Rattle.ps_course.specs.declared.step.Step.{Step}
 use Rattle.ps_course.specs.declared.step.Step.TheVariants.{Scanned, Anew}
 use Rattle.ps_eqgen.proofs.SameSizes.{same_sizes}
-use Rattle.ps_model.specs.Meaning.{Item, scan, restart}
 use Rattle.ps_model.specs.Network.{Network, input_count, instance_count}
 use Rattle.ps_model.specs.declared.report.Report.{Report}
 use Rattle.ps_model.specs.declared.report.Scan.{Scan}
-use Rattle.ps_world.specs.Answers.{answers}
 use Rattle.ps_world.specs.Orders.{at_compare, scan_events}
 use Rattle.ps_world.specs.Steps.{after}
 use Rattle.ps_world.specs.Verdicts.{report_given}

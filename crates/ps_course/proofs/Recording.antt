@@ -1,13 +1,13 @@
 -- Steps that are recorded one after another: each stands behind those before it.
-use Rattle.std.proofs.Common.{◌≡◌, ◌∙◌, ◌≤◌, ℕ, suc, Bool, List, [], ◌∷◌, ◌++◌, length, map, refl, sym, ap, subst}
-use Rattle.ps_course.specs.Courses.{AreStepsFor, behind, item_of, items_in, latest_in, meant_in, quiet_reports, reports_of}
+use Rattle.std.proofs.Common.{◌≡◌, ◌≤◌, ℕ, suc, Bool, List, [], ◌∷◌, ◌++◌, length, refl, ap}
+use Rattle.ps_course.specs.Courses.{AreStepsFor, behind, item_of, items_in, latest_in, meant_in, reports_of}
 use Rattle.ps_course.specs.declared.step.Step.{Step}
 use Rattle.ps_course.specs.declared.step.Step.TheVariants.{Scanned, Anew}
 use Rattle.ps_model.specs.Meaning.{Item, scan, restart}
 use Rattle.ps_model.specs.Network.{Network, input_count, instance_count}
 use Rattle.ps_model.specs.declared.report.Report.{Report}
 use Rattle.ps_model.specs.declared.report.Scan.{Scan}
-use Rattle.ps_world.specs.Answers.{Answer, answers}
+use Rattle.ps_world.specs.Answers.{answers}
 use Rattle.ps_world.specs.Orders.{at_compare, scan_events}
 use Rattle.ps_world.specs.Steps.{after, world_step}
 use Rattle.ps_world.specs.Verdicts.{report_given}

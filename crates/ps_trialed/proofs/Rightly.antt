@@ -1,5 +1,5 @@
 -- No trial is wrong: its scans that are released have the reports of the meaning, and so have those of the run without the fault.
-use Rattle.std.proofs.Common.{◌≡◌, ◌≢◌, ◌∙◌, ◌-◌, ℕ, false, List, [], ◌∷◌, Option, Some, None, refl, sym, ap}
+use Rattle.std.proofs.Common.{◌≡◌, ◌≢◌, ◌∙◌, ℕ, false, List, [], ◌∷◌, Option, Some, None, refl, sym}
 use Rattle.std.specs.Prelude.{unwrap_or}
 use Rattle.ps_course.specs.Courses.{reports_of}
 use Rattle.ps_model.specs.Fields.{first_difference}
@@ -13,7 +13,7 @@ use Rattle.ps_model.specs.declared.channel.Verdict.{Verdict}
 use Rattle.ps_model.specs.declared.channel.Verdict.TheVariants as verdicts
 use Rattle.ps_model.proofs.FieldPlaces.{no_difference_from_equal}
 use Rattle.ps_outcomes.specs.declared.outcome.Outcome.{Outcome}
-use Rattle.ps_outcomes.specs.declared.outcome.Outcome.TheVariants.{Silent, Tripped, Wrong}
+use Rattle.ps_outcomes.specs.declared.outcome.Outcome.TheVariants.{Tripped, Wrong}
 use Rattle.ps_world.specs.Answers.{Answer, ReleaseAll, ReleaseRight, SpareChannel}
 use Rattle.ps_world.specs.Lists.{is_same}
 use Rattle.ps_world.specs.Orders.{other}

@@ -5,3 +5,5 @@ pub mod Campaigns
 pub mod Parts
 -- where a trial may begin and end early
 pub mod Marks
+-- apparatus: what the trials of a campaign run on
+pub mod Bench

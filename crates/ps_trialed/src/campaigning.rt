@@ -1,15 +1,14 @@
 // The trials of a campaign, one after another.
 
-ghost use Rattle.std.specs.Prelude.{◌≡◌, ◌<◌, ◌^◌, ◌+◌, IfOk, length, max};
+ghost use Rattle.std.specs.Prelude.{◌≡◌, IfOk};
 ghost use Rattle.ps_course.specs.Courses.{IsCourse, items_in};
 ghost use Rattle.ps_eqvm.specs.Code.{code_b};
-ghost use Rattle.ps_model.specs.Network.{instance_count};
 ghost use Rattle.ps_model.specs.Typing.{Accepted};
 ghost use Rattle.ps_stackvm.specs.Code.{code_a};
 ghost use Rattle.ps_trials.specs.Faults.{fault_by};
 ghost use Rattle.ps_world.specs.Whole.{Setup, IsSetupOf, machines_in};
-ghost use Rattle.ps_trialed.specs.Campaigns.{campaign, result_of, room_of};
-ghost use Rattle.ps_trialed.specs.Marks.{AreMarks};
+ghost use Rattle.ps_trialed.specs.Bench.{IsBench};
+ghost use Rattle.ps_trialed.specs.Campaigns.{campaign, room_of};
 ghost use Rattle.ps_trialed.specs.Showing.{outcome_of};
 
 use crate::marks::mark_course;
@@ -76,34 +75,101 @@ pub fn room_of(app: &App, sizes: ImageSizes, scans: u32, channel: Option<Channel
     }
 }
 
-// What a trial comes to, in a world whose state is room for work.
+// What the trials of a campaign run on: the codes as compiled, the marks of the course, and room for work.
+pub(crate) struct Bench {
+    pub(crate) codes: Codes,
+    pub(crate) marks: Marks,
+    pub(crate) world: World,
+    pub(crate) report: Report,
+}
+
+impl Drop for Bench {
+    // One call for whoever owns one, in place of a walk through all that it holds.
+    fn drop(self) {
+        let Bench {
+            codes: _,
+            marks: _,
+            world: _,
+            report: _,
+        } = self;
+    }
+}
+
+// What the trials over a course run on.
+fn bench_for(alloc: Global, app: &App, course: &Course) -> Result<Bench, Memory>
+    requires accepted { Accepted app.now }
+    requires course { IsCourse app.now course.now }
+    ensures { IfOk result (IsBench app.now course.now.steps.items) }
+{
+    let codes = codes_of(alloc, app)?;
+    let marks = mark_course(alloc, app, course)?;
+    let world = World::build(alloc, app)?;
+    let report = Report::for_app(alloc, app)?;
+    Ok(Bench {
+        codes,
+        marks,
+        world,
+        report,
+    })
+}
+
+// What a trial comes to.
 fn try_trial(
     alloc: Global,
     app: &App,
     course: &Course,
-    codes: &Codes,
     trial: &Trial,
-    marks: &Marks,
-    world: &mut World,
-    report: &mut Report,
+    bench: &mut Bench,
 ) -> Result<Outcome, Memory>
     requires course { IsCourse app.now course.now }
-    requires marks { AreMarks app.now course.now.steps.items marks.now }
-    requires setup { IsSetupOf app.now world.old.setup }
-    requires outputs { length report.old.outs ≡ length app.now.outputs }
-    requires diagnoses { length report.old.diags ≡ instance_count app.now }
+    requires bench { IsBench app.now course.now.steps.items bench.old }
     ensures outcome { (setup : Setup) → IsSetupOf app.now setup → IfOk result (λ outcome.
         outcome ≡ outcome_of app.now (machines_in setup) (items_in course.now.steps.items)
-        (fault_by codes.now.a codes.now.b trial.now)) }
-    ensures setup { IsSetupOf app.now world.new.setup }
-    ensures outputs { length report.new.outs ≡ length app.now.outputs }
-    ensures diagnoses { length report.new.diags ≡ instance_count app.now }
+        (fault_by (code_a app.now) (code_b app.now) trial.now)) }
+    ensures bench { IsBench app.now course.now.steps.items bench.new }
 {
-    let fault = fault_of(alloc, trial, codes.a.as_slice(), codes.b.as_slice())?;
+    let fault = fault_of(
+        alloc,
+        trial,
+        bench.codes.a.as_slice(),
+        bench.codes.b.as_slice(),
+    )?;
     let faults = [fault];
     let steps = course.steps.as_slice();
     let struck = struck_at(steps, trial);
-    Ok(run_trial(app, world, steps, marks, &faults, struck, report))
+    Ok(run_trial(
+        app,
+        &mut bench.world,
+        steps,
+        &bench.marks,
+        &faults,
+        struck,
+        &mut bench.report,
+    ))
+}
+
+// Makes the trials of a campaign, and counts what they come to.
+fn count_trials(
+    alloc: Global,
+    app: &App,
+    course: &Course,
+    asked: &Campaign,
+    room: &Room,
+    bench: &mut Bench,
+) -> Result<Tally, Memory>
+    requires course { IsCourse app.now course.now }
+    requires bench { IsBench app.now course.now.steps.items bench.old }
+    ensures { (setup : Setup) → IsSetupOf app.now setup → IfOk result (λ tally.
+        tally ≡ campaign app.now (machines_in setup) (items_in course.now.steps.items) room.now asked.now.from
+        asked.now.count) }
+{
+    let mut tally = Tally::new(alloc)?;
+    for done in 0..asked.count {
+        let trial = draw_trial(u64::from(asked.from) + u64::from(done), room);
+        let outcome = try_trial(alloc, app, course, &trial, bench)?;
+        tally.count(trial.channel, trial.region, outcome);
+    }
+    Ok(tally)
 }
 
 /// Makes the trials of a campaign over a course, and counts what they come to. The regions of the channels have these
@@ -123,25 +189,7 @@ pub fn run_campaign(
         tally ≡ campaign app.now (machines_in setup) (items_in course.now.steps.items)
         (room_of app.now sizes course.now.scans asked.now.channel) asked.now.from asked.now.count) }
 {
-    let codes = codes_of(alloc, app)?;
     let room = room_of(app, sizes, course.scans, asked.channel);
-    let marks = mark_course(alloc, app, course)?;
-    let mut world = World::build(alloc, app)?;
-    let mut report = Report::for_app(alloc, app)?;
-    let mut tally = Tally::new(alloc)?;
-    for done in 0..asked.count {
-        let trial = draw_trial(u64::from(asked.from) + u64::from(done), &room);
-        let outcome = try_trial(
-            alloc,
-            app,
-            course,
-            &codes,
-            &trial,
-            &marks,
-            &mut world,
-            &mut report,
-        )?;
-        tally.count(trial.channel, trial.region, outcome);
-    }
-    Ok(tally)
+    let mut bench = bench_for(alloc, app, course)?;
+    count_trials(alloc, app, course, asked, &room, &mut bench)
 }

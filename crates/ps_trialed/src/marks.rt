@@ -140,6 +140,30 @@ fn add_mark(
     Ok(())
 }
 
+// Runs the steps of a course without a fault in a world at the beginning, and marks moments of the run behind it.
+fn mark_later(
+    alloc: Global,
+    app: &App,
+    steps: &[Step],
+    every: usize,
+    world: &mut World,
+) -> Result<Vec<Mark>, Memory>
+    requires accepted { Accepted app.now }
+    requires apart { 0 < every }
+    requires moment { IsMoment app.now steps.now steps.now 0 world.old }
+    ensures { IfOk result (λ later. All (IsMark app.now steps.now) later.items) }
+{
+    let mut report = Report::for_app(alloc, app)?;
+    let mut later = Vec::new(alloc);
+    let mut scans = 0;
+    for place in 0..steps.len() {
+        add_mark(alloc, app, steps, &mut later, every, world, place, scans)?;
+        let step = &steps[place];
+        scans += pass(app, world, step, &mut report);
+    }
+    Ok(later)
+}
+
 // Runs the steps of a course without a fault in a world at the beginning, and marks moments of the run.
 fn mark_steps(alloc: Global, app: &App, steps: &[Step], world: &mut World) -> Result<Marks, Memory>
     requires accepted { Accepted app.now }
@@ -148,14 +172,7 @@ fn mark_steps(alloc: Global, app: &App, steps: &[Step], world: &mut World) -> Re
 {
     let every = steps.len() / 64 + 1;
     let first = mark_at(alloc, app, world, 0, 0)?;
-    let mut later = Vec::new(alloc);
-    let mut report = Report::for_app(alloc, app)?;
-    let mut scans = 0;
-    for place in 0..steps.len() {
-        add_mark(alloc, app, steps, &mut later, every, world, place, scans)?;
-        let step = &steps[place];
-        scans += pass(app, world, step, &mut report);
-    }
+    let later = mark_later(alloc, app, steps, every, world)?;
     Ok(Marks {
         first,
         later,

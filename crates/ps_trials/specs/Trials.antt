@@ -1,6 +1,6 @@
 -- What a trial draws: six words of a generator that is seeded with the trial's number, each taken modulo the number of
 -- its choices.
-use Rattle.std.specs.Prelude.{◌≡◌, ◌≤◌, ◌<◌, ◌+◌, ◌%◌, ◌==◌, if◌then◌else◌, ℕ, Option, Some, None, max}
+use Rattle.std.specs.Prelude.{◌≤◌, ◌<◌, ◌+◌, ◌%◌, ◌==◌, if◌then◌else◌, ℕ, Option, Some, None, max}
 use Rattle.rand_core.specs.Steps.{stream_of, steps_u64_high}
 use Rattle.rand_core.specs.Stream.{Stream, next_u64}
 use Rattle.rand_xoshiro.specs.SplitMix64.{splitmix_seed}

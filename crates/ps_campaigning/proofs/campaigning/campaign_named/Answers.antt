@@ -1,4 +1,6 @@
-use Rattle.std.proofs.Common.{refl, inl, inr}
+use Rattle.std.proofs.Common.{◌∙◌, ◌≤◌, arith, refl}
+use Rattle.std.proofs.lemmas.Result.{IfErr-weaker}
+use Rattle.ps_bench_base.proofs.Stopped.{rose_since}
 use Rattle.ps_traced.proofs.Refused.{of_some}
 use Rattle.ps_bench_base.specs.Opening.{source}
 use Rattle.ps_course.specs.Courses.{IsCourse}
@@ -25,3 +27,18 @@ returns-in-Ok-Some-clause-answers g c =
     (g.O.Sink.taken c.tell_trials.new.out) c.tell_trials.result refl refl c.in-Ok-Some.ensures.telling c.in-Ok-Some.ensures.unsaid
     (c.tell_trials.ensures.answers from refl c.requires.named
     (λ tells. of_some (RecordsWord from wanted.trace) c.in-Ok-Some.field-0 c.in-Ok-Some.recorded c.in-Ok-Some.field-0-is (c.in-Ok-Some.ensures.records tells)))
+
+pub returns-in-Ok-Some-clause-unread : goal.returns-in-Ok-Some-clause-unread
+returns-in-Ok-Some-clause-unread g c =
+    IfErr-weaker c.tell_trials.result _ _ (λ stop read is. absurd (read is)) c.tell_trials.ensures.read
+
+pub returns-in-Ok-Some-clause-unwritten : goal.returns-in-Ok-Some-clause-unwritten
+returns-in-Ok-Some-clause-unwritten g c = λ is.
+    rose_since (g.O.Sink.faults c.args.out.now) (g.O.Sink.faults c.record_word.new.out) (g.O.Sink.faults c.tell_trials.new.out)
+    c.in-Ok-Some.ensures.writes (c.tell_trials.ensures.unwritten is)
+
+pub returns-in-Ok-Some-clause-writes : goal.returns-in-Ok-Some-clause-writes
+returns-in-Ok-Some-clause-writes g c = omega (arith, c.in-Ok-Some.ensures.writes, c.tell_trials.ensures.writes)
+
+pub returns-in-Ok-Some-clause-telling : goal.returns-in-Ok-Some-clause-telling
+returns-in-Ok-Some-clause-telling g c = c.tell_trials.ensures.telling ∙ c.in-Ok-Some.ensures.telling

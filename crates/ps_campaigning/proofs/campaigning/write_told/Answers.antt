@@ -8,3 +8,6 @@ returns-in-Err-clause-some g c = (
   took_part (g.O.Sink.tells c.args.out.now) c.in-Err.field-0.taken (g.O.Sink.taken c.args.out.now) c.args.text.now
       c.args.text.now (g.O.Sink.taken c.write_all.new.out) refl c.in-Err.ensures.part,
 )
+
+pub returns-in-Ok-clause-all : goal.returns-in-Ok-clause-all
+returns-in-Ok-clause-all g c = (refl, c.in-Ok.ensures.whole)

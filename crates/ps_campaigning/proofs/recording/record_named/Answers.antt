@@ -2,6 +2,7 @@ use Rattle.std.proofs.Common.{◌≡◌, ◌∙◌, ◌≤◌, ◌++◌, arith, 
 use Rattle.std.proofs.lemmas.Result.{IfErr-weaker}
 use Rattle.std.specs.Prelude.{IfOk}
 use Rattle.ps_bench_base.proofs.Stopped.{rose_since}
+use Rattle.ps_bench_base.specs.declared.ending.Stop.TheVariants.{Unwritten}
 use Rattle.ps_course.specs.Courses.{IsCourse}
 use Rattle.ps_outside.specs.Outside.{Rose}
 use Rattle.ps_report.specs.Short.{refusal_text}
@@ -81,3 +82,28 @@ returns-in-Ok-Err-clause-unread g c = λ is.
     rose_since (g.F.Files.faults c.args.files.now name) (g.F.Files.faults c.open_trace.new.files name) (g.F.Files.faults c.read_course.new.files name)
     (c.in-Ok.ensures.reads name)
     (subst (λ (file : List ℕ). Rose (g.F.Files.faults c.open_trace.new.files file) (g.F.Files.faults c.read_course.new.files file)) c.in-Ok.ensures.opened.file rose)
+
+pub returns-in-Ok-Ok-clause-reads : goal.returns-in-Ok-Ok-clause-reads
+returns-in-Ok-Ok-clause-reads g c = λ name.
+    omega (arith, c.in-Ok.ensures.reads name, c.read_course.ensures.reads name, c.name_course.ensures.reads name)
+
+pub returns-in-Ok-Err-clause-unwritten : goal.returns-in-Ok-Err-clause-unwritten
+returns-in-Ok-Err-clause-unwritten g c = λ is.
+    let at : c.stop_behind.result ≡ Unwritten = cc in
+    rose_since (g.O.Sink.faults c.args.out.now) (g.O.Sink.faults c.open_trace.new.out) (g.O.Sink.faults c.stop_behind.new.out)
+    c.in-Ok.ensures.writes (c.stop_behind.ensures.unwritten at)
+
+pub returns-in-Ok-Err-clause-reads : goal.returns-in-Ok-Err-clause-reads
+returns-in-Ok-Err-clause-reads g c = λ name. omega (arith, c.in-Ok.ensures.reads name, c.read_course.ensures.reads name)
+
+pub returns-in-Ok-Err-clause-writes : goal.returns-in-Ok-Err-clause-writes
+returns-in-Ok-Err-clause-writes g c = omega (arith, c.in-Ok.ensures.writes, c.stop_behind.ensures.writes)
+
+pub returns-in-Ok-Err-clause-telling : goal.returns-in-Ok-Err-clause-telling
+returns-in-Ok-Err-clause-telling g c = c.stop_behind.ensures.telling ∙ c.in-Ok.ensures.telling
+
+pub read_course-requires-clause-inputs : goal.read_course-requires-clause-inputs
+read_course-requires-clause-inputs g c = c.in-Ok.ensures.opened.inputs
+
+pub read_course-requires-clause-fresh : goal.read_course-requires-clause-fresh
+read_course-requires-clause-fresh g c = c.in-Ok.ensures.opened.fresh

@@ -1,4 +1,6 @@
 use Rattle.std.proofs.Common.{◌≡◌, ◌∙◌, Err, inl, inr, refl, ap}
+use Rattle.std.proofs.lemmas.Result.{IfErr-weaker}
+use Rattle.ps_bench_base.specs.declared.ending.Stop.TheVariants.{Unwritten}
 use Rattle.ps_campaigning.proofs.Summed.{named, told}
 use Rattle.ps_campaigning.proofs.summing.sum_named.Goals as goal
 
@@ -24,3 +26,15 @@ returns-in-Err-Unread-clause-unread g c = λ is.
 
 pub returns-in-Err-NoMemory-clause-answers : goal.returns-in-Err-NoMemory-clause-answers
 returns-in-Err-NoMemory-clause-answers g c = inr (inr (inr refl, λ tells. refl))
+
+pub returns-in-Ok-clause-unread : goal.returns-in-Ok-clause-unread
+returns-in-Ok-clause-unread g c =
+    IfErr-weaker c.write_total.result _ _ (λ stop read is. absurd (read is)) c.write_total.ensures.read
+
+pub returns-in-Err-Refused-clause-unread : goal.returns-in-Err-Refused-clause-unread
+returns-in-Err-Refused-clause-unread g c = λ is. absurd (c.refuse_sum.ensures.read is)
+
+pub returns-in-Err-Refused-clause-unwritten : goal.returns-in-Err-Refused-clause-unwritten
+returns-in-Err-Refused-clause-unwritten g c = λ is.
+    let at : c.refuse_sum.result ≡ Unwritten = cc in
+    c.refuse_sum.ensures.unwritten at

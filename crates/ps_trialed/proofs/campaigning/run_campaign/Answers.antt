@@ -1,41 +1,14 @@
-use Rattle.std.proofs.Common.{◌≡◌, ◌∙◌, ◌+◌, arith}
+use Rattle.std.proofs.Common.{◌≡◌, subst}
+use Rattle.std.specs.Prelude.{IfOk}
 use Rattle.ps_course.specs.Courses.{items_in}
-use Rattle.ps_tally.specs.Tallies.{Result_of, counted}
-use Rattle.ps_trials.specs.Faults.{fault_by}
-use Rattle.ps_trials.specs.Trials.{trial_of}
+use Rattle.ps_trials.specs.declared.drawing.Room.{Room}
 use Rattle.ps_world.specs.Whole.{machines_in}
-use Rattle.ps_trialed.specs.Campaigns.{campaign, result_of}
-use Rattle.ps_trialed.specs.Showing.{outcome_of}
-use Rattle.ps_trialed.proofs.Counting.{one_more}
+use Rattle.ps_trialed.specs.Campaigns.{campaign}
 use Rattle.ps_trialed.proofs.campaigning.run_campaign.Goals as goal
-
-pub loop-done-preserved : goal.loop-done-preserved
-loop-done-preserved c = record {
-  counts = λ setup is.
-      let net = c.args.app.now in
-      let m = machines_in setup in
-      let items = items_in c.args.course.now.steps.items in
-      let room = c.room_of-room.result in
-      let from = c.args.asked.now.from in
-      let done = c.loop-done.done in
-      let tally = c.loop-done.tally in
-      let trial_is : c.draw_trial-trial.result ≡ trial_of room (from + done) =
-      c.draw_trial-trial.ensures.drawn ∙ (λ i. trial_of room (c.from.ensures i + c.from-in-loop-done.ensures i)) in
-      let outcome_is : c.in_ok-outcome.outcome ≡ (result_of net m items room (from + done)).outcome =
-      c.in_ok-outcome.ensures.outcome setup is
-      ∙ (λ i. outcome_of net m items (fault_by (c.in_ok-codes.ensures.a i) (c.in_ok-codes.ensures.b i) (trial_is i))) in
-      c.count.ensures ∙ (λ i. counted tally (trial_is i).channel (trial_is i).region (outcome_is i))
-      ∙ one_more (result_of net m items room) from done tally (c.loop-done.invariant.counts setup is);
-  setup = c.in_ok-outcome.ensures.setup;
-  outputs = c.in_ok-outcome.ensures.outputs;
-  diagnoses = c.in_ok-outcome.ensures.diagnoses;
-}
 
 pub returns : goal.returns
 returns c = record {
   counts = λ setup is.
-      let items = items_in c.args.course.now.steps.items in
-      let all : c.loop-done.done ≡ c.args.asked.now.count = omega arith in
-      c.loop-done.invariant.counts setup is
-      ∙ (λ i. campaign c.args.app.now (machines_in setup) items (c.room_of-room.ensures i) c.args.asked.now.from (all i));
+      subst (λ (room : Room). IfOk c.count_trials.result (λ tally. tally ≡ campaign c.args.app.now (machines_in setup)
+      (items_in c.args.course.now.steps.items) room c.args.asked.now.from c.args.asked.now.count)) c.room_of-room.ensures (c.count_trials.ensures setup is);
 }

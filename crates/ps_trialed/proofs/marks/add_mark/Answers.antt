@@ -14,3 +14,6 @@ returns c =
     (record { within = c.requires.within; few = c.requires.few; moment = c.requires.moment }) in
     subst (λ (marks : List Mark). All (IsMark net all) marks) (sym c.in_ok-push.ensures.items)
     (All-push (IsMark net all) c.args.later.now.items mark c.requires.later is)
+
+pub mark_at-requires-clause-setup : goal.mark_at-requires-clause-setup
+mark_at-requires-clause-setup c = c.requires.moment.setup

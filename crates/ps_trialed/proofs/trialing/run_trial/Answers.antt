@@ -1,10 +1,11 @@
 use Rattle.std.proofs.Common.{◌≡◌, ◌∙◌, ◌≤◌, ◌+◌, ◌-◌, List, [], ◌∷◌, Option, length, drop, sym, ap, subst, arith, ℕ}
 use Rattle.std.proofs.lemmas.List.{drop_all}
+use Rattle.ps_course.specs.Courses.{AreStepsFor}
 use Rattle.ps_course.specs.declared.step.Step.{Step}
 use Rattle.ps_model.proofs.Rest.{rest_at}
 use Rattle.ps_model.specs.declared.channel.Fault.{Fault}
 use Rattle.ps_model.specs.declared.report.Report.{Report}
-use Rattle.ps_world.specs.Whole.{Whole}
+use Rattle.ps_world.specs.Whole.{Whole, IsSetupOf}
 use Rattle.ps_outcomes.specs.Outcomes.{ended_by}
 use Rattle.ps_trialed.proofs.Early.{begins, is_silent, only}
 use Rattle.ps_trialed.proofs.Going.{Goes, at_first, ends, goes_anew, goes_on, showing}
@@ -35,6 +36,68 @@ loop-place-init c =
       diagnoses = c.requires.diagnoses;
     }
 
+pub make_scan-verdict-requires-clause-rest : goal.make_scan-verdict-requires-clause-rest
+make_scan-verdict-requires-clause-rest c = c.loop-place.invariant.goes.rest
+
+pub make_scan-verdict-requires-clause-later : goal.make_scan-verdict-requires-clause-later
+make_scan-verdict-requires-clause-later c =
+    let net = c.args.app.now in
+    let all = c.args.steps.now in
+    let i = c.loop-place.place in
+    let inv = c.loop-place.invariant in
+    let left = rest_at all i c.index-steps-place.result c.loop-place-test.true c.index-steps-place.is ∙ ap (λ (x : Step). x ∷ drop (i + 1) all) c.in-Scanned.is in
+    let fits = subst (AreStepsFor net c.loop-place.world.state.last) left inv.goes.fits in
+    fits.0
+
+pub make_scan-verdict-requires-clause-inputs : goal.make_scan-verdict-requires-clause-inputs
+make_scan-verdict-requires-clause-inputs c =
+    let net = c.args.app.now in
+    let all = c.args.steps.now in
+    let i = c.loop-place.place in
+    let inv = c.loop-place.invariant in
+    let left = rest_at all i c.index-steps-place.result c.loop-place-test.true c.index-steps-place.is ∙ ap (λ (x : Step). x ∷ drop (i + 1) all) c.in-Scanned.is in
+    let fits = subst (AreStepsFor net c.loop-place.world.state.last) left inv.goes.fits in
+    fits.1 ∙ sym inv.goes.setup.sizes.inputs
+
+pub make_scan-verdict-requires-clause-outs : goal.make_scan-verdict-requires-clause-outs
+make_scan-verdict-requires-clause-outs c = c.loop-place.invariant.outputs ∙ sym c.loop-place.invariant.goes.setup.sizes.outputs
+
+pub make_scan-verdict-requires-clause-diags : goal.make_scan-verdict-requires-clause-diags
+make_scan-verdict-requires-clause-diags c = c.loop-place.invariant.diagnoses ∙ sym c.loop-place.invariant.goes.setup.sizes.instances
+
+pub first_difference-differs-requires-clause-outs : goal.first_difference-differs-requires-clause-outs
+first_difference-differs-requires-clause-outs c =
+    let net = c.args.app.now in
+    let all = c.args.steps.now in
+    let i = c.loop-place.place in
+    let inv = c.loop-place.invariant in
+    let left = rest_at all i c.index-steps-place.result c.loop-place-test.true c.index-steps-place.is ∙ ap (λ (x : Step). x ∷ drop (i + 1) all) c.in-Scanned.is in
+    let fits = subst (AreStepsFor net c.loop-place.world.state.last) left inv.goes.fits in
+    c.make_scan-verdict.ensures.sized.0 ∙ inv.outputs ∙ sym fits.2
+
+pub first_difference-differs-requires-clause-diags : goal.first_difference-differs-requires-clause-diags
+first_difference-differs-requires-clause-diags c =
+    let net = c.args.app.now in
+    let all = c.args.steps.now in
+    let i = c.loop-place.place in
+    let inv = c.loop-place.invariant in
+    let left = rest_at all i c.index-steps-place.result c.loop-place-test.true c.index-steps-place.is ∙ ap (λ (x : Step). x ∷ drop (i + 1) all) c.in-Scanned.is in
+    let fits = subst (AreStepsFor net c.loop-place.world.state.last) left inv.goes.fits in
+    c.make_scan-verdict.ensures.sized.1 ∙ inv.diagnoses ∙ sym fits.3
+
+pub first_difference-differs-requires-clause-few : goal.first_difference-differs-requires-clause-few
+first_difference-differs-requires-clause-few c =
+    let sized = c.make_scan-verdict.ensures.sized in
+    let outs = sized.0 ∙ c.loop-place.invariant.outputs in
+    let diags = sized.1 ∙ c.loop-place.invariant.diagnoses in
+    omega (arith, outs, diags, c.few_fields.ensures)
+
+pub is_over-requires-clause-setup : goal.is_over-requires-clause-setup
+is_over-requires-clause-setup c = c.loop-place.invariant.goes.setup
+
+pub returns-then-is_over-clause-setup : goal.returns-then-is_over-clause-setup
+returns-then-is_over-clause-setup c = c.loop-place.invariant.goes.setup
+
 pub returns-then-is_over-clause-shows : goal.returns-then-is_over-clause-shows
 returns-then-is_over-clause-shows c =
     let net = c.args.app.now in
@@ -62,6 +125,16 @@ returns-in-Some-clause-shows c =
     let by = c.ended_by.ensures ∙ ap (λ (d : Option ℕ). ended_by v struck s.now d) c.first_difference-differs.ensures.first in
     ends net faults struck whole c.loop-place.number (drop (i + 1) all) c.loop-place.world s meant c.due.result.now so c.due.ensures
     v c.make_scan-verdict.new.into made.verdict made.report c.ended_by.result c.in-Some.outcome by c.in-Some.is
+
+pub returns-in-Some-clause-setup : goal.returns-in-Some-clause-setup
+returns-in-Some-clause-setup c =
+    subst (λ (w : Whole). IsSetupOf c.args.app.now w.setup) (sym c.make_scan-verdict.ensures.events) c.loop-place.invariant.goes.setup
+
+pub returns-in-Some-clause-outputs : goal.returns-in-Some-clause-outputs
+returns-in-Some-clause-outputs c = c.make_scan-verdict.ensures.sized.0 ∙ c.loop-place.invariant.outputs
+
+pub returns-in-Some-clause-diagnoses : goal.returns-in-Some-clause-diagnoses
+returns-in-Some-clause-diagnoses c = c.make_scan-verdict.ensures.sized.1 ∙ c.loop-place.invariant.diagnoses
 
 pub loop-place-preserved : goal.loop-place-preserved
 loop-place-preserved c =
@@ -113,3 +186,6 @@ returns-clause-shows c =
     let done = c.loop-place.number in
     let none : drop c.loop-place.place all ≡ [] = drop_all c.loop-place.place all c.loop-place-test.false in
     sym (ap (λ (ss : List Step). showing net faults c.args.struck done ss c.loop-place.world) none) ∙ c.loop-place.invariant.goes.shows
+
+pub returns-clause-setup : goal.returns-clause-setup
+returns-clause-setup c = c.loop-place.invariant.goes.setup

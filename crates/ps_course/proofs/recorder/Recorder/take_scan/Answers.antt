@@ -1,13 +1,13 @@
-use Rattle.std.proofs.Common.{◌≡◌, ◌∙◌, ◌≤◌, ◌+◌, ◌++◌, ◌∷◌, [], List, false, length, sym, ap, subst}
+use Rattle.std.proofs.Common.{◌≡◌, ◌∙◌, ◌≤◌, ◌+◌, [], List, false, length, sym, ap, subst, arith}
 use Rattle.std.proofs.lemmas.List.{length-replicate}
-use Rattle.ps_course.specs.Courses.{AreRecorded, latest_in}
+use Rattle.ps_course.specs.Courses.{AreRecorded, items_in, latest_in}
 use Rattle.ps_course.specs.declared.step.Step.{Step}
 use Rattle.ps_course.specs.declared.step.Step.TheVariants.{Scanned}
 use Rattle.ps_model.specs.declared.report.Report.{Report}
 use Rattle.ps_world.specs.Orders.{scan_events}
 use Rattle.ps_world.specs.Whole.{Whole, after_events, machines_in}
 use Rattle.ps_course.proofs.Recorded.{recorded_scan}
-use Rattle.ps_course.proofs.Recording.{latest_more}
+use Rattle.ps_course.proofs.Recording.{items_more, latest_more}
 use Rattle.ps_course.proofs.recorder.Recorder.take_scan.Goals as goal
 
 pub returns-clause-recorded : goal.returns-clause-recorded
@@ -31,3 +31,25 @@ pub returns-clause-latest : goal.returns-clause-latest
 returns-clause-latest c =
     ap (latest_in 0) c.in_ok-push.ensures.items
     ∙ latest_more 0 c.args.self.now.course.steps.items c.args.scan c.make_scan-released.new.into
+
+pub make_scan-released-requires-clause-rest : goal.make_scan-released-requires-clause-rest
+make_scan-released-requires-clause-rest c = c.requires.recorded.rest
+
+pub make_scan-released-requires-clause-later : goal.make_scan-released-requires-clause-later
+make_scan-released-requires-clause-later c =
+    let last = c.requires.recorded.last in
+    omega (arith, last, c.requires.due)
+
+pub make_scan-released-requires-clause-inputs : goal.make_scan-released-requires-clause-inputs
+make_scan-released-requires-clause-inputs c = c.requires.inputs ∙ sym c.requires.recorded.setup.sizes.inputs
+
+pub make_scan-released-requires-clause-outs : goal.make_scan-released-requires-clause-outs
+make_scan-released-requires-clause-outs c =
+    ap (λ (r : Report). length r.outs) c.in_ok-meant.ensures ∙ length-replicate _ _ ∙ sym c.requires.recorded.setup.sizes.outputs
+
+pub make_scan-released-requires-clause-diags : goal.make_scan-released-requires-clause-diags
+make_scan-released-requires-clause-diags c =
+    ap (λ (r : Report). length r.diags) c.in_ok-meant.ensures ∙ length-replicate _ _ ∙ sym c.requires.recorded.setup.sizes.instances
+
+pub returns-clause-items : goal.returns-clause-items
+returns-clause-items c = ap items_in c.in_ok-push.ensures.items ∙ items_more c.args.self.now.course.steps.items (Scanned c.args.scan c.make_scan-released.new.into)

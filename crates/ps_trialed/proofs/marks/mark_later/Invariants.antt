@@ -2,7 +2,7 @@ use Rattle.std.proofs.Common.{◌≡◌, ◌≤◌, length, drop}
 use Rattle.std.specs.List.{All}
 use Rattle.ps_model.specs.Network.{instance_count}
 use Rattle.ps_trialed.specs.Marks.{IsMark, IsMoment}
-use Rattle.ps_trialed.proofs.marks.mark_steps.Given as goal
+use Rattle.ps_trialed.proofs.marks.mark_later.Given as goal
 
 abbrev pub invariant-loop-place : goal.invariant-loop-place
 invariant-loop-place l = record {

@@ -9,6 +9,7 @@ ghost use Rattle.ps_coverage.specs.Lines.{state_line, unless, value_line, way_li
 
 use crate::format::Format;
 use crate::guard::add_guard;
+use crate::pieces::{add_code, add_number};
 use crate::said::{Said, add_said};
 use ps_base::{Bytes, Memory, Place};
 use ps_cover::{Exclusions, Point, called_kind};
@@ -67,31 +68,26 @@ fn add_never_taken(text: &mut Bytes, kind: Kind, place: usize, way: &Way) -> Res
 }
 
 // Puts a way that a block never took, in JSON.
-fn add_json_taken<'a>(
+fn add_json_taken(
     text: &mut Bytes,
-    name: &'a str,
+    name: &str,
     kind: Kind,
     place: usize,
-    way: &'a Way,
+    way: &Way,
 ) -> Result<(), Memory>
     ensures { OnOk result (text.new ≡ text.old ++ json_taken name.now kind place way.now) }
 {
-    add_said(
-        text,
-        &[
-            Said::Words(b"{\"never\":\"way\",\"instance\":\""),
-            Said::Name(name),
-            Said::Words(b"\",\"from\":\""),
-            Said::Code(way.state),
-            Said::Words(b"\",\"to\":\""),
-            Said::Code(way.next),
-            Said::Words(b"\",\"guard\":"),
-            Said::Small(way.number),
-            Said::Words(b",\"when\":\""),
-            Said::Guard(kind, place, way),
-            Said::Words(b"\"}\n"),
-        ],
-    )
+    text.extend_from_slice(b"{\"never\":\"way\",\"instance\":\"")?;
+    text.extend_from_slice(name.as_bytes())?;
+    text.extend_from_slice(b"\",\"from\":\"")?;
+    add_code(text, way.state)?;
+    text.extend_from_slice(b"\",\"to\":\"")?;
+    add_code(text, way.next)?;
+    text.extend_from_slice(b"\",\"guard\":")?;
+    add_number(text, u64::from(way.number))?;
+    text.extend_from_slice(b",\"when\":\"")?;
+    add_guard(text, kind, place, way)?;
+    text.extend_from_slice(b"\"}\n")
 }
 
 // Puts a way that a block of this name never took.

@@ -1,7 +1,6 @@
 pub mod Marking
 pub mod Matching
 pub mod Pins
-pub mod Capitals
 pub mod Joining
 pub mod Alike
 pub mod Pacing

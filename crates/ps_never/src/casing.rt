@@ -7,8 +7,9 @@ ghost use Rattle.ps_never.specs.Pieces.{condition_text};
 ghost use Rattle.ps_never.specs.Casing.{case_text, change_text, changes_text, expect_text, expected, gap_before};
 ghost use Rattle.ps_never.specs.Casing.{inputs_at, inputs_before, is_of_before, line_text, scan_text, set_text};
 
-use crate::pieces::{add_condition, add_short, signal_text};
+use crate::pieces::{add_condition, signal_text};
 use ps_base::{Bytes, Memory};
+use ps_bench_base::pieces::add_short;
 use ps_model::App;
 use ps_reach::ScanInputs;
 use ps_rules::Condition;

@@ -3,7 +3,7 @@
 //!
 //! - `wanted`: which inputs are read by a step, by a rule, or by an input that follows. `ruling`: what is asked, as the
 //!   search takes it, of one application or of two.
-//! - `pieces` has numbers, names and values, `casing` the case of a rule that is met, `telling` the whole text where
+//! - `pieces` has names and values, `casing` the case of a rule that is met, `telling` the whole text where
 //!   scans come so many ms apart, and `answering` the answer then.
 //! - `searching` has the searches of rules whose scans come at any times, `telling_any` the text of what they found, and
 //!   `answering_any` the answer to any rules file.

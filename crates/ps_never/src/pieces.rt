@@ -1,64 +1,16 @@
-// Pieces of what is told of rules.
+// Names and conditions in what is told of rules.
 
-ghost use Rattle.std.specs.Prelude.{◌≡◌, ◌<◌, ◌++◌, OnOk, codes, decimal, slice_get, slice_index, []};
+ghost use Rattle.std.specs.Prelude.{◌≡◌, ◌++◌, OnOk, codes, slice_get, []};
 ghost use Rattle.std.specs.Option.{unwrap_or};
 ghost use Rattle.std.specs.List.{flat_map};
-ghost use Rattle.std.specs.Char.{to_ascii_uppercase};
-ghost use Rattle.hex.specs.Hex.{lower_digits};
 ghost use Rattle.ps_model.specs.Pins.{pin_names};
-ghost use Rattle.ps_report.specs.Lines.{code_text};
 ghost use Rattle.ps_never.specs.Pieces.{condition_text, instance_text, name_text, pin_text, sign, signal_text, value_text, values_text};
 
-use itoa::Buffer;
 use ps_base::{Bytes, Memory};
+use ps_bench_base::pieces::{add_code, add_short};
 use ps_model::{App, Kind, pin_count, pin_name};
 use ps_rules::Condition;
 use ps_terms::Name;
-
-/// A number in decimal digits.
-pub(crate) fn add_number(text: &mut Bytes, number: u64) -> Result<(), Memory>
-    ensures { OnOk result (text.new ≡ text.old ++ decimal number) }
-{
-    let mut digits = Buffer::new();
-    text.extend_from_slice(digits.format(number).as_bytes())
-}
-
-/// A number of up to 32 bits in decimal digits.
-pub(crate) fn add_short(text: &mut Bytes, number: u32) -> Result<(), Memory>
-    ensures { OnOk result (text.new ≡ text.old ++ decimal number) }
-{
-    let mut digits = Buffer::new();
-    text.extend_from_slice(digits.format(number).as_bytes())
-}
-
-// The capital hexadecimal digit of a number up to 15.
-fn capital_digit(n: u8) -> u8
-    requires { n < 16 }
-    ensures { result ≡ to_ascii_uppercase (slice_index lower_digits n) }
-{
-    b"0123456789ABCDEF"[usize::from(n)]
-}
-
-// A DiagCode in four capital hexadecimal digits.
-#[tactic(auto, unfolding(hex::specs::Hex::encode_with))]
-fn code_digits(code: u16) -> [u8; 4]
-    ensures { result ≡ code_text code }
-{
-    let [high, low] = code.to_be_bytes();
-    [
-        capital_digit(high / 16),
-        capital_digit(high % 16),
-        capital_digit(low / 16),
-        capital_digit(low % 16),
-    ]
-}
-
-// A DiagCode at the end of a text.
-fn add_code(text: &mut Bytes, code: u16) -> Result<(), Memory>
-    ensures { OnOk result (text.new ≡ text.old ++ code_text code) }
-{
-    text.extend_from_slice(&code_digits(code))
-}
 
 // The name of an instance; one that there is not has none.
 fn instance_text(app: &App, instance: u16) -> &[u8]

@@ -10,8 +10,9 @@ ghost use Rattle.ps_never.specs.TellingAny.{left_text, rule_text, sought_of, tol
 ghost use Rattle.ps_never.specs.TellingAny.{untimed_text, whole_text, wide_text};
 
 use crate::searching::Attempt;
-use crate::telling::{Asking, add_count, add_head, add_met, add_unmet};
+use crate::telling::{Asking, add_head, add_met, add_unmet};
 use ps_base::{Bytes, Memory};
+use ps_bench_base::pieces::add_count;
 use ps_counted::path_at;
 use ps_model::App;
 use ps_rules::Rule;

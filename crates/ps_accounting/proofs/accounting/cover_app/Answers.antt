@@ -1,4 +1,4 @@
-use Rattle.std.proofs.Common.{◌≡◌, ℕ, Any, Bool, Bor, IsTrue, List, Result, map, inl, inr, refl, subst, arith}
+use Rattle.std.proofs.Common.{ℕ, Any, Bor, List, map, inr, refl, arith}
 use Rattle.std.proofs.lemmas.Result.{IfErr-weaker}
 use Rattle.ps_bench_base.proofs.Stopped.{rose_since}
 use Rattle.ps_bench_base.specs.Meant.{file_meant}
@@ -6,7 +6,7 @@ use Rattle.ps_bench_base.specs.Opening.{source}
 use Rattle.ps_accounting.proofs.Begun.{begun_unseen, begun_whole}
 use Rattle.ps_bench_base.specs.declared.ending.Status.TheVariants.{Usage}
 use Rattle.ps_outside.specs.Outside.{Rose}
-use Rattle.ps_accounting.specs.Asking.{AnswersIn, wanted_by}
+use Rattle.ps_accounting.specs.Asking.{wanted_by}
 use Rattle.ps_accounting.specs.Leaving.{Stays, sides}
 use Rattle.ps_accounting.proofs.Leaving.{both, done, passed, same}
 use Rattle.ps_accounting.proofs.Coming.{moved}

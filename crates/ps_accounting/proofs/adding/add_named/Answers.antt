@@ -1,14 +1,11 @@
-use Rattle.std.proofs.Common.{◌≡◌, ◌∙◌, ◌++◌, ℕ, Bool, IsTrue, List, Some, Ok, Err, refl, sym, ap, subst, arith}
+use Rattle.std.proofs.Common.{◌≡◌, ◌∙◌, ◌++◌, ℕ, IsTrue, List, Ok, Err, refl, sym, ap, subst, arith}
 use Rattle.ps_bench_base.proofs.Stopped.{rose_since}
-use Rattle.ps_bench_base.specs.Stopping.{Took}
 use Rattle.ps_bench_base.specs.declared.ending.Stop.TheVariants as Stop
 use Rattle.ps_outside.specs.Outside.{Rose}
 use Rattle.ps_report.specs.Short.{refusal_text}
-use Rattle.ps_runs.specs.declared.items.Cut.{Cut}
 use Rattle.ps_runs.specs.declared.items.Cut.TheVariants.{Refused, Unread, Unwritten}
 use Rattle.ps_trace.specs.Reading.{items_left}
 use Rattle.ps_trace.specs.Scans.{Scans}
-use Rattle.ps_trace.specs.Scans.End.{refused, whole}
 use Rattle.ps_accounting.specs.Leaving.{Stays, sides}
 use Rattle.ps_accounting.proofs.Held.{held_added, never_rose, of_cut, of_ran}
 use Rattle.ps_accounting.proofs.Leaving.{both, done, stopped}

@@ -3,7 +3,6 @@ use Rattle.std.proofs.lemmas.Result.{IfErr-weaker}
 use Rattle.std.specs.Prelude.{IfErr, OnOk}
 use Rattle.ps_bench_base.specs.Meant.{file_meant}
 use Rattle.ps_traced.specs.Playing.{trace_held}
-use Rattle.ps_bench_base.specs.Ending.{IsUnread}
 use Rattle.ps_outside.specs.Outside.{Rose}
 use Rattle.ps_accounting.specs.Adding.{AddsHeld}
 use Rattle.ps_accounting.specs.Leaving.{Leaves, sides}

@@ -1,5 +1,4 @@
-use Rattle.std.proofs.Common.{◌≡◌, ◌∙◌, ◌++◌, ℕ, Bool, IsTrue, List, Option, Some, true, false, inl, inr, sym, subst}
-use Rattle.std.specs.Prelude.{IfErr, OnOk}
+use Rattle.std.proofs.Common.{ℕ, IsTrue, List, Option, true, false, inr, sym, subst}
 use Rattle.ps_bench_base.proofs.Stopped.{rose_since}
 use Rattle.ps_bench_base.specs.Meant.{file_meant}
 use Rattle.ps_bench_base.specs.Opening.{source}
@@ -8,7 +7,7 @@ use Rattle.ps_outside.specs.Outside.{Rose}
 use Rattle.ps_accounting.specs.Adding.{AddsHeld}
 use Rattle.ps_accounting.specs.Leaving.{Stays, sides}
 use Rattle.ps_accounting.proofs.Leaving.{behind, both, done, passed, stopped}
-use Rattle.ps_traced.specs.Refusing.{RefusesHeld, RefusesWord, StopsAtTrace}
+use Rattle.ps_traced.specs.Refusing.{RefusesHeld, RefusesWord}
 use Rattle.ps_accounting.proofs.Held.{added_on, word_added}
 use Rattle.ps_traced.proofs.Refused.{of_some, stops_moved, stops_weaker, word_refused}
 use Rattle.ps_accounting.proofs.adding.add_word.Goals as goal

@@ -1,4 +1,4 @@
-use Rattle.std.proofs.Common.{◌≡◌, ◌<◌, ◌+◌, ◌∙◌, ◌++◌, ◌∷◌, [], ℕ, Bool, IsTrue, List, Any, Bor, Option, Err, true, false, map, refl, sym, ap, subst, length, take, get_or, arith}
+use Rattle.std.proofs.Common.{◌≡◌, ◌<◌, ◌+◌, ◌∙◌, ◌++◌, ◌∷◌, [], ℕ, IsTrue, List, Any, Bor, Err, true, false, map, refl, sym, ap, subst, length, take, get_or, arith}
 use Rattle.std.proofs.lemmas.List.{take_all}
 use Rattle.ps_bench_base.proofs.Stopped.{rose_since}
 use Rattle.ps_bench_base.specs.Meant.{file_meant}

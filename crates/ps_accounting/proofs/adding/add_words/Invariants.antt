@@ -1,4 +1,4 @@
-use Rattle.std.proofs.Common.{◌≡◌, ◌≤◌, ℕ, IsTrue, List, take}
+use Rattle.std.proofs.Common.{◌≡◌, IsTrue, List, take}
 use Rattle.ps_cover.specs.Applying.{ScanStep}
 use Rattle.ps_bench_base.specs.Opening.{source}
 use Rattle.ps_cover.specs.Tallied.{KnowsTraces}

@@ -1,5 +1,5 @@
 -- What comes of a call with an application.
-use Rattle.std.proofs.Common.{◌≡◌, ◌<◌, ◌≤◌, ◌+◌, ℕ, suc, Bool, List, [], ◌∷◌, Any, Option, Result, Ok, Err, length, inr, refl, subst, arith}
+use Rattle.std.proofs.Common.{◌≡◌, ◌≤◌, ℕ, suc, Bool, List, ◌∷◌, Any, Option, Result, Ok, Err, inr, subst, arith}
 use Rattle.std.specs.Prelude.{IfErr, IfOk}
 use Rattle.ps_bench_base.proofs.Stopped.{rose_since}
 use Rattle.ps_bench_base.specs.Ending.{IsUnread}

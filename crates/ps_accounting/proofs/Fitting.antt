@@ -1,35 +1,33 @@
 -- The operands that are written are those that decide, in order.
-use Rattle.std.proofs.Common.{◌≡◌, ◌<◌, ◌+◌, ◌∙◌, ◌++◌, ℕ, zero, suc, Bool, true, false, List, [], ◌∷◌, Option, Some, None, length, map, refl, sym, ap, subst, append_assoc, append-nil, arith}
+use Rattle.std.proofs.Common.{◌≡◌, ◌+◌, ◌∙◌, ◌++◌, ℕ, zero, suc, Bool, true, false, List, [], ◌∷◌, Option, Some, None, length, map, refl, sym, ap, subst, append_assoc, append-nil, arith}
 use Rattle.std.specs.Prelude.{slice_get, slice_index_or, unwrap_or}
 use Rattle.std.specs.Option.{option_map}
 use Rattle.std.specs.List.{find, flat_map, range_with_len}
 use Rattle.std.specs.Prelude.{◌*◌, if◌then◌else◌}
 use Rattle.std.proofs.lemmas.Option.{slice_get-map}
 use Rattle.ps_base.specs.LetterCase.{is_same_name}
-use Rattle.ps_base.specs.declared.failing.Place.{Place}
 use Rattle.ps_cover.specs.Listing.{call_points, decision_points, does_count, listed, mark_points, operand_points, pin_points, place_points, points_below, points_of, root_points, signal_points, step_points, steps_points, value_points}
 use Rattle.ps_cover.specs.Points as points
 use Rattle.ps_cover.specs.Points.{Point, decision, has, marks}
 use Rattle.ps_cover.specs.Tallying.{called_kind}
-use Rattle.ps_model.specs.Action.{Action, Actual, assigns, calls, free, literal, time, wired}
+use Rattle.ps_model.specs.Action.{Action}
 use Rattle.ps_model.specs.Blocks.{Pin as PinRow, block}
-use Rattle.ps_model.specs.Formula.{Formula, Formulas, all_of, any_of, no_operand, operand, signal}
+use Rattle.ps_model.specs.Formula.{Formula, all_of, any_of}
 use Rattle.ps_model.specs.Network.{Network, declared_count, kind_at}
 use Rattle.ps_model.specs.declared.kind.Kind.{Kind}
 use Rattle.ps_names.specs.Names.{entries, sort_at, sort_of}
-use Rattle.ps_names.specs.Stands.{Stands, action, actual_at, actual_of, all_joined, any_joined, factor_formula, factor_formulas, given, kind_of, network_of, number, product_formula, product_formulas, sum_formula}
+use Rattle.ps_names.specs.Stands.{action, actual_at, actual_of, factor_formula, factor_formulas, given, kind_of, network_of, number, product_formula, product_formulas, sum_formula}
 use Rattle.ps_names.specs.declared.entry.Entry.{Entry}
 use Rattle.ps_names.specs.declared.entry.Sort.TheVariants.{Instance, Nothing}
-use Rattle.ps_names.proofs.Lists.{in_map}
 use Rattle.ps_names.proofs.OneDriver.{callee_at}
 use Rattle.ps_names.proofs.Unbroken.{IsUnbroken, unbroken}
 use Rattle.ps_names.proofs.Whole.{kind_of_called}
 use Rattle.ps_parser.specs.declared.name.Name.{Name}
 use Rattle.ps_ways.specs.Tables.{ways_of}
-use Rattle.ps_parser.specs.Tree.{FactorTree, Signal, Pin, Literal, Time, Group, ProductTree, no_factor, factor, SumTree, no_product, product, factors, products, ArgumentTree, StatementTree, Assign, Call, SourceTree}
+use Rattle.ps_parser.specs.Tree.{FactorTree, Signal, Pin, Literal, Time, Group, ProductTree, no_factor, factor, SumTree, no_product, product, factors, products, ArgumentTree, StatementTree, Assign, Call}
 use Rattle.ps_accounting.specs.OfOperands.{IsWritten, PlacesAreOfOperands, formula_of}
-use Rattle.ps_accounting.specs.Standing.{left_behind, next_place, placed, places_of, source_operands, step_operands}
-use Rattle.ps_accounting.specs.Operands.{Operand, given_operands, joined, nowhere, of_and, of_or, own_factors, own_products, pin_operands, place_of, statement_operands, sum_operands, within_factor, within_factors, within_products}
+use Rattle.ps_accounting.specs.Standing.{placed, places_of, source_operands, step_operands}
+use Rattle.ps_accounting.specs.Operands.{Operand, given_operands, nowhere, of_and, of_or, own_factors, own_products, pin_operands, place_of, statement_operands, sum_operands, within_factor, within_factors, within_products}
 
 module _ (es : List Entry) where
   -- the decisions among these points are of these operands, in order

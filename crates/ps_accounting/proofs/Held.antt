@@ -1,5 +1,5 @@
 -- A trace whose scans are added, or that is refused.
-use Rattle.std.proofs.Common.{◌≡◌, ◌<◌, ◌≤◌, ◌∙◌, ◌++◌, ℕ, Bool, IsTrue, List, [], ◌∷◌, Option, Some, None, Result, Ok, Err, refl, sym, ap, subst, inl, inr, arith}
+use Rattle.std.proofs.Common.{◌≡◌, ◌∙◌, ◌++◌, ℕ, Bool, List, [], ◌∷◌, Option, Some, Result, Ok, Err, refl, sym, ap, subst, inl, inr, arith}
 use Rattle.std.specs.Prelude.{IfOk, OnOk}
 use Rattle.ps_cover.specs.Applying as applying
 use Rattle.ps_cover.specs.Applying.{ScanStep}
@@ -23,7 +23,7 @@ use Rattle.ps_outside.specs.Outside.{Rose}
 use Rattle.ps_report.specs.Short.{refusal_text}
 use Rattle.ps_runs.specs.declared.items.Cut.{Cut}
 use Rattle.ps_trace.specs.Scans.{Scans, scans_of}
-use Rattle.ps_trace.specs.Scans.End.{refused, whole}
+use Rattle.ps_trace.specs.Scans.End.{whole}
 use Rattle.ps_traced.specs.Opening.{SaysRefusal}
 use Rattle.ps_traced.specs.Playing.{IsPlay}
 use Rattle.ps_accounting.specs.Adding.{AddsHeld, AddsWord}

@@ -3,9 +3,12 @@ pub mod Begun
 pub mod Done
 -- the operands of trees by their items, and those that are written are those that decide
 pub mod Walking
+pub mod Joined
 pub mod Fitting
 -- places of points, one after another
 pub mod Placing
+-- what a call leaves behind another
+pub mod Leaving
 -- a trace that is added, or refused
 pub mod Held
 -- words, one after another

@@ -1,11 +1,10 @@
 -- Places of points, one after another.
-use Rattle.std.proofs.Common.{◌≡◌, ◌<◌, ◌+◌, ◌∙◌, ℕ, suc, List, [], ◌∷◌, ◌++◌, Some, length, map, drop, get_or, slice_get, refl, sym, ap, append_assoc, append-nil, arith}
+use Rattle.std.proofs.Common.{◌≡◌, ◌<◌, ◌+◌, ◌∙◌, ℕ, List, [], ◌∷◌, ◌++◌, length, map, drop, get_or, refl, sym, ap, append_assoc}
 use Rattle.std.specs.List.{flat_map}
 use Rattle.std.proofs.lemmas.List.{map-append}
 use Rattle.ps_model.proofs.Rest.{rest_at}
 use Rattle.ps_base.specs.declared.failing.Place.{Place}
 use Rattle.ps_cover.specs.Covering.{point_of}
-use Rattle.ps_cover.specs.Points as points
 use Rattle.ps_cover.specs.declared.point.Point.{Point}
 use Rattle.ps_accounting.specs.Standing.{left_behind, next_place, placed}
 

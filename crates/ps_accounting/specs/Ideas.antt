@@ -1,7 +1,7 @@
 -- Beginnings of cases for ways that were never taken: what the guard of a way asks for where that is an input, and the
 -- rest in words. They are lines that a case file takes, and need not take the way.
-use Rattle.std.specs.Prelude.{ℕ, ◌&&◌, not, Bool, true, false, List, [], ◌++◌, Option, Some, None}
-use Rattle.std.specs.Prelude.{codes, length, nat_lt, slice_get, if◌then◌else◌}
+use Rattle.std.specs.Prelude.{ℕ, ◌&&◌, not, Bool, List, [], ◌++◌, Option, Some, None}
+use Rattle.std.specs.Prelude.{codes, nat_lt, slice_get, if◌then◌else◌}
 use Rattle.std.specs.List.{flat_map, range_with_len}
 use Rattle.ps_conditions.specs.Conditions.{condition_of}
 use Rattle.ps_conditions.specs.declared.condition.Condition.{Condition}
@@ -19,7 +19,6 @@ use Rattle.ps_ways.specs.Tables.{ways_of}
 use Rattle.ps_ways.specs.declared.way.Ask.{Ask}
 use Rattle.ps_ways.specs.declared.way.Ask.TheVariants.{Pin, Edge, Held, Rise, Elapsed, NoMode, OneMode}
 use Rattle.ps_ways.specs.declared.way.Ask.TheVariants.{ManyModes, LatchedMode}
-use Rattle.ps_ways.specs.declared.way.Literal.{Literal}
 use Rattle.ps_ways.specs.declared.way.Way.{Way}
 
 -- the pin of which something is asked, if it is one

@@ -12,3 +12,5 @@ pub mod Taking
 -- apparatus: what is told, by what is kept, and the parts of an idea
 pub mod Telling
 pub mod Shares
+-- what a call leaves of files and of an output
+pub mod Leaving

@@ -11,6 +11,7 @@ ghost use Rattle.ps_outside.specs.Outside.{Rose};
 ghost use Rattle.ps_bench_base.specs.Sourcing.{IsSourceOf};
 ghost use Rattle.ps_accounting.specs.Asking.{AnswersCover, AnswersIn, StopsCover, cover_text, ideas_asked};
 ghost use Rattle.ps_accounting.specs.Asking.{is_less, status_of, wanted_by};
+ghost use Rattle.ps_accounting.specs.Leaving.{Leaves, LeavesOutput, sides};
 ghost use Rattle.ps_accounting.specs.Telling.{Tells, TellsKept};
 
 use crate::adding::add_words;
@@ -102,10 +103,7 @@ fn write_told<O: Output>(
 ) -> Result<Status, Stop>
     ensures tells { Tells (known_of told.entry.now) (wanted_by asked.now)
         (O.tells out.old) (O.taken out.old) (O.taken out.new) result }
-    ensures read { IfErr result (λ stop. ¬ IsUnread stop) }
-    ensures unwritten { IsErrOf result Stop.Unwritten → Rose (O.faults out.old) (O.faults out.new) }
-    ensures writes { O.faults out.old ≤ O.faults out.new }
-    ensures telling { O.tells out.new ≡ O.tells out.old }
+    ensures leaves { LeavesOutput (O.tells out.old) (O.tells out.new) (O.faults out.old) (O.faults out.new) result }
 {
     match cover_text(alloc, told, asked) {
         Ok(text) => match write_all(out, text.as_slice()) {
@@ -127,10 +125,7 @@ fn tell_total<O: Output>(
     requires { Accepted sourced.now.opened.app }
     ensures tells { TellsKept sourced.now.opened.app sourced.now.source cover.entry.now (wanted_by asked.now)
         (O.tells out.old) (O.taken out.old) (O.taken out.new) result }
-    ensures read { IfErr result (λ stop. ¬ IsUnread stop) }
-    ensures unwritten { IsErrOf result Stop.Unwritten → Rose (O.faults out.old) (O.faults out.new) }
-    ensures writes { O.faults out.old ≤ O.faults out.new }
-    ensures telling { O.tells out.new ≡ O.tells out.old }
+    ensures leaves { LeavesOutput (O.tells out.old) (O.tells out.new) (O.faults out.old) (O.faults out.new) result }
 {
     let app = &sourced.opened.app;
     let exclusions = Exclusions::new(alloc, app)?;
@@ -159,13 +154,10 @@ fn cover_app<F: Files, O: Output, L: Listener>(
     ensures answers { AnswersIn
         (source sourced.now.opened.app sourced.now.opened.sizes (F.tells files.old) (F.held files.old))
         asked.now.app.now (wanted_by asked.now) (O.tells out.old) (O.taken out.old) (O.taken out.new) result }
-    ensures unread { IfErr result (λ stop. IsUnread stop →
-        Any (λ (name : List ℕ). Rose (F.faults files.old name) (F.faults files.new name))
-        (map (λ word. file_meant word.now) asked.now.traces.now)) }
-    ensures unwritten { IsErrOf result Stop.Unwritten → Rose (O.faults out.old) (O.faults out.new) }
-    ensures reads { (other : List ℕ) → F.faults files.old other ≤ F.faults files.new other }
-    ensures writes { O.faults out.old ≤ O.faults out.new }
-    ensures telling { O.tells out.new ≡ O.tells out.old }
+    ensures leaves { Leaves (Any (λ (name : List ℕ). Rose (F.faults files.old name) (F.faults files.new name))
+        (map (λ word. file_meant word.now) asked.now.traces.now))
+        (sides (F.tells files.old) (F.held files.old) (F.faults files.old) (O.tells out.old) (O.faults out.old))
+        (sides (F.tells files.new) (F.held files.new) (F.faults files.new) (O.tells out.new) (O.faults out.new)) result }
 {
     let opened = &sourced.opened;
     let mut total = match Cover::new(alloc, &opened.app) {

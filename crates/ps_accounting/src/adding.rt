@@ -14,6 +14,7 @@ ghost use Rattle.ps_outside.specs.Outside.{Rose};
 ghost use Rattle.ps_report.specs.Short.{refusal_text};
 ghost use Rattle.ps_traced.specs.Playing.{LacksCase, trace_held};
 ghost use Rattle.ps_accounting.specs.Adding.{AddsHeld, AddsWord, AreScansAll, StopsAmong};
+ghost use Rattle.ps_accounting.specs.Leaving.{Leaves, sides};
 ghost use Rattle.ps_traced.specs.Refusing.{RefusesHeld, RefusesWord};
 ghost use Rattle.ps_traced.specs.Refusing.{StopsAtTrace, StopsAtWord};
 
@@ -62,14 +63,9 @@ fn add_named<F: Files, O: Output>(
         (λ refusal. IsTrue (F.tells files.old) → RefusesHeld app.now (F.held files.old name.now) refusal) stop
         (O.tells out.old) (O.taken out.old) (O.taken out.new)) }
     ensures unsaid { OnOk result (O.taken out.new ≡ O.taken out.old) }
-    ensures unread { IfErr result (λ stop. IsUnread stop →
-        Rose (F.faults files.old name.now) (F.faults files.new name.now)) }
-    ensures unwritten { IsErrOf result Stop.Unwritten → Rose (O.faults out.old) (O.faults out.new) }
-    ensures reads { (other : List ℕ) → F.faults files.old other ≤ F.faults files.new other }
-    ensures writes { O.faults out.old ≤ O.faults out.new }
-    ensures kept { F.held files.new ≡ F.held files.old }
-    ensures reading { F.tells files.new ≡ F.tells files.old }
-    ensures telling { O.tells out.new ≡ O.tells out.old }
+    ensures leaves { Leaves (Rose (F.faults files.old name.now) (F.faults files.new name.now))
+        (sides (F.tells files.old) (F.held files.old) (F.faults files.old) (O.tells out.old) (O.faults out.old))
+        (sides (F.tells files.new) (F.held files.new) (F.faults files.new) (O.tells out.new) (O.faults out.new)) result }
 {
     app.sound();
     let mut trace = match open_trace(alloc, files, out, name, app) {
@@ -100,14 +96,9 @@ fn add_play<F: Files, O: Output>(
         RefusesHeld app.now (trace_held cases (F.held files.old (file_meant word.now))) refusal) stop
         (O.tells out.old) (O.taken out.old) (O.taken out.new)) }
     ensures unsaid { OnOk result (O.taken out.new ≡ O.taken out.old) }
-    ensures unread { IfErr result (λ stop. IsUnread stop →
-        Rose (F.faults files.old (file_meant word.now)) (F.faults files.new (file_meant word.now))) }
-    ensures unwritten { IsErrOf result Stop.Unwritten → Rose (O.faults out.old) (O.faults out.new) }
-    ensures reads { (other : List ℕ) → F.faults files.old other ≤ F.faults files.new other }
-    ensures writes { O.faults out.old ≤ O.faults out.new }
-    ensures kept { F.held files.new ≡ F.held files.old }
-    ensures reading { F.tells files.new ≡ F.tells files.old }
-    ensures telling { O.tells out.new ≡ O.tells out.old }
+    ensures leaves { Leaves (Rose (F.faults files.old (file_meant word.now)) (F.faults files.new (file_meant word.now)))
+        (sides (F.tells files.old) (F.held files.old) (F.faults files.old) (O.tells out.old) (O.faults out.old))
+        (sides (F.tells files.new) (F.held files.new) (F.faults files.new) (O.tells out.new) (O.faults out.new)) result }
 {
     let word = word_of(word);
     match cases {
@@ -135,14 +126,9 @@ fn add_word<F: Files, O: Output, L: Listener>(
         (source opened.now.app opened.now.sizes (F.tells files.old) (F.held files.old)) word.now stop
         (O.tells out.old) (O.taken out.old) (O.taken out.new)) }
     ensures unsaid { OnOk result (O.taken out.new ≡ O.taken out.old) }
-    ensures unread { IfErr result (λ stop. IsUnread stop →
-        Rose (F.faults files.old (file_meant word.now)) (F.faults files.new (file_meant word.now))) }
-    ensures unwritten { IsErrOf result Stop.Unwritten → Rose (O.faults out.old) (O.faults out.new) }
-    ensures reads { (other : List ℕ) → F.faults files.old other ≤ F.faults files.new other }
-    ensures writes { O.faults out.old ≤ O.faults out.new }
-    ensures kept { F.held files.new ≡ F.held files.old }
-    ensures reading { F.tells files.new ≡ F.tells files.old }
-    ensures telling { O.tells out.new ≡ O.tells out.old }
+    ensures leaves { Leaves (Rose (F.faults files.old (file_meant word.now)) (F.faults files.new (file_meant word.now)))
+        (sides (F.tells files.old) (F.held files.old) (F.faults files.old) (O.tells out.old) (O.faults out.old))
+        (sides (F.tells files.new) (F.held files.new) (F.faults files.new) (O.tells out.new) (O.faults out.new)) result }
 {
     match open_play(alloc, files, out, listener, opened, word) {
         Ok(Some(play)) => {
@@ -181,15 +167,10 @@ pub(crate) fn add_words<F: Files, O: Output, L: Listener>(
         (source opened.now.app opened.now.sizes (F.tells files.old) (F.held files.old))
         (map (λ word. word.now) words.now) stop (O.tells out.old) (O.taken out.old) (O.taken out.new)) }
     ensures unsaid { OnOk result (O.taken out.new ≡ O.taken out.old) }
-    ensures unread { IfErr result (λ stop. IsUnread stop →
-        Any (λ (name : List ℕ). Rose (F.faults files.old name) (F.faults files.new name))
-        (map (λ word. file_meant word.now) words.now)) }
-    ensures unwritten { IsErrOf result Stop.Unwritten → Rose (O.faults out.old) (O.faults out.new) }
-    ensures reads { (other : List ℕ) → F.faults files.old other ≤ F.faults files.new other }
-    ensures writes { O.faults out.old ≤ O.faults out.new }
-    ensures kept { F.held files.new ≡ F.held files.old }
-    ensures reading { F.tells files.new ≡ F.tells files.old }
-    ensures telling { O.tells out.new ≡ O.tells out.old }
+    ensures leaves { Leaves (Any (λ (name : List ℕ). Rose (F.faults files.old name) (F.faults files.new name))
+        (map (λ word. file_meant word.now) words.now))
+        (sides (F.tells files.old) (F.held files.old) (F.faults files.old) (O.tells out.old) (O.faults out.old))
+        (sides (F.tells files.new) (F.held files.new) (F.faults files.new) (O.tells out.new) (O.faults out.new)) result }
 {
     let mut place = 0;
     for word in words {

@@ -6,9 +6,10 @@ ghost use Rattle.ps_cover.specs.Covering.{point_of};
 ghost use Rattle.ps_coverage.specs.Telling.{known_of};
 ghost use Rattle.ps_model.specs.Network.{input_count, instance_count, kind_at};
 ghost use Rattle.ps_accounting.specs.Ideas as ideas;
-ghost use Rattle.ps_accounting.specs.Ideas.{each_literal, idea_at, idea_head, idea_lines, ideas_text, mark_idea};
+ghost use Rattle.ps_accounting.specs.Ideas.{each_literal, idea_at, idea_head, idea_if, idea_lines, ideas_text, mark_idea};
 ghost use Rattle.ps_accounting.specs.Ideas.{point_idea, way_idea};
 ghost use Rattle.ps_accounting.specs.Shares.{share_text};
+ghost use Rattle.ps_ways.specs.Tables.{ways_of};
 
 use crate::asked::{input_asked, value_before};
 use ps_base::{Bytes, Memory};
@@ -146,6 +147,25 @@ fn add_way_idea(
     add_lines(text, &Called { app, kind, args }, way)
 }
 
+// Puts the case that begins for a mark of an instance, where it is a way.
+fn add_mark_of(
+    text: &mut Bytes,
+    app: &App,
+    instance: u16,
+    args: &Args,
+    mark: usize,
+) -> Result<(), Memory>
+    requires { instance < instance_count app.now }
+    ensures { OnOk result (text.new ≡ text.old
+        ++ idea_if app.now instance args.now (slice_get (ways_of (kind_at app.now instance)) mark)) }
+{
+    let ways = ways(app.instance_kind(instance));
+    if mark < ways.len() {
+        return add_way_idea(text, app, instance, args, &ways[mark]);
+    }
+    Ok(())
+}
+
 // Puts the case that begins for a mark of the call of a step, where it is a way.
 fn add_mark_idea(text: &mut Bytes, app: &App, k: u16, mark: usize) -> Result<(), Memory>
     ensures { OnOk result (text.new ≡ text.old ++ mark_idea app.now (slice_get app.now.steps k) mark) }
@@ -155,14 +175,7 @@ fn add_mark_idea(text: &mut Bytes, app: &App, k: u16, mark: usize) -> Result<(),
         return Ok(());
     }
     match app.step(k) {
-        Step::Call { instance, args } => {
-            let ways = ways(app.instance_kind(*instance));
-            if mark < ways.len() {
-                let way = &ways[mark];
-                return add_way_idea(text, app, *instance, args, way);
-            }
-            Ok(())
-        }
+        Step::Call { instance, args } => add_mark_of(text, app, *instance, args, mark),
         Step::Assign { .. } => Ok(()),
     }
 }

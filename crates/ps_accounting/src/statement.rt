@@ -21,7 +21,8 @@ fn push_factors(factors: &Factors, places: &mut Vec<Place>) -> Result<(), Memory
     ensures { OnOk result (places.new.items ≡ places.old.items
         ++ map place_of (map of_and (joined (factor_trees factors.now)))) }
 {
-    if factors.items.len() < 2 {
+    let count = factors.items.len();
+    if count < 2 {
         return Ok(());
     }
     for factor in &factors.items {

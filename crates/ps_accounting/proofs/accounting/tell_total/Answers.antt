@@ -1,6 +1,7 @@
 use Rattle.std.proofs.Common.{◌∙◌, Err, map, inl, inr, refl, ap}
 use Rattle.std.proofs.lemmas.Result.{err_from_is_err_and}
 use Rattle.ps_cover.specs.Covering.{point_of}
+use Rattle.ps_accounting.proofs.Leaving.{no_memory}
 use Rattle.ps_accounting.proofs.accounting.tell_total.Goals as goal
 
 pub returns-clause-tells : goal.returns-clause-tells
@@ -25,3 +26,13 @@ pub returns-in_err-places-clause-tells : goal.returns-in_err-places-clause-tells
 returns-in_err-places-clause-tells g c =
     let p = err_from_is_err_and c.from_residual-in_err-places.result c.from_residual-in_err-places.ensures.1 in
     inr (p.1 ∙ ap Err p.2, λ tells. refl)
+
+pub returns-in_err-exclusions-clause-leaves : goal.returns-in_err-exclusions-clause-leaves
+returns-in_err-exclusions-clause-leaves g c =
+    let p = err_from_is_err_and c.from_residual.result c.from_residual.ensures.1 in
+    no_memory (g.O.Sink.tells c.args.out.now) (g.O.Sink.faults c.args.out.now) c.from_residual.result (p.1 ∙ ap Err p.2)
+
+pub returns-in_err-places-clause-leaves : goal.returns-in_err-places-clause-leaves
+returns-in_err-places-clause-leaves g c =
+    let p = err_from_is_err_and c.from_residual-in_err-places.result c.from_residual-in_err-places.ensures.1 in
+    no_memory (g.O.Sink.tells c.args.out.now) (g.O.Sink.faults c.args.out.now) c.from_residual-in_err-places.result (p.1 ∙ ap Err p.2)

@@ -1,4 +1,4 @@
-use Rattle.std.proofs.Common.{◌∙◌, ◌++◌, ℕ, List, inl, inr, refl, ap}
+use Rattle.std.proofs.Common.{◌∙◌, ◌++◌, ℕ, List, inl, refl, ap}
 use Rattle.ps_bench_base.proofs.Stopped.{took_part}
 use Rattle.ps_coverage.specs.Telling.{known_of}
 use Rattle.ps_accounting.specs.Asking.{cover_text, wanted_by}

@@ -1,14 +1,14 @@
-use Rattle.std.proofs.Common.{◌≡◌, ◌∙◌, ◌++◌, ℕ, Bool, IsTrue, List, Some, Ok, Err, refl, sym, ap, subst}
+use Rattle.std.proofs.Common.{◌≡◌, ◌∙◌, ◌++◌, ℕ, IsTrue, List, Ok, Err, refl, sym, ap, subst, arith}
 use Rattle.ps_bench_base.proofs.Stopped.{rose_since}
-use Rattle.ps_bench_base.specs.Stopping.{Took}
+use Rattle.ps_bench_base.specs.declared.ending.Stop.TheVariants as Stop
 use Rattle.ps_outside.specs.Outside.{Rose}
 use Rattle.ps_report.specs.Short.{refusal_text}
-use Rattle.ps_runs.specs.declared.items.Cut.{Cut}
 use Rattle.ps_runs.specs.declared.items.Cut.TheVariants.{Refused, Unread, Unwritten}
 use Rattle.ps_trace.specs.Reading.{items_left}
 use Rattle.ps_trace.specs.Scans.{Scans}
-use Rattle.ps_trace.specs.Scans.End.{refused, whole}
+use Rattle.ps_accounting.specs.Leaving.{Stays, sides}
 use Rattle.ps_accounting.proofs.Held.{held_added, never_rose, of_cut, of_ran}
+use Rattle.ps_accounting.proofs.Leaving.{both, done, stopped}
 use Rattle.ps_accounting.proofs.adding.add_named.Goals as goal
 
 pub returns-in-Err-clause-stops : goal.returns-in-Err-clause-stops
@@ -56,12 +56,74 @@ returns-in-Ok-Err-clause-stops g c = record {
       );
 }
 
-pub returns-in-Ok-Err-clause-unread : goal.returns-in-Ok-Err-clause-unread
-returns-in-Ok-Err-clause-unread g c = λ is.
+pub returns-in-Err-clause-leaves : goal.returns-in-Err-clause-leaves
+returns-in-Err-clause-leaves g c =
+    let before = sides (g.F.Files.tells c.args.files.now) (g.F.Files.held c.args.files.now) (g.F.Files.faults c.args.files.now) (g.O.Sink.tells c.args.out.now) (g.O.Sink.faults c.args.out.now) in
+    let after = sides (g.F.Files.tells c.open_trace.new.files) (g.F.Files.held c.open_trace.new.files) (g.F.Files.faults c.open_trace.new.files) (g.O.Sink.tells c.open_trace.new.out) (g.O.Sink.faults c.open_trace.new.out) in
+    let does = c.in-Err.ensures in
+    let opened : Stays before after = record {
+      reading = does.reading;
+      kept = does.kept;
+      reads = does.reads;
+      telling = does.telling;
+      writes = does.writes;
+    } in
+    stopped (Rose (g.F.Files.faults c.args.files.now c.args.name.now) (g.F.Files.faults c.open_trace.new.files c.args.name.now)) before after c.in-Err.stop opened does.unread does.unwritten
+
+pub returns-in-Ok-Ok-clause-leaves : goal.returns-in-Ok-Ok-clause-leaves
+returns-in-Ok-Ok-clause-leaves g c =
+    let before = sides (g.F.Files.tells c.args.files.now) (g.F.Files.held c.args.files.now) (g.F.Files.faults c.args.files.now) (g.O.Sink.tells c.args.out.now) (g.O.Sink.faults c.args.out.now) in
+    let middle = sides (g.F.Files.tells c.open_trace.new.files) (g.F.Files.held c.open_trace.new.files) (g.F.Files.faults c.open_trace.new.files) (g.O.Sink.tells c.open_trace.new.out) (g.O.Sink.faults c.open_trace.new.out) in
+    let opened : Stays before middle = record {
+      reading = c.in-Ok.ensures.reading;
+      kept = c.in-Ok.ensures.kept;
+      reads = c.in-Ok.ensures.reads;
+      telling = c.in-Ok.ensures.telling;
+      writes = c.in-Ok.ensures.writes;
+    } in
+    let after = sides (g.F.Files.tells c.add_trace.new.files) (g.F.Files.held c.add_trace.new.files) (g.F.Files.faults c.add_trace.new.files) (g.O.Sink.tells c.open_trace.new.out) (g.O.Sink.faults c.open_trace.new.out) in
+    let ran = c.add_trace.ensures in
+    let added : Stays middle after = record {
+      reading = ran.reading;
+      kept = ran.kept;
+      reads = ran.reads;
+      telling = refl;
+      writes = omega arith;
+    } in
+    done (Rose (g.F.Files.faults c.args.files.now c.args.name.now) (g.F.Files.faults c.add_trace.new.files c.args.name.now)) before after tt (both before middle after opened added)
+
+pub returns-in-Ok-Err-clause-leaves : goal.returns-in-Ok-Err-clause-leaves
+returns-in-Ok-Err-clause-leaves g c =
+    let before = sides (g.F.Files.tells c.args.files.now) (g.F.Files.held c.args.files.now) (g.F.Files.faults c.args.files.now) (g.O.Sink.tells c.args.out.now) (g.O.Sink.faults c.args.out.now) in
+    let middle = sides (g.F.Files.tells c.open_trace.new.files) (g.F.Files.held c.open_trace.new.files) (g.F.Files.faults c.open_trace.new.files) (g.O.Sink.tells c.open_trace.new.out) (g.O.Sink.faults c.open_trace.new.out) in
+    let opened : Stays before middle = record {
+      reading = c.in-Ok.ensures.reading;
+      kept = c.in-Ok.ensures.kept;
+      reads = c.in-Ok.ensures.reads;
+      telling = c.in-Ok.ensures.telling;
+      writes = c.in-Ok.ensures.writes;
+    } in
+    let after = sides (g.F.Files.tells c.add_trace.new.files) (g.F.Files.held c.add_trace.new.files) (g.F.Files.faults c.add_trace.new.files) (g.O.Sink.tells c.stop_behind.new.out) (g.O.Sink.faults c.stop_behind.new.out) in
+    let stops = c.stop_behind.ensures in
+    let ran = c.add_trace.ensures in
+    let added : Stays middle after = record {
+      reading = ran.reading;
+      kept = ran.kept;
+      reads = ran.reads;
+      telling = stops.telling;
+      writes = stops.writes;
+    } in
     let name = c.args.name.now in
-    let cut : c.add_trace.result ≡ Ok (Err Unread) =
-    let at = c.in-Ok-Err.is in let field-is = c.in-Ok-Err.field-0-is in let cut-is = c.stop_behind.ensures.unread is in cc in
-    let rose = (of_cut _ Unread c.add_trace.result cut c.add_trace.ensures.failures).unread refl in
-    rose_since (g.F.Files.faults c.args.files.now name) (g.F.Files.faults c.open_trace.new.files name) (g.F.Files.faults c.add_trace.new.files name)
-    (c.in-Ok.ensures.reads name)
-    (subst (λ (file : List ℕ). Rose (g.F.Files.faults c.open_trace.new.files file) (g.F.Files.faults c.add_trace.new.files file)) c.in-Ok.ensures.opened.file rose)
+    record {
+      stays = both before middle after opened added;
+      unread = λ is.
+          let cut : c.add_trace.result ≡ Ok (Err Unread) =
+          let at = c.in-Ok-Err.is in let field-is = c.in-Ok-Err.field-0-is in let cut-is = stops.unread is in cc in
+          let rose = (of_cut _ Unread c.add_trace.result cut ran.failures).unread refl in
+          rose_since (g.F.Files.faults c.args.files.now name) (g.F.Files.faults c.open_trace.new.files name) (g.F.Files.faults c.add_trace.new.files name)
+          (opened.reads name)
+          (subst (λ (file : List ℕ). Rose (g.F.Files.faults c.open_trace.new.files file) (g.F.Files.faults c.add_trace.new.files file)) c.in-Ok.ensures.opened.file rose);
+      unwritten = λ is.
+          let so : c.stop_behind.result ≡ Stop.Unwritten = cc in
+          rose_since (g.O.Sink.faults c.args.out.now) (g.O.Sink.faults c.open_trace.new.out) (g.O.Sink.faults c.stop_behind.new.out) opened.writes (stops.unwritten so);
+    }

@@ -1,9 +1,12 @@
-use Rattle.std.proofs.Common.{◌≡◌, ℕ, IsTrue, List, Option, refl, sym, subst}
+use Rattle.std.proofs.Common.{◌≡◌, ℕ, IsTrue, List, Option, refl, sym, subst, arith}
 use Rattle.std.proofs.lemmas.Result.{IfErr-weaker}
 use Rattle.std.specs.Prelude.{IfErr, OnOk}
 use Rattle.ps_bench_base.specs.Meant.{file_meant}
 use Rattle.ps_traced.specs.Playing.{trace_held}
+use Rattle.ps_outside.specs.Outside.{Rose}
 use Rattle.ps_accounting.specs.Adding.{AddsHeld}
+use Rattle.ps_accounting.specs.Leaving.{Leaves, sides}
+use Rattle.ps_accounting.proofs.Held.{never_rose}
 use Rattle.ps_traced.specs.Refusing.{RefusesHeld, StopsAtTrace}
 use Rattle.ps_traced.proofs.Refused.{stops_weaker}
 use Rattle.ps_accounting.proofs.adding.add_play.Goals as goal
@@ -34,3 +37,25 @@ returns-in-Some-clause-stops g c =
     subst (λ (o : Option (List ℕ)). RefusesHeld c.args.app.now (trace_held o (g.F.Files.held c.args.files.now (file_meant c.args.word.now))) refusal)
     (sym c.in-Some.is) (why refl)) stops)
     c.add_named.ensures.stops
+
+pub returns-in-None-clause-leaves : goal.returns-in-None-clause-leaves
+returns-in-None-clause-leaves g c =
+    let before = sides (g.F.Files.tells c.args.files.now) (g.F.Files.held c.args.files.now) (g.F.Files.faults c.args.files.now) (g.O.Sink.tells c.args.out.now) (g.O.Sink.faults c.args.out.now) in
+    let after = sides (g.F.Files.tells c.add_named-in-None.new.files) (g.F.Files.held c.add_named-in-None.new.files) (g.F.Files.faults c.add_named-in-None.new.files) (g.O.Sink.tells c.add_named-in-None.new.out) (g.O.Sink.faults c.add_named-in-None.new.out) in
+    subst (λ (name : List ℕ). Leaves (Rose (g.F.Files.faults c.args.files.now name) (g.F.Files.faults c.add_named-in-None.new.files name)) before after c.add_named-in-None.result)
+    c.word_of-word.ensures.file c.add_named-in-None.ensures.leaves
+
+pub returns-in-Some-clause-leaves : goal.returns-in-Some-clause-leaves
+returns-in-Some-clause-leaves g c =
+    let leaves = c.add_named.ensures.leaves in
+    record {
+      stays = record {
+        reading = refl;
+        kept = refl;
+        reads = λ other. omega arith;
+        telling = leaves.stays.telling;
+        writes = leaves.stays.writes;
+      };
+      unread = IfErr-weaker c.add_named.result _ _ (λ stop rises is. absurd (never_rose (rises is))) leaves.unread;
+      unwritten = leaves.unwritten;
+    }

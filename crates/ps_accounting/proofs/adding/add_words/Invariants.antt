@@ -1,8 +1,9 @@
-use Rattle.std.proofs.Common.{◌≡◌, ◌≤◌, ℕ, IsTrue, List, take}
+use Rattle.std.proofs.Common.{◌≡◌, IsTrue, List, take}
 use Rattle.ps_cover.specs.Applying.{ScanStep}
 use Rattle.ps_bench_base.specs.Opening.{source}
 use Rattle.ps_cover.specs.Tallied.{KnowsTraces}
 use Rattle.ps_accounting.specs.Adding.{AreScansAll}
+use Rattle.ps_accounting.specs.Leaving.{Stays, sides}
 use Rattle.ps_accounting.proofs.Words.{words_in}
 use Rattle.ps_accounting.proofs.adding.add_words.Given as goal
 
@@ -14,9 +15,6 @@ invariant-loop-word g l =
           × KnowsTraces l.opened.app traces l.fn.total l.total;
       place : l.place ≡ l.word-index;
       unsaid : g.O.Sink.taken l.out ≡ g.O.Sink.taken l.fn.out;
-      kept : g.F.Files.held l.files ≡ g.F.Files.held l.fn.files;
-      reading : g.F.Files.tells l.files ≡ g.F.Files.tells l.fn.files;
-      reads : (other : List ℕ) → g.F.Files.faults l.fn.files other ≤ g.F.Files.faults l.files other;
-      writes : g.O.Sink.faults l.fn.out ≤ g.O.Sink.faults l.out;
-      telling : g.O.Sink.tells l.out ≡ g.O.Sink.tells l.fn.out;
+      stays : Stays (sides (g.F.Files.tells l.fn.files) (g.F.Files.held l.fn.files) (g.F.Files.faults l.fn.files) (g.O.Sink.tells l.fn.out) (g.O.Sink.faults l.fn.out))
+          (sides (g.F.Files.tells l.files) (g.F.Files.held l.files) (g.F.Files.faults l.files) (g.O.Sink.tells l.out) (g.O.Sink.faults l.out));
     }

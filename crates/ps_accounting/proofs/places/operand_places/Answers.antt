@@ -1,4 +1,4 @@
-use Rattle.std.proofs.Common.{◌∙◌, ◌++◌, [], List, map, ap}
+use Rattle.std.proofs.Common.{◌∙◌, ◌++◌, List, map, ap}
 use Rattle.ps_base.specs.declared.failing.Place.{Place}
 use Rattle.ps_cover.specs.Points.{Point}
 use Rattle.ps_accounting.specs.Standing.{placed, source_operands}

@@ -1,4 +1,4 @@
-use Rattle.std.proofs.Common.{◌≡◌, ◌++◌, List, [], map, sym, ap, ◌∙◌, append-nil, arith, false, true}
+use Rattle.std.proofs.Common.{◌≡◌, ◌++◌, [], map, sym, ap, ◌∙◌, append-nil, arith}
 use Rattle.ps_base.specs.LetterCase.{is_same_name}
 use Rattle.ps_parser.specs.declared.statement.Argument.{Argument}
 use Rattle.ps_parser.specs.ArgumentView.{argument_tree}

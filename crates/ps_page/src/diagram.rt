@@ -1,24 +1,27 @@
 // The timing diagram of a case, and what changed in it in a table.
 
-ghost use Rattle.std.specs.Prelude.{◌≡◌, ◌++◌, IfOk, OnOk};
+ghost use Rattle.std.specs.Prelude.{◌≡◌, ◌++◌, IfOk, OnOk, if◌then◌else◌};
 ghost use Rattle.std.specs.List.{flat_map};
-ghost use Rattle.ps_page.specs.Diagram.{above_pieces, change_row, event_pieces, expected_pieces, fails, further_text};
+ghost use Rattle.ps_page.specs.Diagram.{above_pieces, event_pieces, expected_pieces, fails, further_text};
 ghost use Rattle.ps_page.specs.Diagram.{is_turn, lane_pieces, mark_text};
+ghost use Rattle.ps_page.specs.Pictures.{ShowsDiagram, ShowsPictures, ShowsSheet, has_value, height_of, is_constant};
+ghost use Rattle.ps_page.specs.Pictures.{is_drawn, lanes_of, picture_pieces, with_lane};
+ghost use Rattle.ps_told.specs.Outcome.{ran_of};
 ghost use Rattle.ps_page.specs.Diagram.{marks_at, marks_class, marks_text, scan_pieces};
 
+use crate::changes::add_changes;
 use crate::drawing::{
     Lane, add_lane, add_upright_path, base_lines, break_lines, event_of, tick_lines, time_of,
     value_at,
 };
-use crate::marks::{Mark, marks_of};
-use crate::recording::{Course, MOST_MOMENTS, Moment, Recording};
 use crate::scale::{Scan, scans_of, unit_of};
 use ps_base::{Bytes, Memory};
 use ps_bench_base::pieces::add_short;
 use ps_markup::{Key, LANE, LEFT, Page, Part, TOP, Tag, add_parts, add_path, add_words};
 use ps_model::App;
+use ps_recorder::{Course, MOST_MOMENTS, Mark, Moment, Recording, marks_of};
 use ps_terms::Name;
-use ps_told::{CaseRun, add_name, add_value};
+use ps_told::CaseRun;
 use std::alloc::Global;
 
 // As many names are drawn whether they change or not.
@@ -27,13 +30,15 @@ const FEW_NAMES: usize = 60;
 // How wide a picture is.
 const WIDTH: u32 = 690;
 
-// What a diagram is drawn of.
+/// What a diagram is drawn of.
 #[derive(Clone, Copy)]
-struct Sheet<'a> {
-    alloc: Global,
-    app: &'a App,
-    recording: &'a Recording,
-    marks: &'a [Mark],
+pub(crate) struct Sheet<'a> {
+    pub(crate) alloc: Global,
+    pub(crate) app: &'a App,
+    /// What is shown of the case.
+    pub(crate) recording: &'a Recording,
+    /// What the case expects.
+    pub(crate) marks: &'a [Mark],
     // the names that are drawn
     lanes: &'a [Lane],
     // what the pictures are called within the page, up to their number
@@ -41,36 +46,63 @@ struct Sheet<'a> {
 }
 
 // Whether a name has the same value in all of these scans.
-fn is_constant(moments: &[Moment], number: usize) -> bool {
+fn is_constant(moments: &[Moment], number: usize) -> bool
+    ensures { result ≡ is_constant moments.now number }
+{
     match moments {
         [] => true,
-        [first, rest @ ..] => {
-            let value = value_at(first, number);
-            rest.iter().all(|moment| value_at(moment, number) == value)
-        }
+        [first, rest @ ..] => has_value(rest, number, value_at(first, number)),
     }
 }
 
+// Whether a name has this value in all of these scans.
+fn has_value(moments: &[Moment], number: usize, value: u16) -> bool
+    ensures { result ≡ has_value moments.now number value }
+{
+    moments
+        .iter()
+        .all(|moment| value_at(moment, number) == value)
+}
+
+// Whether a name is drawn: all of a few are, and of many those that change.
+fn is_drawn(recording: &Recording, number: usize) -> bool
+    ensures { result ≡ is_drawn recording.now number }
+{
+    recording.names.len() <= FEW_NAMES || !is_constant(recording.moments.as_slice(), number)
+}
+
+// One more name below the others, where it is drawn.
+fn push_lane(
+    lanes: &mut Vec<Lane>,
+    recording: &Recording,
+    name: Name,
+    number: usize,
+) -> Result<(), Memory>
+    ensures { OnOk result (lanes.new.items ≡ (
+        if is_drawn recording.now number then with_lane lanes.old.items name number else lanes.old.items)) }
+{
+    if !is_drawn(recording, number) {
+        return Ok(());
+    }
+    let row = lanes.len().min(u16::MAX as usize) as u16;
+    lanes.push(Lane { name, number, row })?;
+    Ok(())
+}
+
 // The names that are drawn: all of a few, and of many those that change.
-fn lanes_of(alloc: Global, recording: &Recording) -> Result<Vec<Lane>, Memory> {
+fn lanes_of(alloc: Global, recording: &Recording) -> Result<Vec<Lane>, Memory>
+    ensures { IfOk result (λ lanes. lanes.items ≡ lanes_of recording.now) }
+{
     let mut lanes = Vec::new(alloc);
-    let few = recording.names.len() <= FEW_NAMES;
-    let mut row = 0u16;
-    for (number, name) in recording.names.as_slice().iter().enumerate() {
-        if few || !is_constant(recording.moments.as_slice(), number) {
-            lanes.push(Lane {
-                name: *name,
-                number,
-                row,
-            })?;
-            row = row.saturating_add(1);
-        }
+    let names = recording.names.as_slice();
+    for number in 0..names.len() {
+        push_lane(&mut lanes, recording, names[number], number)?;
     }
     Ok(lanes)
 }
 
-// The expectations of a scan.
-fn marks_at(alloc: Global, marks: &[Mark], scan: u32) -> Result<Vec<Mark>, Memory>
+/// The expectations of a scan.
+pub(crate) fn marks_at(alloc: Global, marks: &[Mark], scan: u32) -> Result<Vec<Mark>, Memory>
     ensures { IfOk result (λ list. list.items ≡ marks_at scan marks.now) }
 {
     let mut list = Vec::new(alloc);
@@ -101,8 +133,8 @@ fn add_marks(words: &mut Bytes, marks: &[Mark]) -> Result<(), Memory>
     Ok(())
 }
 
-// Expectations by their lines, as `line 23, 25 FAIL`.
-fn marks_text(alloc: Global, marks: &[Mark]) -> Result<Bytes, Memory>
+/// Expectations by their lines, as `line 23, 25 FAIL`.
+pub(crate) fn marks_text(alloc: Global, marks: &[Mark]) -> Result<Bytes, Memory>
     ensures { IfOk result (λ words. words ≡ marks_text marks.now) }
 {
     let mut words = Bytes::new(alloc);
@@ -304,7 +336,9 @@ fn id_of(alloc: Global, id: &[u8], number: u32) -> Result<Bytes, Memory> {
 }
 
 // How high a picture of so many names is.
-fn height_of(lanes: usize) -> u32 {
+fn height_of(lanes: usize) -> u32
+    ensures { result ≡ height_of lanes }
+{
     (lanes.min(1000) as u32) * LANE + TOP + 20
 }
 
@@ -334,24 +368,38 @@ fn add_front(
     )
 }
 
-// A picture, by its number among those of the case.
+// What stands in a picture before its scans and lines, by its number among those of the case.
+fn front_of(sheet: &Sheet<'_>, number: u32, scans: &[Scan<'_>]) -> Result<Page, Memory> {
+    let height = height_of(sheet.lanes.len());
+    let mut page = Page::new(sheet.alloc);
+    add_front(&mut page, sheet, number, scans, height)?;
+    add_ground(&mut page, sheet, scans, height.saturating_sub(18))?;
+    Ok(page)
+}
+
+// A picture with this front.
 fn add_picture(
     page: &mut Page,
     sheet: &Sheet<'_>,
-    number: u32,
+    front: Page,
     scans: &[Scan<'_>],
-) -> Result<(), Memory> {
-    let height = height_of(sheet.lanes.len());
-    let bottom = height.saturating_sub(18);
-    add_front(page, sheet, number, scans, height)?;
-    add_ground(page, sheet, scans, bottom)?;
+) -> Result<(), Memory>
+    ensures { OnOk result (page.new ≡ page.old ++
+        picture_pieces sheet.now.app.now sheet.now.marks.now sheet.now.lanes.now
+        (record { front = front; scans = scans.now })) }
+{
+    let bottom = height_of(sheet.lanes.len()).saturating_sub(18);
+    page.join(front)?;
     add_scans(page, sheet, scans, bottom)?;
     add_lanes(page, sheet, scans)?;
     add_parts(page, &[Part::End(Tag::Svg)])
 }
 
 // The pictures of a case, one below another.
-fn add_pictures(page: &mut Page, sheet: &Sheet<'_>) -> Result<(), Memory> {
+fn add_pictures(page: &mut Page, sheet: &Sheet<'_>) -> Result<(), Memory>
+    ensures { OnOk result (ShowsPictures sheet.now.app.now sheet.now.marks.now sheet.now.lanes.now
+        sheet.now.recording.now.moments.items page.old page.new) }
+{
     let moments = sheet.recording.moments.as_slice();
     let unit = unit_of(moments);
     let mut rest = moments;
@@ -359,112 +407,14 @@ fn add_pictures(page: &mut Page, sheet: &Sheet<'_>) -> Result<(), Memory> {
         if rest.is_empty() {
             return Ok(());
         }
-        let scans = scans_of(sheet.alloc, rest, sheet.marks, unit)?;
-        add_picture(page, sheet, picture.min(1_000_000) as u32, scans.as_slice())?;
-        let (_, later) = rest.split_at(scans.len().min(rest.len()));
+        let first = scans_of(sheet.alloc, rest, sheet.marks, unit)?;
+        let scans = first.as_slice();
+        let front = front_of(sheet, picture.min(1_000_000) as u32, scans)?;
+        add_picture(page, sheet, front, scans)?;
+        let (_, later) = rest.split_at(scans.len());
         rest = later;
     }
     Ok(())
-}
-
-// A value that changed, or the first one, behind others.
-fn add_change(words: &mut Bytes, app: &App, name: Name, value: u16) -> Result<(), Memory> {
-    words.extend_from_slice(if words.len() == 0 { b"" } else { b", " })?;
-    add_name(words, app, name)?;
-    words.extend_from_slice(b" ")?;
-    add_value(words, app, name, value)
-}
-
-// What changed from one scan to another; of a first scan all values.
-fn changes_of(
-    sheet: &Sheet<'_>,
-    before: Option<&Moment>,
-    moment: &Moment,
-) -> Result<Bytes, Memory> {
-    let mut words = Bytes::from_slice(sheet.alloc, event_of(moment))?;
-    for (number, name) in sheet.recording.names.as_slice().iter().enumerate() {
-        let value = value_at(moment, number);
-        let stays = match before {
-            Some(before) => value_at(before, number) == value,
-            None => false,
-        };
-        if !stays {
-            add_change(&mut words, sheet.app, *name, value)?;
-        }
-    }
-    Ok(words)
-}
-
-// A row of the table of changes: a time, what changes, and what is expected.
-fn add_cells<'x>(
-    page: &mut Page,
-    time: &'x [u8],
-    changes: &'x [u8],
-    expected: &'x [u8],
-) -> Result<(), Memory>
-    ensures { OnOk result (page.new ≡ page.old ++ change_row time.now changes.now expected.now) }
-{
-    add_parts(
-        page,
-        &[
-            Part::Open(Tag::Tr),
-            Part::Marked(Tag::Th, Key::Scope, b"row", time),
-            Part::Element(Tag::Td, changes),
-            Part::Element(Tag::Td, expected),
-            Part::End(Tag::Tr),
-        ],
-    )
-}
-
-// The row of a scan in the table of changes.
-fn add_row(
-    page: &mut Page,
-    sheet: &Sheet<'_>,
-    before: Option<&Moment>,
-    moment: &Moment,
-) -> Result<(), Memory> {
-    let mut time = Bytes::new(sheet.alloc);
-    add_short(&mut time, moment.now)?;
-    let changes = changes_of(sheet, before, moment)?;
-    let marks = marks_at(sheet.alloc, sheet.marks, moment.scan)?;
-    let expected = marks_text(sheet.alloc, marks.as_slice())?;
-    add_cells(
-        page,
-        time.as_slice(),
-        changes.as_slice(),
-        expected.as_slice(),
-    )
-}
-
-// The rows of the table of changes.
-fn add_rows(page: &mut Page, sheet: &Sheet<'_>) -> Result<(), Memory> {
-    let mut before = None;
-    for moment in sheet.recording.moments.as_slice() {
-        add_row(page, sheet, before, moment)?;
-        before = Some(moment);
-    }
-    Ok(())
-}
-
-// The table of changes.
-fn add_changes(page: &mut Page, sheet: &Sheet<'_>) -> Result<(), Memory> {
-    add_parts(
-        page,
-        &[
-            Part::Open(Tag::Table),
-            Part::Element(Tag::Caption, b"What changes, and what is expected"),
-            Part::Open(Tag::Thead),
-            Part::Open(Tag::Tr),
-            Part::Marked(Tag::Th, Key::Scope, b"col", b"Time in ms"),
-            Part::Marked(Tag::Th, Key::Scope, b"col", b"What changes"),
-            Part::Marked(Tag::Th, Key::Scope, b"col", b"Expected"),
-            Part::End(Tag::Tr),
-            Part::End(Tag::Thead),
-            Part::Open(Tag::Tbody),
-        ],
-    )?;
-    add_rows(page, sheet)?;
-    add_parts(page, &[Part::End(Tag::Tbody), Part::End(Tag::Table)])
 }
 
 // What of a case is not drawn, in words.
@@ -484,6 +434,32 @@ fn left_out(alloc: Global, sheet: &Sheet<'_>) -> Result<Bytes, Memory> {
     Ok(words)
 }
 
+// What stands below the pictures of a case.
+fn caption_of(sheet: &Sheet<'_>) -> Result<Page, Memory> {
+    let words = left_out(sheet.alloc, sheet)?;
+    let mut page = Page::new(sheet.alloc);
+    add_parts(
+        &mut page,
+        &[
+            Part::Element(Tag::Figcaption, words.as_slice()),
+            Part::End(Tag::Figure),
+        ],
+    )?;
+    Ok(page)
+}
+
+// The pictures of a case, and what changed in it.
+fn add_sheet(page: &mut Page, sheet: &Sheet<'_>) -> Result<(), Memory>
+    ensures { OnOk result (ShowsSheet sheet.now.app.now sheet.now.recording.now sheet.now.marks.now sheet.now.lanes.now
+        page.old page.new) }
+{
+    let caption = caption_of(sheet)?;
+    add_parts(page, &[Part::Open(Tag::Figure)])?;
+    add_pictures(page, sheet)?;
+    page.join(caption)?;
+    add_changes(page, sheet)
+}
+
 /// The timing diagram of a case that was run, and what changed in it in a table. Pictures are called by this word
 /// within the page, and their number.
 pub fn add_diagram(
@@ -492,7 +468,9 @@ pub fn add_diagram(
     run: &CaseRun<'_>,
     recording: &Recording,
     id: &[u8],
-) -> Result<(), Memory> {
+) -> Result<(), Memory>
+    ensures { OnOk result (ShowsDiagram (ran_of run.now) recording.now page.old page.new) }
+{
     let marks = marks_of(alloc, run.file, run.case, run.outcome.failures.as_slice())?;
     let lanes = lanes_of(alloc, recording)?;
     let sheet = Sheet {
@@ -503,15 +481,5 @@ pub fn add_diagram(
         lanes: lanes.as_slice(),
         id,
     };
-    let words = left_out(alloc, &sheet)?;
-    add_parts(page, &[Part::Open(Tag::Figure)])?;
-    add_pictures(page, &sheet)?;
-    add_parts(
-        page,
-        &[
-            Part::Element(Tag::Figcaption, words.as_slice()),
-            Part::End(Tag::Figure),
-        ],
-    )?;
-    add_changes(page, &sheet)
+    add_sheet(page, &sheet)
 }

@@ -4,7 +4,6 @@ ghost use Rattle.std.specs.Prelude.{◌≡◌, ◌++◌, IfOk, OnOk, map};
 ghost use Rattle.std.specs.List.{flat_map};
 ghost use Rattle.ps_page.specs.Diagram.{band_of, event_of, lane_pieces, span_of, upright_pieces, value_at, values_of};
 
-use crate::recording::{Course, Moment};
 use crate::scale::Scan;
 use ps_base::{Bytes, Memory};
 use ps_bench_base::pieces::add_short;
@@ -13,6 +12,7 @@ use ps_markup::{
     room_in,
 };
 use ps_model::App;
+use ps_recorder::{Course, Moment};
 use ps_terms::Name;
 use ps_told::{add_name, add_value};
 use std::alloc::Global;

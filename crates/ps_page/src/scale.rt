@@ -1,12 +1,11 @@
 // Where scans stand in a picture: time to scale, with breaks where nothing happens for long.
 
-ghost use Rattle.std.specs.Prelude.{◌≡◌, IfOk, length, take};
+ghost use Rattle.std.specs.Prelude.{◌≡◌, ◌≤◌, ◌<◌, IfOk, length, take};
 ghost use Rattle.ps_page.specs.Diagram.{shown_in};
 
-use crate::marks::Mark;
-use crate::recording::Moment;
 use ps_base::Memory;
 use ps_markup::LEFT;
+use ps_recorder::{Mark, Moment};
 use std::alloc::Global;
 
 // How wide the scans of a picture are together at most.
@@ -76,7 +75,9 @@ pub(crate) fn scans_of<'a>(
     marks: &[Mark],
     unit: u32,
 ) -> Result<Vec<Scan<'a>>, Memory>
-    ensures { IfOk result (λ scans. shown_in scans.items ≡ take (length scans.items) moments.now) }
+    ensures shown { IfOk result (λ scans. shown_in scans.items ≡ take (length scans.items) moments.now) }
+    ensures within { IfOk result (λ scans. length scans.items ≤ length moments.now) }
+    ensures some { IfOk result (λ scans. 0 < length moments.now → 0 < length scans.items) }
 {
     let mut scans = Vec::new(alloc);
     let mut x = LEFT;

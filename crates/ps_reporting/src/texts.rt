@@ -95,10 +95,10 @@ const CLAIMS: [&[u8]; 6] = [
     b"The rows of the table of results are proved to be those of the runs: name, place, result and number \
       of scans. So is that no byte of a name or a text of this page stands where it could be read as a \
       part of the page.",
-    b"Of the timing diagrams it is proved that each line and band of a name has the values that were recorded \
-      of it, and that each expectation stands above its scan, with FAIL where it failed. All else of them, the \
-      tables of what changes, notes, demands and coverage are what the program computed: that is tried, and not \
-      proved.",
+    b"Of the timing diagrams, and of the tables of what changes, it is proved that the values of a scan are those of \
+      the run that the case means, that a scan which is left out has the values of the one that is shown before it, \
+      and that each expectation stands at its scan, with FAIL where it failed. All else of them, notes, demands and \
+      coverage are what the program computed: that is tried, and not proved.",
     b"A case that passes says nothing of other inputs, other times or other faults. Coverage counts what \
       the cases have shown, and 100 % says no more than that.",
     b"Times are those of the cases. Nothing is said of a real controller, its inputs and outputs, or how \

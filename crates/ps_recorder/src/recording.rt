@@ -1,5 +1,11 @@
 // The scans of a case that are shown, and who takes them from a run.
 
+ghost use Rattle.std.specs.Prelude.{◌≡◌, false, IfOk, OnOk, IsTrue, map, option_map};
+ghost use Rattle.ps_recorder.specs.Recorder.{IsFresh, Shows, Stays, TakesScan, frame_now, last_frame, with_frame};
+ghost use Rattle.ps_recorder.specs.Recording.{course_of, film_of, frame_of};
+ghost use Rattle.ps_seen.specs.Moments.{moment_of};
+ghost use Rattle.ps_seen.specs.Named.{value_in};
+
 use ps_base::Memory;
 use ps_model::{App, Report, Verdict};
 use ps_outside::{Sink, Stopped};
@@ -9,11 +15,11 @@ use ps_terms::Name;
 use std::alloc::Global;
 
 /// As many scans of a case are shown, each of which shows a change, or is expected something of.
-pub(crate) const MOST_MOMENTS: usize = 400;
+pub const MOST_MOMENTS: usize = 400;
 
 /// How a world goes on behind a scan.
 #[derive(Clone, Copy, PartialEq, Eq)]
-pub(crate) enum Course {
+pub enum Course {
     /// It runs.
     Runs,
     /// The scan tripped.
@@ -24,19 +30,19 @@ pub(crate) enum Course {
 
 /// A scan that is shown.
 #[derive(Drop)]
-pub(crate) struct Moment {
+pub struct Moment {
     /// Its number in the case, counted from 1.
-    pub(crate) scan: u32,
+    pub scan: u32,
     /// Its time in ms.
-    pub(crate) now: u32,
+    pub now: u32,
     /// How long it is to the next one that is shown, or to the last scan, in ms.
-    pub(crate) wait: u32,
+    pub wait: u32,
     /// Whether it is the first one behind a restart.
-    pub(crate) restarted: bool,
+    pub restarted: bool,
     /// How the world goes on.
-    pub(crate) course: Course,
+    pub course: Course,
     /// The value of each name that is shown, in order.
-    pub(crate) values: Vec<u16>,
+    pub values: Vec<u16>,
 }
 
 /// What is shown of a case: the values of names in those of its scans that show a change, or of which something is
@@ -44,32 +50,35 @@ pub(crate) struct Moment {
 #[derive(Drop)]
 pub struct Recording {
     /// The names.
-    pub(crate) names: Vec<Name>,
+    pub names: Vec<Name>,
     /// The scans.
-    pub(crate) moments: Vec<Moment>,
+    pub moments: Vec<Moment>,
     /// Whether more scans show a change than are shown.
-    pub(crate) is_cut: bool,
+    pub is_cut: bool,
 }
 
 /// Who takes the scans of a case that are shown.
 #[derive(Drop)]
-pub(crate) struct Recorder {
+pub struct Recorder {
     alloc: Global,
-    recording: Recording,
+    // what is shown so far
+    pub(crate) recording: Recording,
     // the numbers of scans that are shown in any case, in rising order
     kept: Vec<u32>,
     // how many scans were made
-    scans: u32,
+    pub(crate) scans: u32,
     // the time of the last scan in ms
     end: u32,
     // whether the next scan is the first one behind a restart
-    restarted: bool,
+    pub(crate) restarted: bool,
     // whether memory was wanting for a scan
-    is_wanting: bool,
+    pub(crate) is_wanting: bool,
 }
 
 // How a world goes on behind a scan of this verdict.
-fn course_of(verdict: Verdict) -> Course {
+fn course_of(verdict: Verdict) -> Course
+    ensures { result ≡ course_of verdict }
+{
     match verdict {
         Verdict::Released => Course::Runs,
         Verdict::Tripped(_) => Course::Trips,
@@ -78,12 +87,9 @@ fn course_of(verdict: Verdict) -> Course {
 }
 
 // The values of names in a scan.
-fn values_in(
-    alloc: Global,
-    app: &App,
-    names: &[Name],
-    seen: &Seen<'_>,
-) -> Result<Vec<u16>, Memory> {
+fn values_in(alloc: Global, app: &App, names: &[Name], seen: &Seen<'_>) -> Result<Vec<u16>, Memory>
+    ensures { IfOk result (λ values. values.items ≡ map (value_in app.now (moment_of seen.entry.now)) names.now) }
+{
     let mut values = Vec::new(alloc);
     for name in names {
         values.push(value_of(app, *name, seen))?;
@@ -91,13 +97,34 @@ fn values_in(
     Ok(values)
 }
 
+// Whether the values of two scans are the same.
+fn same_values(values: &[u16], others: &[u16]) -> bool
+    ensures { IsTrue result → values.now ≡ others.now }
+{
+    values == others
+}
+
+// Whether two courses are the same.
+fn same_course(course: Course, other: Course) -> bool
+    ensures { IsTrue result → course ≡ other }
+{
+    match (course, other) {
+        (Course::Runs, Course::Runs) => true,
+        (Course::Trips, Course::Trips) => true,
+        (Course::Down, Course::Down) => true,
+        _ => false,
+    }
+}
+
 // Whether a scan shows nothing new behind the last one that is shown.
-fn shows_nothing(last: Option<&Moment>, moment: &Moment) -> bool {
+fn shows_nothing(last: Option<&Moment>, moment: &Moment) -> bool
+    ensures { IsTrue result → Stays (option_map (λ m. frame_of m.now) last.entry) (frame_of moment.entry.now).shot }
+{
     match last {
         Some(last) => {
             !moment.restarted
-                && last.course == moment.course
-                && last.values.as_slice() == moment.values.as_slice()
+                && same_course(last.course, moment.course)
+                && same_values(last.values.as_slice(), moment.values.as_slice())
         }
         None => false,
     }
@@ -105,7 +132,9 @@ fn shows_nothing(last: Option<&Moment>, moment: &Moment) -> bool {
 
 impl Recording {
     // One more scan that is shown, or that would be if there were fewer.
-    fn push(&mut self, moment: Moment) -> Result<(), Memory> {
+    fn push(&mut self, moment: Moment) -> Result<(), Memory>
+        ensures { OnOk result (film_of self.new ≡ with_frame (film_of self.old) (frame_of moment)) }
+    {
         if self.moments.len() >= MOST_MOMENTS {
             self.is_cut = true;
             return Ok(());
@@ -116,7 +145,9 @@ impl Recording {
     }
 
     // The last scan that is shown goes on up to a time in ms.
-    fn wait_until(&mut self, now: u32) {
+    fn wait_until(&mut self, now: u32)
+        ensures { film_of self.new ≡ film_of self.old }
+    {
         if let Some(last) = self.moments.last_mut() {
             last.wait = now.saturating_sub(last.now);
         }
@@ -125,7 +156,9 @@ impl Recording {
 
 impl Recorder {
     /// Who takes the scans that show a change of these names, and those of these numbers, which rise; before the first.
-    pub(crate) fn new(alloc: Global, names: Vec<Name>, kept: Vec<u32>) -> Recorder {
+    pub fn new(alloc: Global, names: Vec<Name>, kept: Vec<u32>) -> Recorder
+        ensures { IsFresh names.items result }
+    {
         Recorder {
             alloc,
             recording: Recording {
@@ -147,7 +180,9 @@ impl Recorder {
     }
 
     // The last scan as it may be shown.
-    fn moment_of(&self, app: &App, seen: &Seen<'_>) -> Result<Moment, Memory> {
+    fn moment_of(&self, app: &App, seen: &Seen<'_>) -> Result<Moment, Memory>
+        ensures { IfOk result (λ m. frame_of m ≡ frame_now app.now self.now (moment_of seen.entry.now)) }
+    {
         let values = values_in(self.alloc, app, self.recording.names.as_slice(), seen)?;
         Ok(Moment {
             scan: self.scans,
@@ -159,17 +194,31 @@ impl Recorder {
         })
     }
 
+    // Whether a scan is left out.
+    fn leaves_out(&self, moment: &Moment) -> bool
+        ensures { IsTrue result → Stays (last_frame (film_of self.now.recording).frames) (frame_of moment.entry.now).shot }
+    {
+        shows_nothing(self.recording.moments.as_slice().last(), moment) && !self.is_kept()
+    }
+
     // Shows the last scan where it shows a change or is shown in any case.
-    fn show(&mut self, app: &App, seen: &Seen<'_>) -> Result<(), Memory> {
+    fn show(&mut self, app: &App, seen: &Seen<'_>) -> Result<(), Memory>
+        ensures shows { OnOk result (Shows (film_of self.old.recording)
+            (frame_now app.now self.old (moment_of seen.entry.now)) (film_of self.new.recording)) }
+        ensures scans { self.new.scans ≡ self.old.scans }
+        ensures wanting { self.new.is_wanting ≡ self.old.is_wanting }
+    {
         let moment = self.moment_of(app, seen)?;
-        if shows_nothing(self.recording.moments.last(), &moment) && !self.is_kept() {
+        if self.leaves_out(&moment) {
             return Ok(());
         }
         self.recording.push(moment)
     }
 
     // Takes a scan.
-    fn take(&mut self, app: &App, seen: &Seen<'_>) {
+    fn take(&mut self, app: &App, seen: &Seen<'_>)
+        ensures { TakesScan app.now self.old (moment_of seen.entry.now) self.new }
+    {
         self.scans = self.scans.saturating_add(1);
         self.end = seen.now;
         match self.show(app, seen) {
@@ -180,7 +229,10 @@ impl Recorder {
     }
 
     /// What was recorded. An error: memory was wanting for a scan.
-    pub(crate) fn finish(self) -> Result<Recording, Memory> {
+    pub fn finish(self) -> Result<Recording, Memory>
+        ensures film { IfOk result (λ recording. film_of recording ≡ film_of self.recording) }
+        ensures wanting { OnOk result (self.is_wanting ≡ false) }
+    {
         if self.is_wanting {
             return Err(Memory);
         }
@@ -194,12 +246,13 @@ impl Recorder {
 
 impl Taker<Watched<StruckWorld>> for Recorder {
     ghost use Rattle.std.specs.Prelude.{[], ⊤};
+    ghost use Rattle.ps_recorder.specs.Recorder.{recorder_takes};
 
     ghost fits = { λ _ _. ⊤ };
 
     ghost said = { λ _ _ _ _. [] };
 
-    ghost takes = { λ _ _ _ _ _. ⊤ };
+    ghost takes = { recorder_takes };
 
     fn take_scan<S: Sink>(
         &mut self,

@@ -1,0 +1,169 @@
+// What changes in a case, in a table.
+
+ghost use Rattle.std.specs.Prelude.{◌≡◌, ◌++◌, None, IfOk, OnOk, if◌then◌else◌, option_map};
+ghost use Rattle.ps_page.specs.Changes.{changes_pieces, changes_text, row_of, rows_from, separator, stays_at, with_change};
+ghost use Rattle.ps_page.specs.Diagram.{change_row, value_at};
+
+use crate::diagram::{Sheet, marks_at, marks_text};
+use crate::drawing::{event_of, value_at};
+use ps_base::{Bytes, Memory};
+use ps_bench_base::pieces::add_short;
+use ps_markup::{Key, Page, Part, Tag, add_parts};
+use ps_model::App;
+use ps_recorder::Moment;
+use ps_terms::Name;
+use ps_told::{add_name, add_value};
+use std::alloc::Global;
+
+// What stands between a change and the words before it.
+fn separator(words: &Bytes) -> &'static [u8]
+    ensures { result.now ≡ separator words.now }
+{
+    match words.as_slice() {
+        [] => b"",
+        [_, ..] => b", ",
+    }
+}
+
+// A value that changed, or the first one, behind others.
+fn add_change(words: &mut Bytes, app: &App, name: Name, value: u16) -> Result<(), Memory>
+    ensures { OnOk result (words.new ≡ with_change app.now name value words.old) }
+{
+    words.extend_from_slice(separator(words))?;
+    add_name(words, app, name)?;
+    words.extend_from_slice(b" ")?;
+    add_value(words, app, name, value)
+}
+
+// Whether the name of a number has the value that it had, if there is a scan before.
+fn stays_at(before: Option<&Moment>, moment: &Moment, number: usize) -> bool
+    ensures { result ≡ stays_at (option_map (λ m. m.now) before.entry) moment.entry.now number }
+{
+    match before {
+        Some(before) => value_at(before, number) == value_at(moment, number),
+        None => false,
+    }
+}
+
+// The value of a name in a scan, behind others, where it is not the one that it had.
+fn add_if_changed(
+    words: &mut Bytes,
+    app: &App,
+    before: Option<&Moment>,
+    moment: &Moment,
+    number: usize,
+    name: Name,
+) -> Result<(), Memory>
+    ensures { OnOk result (words.new ≡ (
+        if stays_at (option_map (λ m. m.now) before.entry) moment.entry.now number then words.old
+        else with_change app.now name (value_at moment.entry.now number) words.old)) }
+{
+    if stays_at(before, moment, number) {
+        return Ok(());
+    }
+    add_change(words, app, name, value_at(moment, number))
+}
+
+// What changed from one scan to another; of a first scan all values.
+fn changes_of(
+    alloc: Global,
+    app: &App,
+    names: &[Name],
+    before: Option<&Moment>,
+    moment: &Moment,
+) -> Result<Bytes, Memory>
+    ensures { IfOk result (λ words. words
+        ≡ changes_text app.now names.now (option_map (λ m. m.now) before.entry) moment.entry.now) }
+{
+    let mut words = Bytes::from_slice(alloc, event_of(moment))?;
+    for number in 0..names.len() {
+        add_if_changed(&mut words, app, before, moment, number, names[number])?;
+    }
+    Ok(words)
+}
+
+// A row of the table of changes: a time, what changes, and what is expected.
+fn add_cells<'x>(
+    page: &mut Page,
+    time: &'x [u8],
+    changes: &'x [u8],
+    expected: &'x [u8],
+) -> Result<(), Memory>
+    ensures { OnOk result (page.new ≡ page.old ++ change_row time.now changes.now expected.now) }
+{
+    add_parts(
+        page,
+        &[
+            Part::Open(Tag::Tr),
+            Part::Marked(Tag::Th, Key::Scope, b"row", time),
+            Part::Element(Tag::Td, changes),
+            Part::Element(Tag::Td, expected),
+            Part::End(Tag::Tr),
+        ],
+    )
+}
+
+// The row of a scan in the table of changes.
+fn add_row(
+    page: &mut Page,
+    sheet: &Sheet<'_>,
+    before: Option<&Moment>,
+    moment: &Moment,
+) -> Result<(), Memory>
+    ensures { OnOk result (page.new ≡ page.old ++
+        row_of sheet.now.app.now sheet.now.recording.now.names.items sheet.now.marks.now
+        (option_map (λ m. m.now) before.entry) moment.entry.now) }
+{
+    let mut time = Bytes::new(sheet.alloc);
+    add_short(&mut time, moment.now)?;
+    let names = sheet.recording.names.as_slice();
+    let changes = changes_of(sheet.alloc, sheet.app, names, before, moment)?;
+    let marks = marks_at(sheet.alloc, sheet.marks, moment.scan)?;
+    let expected = marks_text(sheet.alloc, marks.as_slice())?;
+    add_cells(
+        page,
+        time.as_slice(),
+        changes.as_slice(),
+        expected.as_slice(),
+    )
+}
+
+// The rows of the table of changes.
+fn add_rows(page: &mut Page, sheet: &Sheet<'_>) -> Result<(), Memory>
+    ensures { OnOk result (page.new ≡ page.old ++
+        rows_from sheet.now.app.now sheet.now.recording.now.names.items sheet.now.marks.now None
+        sheet.now.recording.now.moments.items) }
+{
+    let mut before = None;
+    for moment in sheet.recording.moments.as_slice() {
+        add_row(page, sheet, before, moment)?;
+        before = Some(moment);
+    }
+    Ok(())
+}
+
+/// The table of changes: a row for each scan that is shown, with what changed from the one before it, and what is
+/// expected of it.
+pub(crate) fn add_changes(page: &mut Page, sheet: &Sheet<'_>) -> Result<(), Memory>
+    ensures { OnOk result (page.new ≡ page.old ++
+        changes_pieces sheet.now.app.now sheet.now.recording.now.names.items sheet.now.marks.now
+        sheet.now.recording.now.moments.items) }
+{
+    add_parts(
+        page,
+        &[
+            Part::Open(Tag::Table),
+            Part::Element(Tag::Caption, b"What changes, and what is expected"),
+            Part::Open(Tag::Thead),
+            Part::Open(Tag::Tr),
+            Part::Marked(Tag::Th, Key::Scope, b"col", b"Time in ms"),
+            Part::Marked(Tag::Th, Key::Scope, b"col", b"What changes"),
+            Part::Marked(Tag::Th, Key::Scope, b"col", b"Expected"),
+            Part::End(Tag::Tr),
+            Part::End(Tag::Thead),
+            Part::Open(Tag::Tbody),
+        ],
+    )?;
+    add_rows(page, sheet)?;
+    add_parts(page, &[Part::End(Tag::Tbody), Part::End(Tag::Table)])
+}

@@ -1,0 +1,4 @@
+pub mod Expecting
+pub mod Filming
+pub mod Seeing
+pub mod Recorded

@@ -1,0 +1,14 @@
+use Rattle.std.proofs.Common.{◌≡◌, ◌∙◌, ◌+◌, ◌-◌, suc, List, sym, ap, arith}
+use Rattle.std.specs.Prelude.{fold}
+use Rattle.std.specs.List.{range_with_len}
+use Rattle.ps_recorder.specs.Marks.{with_code}
+use Rattle.ps_terms.specs.declared.name.Name.{Name}
+use Rattle.ps_recorder.proofs.marks.push_codes.Goals as goal
+
+pub loop-instance-preserved : goal.loop-instance-preserved
+loop-instance-preserved c =
+    let k = c.loop-instance.instance in
+    let count = c.args.count in
+    let more : count - k ≡ suc (count - (k + 1)) = omega arith in
+    ap (λ (names : List Name). fold with_code names (range_with_len (k + 1) (count - (k + 1)))) c.in_ok-push_name.ensures
+    ∙ sym (ap (λ n. fold with_code c.loop-instance.names.items (range_with_len k n)) more) ∙ c.loop-instance.invariant

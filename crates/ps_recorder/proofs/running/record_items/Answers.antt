@@ -1,0 +1,9 @@
+use Rattle.ps_recorder.proofs.Recorded.{recorded}
+use Rattle.ps_recorder.proofs.running.record_items.Goals as goal
+
+pub returns : goal.returns
+returns g c = record {
+  records = λ tells text held reading names begun ws means.
+      let does = c.do_items.ensures.does tells text held reading in
+      recorded c.args.app.now names c.sound.ensures _ _ c.args.runner.now.performer c.args.runner.now.taker _ does.bytes _ _ _ begun does.did ws means;
+}

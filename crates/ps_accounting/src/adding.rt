@@ -1,7 +1,7 @@
 // The traces that are named, one after another: what their scans show is added up.
 
 ghost use Rattle.std.specs.Prelude.{◌≡◌, ◌≢◌, ◌≤◌, ◌⊎◌, ℕ, List, Any, IsTrue, Some, Ok, Err, map, true, false};
-ghost use Rattle.std.specs.Prelude.{IfOk, IfErr, IsErrOf, OnOk};
+ghost use Rattle.std.specs.Prelude.{IfOk, IfErr, OnOk};
 ghost use Rattle.ps_cover.specs.Applying.{ScanStep};
 ghost use Rattle.ps_base.specs.declared.failing.Refusal.{Refusal as RefusalOf};
 ghost use Rattle.ps_bench_base.specs.Ending.{IsOfRun, IsUnread};

@@ -64,7 +64,7 @@ def words_in(kind):
         "trace": words_of("ps_trace/src/header.rt", "ps_trace/src/scan_line.rt"),
         "faults": words_of("ps_trace/src/fault_line.rt"),
         "cases": words_of("ps_cases/src/line.rt", "ps_cases/src/deeds.rt", "ps_cases/src/checks.rt", "ps_cases/src/strike.rt"),
-        "rules": words_of("ps_rules/src/line.rt", "ps_rules/src/words.rt"),
+        "rules": words_of("ps_rules/src/line.rt", "ps_rules/src/taking.rt", "ps_rules/src/words.rt"),
     }[kind]
     wanted = {"trace": 2, "faults": 4, "cases": 16, "rules": 8}[kind]
     if len(found) != wanted:

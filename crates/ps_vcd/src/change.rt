@@ -1,6 +1,6 @@
 // The line of a value change.
 
-ghost use Rattle.std.specs.Prelude.{◌≡◌, ◌+◌, ◌*◌, ◌≤◌, ◌<◌, ◌++◌, length, take, flat_map};
+ghost use Rattle.std.specs.Prelude.{◌≡◌, ◌+◌, ◌*◌, ◌%◌, ◌≤◌, ◌<◌, ◌++◌, length, take, flat_map};
 ghost use Rattle.ps_changes.specs.declared.identifier.TheConstants.{MOST_WIRES};
 ghost use Rattle.ps_changes.specs.declared.value.TheConstants.{LONGEST_WORDS};
 ghost use Rattle.ps_changes.specs.Values.{held, shortened};
@@ -13,18 +13,41 @@ use ps_changes::{Identifier, LONGEST_WORDS, Value, shortened};
 /// The most bytes of a change: `s`, words of which each byte takes up to four, a blank, an identifier and a line feed.
 pub(crate) const CHANGE_ROOM: usize = 6 + 4 * LONGEST_WORDS;
 
-// Puts so many binary digits of a number, the highest first.
-fn put_bits(text: &mut [u8], at: usize, count: usize, number: u64) -> usize
-    requires { at + count ≤ length text.old }
-    ensures bytes { take result text.new ≡ take at text.old ++ bits count number }
-    ensures end { result ≡ at + count }
+// The lowest binary digit of a number.
+fn digit(number: u64) -> u8
+    ensures { result ≡ 48 + number % 2 }
+{
+    b'0' + (number % 2) as u8
+}
+
+// The eight lowest binary digits of a number, the highest first.
+fn octet(number: u64) -> [u8; 8]
+    ensures { result ≡ bits 8 number }
+{
+    [
+        digit(number / 128),
+        digit(number / 64),
+        digit(number / 32),
+        digit(number / 16),
+        digit(number / 8),
+        digit(number / 4),
+        digit(number / 2),
+        digit(number),
+    ]
+}
+
+// Puts so many times eight binary digits of a number, the highest first.
+fn put_bits(text: &mut [u8], at: usize, octets: usize, number: u64) -> usize
+    requires { at + 8 * octets ≤ length text.old }
+    ensures bytes { take result text.new ≡ take at text.old ++ bits (8 * octets) number }
+    ensures end { result ≡ at + 8 * octets }
     ensures len { length text.new ≡ length text.old }
 {
-    if count == 0 {
+    if octets == 0 {
         return at;
     }
-    let end = put_bits(text, at, count - 1, number / 2);
-    put_byte(text, end, b'0' + (number % 2) as u8)
+    let end = put_bits(text, at, octets - 1, number / 256);
+    put(text, end, &octet(number))
 }
 
 // Puts a byte of words: a blank as `\x20`.
@@ -64,8 +87,8 @@ fn put_value(text: &mut [u8], at: usize, value: Value) -> usize
 {
     match value {
         Value::Bit(value) => put_byte(text, at, if value { b'1' } else { b'0' }),
-        Value::Code(code) => put_vector(text, at, 16, u64::from(code)),
-        Value::Count(count) => put_vector(text, at, 64, count),
+        Value::Code(code) => put_vector(text, at, 2, u64::from(code)),
+        Value::Count(count) => put_vector(text, at, 8, count),
         Value::Words(words) => {
             let at = put_byte(text, at, b's');
             let at = put_words(text, at, shortened(words));
@@ -74,15 +97,15 @@ fn put_value(text: &mut [u8], at: usize, value: Value) -> usize
     }
 }
 
-// Puts a number of so many bits.
-fn put_vector(text: &mut [u8], at: usize, width: usize, number: u64) -> usize
-    requires room { at + (2 + width) ≤ length text.old }
-    ensures bytes { take result text.new ≡ take at text.old ++ vector_text width number }
-    ensures end { result ≡ at + (2 + width) }
+// Puts a number of so many times eight bits.
+fn put_vector(text: &mut [u8], at: usize, octets: usize, number: u64) -> usize
+    requires room { at + (2 + 8 * octets) ≤ length text.old }
+    ensures bytes { take result text.new ≡ take at text.old ++ vector_text (8 * octets) number }
+    ensures end { result ≡ at + (2 + 8 * octets) }
     ensures len { length text.new ≡ length text.old }
 {
     let at = put_byte(text, at, b'b');
-    let at = put_bits(text, at, width, number);
+    let at = put_bits(text, at, octets, number);
     put_byte(text, at, b' ')
 }
 

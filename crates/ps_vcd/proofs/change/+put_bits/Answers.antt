@@ -1,12 +1,12 @@
-use Rattle.std.proofs.Common.{List, ℕ, ◌+◌, ◌-◌, ◌/◌, ◌%◌, ◌++◌, ◌∷◌, [], ◌∙◌, take, ap, sym, append_assoc, arith}
+use Rattle.std.proofs.Common.{List, ℕ, ◌-◌, ◌*◌, ◌/◌, ◌++◌, ◌∙◌, take, ap, sym, append_assoc, arith}
 use Rattle.ps_vcd.specs.Text.{bits}
-use Rattle.ps_vcd.proofs.Steps.{bits_some}
+use Rattle.ps_vcd.proofs.Steps.{octets_some}
 use Rattle.ps_vcd.proofs.change.+put_bits.Goals as goal
 
 pub returns-clause-bytes : goal.returns-clause-bytes
 returns-clause-bytes t c =
-    let before = take c.args.at c.args.text.now in let n = c.args.number in let k = c.args.count in
-    c.put_byte.ensures.bytes
-    ∙ ap (λ (bytes : List ℕ). bytes ++ (48 + n % 2) ∷ []) c.put_bits-end.ensures.bytes
-    ∙ append_assoc before (bits (k - 1) (n / 2)) ((48 + n % 2) ∷ [])
-    ∙ ap (λ (bytes : List ℕ). before ++ bytes) (sym (bits_some k n (omega (arith, c.if-count-eq0.false))))
+    let before = take c.args.at c.args.text.now in let n = c.args.number in let k = c.args.octets in
+    c.put.ensures.bytes
+    ∙ (λ i. c.put_bits-end.ensures.bytes i ++ c.octet.ensures i)
+    ∙ append_assoc before (bits (8 * (k - 1)) (n / 256)) (bits 8 n)
+    ∙ ap (λ (bytes : List ℕ). before ++ bytes) (sym (octets_some k n (omega (arith, c.if-octets-eq0.false))))

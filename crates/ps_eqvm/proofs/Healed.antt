@@ -1,8 +1,8 @@
 -- What channel B keeps of an instance stands for what the bytes that it is restored from do.
-use Rattle.std.proofs.Common.{◌≡◌, ℕ, zero, suc, ◌-◌, ◌<◌, ◌^◌, Bool, true, false, cond, List, [], ◌∷◌, ◌++◌, refl, sym, ap, ◌∙◌, subst, arith, Some, None, lit<}
-use Rattle.std.specs.Prelude.{slice_index, slice_get, nat_lt, ◌==◌, replicate}
+use Rattle.std.proofs.Common.{◌≡◌, ℕ, suc, ◌-◌, ◌<◌, ◌^◌, Bool, true, false, cond, List, [], ◌∷◌, refl, sym, ap, ◌∙◌, subst, arith, Some, None}
+use Rattle.std.specs.Prelude.{slice_index, slice_get, nat_lt, ◌==◌}
 use Rattle.std.specs.List.{list_any}
-use Rattle.std.specs.Int.{w16, w32, to_be_bytes}
+use Rattle.std.specs.Int.{w32, to_be_bytes}
 use Rattle.std.proofs.lemmas.Bool.{eqb-true, ltb-true}
 use Rattle.std.proofs.lemmas.Option.{same_Some}
 use Rattle.ps_model.specs.declared.kind.Kind.{Kind}
@@ -13,7 +13,7 @@ use Rattle.ps_model.specs.Kept.{Kept, Since, Remains, healed}
 use Rattle.ps_model.specs.Network.{Network, kind_at}
 use Rattle.ps_model.specs.Scanning.{limit_of}
 use Rattle.ps_model.specs.Sound.{IsSound}
-use Rattle.ps_model.specs.Stored.{bit, stored, is_mode, IsKept, kept_in, does_load}
+use Rattle.ps_model.specs.Stored.{stored, is_mode, IsKept, kept_in, does_load}
 use Rattle.ps_model.proofs.CallLimits.{limit_small}
 use Rattle.ps_model.proofs.Keeping.{heals}
 use Rattle.ps_model.proofs.Sixteen.{load_of_store}

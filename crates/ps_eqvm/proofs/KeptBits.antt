@@ -62,7 +62,7 @@ zero_word zero k = refl
 zero_word (suc n) zero = refl
 zero_word (suc n) (suc k) = zero_word n k
 
-zero_bit : (n i : ℕ) → bit_in (replicate n 0) i ≡ 0
+pub zero_bit : (n i : ℕ) → bit_in (replicate n 0) i ≡ 0
 zero_bit n i = ap (λ w. bit_at w (i % 64)) (zero_word n (i / 64)) ∙ bit_at-zero (i % 64)
 
 pub zero_cells : (v o : ℕ) (counted : List ℕ) → plain_cells (replicate v 0) (replicate o 0) counted ≡ replicate (length counted) 0
@@ -76,6 +76,17 @@ zero_cells v o counted =
     ∙ ap (λ b. cond (b == 1) (slice_index counted k) (bit_in value k)) (zero_bit o k)
     ∙ zero_bit v k
     ∙ sym (get_or-replicate n k 0 d low'))
+
+pub zeros_are_cells : (v o : ℕ) (counted : List ℕ) → v ≡ words_for (length counted) → o ≡ words_for (length counted) →
+    AreCells (replicate v 0) (replicate o 0) counted
+zeros_are_cells v o counted value odd = record {
+  value_words = length-replicate v 0 ∙ value;
+  odd_words = length-replicate o 0 ∙ odd;
+  counts = λ i one. absurd (omega (arith, one, zero_bit o i));
+  beside = λ i one. zero_bit v i;
+  value_beyond = λ i past. zero_bit v i;
+  odd_beyond = λ i past. zero_bit o i;
+}
 
 -- each cell is a byte where each counted byte is
 pub cell_bytes : (value odd counted : List ℕ) → ((i : ℕ) → slice_index counted i < 256) → (i : ℕ) → slice_index (plain_cells value odd counted) i < 256

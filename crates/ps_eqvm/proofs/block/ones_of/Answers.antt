@@ -1,11 +1,10 @@
-use Rattle.std.proofs.Common.{◌≡◌, ℕ, Bool, false, List, Option, Some, map, ap, ◌∙◌, sym, subst, arith}
+use Rattle.std.proofs.Common.{◌≡◌, ℕ, map, ap, ◌∙◌, sym, arith}
 use Rattle.std.specs.List.{list_any, range_with_len}
 use Rattle.std.proofs.lemmas.Nat.Bits.{bit_at-zero}
-use Rattle.ps_model.specs.PinBits.{pin_of}
 use Rattle.ps_eqvm.specs.Acting.{byte_of, is_missing, pins_on}
 use Rattle.ps_eqvm.specs.Rows.{operand_of}
 use Rattle.ps_eqvm.specs.Finding.{one_of}
-use Rattle.ps_eqvm.specs.Pins.{ReadSoFar, pin_byte}
+use Rattle.ps_eqvm.specs.Pins.{pin_byte}
 use Rattle.ps_eqvm.proofs.PinsRead.{read_none, read_one, read_all, missing_at, pin_bytes_are}
 use Rattle.ps_eqvm.proofs.block.ones_of.Goals as goal
 

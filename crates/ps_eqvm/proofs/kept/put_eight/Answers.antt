@@ -1,8 +1,6 @@
-use Rattle.std.proofs.Common.{◌≡◌, ◌+◌, ◌<◌, ◌≤◌, List, ℕ, length, ap, ◌∙◌, arith, take}
+use Rattle.std.proofs.Common.{◌+◌, List, ℕ, ap, ◌∙◌, arith}
 use Rattle.std.specs.Prelude.{slice_index, slice_set}
 use Rattle.std.specs.Int.{w64, to_be_bytes}
-use Rattle.std.proofs.lemmas.List.{take_all}
-use Rattle.ps_machine.specs.Bytes.{replaced}
 use Rattle.ps_eqvm.proofs.Poking.{write_more}
 use Rattle.ps_eqvm.proofs.kept.put_eight.Goals as goal
 

@@ -1,4 +1,4 @@
-use Rattle.std.proofs.Common.{◌≡◌, ◌+◌, ◌≤◌, List, Bool, ℕ, length, take, refl, ap, ◌∙◌, arith}
+use Rattle.std.proofs.Common.{◌+◌, List, Bool, length, refl, ap, ◌∙◌, arith}
 use Rattle.std.specs.Prelude.{map}
 use Rattle.std.proofs.lemmas.List.{length-set, take_all}
 use Rattle.ps_machine.specs.Bytes.{bit, replaced}

@@ -1,4 +1,4 @@
-use Rattle.std.proofs.Common.{subst, List, ℕ, ◌∙◌}
+use Rattle.std.proofs.Common.{subst}
 use Rattle.ps_eqvm.specs.Bits.{AreTruths}
 use Rattle.ps_eqvm.proofs.KeptBits.{even_cells}
 use Rattle.ps_eqvm.proofs.cells.BitCells.are_even.Goals as goal

@@ -1,4 +1,4 @@
-use Rattle.std.proofs.Common.{◌<◌, Some, ap, ◌∙◌, sym, arith}
+use Rattle.std.proofs.Common.{Some, ap, ◌∙◌, sym}
 use Rattle.std.specs.Prelude.{slice_index}
 use Rattle.ps_eqvm.specs.Bits.{truth_of}
 use Rattle.ps_eqvm.proofs.KeptBits.{truth_even}

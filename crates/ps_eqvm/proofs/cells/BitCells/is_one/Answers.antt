@@ -1,5 +1,5 @@
-use Rattle.std.proofs.Common.{arith, List, ℕ, ◌<◌, ◌≡◌, length, ap, ◌∙◌, subst}
-use Rattle.std.specs.Prelude.{slice_index, ◌==◌}
+use Rattle.std.proofs.Common.{arith, List, ℕ, length, ap, ◌∙◌, subst}
+use Rattle.std.specs.Prelude.{◌==◌}
 use Rattle.ps_eqvm.specs.Bits.{bit_in, AreBitsOf}
 use Rattle.ps_eqvm.proofs.KeptBits.{value_bits}
 use Rattle.ps_eqvm.proofs.OneBit.{cell_at}

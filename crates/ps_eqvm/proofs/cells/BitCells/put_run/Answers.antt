@@ -1,10 +1,25 @@
-use Rattle.std.proofs.Common.{ℕ, List, length, ap, ◌∙◌, sym, arith}
+use Rattle.std.proofs.Common.{ℕ, List, length, ap, ◌∙◌, sym, subst, arith}
 use Rattle.std.specs.Prelude.{map}
 use Rattle.std.proofs.lemmas.List.{with_items_is}
 use Rattle.ps_machine.specs.Bytes.{bit, replaced}
-use Rattle.ps_eqvm.specs.Bits.{plain_cells}
+use Rattle.ps_eqvm.specs.Bits.{AreCells, bit_in, plain_cells}
 use Rattle.ps_eqvm.proofs.KeptBits.{length-cells}
 use Rattle.ps_eqvm.proofs.cells.BitCells.put_run.Goals as goal
+
+pub write_run-requires-clause-cells : goal.write_run-requires-clause-cells
+write_run-requires-clause-cells c =
+    rw (c.deref_mut.ensures.value, c.deref_mut-then-i-count-le64.ensures.value, c.deref.ensures.value) c.self.invariant.0
+
+pub invariant_of-self : goal.invariant_of-self
+invariant_of-self c =
+    let value = c.write_run.new.value in
+    let odd = c.write_run.new.odd in
+    let v = with_items_is c.self.inside.value value (omega arith) in
+    let o = with_items_is c.self.inside.odd odd (omega arith) in (
+      rw (v, o) (subst (λ (k : List ℕ). AreCells value odd k) c.deref.ensures.value c.write_run.ensures.cells),
+      λ even j. ap (λ (w : List ℕ). bit_in w j) o
+          ∙ c.write_run.ensures.even (λ k. ap (λ (w : List ℕ). bit_in w k) c.deref_mut-then-i-count-le64.ensures.value ∙ c.self.invariant.1 even k) j,
+    )
 
 pub write_run-requires-clause-room : goal.write_run-requires-clause-room
 write_run-requires-clause-room c =

@@ -1,4 +1,4 @@
-use Rattle.std.proofs.Common.{ap, ◌∙◌, sym, List, ℕ, ◌*◌, arith}
+use Rattle.std.proofs.Common.{ap, ◌∙◌, List, ℕ, ◌*◌, arith}
 use Rattle.std.proofs.lemmas.List.{with_items_is}
 use Rattle.ps_machine.specs.Bytes.{replaced}
 use Rattle.ps_model.specs.Stored.{stored as stored_kept}

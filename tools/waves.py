@@ -5,16 +5,19 @@ waves.py PLCSAFE plcsafe-bench=FILE    both are programs
 
 For each run below: the rows of CSV by the reader of Python, the objects of JSON by that of Python, and the value changes by a reader
 of this script, of which each scan has the values that were last given. All three have the same values of the same names in the same
-scans; the outputs, and Ready, Error and code of each instance, are those of the lines of `run` or `fault`. The status is 0 where
-nothing differs.
+scans; the outputs, and Ready, Error and code of each instance, are those of the lines of `run` or `fault`. Then, where valgrind is
+there, it counts the instructions that a scan takes in `run` and in each layout of `watch`, by the difference of two long traces: a layout
+takes at most three times what `run` does. The status is 0 where nothing differs and none takes more.
 """
 import csv
 import io
 import json
 import pathlib
 import re
+import shutil
 import subprocess
 import sys
+import tempfile
 
 from plainly import Stop, plainly
 
@@ -31,6 +34,8 @@ RUNS = [
     ("guard/cell.st", "guard/visit.trace", None), ("curtain/curtain.st", "curtain/setup.trace", None), ("tutorial/door.st", "tutorial/door.trace", None),
     ("tutorial/door.st", "tutorial/door.trace", "tutorial/blind.faults"),
 ]
+# The layouts of `watch`, and how many times what `run` takes each may take.
+LAYOUTS, MOST = ("text", "csv", "json", "vcd"), 3
 
 
 def said(words):
@@ -120,6 +125,33 @@ def differences(plcsafe, bench, app, trace, faults):
     return wrong, len(rows) * len(rows[0])
 
 
+def long_trace(folder, scans):
+    """A trace of the motor of so many scans, 10 ms apart, in which a button changes each third scan and the request each seventh."""
+    file = pathlib.Path(folder) / f"{scans}.trace"
+    file.write_text("time S_Stop Ack Run\n" + "".join(f"{10 * i} 1 {i // 3 % 2} {i // 7 % 2}\n" for i in range(scans)))
+    return str(file)
+
+
+def instructions(folder, words):
+    """How many instructions of the processor a call takes, by callgrind."""
+    told = f"{folder}/counts"
+    said(["valgrind", "--tool=callgrind", f"--callgrind-out-file={told}", *words])
+    return int(re.search(r"(?m)^(?:summary|totals): (\d+)", pathlib.Path(told).read_text())[1])
+
+
+def of_a_scan(folder, words):
+    """How many instructions a scan takes in a call over a trace: the difference of two lengths, so that its begin and end do not count."""
+    short, long = (instructions(folder, [*words[:3], long_trace(folder, scans), *words[3:]]) for scans in (1000, 3000))
+    return (long - short) / 2000
+
+
+def times_of_run(plcsafe, bench):
+    """Of each layout of `watch` the instructions of a scan, as a multiple of those of `run`."""
+    with tempfile.TemporaryDirectory() as folder:
+        of_run = of_a_scan(folder, [plcsafe, "run", "stop/motor.st"])
+        return {layout: of_a_scan(folder, [bench, "watch", "stop/motor.st", "--format", layout]) / of_run for layout in LAYOUTS}
+
+
 def main(words):
     if len(words) != 2 or not words[1].startswith("plcsafe-bench="):
         return None
@@ -131,7 +163,9 @@ def main(words):
     for line in wrong[:20]:
         print("differs:", line)
     print(f"{len(RUNS)} runs, {count} values in each layout, {len(wrong)} differences")
-    return 1 if wrong else 0
+    times = times_of_run(plcsafe, bench) if shutil.which("valgrind") else {}
+    print("instructions of a scan, as a multiple of those of run:", ", ".join(f"{layout} {times[layout]:.2f}" for layout in times) or "not counted")
+    return 1 if wrong or any(times[layout] > MOST for layout in times) else 0
 
 
 if __name__ == "__main__":

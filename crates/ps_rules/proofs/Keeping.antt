@@ -1,17 +1,15 @@
 -- What was read of a rules file names what is of its application, line by line.
-use Rattle.std.proofs.Common.{◌≡◌, ◌<◌, ◌+◌, ◌&&◌, ℕ, List, [], ◌∷◌, Bool, true, false, Option, Some, None, Result, Ok, Err, IfOk, IfSome, if◌then◌else◌, nat_lt, length, is_some, codes, refl}
+use Rattle.std.proofs.Common.{◌<◌, ◌+◌, ◌&&◌, ℕ, List, [], ◌∷◌, Bool, true, false, Option, Some, None, Result, Ok, Err, IfOk, IfSome, if◌then◌else◌, nat_lt, length, is_some, codes}
 use Rattle.std.specs.List.{All}
 use Rattle.std.specs.Str.{bytes_eq}
 use Rattle.std.proofs.lemmas.List.Elements.{All-nil, All-head, All-tail, All-push, All-append}
-use Rattle.ps_lines.specs.Lines.{Line}
-use Rattle.ps_lines.specs.Lines.Line.{Kept, KeptLast, Long, Large}
 use Rattle.ps_base.specs.LetterCase.{is_same_name}
 use Rattle.ps_trace.specs.Faults.{first_of, others_of}
 use Rattle.ps_model.specs.Network.{Network, declared_count, input_count}
 use Rattle.ps_terms.specs.Names.{input_in, number_named, signal_names}
 use Rattle.ps_terms.specs.Words.{is_none_left, words_in}
 use Rattle.ps_terms.specs.declared.name.Setting.{Setting}
-use Rattle.ps_rules.specs.File.{asked_after, at, bare_rule, closed, closed_by, ending_at, file_ended, has_begun, no_lines, paced_after, rule_after, rule_begun, rule_judged, said_after, settings_after, stands, tied_after, unless_bare, wanted, with_file, with_first, with_fixed, with_follow}
+use Rattle.ps_rules.specs.File.{at, bare_rule, closed, closed_by, ending_at, file_ended, no_lines, paced_after, rule_begun, said_after, settings_after, stands, tied_after, unless_bare, wanted, with_file, with_first, with_fixed, with_follow}
 use Rattle.ps_rules.specs.Line.{Said, follow_said, follow_of, follow_with, followed, is_setting, line_said, pace_said, rule_begins, said_by_words, said_or, setting_line, some_settings}
 use Rattle.ps_rules.specs.Line.Said.{nothing, paces, fixes, ties, starts, begins, asks, breaks}
 use Rattle.ps_rules.specs.Standing.{IsFollow, IsOfApplication, IsOfInput, IsOfName, IsOfNames}

@@ -1,3 +1,4 @@
 pub mod ReadLines
 pub mod Standing
 pub mod Keeping
+pub mod Leading

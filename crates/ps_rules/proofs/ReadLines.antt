@@ -1,5 +1,5 @@
 -- The lines of a rules file, one after another.
-use Rattle.std.proofs.Common.{◌≡◌, ◌≢◌, ◌≤◌, ◌<◌, ◌+◌, ℕ, List, [], Ok, Err, refl, ◌∙◌, ap, arith}
+use Rattle.std.proofs.Common.{◌≡◌, ◌≢◌, ◌≤◌, ◌<◌, ◌+◌, ◌⊎◌, inl, inr, ℕ, List, [], Option, Some, None, Ok, Err, refl, ◌∙◌, ap, subst, arith}
 use Rattle.std.proofs.lemmas.Grind.{common_steps}
 use Rattle.ps_lines.specs.Lines as cut
 use Rattle.ps_lines.specs.Reader.{Gives, GoesOn, begin_of}
@@ -13,6 +13,7 @@ use Rattle.ps_rules.specs.declared.flaw.RulesRefusal.{RulesRefusal}
 use Rattle.ps_rules.specs.declared.rules.Purpose.{Purpose}
 use Rattle.ps_rules.specs.declared.draft.Draft.{Draft}
 use Rattle.ps_rules.specs.Line.{line_said}
+use Rattle.ps_rules.specs.Saying.{IsLineTaken, after_by}
 use Rattle.ps_rules.specs.File.{at, has_begun, said_after, file_ended, lines_read}
 
 module _ (net : Network) (purpose : Purpose) where
@@ -36,14 +37,19 @@ module _ (net : Network) (purpose : Purpose) where
   line_refused TooLarge d refusal number lines rest bytes gives more short small few says = absurd (small refl)
   line_refused End d refusal number lines rest bytes gives more short small few says = absurd (more refl)
 
+  -- a line is taken or refused, as a draft says of its bytes
+  pub line_is_taken : (got : Got) (d behind : Draft) (number : ℕ) (bytes : List ℕ) (refusal : Option RulesRefusal) → got ≢ End → got ≢ TooLong → got ≢ TooLarge →
+      number ≤ MOST_RULES_LINES → said_after d number (line_said net purpose (has_begun d) bytes) ≡ after_by refusal behind →
+      IsLineTaken net purpose got number bytes d behind refusal
+  line_is_taken got d behind number bytes None more short small few says = record { short = short; small = small; few = few; says = says }
+  line_is_taken got d behind number bytes (Some refusal) more short small few says =
+      λ lines rest gives. line_refused got d refusal number lines rest bytes gives more short small few says
+
   -- a line is too long, or has a byte past the largest file
   pub line_long : (got : Got) (d : Draft) (number : ℕ) (lines rest : List cut.Line) (bytes : List ℕ) → Gives lines got bytes rest →
-      got ≢ End → got ≢ Line → got ≢ LastLine → lines_read net purpose d number lines ≡ Err (at R5 number)
-  line_long Line d number lines rest bytes gives more long large = absurd (long refl)
-  line_long LastLine d number lines rest bytes gives more long large = absurd (large refl)
-  line_long TooLong d number lines rest bytes gives more long large = ap (lines_read net purpose d number) gives
-  line_long TooLarge d number lines rest bytes gives more long large = ap (lines_read net purpose d number) gives.2
-  line_long End d number lines rest bytes gives more long large = absurd (more refl)
+      (got ≡ TooLong) ⊎ (got ≡ TooLarge) → lines_read net purpose d number lines ≡ Err (at R5 number)
+  line_long got d number lines rest bytes gives (inl is) = ap (lines_read net purpose d number) (subst (λ (g : Got). Gives lines g bytes rest) is gives)
+  line_long got d number lines rest bytes gives (inr is) = ap (lines_read net purpose d number) (subst (λ (g : Got). Gives lines g bytes rest) is gives).2
 
   -- a line is one too many
   pub line_too_many : (got : Got) (d : Draft) (number : ℕ) (lines rest : List cut.Line) (bytes : List ℕ) → Gives lines got bytes rest →

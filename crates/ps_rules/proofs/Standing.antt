@@ -1,24 +1,21 @@
 -- What the lines of a rules file name is of its application.
-use Rattle.std.proofs.Common.{◌≡◌, ◌<◌, ◌+◌, ◌-◌, ℕ, suc, take, List, [], ◌∷◌, Bool, true, false, Option, Some, None, Result, Ok, Err, IfOk, IfSome, codes, fold, length, nat_lt, if◌then◌else◌, cond, refl, sym, ap, ◌∙◌, subst, arith}
+use Rattle.std.proofs.Common.{◌≡◌, ◌<◌, ◌+◌, ◌-◌, ℕ, suc, take, List, [], ◌∷◌, Bool, true, false, Option, Some, None, Result, Ok, Err, IfOk, IfSome, codes, fold, length, nat_lt, if◌then◌else◌, refl, subst, arith}
 use Rattle.std.specs.List.{All, after_first, before_first, list_any, position_from}
 use Rattle.std.specs.Str.{bytes_eq}
 use Rattle.std.proofs.lemmas.Bool.{ltb-true}
-use Rattle.std.proofs.lemmas.Grind.{common_steps}
-use Rattle.std.proofs.lemmas.List.Elements.{All-nil, All-push, All-append}
+use Rattle.std.proofs.lemmas.List.Elements.{All-nil, All-push}
 use Rattle.ps_base.specs.LetterCase.{is_same_name}
 use Rattle.ps_model.specs.Network.{Network, declared_count, input_count, instance_count, kind_at}
-use Rattle.ps_model.specs.Pins.{pin_count, pin_names, pin_rows}
+use Rattle.ps_model.specs.Pins.{pin_count, pin_names}
 use Rattle.ps_model.specs.declared.pins.PinRow.{PinRow}
-use Rattle.ps_terms.specs.Names.{IsNameOf, boolean_pin, either_name, has_equals, input_in, instance_names, is_denied, is_dot, is_time, name_of, name_part, number_named, pin_at, pin_named, pin_of, signal_names, truth_of, value_part}
+use Rattle.ps_terms.specs.Names.{IsNameOf, boolean_pin, either_name, has_equals, input_in, instance_names, is_denied, is_time, name_of, name_part, number_named, pin_at, pin_named, pin_of, signal_names, truth_of, value_part}
 use Rattle.ps_terms.specs.declared.name.Name.{Name}
 use Rattle.ps_terms.specs.declared.name.Name.TheVariants.{Pin}
-use Rattle.ps_terms.specs.declared.name.Setting.{Setting}
 use Rattle.ps_terms.proofs.Naming.{signal_names-length, instance_names-length}
 use Rattle.ps_rules.specs.Parts.{and_then}
-use Rattle.ps_rules.specs.Standing.{IsFollow, IsOfApplication, IsOfInput, IsOfName, IsOfNames}
+use Rattle.ps_rules.specs.Standing.{IsOfInput, IsOfName}
 use Rattle.ps_rules.specs.Words.{among_said, is_at, compare_said, condition_of, condition_said, conditions_said, denied_said, named_when, setting_of, setting_said, settings_said, term_of}
 use Rattle.ps_rules.specs.declared.flaw.Flaw.{Flaw}
-use Rattle.ps_rules.specs.declared.rules.Condition.{Condition}
 
 -- of two answers each of which has what is wanted, either has it
 pub either_has : {A : Type 0} (P : A → Type 0) (b : Bool) (r s : Result A Flaw) → IfOk r P → IfOk s P → IfOk (if b then r else s) P

@@ -1,5 +1,5 @@
 -- What a rules file names is of its application.
-use Rattle.std.specs.Prelude.{ℕ, ◌<◌, List}
+use Rattle.std.specs.Prelude.{◌<◌}
 use Rattle.std.specs.List.{All}
 use Rattle.ps_model.specs.Network.{Network, declared_count, input_count}
 use Rattle.ps_terms.specs.Names.{IsNameOf}

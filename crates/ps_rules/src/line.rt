@@ -4,8 +4,9 @@ ghost use Rattle.std.specs.Prelude.{◌≡◌, ◌≤◌, length, drop, IfOk};
 ghost use Rattle.ps_trace.specs.Words.{words};
 ghost use Rattle.ps_terms.specs.Names.{number_named, signal_names};
 ghost use Rattle.ps_terms.specs.Words.{counted};
-ghost use Rattle.ps_rules.specs.Line.{follow_of, follow_said, followed, is_setting, pace_of_word, pace_said};
+ghost use Rattle.ps_rules.specs.Line.{follow_of, follow_said, followed, pace_of_word, pace_said};
 ghost use Rattle.ps_rules.specs.Line.{rule_name, some_settings};
+ghost use Rattle.ps_rules.specs.Saying.{leader_of};
 
 use crate::flaw::Flaw;
 use crate::rules::{Follow, Pace, Purpose};
@@ -19,14 +20,32 @@ use ps_terms::{
 use ps_trace::number;
 use std::alloc::Global;
 
-// Whether a word begins a setting.
-pub(crate) fn is_setting(word: &[u8]) -> bool
-    ensures { result ≡ is_setting word.now }
+// The word that a setting begins with.
+#[derive(Clone, Copy)]
+pub(crate) enum Leader {
+    Every,
+    Fixed,
+    Follows,
+    First,
+}
+
+// The setting that a word begins, if it begins one.
+pub(crate) fn leader_of(word: &[u8]) -> Option<Leader>
+    ensures { result ≡ leader_of word.now }
 {
-    word == b"every".as_slice()
-        || word == b"fixed".as_slice()
-        || word == b"follows".as_slice()
-        || word == b"first".as_slice()
+    if word == b"every".as_slice() {
+        return Some(Leader::Every);
+    }
+    if word == b"fixed".as_slice() {
+        return Some(Leader::Fixed);
+    }
+    if word == b"follows".as_slice() {
+        return Some(Leader::Follows);
+    }
+    if word == b"first".as_slice() {
+        return Some(Leader::First);
+    }
+    None
 }
 
 // How scans come, by one word.

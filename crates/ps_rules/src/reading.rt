@@ -1,16 +1,17 @@
 // The reader of a rules file.
 
-ghost use Rattle.std.specs.Prelude.{◌≡◌, ◌≤◌, ℕ, List, IsTrue, Some, IsSome, Ok, Err, IfOk, IsErrOf};
+ghost use Rattle.std.specs.Prelude.{◌≡◌, ◌≢◌, ◌≤◌, ℕ, List, IsTrue, Some, IsSome, Ok, Err, IfOk, IsErrOf};
 ghost use Rattle.ps_outside.specs.Outside.{Rose, CountsStay};
 ghost use Rattle.ps_rules.specs.File.{rules_of};
-ghost use Rattle.ps_rules.specs.Saying.{IsRead};
+ghost use Rattle.ps_rules.specs.Saying.{IsLineTaken, IsRead};
 ghost use Rattle.ps_rules.specs.Standing.{IsOfApplication};
 ghost use Rattle.ps_rules.specs.declared.flaw.RulesRefusal.{RulesRefusal};
 
 use crate::draft::{Draft, at};
-use crate::flaw::{Flaw, RulesFail};
+use crate::flaw::{Flaw, RulesFail, RulesRefusal};
 use crate::limits::{LARGEST_RULES_FILE, LONGEST_RULES_LINE, MOST_RULES_LINES};
 use crate::rules::{Purpose, RulesFile};
+use ps_base::Memory;
 use ps_lines::{Got, Limits, LineReader};
 use ps_model::App;
 use ps_outside::Files;
@@ -20,6 +21,28 @@ const LIMITS: Limits = Limits {
     longest: LONGEST_RULES_LINE,
     largest: LARGEST_RULES_FILE,
 };
+
+// What a line with this number does to a draft, of which so much was got. None: it is not refused.
+fn take_line(
+    alloc: Global,
+    draft: &mut Draft,
+    app: &App,
+    purpose: Purpose,
+    number: u32,
+    got: Got,
+    line: &[u8],
+) -> Result<Option<RulesRefusal>, Memory>
+    requires { got ≢ Got.End }
+    ensures { IfOk result (IsLineTaken app.now purpose got number line.now draft.old draft.new) }
+{
+    if number > MOST_RULES_LINES {
+        return Ok(Some(at(Flaw::R5, number)));
+    }
+    match got {
+        Got::TooLong | Got::TooLarge => Ok(Some(at(Flaw::R5, number))),
+        _ => draft.take(alloc, app, purpose, number, line),
+    }
+}
 
 /// The settings and rules of a rules file of an application.
 ///
@@ -66,11 +89,8 @@ pub fn read_rules<F: Files>(
                 Err(refusal) => Err(RulesFail::Refused(refusal)),
             };
         }
-        if number > MOST_RULES_LINES || got == Got::TooLong || got == Got::TooLarge {
-            return Err(RulesFail::Refused(at(Flaw::R5, number)));
-        }
         let line = lines.line();
-        if let Some(refusal) = draft.take(alloc, app, purpose, number, line)? {
+        if let Some(refusal) = take_line(alloc, &mut draft, app, purpose, number, got, line)? {
             return Err(RulesFail::Refused(refusal));
         }
         number += 1;

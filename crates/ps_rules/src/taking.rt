@@ -3,17 +3,17 @@
 ghost use Rattle.std.specs.Prelude.{◌≡◌, ◌≤◌, ◌==◌, length, drop, IfOk, OnOk};
 ghost use Rattle.std.specs.List.{list_any};
 ghost use Rattle.ps_trace.specs.Words.{words};
-ghost use Rattle.ps_terms.specs.Words.{counted};
+ghost use Rattle.ps_terms.specs.Words.{counted, words_in};
 ghost use Rattle.ps_terms.specs.declared.name.Setting.{Setting};
 ghost use Rattle.ps_rules.specs.File.{has_begun, said_after, settings_after, stands, with_file, with_setting};
-ghost use Rattle.ps_rules.specs.Line.{line_said, rule_begins, said_or, setting_line};
+ghost use Rattle.ps_rules.specs.Line.{line_said, rule_begins, said_or};
 ghost use Rattle.ps_rules.specs.Line.Said.{paces, fixes, ties, starts, asks};
-ghost use Rattle.ps_rules.specs.Saying.{after_by};
+ghost use Rattle.ps_rules.specs.Saying.{after_by, led_by, setting_by};
 ghost use Rattle.ps_rules.specs.declared.rules.Follow.{Follow};
 
 use crate::draft::{Draft, at};
 use crate::flaw::{Flaw, RulesRefusal};
-use crate::line::{follow_said, is_setting, pace_said, rule_name, some_settings};
+use crate::line::{Leader, follow_said, leader_of, pace_said, rule_name, some_settings};
 use crate::lists::Conditions;
 use crate::rules::{Follow, Pace, Purpose, RulesFile};
 use crate::words::conditions_said;
@@ -42,14 +42,40 @@ impl Draft {
         if word == b"never".as_slice() {
             return self.begin(alloc, purpose, number, line);
         }
-        let is_setting = is_setting(word);
-        if is_setting == self.has_begun() {
-            return Ok(Some(at(Flaw::R1, number)));
+        self.take_led(alloc, app, purpose, number, leader_of(word), line, upto)
+    }
+
+    // A line that begins no rule: the setting that its first word begins, if it begins one, and else conditions. Settings
+    // are behind `next`.
+    fn take_led(
+        &mut self,
+        alloc: Global,
+        app: &App,
+        purpose: Purpose,
+        number: u32,
+        leader: Option<Leader>,
+        line: &[u8],
+        next: usize,
+    ) -> Result<Option<RulesRefusal>, Memory>
+        requires { next ≤ length line.now }
+        ensures { IfOk result (λ refusal.
+            said_after self.old number (led_by app.now purpose (has_begun self.old) leader (words_in line.now)
+            (counted (words (drop next line.now)))) ≡ after_by refusal self.new) }
+    {
+        match leader {
+            Some(leader) => {
+                if self.has_begun() {
+                    return Ok(Some(at(Flaw::R1, number)));
+                }
+                self.set(alloc, app, purpose, number, leader, line, next)
+            }
+            None => {
+                if !self.has_begun() {
+                    return Ok(Some(at(Flaw::R1, number)));
+                }
+                self.ask(number, conditions_said(alloc, app, line, 0)?)
+            }
         }
-        if is_setting {
-            return self.set(alloc, app, purpose, number, word, line, upto);
-        }
-        self.ask(number, conditions_said(alloc, app, line, 0)?)
     }
 
     // A rule begins, by the name of its line; a comparison has none.
@@ -76,25 +102,21 @@ impl Draft {
         app: &App,
         purpose: Purpose,
         number: u32,
-        word: &[u8],
+        leader: Leader,
         line: &[u8],
         next: usize,
     ) -> Result<Option<RulesRefusal>, Memory>
         requires { next ≤ length line.now }
         ensures { IfOk result (λ refusal.
-            said_after self.old number (setting_line app.now purpose word.now (counted (words (drop next line.now))))
+            said_after self.old number (setting_by app.now purpose leader (counted (words (drop next line.now))))
             ≡ after_by refusal self.new) }
     {
-        if word == b"every".as_slice() {
-            return Ok(self.pace(number, pace_said(line, next)));
+        match leader {
+            Leader::Every => Ok(self.pace(number, pace_said(line, next))),
+            Leader::Fixed => self.fix(number, some_settings(alloc, app, line, next)?),
+            Leader::Follows => self.tie(number, follow_said(app, purpose, line, next)),
+            Leader::First => self.start(number, some_settings(alloc, app, line, next)?),
         }
-        if word == b"fixed".as_slice() {
-            return self.fix(number, some_settings(alloc, app, line, next)?);
-        }
-        if word == b"follows".as_slice() {
-            return self.tie(number, follow_said(app, purpose, line, next));
-        }
-        self.start(number, some_settings(alloc, app, line, next)?)
     }
 
     // How scans come is said, once.

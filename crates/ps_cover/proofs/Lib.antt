@@ -13,4 +13,5 @@ pub mod Numbering
 pub mod Searched
 pub mod Showing
 pub mod Standing
+pub mod Taken
 pub mod Unshown

@@ -1,6 +1,7 @@
 -- Points that are listed one after another.
-use Rattle.std.proofs.Common.{◌≡◌, ℕ, zero, suc, ◌+◌, List, [], ◌∷◌, ◌++◌, refl, sym, ap, ◌∙◌, append_assoc, append-nil, arith}
+use Rattle.std.proofs.Common.{◌≡◌, ℕ, zero, suc, ◌+◌, Result, Ok, Err, List, [], ◌∷◌, ◌++◌, refl, sym, ap, ◌∙◌, append_assoc, append-nil, arith}
 use Rattle.std.specs.List.{flat_map, range_with_len}
+use Rattle.std.specs.Prelude.{OnOk}
 use Rattle.std.proofs.lemmas.Grind.{flat_map-append}
 use Rattle.ps_model.specs.Exprs.{operands}
 use Rattle.ps_model.specs.Formula.{Formula}
@@ -30,3 +31,9 @@ one_more f n before now after so more =
 pub listed_are : (es : List Formula) → listed (operands es) ≡ es
 listed_are [] = refl
 listed_are (e ∷ es) = ap (λ fs. e ∷ fs) (listed_are es)
+
+-- two pieces, one behind the other, where the last was listed
+pub both_listed : {A E P : Type 0} (r : Result A E) (old middle new one two all : List P) → middle ≡ old ++ one → all ≡ one ++ two →
+    OnOk r (new ≡ middle ++ two) → OnOk r (new ≡ old ++ all)
+both_listed (Ok v) old middle new one two all first is last = last ∙ ap (λ ps. ps ++ two) first ∙ append_assoc old one two ∙ ap (λ ps. old ++ ps) (sym is)
+both_listed (Err e) old middle new one two all first is last = tt

@@ -1,5 +1,5 @@
 -- What scans make of what was shown.
-use Rattle.std.specs.Prelude.{◌≡◌, ◌<◌, ◌-◌, ◌||◌, ℕ, Bool, false, true, List, Option, Some, None, length, option_map}
+use Rattle.std.specs.Prelude.{◌≡◌, ◌<◌, ◌||◌, ℕ, Bool, false, true, List, Option, Some, None, length, option_map}
 use Rattle.std.specs.Prelude.{slice_get, slice_index_or}
 use Rattle.std.specs.List.{list_any}
 use Rattle.ps_model.specs.Action.{Actual, calls}

@@ -1,5 +1,5 @@
 -- What a scan of an application may show, and when it shows it.
-use Rattle.std.specs.Prelude.{ℕ, Bool, true, false, List, Option, Some, None, ◌||◌, ◌&&◌, ◌==◌, not, length, nat_lt}
+use Rattle.std.specs.Prelude.{ℕ, Bool, false, List, Option, Some, None, ◌||◌, ◌&&◌, ◌==◌, length, nat_lt}
 use Rattle.std.specs.Prelude.{slice_get, slice_index_or}
 use Rattle.std.specs.List.{list_all, range_with_len}
 use Rattle.ps_model.specs.Action.{Action, assigns, calls}

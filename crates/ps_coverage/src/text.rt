@@ -169,7 +169,8 @@ fn add_mark_at(
     ensures { OnOk result (text.new ≡ text.old
         ++ marks_at (known_of told.entry.now) format step ((known_of told.entry.now).at n)) }
 {
-    let point = &told.cover.points()[n];
+    let points = told.cover.points();
+    let point = &points[n];
     let shown = told.cover.is_shown_at(n);
     add_missed_mark(text, told.app, told.exclusions, format, step, point, shown)
 }
@@ -258,7 +259,8 @@ fn add_value_at(text: &mut Bytes, told: &Told<'_>, format: Format, n: usize) -> 
     ensures { OnOk result (text.new ≡ text.old
         ++ values_at (known_of told.entry.now) format ((known_of told.entry.now).at n)) }
 {
-    let point = &told.cover.points()[n];
+    let points = told.cover.points();
+    let point = &points[n];
     let off = told.cover.is_seen_at(n, false);
     let on = told.cover.is_seen_at(n, true);
     add_missed_values(text, told.app, format, point, off, on)
@@ -296,7 +298,8 @@ fn add_decision_at(
     ensures { OnOk result (text.new ≡ text.old
         ++ decisions_at format (place_of (known_of told.entry.now) n) ((known_of told.entry.now).at n)) }
 {
-    let point = &told.cover.points()[n];
+    let points = told.cover.points();
+    let point = &points[n];
     let off = told.cover.is_seen_at(n, false);
     let on = told.cover.is_seen_at(n, true);
     add_missed_decisions(text, format, place_of(told, n), point, off, on)
@@ -379,6 +382,18 @@ fn add_last(text: &mut Bytes, told: &Told<'_>, format: Format) -> Result<(), Mem
     }
 }
 
+// Puts all that is told.
+fn add_coverage(text: &mut Bytes, told: &Told<'_>, format: Format) -> Result<(), Memory>
+    ensures { OnOk result (text.new ≡ text.old ++ coverage_text (known_of told.entry.now) format) }
+{
+    add_steps(text, told, format)?;
+    add_sort(text, told, format, Sort::Values, b"values")?;
+    add_values(text, told, format)?;
+    add_sort(text, told, format, Sort::Decisions, b"decisions")?;
+    add_decisions(text, told, format)?;
+    add_last(text, told, format)
+}
+
 /// The text of what was shown of an application, and of what was not: for each instance, in the order of the calls, its
 /// counts, and below them the ways and states that were never seen; the counts of values and of decisions, with what
 /// was never seen of them; the percentages. An error: memory is wanting.
@@ -386,11 +401,6 @@ pub fn coverage_text(alloc: Global, told: &Told<'_>, format: Format) -> Result<B
     ensures { IfOk result (λ bytes. bytes ≡ coverage_text (known_of told.entry.now) format) }
 {
     let mut text = Bytes::new(alloc);
-    add_steps(&mut text, told, format)?;
-    add_sort(&mut text, told, format, Sort::Values, b"values")?;
-    add_values(&mut text, told, format)?;
-    add_sort(&mut text, told, format, Sort::Decisions, b"decisions")?;
-    add_decisions(&mut text, told, format)?;
-    add_last(&mut text, told, format)?;
+    add_coverage(&mut text, told, format)?;
     Ok(text)
 }

@@ -1,5 +1,5 @@
 -- What is taken of whole sections is whole.
-use Rattle.std.proofs.Common.{List, ℕ, Bool, true, false, [], ◌∷◌, ◌+◌, ◌++◌, length}
+use Rattle.std.proofs.Common.{List, ℕ, Bool, true, false, [], ◌∷◌}
 use Rattle.std.specs.Prelude.{not, if◌then◌else◌}
 use Rattle.std.specs.List.{AllByRecursion, flat_map, range_with_len}
 use Rattle.ps_model.specs.Network.{Network}
@@ -11,7 +11,7 @@ use Rattle.ps_parser.specs.declared.section.Declaration.{Declaration}
 use Rattle.ps_parser.specs.declared.section.Part.{Part}
 use Rattle.ps_parser.specs.declared.section.Section.{Section}
 use Rattle.ps_flatten.proofs.Wholes.{all_append}
-use Rattle.ps_pairs.specs.Arranging.{alone, arranged, arranged_sections, is_shared, is_shared_at, shared_count, taken, taken_declaration, taken_name, taken_section}
+use Rattle.ps_pairs.specs.Arranging.{alone, arranged, is_shared, is_shared_at, shared_count, taken, taken_declaration, taken_name, taken_section}
 
 -- each item of pieces that are whole
 all_flat : {X Y : Type 0} (P : X → Type 0) (Q : Y → Type 0) (f : X → List Y) (xs : List X) → ((x : X) → P x → AllByRecursion Q (f x)) → AllByRecursion P xs → AllByRecursion Q (flat_map f xs)

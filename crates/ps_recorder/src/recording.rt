@@ -18,7 +18,7 @@ use std::alloc::Global;
 pub const MOST_MOMENTS: usize = 400;
 
 /// How a world goes on behind a scan.
-#[derive(Clone, Copy, PartialEq, Eq)]
+#[derive(Clone, Copy)]
 pub enum Course {
     /// It runs.
     Runs,

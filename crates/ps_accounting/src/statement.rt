@@ -36,10 +36,11 @@ fn push_products(products: &Products, places: &mut Vec<Place>) -> Result<(), Mem
     ensures { OnOk result (places.new.items ≡ places.old.items
         ++ map place_of (map of_or (joined (product_trees products.now)))) }
 {
-    if products.items.len() < 2 {
+    let items = products.items.as_slice();
+    if items.len() < 2 {
         return Ok(());
     }
-    for product in &products.items {
+    for product in items {
         places.push(product_place(product))?;
     }
     Ok(())

@@ -1,6 +1,6 @@
 -- The course of a trace that is held, and of what a word means.
-use Rattle.std.proofs.Common.{◌≡◌, ◌∙◌, ℕ, Bool, List, Option, Some, Result, Ok, Err, inl, inr, sym, ap, subst}
-use Rattle.std.specs.Prelude.{IfErr, IfOk, OnOk}
+use Rattle.std.proofs.Common.{◌≡◌, ◌∙◌, ℕ, Bool, List, Option, None, Some, Result, Ok, Err, inl, inr, sym, ap, subst, arith}
+use Rattle.std.specs.Prelude.{IfErr, IfNone, IfOk, OnOk}
 use Rattle.std.proofs.lemmas.Option.{same_Some}
 use Rattle.ps_traced.specs.Refusing.{StopsAtTrace}
 use Rattle.ps_base.specs.declared.failing.Refusal.{Refusal}
@@ -11,6 +11,7 @@ use Rattle.ps_bench_base.specs.declared.ending.Stop.TheVariants.{Unwritten}
 use Rattle.ps_course.specs.declared.recorder.Course.{Course}
 use Rattle.ps_model.specs.Network.{Network}
 use Rattle.ps_model.specs.declared.channel.Fault.{Fault}
+use Rattle.ps_outside.specs.Outside.{Rose}
 use Rattle.ps_totals.specs.Naming.{Names, digest_text}
 use Rattle.ps_traced.specs.Playing.{IsPlay}
 use Rattle.ps_campaigning.specs.Recorded.{IsCourseOf, RecordsHeld, RecordsWord, StopsUnnamed}
@@ -63,3 +64,13 @@ word_recorded from word faults held r means (trace, is, are, named) = (trace, fa
 pub of_given : {X E : Type 0} (P : X → Type 0) (r : Result X E) (x : X) → r ≡ Ok x → IfOk r P → P x
 of_given P (Ok y) x is holds = let same : y ≡ x = cc in subst P same holds
 of_given P (Err e) x is holds = cc
+
+-- what holds where there is no value holds there
+pub of_none : {X : Type 0} (P : Type 0) (o : Option X) → o ≡ None → IfNone o P → P
+of_none P None is holds = holds
+of_none P (Some x) is holds = cc
+
+-- a count that is nothing did not rise
+pub none_rose : {P : Type 0} → Rose 0 0 → P
+none_rose (inl more) = let no : ⊥ = omega (arith, more) in absurd no
+none_rose (inr last) = let no : ⊥ = omega (arith, last) in absurd no

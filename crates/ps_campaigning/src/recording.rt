@@ -100,11 +100,14 @@ fn record_named<F: Files, O: Output>(
     ensures writes { O.faults out.old ≤ O.faults out.new }
     ensures telling { O.tells out.new ≡ O.tells out.old }
 {
-    let mut trace = match open_trace(alloc, files, out, name, app) {
-        Ok(trace) => trace,
-        Err(stop) => return Err(stop),
+    let read = {
+        let mut trace = match open_trace(alloc, files, out, name, app) {
+            Ok(trace) => trace,
+            Err(stop) => return Err(stop),
+        };
+        read_course(alloc, app, &mut trace, files)
     };
-    match read_course(alloc, app, &mut trace, files) {
+    match read {
         Ok(Ok(course)) => name_course(alloc, files, name, course),
         Ok(Err(why)) => Err(stop_behind(out, why)),
         Err(Memory) => Err(Stop::NoMemory),

@@ -2,12 +2,24 @@ use Rattle.std.proofs.Common.{refl}
 use Rattle.ps_bench_base.proofs.Stopped.{took_part}
 use Rattle.ps_campaigning.proofs.campaigning.write_told.Goals as goal
 
-pub returns-in-Err-clause-some : goal.returns-in-Err-clause-some
-returns-in-Err-clause-some g c = (
-  refl,
-  took_part (g.O.Sink.tells c.args.out.now) c.in-Err.field-0.taken (g.O.Sink.taken c.args.out.now) c.args.text.now
-      c.args.text.now (g.O.Sink.taken c.write_all.new.out) refl c.in-Err.ensures.part,
-)
+pub returns-in-Ok : goal.returns-in-Ok
+returns-in-Ok g c = record {
+  all = (refl, c.in-Ok.ensures.whole);
+  some = tt;
+  unwritten = λ is. cc;
+  writes = c.in-Ok.ensures.counts;
+  telling = c.in-Ok.ensures.telling;
+}
 
-pub returns-in-Ok-clause-all : goal.returns-in-Ok-clause-all
-returns-in-Ok-clause-all g c = (refl, c.in-Ok.ensures.whole)
+pub returns-in-Err : goal.returns-in-Err
+returns-in-Err g c = record {
+  all = tt;
+  some = (
+    refl,
+    took_part (g.O.Sink.tells c.args.out.now) c.in-Err.field-0.taken (g.O.Sink.taken c.args.out.now) c.args.text.now
+        c.args.text.now (g.O.Sink.taken c.write_all.new.out) refl c.in-Err.ensures.part,
+  );
+  unwritten = λ is. c.in-Err.ensures.stopped;
+  writes = c.in-Err.ensures.counts;
+  telling = c.in-Err.ensures.telling;
+}

@@ -1,4 +1,4 @@
-use Rattle.std.proofs.Common.{◌≡◌, ℕ, IsTrue, List, Option, refl, sym, subst}
+use Rattle.std.proofs.Common.{◌≡◌, ℕ, IsTrue, List, Option, refl, sym, subst, arith}
 use Rattle.std.proofs.lemmas.Result.{IfErr-weaker}
 use Rattle.std.specs.Prelude.{IfErr, IfOk}
 use Rattle.ps_bench_base.specs.Ending.{IsUnread}
@@ -8,42 +8,60 @@ use Rattle.ps_traced.specs.Playing.{trace_held}
 use Rattle.ps_traced.specs.Refusing.{RefusesHeld, StopsAtTrace}
 use Rattle.ps_traced.proofs.Refused.{stops_weaker}
 use Rattle.ps_campaigning.specs.Recorded.{RecordsHeld}
+use Rattle.ps_campaigning.proofs.Keeping.{none_rose}
 use Rattle.ps_campaigning.proofs.recording.record_play.Goals as goal
 
-pub returns-in-None-clause-records : goal.returns-in-None-clause-records
-returns-in-None-clause-records g c = λ tells.
-    let there : g.F.Files.held c.args.files.now c.word_of-word.result.file.now
-    ≡ trace_held c.args.cases (g.F.Files.held c.args.files.now (file_meant c.args.word.now)) =
-    λ i. trace_held (sym c.in-None.is i) (g.F.Files.held c.args.files.now (c.word_of-word.ensures.file i)) in
-    subst (λ (h : Option (List ℕ)). IfOk c.record_named-in-None.result (RecordsHeld c.args.app.now h)) there
-    (c.record_named-in-None.ensures.records tells)
+pub returns-in-Some : goal.returns-in-Some
+returns-in-Some g c = record {
+  course = c.record_named.ensures.course;
+  records =
+      λ tells.
+      subst (λ (o : Option (List ℕ)). IfOk c.record_named.result
+      (RecordsHeld c.args.app.now (trace_held o (g.F.Files.held c.args.files.now (file_meant c.args.word.now)))))
+      (sym c.in-Some.is) (c.record_named.ensures.records refl);
+  stops =
+      IfErr-weaker c.record_named.result _ _
+      (λ stop stops. stops_weaker _ _ stop _ _ _
+      (λ refusal why tells.
+      subst (λ (o : Option (List ℕ)). RefusesHeld c.args.app.now
+      (trace_held o (g.F.Files.held c.args.files.now (file_meant c.args.word.now))) refusal)
+      (sym c.in-Some.is) (why refl)) stops)
+      c.record_named.ensures.stops;
+  unsaid = c.record_named.ensures.unsaid;
+  unread = IfErr-weaker c.record_named.result _ _ (λ stop unread is. none_rose (unread is))
+      c.record_named.ensures.unread;
+  unwritten = c.record_named.ensures.unwritten;
+  reads = λ other. omega arith;
+  writes = c.record_named.ensures.writes;
+  telling = c.record_named.ensures.telling;
+}
 
-pub returns-in-None-clause-stops : goal.returns-in-None-clause-stops
-returns-in-None-clause-stops g c =
-    let there : g.F.Files.held c.args.files.now c.word_of-word.result.file.now
-    ≡ trace_held c.args.cases (g.F.Files.held c.args.files.now (file_meant c.args.word.now)) =
-    λ i. trace_held (sym c.in-None.is i) (g.F.Files.held c.args.files.now (c.word_of-word.ensures.file i)) in
-    subst (λ (h : Option (List ℕ)). IfErr c.record_named-in-None.result (λ stop. StopsAtTrace
-    (λ refusal. IsTrue (g.F.Files.tells c.args.files.now) → RefusesHeld c.args.app.now h refusal) stop
-    (g.O.Sink.tells c.args.out.now) (g.O.Sink.taken c.args.out.now) (g.O.Sink.taken c.record_named-in-None.new.out))) there
-    c.record_named-in-None.ensures.stops
-
-pub returns-in-Some-clause-records : goal.returns-in-Some-clause-records
-returns-in-Some-clause-records g c = λ tells.
-    subst (λ (o : Option (List ℕ)). IfOk c.record_named.result (RecordsHeld c.args.app.now (trace_held o (g.F.Files.held c.args.files.now (file_meant c.args.word.now)))))
-    (sym c.in-Some.is) (c.record_named.ensures.records refl)
-
-pub returns-in-Some-clause-stops : goal.returns-in-Some-clause-stops
-returns-in-Some-clause-stops g c =
-    IfErr-weaker c.record_named.result _ _
-    (λ stop stops. stops_weaker _ _ stop _ _ _
-    (λ refusal why tells.
-    subst (λ (o : Option (List ℕ)). RefusesHeld c.args.app.now (trace_held o (g.F.Files.held c.args.files.now (file_meant c.args.word.now))) refusal)
-    (sym c.in-Some.is) (why refl)) stops)
-    c.record_named.ensures.stops
-
-pub returns-in-None-clause-unread : goal.returns-in-None-clause-unread
-returns-in-None-clause-unread g c =
-    subst (λ (name : List ℕ). IfErr c.record_named-in-None.result (λ stop. IsUnread stop →
-    Rose (g.F.Files.faults c.args.files.now name) (g.F.Files.faults c.record_named-in-None.new.files name)))
-    c.word_of-word.ensures.file c.record_named-in-None.ensures.unread
+pub returns-in-None : goal.returns-in-None
+returns-in-None g c = record {
+  course = c.record_named-in-None.ensures.course;
+  records =
+      λ tells.
+      let there : g.F.Files.held c.args.files.now c.word_of-word.result.file.now
+      ≡ trace_held c.args.cases (g.F.Files.held c.args.files.now (file_meant c.args.word.now)) =
+      λ i. trace_held (sym c.in-None.is i) (g.F.Files.held c.args.files.now (c.word_of-word.ensures.file i)) in
+      subst (λ (h : Option (List ℕ)). IfOk c.record_named-in-None.result (RecordsHeld c.args.app.now h)) there
+      (c.record_named-in-None.ensures.records tells);
+  stops =
+      let there : g.F.Files.held c.args.files.now c.word_of-word.result.file.now
+      ≡ trace_held c.args.cases (g.F.Files.held c.args.files.now (file_meant c.args.word.now)) =
+      λ i. trace_held (sym c.in-None.is i) (g.F.Files.held c.args.files.now (c.word_of-word.ensures.file i)) in
+      subst (λ (h : Option (List ℕ)). IfErr c.record_named-in-None.result (λ stop. StopsAtTrace
+      (λ refusal. IsTrue (g.F.Files.tells c.args.files.now) → RefusesHeld c.args.app.now h refusal) stop
+      (g.O.Sink.tells c.args.out.now) (g.O.Sink.taken c.args.out.now)
+      (g.O.Sink.taken c.record_named-in-None.new.out))) there
+      c.record_named-in-None.ensures.stops;
+  unsaid = c.record_named-in-None.ensures.unsaid;
+  unread =
+      subst (λ (name : List ℕ). IfErr c.record_named-in-None.result (λ stop. IsUnread stop →
+      Rose (g.F.Files.faults c.args.files.now name) (g.F.Files.faults c.record_named-in-None.new.files name)))
+      c.word_of-word.ensures.file c.record_named-in-None.ensures.unread;
+  unwritten = c.record_named-in-None.ensures.unwritten;
+  reads = c.record_named-in-None.ensures.reads;
+  writes = c.record_named-in-None.ensures.writes;
+  telling = c.record_named-in-None.ensures.telling;
+}

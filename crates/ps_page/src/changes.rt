@@ -2,15 +2,15 @@
 
 ghost use Rattle.std.specs.Prelude.{◌≡◌, ◌++◌, None, IfOk, OnOk, if◌then◌else◌, option_map};
 ghost use Rattle.ps_page.specs.Changes.{changes_pieces, changes_text, row_of, rows_from, separator, stays_at, with_change};
-ghost use Rattle.ps_page.specs.Diagram.{change_row, value_at};
+ghost use Rattle.ps_page.specs.Diagram.{change_row, marks_at, marks_text, value_at};
 
-use crate::diagram::{Sheet, marks_at, marks_text};
+use crate::diagram::{Sheet, add_marks_text, marks_at};
 use crate::drawing::{event_of, value_at};
+use itoa::Buffer;
 use ps_base::{Bytes, Memory};
-use ps_bench_base::pieces::add_short;
 use ps_markup::{Key, Page, Part, Tag, add_parts};
 use ps_model::App;
-use ps_recorder::Moment;
+use ps_recorder::{Mark, Moment};
 use ps_terms::Name;
 use ps_told::{add_name, add_value};
 use std::alloc::Global;
@@ -103,6 +103,16 @@ fn add_cells<'x>(
     )
 }
 
+// What is expected of a scan, by its lines.
+fn expected_of(alloc: Global, marks: &[Mark], scan: u32) -> Result<Bytes, Memory>
+    ensures { IfOk result (λ words. words ≡ marks_text (marks_at scan marks.now)) }
+{
+    let mut words = Bytes::new(alloc);
+    let marks = marks_at(alloc, marks, scan)?;
+    add_marks_text(&mut words, marks.as_slice())?;
+    Ok(words)
+}
+
 // The row of a scan in the table of changes.
 fn add_row(
     page: &mut Page,
@@ -114,15 +124,13 @@ fn add_row(
         row_of sheet.now.app.now sheet.now.recording.now.names.items sheet.now.marks.now
         (option_map (λ m. m.now) before.entry) moment.entry.now) }
 {
-    let mut time = Bytes::new(sheet.alloc);
-    add_short(&mut time, moment.now)?;
+    let mut time = Buffer::new();
     let names = sheet.recording.names.as_slice();
     let changes = changes_of(sheet.alloc, sheet.app, names, before, moment)?;
-    let marks = marks_at(sheet.alloc, sheet.marks, moment.scan)?;
-    let expected = marks_text(sheet.alloc, marks.as_slice())?;
+    let expected = expected_of(sheet.alloc, sheet.marks, moment.scan)?;
     add_cells(
         page,
-        time.as_slice(),
+        time.format(moment.now).as_bytes(),
         changes.as_slice(),
         expected.as_slice(),
     )

@@ -11,8 +11,8 @@ ghost use Rattle.ps_page.specs.Diagram.{marks_at, marks_class, marks_text, scan_
 
 use crate::changes::add_changes;
 use crate::drawing::{
-    Lane, add_lane, add_upright_path, base_lines, break_lines, event_of, tick_lines, time_of,
-    value_at,
+    Lane, add_bases, add_breaks, add_lane, add_numbered, add_ticks, add_time, add_upright_path,
+    event_of, value_at,
 };
 use crate::scale::{Scan, scans_of, unit_of};
 use ps_base::{Bytes, Memory};
@@ -133,18 +133,16 @@ fn add_marks(words: &mut Bytes, marks: &[Mark]) -> Result<(), Memory>
     Ok(())
 }
 
-/// Expectations by their lines, as `line 23, 25 FAIL`.
-pub(crate) fn marks_text(alloc: Global, marks: &[Mark]) -> Result<Bytes, Memory>
-    ensures { IfOk result (λ words. words ≡ marks_text marks.now) }
+/// Expectations by their lines, as `line 23, 25 FAIL`, behind others.
+pub(crate) fn add_marks_text(words: &mut Bytes, marks: &[Mark]) -> Result<(), Memory>
+    ensures { OnOk result (words.new ≡ words.old ++ marks_text marks.now) }
 {
-    let mut words = Bytes::new(alloc);
     match marks {
-        [] => Ok(words),
+        [] => Ok(()),
         [first, rest @ ..] => {
             words.extend_from_slice(b"line ")?;
-            add_mark(&mut words, first)?;
-            add_marks(&mut words, rest)?;
-            Ok(words)
+            add_mark(words, first)?;
+            add_marks(words, rest)
         }
     }
 }
@@ -214,7 +212,8 @@ fn add_expected(
     if marks.is_empty() {
         return Ok(());
     }
-    let words = marks_text(alloc, marks)?;
+    let mut words = Bytes::new(alloc);
+    add_marks_text(&mut words, marks)?;
     add_upright_path(page, alloc, b"mark", x, bottom)?;
     add_words(page, marks_class(marks), x, 26, words.as_slice())
 }
@@ -251,21 +250,9 @@ fn add_scans(
 }
 
 // The times of scans below the lines.
-fn add_times(
-    page: &mut Page,
-    alloc: Global,
-    scans: &[Scan<'_>],
-    bottom: u32,
-) -> Result<(), Memory> {
+fn add_times(page: &mut Page, scans: &[Scan<'_>], bottom: u32) -> Result<(), Memory> {
     for scan in scans {
-        let words = time_of(alloc, scan)?;
-        add_above(
-            page,
-            b"time",
-            scan.x,
-            bottom.saturating_add(14),
-            words.as_slice(),
-        )?;
+        add_time(page, scan, bottom)?;
     }
     Ok(())
 }
@@ -281,6 +268,45 @@ fn add_lanes(page: &mut Page, sheet: &Sheet<'_>, scans: &[Scan<'_>]) -> Result<(
     Ok(())
 }
 
+// The right side of the last one of scans.
+fn end_of(scans: &[Scan<'_>]) -> u32 {
+    match scans.last() {
+        Some(scan) => scan.end,
+        None => LEFT,
+    }
+}
+
+// The lines on which a picture is drawn, of one class.
+fn add_ticks_path(
+    page: &mut Page,
+    alloc: Global,
+    scans: &[Scan<'_>],
+    bottom: u32,
+) -> Result<(), Memory> {
+    let mut ticks = Bytes::new(alloc);
+    add_ticks(&mut ticks, scans, bottom)?;
+    add_path(page, b"tick", ticks.as_slice())
+}
+
+// The lines of FALSE, up to the right side of the last scan.
+fn add_bases_path(page: &mut Page, sheet: &Sheet<'_>, end: u32) -> Result<(), Memory> {
+    let mut bases = Bytes::new(sheet.alloc);
+    add_bases(&mut bases, sheet.lanes, end)?;
+    add_path(page, b"base", bases.as_slice())
+}
+
+// The signs of breaks.
+fn add_breaks_path(
+    page: &mut Page,
+    alloc: Global,
+    scans: &[Scan<'_>],
+    bottom: u32,
+) -> Result<(), Memory> {
+    let mut breaks = Bytes::new(alloc);
+    add_breaks(&mut breaks, scans, bottom)?;
+    add_path(page, b"break", breaks.as_slice())
+}
+
 // What stands below the lines of a picture, and what they are drawn on.
 fn add_ground(
     page: &mut Page,
@@ -288,13 +314,9 @@ fn add_ground(
     scans: &[Scan<'_>],
     bottom: u32,
 ) -> Result<(), Memory> {
-    let end = scans.last().map_or(LEFT, |scan| scan.end);
-    let ticks = tick_lines(sheet.alloc, scans, bottom)?;
-    let bases = base_lines(sheet.alloc, sheet.lanes, end)?;
-    let breaks = break_lines(sheet.alloc, scans, bottom)?;
-    add_path(page, b"tick", ticks.as_slice())?;
-    add_path(page, b"base", bases.as_slice())?;
-    add_path(page, b"break", breaks.as_slice())?;
+    add_ticks_path(page, sheet.alloc, scans, bottom)?;
+    add_bases_path(page, sheet, end_of(scans))?;
+    add_breaks_path(page, sheet.alloc, scans, bottom)?;
     add_words(page, b"name", LEFT - 8, 26, b"expected at")?;
     add_words(
         page,
@@ -303,36 +325,34 @@ fn add_ground(
         bottom.saturating_add(14),
         b"time in ms",
     )?;
-    add_times(page, sheet.alloc, scans, bottom)
+    add_times(page, scans, bottom)
 }
 
 // The part of a picture that is seen.
-fn view_box(alloc: Global, height: u32) -> Result<Bytes, Memory> {
-    let mut words = Bytes::new(alloc);
-    words.extend_from_slice(b"0 0 ")?;
-    add_short(&mut words, WIDTH)?;
-    words.extend_from_slice(b" ")?;
-    add_short(&mut words, height)?;
-    Ok(words)
+fn add_view(words: &mut Bytes, height: u32) -> Result<(), Memory> {
+    add_numbered(words, b"0 0 ", WIDTH)?;
+    add_numbered(words, b" ", height)
+}
+
+// The time of a scan in ms, if there is one.
+fn time_of(scan: Option<&Scan<'_>>) -> u32 {
+    match scan {
+        Some(scan) => scan.moment.now,
+        None => 0,
+    }
 }
 
 // What a picture shows, in words.
-fn title_of(alloc: Global, scans: &[Scan<'_>]) -> Result<Bytes, Memory> {
-    let mut words = Bytes::new(alloc);
-    words.extend_from_slice(b"Timing diagram from ")?;
-    add_short(&mut words, scans.first().map_or(0, |scan| scan.moment.now))?;
-    words.extend_from_slice(b" ms to ")?;
-    add_short(&mut words, scans.last().map_or(0, |scan| scan.moment.now))?;
-    words.extend_from_slice(b" ms; the table below it says the same")?;
-    Ok(words)
+fn add_title(words: &mut Bytes, scans: &[Scan<'_>]) -> Result<(), Memory> {
+    add_numbered(words, b"Timing diagram from ", time_of(scans.first()))?;
+    add_numbered(words, b" ms to ", time_of(scans.last()))?;
+    words.extend_from_slice(b" ms; the table below it says the same")
 }
 
 // What a picture is called within the page.
-fn id_of(alloc: Global, id: &[u8], number: u32) -> Result<Bytes, Memory> {
-    let mut words = Bytes::from_slice(alloc, id)?;
-    words.extend_from_slice(b"-")?;
-    add_short(&mut words, number)?;
-    Ok(words)
+fn add_id(words: &mut Bytes, id: &[u8], number: u32) -> Result<(), Memory> {
+    words.extend_from_slice(id)?;
+    add_numbered(words, b"-", number)
 }
 
 // How high a picture of so many names is.
@@ -340,6 +360,29 @@ fn height_of(lanes: usize) -> u32
     ensures { result ≡ height_of lanes }
 {
     (lanes.min(1000) as u32) * LANE + TOP + 20
+}
+
+// The beginning of a picture: what it is called, the part of it that is seen, and what it shows.
+fn add_frame<'x>(
+    page: &mut Page,
+    height: u32,
+    id: &'x [u8],
+    view: &'x [u8],
+    title: &'x [u8],
+) -> Result<(), Memory> {
+    add_parts(
+        page,
+        &[
+            Part::Begin(Tag::Svg),
+            Part::Attribute(Key::Role, b"img"),
+            Part::Attribute(Key::LabelledBy, id),
+            Part::Number(Key::Width, WIDTH),
+            Part::Number(Key::Height, height),
+            Part::Attribute(Key::ViewBox, view),
+            Part::Inside,
+            Part::Marked(Tag::Title, Key::Id, id, title),
+        ],
+    )
 }
 
 // The beginning of a picture, by its number among those of the case.
@@ -350,21 +393,18 @@ fn add_front(
     scans: &[Scan<'_>],
     height: u32,
 ) -> Result<(), Memory> {
-    let id = id_of(sheet.alloc, sheet.id, number)?;
-    let view = view_box(sheet.alloc, height)?;
-    let title = title_of(sheet.alloc, scans)?;
-    add_parts(
+    let mut id = Bytes::new(sheet.alloc);
+    add_id(&mut id, sheet.id, number)?;
+    let mut view = Bytes::new(sheet.alloc);
+    add_view(&mut view, height)?;
+    let mut title = Bytes::new(sheet.alloc);
+    add_title(&mut title, scans)?;
+    add_frame(
         page,
-        &[
-            Part::Begin(Tag::Svg),
-            Part::Attribute(Key::Role, b"img"),
-            Part::Attribute(Key::LabelledBy, id.as_slice()),
-            Part::Number(Key::Width, WIDTH),
-            Part::Number(Key::Height, height),
-            Part::Attribute(Key::ViewBox, view.as_slice()),
-            Part::Inside,
-            Part::Marked(Tag::Title, Key::Id, id.as_slice(), title.as_slice()),
-        ],
+        height,
+        id.as_slice(),
+        view.as_slice(),
+        title.as_slice(),
     )
 }
 
@@ -418,8 +458,7 @@ fn add_pictures(page: &mut Page, sheet: &Sheet<'_>) -> Result<(), Memory>
 }
 
 // What of a case is not drawn, in words.
-fn left_out(alloc: Global, sheet: &Sheet<'_>) -> Result<Bytes, Memory> {
-    let mut words = Bytes::new(alloc);
+fn add_left_out(words: &mut Bytes, sheet: &Sheet<'_>) -> Result<(), Memory> {
     words.extend_from_slice(
         b"Inputs, outputs, instances and what is expected of others; scans in which nothing changes are left out.",
     )?;
@@ -427,16 +466,16 @@ fn left_out(alloc: Global, sheet: &Sheet<'_>) -> Result<Bytes, Memory> {
         words.extend_from_slice(b" Of many names only those are drawn that change.")?;
     }
     if sheet.recording.is_cut {
-        words.extend_from_slice(b" Only the first ")?;
-        add_short(&mut words, MOST_MOMENTS as u32)?;
+        add_numbered(words, b" Only the first ", MOST_MOMENTS as u32)?;
         words.extend_from_slice(b" changes are shown.")?;
     }
-    Ok(words)
+    Ok(())
 }
 
 // What stands below the pictures of a case.
 fn caption_of(sheet: &Sheet<'_>) -> Result<Page, Memory> {
-    let words = left_out(sheet.alloc, sheet)?;
+    let mut words = Bytes::new(sheet.alloc);
+    add_left_out(&mut words, sheet)?;
     let mut page = Page::new(sheet.alloc);
     add_parts(
         &mut page,

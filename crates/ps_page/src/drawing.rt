@@ -5,11 +5,12 @@ ghost use Rattle.std.specs.List.{flat_map};
 ghost use Rattle.ps_page.specs.Diagram.{band_of, event_of, lane_pieces, span_of, upright_pieces, value_at, values_of};
 
 use crate::scale::Scan;
+use itoa::Buffer;
 use ps_base::{Bytes, Memory};
 use ps_bench_base::pieces::add_short;
 use ps_markup::{
-    Page, Span, TOP, add_band, add_base, add_level, add_path, add_row_name, add_upright, merged,
-    room_in,
+    Page, Span, TOP, add_band, add_base, add_level, add_path, add_row_name, add_upright, add_words,
+    merged, room_in,
 };
 use ps_model::App;
 use ps_recorder::{Course, Moment};
@@ -105,17 +106,16 @@ pub(crate) fn add_lane(
     add_values(page, alloc, app, lane, spans.as_slice())
 }
 
-/// The lines of FALSE below the lines of signals and pins, up to a right side.
-pub(crate) fn base_lines(alloc: Global, lanes: &[Lane], end: u32) -> Result<Bytes, Memory> {
-    let mut lines = Bytes::new(alloc);
+/// The lines of FALSE below the lines of signals and pins, up to a right side, behind other lines.
+pub(crate) fn add_bases(lines: &mut Bytes, lanes: &[Lane], end: u32) -> Result<(), Memory> {
     for lane in lanes {
         match lane.name {
             Name::Code(_) => (),
-            Name::Signal(_) => add_base(&mut lines, lane.row, end)?,
-            Name::Pin { .. } => add_base(&mut lines, lane.row, end)?,
+            Name::Signal(_) => add_base(lines, lane.row, end)?,
+            Name::Pin { .. } => add_base(lines, lane.row, end)?,
         }
     }
-    Ok(lines)
+    Ok(())
 }
 
 /// An upright line of this class from the top to a bottom.
@@ -133,13 +133,12 @@ pub(crate) fn add_upright_path(
     add_path(page, class, lines.as_slice())
 }
 
-/// An upright line at the beginning of each scan.
-pub(crate) fn tick_lines(alloc: Global, scans: &[Scan<'_>], bottom: u32) -> Result<Bytes, Memory> {
-    let mut lines = Bytes::new(alloc);
+/// An upright line at the beginning of each scan, behind other lines.
+pub(crate) fn add_ticks(lines: &mut Bytes, scans: &[Scan<'_>], bottom: u32) -> Result<(), Memory> {
     for scan in scans {
-        add_upright(&mut lines, scan.x, TOP - 4, bottom)?;
+        add_upright(lines, scan.x, TOP - 4, bottom)?;
     }
-    Ok(lines)
+    Ok(())
 }
 
 /// What happens to the world at a scan, in words; nothing where it runs on.
@@ -153,33 +152,36 @@ pub(crate) fn event_of(moment: &Moment) -> &'static [u8]
     }
 }
 
+/// Words and a number, behind others.
+pub(crate) fn add_numbered(words: &mut Bytes, before: &[u8], number: u32) -> Result<(), Memory> {
+    words.extend_from_slice(before)?;
+    add_short(words, number)
+}
+
 // The sign of a break at the end of a scan, behind other lines.
 fn add_break(lines: &mut Bytes, scan: &Scan<'_>, bottom: u32) -> Result<(), Memory> {
-    lines.extend_from_slice(b"M")?;
-    add_short(lines, scan.end.saturating_sub(20))?;
-    lines.extend_from_slice(b" ")?;
-    add_short(lines, bottom.saturating_add(4))?;
+    add_numbered(lines, b"M", scan.end.saturating_sub(20))?;
+    add_numbered(lines, b" ", bottom.saturating_add(4))?;
     lines.extend_from_slice(b"l4 -9m4 0l-4 9")
 }
 
-/// The signs of breaks at the ends of scans.
-pub(crate) fn break_lines(alloc: Global, scans: &[Scan<'_>], bottom: u32) -> Result<Bytes, Memory> {
-    let mut lines = Bytes::new(alloc);
+/// The signs of breaks at the ends of scans, behind other lines.
+pub(crate) fn add_breaks(lines: &mut Bytes, scans: &[Scan<'_>], bottom: u32) -> Result<(), Memory> {
     for scan in scans {
         if scan.is_broken {
-            add_break(&mut lines, scan, bottom)?;
+            add_break(lines, scan, bottom)?;
         }
     }
-    Ok(lines)
+    Ok(())
 }
 
-/// The time of a scan, where it has room.
-pub(crate) fn time_of(alloc: Global, scan: &Scan<'_>) -> Result<Bytes, Memory> {
-    let mut words = Bytes::new(alloc);
-    add_short(&mut words, scan.moment.now)?;
+/// The time of a scan below the lines, where it has room.
+pub(crate) fn add_time(page: &mut Page, scan: &Scan<'_>, bottom: u32) -> Result<(), Memory> {
+    let mut digits = Buffer::new();
+    let words = digits.format(scan.moment.now).as_bytes();
     let width = scan.end.saturating_sub(scan.x).saturating_add(6);
-    if room_in(words.as_slice(), width).len() < words.len() {
-        return Ok(Bytes::new(alloc));
+    if room_in(words, width).len() < words.len() {
+        return Ok(());
     }
-    Ok(words)
+    add_words(page, b"time", scan.x, bottom.saturating_add(14), words)
 }

@@ -1,13 +1,14 @@
 //! Head, tables, texts and foot of a report.
 
-ghost use Rattle.std.specs.Prelude.{◌≡◌, ◌++◌, IfOk, OnOk, codes, decimal, if◌then◌else◌};
+ghost use Rattle.std.specs.Prelude.{◌≡◌, ◌++◌, IfOk, OnOk, codes, if◌then◌else◌};
 ghost use Rattle.ps_bench_base.specs.Pieces.{place_text};
 ghost use Rattle.ps_page.specs.Results.{case_front, case_row, class_of, result_row, word_of};
 ghost use Rattle.ps_page.specs.Files.{file_row, text_part};
 ghost use Rattle.ps_told.specs.Outcome.{passes, ran_of};
 
+use itoa::Buffer;
 use ps_base::{Bytes, Memory};
-use ps_bench_base::pieces::{add_place, add_short};
+use ps_bench_base::pieces::add_place;
 use ps_markup::{Key, Page, Part, Tag, add_parts};
 use ps_told::CaseRun;
 use std::alloc::Global;
@@ -143,15 +144,6 @@ fn place_of(alloc: Global, name: &[u8], line: u32) -> Result<Bytes, Memory>
     Ok(text)
 }
 
-// A number.
-fn number_of(alloc: Global, number: u32) -> Result<Bytes, Memory>
-    ensures { IfOk result (λ text. text ≡ decimal number) }
-{
-    let mut text = Bytes::new(alloc);
-    add_short(&mut text, number)?;
-    Ok(text)
-}
-
 // The row of a case of this name: its place, its result, and how many scans it made.
 fn add_result<'x>(
     page: &mut Page,
@@ -180,9 +172,15 @@ pub fn add_case(page: &mut Page, alloc: Global, run: &CaseRun<'_>) -> Result<(),
     ensures { OnOk result (page.new ≡ page.old ++ case_row (ran_of run.now)) }
 {
     let place = place_of(alloc, run.name.as_bytes(), run.case.line)?;
-    let scans = number_of(alloc, run.outcome.scans)?;
+    let mut scans = Buffer::new();
     let name = run.case.name.as_str().as_bytes();
-    add_result(page, name, place.as_slice(), run.passed(), scans.as_slice())
+    add_result(
+        page,
+        name,
+        place.as_slice(),
+        run.passed(),
+        scans.format(run.outcome.scans).as_bytes(),
+    )
 }
 
 /// The beginning of the part of a case: its name, and what is told of it.

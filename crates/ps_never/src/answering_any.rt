@@ -1,24 +1,80 @@
 // The answer to a rules file.
 
-ghost use Rattle.std.specs.Prelude.{◌≡◌, ◌<◌, ◌≤◌, ℕ, List, IsTrue, Some, Err, IfOk, IsErrOf, IsSome};
+ghost use Rattle.std.specs.Prelude.{◌≡◌, ◌<◌, ◌≤◌, ℕ, List, IsTrue, Some, Err, IfOk, IsErrOf, IsSome, count_by};
 ghost use Rattle.ps_outside.specs.Outside.{Rose};
+ghost use Rattle.ps_reach.specs.Reaching.{is_free};
 ghost use Rattle.ps_rules.specs.File.{pace_of};
 ghost use Rattle.ps_rules.specs.Standing.{IsOfApplication};
 ghost use Rattle.ps_rules.specs.declared.flaw.RulesRefusal.{RulesRefusal as RulesRefusalOf};
 ghost use Rattle.ps_rules.specs.declared.rules.Pace.TheVariants.{Any as AtAnyTimes};
 ghost use Rattle.ps_never.specs.Answering.{HasManyFree};
-ghost use Rattle.ps_never.specs.AnsweringAny.{IsRefusedFor, IsTold, IsToldOf, IsToldOfAny};
+ghost use Rattle.ps_never.specs.Asked.{IsAskedBy, input_rules};
+ghost use Rattle.ps_never.specs.AnsweringAny.{IsRefusedFor, IsTold, IsToldBehind, IsToldOf, IsToldOfAny};
 
 use crate::answering::{NeverFail, Told, answer_every, asked_if_few};
 use crate::searching::attempts_of;
 use crate::telling_any::{Searched, told};
 use ps_anytime::never_at_any_times;
+use ps_base::Memory;
 use ps_counted::{holds_whole, paces_of};
 use ps_model::App;
 use ps_outside::Files;
+use ps_reach::Asked;
 use ps_rules::{Pace, Purpose, RulesFail, RulesFile, read_rules};
-use ps_search::Observer;
+use ps_search::{Found, Observer};
 use std::alloc::Global;
+
+// What is told behind a search at any times.
+fn told_behind<W: Observer>(
+    alloc: Global,
+    app: &App,
+    name: &str,
+    file: &RulesFile,
+    whole: &Option<Found>,
+    most: u32,
+    observer: &mut W,
+) -> Result<Told, Memory>
+    requires some { 0 < most }
+    requires stands { IsOfApplication app.now file.now }
+    requires few { count_by is_free (input_rules app.now file.now) ≤ 20 }
+    ensures { IfOk result (IsToldBehind app.now name.now most file.now whole.now) }
+{
+    let attempts = attempts_of(alloc, app, file, paces_of(whole), most, observer)?;
+    let searched = Searched {
+        app,
+        file: name,
+        rules: file.rules.as_slice(),
+        most,
+        whole,
+        attempts: attempts.as_slice(),
+    };
+    let text = told(alloc, &searched)?;
+    Ok(Told {
+        text,
+        do_all_hold: holds_whole(whole),
+    })
+}
+
+// The answer to what a rules file asks whose scans come at any times.
+fn answer_asked<W: Observer>(
+    alloc: Global,
+    app: &App,
+    name: &str,
+    file: &RulesFile,
+    asked: &Asked,
+    most: u32,
+    observer: &mut W,
+) -> Result<Told, Memory>
+    requires some { 0 < most }
+    requires stands { IsOfApplication app.now file.now }
+    requires pace { pace_of file.now ≡ AtAnyTimes }
+    requires asks { IsAskedBy app.now file.now 0 asked.now }
+    requires few { count_by is_free asked.now.inputs.items ≤ 20 }
+    ensures { IfOk result (IsToldOfAny app.now name.now most file.now) }
+{
+    let whole = never_at_any_times(alloc, app, asked, most, observer)?;
+    told_behind(alloc, app, name, file, &whole, most, observer)
+}
 
 // The answer to a rules file that is read, whose scans come at any times.
 fn answer_any<W: Observer>(
@@ -37,21 +93,8 @@ fn answer_any<W: Observer>(
     ensures read { ¬ IsErrOf result NeverFail.Fault }
 {
     let asked = asked_if_few(alloc, app, file, 0)?;
-    let whole = never_at_any_times(alloc, app, &asked, most, observer)?;
-    let attempts = attempts_of(alloc, app, file, paces_of(&whole), most, observer)?;
-    let searched = Searched {
-        app,
-        file: name,
-        rules: file.rules.as_slice(),
-        most,
-        whole: &whole,
-        attempts: attempts.as_slice(),
-    };
-    let text = told(alloc, &searched)?;
-    Ok(Told {
-        text,
-        do_all_hold: holds_whole(&whole),
-    })
+    let told = answer_asked(alloc, app, name, file, &asked, most, observer)?;
+    Ok(told)
 }
 
 // The answer to a rules file that is read.

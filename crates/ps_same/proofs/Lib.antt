@@ -1,5 +1,3 @@
--- texts, one behind the other
-pub mod Joining
 -- what inputs follow are inputs and outputs
 pub mod Sharing
 -- what is asked of both

@@ -1,14 +1,18 @@
 // The answer to two applications.
 
-ghost use Rattle.std.specs.Prelude.{◌≡◌, ◌<◌, ◌≤◌, ℕ, List, Any, Err, IfOk, IsErrOf, nat_lt, option_map, true};
+ghost use Rattle.std.specs.Prelude.{◌≡◌, ◌<◌, ◌≤◌, ℕ, List, Any, Err, IfOk, IsErrOf, count_by, nat_lt, option_map, true};
 ghost use Rattle.std.specs.List.{list_all};
 ghost use Rattle.ps_outside.specs.Outside.{Rose};
+ghost use Rattle.ps_pairs.specs.Outputs.{AsksOutputs, FollowsShared};
 ghost use Rattle.ps_pairs.specs.Promised.{HaveAsMany};
+ghost use Rattle.ps_reach.specs.Promised.{SaysOfEach};
+ghost use Rattle.ps_reach.specs.Reaching.{is_free};
 ghost use Rattle.ps_rules.specs.File.{pace_of};
 ghost use Rattle.ps_rules.specs.declared.flaw.RulesRefusal.{RulesRefusal as RulesRefusalOf};
 ghost use Rattle.ps_rules.specs.declared.rules.Pace.TheVariants.{Any as AtAnyTimes};
 ghost use Rattle.ps_rules.specs.declared.rules.Follow.{Follow as FollowOf};
-ghost use Rattle.ps_same.specs.Answering.{HasManyFree, IsFound, IsFoundBy, IsFoundOf, IsFoundPlain, IsToldBy, are_shared, names_of, no_settings, refused_by};
+ghost use Rattle.ps_same.specs.Answering.{AreAskedBy, HasManyFree, IsFound, IsFoundBy, IsFoundOf, IsFoundPlain, IsToldBy, IsToldFor};
+ghost use Rattle.ps_same.specs.Answering.{are_shared, names_of, no_settings, refused_by};
 ghost use Rattle.ps_counted.specs.Comparing.{two_of};
 
 use crate::telling::told;
@@ -18,7 +22,7 @@ use ps_model::App;
 use ps_never::inputs_of_two;
 use ps_outside::Files;
 use ps_pairs::{asked_of_outputs, compare};
-use ps_reach::{MOST_FREE, free_inputs};
+use ps_reach::{Asked, MOST_FREE, free_inputs};
 use ps_rules::{
     Flaw, Follow, Follows, Pace, Purpose, Rules, RulesFail, RulesFile, RulesRefusal, read_rules,
 };
@@ -93,6 +97,51 @@ fn are_shared(app: &App, file: &RulesFile) -> bool
     )
 }
 
+// What is asked of both by the settings of a rules file, with so many ms from scan to scan.
+fn asked_by(
+    alloc: Global,
+    compared: &Compared<'_>,
+    file: &RulesFile,
+    every: u32,
+) -> Result<Asked, Memory>
+    requires { HaveAsMany compared.now.app.now compared.now.other.now }
+    ensures { IfOk result (AreAskedBy compared.now.app.now compared.now.other.now file.now every) }
+{
+    let inputs = inputs_of_two(alloc, compared.app, compared.other, file)?;
+    let asked = asked_of_outputs(alloc, compared.app, every, inputs)?;
+    Ok(asked)
+}
+
+// The answer to what is asked of both.
+fn answer_asked<W: Observer>(
+    alloc: Global,
+    compared: &Compared<'_>,
+    asked: &Asked,
+    observer: &mut W,
+) -> Result<Told, Memory>
+    requires some { 0 < compared.now.most }
+    requires many { HaveAsMany compared.now.app.now compared.now.other.now }
+    requires says { SaysOfEach compared.now.app.now asked.now }
+    requires few { count_by is_free asked.now.inputs.items ≤ 20 }
+    requires outputs { AsksOutputs compared.now.app.now asked.now }
+    requires shared { FollowsShared compared.now.app.now asked.now }
+    ensures { IfOk result (IsToldFor (two_of compared.now) asked.now) }
+{
+    let found = compare(
+        alloc,
+        compared.app,
+        compared.other,
+        asked,
+        compared.most,
+        observer,
+    )?;
+    let text = told(alloc, compared, asked, &found)?;
+    Ok(Told {
+        text,
+        are_same: do_all_hold(&found),
+    })
+}
+
 // The answer by the settings of a rules file.
 fn answer_by<W: Observer>(
     alloc: Global,
@@ -113,24 +162,12 @@ fn answer_by<W: Observer>(
         Pace::Every(every) => every,
         Pace::Any => return Err(SameFail::AnyTimes),
     };
-    let inputs = inputs_of_two(alloc, compared.app, compared.other, file)?;
-    let asked = asked_of_outputs(alloc, compared.app, every, inputs)?;
+    let asked = asked_by(alloc, compared, file, every)?;
     if free_inputs(asked.inputs.as_slice()) > MOST_FREE as usize {
         return Err(SameFail::ManyFree);
     }
-    let found = compare(
-        alloc,
-        compared.app,
-        compared.other,
-        &asked,
-        compared.most,
-        observer,
-    )?;
-    let text = told(alloc, compared, &asked, &found)?;
-    Ok(Told {
-        text,
-        are_same: do_all_hold(&found),
-    })
+    let told = answer_asked(alloc, compared, &asked, observer)?;
+    Ok(told)
 }
 
 // The answer where no rules file is named: scans come 10 ms apart, and nothing is said of any input.

@@ -3,16 +3,19 @@
 ghost use Rattle.std.specs.Prelude.{◌≡◌, ◌+◌, ◌<◌, ◌≤◌, ◌++◌, ℕ, All, List, [], Option, Some, OnOk, IfOk, codes, count_by, false, length, map, slice_get, slice_index_or};
 ghost use Rattle.std.specs.List.{flat_map, range_with_len};
 ghost use Rattle.ps_model.specs.Network.{input_count};
-ghost use Rattle.ps_never.specs.Casing.{set_text};
+ghost use Rattle.ps_never.specs.Casing.{inputs_at, set_text};
 ghost use Rattle.ps_pairs.specs.Answering.{IsOfOneRule};
 ghost use Rattle.ps_pairs.specs.Outputs.{AsksOutputs};
 ghost use Rattle.ps_pairs.specs.Promised.{HaveAsMany};
+ghost use Rattle.ps_reach.specs.Asking.{at_first};
 ghost use Rattle.ps_reach.specs.Promised.{SaysOfEach};
 ghost use Rattle.ps_reach.specs.Reaching.{is_free, scan_count};
+ghost use Rattle.ps_reach.specs.Telling.{inputs_from};
+ghost use Rattle.ps_reach.specs.Tracing.{inputs_in};
 ghost use Rattle.ps_search.specs.declared.answer.Found.{Found as FoundOf};
 ghost use Rattle.ps_search.specs.declared.answer.Path.{Path as PathOf};
 ghost use Rattle.ps_same.specs.Telling.{IsSaid, alike, counts_text, difference_case, expects_text, failing_text, fails_text};
-ghost use Rattle.ps_same.specs.Telling.{first_place, first_text, met_text, names_text, other_text, output_text, outputs_text};
+ghost use Rattle.ps_same.specs.Telling.{first_place, first_text, met_text, named_case, names_text, other_text, output_text, outputs_text};
 ghost use Rattle.ps_same.specs.Telling.{pairs_text, place_text, remark_text, scans_text, shortage_text, unmet_text, value_text};
 ghost use Rattle.ps_counted.specs.Comparing.{two_of};
 
@@ -22,7 +25,7 @@ use ps_counted::{Behind, Compared};
 use ps_model::App;
 use ps_never::{add_case, add_set, signal_text};
 use ps_pairs::outputs_behind;
-use ps_reach::{Asked, inputs_of};
+use ps_reach::{Asked, ScanInputs, inputs_of};
 use ps_search::{End, Found, Path};
 use std::alloc::Global;
 
@@ -250,6 +253,42 @@ fn case_name(alloc: Global, app: &App, place: usize) -> Result<Bytes, Memory>
     Ok(name)
 }
 
+// These scans as a case, whose name says that an output is as it was.
+fn add_named(
+    text: &mut Bytes,
+    alloc: Global,
+    app: &App,
+    every: u32,
+    scans: &[ScanInputs],
+    place: usize,
+) -> Result<(), Memory>
+    requires place { place ≤ length app.now.outputs }
+    requires few { (i : ℕ) → length (inputs_at (map inputs_in scans.now) i) < 65536 }
+    ensures { OnOk result (text.new ≡ text.old ++ named_case app.now every (map inputs_in scans.now) place) }
+{
+    let name = case_name(alloc, app, place)?;
+    add_case(text, app, name.as_slice(), every, &[], scans)
+}
+
+// The scans of a run as a case, whose name says that an output is as it was.
+fn add_run(
+    text: &mut Bytes,
+    alloc: Global,
+    app: &App,
+    asked: &Asked,
+    path: &Path,
+    place: usize,
+) -> Result<(), Memory>
+    requires says { SaysOfEach app.now asked.now }
+    requires place { place ≤ length app.now.outputs }
+    ensures { OnOk result (text.new ≡ text.old
+        ++ named_case app.now asked.now.every (inputs_from app.now asked.now (at_first app.now) path.now.inputs.items) place) }
+{
+    app.sound();
+    let scans = inputs_of(alloc, app, asked, path)?;
+    add_named(text, alloc, app, asked.every, scans.as_slice(), place)
+}
+
 // The case of a difference at an output.
 fn add_difference(
     text: &mut Bytes,
@@ -264,17 +303,7 @@ fn add_difference(
     requires place { place ≤ length app.now.outputs }
     ensures { OnOk result (text.new ≡ text.old ++ difference_case app.now asked.now path.now.inputs.items values.now place) }
 {
-    app.sound();
-    let scans = inputs_of(alloc, app, asked, path)?;
-    let name = case_name(alloc, app, place)?;
-    add_case(
-        text,
-        app,
-        name.as_slice(),
-        asked.every,
-        &[],
-        scans.as_slice(),
-    )?;
+    add_run(text, alloc, app, asked, path, place)?;
     add_outputs(text, app, values)
 }
 

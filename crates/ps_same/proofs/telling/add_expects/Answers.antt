@@ -1,6 +1,6 @@
 use Rattle.std.proofs.Common.{◌≡◌, ◌++◌, List, ℕ, OnOk, codes, subst}
 use Rattle.ps_bench_base.specs.Pieces.{shown}
-use Rattle.ps_same.proofs.Joining.{two_more}
+use Rattle.ps_never.proofs.JoiningAny.{two_more}
 use Rattle.ps_same.proofs.telling.add_expects.Goals as goal
 
 pub returns : goal.returns

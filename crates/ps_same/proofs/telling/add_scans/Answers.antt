@@ -1,6 +1,6 @@
 use Rattle.std.proofs.Common.{codes}
 use Rattle.ps_bench_base.specs.Pieces.{count_text}
-use Rattle.ps_same.proofs.Joining.{three_more}
+use Rattle.ps_never.proofs.JoiningAny.{three_more}
 use Rattle.ps_same.proofs.telling.add_scans.Goals as goal
 
 pub returns : goal.returns

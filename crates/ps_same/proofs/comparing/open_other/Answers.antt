@@ -1,5 +1,3 @@
-use Rattle.std.proofs.Common.{◌≡◌}
-use Rattle.ps_outside.specs.Outside.{Rose}
 use Rattle.ps_same.proofs.Coming.{ordered_other, reads_wanting, stops_wanting, writes_wanting}
 use Rattle.ps_same.proofs.comparing.open_other.Goals as goal
 

@@ -1,5 +1,5 @@
 -- What comes of a call with an application.
-use Rattle.std.proofs.Common.{◌≡◌, ◌⊎◌, ◌≤◌, ◌<◌, ◌+◌, ◌++◌, ◌∷◌, [], ◌∙◌, ℕ, zero, Bool, List, Any, Option, Result, Ok, Err, IsTrue, length, take, inl, inr, refl, sym, ap, subst, arith}
+use Rattle.std.proofs.Common.{◌≡◌, ◌≤◌, ◌++◌, ◌∷◌, [], ◌∙◌, ℕ, zero, Bool, List, Any, Option, Result, Ok, Err, IsTrue, take, inr, refl, sym, ap, subst, arith}
 use Rattle.std.specs.Prelude.{IfErr, IfOk}
 use Rattle.ps_bench_base.proofs.Stopped.{rose_since, took_part}
 use Rattle.ps_bench_base.specs.Ending.{IsUnread}
@@ -12,8 +12,9 @@ use Rattle.ps_markup.specs.declared.page.Piece.{Piece}
 use Rattle.ps_model.specs.Network.{Network}
 use Rattle.ps_model.specs.declared.channel.ImageSizes.{ImageSizes}
 use Rattle.ps_outside.specs.Outside.{Rose}
-use Rattle.ps_reporting.specs.Asking.{AnswersReport, Ends, HasRows, IsReport, StopsReport}
+use Rattle.ps_reporting.specs.Asking.{AnswersReport, Ends, IsPageOf, IsReport, StopsReport}
 use Rattle.ps_reporting.specs.Results.{files_rows}
+use Rattle.ps_reporting.specs.Sections.{HaveSections, cases_of}
 use Rattle.ps_tester.specs.Testing.{AreRanFiles, FileRan}
 use Rattle.ps_tester.proofs.Stopped.{any_behind}
 
@@ -43,12 +44,19 @@ moved net sizes app names r r' h h' t t' b b' after ended r_is h_is t_is b_is en
     (subst (λ (x : Bool). Ends (source net sizes r' h') app names x b after ended) t_is
     (subst (λ (x : List ℕ). Ends (source net sizes r' h') app names t' x after ended) b_is ends)))
 
--- the rows of the files that were run stand in the report
-pub reported : (from : Source) (app : List ℕ) (names : List (List ℕ)) (rows none : List Piece) (text : List ℕ) (fs : List FileRan) →
-    AreRanFiles from app names fs → rows ≡ none ++ files_rows fs → none ≡ [] → HasRows rows text → IsReport from app names text
-reported from app names rows none text fs ran are empty has =
+-- the rows of the files that were run, and the parts of their cases, stand in the report
+pub reported : (from : Source) (app : List ℕ) (names : List (List ℕ)) (rows none sections nothing : List Piece) (text : List ℕ)
+    (fs : List FileRan) → AreRanFiles from app names fs → rows ≡ none ++ files_rows fs → none ≡ [] →
+    HaveSections (cases_of fs) nothing sections → nothing ≡ [] → IsPageOf rows sections text → IsReport from app names text
+reported from app names rows none sections nothing text fs ran are empty have first has =
     let is : rows ≡ files_rows fs = are ∙ ap (λ (t : List Piece). t ++ files_rows fs) empty in
-    (fs, ran, subst (λ (t : List Piece). HasRows t text) is has)
+    record {
+      files = fs;
+      ran = ran;
+      sections = sections;
+      drawn = subst (λ (t : List Piece). HaveSections (cases_of fs) t sections) first have;
+      is = subst (λ (t : List Piece). IsPageOf t sections text) is has;
+    }
 
 -- files were run before a call that changes none of them
 pub ran_moved : (net : Network) (sizes : ImageSizes) (app : List ℕ) (names : List (List ℕ)) (r r' : Bool)

@@ -1,5 +1,5 @@
 -- How a call stops at a case file, by its place among the words.
-use Rattle.std.proofs.Common.{◌≡◌, ◌⊎◌, ◌∙◌, ℕ, Bool, List, Option, IsTrue, inl, inr, refl, sym, subst}
+use Rattle.std.proofs.Common.{◌≡◌, ◌⊎◌, ◌∙◌, ℕ, Bool, List, Option, inl, inr, refl, sym, subst}
 use Rattle.ps_bench_base.specs.Ending.{IsUnread, stop_at, stop_status}
 use Rattle.ps_bench_base.specs.Opening.{Source, source}
 use Rattle.ps_bench_base.specs.Stopping.{StopsAtCases}

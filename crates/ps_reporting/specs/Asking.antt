@@ -1,5 +1,5 @@
 -- What `report` writes of an application and of case files, and how it stops.
-use Rattle.std.specs.Prelude.{◌≡◌, ◌⊎◌, ℕ, Bool, List, ◌++◌, Any, Option, Result, Ok, Err}
+use Rattle.std.specs.Prelude.{◌≡◌, ◌⊎◌, ℕ, Bool, List, [], ◌++◌, Any, Option, Result, Ok, Err}
 use Rattle.ps_bench_base.specs.Opening.{IsOfApp, Source, source}
 use Rattle.ps_bench_base.specs.Refusing.{refused_line}
 use Rattle.ps_bench_base.specs.Stopping.{StopsAtApp, StopsAtCases, StopsIn, Took, TookNothing}
@@ -12,18 +12,23 @@ use Rattle.ps_markup.specs.declared.page.Piece.{Piece}
 use Rattle.ps_model.specs.Network.{Network}
 use Rattle.ps_model.specs.declared.channel.ImageSizes.{ImageSizes}
 use Rattle.ps_reporting.specs.Results.{files_rows}
+use Rattle.ps_reporting.specs.Sections.{HaveSections, cases_of}
 use Rattle.ps_tester.specs.Testing.{AreRanFiles, FileRan}
 
 -- The text is that of a page, each piece of which is the program's own or a value that is escaped; these rows stand in
--- it, between what stands before them and behind them.
-abbrev pub HasRows : (rows : List Piece) → (text : List ℕ) → Type 0
-HasRows rows text = (front back : List Piece) × (text ≡ written (front ++ rows ++ back))
+-- it, and behind them these parts of cases, each with what stands before and behind it.
+abbrev pub IsPageOf : (rows sections : List Piece) → (text : List ℕ) → Type 0
+IsPageOf rows sections text =
+    (front between back : List Piece) × (text ≡ written (front ++ rows ++ between ++ sections ++ back))
 
 -- The text is the report of an application of this name and of the files of these names: all of their cases were run,
--- and the rows of its results are theirs.
-abbrev pub IsReport : Source → (app : List ℕ) → (names : List (List ℕ)) → (text : List ℕ) → Type 0
-IsReport from app names text =
-    (fs : List FileRan) × AreRanFiles from app names fs × HasRows (files_rows fs) text
+-- the rows of its results are theirs, and so are the parts of the cases, each with its timing diagram.
+pub record IsReport (from : Source) (app : List ℕ) (names : List (List ℕ)) (text : List ℕ) : Type 0 where
+  pub files : List FileRan
+  pub ran : AreRanFiles from app names files
+  pub sections : List Piece
+  pub drawn : HaveSections (cases_of files) [] sections
+  pub is : IsPageOf (files_rows files) sections text
 
 -- How a call stops with the application: its text cannot be read again, or memory is wanting, and nothing was written;
 -- without the cases of a file; or in the report that it writes.

@@ -1,3 +1,4 @@
 -- what `report` writes, and how it stops: what a reader of the clauses has to believe
 pub mod Results
+pub mod Sections
 pub mod Asking

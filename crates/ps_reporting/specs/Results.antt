@@ -1,5 +1,5 @@
 -- The rows of the results of files.
-use Rattle.std.specs.Prelude.{◌++◌, List, []}
+use Rattle.std.specs.Prelude.{List}
 use Rattle.std.specs.List.{flat_map}
 use Rattle.ps_markup.specs.declared.page.Piece.{Piece}
 use Rattle.ps_page.specs.Results.{case_row}

@@ -7,7 +7,7 @@ ghost use Rattle.ps_bench_words.specs.Seen.{seen};
 ghost use Rattle.ps_markup.specs.Writing.{written};
 ghost use Rattle.ps_model.specs.Typing.{Accepted};
 ghost use Rattle.ps_outside.specs.Outside.{Rose};
-ghost use Rattle.ps_reporting.specs.Asking.{AnswersReport, Ends, HasRows, StopsReport};
+ghost use Rattle.ps_reporting.specs.Asking.{AnswersReport, Ends, IsPageOf, StopsReport};
 
 use crate::running::{Bench, Beside, run_files};
 use crate::texts::{Shown, add_texts};
@@ -63,29 +63,54 @@ fn front_of(alloc: Global, asked: &Asked<'_>, files: Page) -> Result<Page, Memor
     Ok(page)
 }
 
-// What stands behind the rows of the results: the parts of the cases, and those that are texts.
-fn back_of(alloc: Global, shown: &Shown<'_>, sections: Page) -> Result<Page, Memory>
-    requires { Accepted shown.now.app.now }
-{
+// What stands between the rows of the results and the parts of the cases.
+fn between_of(alloc: Global) -> Result<Page, Memory> {
     let mut page = Page::new(alloc);
     close_table(&mut page)?;
     add_parts(
         &mut page,
         &[Part::Open(Tag::Section), Part::Element(Tag::H2, b"Cases")],
     )?;
-    page.join(sections)?;
+    Ok(page)
+}
+
+// What stands behind the parts of the cases: those that are texts, and the foot.
+fn back_of(alloc: Global, shown: &Shown<'_>) -> Result<Page, Memory>
+    requires { Accepted shown.now.app.now }
+{
+    let mut page = Page::new(alloc);
     add_parts(&mut page, &[Part::End(Tag::Section)])?;
     add_texts(&mut page, alloc, shown)?;
     add_foot(&mut page)?;
     Ok(page)
 }
 
-// The text of a page of three parts.
-fn text_of(alloc: Global, front: Page, rows: Page, back: Page) -> Result<Bytes, Memory>
-    ensures { IfOk result (λ text. text ≡ written (front ++ rows ++ back)) }
+// The pages that a report is made of, one behind another.
+#[derive(Drop)]
+struct Pages {
+    front: Page,
+    rows: Page,
+    between: Page,
+    sections: Page,
+    back: Page,
+}
+
+// The text of the pages of a report.
+fn text_of(alloc: Global, pages: Pages) -> Result<Bytes, Memory>
+    ensures { IfOk result (λ text.
+        text ≡ written (pages.front ++ pages.rows ++ pages.between ++ pages.sections ++ pages.back)) }
 {
+    let Pages {
+        front,
+        rows,
+        between,
+        sections,
+        back,
+    } = pages;
     let mut page = front;
     page.join(rows)?;
+    page.join(between)?;
+    page.join(sections)?;
     page.join(back)?;
     let mut text = Bytes::new(alloc);
     add_page(&mut text, &page)?;
@@ -102,7 +127,7 @@ fn report_text(
     beside: Beside<'_>,
 ) -> Result<Bytes, Memory>
     requires { Accepted sourced.now.opened.app }
-    ensures { IfOk result (HasRows rows) }
+    ensures { IfOk result (IsPageOf rows beside.entry.sections) }
 {
     let Beside {
         files,
@@ -117,9 +142,17 @@ fn report_text(
         cover: &cover,
     };
     let front = front_of(alloc, asked, files)?;
-    let back = back_of(alloc, &shown, sections)?;
-    let page = text_of(alloc, front, rows, back)?;
-    Ok(page)
+    let between = between_of(alloc)?;
+    let back = back_of(alloc, &shown)?;
+    let pages = Pages {
+        front,
+        rows,
+        between,
+        sections,
+        back,
+    };
+    let text = text_of(alloc, pages)?;
+    Ok(text)
 }
 
 // The source of the application of this name, with its row among the files.

@@ -13,6 +13,7 @@ ghost use Rattle.ps_model.specs.Typing.{Accepted};
 ghost use Rattle.ps_outside.specs.Outside.{Rose};
 ghost use Rattle.ps_page.specs.Results.{case_row};
 ghost use Rattle.ps_reporting.specs.Results.{cases_rows, files_rows};
+ghost use Rattle.ps_reporting.specs.Sections.{HasSection, HaveSections, cases_of};
 ghost use Rattle.ps_tester.specs.Testing.{AreRan, AreRanFiles, FileRan, IsRan, IsRanFile};
 ghost use Rattle.ps_told.specs.Outcome.{Ran};
 
@@ -68,7 +69,7 @@ fn run_case(
     requires runnable { IsRunnable bench.now.opened.now.app (whole_case named.now.file.now case.now) }
     ensures { OnOk result ((r : Ran)
         × IsRan bench.now.opened.now.app bench.now.name.now named.now.name.now named.now.file.now case.now r
-        × (rows.new ≡ rows.old ++ case_row r)) }
+        × (rows.new ≡ rows.old ++ case_row r) × HasSection r beside.old.sections beside.new.sections) }
 {
     let app = &bench.opened.app;
     let outcome = outcome_of(bench.alloc, app, named.file, case)?;
@@ -99,7 +100,7 @@ fn run_cases(
         IsRunnable bench.now.opened.now.app (whole_case named.now.file.now case)) cases.now }
     ensures { OnOk result ((rs : List Ran)
         × AreRan bench.now.opened.now.app bench.now.name.now named.now.name.now named.now.file.now cases.now rs
-        × (rows.new ≡ rows.old ++ cases_rows rs)) }
+        × (rows.new ≡ rows.old ++ cases_rows rs) × HaveSections rs beside.old.sections beside.new.sections) }
 {
     for case in cases {
         run_case(bench, named, case, rows, beside)?;
@@ -145,7 +146,8 @@ fn run_file<F: Files, O: Output>(
     requires { Accepted bench.now.opened.now.app }
     ensures ran { OnOk result ((f : FileRan)
         × IsRanFile (source bench.now.opened.now.app bench.now.opened.now.sizes (F.tells files.old) (F.held files.old))
-        bench.now.name.now name.now f × (rows.new ≡ rows.old ++ cases_rows f.ran)) }
+        bench.now.name.now name.now f × (rows.new ≡ rows.old ++ cases_rows f.ran)
+        × HaveSections f.ran beside.old.sections beside.new.sections) }
     ensures stops { IfErr result (λ stop. StopsAtCases
         (source bench.now.opened.now.app bench.now.opened.now.sizes (F.tells files.old) (F.held files.old)) name.now
         refused_line stop (O.tells out.old) (O.taken out.old) (O.taken out.new)) }
@@ -195,7 +197,8 @@ pub(crate) fn run_files<F: Files, O: Output>(
     ensures ran { OnOk result ((fs : List FileRan)
         × AreRanFiles
         (source bench.now.opened.now.app bench.now.opened.now.sizes (F.tells files.old) (F.held files.old))
-        bench.now.name.now (seen names.now) fs × (rows.new ≡ rows.old ++ files_rows fs)) }
+        bench.now.name.now (seen names.now) fs × (rows.new ≡ rows.old ++ files_rows fs)
+        × HaveSections (cases_of fs) beside.old.sections beside.new.sections) }
     ensures stops { IfErr result (λ stop. Any (λ (name : List ℕ). StopsAtCases
         (source bench.now.opened.now.app bench.now.opened.now.sizes (F.tells files.old) (F.held files.old)) name
         refused_line stop (O.tells out.old) (O.taken out.old) (O.taken out.new)) (seen names.now)) }

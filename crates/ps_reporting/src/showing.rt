@@ -1,9 +1,11 @@
 // The part of a case in a report, and what its scans show of the application.
 
-ghost use Rattle.std.specs.Prelude.{◌≡◌};
+ghost use Rattle.std.specs.Prelude.{◌≡◌, OnOk};
 ghost use Rattle.ps_cases.specs.Meant.{whole_case};
 ghost use Rattle.ps_cases.specs.Runnable.{IsRunnable};
 ghost use Rattle.ps_model.specs.Typing.{Accepted};
+ghost use Rattle.ps_reporting.specs.Sections.{HasDiagram, HasSection};
+ghost use Rattle.ps_told.specs.Outcome.{ran_of};
 
 use ps_accounting::add_trace;
 use ps_base::{Bytes, Memory};
@@ -35,6 +37,7 @@ fn id_of(alloc: Global, place: usize, line: u32) -> Result<Bytes, Memory> {
 fn add_drawn(page: &mut Page, alloc: Global, place: usize, run: &CaseRun<'_>) -> Result<(), Memory>
     requires accepted { Accepted run.now.app.now }
     requires runnable { IsRunnable run.now.app.now (whole_case run.now.file.now run.now.case.now) }
+    ensures { OnOk result (HasDiagram (ran_of run.now) page.old page.new) }
 {
     match record_case(alloc, run.app, run.file, run.case)? {
         Some(recording) => {
@@ -58,6 +61,7 @@ pub(crate) fn add_section(
 ) -> Result<(), Memory>
     requires accepted { Accepted run.now.app.now }
     requires runnable { IsRunnable run.now.app.now (whole_case run.now.file.now run.now.case.now) }
+    ensures { OnOk result (HasSection (ran_of run.now) page.old page.new) }
 {
     let told = case_report(alloc, Format::Text, &Tally::none(), run)?;
     open_case(page, run.case.name.as_str().as_bytes(), told.as_slice())?;

@@ -13,4 +13,5 @@ returns c = (
   },
   record { net_is = refl; app_is = refl; name_is = refl; file_is = refl; case_is = refl; outcome = c.in_ok-outcome.ensures },
   c.in_ok-add_case.ensures,
+  c.in_ok-add_section.ensures,
 )

@@ -5,6 +5,7 @@ use Rattle.ps_page.specs.Results.{case_row}
 use Rattle.ps_tester.specs.Testing.{AreRan}
 use Rattle.ps_tester.proofs.Running.{are_more, item_more}
 use Rattle.ps_reporting.proofs.Rows.{rows_more}
+use Rattle.ps_reporting.proofs.Sections.{section_more}
 use Rattle.ps_reporting.proofs.running.run_cases.Goals as goal
 
 pub loop-case-preserved : goal.loop-case-preserved
@@ -22,6 +23,7 @@ loop-case-preserved c =
           (sym (item_more c.args.cases.now place c.case-item.result below c.case-item.is))
           (are_more net word name file (take place c.args.cases.now) c.case-item.result old.0 new.0 old.1 new.1),
       rows_more case_row old.0 new.0 c.args.rows.now c.loop-case.rows c.run_case.new.rows old.2 new.2,
+      section_more old.0 new.0 c.args.beside.now.sections c.loop-case.beside.sections c.run_case.new.beside.sections old.3 new.3,
     )
 
 pub run_case-requires-clause-runnable : goal.run_case-requires-clause-runnable

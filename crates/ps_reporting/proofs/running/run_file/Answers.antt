@@ -8,4 +8,5 @@ returns-in-Ok-add_named-clause-ran g c =
       record { name = c.args.name.now; file = c.in-Ok.file; ran = ran.0 },
       record { name_is = refl; of_text = c.in-Ok.ensures.of_text; ran = subst (λ cs. AreRan c.args.bench.now.opened.now.app c.args.bench.now.name.now c.args.name.now c.in-Ok.file cs ran.0) c.as_slice.ensures ran.1 },
       ran.2,
+      ran.3,
     )

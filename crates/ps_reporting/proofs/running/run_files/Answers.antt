@@ -12,6 +12,7 @@ use Rattle.ps_tester.specs.Testing.{AreRanFiles, FileRan, IsRanFile}
 use Rattle.ps_tester.proofs.Running.{are_more_files, seen_more}
 use Rattle.ps_tester.proofs.Stopped.{word_any}
 use Rattle.ps_reporting.proofs.Rows.{rows_more}
+use Rattle.ps_reporting.proofs.Sections.{file_more}
 use Rattle.ps_reporting.proofs.Stopped.{stops_moved, stops_placed, unread_placed, unwritten_placed}
 use Rattle.ps_reporting.proofs.running.run_files.Goals as goal
 
@@ -38,6 +39,7 @@ loop-name-preserved g c =
             (subst (λ held. IsRanFile (source app sizes (g.F.Files.tells c.loop-name.files) held) word (get_or names place none).now new.0)
             c.loop-name.invariant.kept new.1))),
         rows_more (λ (f : FileRan). cases_rows f.ran) old.0 new.0 c.args.rows.now c.loop-name.rows c.run_file.new.rows old.2 new.2,
+        file_more old.0 new.0 c.args.beside.now.sections c.loop-name.beside.sections c.run_file.new.beside.sections old.3 new.3,
       );
       place = ap (λ n. n + 1) c.loop-name.invariant.place;
       unsaid = is.unsaid ∙ c.loop-name.invariant.unsaid;

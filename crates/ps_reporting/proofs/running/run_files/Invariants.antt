@@ -2,6 +2,7 @@ use Rattle.std.proofs.Common.{◌≡◌, ◌≤◌, ◌++◌, ℕ, List, take}
 use Rattle.ps_bench_base.specs.Opening.{source}
 use Rattle.ps_bench_words.specs.Seen.{seen}
 use Rattle.ps_reporting.specs.Results.{files_rows}
+use Rattle.ps_reporting.specs.Sections.{HaveSections, cases_of}
 use Rattle.ps_tester.specs.Testing.{AreRanFiles, FileRan}
 use Rattle.ps_reporting.proofs.running.run_files.Given as goal
 
@@ -10,7 +11,7 @@ invariant-loop-name g l =
     record {
       ran : (fs : List FileRan)
           × AreRanFiles (source l.bench.opened.now.app l.bench.opened.now.sizes (g.F.Files.tells l.fn.files) (g.F.Files.held l.fn.files)) l.bench.name.now (seen (take l.name-index l.names)) fs
-          × (l.rows ≡ l.fn.rows ++ files_rows fs);
+          × (l.rows ≡ l.fn.rows ++ files_rows fs) × HaveSections (cases_of fs) l.fn.beside.sections l.beside.sections;
       place : l.place ≡ l.name-index;
       unsaid : g.O.Sink.taken l.out ≡ g.O.Sink.taken l.fn.out;
       kept : g.F.Files.held l.files ≡ g.F.Files.held l.fn.files;

@@ -1,0 +1,22 @@
+use Rattle.std.proofs.Common.{◌++◌, ◌∙◌, List, ap, subst}
+use Rattle.std.proofs.lemmas.Result.{on_ok_weaker}
+use Rattle.ps_bench_words.specs.declared.asking.Format.TheVariants.{Text}
+use Rattle.ps_markup.specs.declared.page.Piece.{Piece}
+use Rattle.ps_page.specs.Results.{case_front}
+use Rattle.ps_results.specs.Report.{case_text}
+use Rattle.ps_reporting.specs.Sections.{HasDiagram}
+use Rattle.ps_told.specs.Outcome.{ran_of}
+use Rattle.ps_told.specs.declared.outcome.Tally.{Tally}
+use Rattle.ps_reporting.proofs.showing.add_section.Goals as goal
+
+pub returns : goal.returns
+returns c =
+    let r = ran_of c.args.run.now in
+    let name = c.as_bytes.ensures.value ∙ c.as_str.ensures in
+    let text = c.as_slice.ensures ∙ c.in_ok-told.ensures ∙ ap (λ (t : Tally). case_text Text t r) c.none.ensures in
+    let page = c.in_ok-open_case.ensures ∙ (λ x. c.args.page.now ++ case_front (name x) (text x)) in
+    on_ok_weaker c.add_parts.result (λ is. record {
+      drawn = c.add_drawn.new.page;
+      diagram = subst (λ (p : List Piece). HasDiagram r p c.add_drawn.new.page) page c.in_ok-add_drawn.ensures;
+      is = is;
+    }) c.add_parts.ensures

@@ -1,9 +1,8 @@
 -- The text of a page: each piece is one of the program's own, or a value that is escaped.
 use Rattle.std.specs.Prelude.{ℕ, List, ◌++◌, codes}
 use Rattle.std.specs.List.{flat_map}
-use Rattle.ps_markup.specs.Escaping.{escaped}
+use Rattle.ps_escape.specs.Escaping.{attribute_text, escaped}
 use Rattle.ps_markup.specs.Names.{key_name, tag_name}
-use Rattle.ps_markup.specs.declared.names.Key.{Key}
 use Rattle.ps_markup.specs.declared.names.Tag.{Tag}
 use Rattle.ps_markup.specs.declared.page.Piece.{Piece}
 use Rattle.ps_markup.specs.declared.page.Piece.TheVariants.{Alone, Attribute, Begin, Body, End, Epilogue}
@@ -13,10 +12,6 @@ use Rattle.ps_markup.specs.declared.writing.TheConstants.{BODY, EPILOGUE, PROLOG
 -- the beginning of an element, as `<td`
 abbrev pub begin_text : Tag → List ℕ
 begin_text tag = codes "<" ++ tag_name tag
-
--- an attribute with its value, as ` class="pass"`
-abbrev pub attribute_text : Key → (value : List ℕ) → List ℕ
-attribute_text key value = codes " " ++ key_name key ++ codes "=\"" ++ escaped value ++ codes "\""
 
 -- the end of an element, as `</td>`
 abbrev pub end_text : Tag → List ℕ
@@ -28,7 +23,7 @@ piece_text Prologue = PROLOGUE.now
 piece_text Body = BODY.now
 piece_text Epilogue = EPILOGUE.now
 piece_text (Begin tag) = begin_text tag
-piece_text (Attribute key value) = attribute_text key value
+piece_text (Attribute key value) = attribute_text (key_name key) value
 piece_text Inside = codes ">"
 piece_text Alone = codes "/>"
 piece_text (Value value) = escaped value

@@ -4,11 +4,11 @@ ghost use Rattle.std.specs.Prelude.{◌≡◌, ◌++◌, IfOk, OnOk};
 ghost use Rattle.ps_markup.specs.Picture.{band_class, band_pieces, base_text, bar_pieces, level_pieces, name_pieces};
 ghost use Rattle.ps_markup.specs.Picture.{path_pieces, room_in, row_top, upright_text, words_pieces};
 
-use crate::lanes::{Span, add_start, add_step, line_of, merged};
 use crate::names::{Key, Tag};
 use crate::page::Page;
 use crate::parts::{Part, add_parts};
 use ps_base::{Bytes, Memory};
+use ps_lanes::{Span, add_start, add_step, line_of, merged};
 use std::alloc::Global;
 
 /// How far the lines of a picture are from one another.

@@ -1,14 +1,12 @@
 // The text of a page.
 
-ghost use Rattle.std.specs.Prelude.{◌≡◌, ◌++◌, OnOk, codes};
-ghost use Rattle.ps_markup.specs.Escaping.{escaped};
-ghost use Rattle.ps_markup.specs.Names.{key_name};
-ghost use Rattle.ps_markup.specs.Writing.{attribute_text, begin_text, end_text, piece_text, written};
+ghost use Rattle.std.specs.Prelude.{◌≡◌, ◌++◌, OnOk};
+ghost use Rattle.ps_markup.specs.Writing.{begin_text, end_text, piece_text, written};
 
-use crate::escaping::add_escaped;
-use crate::names::{Key, Tag, key_name, tag_name};
+use crate::names::{Tag, key_name, tag_name};
 use crate::page::{Page, Piece};
 use ps_base::{Bytes, Memory};
+use ps_escape::{add_attribute, add_escaped};
 
 /// The beginning of every page: its language, its letters, and how it looks on a screen and on paper.
 pub(crate) const PROLOGUE: &[u8] = b"<!DOCTYPE html>
@@ -72,17 +70,6 @@ fn add_begin(text: &mut Bytes, tag: Tag) -> Result<(), Memory>
     text.extend_from_slice(tag_name(tag))
 }
 
-// An attribute with its value.
-fn add_attribute(text: &mut Bytes, key: Key, value: &[u8]) -> Result<(), Memory>
-    ensures { OnOk result (text.new ≡ text.old ++ attribute_text key value.now) }
-{
-    text.extend_from_slice(b" ")?;
-    text.extend_from_slice(key_name(key))?;
-    text.extend_from_slice(b"=\"")?;
-    add_escaped(text, value)?;
-    text.extend_from_slice(b"\"")
-}
-
 // The end of an element.
 fn add_end(text: &mut Bytes, tag: Tag) -> Result<(), Memory>
     ensures { OnOk result (text.new ≡ text.old ++ end_text tag) }
@@ -101,7 +88,7 @@ fn add_piece(text: &mut Bytes, piece: &Piece) -> Result<(), Memory>
         Piece::Body => text.extend_from_slice(BODY),
         Piece::Epilogue => text.extend_from_slice(EPILOGUE),
         Piece::Begin(tag) => add_begin(text, *tag),
-        Piece::Attribute(key, value) => add_attribute(text, *key, value.as_slice()),
+        Piece::Attribute(key, value) => add_attribute(text, key_name(*key), value.as_slice()),
         Piece::Inside => text.extend_from_slice(b">"),
         Piece::Alone => text.extend_from_slice(b"/>"),
         Piece::Value(value) => add_escaped(text, value.as_slice()),

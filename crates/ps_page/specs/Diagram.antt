@@ -2,10 +2,10 @@
 use Rattle.std.specs.Prelude.{ℕ, Bool, true, ◌==◌, List, [], ◌∷◌, ◌++◌, codes, decimal, if◌then◌else◌}
 use Rattle.std.specs.Prelude.{filter, map, slice_index_or}
 use Rattle.std.specs.List.{flat_map, list_any}
-use Rattle.ps_markup.specs.Lanes.{merged}
+use Rattle.ps_lanes.specs.Lanes.{merged}
+use Rattle.ps_lanes.specs.declared.lanes.Span.{Span}
 use Rattle.ps_markup.specs.Picture.{band_pieces, level_pieces, name_pieces, path_pieces, upright_text, words_pieces}
 use Rattle.ps_markup.specs.Pieces.{element, marked}
-use Rattle.ps_markup.specs.declared.lanes.Span.{Span}
 use Rattle.ps_markup.specs.declared.names.Key.TheVariants.{Scope}
 use Rattle.ps_markup.specs.declared.names.Tag.TheVariants.{Td, Th, Tr}
 use Rattle.ps_markup.specs.declared.page.Piece.{Piece}

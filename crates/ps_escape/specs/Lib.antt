@@ -1,0 +1,3 @@
+-- how a value is written, and how it is read back: what a reader of the clauses has to believe
+pub mod Escaping
+pub mod Unescaping

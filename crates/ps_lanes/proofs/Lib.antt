@@ -1,0 +1,2 @@
+-- the value at a place of spans that are merged
+pub mod Merging

@@ -1,5 +1,5 @@
 -- What comes of a call with an application.
-use Rattle.std.proofs.Common.{◌≡◌, ◌≤◌, ℕ, Bool, List, [], ◌∷◌, Any, Option, Result, Ok, Err, inr, refl, subst, arith}
+use Rattle.std.proofs.Common.{◌≡◌, ◌≤◌, ℕ, Bool, List, Any, Option, Result, Ok, Err, inr, sym, subst}
 use Rattle.std.specs.Prelude.{IfErr, IfOk}
 use Rattle.ps_bench_base.proofs.Stopped.{rose_since}
 use Rattle.ps_bench_base.specs.Ending.{IsUnread}
@@ -7,8 +7,10 @@ use Rattle.ps_bench_base.specs.Opening.{IsOfApp, source}
 use Rattle.ps_bench_base.specs.declared.ending.Status.{Status}
 use Rattle.ps_bench_base.specs.declared.ending.Stop.{Stop}
 use Rattle.ps_model.specs.Network.{Network}
+use Rattle.ps_model.specs.declared.channel.Fault.{Fault}
 use Rattle.ps_model.specs.declared.channel.ImageSizes.{ImageSizes}
 use Rattle.ps_outside.specs.Outside.{Rose}
+use Rattle.ps_traced.specs.Playing.{MeansPlay}
 use Rattle.ps_campaigning.specs.Asking.{AnswersCampaign, AnswersIn, StopsCampaign, Wanted}
 
 -- what was answered of an application, and why the call stopped, by what it came to
@@ -50,10 +52,10 @@ any_since reads mid reads' names (Err stop) on unread = λ is.
     let some = unread is in
     (some.0, some.1, some.2, some.3, rose_since (reads some.1) (mid some.1) (reads' some.1) (on some.1) some.4)
 
--- the trace could not be read, of the two files
-pub trace_since : (reads mid reads' : List ℕ → ℕ) (app trace : List ℕ) (ended : Result Status Stop) → reads trace ≤ mid trace →
-    IfErr ended (λ stop. IsUnread stop → Rose (mid trace) (reads' trace)) →
-    IfErr ended (λ stop. IsUnread stop → Any (λ (name : List ℕ). Rose (reads name) (reads' name)) (app ∷ trace ∷ []))
-trace_since reads mid reads' app trace (Ok status) on unread = tt
-trace_since reads mid reads' app trace (Err stop) on unread =
-    λ is. (1, trace, omega arith, refl, rose_since (reads trace) (mid trace) (reads' trace) on (unread is))
+-- what was made ready means what the word means, by what stands behind a call that changes none of it
+pub means_since : (net : Network) (sizes : ImageSizes) (word : List ℕ) (cases : Option (List ℕ)) (faults : List Fault) (r r' : Bool)
+    (h h' : List ℕ → Option (List ℕ)) → r' ≡ r → h' ≡ h → MeansPlay (source net sizes r h) word cases faults →
+    MeansPlay (source net sizes r' h') word cases faults
+means_since net sizes word cases faults r r' h h' r_is h_is means =
+    subst (λ (x : Bool). MeansPlay (source net sizes x h') word cases faults) (sym r_is)
+    (subst (λ (x : List ℕ → Option (List ℕ)). MeansPlay (source net sizes r x) word cases faults) (sym h_is) means)

@@ -1,11 +1,10 @@
 -- What is told of the trials over a trace that was read.
 use Rattle.std.proofs.Common.{◌≡◌, ◌∙◌, ℕ, Bool, IsTrue, List, Result, Ok, Err, inl, inr, sym, ap, subst}
 use Rattle.std.specs.Prelude.{IfErr, IfOk}
-use Rattle.ps_bench_base.specs.Ending.{IsUnread, stop_status}
 use Rattle.ps_bench_base.specs.Opening.{Source}
 use Rattle.ps_bench_base.specs.Stopping.{Took, TookSome}
 use Rattle.ps_bench_base.specs.declared.ending.Status.{Status}
-use Rattle.ps_bench_base.specs.declared.ending.Status.TheVariants.{Done, ReadFault, WriteFault}
+use Rattle.ps_bench_base.specs.declared.ending.Status.TheVariants.{Done}
 use Rattle.ps_bench_base.specs.declared.ending.Stop.{Stop}
 use Rattle.ps_bench_base.specs.declared.ending.Stop.TheVariants.{Unwritten}
 use Rattle.ps_course.specs.Courses.{items_in}
@@ -47,9 +46,3 @@ module _ (from : Source) (app : List ℕ) (wanted : Wanted) (text : List ℕ) wh
       inl (text, told, all.0, subst (λ (t : List ℕ). Took t tells before after) is all.1)
   told_ended piece tells before after (Err stop) is all some told =
       inr (inl (text, told, some.0, subst (λ (t : List ℕ). TookSome t tells before after) is some.1))
-
--- a call that stops at a write could read all
-pub write_read : (A : Stop → Type 0) (ended : Result Status Stop) → IfErr ended (λ stop. (stop ≡ Unwritten) × A stop) →
-    IfErr ended (λ stop. ¬ IsUnread stop)
-write_read A (Ok status) stops = tt
-write_read A (Err stop) (is, rest) = λ unread. let none : WriteFault ≡ ReadFault = sym (ap stop_status is) ∙ unread in cc

@@ -1,18 +1,23 @@
 -- The course of a trace that is held, and of what a word means.
-use Rattle.std.proofs.Common.{◌≡◌, ◌∙◌, ℕ, Bool, List, Option, None, Some, Result, Ok, Err, inl, inr, sym, ap, subst, arith}
+use Rattle.std.proofs.Common.{◌≡◌, ◌∙◌, ◌++◌, ℕ, Bool, List, Option, None, Some, Result, Ok, Err, inl, inr, sym, ap, subst, arith}
 use Rattle.std.specs.Prelude.{IfErr, IfNone, IfOk, OnOk}
 use Rattle.std.proofs.lemmas.Option.{same_Some}
 use Rattle.ps_traced.specs.Refusing.{StopsAtTrace}
 use Rattle.ps_base.specs.declared.failing.Refusal.{Refusal}
 use Rattle.ps_bench_base.specs.Ending.{IsOfRun}
 use Rattle.ps_bench_base.specs.Opening.{Source}
+use Rattle.ps_bench_base.specs.Stopping.{Took}
+use Rattle.ps_bench_base.specs.declared.ending.Input.TheVariants.{Trace}
+use Rattle.ps_bench_base.specs.declared.ending.InputStop.TheVariants.{Refused}
 use Rattle.ps_bench_base.specs.declared.ending.Stop.{Stop}
-use Rattle.ps_bench_base.specs.declared.ending.Stop.TheVariants.{Unwritten}
+use Rattle.ps_bench_base.specs.declared.ending.Stop.TheVariants.{Input, Unwritten}
 use Rattle.ps_course.specs.declared.recorder.Course.{Course}
 use Rattle.ps_model.specs.Network.{Network}
 use Rattle.ps_model.specs.declared.channel.Fault.{Fault}
 use Rattle.ps_outside.specs.Outside.{Rose}
+use Rattle.ps_report.specs.Short.{refusal_text}
 use Rattle.ps_totals.specs.Naming.{Names, digest_text}
+use Rattle.ps_traced.specs.Opening.{SaysRefusal}
 use Rattle.ps_traced.specs.Playing.{IsPlay}
 use Rattle.ps_campaigning.specs.Recorded.{IsCourseOf, RecordsHeld, RecordsWord, StopsUnnamed}
 use Rattle.ps_campaigning.specs.declared.recording.Recorded.{Recorded}
@@ -74,3 +79,11 @@ of_none P (Some x) is holds = cc
 pub none_rose : {P : Type 0} → Rose 0 0 → P
 none_rose (inl more) = let no : ⊥ = omega (arith, more) in absurd no
 none_rose (inr last) = let no : ⊥ = omega (arith, last) in absurd no
+
+-- where a line says why a trace is refused, that is why
+pub said_refusal : (refusal r : Refusal) (stop : Stop) (tells : Bool) (before after : List ℕ) → SaysRefusal Trace refusal tells before after stop →
+    stop ≡ Input (Refused Trace r) → (refusal ≡ r) × Took (refusal_text r) tells before after
+said_refusal refusal r stop tells before after (inl said) is =
+    let same : refusal ≡ r = let there = said.0 in cc in
+    (same, λ told. said.1 told ∙ ap (λ (x : Refusal). before ++ refusal_text x) same)
+said_refusal refusal r stop tells before after (inr said) is = let there = said.0 in cc

@@ -8,3 +8,5 @@ pub mod Numbered
 pub mod Ending
 -- counts that are added and written
 pub mod Summed
+-- what a call leaves of files and of an output
+pub mod Leaving

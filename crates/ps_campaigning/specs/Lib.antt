@@ -6,3 +6,5 @@ pub mod Asking
 pub mod Summing
 -- apparatus: the trace that was read, by what is kept of it
 pub mod Recorded
+-- apparatus: what a call leaves of files and of an output
+pub mod Leaving

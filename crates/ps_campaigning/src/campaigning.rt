@@ -6,19 +6,23 @@ ghost use Rattle.ps_bench_base.specs.Meant.{file_meant};
 ghost use Rattle.ps_bench_base.specs.Opening.{Source, source};
 ghost use Rattle.ps_bench_base.specs.Stopping.{Took, TookSome};
 ghost use Rattle.ps_campaigning.specs.Asking.{AnswersCampaign, AnswersIn, StopsCampaign, wanted_by};
+ghost use Rattle.ps_campaigning.specs.Leaving.{Leaves, LeavesOutput, sides};
 ghost use Rattle.ps_campaigning.specs.Recorded.{RecordsWord};
 ghost use Rattle.ps_course.specs.Courses.{IsCourse};
 ghost use Rattle.ps_model.specs.Typing.{Accepted};
+ghost use Rattle.ps_model.specs.declared.channel.Fault.{Fault as FaultOf};
 ghost use Rattle.ps_outside.specs.Outside.{Rose};
 ghost use Rattle.ps_totals.specs.Naming.{Names};
+ghost use Rattle.ps_traced.specs.Playing.{MeansPlay};
 
-use crate::recording::{Recorded, record_word};
+use crate::recording::{Recorded, record_play};
 use crate::telling::campaign_text;
 use ps_base::{Bytes, Memory};
 use ps_bench_base::{Opened, Status, Stop, open_app};
 use ps_hearing::Listener;
 use ps_outside::{Files, Output, ReadFail, write_all};
 use ps_totals::name_of_file;
+use ps_traced::{Expansion, Play, open_play};
 use ps_trialed::Campaign;
 use std::alloc::Global;
 
@@ -41,9 +45,7 @@ pub(crate) fn write_told<O: Output>(out: &mut O, text: &[u8]) -> Result<Status, 
         × Took text.now (O.tells out.old) (O.taken out.old) (O.taken out.new)) }
     ensures some { IfErr result (λ stop. (stop ≡ Stop.Unwritten)
         × TookSome text.now (O.tells out.old) (O.taken out.old) (O.taken out.new)) }
-    ensures unwritten { IsErrOf result Stop.Unwritten → Rose (O.faults out.old) (O.faults out.new) }
-    ensures writes { O.faults out.old ≤ O.faults out.new }
-    ensures telling { O.tells out.new ≡ O.tells out.old }
+    ensures leaves { LeavesOutput (O.tells out.old) (O.tells out.new) (O.faults out.old) (O.faults out.new) result }
 {
     match write_all(out, text) {
         Ok(()) => Ok(Status::Done),
@@ -67,14 +69,40 @@ fn tell_trials<O: Output>(
         (IsTrue from.tells → RecordsWord from asked.now.trace.now recorded.now) →
         AnswersIn from asked.now.app.now (wanted_by asked.now) (O.tells out.old) (O.taken out.old) (O.taken out.new)
         result }
-    ensures read { IfErr result (λ stop. ¬ IsUnread stop) }
-    ensures unwritten { IsErrOf result Stop.Unwritten → Rose (O.faults out.old) (O.faults out.new) }
-    ensures writes { O.faults out.old ≤ O.faults out.new }
-    ensures telling { O.tells out.new ≡ O.tells out.old }
+    ensures leaves { LeavesOutput (O.tells out.old) (O.tells out.new) (O.faults out.old) (O.faults out.new) result }
 {
     match campaign_text(alloc, &opened.app, asked, name.as_slice(), recorded) {
         Ok(text) => write_told(out, text.as_slice()),
         Err(Memory) => Err(Stop::NoMemory),
+    }
+}
+
+// Makes the trials over the trace of these cases, or else of the file that the word for the trace names. `name` names the
+// application.
+fn campaign_play<F: Files, O: Output>(
+    alloc: Global,
+    files: &mut F,
+    out: &mut O,
+    opened: &Opened,
+    asked: &Asked<'_>,
+    name: &Bytes,
+    cases: Option<Expansion>,
+) -> Result<Status, Stop>
+    requires accepted { Accepted opened.now.app }
+    requires named { IsTrue (F.tells files.old) → Names (F.held files.old asked.now.app.now) name.now }
+    requires means { (brought : List FaultOf) × MeansPlay
+        (source opened.now.app opened.now.sizes (F.tells files.old) (F.held files.old))
+        asked.now.trace.now cases brought }
+    ensures answers { AnswersIn (source opened.now.app opened.now.sizes (F.tells files.old) (F.held files.old))
+        asked.now.app.now (wanted_by asked.now) (O.tells out.old) (O.taken out.old) (O.taken out.new) result }
+    ensures leaves { Leaves
+        (Rose (F.faults files.old (file_meant asked.now.trace.now)) (F.faults files.new (file_meant asked.now.trace.now)))
+        (sides (F.faults files.old) (O.tells out.old) (O.faults out.old))
+        (sides (F.faults files.new) (O.tells out.new) (O.faults out.new)) result }
+{
+    match record_play(alloc, files, out, &opened.app, asked.trace, cases) {
+        Ok(recorded) => tell_trials(alloc, out, opened, asked, name, &recorded),
+        Err(stop) => Err(stop),
     }
 }
 
@@ -92,15 +120,16 @@ fn campaign_named<F: Files, O: Output, L: Listener>(
     requires named { IsTrue (F.tells files.old) → Names (F.held files.old asked.now.app.now) name.now }
     ensures answers { AnswersIn (source opened.now.app opened.now.sizes (F.tells files.old) (F.held files.old))
         asked.now.app.now (wanted_by asked.now) (O.tells out.old) (O.taken out.old) (O.taken out.new) result }
-    ensures unread { IfErr result (λ stop. IsUnread stop →
-        Rose (F.faults files.old (file_meant asked.now.trace.now)) (F.faults files.new (file_meant asked.now.trace.now))) }
-    ensures unwritten { IsErrOf result Stop.Unwritten → Rose (O.faults out.old) (O.faults out.new) }
-    ensures reads { (other : List ℕ) → F.faults files.old other ≤ F.faults files.new other }
-    ensures writes { O.faults out.old ≤ O.faults out.new }
-    ensures telling { O.tells out.new ≡ O.tells out.old }
+    ensures leaves { Leaves
+        (Rose (F.faults files.old (file_meant asked.now.trace.now)) (F.faults files.new (file_meant asked.now.trace.now)))
+        (sides (F.faults files.old) (O.tells out.old) (O.faults out.old))
+        (sides (F.faults files.new) (O.tells out.new) (O.faults out.new)) result }
 {
-    match record_word(alloc, files, out, listener, opened, asked.trace) {
-        Ok(Some(recorded)) => tell_trials(alloc, out, opened, asked, name, &recorded),
+    match open_play(alloc, files, out, listener, opened, asked.trace) {
+        Ok(Some(play)) => {
+            let Play { cases, faults: _ } = play;
+            campaign_play(alloc, files, out, opened, asked, name, cases)
+        }
         Ok(None) => Ok(Status::Usage),
         Err(stop) => Err(stop),
     }
@@ -118,12 +147,10 @@ fn campaign_app<F: Files, O: Output, L: Listener>(
     requires { Accepted opened.now.app }
     ensures answers { AnswersIn (source opened.now.app opened.now.sizes (F.tells files.old) (F.held files.old))
         asked.now.app.now (wanted_by asked.now) (O.tells out.old) (O.taken out.old) (O.taken out.new) result }
-    ensures unread { IfErr result (λ stop. IsUnread stop →
-        Any (λ (name : List ℕ). Rose (F.faults files.old name) (F.faults files.new name))
-        (asked.now.app.now ∷ file_meant asked.now.trace.now ∷ [])) }
-    ensures unwritten { IsErrOf result Stop.Unwritten → Rose (O.faults out.old) (O.faults out.new) }
-    ensures writes { O.faults out.old ≤ O.faults out.new }
-    ensures telling { O.tells out.new ≡ O.tells out.old }
+    ensures leaves { Leaves (Any (λ (name : List ℕ). Rose (F.faults files.old name) (F.faults files.new name))
+        (asked.now.app.now ∷ file_meant asked.now.trace.now ∷ []))
+        (sides (F.faults files.old) (O.tells out.old) (O.faults out.old))
+        (sides (F.faults files.new) (O.tells out.new) (O.faults out.new)) result }
 {
     match name_of_file(alloc, files, asked.app) {
         Ok(name) => campaign_named(alloc, files, out, listener, opened, asked, &name),

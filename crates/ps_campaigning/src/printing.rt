@@ -2,7 +2,7 @@
 
 ghost use Rattle.std.specs.Prelude.{◌≡◌, ◌++◌, OnOk, decimal};
 ghost use Rattle.hex.specs.Hex.{encode_lower};
-ghost use Rattle.ps_campaigning.specs.Printing.{fault_text, faults_text, moment_text, target_text};
+ghost use Rattle.ps_campaigning.specs.Printing.{fault_text, faults_text};
 ghost use Rattle.ps_cases.specs.Expanded.{region_text, turn_text};
 ghost use Rattle.ps_trials.specs.Faults.{fault_by};
 ghost use Rattle.ps_trials.specs.Trials.{trial_of};
@@ -53,30 +53,16 @@ fn add_turn(text: &mut Bytes, turn: u32) -> Result<(), Memory>
     add_between(text, b"turn ", turn, b" ")
 }
 
-// When a fault strikes.
-fn add_moment(text: &mut Bytes, scan: u32, turn: u32) -> Result<(), Memory>
-    ensures { OnOk result (text.new ≡ text.old ++ moment_text scan turn) }
-{
-    add_between(text, b"before ", scan, b" ")?;
-    add_turn(text, turn)
-}
-
-// What a fault strikes, and what stands there then.
-fn add_target(alloc: Global, text: &mut Bytes, fault: &Fault) -> Result<(), Memory>
-    ensures { OnOk result (text.new ≡ text.old ++ target_text fault.now) }
-{
-    let region = region_text(fault.channel, fault.region);
-    add_between(text, region, fault.at, b" ")?;
-    add_digits(alloc, text, fault.bytes.as_slice())?;
-    text.extend_from_slice(b"\n")
-}
-
-// The line of a fault.
+// The line of a fault: when it strikes, what it strikes, and what stands there then.
 fn add_fault(alloc: Global, text: &mut Bytes, fault: &Fault) -> Result<(), Memory>
     ensures { OnOk result (text.new ≡ text.old ++ fault_text fault.now) }
 {
-    add_moment(text, fault.scan, fault.turn)?;
-    add_target(alloc, text, fault)
+    let region = region_text(fault.channel, fault.region);
+    add_between(text, b"before ", fault.scan, b" ")?;
+    add_turn(text, fault.turn)?;
+    add_between(text, region, fault.at, b" ")?;
+    add_digits(alloc, text, fault.bytes.as_slice())?;
+    text.extend_from_slice(b"\n")
 }
 
 // The line of the fault of the trial of a number.

@@ -1,29 +1,28 @@
-// The course of what a word means in the place of a trace.
+// The course of a trace that stands in the place of one.
 
-ghost use Rattle.std.specs.Prelude.{◌≡◌, ◌≤◌, ℕ, List, IsTrue, IfOk, IfErr, IfNone, IfSome, IsErrOf, OnOk};
-ghost use Rattle.ps_traced.specs.Refusing.{RefusesHeld, StopsAtTrace, StopsAtWord};
+ghost use Rattle.std.specs.Prelude.{◌≡◌, ◌≤◌, ℕ, List, IsTrue, IfOk, IfErr, OnOk};
+ghost use Rattle.ps_traced.specs.Refusing.{RefusesHeld, StopsAtTrace};
 ghost use Rattle.ps_base.specs.declared.failing.Refusal.{Refusal as RefusalOf};
 ghost use Rattle.ps_bench_base.specs.Ending.{IsOfRun, IsUnread};
 ghost use Rattle.ps_bench_base.specs.Meant.{file_meant};
-ghost use Rattle.ps_bench_base.specs.Opening.{source};
 ghost use Rattle.ps_bench_base.specs.Stopping.{Took};
-ghost use Rattle.ps_campaigning.specs.Recorded.{RecordsHeld, RecordsWord, StopsUnnamed};
+ghost use Rattle.ps_campaigning.specs.Leaving.{Leaves, sides};
+ghost use Rattle.ps_campaigning.specs.Recorded.{RecordsHeld, StopsUnnamed};
 ghost use Rattle.ps_course.specs.Courses.{IsCourse};
 ghost use Rattle.ps_model.specs.Typing.{Accepted};
 ghost use Rattle.ps_outside.specs.Outside.{Rose};
 ghost use Rattle.ps_report.specs.Short.{refusal_text};
 ghost use Rattle.ps_totals.specs.Naming.{Names};
-ghost use Rattle.ps_traced.specs.Playing.{LacksCase, trace_held};
+ghost use Rattle.ps_traced.specs.Playing.{trace_held};
 
 use ps_base::{Bytes, Memory};
-use ps_bench_base::{Input, InputStop, Opened, Stop, word_of};
+use ps_bench_base::{Input, InputStop, Stop, word_of};
 use ps_course::{Course, read_course};
-use ps_hearing::Listener;
 use ps_model::App;
 use ps_outside::{Files, Output, ReadFail};
 use ps_totals::name_of_file;
 use ps_trace::TraceStop;
-use ps_traced::{Expansion, Play, open_play, open_trace, refuse_input};
+use ps_traced::{Expansion, open_trace, refuse_input};
 use std::alloc::Global;
 
 /// The course of a trace, and what names the trace.
@@ -93,12 +92,9 @@ fn record_named<F: Files, O: Output>(
         (λ refusal. IsTrue (F.tells files.old) → RefusesHeld app.now (F.held files.old name.now) refusal) stop
         (O.tells out.old) (O.taken out.old) (O.taken out.new)) }
     ensures unsaid { OnOk result (O.taken out.new ≡ O.taken out.old) }
-    ensures unread { IfErr result (λ stop. IsUnread stop →
-        Rose (F.faults files.old name.now) (F.faults files.new name.now)) }
-    ensures unwritten { IsErrOf result Stop.Unwritten → Rose (O.faults out.old) (O.faults out.new) }
-    ensures reads { (other : List ℕ) → F.faults files.old other ≤ F.faults files.new other }
-    ensures writes { O.faults out.old ≤ O.faults out.new }
-    ensures telling { O.tells out.new ≡ O.tells out.old }
+    ensures leaves { Leaves (Rose (F.faults files.old name.now) (F.faults files.new name.now))
+        (sides (F.faults files.old) (O.tells out.old) (O.faults out.old))
+        (sides (F.faults files.new) (O.tells out.new) (O.faults out.new)) result }
 {
     let read = {
         let mut trace = match open_trace(alloc, files, out, name, app) {
@@ -114,8 +110,9 @@ fn record_named<F: Files, O: Output>(
     }
 }
 
-// The course of the trace of these cases, or else of the file that a word names.
-fn record_play<F: Files, O: Output>(
+/// The course of the trace of these cases, or else of the file that a word names, with what names the trace. A trace that
+/// is refused ends it: its line is written.
+pub(crate) fn record_play<F: Files, O: Output>(
     alloc: Global,
     files: &mut F,
     out: &mut O,
@@ -132,56 +129,13 @@ fn record_play<F: Files, O: Output>(
         RefusesHeld app.now (trace_held cases (F.held files.old (file_meant word.now))) refusal) stop
         (O.tells out.old) (O.taken out.old) (O.taken out.new)) }
     ensures unsaid { OnOk result (O.taken out.new ≡ O.taken out.old) }
-    ensures unread { IfErr result (λ stop. IsUnread stop →
-        Rose (F.faults files.old (file_meant word.now)) (F.faults files.new (file_meant word.now))) }
-    ensures unwritten { IsErrOf result Stop.Unwritten → Rose (O.faults out.old) (O.faults out.new) }
-    ensures reads { (other : List ℕ) → F.faults files.old other ≤ F.faults files.new other }
-    ensures writes { O.faults out.old ≤ O.faults out.new }
-    ensures telling { O.tells out.new ≡ O.tells out.old }
+    ensures leaves { Leaves (Rose (F.faults files.old (file_meant word.now)) (F.faults files.new (file_meant word.now)))
+        (sides (F.faults files.old) (O.tells out.old) (O.faults out.old))
+        (sides (F.faults files.new) (O.tells out.new) (O.faults out.new)) result }
 {
     let word = word_of(word);
     match cases {
         Some(mut cases) => record_named(alloc, &mut cases, out, app, word.file),
         None => record_named(alloc, files, out, app, word.file),
-    }
-}
-
-/// The course of what a word means in the place of a trace, with what names the trace. None: no case has the line of
-/// the word, which the listener was told. A trace or a case file that is refused ends it: its line is written.
-pub(crate) fn record_word<F: Files, O: Output, L: Listener>(
-    alloc: Global,
-    files: &mut F,
-    out: &mut O,
-    listener: &mut L,
-    opened: &Opened,
-    word: &str,
-) -> Result<Option<Recorded>, Stop>
-    requires { Accepted opened.now.app }
-    ensures course { IfOk result (λ got. IfSome got (λ r. IsCourse opened.now.app r.course)) }
-    ensures records { IsTrue (F.tells files.old) → IfOk result (λ got. IfSome got (RecordsWord
-        (source opened.now.app opened.now.sizes (F.tells files.old) (F.held files.old)) word.now)) }
-    ensures lacks { IfOk result (λ got. IfNone got (LacksCase
-        (source opened.now.app opened.now.sizes (F.tells files.old) (F.held files.old)) word.now)) }
-    ensures stops { IfErr result (λ stop. StopsAtWord
-        (source opened.now.app opened.now.sizes (F.tells files.old) (F.held files.old)) word.now stop
-        (O.tells out.old) (O.taken out.old) (O.taken out.new)) }
-    ensures unsaid { OnOk result (O.taken out.new ≡ O.taken out.old) }
-    ensures unread { IfErr result (λ stop. IsUnread stop →
-        Rose (F.faults files.old (file_meant word.now)) (F.faults files.new (file_meant word.now))) }
-    ensures unwritten { IsErrOf result Stop.Unwritten → Rose (O.faults out.old) (O.faults out.new) }
-    ensures reads { (other : List ℕ) → F.faults files.old other ≤ F.faults files.new other }
-    ensures writes { O.faults out.old ≤ O.faults out.new }
-    ensures telling { O.tells out.new ≡ O.tells out.old }
-{
-    match open_play(alloc, files, out, listener, opened, word) {
-        Ok(Some(play)) => {
-            let Play { cases, faults: _ } = play;
-            match record_play(alloc, files, out, &opened.app, word, cases) {
-                Ok(recorded) => Ok(Some(recorded)),
-                Err(stop) => Err(stop),
-            }
-        }
-        Ok(None) => Ok(None),
-        Err(stop) => Err(stop),
     }
 }

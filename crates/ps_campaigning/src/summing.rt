@@ -3,6 +3,7 @@
 ghost use Rattle.std.specs.Prelude.{◌≡◌, ◌≤◌, ◌<◌, ◌∷◌, ℕ, List, Any, IsTrue, IfOk, IfErr, IsErrOf, length, map};
 ghost use Rattle.ps_bench_base.specs.Ending.{IsUnread};
 ghost use Rattle.ps_bench_base.specs.Stopping.{Took};
+ghost use Rattle.ps_campaigning.specs.Leaving.{LeavesOutput};
 ghost use Rattle.ps_campaigning.specs.Summing.{AnswersNames, AnswersSum, RefusedBy, StopsSum, Writes};
 ghost use Rattle.ps_outside.specs.Outside.{Rose};
 ghost use Rattle.ps_totals.specs.Sums.{text_of};
@@ -48,10 +49,7 @@ fn text_of(alloc: Global, total: &Totals) -> Result<Bytes, Memory>
 // Writes counts.
 fn write_total<O: Output>(alloc: Global, out: &mut O, total: &Totals) -> Result<Status, Stop>
     ensures writes { Writes total.now (O.tells out.old) (O.taken out.old) (O.taken out.new) result }
-    ensures read { IfErr result (λ stop. ¬ IsUnread stop) }
-    ensures unwritten { IsErrOf result Stop.Unwritten → Rose (O.faults out.old) (O.faults out.new) }
-    ensures counts { O.faults out.old ≤ O.faults out.new }
-    ensures telling { O.tells out.new ≡ O.tells out.old }
+    ensures leaves { LeavesOutput (O.tells out.old) (O.tells out.new) (O.faults out.old) (O.faults out.new) result }
 {
     match text_of(alloc, total) {
         Ok(text) => write_told(out, text.as_slice()),

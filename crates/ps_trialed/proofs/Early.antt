@@ -1,5 +1,5 @@
 -- A trial that begins at a mark, and one that ends at a mark: it comes to the same.
-use Rattle.std.proofs.Common.{◌≡◌, ◌∙◌, ◌≤◌, ◌-◌, ℕ, List, [], ◌∷◌, length, get_or, sym, ap, arith}
+use Rattle.std.proofs.Common.{◌≡◌, ◌∙◌, ◌≤◌, ◌-◌, ℕ, List, [], ◌∷◌, length, sym, ap}
 use Rattle.ps_course.specs.declared.step.Step.{Step}
 use Rattle.ps_model.specs.Network.{Network, instance_count}
 use Rattle.ps_model.specs.declared.channel.Fault.{Fault}
@@ -12,16 +12,10 @@ use Rattle.ps_trialed.proofs.Going.{Goes, at_first, showing}
 use Rattle.ps_trialed.proofs.Marking.{silent}
 use Rattle.ps_trialed.proofs.Trying.{one_setup}
 
--- a list of one
-pub only : {X : Type 0} (xs : List X) (x : X) → length xs ≡ 1 → x ≡ get_or xs 0 x → xs ≡ x ∷ []
-only [] x long is = absurd (omega (arith, long))
-only (y ∷ []) x long is = ap (λ z. z ∷ []) (sym is)
-only (y ∷ z ∷ ys) x long is = absurd (omega (arith, long))
-
-module _ (net : Network) (faults : List Fault) (f : Fault) (one : faults ≡ f ∷ []) (struck : ℕ) (all : List Step) where
+module _ (net : Network) (f : Fault) (struck : ℕ) (all : List Step) where
   -- where no scan is done that the fault strikes, the trial may begin
   pub begins : (steps : List Step) (scans : ℕ) (w v : Whole) → IsSetupOf net w.setup → IsMoment net all steps scans v → scans ≤ f.scan - 1 →
-      Goes net faults struck (showing net faults struck 0 all (at_first w)) scans steps v
+      Goes net (f ∷ []) struck (showing net (f ∷ []) struck 0 all (at_first w)) scans steps v
   begins steps scans w v is so before =
       let same : v.setup ≡ w.setup = one_setup net v.setup w.setup so.setup is in
       record {
@@ -29,16 +23,13 @@ module _ (net : Network) (faults : List Fault) (f : Fault) (one : faults ≡ f �
         rest = so.rest;
         fits = so.fits;
         shows =
-            ap (λ (fs : List Fault). showing net fs struck scans steps v) one
-            ∙ sym (so.same f struck before)
-            ∙ ap (λ (s : Setup). shown_from (machines_in s) (length net.outputs) (instance_count net) (f ∷ []) struck 0 all (world_0 (machines_in s))) same
-            ∙ sym (ap (λ (fs : List Fault). showing net fs struck 0 all (at_first w)) one);
+            sym (so.same f struck before)
+            ∙ ap (λ (s : Setup). shown_from (machines_in s) (length net.outputs) (instance_count net) (f ∷ []) struck 0 all (world_0 (machines_in s))) same;
       }
 
   -- where the fault has struck, and all goes on quietly, it may end
-  pub is_silent : (whole : Outcome) (steps : List Step) (scans : ℕ) (w : Whole) → Goes net faults struck whole scans steps w → f.scan ≤ scans →
+  pub is_silent : (whole : Outcome) (steps : List Step) (scans : ℕ) (w : Whole) → Goes net (f ∷ []) struck whole scans steps w → f.scan ≤ scans →
       GoQuietly (machines_in w.setup) (length net.outputs) (instance_count net) steps w.state → Silent ≡ whole
   is_silent whole steps scans w so behind quiet =
       sym (silent (machines_in w.setup) (length net.outputs) (instance_count net) f struck scans steps w.state behind quiet)
-      ∙ sym (ap (λ (fs : List Fault). showing net fs struck scans steps w) one)
       ∙ so.shows

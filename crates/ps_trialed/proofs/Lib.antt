@@ -12,3 +12,5 @@ mod Counting
 pub mod Trying
 -- trials in parts
 pub mod Parts
+-- a call that fails
+mod Failing

@@ -3,7 +3,7 @@ use Rattle.std.proofs.Common.{◌≡◌, ◌≢◌, ◌∙◌, ℕ, false, List,
 use Rattle.std.specs.Prelude.{unwrap_or}
 use Rattle.ps_course.specs.Courses.{reports_of}
 use Rattle.ps_model.specs.Fields.{first_difference}
-use Rattle.ps_model.specs.Meaning.{Item, scan, restart, report}
+use Rattle.ps_model.specs.Meaning.{Item, scan, restart}
 use Rattle.ps_model.specs.Network.{Network}
 use Rattle.ps_model.specs.Scanning.{State}
 use Rattle.ps_model.specs.declared.channel.Channel.{Channel}
@@ -13,7 +13,7 @@ use Rattle.ps_model.specs.declared.channel.Verdict.{Verdict}
 use Rattle.ps_model.specs.declared.channel.Verdict.TheVariants as verdicts
 use Rattle.ps_model.proofs.FieldPlaces.{no_difference_from_equal}
 use Rattle.ps_outcomes.specs.declared.outcome.Outcome.{Outcome}
-use Rattle.ps_outcomes.specs.declared.outcome.Outcome.TheVariants.{Tripped, Wrong}
+use Rattle.ps_outcomes.specs.declared.outcome.Outcome.TheVariants.{Wrong}
 use Rattle.ps_world.specs.Answers.{Answer, ReleaseAll, ReleaseRight, SpareChannel}
 use Rattle.ps_world.specs.Lists.{is_same}
 use Rattle.ps_world.specs.Orders.{other}

@@ -102,9 +102,9 @@ fn bench_for(alloc: Global, app: &App, course: &Course) -> Result<Bench, Memory>
     ensures { IfOk result (IsBench app.now course.now.steps.items) }
 {
     let codes = codes_of(alloc, app)?;
-    let marks = mark_course(alloc, app, course)?;
-    let world = World::build(alloc, app)?;
-    let report = Report::for_app(alloc, app)?;
+    let mut world = World::build(alloc, app)?;
+    let mut report = Report::for_app(alloc, app)?;
+    let marks = mark_course(alloc, app, course, &mut world, &mut report)?;
     Ok(Bench {
         codes,
         marks,
@@ -134,7 +134,6 @@ fn try_trial(
         bench.codes.a.as_slice(),
         bench.codes.b.as_slice(),
     )?;
-    let faults = [fault];
     let steps = course.steps.as_slice();
     let struck = struck_at(steps, trial);
     Ok(run_trial(
@@ -142,7 +141,7 @@ fn try_trial(
         &mut bench.world,
         steps,
         &bench.marks,
-        &faults,
+        &fault,
         struck,
         &mut bench.report,
     ))

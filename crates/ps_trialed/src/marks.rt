@@ -6,7 +6,7 @@ ghost use Rattle.ps_course.specs.Courses.{AreStepsFor, IsCourse, items_in, lates
 ghost use Rattle.ps_model.specs.Network.{input_count, instance_count};
 ghost use Rattle.ps_model.specs.Typing.{Accepted};
 ghost use Rattle.ps_seat.specs.Items.{AreTimely};
-ghost use Rattle.ps_world.specs.Whole.{IsSetupOf, machines_in};
+ghost use Rattle.ps_world.specs.Whole.{IsSetupOf, IsWorldOf, machines_in};
 ghost use Rattle.ps_trialed.specs.Marks.{AreMarks, GoQuietly, IsMark, IsMoment, IsShort, passed, scans_of};
 
 use ps_base::Memory;
@@ -18,18 +18,7 @@ use ps_world::World;
 use ps_world::laws::quiet_runs_release;
 use std::alloc::Global;
 
-// A world of its own that is what another world of the application is.
-fn copy_of(alloc: Global, app: &App, world: &World) -> Result<World, Memory>
-    requires accepted { Accepted app.now }
-    requires setup { IsSetupOf app.now world.now.setup }
-    ensures { IfOk result (λ copy. copy ≡ world.now) }
-{
-    let mut copy = World::build(alloc, app)?;
-    copy.copy_from(world);
-    Ok(copy)
-}
-
-// A mark where a world stands behind so many steps, of which so many are scans.
+// A mark where a world stands behind so many steps, of which so many are scans. It keeps a world of its own.
 fn mark_at(
     alloc: Global,
     app: &App,
@@ -41,11 +30,12 @@ fn mark_at(
     requires setup { IsSetupOf app.now world.now.setup }
     ensures { IfOk result (λ mark. mark ≡ record { place = place; scans = scans; world = world.now }) }
 {
-    let world = copy_of(alloc, app, world)?;
+    let mut copy = World::build(alloc, app)?;
+    copy.copy_from(world);
     Ok(Mark {
         place,
         scans,
-        world,
+        world: copy,
     })
 }
 
@@ -100,19 +90,6 @@ fn pass(app: &App, world: &mut World, step: &Step, report: &mut Report) -> u64
     }
 }
 
-// The world of an application at the beginning of a course, all of which it can go on from there without a fault.
-fn beginning(alloc: Global, app: &App, course: &Course) -> Result<World, Memory>
-    requires accepted { Accepted app.now }
-    requires course { IsCourse app.now course.now }
-    ensures { IfOk result (IsMoment app.now course.now.steps.items course.now.steps.items 0) }
-{
-    are_timely(app, course.steps.as_slice());
-    one_meaning(app);
-    quiet_runs_release(app);
-    let world = World::build(alloc, app)?;
-    Ok(world)
-}
-
 // Adds a mark to those behind the beginning, where one is to stand behind so many steps.
 fn add_mark(
     alloc: Global,
@@ -141,53 +118,66 @@ fn add_mark(
 }
 
 // Runs the steps of a course without a fault in a world at the beginning, and marks moments of the run behind it.
+// `report` is room for work: what it has then is not said, nor where the world stands.
 fn mark_later(
     alloc: Global,
     app: &App,
     steps: &[Step],
     every: usize,
     world: &mut World,
+    report: &mut Report,
 ) -> Result<Vec<Mark>, Memory>
     requires accepted { Accepted app.now }
     requires apart { 0 < every }
     requires moment { IsMoment app.now steps.now steps.now 0 world.old }
-    ensures { IfOk result (λ later. All (IsMark app.now steps.now) later.items) }
+    requires outputs { length report.old.outs ≡ length app.now.outputs }
+    requires diagnoses { length report.old.diags ≡ instance_count app.now }
+    ensures later { IfOk result (λ later. All (IsMark app.now steps.now) later.items) }
+    ensures setup { IsSetupOf app.now world.new.setup }
+    ensures outputs { length report.new.outs ≡ length app.now.outputs }
+    ensures diagnoses { length report.new.diags ≡ instance_count app.now }
 {
-    let mut report = Report::for_app(alloc, app)?;
     let mut later = Vec::new(alloc);
     let mut scans = 0;
     for place in 0..steps.len() {
         add_mark(alloc, app, steps, &mut later, every, world, place, scans)?;
         let step = &steps[place];
-        scans += pass(app, world, step, &mut report);
+        scans += pass(app, world, step, report);
     }
     Ok(later)
 }
 
-// Runs the steps of a course without a fault in a world at the beginning, and marks moments of the run.
-fn mark_steps(alloc: Global, app: &App, steps: &[Step], world: &mut World) -> Result<Marks, Memory>
+// The marks of a course, which a world at the beginning runs without a fault. What the world and `report`, room for work,
+// have then is not said. It takes memory for at most 64 worlds, one for each mark.
+pub(crate) fn mark_course(
+    alloc: Global,
+    app: &App,
+    course: &Course,
+    world: &mut World,
+    report: &mut Report,
+) -> Result<Marks, Memory>
     requires accepted { Accepted app.now }
-    requires moment { IsMoment app.now steps.now steps.now 0 world.old }
-    ensures { IfOk result (AreMarks app.now steps.now) }
+    requires course { IsCourse app.now course.now }
+    requires world { IsWorldOf app.now world.old }
+    requires outputs { length report.old.outs ≡ length app.now.outputs }
+    requires diagnoses { length report.old.diags ≡ instance_count app.now }
+    ensures marks { IfOk result (AreMarks app.now course.now.steps.items) }
+    ensures setup { IsSetupOf app.now world.new.setup }
+    ensures outputs { length report.new.outs ≡ length app.now.outputs }
+    ensures diagnoses { length report.new.diags ≡ instance_count app.now }
 {
+    let steps = course.steps.as_slice();
+    are_timely(app, steps);
+    one_meaning(app);
+    quiet_runs_release(app);
     let every = steps.len() / 64 + 1;
     let first = mark_at(alloc, app, world, 0, 0)?;
-    let later = mark_later(alloc, app, steps, every, world)?;
+    let later = mark_later(alloc, app, steps, every, world, report)?;
     Ok(Marks {
         first,
         later,
         every,
     })
-}
-
-// The marks of a course. It takes memory for at most 65 worlds, and keeps at most 64.
-pub(crate) fn mark_course(alloc: Global, app: &App, course: &Course) -> Result<Marks, Memory>
-    requires accepted { Accepted app.now }
-    requires course { IsCourse app.now course.now }
-    ensures { IfOk result (AreMarks app.now course.now.steps.items) }
-{
-    let mut world = beginning(alloc, app, course)?;
-    mark_steps(alloc, app, course.steps.as_slice(), &mut world)
 }
 
 // The last mark at which neither the scan of this number nor one behind it is done.
@@ -206,37 +196,27 @@ pub(crate) fn start_of<'a>(_app: &App, _steps: &[Step], marks: &'a Marks, scan: 
     start
 }
 
-// Whether a mark stands behind so many steps, and a world is what it is there.
-fn is_at(app: &App, steps: &[Step], mark: &Mark, place: usize, world: &World) -> bool
-    requires mark { IsMark app.now steps.now mark.now }
-    requires setup { IsSetupOf app.now world.now.setup }
-    ensures { result ≡ true → GoQuietly (machines_in world.now.setup) (length app.now.outputs) (instance_count app.now)
-        (drop place steps.now) world.now.state }
-{
-    mark.is_at(place, world)
-}
-
 // Whether a run is over behind so many steps and scans: its fault has struck, in the scan of this number, and the world
 // is at a mark what it is there without the fault. Then what is left is what it is without the fault.
 pub(crate) fn is_over(
-    app: &App,
-    steps: &[Step],
+    _app: &App,
+    _steps: &[Step],
     marks: &Marks,
     place: usize,
     scans: u64,
     strikes: u32,
     world: &World,
 ) -> bool
-    requires marks { AreMarks app.now steps.now marks.now }
-    requires setup { IsSetupOf app.now world.now.setup }
+    requires marks { AreMarks _app.now _steps.now marks.now }
+    requires setup { IsSetupOf _app.now world.now.setup }
     ensures struck { result ≡ true → strikes ≤ scans }
-    ensures quiet { result ≡ true → GoQuietly (machines_in world.now.setup) (length app.now.outputs)
-        (instance_count app.now) (drop place steps.now) world.now.state }
+    ensures quiet { result ≡ true → GoQuietly (machines_in world.now.setup) (length _app.now.outputs)
+        (instance_count _app.now) (drop place _steps.now) world.now.state }
 {
     let later = marks.later.as_slice();
     let number = place / marks.every;
     if scans < u64::from(strikes) || number == 0 || number > later.len() {
         return false;
     }
-    is_at(app, steps, &later[number - 1], place, world)
+    later[number - 1].is_at(place, world)
 }

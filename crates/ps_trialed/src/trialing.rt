@@ -13,15 +13,16 @@ use ps_model::{App, Fault, Report};
 use ps_moments::Marks;
 use ps_outcomes::{Outcome, ended_by};
 use ps_world::World;
+use std::slice::from_ref;
 
 // The faults that strike the scan of this number: the one, or none.
-fn due(faults: &[Fault], number: u64) -> &[Fault]
-    requires { length faults.now ≡ 1 }
-    ensures { result.now ≡ of_scan number faults.now }
+fn due(fault: &Fault, number: u64) -> &[Fault]
+    ensures { result.now ≡ of_scan number (fault.now ∷ []) }
 {
-    match faults {
-        [fault] if u64::from(fault.scan) == number => faults,
-        _ => &[],
+    if u64::from(fault.scan) == number {
+        from_ref(fault)
+    } else {
+        &[]
     }
 }
 
@@ -41,28 +42,26 @@ pub(crate) fn run_trial(
     world: &mut World,
     steps: &[Step],
     marks: &Marks,
-    faults: &[Fault],
+    fault: &Fault,
     struck: u32,
     report: &mut Report,
 ) -> Outcome
     requires setup { IsSetupOf app.now world.old.setup }
     requires marks { AreMarks app.now steps.now marks.now }
-    requires one { length faults.now ≡ 1 }
     requires outputs { length report.old.outs ≡ length app.now.outputs }
     requires diagnoses { length report.old.diags ≡ instance_count app.now }
     ensures shows { result ≡ shown_from (machines_in world.old.setup) (length app.now.outputs) (instance_count app.now)
-        faults.now struck 0 steps.now (world_0 (machines_in world.old.setup)) }
+        (fault.now ∷ []) struck 0 steps.now (world_0 (machines_in world.old.setup)) }
     ensures setup { IsSetupOf app.now world.new.setup }
     ensures outputs { length report.new.outs ≡ length app.now.outputs }
     ensures diagnoses { length report.new.diags ≡ instance_count app.now }
 {
     few_fields(app);
-    let strikes = faults[0].scan;
-    let start = start_of(app, steps, marks, strikes);
+    let start = start_of(app, steps, marks, fault.scan);
     world.copy_from(&start.world);
     let mut number = start.scans;
     for place in start.place..steps.len() {
-        if is_over(app, steps, marks, place, number, strikes, world) {
+        if is_over(app, steps, marks, place, number, fault.scan, world) {
             return Outcome::Silent;
         }
         let step = &steps[place];
@@ -70,7 +69,7 @@ pub(crate) fn run_trial(
             Step::Anew => world.restart(),
             Step::Scanned(scan, meant) => {
                 number += 1;
-                let verdict = world.make_scan(scan, due(faults, number), report);
+                let verdict = world.make_scan(scan, due(fault, number), report);
                 let differs = report.first_difference(meant);
                 if let Some(outcome) = ended_by(verdict, struck, scan.now, differs) {
                     return outcome;

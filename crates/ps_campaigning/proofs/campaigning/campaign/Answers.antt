@@ -25,12 +25,12 @@ returns-in-Ok g c = record {
       (moved c.in-Ok.opened.app c.in-Ok.opened.sizes app wanted _ _ _ _ _ _ _ _ _ c.campaign_app.result
       c.in-Ok.ensures.reading c.in-Ok.ensures.kept c.in-Ok.ensures.telling c.in-Ok.ensures.unsaid c.campaign_app.ensures.answers);
   unread = any_since (g.F.Files.faults c.args.files.now) (g.F.Files.faults c.open_app.new.files) (g.F.Files.faults c.campaign_app.new.files)
-      (c.args.asked.now.app.now ∷ file_meant c.args.asked.now.trace.now ∷ []) c.campaign_app.result c.in-Ok.ensures.reads c.campaign_app.ensures.unread;
+      (c.args.asked.now.app.now ∷ file_meant c.args.asked.now.trace.now ∷ []) c.campaign_app.result c.in-Ok.ensures.reads c.campaign_app.ensures.leaves.unread;
   unwritten = λ is.
       rose_since (g.O.Sink.faults c.args.out.now) (g.O.Sink.faults c.open_app.new.out) (g.O.Sink.faults c.campaign_app.new.out)
-      c.in-Ok.ensures.writes (c.campaign_app.ensures.unwritten is);
-  writes = omega (arith, c.in-Ok.ensures.writes, c.campaign_app.ensures.writes);
-  telling = c.campaign_app.ensures.telling ∙ c.in-Ok.ensures.telling;
+      c.in-Ok.ensures.writes (c.campaign_app.ensures.leaves.unwritten is);
+  writes = omega (arith, c.in-Ok.ensures.writes, c.campaign_app.ensures.leaves.stays.writes);
+  telling = c.campaign_app.ensures.leaves.stays.telling ∙ c.in-Ok.ensures.telling;
 }
 
 pub returns-in-Err : goal.returns-in-Err

@@ -1,42 +1,55 @@
-use Rattle.std.proofs.Common.{◌∙◌, IsTrue, ℕ, List, Option, Err, refl, inl, inr, sym, ap, subst, arith}
+use Rattle.std.proofs.Common.{◌∙◌, IsTrue, ℕ, Any, List, [], ◌∷◌, Option, Err, refl, inl, inr, sym, ap, subst, arith}
 use Rattle.ps_bench_base.specs.Meant.{file_meant}
+use Rattle.ps_outside.specs.Outside.{Rose}
 use Rattle.ps_totals.specs.Naming.{Names}
 use Rattle.ps_campaigning.specs.Asking.{wanted_by}
-use Rattle.ps_campaigning.proofs.Coming.{moved, trace_since}
+use Rattle.ps_campaigning.specs.Leaving.{sides}
+use Rattle.ps_campaigning.proofs.Coming.{moved}
 use Rattle.ps_campaigning.proofs.Keeping.{of_given}
+use Rattle.ps_campaigning.proofs.Leaving.{behind, trace_rose}
 use Rattle.ps_campaigning.proofs.campaigning.campaign_app.Goals as goal
 
 pub returns-in-Ok : goal.returns-in-Ok
 returns-in-Ok g c = record {
   answers = moved c.args.opened.now.app c.args.opened.now.sizes c.args.asked.now.app.now (wanted_by c.args.asked.now) _ _ _ _ _ _ _ _ _ c.campaign_named.result
       c.name_of_file.ensures.reading c.name_of_file.ensures.kept refl refl c.campaign_named.ensures.answers;
-  unread =
+  leaves =
+      let app = c.args.asked.now.app.now in
       let trace = file_meant c.args.asked.now.trace.now in
-      trace_since (g.F.Files.faults c.args.files.now) (g.F.Files.faults c.name_of_file.new.files) (g.F.Files.faults c.campaign_named.new.files)
-      c.args.asked.now.app.now trace c.campaign_named.result (c.name_of_file.ensures.reads trace) c.campaign_named.ensures.unread;
-  unwritten = c.campaign_named.ensures.unwritten;
-  writes = c.campaign_named.ensures.writes;
-  telling = c.campaign_named.ensures.telling;
+      let reads = g.F.Files.faults c.args.files.now in
+      let mid = g.F.Files.faults c.name_of_file.new.files in
+      let reads' = g.F.Files.faults c.campaign_named.new.files in
+      let before = sides reads (g.O.Sink.tells c.args.out.now) (g.O.Sink.faults c.args.out.now) in
+      let middle = sides mid (g.O.Sink.tells c.args.out.now) (g.O.Sink.faults c.args.out.now) in
+      let after = sides reads' (g.O.Sink.tells c.campaign_named.new.out) (g.O.Sink.faults c.campaign_named.new.out) in
+      behind before middle after c.campaign_named.result (Rose (mid trace) (reads' trace))
+      (Any (λ (name : List ℕ). Rose (reads name) (reads' name)) (app ∷ trace ∷ []))
+      (record { reads = c.name_of_file.ensures.reads; telling = refl; writes = omega arith }) c.campaign_named.ensures.leaves
+      (trace_rose reads mid reads' app trace (c.name_of_file.ensures.reads trace));
 }
 
 pub returns-in-Err-Fault : goal.returns-in-Err-Fault
 returns-in-Err-Fault g c = record {
   answers = inr (inr (inl refl, λ tells. refl));
-  unread = λ is.
-      let rose = c.name_of_file.ensures.fault (c.in-Err-Fault.is ∙ ap Err c.in-Err-Fault.field-0-is) in
-      (0, c.args.asked.now.app.now, omega arith, refl, rose);
-  unwritten = λ is. cc;
-  writes = omega arith;
-  telling = refl;
+  leaves =
+      record {
+        stays = record { reads = c.name_of_file.ensures.reads; telling = refl; writes = omega arith };
+        unread = λ is.
+            let rose = c.name_of_file.ensures.fault (c.in-Err-Fault.is ∙ ap Err c.in-Err-Fault.field-0-is) in
+            (0, c.args.asked.now.app.now, omega arith, refl, rose);
+        unwritten = λ is. cc;
+      };
 }
 
 pub returns-in-Err-Memory : goal.returns-in-Err-Memory
 returns-in-Err-Memory g c = record {
   answers = inr (inr (inr refl, λ tells. refl));
-  unread = λ is. cc;
-  unwritten = λ is. cc;
-  writes = omega arith;
-  telling = refl;
+  leaves =
+      record {
+        stays = record { reads = c.name_of_file.ensures.reads; telling = refl; writes = omega arith };
+        unread = λ is. cc;
+        unwritten = λ is. cc;
+      };
 }
 
 pub campaign_named-requires-clause-named : goal.campaign_named-requires-clause-named

@@ -1,6 +1,6 @@
 use Rattle.std.proofs.Common.{◌∙◌, List, ℕ, refl, inr, ap, arith}
 use Rattle.ps_campaigning.specs.Asking.{campaign_text, wanted_by}
-use Rattle.ps_campaigning.proofs.Ending.{told_ended, told_in, write_read}
+use Rattle.ps_campaigning.proofs.Ending.{told_ended, told_in}
 use Rattle.ps_course.specs.Courses.{items_in}
 use Rattle.ps_world.specs.Whole.{machines_in}
 use Rattle.ps_campaigning.proofs.campaigning.tell_trials.Goals as goal
@@ -18,17 +18,11 @@ returns-in-Ok g c = record {
       (told_in from app wanted text net c.args.name.now r net_is named records
       (λ setup is. c.in-Ok.ensures setup is
       ∙ ap (λ (name : List ℕ). campaign_text net (machines_in setup) (items_in r.course.steps.items) wanted name r.name) c.as_slice.ensures));
-  read = write_read _ c.write_told.result c.write_told.ensures.some;
-  unwritten = c.write_told.ensures.unwritten;
-  writes = c.write_told.ensures.writes;
-  telling = c.write_told.ensures.telling;
+  leaves = c.write_told.ensures.leaves;
 }
 
 pub returns-in-Err : goal.returns-in-Err
 returns-in-Err g c = record {
   answers = λ from net_is named records. inr (inr (inr refl, λ tells. refl));
-  read = λ is. cc;
-  unwritten = λ is. cc;
-  writes = omega arith;
-  telling = refl;
+  leaves = record { telling = refl; writes = omega arith; read = λ is. cc; unwritten = λ is. cc };
 }

@@ -23,13 +23,14 @@ returns-in-Err g c = record {
             (λ tells. let held = why.0 tells in (held.0, held.1, ap (λ (s : Scans). s.end) held.2), why.1);
       };
   unsaid = tt;
-  unread = c.in-Err.ensures.unread;
-  unwritten = λ is.
-      let at : c.in-Err.stop ≡ Unwritten = cc in
-      c.open_trace.ensures.unwritten (c.in-Err.is ∙ ap Err at);
-  reads = c.in-Err.ensures.reads;
-  writes = c.in-Err.ensures.writes;
-  telling = c.in-Err.ensures.telling;
+  leaves =
+      record {
+        stays = record { reads = c.in-Err.ensures.reads; telling = c.in-Err.ensures.telling; writes = c.in-Err.ensures.writes };
+        unread = c.in-Err.ensures.unread;
+        unwritten = λ is.
+            let at : c.in-Err.stop ≡ Unwritten = cc in
+            c.open_trace.ensures.unwritten (c.in-Err.is ∙ ap Err at);
+      };
 }
 
 pub returns-in-Ok-Ok : goal.returns-in-Ok-Ok
@@ -58,25 +59,23 @@ returns-in-Ok-Ok g c = record {
   stops = IfErr-weaker c.name_course.result _ _ (λ stop why. unnamed_stops _ stop _ _ _ why)
       c.name_course.ensures.stops;
   unsaid = in_any_case c.name_course.result c.in-Ok.ensures.unsaid;
-  unread =
+  leaves =
       let name = c.args.name.now in
-      IfErr-weaker c.name_course.result _ _
-      (λ stop unread is. rose_since (g.F.Files.faults c.args.files.now name)
-      (g.F.Files.faults c.read_course-read.new.files name) (g.F.Files.faults c.name_course.new.files name)
-      (omega (arith, c.in-Ok.ensures.reads name, c.read_course-read.ensures.reads name)) (unread is))
-      c.name_course.ensures.unread;
-  unwritten = λ is. unnamed_written c.name_course.result c.name_course.ensures.stops is;
-  reads =
-      λ name.
-      omega (
-        arith,
-        c.in-Ok.ensures.reads name,
-        c.read_course-read.ensures.reads name,
-        c.name_course.ensures.reads
-            name,
-      );
-  writes = c.in-Ok.ensures.writes;
-  telling = c.in-Ok.ensures.telling;
+      record {
+        stays =
+            record {
+              reads = λ other. omega (arith, c.in-Ok.ensures.reads other, c.read_course-read.ensures.reads other, c.name_course.ensures.reads other);
+              telling = c.in-Ok.ensures.telling;
+              writes = c.in-Ok.ensures.writes;
+            };
+        unread =
+            IfErr-weaker c.name_course.result _ _
+            (λ stop unread is. rose_since (g.F.Files.faults c.args.files.now name)
+            (g.F.Files.faults c.read_course-read.new.files name) (g.F.Files.faults c.name_course.new.files name)
+            (omega (arith, c.in-Ok.ensures.reads name, c.read_course-read.ensures.reads name)) (unread is))
+            c.name_course.ensures.unread;
+        unwritten = λ is. unnamed_written c.name_course.result c.name_course.ensures.stops is;
+      };
 }
 
 pub returns-in-Ok-Err : goal.returns-in-Ok-Err
@@ -103,25 +102,29 @@ returns-in-Ok-Err g c = record {
             );
       };
   unsaid = tt;
-  unread =
-      λ is.
+  leaves =
       let name = c.args.name.now in
-      let rose = c.read_course-read.ensures.fault (c.in-Ok-Err.is ∙ ap Ok
-      (c.in-Ok-Err.field-0-is ∙ ap Err (c.stop_behind.ensures.unread is))) in
-      rose_since (g.F.Files.faults c.args.files.now name) (g.F.Files.faults c.open_trace.new.files name)
-      (g.F.Files.faults c.read_course-read.new.files name)
-      (c.in-Ok.ensures.reads name)
-      (subst (λ (file : List ℕ). Rose (g.F.Files.faults c.open_trace.new.files file)
-      (g.F.Files.faults c.read_course-read.new.files file)) c.in-Ok.ensures.opened.file rose);
-  unwritten =
-      λ is.
-      let at : c.stop_behind.result ≡ Unwritten = cc in
-      rose_since (g.O.Sink.faults c.args.out.now) (g.O.Sink.faults c.open_trace.new.out)
-      (g.O.Sink.faults c.stop_behind.new.out)
-      c.in-Ok.ensures.writes (c.stop_behind.ensures.unwritten at);
-  reads = λ name. omega (arith, c.in-Ok.ensures.reads name, c.read_course-read.ensures.reads name);
-  writes = omega (arith, c.in-Ok.ensures.writes, c.stop_behind.ensures.writes);
-  telling = c.stop_behind.ensures.telling ∙ c.in-Ok.ensures.telling;
+      record {
+        stays =
+            record {
+              reads = λ other. omega (arith, c.in-Ok.ensures.reads other, c.read_course-read.ensures.reads other);
+              telling = c.stop_behind.ensures.telling ∙ c.in-Ok.ensures.telling;
+              writes = omega (arith, c.in-Ok.ensures.writes, c.stop_behind.ensures.writes);
+            };
+        unread = λ is.
+            let rose = c.read_course-read.ensures.fault (c.in-Ok-Err.is ∙ ap Ok
+            (c.in-Ok-Err.field-0-is ∙ ap Err (c.stop_behind.ensures.unread is))) in
+            rose_since (g.F.Files.faults c.args.files.now name) (g.F.Files.faults c.open_trace.new.files name)
+            (g.F.Files.faults c.read_course-read.new.files name)
+            (c.in-Ok.ensures.reads name)
+            (subst (λ (file : List ℕ). Rose (g.F.Files.faults c.open_trace.new.files file)
+            (g.F.Files.faults c.read_course-read.new.files file)) c.in-Ok.ensures.opened.file rose);
+        unwritten = λ is.
+            let at : c.stop_behind.result ≡ Unwritten = cc in
+            rose_since (g.O.Sink.faults c.args.out.now) (g.O.Sink.faults c.open_trace.new.out)
+            (g.O.Sink.faults c.stop_behind.new.out)
+            c.in-Ok.ensures.writes (c.stop_behind.ensures.unwritten at);
+      };
 }
 
 pub returns-in-Err-read : goal.returns-in-Err-read
@@ -130,11 +133,17 @@ returns-in-Err-read g c = record {
   records = λ tells. tt;
   stops = record { of_run = tt; refuses = λ refusal is. cc };
   unsaid = tt;
-  unread = λ is. cc;
-  unwritten = λ is. cc;
-  reads = λ name. omega (arith, c.in-Ok.ensures.reads name, c.read_course-read.ensures.reads name);
-  writes = c.in-Ok.ensures.writes;
-  telling = c.in-Ok.ensures.telling;
+  leaves =
+      record {
+        stays =
+            record {
+              reads = λ other. omega (arith, c.in-Ok.ensures.reads other, c.read_course-read.ensures.reads other);
+              telling = c.in-Ok.ensures.telling;
+              writes = c.in-Ok.ensures.writes;
+            };
+        unread = λ is. cc;
+        unwritten = λ is. cc;
+      };
 }
 
 pub read_course-read-requires-clause-inputs : goal.read_course-read-requires-clause-inputs

@@ -1,12 +1,12 @@
 use Rattle.std.proofs.Common.{◌≡◌, ℕ, IsTrue, List, Option, refl, sym, subst, arith}
 use Rattle.std.proofs.lemmas.Result.{IfErr-weaker}
 use Rattle.std.specs.Prelude.{IfErr, IfOk}
-use Rattle.ps_bench_base.specs.Ending.{IsUnread}
 use Rattle.ps_bench_base.specs.Meant.{file_meant}
 use Rattle.ps_outside.specs.Outside.{Rose}
 use Rattle.ps_traced.specs.Playing.{trace_held}
 use Rattle.ps_traced.specs.Refusing.{RefusesHeld, StopsAtTrace}
 use Rattle.ps_traced.proofs.Refused.{stops_weaker}
+use Rattle.ps_campaigning.specs.Leaving.{Leaves, sides}
 use Rattle.ps_campaigning.specs.Recorded.{RecordsHeld}
 use Rattle.ps_campaigning.proofs.Keeping.{none_rose}
 use Rattle.ps_campaigning.proofs.recording.record_play.Goals as goal
@@ -28,12 +28,13 @@ returns-in-Some g c = record {
       (sym c.in-Some.is) (why refl)) stops)
       c.record_named.ensures.stops;
   unsaid = c.record_named.ensures.unsaid;
-  unread = IfErr-weaker c.record_named.result _ _ (λ stop unread is. none_rose (unread is))
-      c.record_named.ensures.unread;
-  unwritten = c.record_named.ensures.unwritten;
-  reads = λ other. omega arith;
-  writes = c.record_named.ensures.writes;
-  telling = c.record_named.ensures.telling;
+  leaves =
+      let leaves = c.record_named.ensures.leaves in
+      record {
+        stays = record { reads = λ other. omega arith; telling = leaves.stays.telling; writes = leaves.stays.writes };
+        unread = IfErr-weaker c.record_named.result _ _ (λ stop unread is. none_rose (unread is)) leaves.unread;
+        unwritten = leaves.unwritten;
+      };
 }
 
 pub returns-in-None : goal.returns-in-None
@@ -56,12 +57,10 @@ returns-in-None g c = record {
       (g.O.Sink.taken c.record_named-in-None.new.out))) there
       c.record_named-in-None.ensures.stops;
   unsaid = c.record_named-in-None.ensures.unsaid;
-  unread =
-      subst (λ (name : List ℕ). IfErr c.record_named-in-None.result (λ stop. IsUnread stop →
-      Rose (g.F.Files.faults c.args.files.now name) (g.F.Files.faults c.record_named-in-None.new.files name)))
-      c.word_of-word.ensures.file c.record_named-in-None.ensures.unread;
-  unwritten = c.record_named-in-None.ensures.unwritten;
-  reads = c.record_named-in-None.ensures.reads;
-  writes = c.record_named-in-None.ensures.writes;
-  telling = c.record_named-in-None.ensures.telling;
+  leaves =
+      subst (λ (name : List ℕ). Leaves (Rose (g.F.Files.faults c.args.files.now name) (g.F.Files.faults c.record_named-in-None.new.files name))
+      (sides (g.F.Files.faults c.args.files.now) (g.O.Sink.tells c.args.out.now) (g.O.Sink.faults c.args.out.now))
+      (sides (g.F.Files.faults c.record_named-in-None.new.files) (g.O.Sink.tells c.record_named-in-None.new.out)
+      (g.O.Sink.faults c.record_named-in-None.new.out)) c.record_named-in-None.result)
+      c.word_of-word.ensures.file c.record_named-in-None.ensures.leaves;
 }

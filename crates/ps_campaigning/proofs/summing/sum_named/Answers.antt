@@ -9,10 +9,10 @@ returns-in-Ok g c = record {
   answers = told (named c.args.first.now c.args.others.now) (g.F.Files.tells c.args.files.now) (g.F.Files.held c.args.files.now) c.in-Ok.total
       (g.O.Sink.tells c.args.out.now) (g.O.Sink.taken c.args.out.now) (g.O.Sink.taken c.write_total.new.out) c.write_total.result
       c.in-Ok.ensures.sums c.write_total.ensures.writes;
-  unread = IfErr-weaker c.write_total.result _ _ (λ stop read is. absurd (read is)) c.write_total.ensures.read;
-  unwritten = c.write_total.ensures.unwritten;
-  writes = c.write_total.ensures.counts;
-  telling = c.write_total.ensures.telling;
+  unread = IfErr-weaker c.write_total.result _ _ (λ stop read is. absurd (read is)) c.write_total.ensures.leaves.read;
+  unwritten = c.write_total.ensures.leaves.unwritten;
+  writes = c.write_total.ensures.leaves.writes;
+  telling = c.write_total.ensures.leaves.telling;
 }
 
 pub returns-in-Err-Refused : goal.returns-in-Err-Refused

@@ -14,8 +14,8 @@ use Rattle.ps_trialed.proofs.campaigning.count_trials.Goals as goal
 pub loop-done-init : goal.loop-done-init
 loop-done-init c = record { counts = λ setup is. c.in_ok-tally.ensures; bench = c.requires.bench }
 
-pub try_trial-requires-clause-bench : goal.try_trial-requires-clause-bench
-try_trial-requires-clause-bench c = c.loop-done.invariant.bench
+pub try_trial-requires : goal.try_trial-requires
+try_trial-requires c = record { course = c.requires.course; bench = c.loop-done.invariant.bench }
 
 pub loop-done-preserved : goal.loop-done-preserved
 loop-done-preserved c = record {

@@ -15,5 +15,5 @@ returns c =
     subst (λ (marks : List Mark). All (IsMark net all) marks) (sym c.in_ok-push.ensures.items)
     (All-push (IsMark net all) c.args.later.now.items mark c.requires.later is)
 
-pub mark_at-requires-clause-setup : goal.mark_at-requires-clause-setup
-mark_at-requires-clause-setup c = c.requires.moment.setup
+pub mark_at-requires : goal.mark_at-requires
+mark_at-requires c = record { accepted = c.requires.accepted; setup = c.requires.moment.setup }

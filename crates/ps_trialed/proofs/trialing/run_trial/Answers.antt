@@ -1,13 +1,12 @@
-use Rattle.std.proofs.Common.{◌≡◌, ◌∙◌, ◌≤◌, ◌+◌, ◌-◌, List, [], ◌∷◌, Option, length, drop, sym, ap, subst, arith, ℕ}
+use Rattle.std.proofs.Common.{◌≡◌, ◌∙◌, ◌≤◌, ◌+◌, List, [], ◌∷◌, Option, length, drop, sym, ap, subst, arith, ℕ}
 use Rattle.std.proofs.lemmas.List.{drop_all}
 use Rattle.ps_course.specs.Courses.{AreStepsFor}
 use Rattle.ps_course.specs.declared.step.Step.{Step}
 use Rattle.ps_model.proofs.Rest.{rest_at}
-use Rattle.ps_model.specs.declared.channel.Fault.{Fault}
 use Rattle.ps_model.specs.declared.report.Report.{Report}
 use Rattle.ps_world.specs.Whole.{Whole, IsSetupOf}
 use Rattle.ps_outcomes.specs.Outcomes.{ended_by}
-use Rattle.ps_trialed.proofs.Early.{begins, is_silent, only}
+use Rattle.ps_trialed.proofs.Early.{begins, is_silent}
 use Rattle.ps_trialed.proofs.Going.{Goes, at_first, ends, goes_anew, goes_on, showing}
 use Rattle.ps_trialed.proofs.Trying.{one_setup}
 use Rattle.ps_trialed.proofs.trialing.run_trial.Goals.{in-Anew, in-Scanned+in_default}
@@ -20,126 +19,108 @@ copy_from-requires c =
 pub loop-place-init : goal.loop-place-init
 loop-place-init c =
     let net = c.args.app.now in
-    let faults = c.args.faults.now in
-    let f = c.index-faults-0.result in
+    let f = c.args.fault.now in
+    let faults = f ∷ [] in
     let start = c.start_of-start.result.now in
     let mark = c.start_of-start.ensures.mark in
-    let one = only faults f c.requires.one c.index-faults-0.is in
     record {
       goes = subst (λ (w : Whole). Goes net faults c.args.struck (showing net faults c.args.struck 0 c.args.steps.now (at_first c.args.world.now)) start.scans (drop start.place c.args.steps.now) w)
           (sym c.copy_from.ensures)
-          (begins net faults f one c.args.struck c.args.steps.now (drop start.place c.args.steps.now) start.scans c.args.world.now start.world c.requires.setup mark.moment
-          (subst (λ (x : Fault). start.scans ≤ x.scan - 1) (sym c.index-faults-0.is) c.start_of-start.ensures.before));
+          (begins net f c.args.struck c.args.steps.now (drop start.place c.args.steps.now) start.scans c.args.world.now start.world c.requires.setup mark.moment
+          c.start_of-start.ensures.before);
       few = mark.few;
       within = mark.within;
       outputs = c.requires.outputs;
       diagnoses = c.requires.diagnoses;
     }
 
-pub make_scan-verdict-requires-clause-rest : goal.make_scan-verdict-requires-clause-rest
-make_scan-verdict-requires-clause-rest c = c.loop-place.invariant.goes.rest
+pub start_of-start-requires : goal.start_of-start-requires
+start_of-start-requires c = c.requires.marks
 
-pub make_scan-verdict-requires-clause-later : goal.make_scan-verdict-requires-clause-later
-make_scan-verdict-requires-clause-later c =
+pub make_scan-verdict-requires : goal.make_scan-verdict-requires
+make_scan-verdict-requires c =
     let net = c.args.app.now in
     let all = c.args.steps.now in
     let i = c.loop-place.place in
     let inv = c.loop-place.invariant in
     let left = rest_at all i c.index-steps-place.result c.loop-place-test.true c.index-steps-place.is ∙ ap (λ (x : Step). x ∷ drop (i + 1) all) c.in-Scanned.is in
     let fits = subst (AreStepsFor net c.loop-place.world.state.last) left inv.goes.fits in
-    fits.0
+    record {
+      rest = inv.goes.rest;
+      later = fits.0;
+      inputs = fits.1 ∙ sym inv.goes.setup.sizes.inputs;
+      outs = inv.outputs ∙ sym inv.goes.setup.sizes.outputs;
+      diags = inv.diagnoses ∙ sym inv.goes.setup.sizes.instances;
+    }
 
-pub make_scan-verdict-requires-clause-inputs : goal.make_scan-verdict-requires-clause-inputs
-make_scan-verdict-requires-clause-inputs c =
+pub first_difference-differs-requires : goal.first_difference-differs-requires
+first_difference-differs-requires c =
     let net = c.args.app.now in
     let all = c.args.steps.now in
     let i = c.loop-place.place in
     let inv = c.loop-place.invariant in
     let left = rest_at all i c.index-steps-place.result c.loop-place-test.true c.index-steps-place.is ∙ ap (λ (x : Step). x ∷ drop (i + 1) all) c.in-Scanned.is in
     let fits = subst (AreStepsFor net c.loop-place.world.state.last) left inv.goes.fits in
-    fits.1 ∙ sym inv.goes.setup.sizes.inputs
+    let outs = c.make_scan-verdict.ensures.sized.0 ∙ inv.outputs in
+    let diags = c.make_scan-verdict.ensures.sized.1 ∙ inv.diagnoses in
+    record {
+      outs = outs ∙ sym fits.2;
+      diags = diags ∙ sym fits.3;
+      few = omega (arith, outs, diags, c.few_fields.ensures);
+    }
 
-pub make_scan-verdict-requires-clause-outs : goal.make_scan-verdict-requires-clause-outs
-make_scan-verdict-requires-clause-outs c = c.loop-place.invariant.outputs ∙ sym c.loop-place.invariant.goes.setup.sizes.outputs
+pub restart-requires : goal.restart-requires
+restart-requires c = c.loop-place.invariant.goes.rest
 
-pub make_scan-verdict-requires-clause-diags : goal.make_scan-verdict-requires-clause-diags
-make_scan-verdict-requires-clause-diags c = c.loop-place.invariant.diagnoses ∙ sym c.loop-place.invariant.goes.setup.sizes.instances
+pub is_over-requires : goal.is_over-requires
+is_over-requires c = record { marks = c.requires.marks; setup = c.loop-place.invariant.goes.setup }
 
-pub first_difference-differs-requires-clause-outs : goal.first_difference-differs-requires-clause-outs
-first_difference-differs-requires-clause-outs c =
+pub returns-then-is_over : goal.returns-then-is_over
+returns-then-is_over c =
     let net = c.args.app.now in
+    let f = c.args.fault.now in
+    let faults = f ∷ [] in
     let all = c.args.steps.now in
-    let i = c.loop-place.place in
     let inv = c.loop-place.invariant in
-    let left = rest_at all i c.index-steps-place.result c.loop-place-test.true c.index-steps-place.is ∙ ap (λ (x : Step). x ∷ drop (i + 1) all) c.in-Scanned.is in
-    let fits = subst (AreStepsFor net c.loop-place.world.state.last) left inv.goes.fits in
-    c.make_scan-verdict.ensures.sized.0 ∙ inv.outputs ∙ sym fits.2
+    record {
+      shows =
+          is_silent net f c.args.struck all
+          (showing net faults c.args.struck 0 all (at_first c.args.world.now)) (drop c.loop-place.place all) c.loop-place.number c.loop-place.world
+          inv.goes (c.is_over.ensures.struck c.if-is_over.true) (c.is_over.ensures.quiet c.if-is_over.true);
+      setup = inv.goes.setup;
+      outputs = inv.outputs;
+      diagnoses = inv.diagnoses;
+    }
 
-pub first_difference-differs-requires-clause-diags : goal.first_difference-differs-requires-clause-diags
-first_difference-differs-requires-clause-diags c =
+pub returns-in-Some : goal.returns-in-Some
+returns-in-Some c =
     let net = c.args.app.now in
-    let all = c.args.steps.now in
-    let i = c.loop-place.place in
-    let inv = c.loop-place.invariant in
-    let left = rest_at all i c.index-steps-place.result c.loop-place-test.true c.index-steps-place.is ∙ ap (λ (x : Step). x ∷ drop (i + 1) all) c.in-Scanned.is in
-    let fits = subst (AreStepsFor net c.loop-place.world.state.last) left inv.goes.fits in
-    c.make_scan-verdict.ensures.sized.1 ∙ inv.diagnoses ∙ sym fits.3
-
-pub first_difference-differs-requires-clause-few : goal.first_difference-differs-requires-clause-few
-first_difference-differs-requires-clause-few c =
-    let sized = c.make_scan-verdict.ensures.sized in
-    let outs = sized.0 ∙ c.loop-place.invariant.outputs in
-    let diags = sized.1 ∙ c.loop-place.invariant.diagnoses in
-    omega (arith, outs, diags, c.few_fields.ensures)
-
-pub is_over-requires-clause-setup : goal.is_over-requires-clause-setup
-is_over-requires-clause-setup c = c.loop-place.invariant.goes.setup
-
-pub returns-then-is_over-clause-setup : goal.returns-then-is_over-clause-setup
-returns-then-is_over-clause-setup c = c.loop-place.invariant.goes.setup
-
-pub returns-then-is_over-clause-shows : goal.returns-then-is_over-clause-shows
-returns-then-is_over-clause-shows c =
-    let net = c.args.app.now in
-    let faults = c.args.faults.now in
-    let all = c.args.steps.now in
-    let f = c.index-faults-0.result in
-    let one = only faults f c.requires.one c.index-faults-0.is in
-    is_silent net faults f one c.args.struck all (showing net faults c.args.struck 0 all (at_first c.args.world.now)) (drop c.loop-place.place all) c.loop-place.number c.loop-place.world
-    c.loop-place.invariant.goes (subst (λ (x : Fault). x.scan ≤ c.loop-place.number) (sym c.index-faults-0.is) (c.is_over.ensures.struck c.if-is_over.true)) (c.is_over.ensures.quiet c.if-is_over.true)
-
-pub returns-in-Some-clause-shows : goal.returns-in-Some-clause-shows
-returns-in-Some-clause-shows c =
-    let net = c.args.app.now in
-    let faults = c.args.faults.now in
+    let faults = c.args.fault.now ∷ [] in
     let struck = c.args.struck in
     let all = c.args.steps.now in
     let i = c.loop-place.place in
+    let inv = c.loop-place.invariant in
     let whole = showing net faults struck 0 all (at_first c.args.world.now) in
     let s = c.in-Scanned.scan in
     let meant = c.in-Scanned.meant in
     let made = c.make_scan-verdict.ensures in
     let left = rest_at all i c.index-steps-place.result c.loop-place-test.true c.index-steps-place.is ∙ ap (λ (x : Step). x ∷ drop (i + 1) all) c.in-Scanned.is in
-    let so = subst (λ (ss : List Step). Goes net faults struck whole c.loop-place.number ss c.loop-place.world) left c.loop-place.invariant.goes in
+    let so = subst (λ (ss : List Step). Goes net faults struck whole c.loop-place.number ss c.loop-place.world) left inv.goes in
     let v = c.make_scan-verdict.result in
     let by = c.ended_by.ensures ∙ ap (λ (d : Option ℕ). ended_by v struck s.now d) c.first_difference-differs.ensures.first in
-    ends net faults struck whole c.loop-place.number (drop (i + 1) all) c.loop-place.world s meant c.due.result.now so c.due.ensures
-    v c.make_scan-verdict.new.into made.verdict made.report c.ended_by.result c.in-Some.outcome by c.in-Some.is
-
-pub returns-in-Some-clause-setup : goal.returns-in-Some-clause-setup
-returns-in-Some-clause-setup c =
-    subst (λ (w : Whole). IsSetupOf c.args.app.now w.setup) (sym c.make_scan-verdict.ensures.events) c.loop-place.invariant.goes.setup
-
-pub returns-in-Some-clause-outputs : goal.returns-in-Some-clause-outputs
-returns-in-Some-clause-outputs c = c.make_scan-verdict.ensures.sized.0 ∙ c.loop-place.invariant.outputs
-
-pub returns-in-Some-clause-diagnoses : goal.returns-in-Some-clause-diagnoses
-returns-in-Some-clause-diagnoses c = c.make_scan-verdict.ensures.sized.1 ∙ c.loop-place.invariant.diagnoses
+    record {
+      shows =
+          ends net faults struck whole c.loop-place.number (drop (i + 1) all) c.loop-place.world s meant c.due.result.now so c.due.ensures
+          v c.make_scan-verdict.new.into made.verdict made.report c.ended_by.result c.in-Some.outcome by c.in-Some.is;
+      setup = subst (λ (w : Whole). IsSetupOf net w.setup) (sym made.events) inv.goes.setup;
+      outputs = made.sized.0 ∙ inv.outputs;
+      diagnoses = made.sized.1 ∙ inv.diagnoses;
+    }
 
 pub loop-place-preserved : goal.loop-place-preserved
 loop-place-preserved c =
     let net = c.args.app.now in
-    let faults = c.args.faults.now in
+    let faults = c.args.fault.now ∷ [] in
     let struck = c.args.struck in
     let all = c.args.steps.now in
     let i = c.loop-place.place in
@@ -178,14 +159,17 @@ loop-place-preserved c =
           }
     ]
 
-pub returns-clause-shows : goal.returns-clause-shows
-returns-clause-shows c =
+pub returns : goal.returns
+returns c =
     let net = c.args.app.now in
-    let faults = c.args.faults.now in
+    let faults = c.args.fault.now ∷ [] in
     let all = c.args.steps.now in
     let done = c.loop-place.number in
+    let inv = c.loop-place.invariant in
     let none : drop c.loop-place.place all ≡ [] = drop_all c.loop-place.place all c.loop-place-test.false in
-    sym (ap (λ (ss : List Step). showing net faults c.args.struck done ss c.loop-place.world) none) ∙ c.loop-place.invariant.goes.shows
-
-pub returns-clause-setup : goal.returns-clause-setup
-returns-clause-setup c = c.loop-place.invariant.goes.setup
+    record {
+      shows = sym (ap (λ (ss : List Step). showing net faults c.args.struck done ss c.loop-place.world) none) ∙ inv.goes.shows;
+      setup = inv.goes.setup;
+      outputs = inv.outputs;
+      diagnoses = inv.diagnoses;
+    }

@@ -1,0 +1,58 @@
+use Rattle.std.proofs.Common.{inl, inr, refl}
+use Rattle.ps_bench_base.specs.Meant.{file_meant}
+use Rattle.ps_bench_base.specs.Opening.{source}
+use Rattle.ps_outside.specs.Outside.{Rose}
+use Rattle.ps_traced.specs.Playing.{trace_held}
+use Rattle.ps_traced.proofs.Refused.{stops_weaker, word_refused}
+use Rattle.ps_campaigning.specs.Asking.{wanted_by}
+use Rattle.ps_campaigning.specs.Leaving.{sides}
+use Rattle.ps_campaigning.specs.Recorded.{RecordsHeld}
+use Rattle.ps_campaigning.proofs.Coming.{moved}
+use Rattle.ps_campaigning.proofs.Keeping.{of_given, word_recorded}
+use Rattle.ps_campaigning.proofs.Leaving.{passed, written_behind}
+use Rattle.ps_campaigning.proofs.campaigning.campaign_play.Goals as goal
+
+pub tell_trials-requires : goal.tell_trials-requires
+tell_trials-requires g c = record { accepted = c.requires.accepted; course = c.in-Ok.ensures.course }
+
+pub returns-in-Ok : goal.returns-in-Ok
+returns-in-Ok g c = record {
+  answers =
+      let net = c.args.opened.now.app in
+      let sizes = c.args.opened.now.sizes in
+      let app = c.args.asked.now.app.now in
+      let word = c.args.asked.now.trace.now in
+      let reading = g.F.Files.tells c.args.files.now in
+      let held = g.F.Files.held c.args.files.now in
+      let from = source net sizes reading held in
+      let there = trace_held c.args.cases (held (file_meant word)) in
+      moved net sizes app (wanted_by c.args.asked.now) reading reading held held (g.O.Sink.tells c.args.out.now) _ (g.O.Sink.taken c.args.out.now) _
+      (g.O.Sink.taken c.tell_trials.new.out) c.tell_trials.result refl refl c.in-Ok.ensures.leaves.stays.telling c.in-Ok.ensures.unsaid
+      (c.tell_trials.ensures.answers from refl c.requires.named
+      (λ tells. word_recorded from word c.requires.means.0 there c.in-Ok.recorded (c.requires.means.1 tells)
+      (of_given (RecordsHeld net there) c.record_play.result c.in-Ok.recorded c.in-Ok.is (c.record_play.ensures.records tells))));
+  leaves =
+      let trace = file_meant c.args.asked.now.trace.now in
+      let reads = g.F.Files.faults c.args.files.now in
+      let reads' = g.F.Files.faults c.record_play.new.files in
+      written_behind (Rose (reads trace) (reads' trace)) reads reads' (g.O.Sink.tells c.args.out.now) (g.O.Sink.tells c.record_play.new.out)
+      (g.O.Sink.tells c.tell_trials.new.out) (g.O.Sink.faults c.args.out.now) (g.O.Sink.faults c.record_play.new.out)
+      (g.O.Sink.faults c.tell_trials.new.out) c.tell_trials.result c.in-Ok.ensures.leaves.stays c.tell_trials.ensures.leaves;
+}
+
+pub returns-in-Err : goal.returns-in-Err
+returns-in-Err g c = record {
+  answers =
+      let word = c.args.asked.now.trace.now in
+      let held = g.F.Files.held c.args.files.now in
+      let from = source c.args.opened.now.app c.args.opened.now.sizes (g.F.Files.tells c.args.files.now) held in
+      inl (inr (stops_weaker _ _ c.in-Err.stop _ _ _
+      (λ refusal why tells. word_refused from word c.requires.means.0 (trace_held c.args.cases (held (file_meant word))) refusal
+      (c.requires.means.1 tells) (why tells)) c.in-Err.ensures.stops));
+  leaves =
+      let trace = file_meant c.args.asked.now.trace.now in
+      let reads = g.F.Files.faults c.args.files.now in
+      let reads' = g.F.Files.faults c.record_play.new.files in
+      passed (Rose (reads trace) (reads' trace)) (sides reads (g.O.Sink.tells c.args.out.now) (g.O.Sink.faults c.args.out.now))
+      (sides reads' (g.O.Sink.tells c.record_play.new.out) (g.O.Sink.faults c.record_play.new.out)) c.in-Err.stop c.in-Err.ensures.leaves;
+}

@@ -1,5 +1,7 @@
 -- What a line that came of a stream says.
-use Rattle.std.proofs.Common.{◌≡◌, ◌+◌, ◌++◌, ◌∷◌, [], ℕ, List, Bool, true, false, length, refl, sym, ◌∙◌, ap, subst, append_assoc}
+use Rattle.std.proofs.Common.{◌≡◌, ◌⊎◌, ◌+◌, ◌++◌, ◌∷◌, [], ℕ, List, Bool, true, false, length, take, inl, inr, refl, sym, ◌∙◌, ap, subst, append_assoc, arith}
+use Rattle.std.proofs.Math.Seq.{take-length}
+use Rattle.std.proofs.lemmas.List.{take-append-le}
 use Rattle.std.specs.Prelude.{if◌then◌else◌}
 use Rattle.ps_base.specs.declared.failing.Refusal.{Refusal}
 use Rattle.ps_base.specs.declared.failing.Rule.{Rule}
@@ -12,7 +14,7 @@ use Rattle.ps_trace.specs.Header.{Header}
 use Rattle.ps_trace.specs.Header.Header.{no_header, places, wrong}
 use Rattle.ps_trace.specs.Scans.{at_line, header_from, header_of, number_after, onto_headed, said_of, scans_from, scans_behind}
 use Rattle.ps_trace.specs.Scans.Headed.{begins, fails}
-use Rattle.ps_trace.specs.Trace.{line_said}
+use Rattle.ps_trace.specs.Trace.{Said, line_said}
 use Rattle.ps_trace.specs.Words.{fields}
 use Rattle.ps_fed.specs.Came.{IsLine, header_came, is_last, line_came}
 use Rattle.ps_fed.specs.Feeding.{Breaks, Gives, IsBehind, IsHeadless, lines_left}
@@ -38,6 +40,26 @@ said_came Line line names last bytes = refl
 said_came LastLine line names last bytes = refl
 said_came TooLong line names last bytes = absurd line
 said_came End line names last bytes = absurd line
+
+-- a line that is not too long is kept, unless it is the end
+pub line_unless_end : (came : Came) → (came ≡ Line) ⊎ (came ≡ LastLine) ⊎ (came ≡ End) → ¬ (came ≡ End) → IsLine came
+line_unless_end Line one more = tt
+line_unless_end LastLine one more = tt
+line_unless_end TooLong (inl is) more = cc
+line_unless_end TooLong (inr (inl is)) more = cc
+line_unless_end TooLong (inr (inr is)) more = cc
+line_unless_end End one more = absurd (more refl)
+
+-- what a line says to a reader with so many places for values
+pub said_line : (names last : ℕ) (values : List Bool) (bytes bytes' : List ℕ) (said : Said) → length values ≡ names → bytes ≡ bytes' →
+    line_said (length values) last (fields bytes) ≡ said → line_said names last (fields bytes') ≡ said
+said_line names last values bytes bytes' said size same says =
+    ap (λ (n : ℕ). line_said n last (fields bytes')) (sym size) ∙ ap (λ (b : List ℕ). line_said (length values) last (fields b)) (sym same) ∙ says
+
+-- what is written over all values is what stands there
+pub written : (size : ℕ) (values behind : List Bool) → length values ≡ size → take size (values ++ behind) ≡ values
+written size values behind is =
+    ap (λ (n : ℕ). take n (values ++ behind)) (sym is) ∙ take-append-le (length values) values behind (omega arith) ∙ take-length values
 
 -- the line that came stands first, and behind the last one there is none
 pub line_first : (came : Came) → IsLine came → (lines rest : List cut.Line) (bytes : List ℕ) → stream.Gives lines came bytes rest →

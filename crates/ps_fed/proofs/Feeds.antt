@@ -13,7 +13,8 @@ use Rattle.ps_lines.specs.Lines.Line.{Kept, KeptLast, Long}
 use Rattle.ps_lines.proofs.Cut.{raw_lines-ended, raw_lines-last}
 use Rattle.ps_stream.specs.declared.coming.Came.{Came}
 use Rattle.ps_stream.specs.declared.coming.Came.TheVariants.{LastLine, End}
-use Rattle.ps_fed.specs.Reading.{Gives}
+use Rattle.ps_fed.specs.Reading.{Gives, held_of, left}
+use Rattle.ps_fed.specs.declared.lines.StreamLines.{StreamLines}
 use Rattle.ps_fed.specs.Streams.{stream_lines}
 
 -- no line feed stands among bytes, nor among those behind them
@@ -120,6 +121,16 @@ read_more xs items buf post behind len f u n coming coming' held none value with
     ∙ ap (λ l. l ++ (take n buf ++ coming')) (ap (take u) value ∙ sym (ap (λ k. take u (drop k items)) none) ∙ sym (ap (λ k. take k (drop f items)) size') ∙ was)
     ∙ ap (λ l. held ++ l) (sym gives)
 
+-- What stood there before what was read stays as it is.
+pub kept_part : (xs items buf post behind : List ℕ) (len f u k : ℕ) → f ≡ 0 → xs ≡ items → u ≤ length xs → u ≤ len → k ≤ u →
+    take k (drop f (take len ((take u xs ++ (buf ++ post)) ++ behind))) ≡ take k (drop f items)
+kept_part xs items buf post behind len f u k none value within room few =
+    ap (λ j. take k (drop j (take len ((take u xs ++ (buf ++ post)) ++ behind)))) none
+    ∙ take-take k len ((take u xs ++ (buf ++ post)) ++ behind) (omega (arith, few, room))
+    ∙ ap (take k) (append_assoc (take u xs) (buf ++ post) behind)
+    ∙ take-append-le k (take u xs) ((buf ++ post) ++ behind) (omega (arith, few, length-take-le u xs within))
+    ∙ take-take k u xs few ∙ ap (take k) value ∙ sym (ap (λ j. take k (drop j items)) none)
+
 -- no line feed stands up to a place, where none stands before another one, nor behind that
 pub none_upto : (bytes : List ℕ) (from looked n : ℕ) → from ≤ looked → HasNoLineFeed (take (looked - from) (drop from bytes)) → HasNoLineFeed (take n (drop looked bytes)) →
     HasNoLineFeed (take (looked + n - from) (drop from bytes))
@@ -179,3 +190,7 @@ kept_cut longest bytes from feed upto stripped coming order held within is none 
     ∙ kept_ended longest (take (feed - from) (drop from bytes)) (take (upto - (feed + 1)) (drop (feed + 1) bytes) ++ coming) none (omega (arith, size, short))
     ∙ ap (λ (l : List ℕ). Kept l ∷ stream_lines longest (take (upto - (feed + 1)) (drop (feed + 1) bytes) ++ coming))
     (sym strips ∙ take-take stripped (feed - from) (drop from bytes) fits ∙ sym (ap (λ (k : ℕ). take k (drop from bytes)) count))
+
+-- what is left to two readers that hold and wait for the same
+pub left_same : (r r' : StreamLines) (coming coming' : List ℕ) → r.longest ≡ r'.longest → held_of r ++ coming ≡ held_of r' ++ coming' → left r coming ≡ left r' coming'
+left_same r r' coming coming' longest same = ap (λ (k : ℕ). stream_lines k (held_of r ++ coming)) longest ∙ ap (stream_lines r'.longest) same

@@ -1,3 +1,4 @@
 mod Coming
 mod Feeds
+mod Held
 mod Sizes

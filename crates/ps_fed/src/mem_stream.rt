@@ -108,7 +108,7 @@ impl Stream for MemStream {
     {
         let most = most_of(&self.sizes, self.calls);
         self.calls = self.calls.saturating_add(1);
-        if self.failing.contains(&self.calls) {
+        if is_chosen(&self.failing, self.calls) {
             self.faults = self.faults.saturating_add(1);
             return Err(Failed);
         }
@@ -117,6 +117,13 @@ impl Stream for MemStream {
         self.at += n;
         Ok(n)
     }
+}
+
+// Whether the read with this number is chosen to fail.
+fn is_chosen(failing: &[u64], call: u64) -> bool
+    ensures { IsTrue result ↔ Contains failing.now call }
+{
+    failing.contains(&call)
 }
 
 // How many bytes a read gives at most, behind so many.

@@ -6,8 +6,9 @@ waves.py PLCSAFE plcsafe-bench=FILE    both are programs
 For each run below: the rows of CSV by the reader of Python, the objects of JSON by that of Python, and the value changes by a reader
 of this script, of which each scan has the values that were last given. All three have the same values of the same names in the same
 scans; the outputs, and Ready, Error and code of each instance, are those of the lines of `run` or `fault`. Then, where valgrind is
-there, it counts the instructions that a scan takes in `run` and in each layout of `watch`, by the difference of two long traces: a layout
-takes at most three times what `run` does. The status is 0 where nothing differs and none takes more.
+there, it counts the instructions that a scan takes in `run` and in each layout of `watch`, by the difference of two long traces of a
+motor, and of two of a press whose inputs change from scan to scan: a layout takes at most three times what `run` does. The status is 0
+where nothing differs and none takes more.
 """
 import csv
 import io
@@ -36,6 +37,8 @@ RUNS = [
 ]
 # The layouts of `watch`, and how many times what `run` takes each may take.
 LAYOUTS, MOST = ("text", "csv", "json", "vcd"), 3
+# The applications of whose scans the instructions are counted.
+COUNTED = ("stop/motor.st", "press/press.st")
 
 
 def said(words):
@@ -125,10 +128,18 @@ def differences(plcsafe, bench, app, trace, faults):
     return wrong, len(rows) * len(rows[0])
 
 
-def long_trace(folder, scans):
-    """A trace of the motor of so many scans, 10 ms apart, in which a button changes each third scan and the request each seventh."""
+def strokes():
+    """The rows of a trace of the press without their times, and what stands above them."""
+    head, *rows = [line.split() for line in (ROOT / "examples/press/strokes.trace").read_text().splitlines() if line and line[0] != "#"]
+    return " ".join(head), [" ".join(row[1:]) for row in rows if len(row) == len(head)]
+
+
+def long_trace(folder, app, scans):
+    """A trace of so many scans, 10 ms apart: of the motor one in which a button changes each third scan and the request each seventh, and
+    of the press its strokes again and again."""
+    head, rows = ("time S_Stop Ack Run", [f"1 {i // 3 % 2} {i // 7 % 2}" for i in range(42)]) if app == "stop/motor.st" else strokes()
     file = pathlib.Path(folder) / f"{scans}.trace"
-    file.write_text("time S_Stop Ack Run\n" + "".join(f"{10 * i} 1 {i // 3 % 2} {i // 7 % 2}\n" for i in range(scans)))
+    file.write_text(head + "\n" + "".join(f"{10 * i} {rows[i % len(rows)]}\n" for i in range(scans)))
     return str(file)
 
 
@@ -141,15 +152,15 @@ def instructions(folder, words):
 
 def of_a_scan(folder, words):
     """How many instructions a scan takes in a call over a trace: the difference of two lengths, so that its begin and end do not count."""
-    short, long = (instructions(folder, [*words[:3], long_trace(folder, scans), *words[3:]]) for scans in (1000, 3000))
+    short, long = (instructions(folder, [*words[:3], long_trace(folder, words[2], scans), *words[3:]]) for scans in (1000, 3000))
     return (long - short) / 2000
 
 
-def times_of_run(plcsafe, bench):
-    """Of each layout of `watch` the instructions of a scan, as a multiple of those of `run`."""
+def times_of_run(plcsafe, bench, app):
+    """Of each layout of `watch` the instructions of a scan of an application, as a multiple of those of `run`."""
     with tempfile.TemporaryDirectory() as folder:
-        of_run = of_a_scan(folder, [plcsafe, "run", "stop/motor.st"])
-        return {layout: of_a_scan(folder, [bench, "watch", "stop/motor.st", "--format", layout]) / of_run for layout in LAYOUTS}
+        of_run = of_a_scan(folder, [plcsafe, "run", app])
+        return {layout: of_a_scan(folder, [bench, "watch", app, "--format", layout]) / of_run for layout in LAYOUTS}
 
 
 def main(words):
@@ -163,9 +174,10 @@ def main(words):
     for line in wrong[:20]:
         print("differs:", line)
     print(f"{len(RUNS)} runs, {count} values in each layout, {len(wrong)} differences")
-    times = times_of_run(plcsafe, bench) if shutil.which("valgrind") else {}
-    print("instructions of a scan, as a multiple of those of run:", ", ".join(f"{layout} {times[layout]:.2f}" for layout in times) or "not counted")
-    return 1 if wrong or any(times[layout] > MOST for layout in times) else 0
+    times = {app: times_of_run(plcsafe, bench, app) for app in COUNTED} if shutil.which("valgrind") else {}
+    for app, found in times.items():
+        print(f"instructions of a scan of {app}, as a multiple of those of run:", ", ".join(f"{layout} {found[layout]:.2f}" for layout in found))
+    return 1 if wrong or any(found[layout] > MOST for found in times.values() for layout in found) else 0
 
 
 if __name__ == "__main__":

@@ -1,9 +1,10 @@
-use Rattle.std.proofs.Common.{◌≡◌, ◌∙◌, [], ◌∷◌, Err, ap, arith, inl, refl}
+use Rattle.std.proofs.Common.{◌∙◌, [], ◌∷◌, Err, ap, inl, refl}
 use Rattle.ps_bench_base.proofs.Stopped.{rose_since}
 use Rattle.ps_bench_base.specs.Meant.{file_meant}
 use Rattle.ps_bench_base.specs.declared.ending.Stop.TheVariants.{Unwritten}
 use Rattle.ps_campaigning.specs.Asking.{wanted_by}
 use Rattle.ps_campaigning.proofs.Coming.{answered, any_since, moved, stops}
+use Rattle.ps_campaigning.proofs.Leaving.{app_rose, le_two, of_err}
 use Rattle.ps_campaigning.proofs.campaigning.campaign.Goals as goal
 
 pub returns-in-Ok : goal.returns-in-Ok
@@ -29,7 +30,7 @@ returns-in-Ok g c = record {
   unwritten = λ is.
       rose_since (g.O.Sink.faults c.args.out.now) (g.O.Sink.faults c.open_app.new.out) (g.O.Sink.faults c.campaign_app.new.out)
       c.in-Ok.ensures.writes (c.campaign_app.ensures.leaves.unwritten is);
-  writes = omega (arith, c.in-Ok.ensures.writes, c.campaign_app.ensures.leaves.stays.writes);
+  writes = le_two (g.O.Sink.faults c.args.out.now) _ _ c.in-Ok.ensures.writes c.campaign_app.ensures.leaves.stays.writes;
   telling = c.campaign_app.ensures.leaves.stays.telling ∙ c.in-Ok.ensures.telling;
 }
 
@@ -37,10 +38,10 @@ pub returns-in-Err : goal.returns-in-Err
 returns-in-Err g c = record {
   answers = tt;
   stops = inl c.in-Err.ensures.stops;
-  unread = λ is. (0, c.args.asked.now.app.now, omega arith, refl, c.in-Err.ensures.unread is);
-  unwritten = λ is.
-      let at : c.in-Err.stop ≡ Unwritten = cc in
-      c.open_app.ensures.unwritten (c.in-Err.is ∙ ap Err at);
+  unread = λ is.
+      app_rose (g.F.Files.faults c.args.files.now) (g.F.Files.faults c.open_app.new.files) c.args.asked.now.app.now
+      (file_meant c.args.asked.now.trace.now) (c.in-Err.ensures.unread is);
+  unwritten = λ is. c.open_app.ensures.unwritten (c.in-Err.is ∙ ap Err (of_err _ c.in-Err.stop Unwritten refl is));
   writes = c.in-Err.ensures.writes;
   telling = c.in-Err.ensures.telling;
 }

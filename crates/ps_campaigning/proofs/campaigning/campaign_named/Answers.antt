@@ -1,8 +1,8 @@
-use Rattle.std.proofs.Common.{◌≡◌, ◌∙◌, ℕ, IsTrue, List, Option, Err, ap, inl, inr, refl, sym, subst}
+use Rattle.std.proofs.Common.{◌∙◌, ℕ, IsTrue, List, Option, Err, ap, inl, inr, refl, sym, subst}
 use Rattle.ps_bench_base.proofs.Stopped.{rose_since}
 use Rattle.ps_bench_base.specs.Meant.{file_meant}
 use Rattle.ps_bench_base.specs.Opening.{source}
-use Rattle.ps_bench_base.specs.declared.ending.Stop.TheVariants.{Unwritten}
+use Rattle.ps_bench_base.specs.declared.ending.Status.TheVariants.{Usage}
 use Rattle.ps_outside.specs.Outside.{Rose}
 use Rattle.ps_totals.specs.Naming.{Names}
 use Rattle.ps_traced.proofs.Refused.{of_some}
@@ -12,7 +12,7 @@ use Rattle.ps_campaigning.specs.Asking.{wanted_by}
 use Rattle.ps_campaigning.specs.Leaving.{sides}
 use Rattle.ps_campaigning.proofs.Coming.{means_since, moved}
 use Rattle.ps_campaigning.proofs.Keeping.{of_none}
-use Rattle.ps_campaigning.proofs.Leaving.{behind}
+use Rattle.ps_campaigning.proofs.Leaving.{behind, done, stopped}
 use Rattle.ps_campaigning.proofs.campaigning.campaign_named.Goals as goal
 
 pub campaign_play-requires : goal.campaign_play-requires
@@ -62,22 +62,23 @@ returns-in-Ok-None g c = record {
     λ tells. c.in-Ok-None.ensures.unsaid,
   );
   leaves =
-      record {
-        stays = record { reads = c.in-Ok-None.ensures.reads; telling = c.in-Ok-None.ensures.telling; writes = c.in-Ok-None.ensures.writes };
-        unread = tt;
-        unwritten = λ is. cc;
-      };
+      let trace = file_meant c.args.asked.now.trace.now in
+      let reads = g.F.Files.faults c.args.files.now in
+      let reads' = g.F.Files.faults c.open_play.new.files in
+      done (Rose (reads trace) (reads' trace)) (sides reads (g.O.Sink.tells c.args.out.now) (g.O.Sink.faults c.args.out.now))
+      (sides reads' (g.O.Sink.tells c.open_play.new.out) (g.O.Sink.faults c.open_play.new.out)) Usage
+      (record { reads = c.in-Ok-None.ensures.reads; telling = c.in-Ok-None.ensures.telling; writes = c.in-Ok-None.ensures.writes });
 }
 
 pub returns-in-Err : goal.returns-in-Err
 returns-in-Err g c = record {
   answers = inl (inl c.in-Err.ensures.stops);
   leaves =
-      record {
-        stays = record { reads = c.in-Err.ensures.reads; telling = c.in-Err.ensures.telling; writes = c.in-Err.ensures.writes };
-        unread = c.in-Err.ensures.unread;
-        unwritten = λ is.
-            let at : c.in-Err.stop ≡ Unwritten = cc in
-            c.open_play.ensures.unwritten (c.in-Err.is ∙ ap Err at);
-      };
+      let trace = file_meant c.args.asked.now.trace.now in
+      let reads = g.F.Files.faults c.args.files.now in
+      let reads' = g.F.Files.faults c.open_play.new.files in
+      stopped (Rose (reads trace) (reads' trace)) (sides reads (g.O.Sink.tells c.args.out.now) (g.O.Sink.faults c.args.out.now))
+      (sides reads' (g.O.Sink.tells c.open_play.new.out) (g.O.Sink.faults c.open_play.new.out)) c.in-Err.stop
+      (record { reads = c.in-Err.ensures.reads; telling = c.in-Err.ensures.telling; writes = c.in-Err.ensures.writes })
+      c.in-Err.ensures.unread (λ at. c.open_play.ensures.unwritten (c.in-Err.is ∙ ap Err at));
 }

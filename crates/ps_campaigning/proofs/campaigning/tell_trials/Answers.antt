@@ -1,8 +1,9 @@
-use Rattle.std.proofs.Common.{◌∙◌, List, ℕ, refl, inr, ap, arith}
+use Rattle.std.proofs.Common.{◌∙◌, List, ℕ, refl, inr, ap}
 use Rattle.ps_campaigning.specs.Asking.{campaign_text, wanted_by}
 use Rattle.ps_campaigning.proofs.Ending.{told_ended, told_in}
 use Rattle.ps_course.specs.Courses.{items_in}
 use Rattle.ps_world.specs.Whole.{machines_in}
+use Rattle.ps_campaigning.proofs.Leaving.{output_no_memory}
 use Rattle.ps_campaigning.proofs.campaigning.tell_trials.Goals as goal
 
 pub returns-in-Ok : goal.returns-in-Ok
@@ -24,5 +25,5 @@ returns-in-Ok g c = record {
 pub returns-in-Err : goal.returns-in-Err
 returns-in-Err g c = record {
   answers = λ from net_is named records. inr (inr (inr refl, λ tells. refl));
-  leaves = record { telling = refl; writes = omega arith; read = λ is. cc; unwritten = λ is. cc };
+  leaves = output_no_memory (g.O.Sink.tells c.args.out.now) (g.O.Sink.faults c.args.out.now);
 }

@@ -1,6 +1,7 @@
 use Rattle.std.proofs.Common.{◌∙◌, Err, inl, inr, refl, ap}
 use Rattle.ps_totals.specs.Naming.{Names}
 use Rattle.ps_campaigning.proofs.Keeping.{of_given}
+use Rattle.ps_campaigning.proofs.Leaving.{memory_read}
 use Rattle.ps_campaigning.proofs.recording.name_course.Goals as goal
 
 pub returns-in-Ok : goal.returns-in-Ok
@@ -29,6 +30,6 @@ returns g c = record {
   course = tt;
   names = λ tells. tt;
   stops = inr refl;
-  unread = λ is. cc;
+  unread = λ is. memory_read is;
   reads = c.name_of_file.ensures.reads;
 }

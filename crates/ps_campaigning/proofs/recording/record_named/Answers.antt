@@ -1,14 +1,15 @@
-use Rattle.std.proofs.Common.{◌≡◌, ◌∙◌, ◌++◌, arith, ℕ, IsTrue, List, Ok, Err, sym, ap, subst}
+use Rattle.std.proofs.Common.{◌≡◌, ◌∙◌, ◌++◌, ℕ, IsTrue, List, Ok, Err, sym, ap, subst}
 use Rattle.std.proofs.lemmas.Result.{IfErr-weaker}
 use Rattle.std.specs.Prelude.{IfOk}
 use Rattle.ps_bench_base.proofs.Stopped.{rose_since}
-use Rattle.ps_bench_base.specs.declared.ending.Stop.TheVariants.{Unwritten}
 use Rattle.ps_course.specs.Courses.{IsCourse}
 use Rattle.ps_outside.specs.Outside.{Rose}
 use Rattle.ps_report.specs.Short.{refusal_text}
 use Rattle.ps_totals.specs.Naming.{Names}
 use Rattle.ps_trace.specs.Scans.{Scans}
 use Rattle.ps_campaigning.proofs.Keeping.{course_kept, in_any_case, of_both, records, unnamed_stops, unnamed_written}
+use Rattle.ps_campaigning.specs.Leaving.{Stays, sides}
+use Rattle.ps_campaigning.proofs.Leaving.{memory_refused, no_memory, read_on, stopped, write_on}
 use Rattle.ps_campaigning.proofs.recording.record_named.Goals as goal
 
 pub returns-in-Err : goal.returns-in-Err
@@ -24,13 +25,13 @@ returns-in-Err g c = record {
       };
   unsaid = tt;
   leaves =
-      record {
-        stays = record { reads = c.in-Err.ensures.reads; telling = c.in-Err.ensures.telling; writes = c.in-Err.ensures.writes };
-        unread = c.in-Err.ensures.unread;
-        unwritten = λ is.
-            let at : c.in-Err.stop ≡ Unwritten = cc in
-            c.open_trace.ensures.unwritten (c.in-Err.is ∙ ap Err at);
-      };
+      let name = c.args.name.now in
+      let reads = g.F.Files.faults c.args.files.now in
+      let reads' = g.F.Files.faults c.open_trace.new.files in
+      stopped (Rose (reads name) (reads' name)) (sides reads (g.O.Sink.tells c.args.out.now) (g.O.Sink.faults c.args.out.now))
+      (sides reads' (g.O.Sink.tells c.open_trace.new.out) (g.O.Sink.faults c.open_trace.new.out)) c.in-Err.stop
+      (record { reads = c.in-Err.ensures.reads; telling = c.in-Err.ensures.telling; writes = c.in-Err.ensures.writes })
+      c.in-Err.ensures.unread (λ at. c.open_trace.ensures.unwritten (c.in-Err.is ∙ ap Err at));
 }
 
 pub returns-in-Ok-Ok : goal.returns-in-Ok-Ok
@@ -61,20 +62,21 @@ returns-in-Ok-Ok g c = record {
   unsaid = in_any_case c.name_course.result c.in-Ok.ensures.unsaid;
   leaves =
       let name = c.args.name.now in
+      let reads = g.F.Files.faults c.args.files.now in
+      let reads' = g.F.Files.faults c.open_trace.new.files in
+      let reads'' = g.F.Files.faults c.read_course-read.new.files in
+      let tells = g.O.Sink.tells c.args.out.now in
+      let writes = g.O.Sink.faults c.args.out.now in
+      let opened : Stays (sides reads tells writes) (sides reads' (g.O.Sink.tells c.open_trace.new.out) (g.O.Sink.faults c.open_trace.new.out)) =
+      record { reads = c.in-Ok.ensures.reads; telling = c.in-Ok.ensures.telling; writes = c.in-Ok.ensures.writes } in
+      let read = read_on reads reads' reads'' tells _ writes _ opened c.read_course-read.ensures.reads in
       record {
-        stays =
-            record {
-              reads = λ other. omega (arith, c.in-Ok.ensures.reads other, c.read_course-read.ensures.reads other, c.name_course.ensures.reads other);
-              telling = c.in-Ok.ensures.telling;
-              writes = c.in-Ok.ensures.writes;
-            };
+        stays = read_on reads reads'' (g.F.Files.faults c.name_course.new.files) tells _ writes _ read c.name_course.ensures.reads;
         unread =
             IfErr-weaker c.name_course.result _ _
-            (λ stop unread is. rose_since (g.F.Files.faults c.args.files.now name)
-            (g.F.Files.faults c.read_course-read.new.files name) (g.F.Files.faults c.name_course.new.files name)
-            (omega (arith, c.in-Ok.ensures.reads name, c.read_course-read.ensures.reads name)) (unread is))
+            (λ stop unread is. rose_since (reads name) (reads'' name) (g.F.Files.faults c.name_course.new.files name) (read.reads name) (unread is))
             c.name_course.ensures.unread;
-        unwritten = λ is. unnamed_written c.name_course.result c.name_course.ensures.stops is;
+        unwritten = λ is. unnamed_written {P = Rose (g.O.Sink.faults c.args.out.now) (g.O.Sink.faults c.open_trace.new.out)} c.name_course.result c.name_course.ensures.stops is;
       };
 }
 
@@ -104,50 +106,47 @@ returns-in-Ok-Err g c = record {
   unsaid = tt;
   leaves =
       let name = c.args.name.now in
-      record {
-        stays =
-            record {
-              reads = λ other. omega (arith, c.in-Ok.ensures.reads other, c.read_course-read.ensures.reads other);
-              telling = c.stop_behind.ensures.telling ∙ c.in-Ok.ensures.telling;
-              writes = omega (arith, c.in-Ok.ensures.writes, c.stop_behind.ensures.writes);
-            };
-        unread = λ is.
-            let rose = c.read_course-read.ensures.fault (c.in-Ok-Err.is ∙ ap Ok
-            (c.in-Ok-Err.field-0-is ∙ ap Err (c.stop_behind.ensures.unread is))) in
-            rose_since (g.F.Files.faults c.args.files.now name) (g.F.Files.faults c.open_trace.new.files name)
-            (g.F.Files.faults c.read_course-read.new.files name)
-            (c.in-Ok.ensures.reads name)
-            (subst (λ (file : List ℕ). Rose (g.F.Files.faults c.open_trace.new.files file)
-            (g.F.Files.faults c.read_course-read.new.files file)) c.in-Ok.ensures.opened.file rose);
-        unwritten = λ is.
-            let at : c.stop_behind.result ≡ Unwritten = cc in
-            rose_since (g.O.Sink.faults c.args.out.now) (g.O.Sink.faults c.open_trace.new.out)
-            (g.O.Sink.faults c.stop_behind.new.out)
-            c.in-Ok.ensures.writes (c.stop_behind.ensures.unwritten at);
-      };
+      let reads = g.F.Files.faults c.args.files.now in
+      let reads' = g.F.Files.faults c.open_trace.new.files in
+      let reads'' = g.F.Files.faults c.read_course-read.new.files in
+      let tells = g.O.Sink.tells c.args.out.now in
+      let writes = g.O.Sink.faults c.args.out.now in
+      let opened : Stays (sides reads tells writes) (sides reads' (g.O.Sink.tells c.open_trace.new.out) (g.O.Sink.faults c.open_trace.new.out)) =
+      record { reads = c.in-Ok.ensures.reads; telling = c.in-Ok.ensures.telling; writes = c.in-Ok.ensures.writes } in
+      let read = read_on reads reads' reads'' tells _ writes _ opened c.read_course-read.ensures.reads in
+      let out = g.O.Sink.faults c.open_trace.new.out in
+      stopped (Rose (reads name) (reads'' name)) (sides reads tells writes)
+      (sides reads'' (g.O.Sink.tells c.stop_behind.new.out) (g.O.Sink.faults c.stop_behind.new.out)) c.stop_behind.result
+      (write_on reads reads'' tells _ _ writes _ _ read c.stop_behind.ensures.telling c.stop_behind.ensures.writes)
+      (λ is. rose_since (reads name) (reads' name) (reads'' name) (c.in-Ok.ensures.reads name)
+      (subst (λ (file : List ℕ). Rose (reads' file) (reads'' file)) c.in-Ok.ensures.opened.file
+      (c.read_course-read.ensures.fault (c.in-Ok-Err.is ∙ ap Ok (c.in-Ok-Err.field-0-is ∙ ap Err (c.stop_behind.ensures.unread is))))))
+      (λ at. rose_since writes out (g.O.Sink.faults c.stop_behind.new.out) c.in-Ok.ensures.writes (c.stop_behind.ensures.unwritten at));
 }
 
 pub returns-in-Err-read : goal.returns-in-Err-read
 returns-in-Err-read g c = record {
   course = tt;
   records = λ tells. tt;
-  stops = record { of_run = tt; refuses = λ refusal is. cc };
+  stops = record { of_run = tt; refuses = λ refusal is. memory_refused refusal is };
   unsaid = tt;
   leaves =
-      record {
-        stays =
-            record {
-              reads = λ other. omega (arith, c.in-Ok.ensures.reads other, c.read_course-read.ensures.reads other);
-              telling = c.in-Ok.ensures.telling;
-              writes = c.in-Ok.ensures.writes;
-            };
-        unread = λ is. cc;
-        unwritten = λ is. cc;
-      };
+      let name = c.args.name.now in
+      let reads = g.F.Files.faults c.args.files.now in
+      let reads' = g.F.Files.faults c.open_trace.new.files in
+      let reads'' = g.F.Files.faults c.read_course-read.new.files in
+      let tells = g.O.Sink.tells c.args.out.now in
+      let writes = g.O.Sink.faults c.args.out.now in
+      let opened : Stays (sides reads tells writes) (sides reads' (g.O.Sink.tells c.open_trace.new.out) (g.O.Sink.faults c.open_trace.new.out)) =
+      record { reads = c.in-Ok.ensures.reads; telling = c.in-Ok.ensures.telling; writes = c.in-Ok.ensures.writes } in
+      let read = read_on reads reads' reads'' tells _ writes _ opened c.read_course-read.ensures.reads in
+      no_memory (Rose (reads name) (reads'' name)) (sides reads tells writes)
+      (sides reads'' (g.O.Sink.tells c.open_trace.new.out) (g.O.Sink.faults c.open_trace.new.out)) read;
 }
 
-pub read_course-read-requires-clause-inputs : goal.read_course-read-requires-clause-inputs
-read_course-read-requires-clause-inputs g c = c.in-Ok.ensures.opened.inputs
-
-pub read_course-read-requires-clause-fresh : goal.read_course-read-requires-clause-fresh
-read_course-read-requires-clause-fresh g c = c.in-Ok.ensures.opened.fresh
+pub read_course-read-requires : goal.read_course-read-requires
+read_course-read-requires g c = record {
+  accepted = c.requires;
+  inputs = c.in-Ok.ensures.opened.inputs;
+  fresh = c.in-Ok.ensures.opened.fresh;
+}

@@ -1,4 +1,4 @@
-use Rattle.std.proofs.Common.{◌≡◌, ℕ, IsTrue, List, Option, refl, sym, subst, arith}
+use Rattle.std.proofs.Common.{◌≡◌, ℕ, IsTrue, List, Option, refl, sym, subst}
 use Rattle.std.proofs.lemmas.Result.{IfErr-weaker}
 use Rattle.std.specs.Prelude.{IfErr, IfOk}
 use Rattle.ps_bench_base.specs.Meant.{file_meant}
@@ -9,6 +9,7 @@ use Rattle.ps_traced.proofs.Refused.{stops_weaker}
 use Rattle.ps_campaigning.specs.Leaving.{Leaves, sides}
 use Rattle.ps_campaigning.specs.Recorded.{RecordsHeld}
 use Rattle.ps_campaigning.proofs.Keeping.{none_rose}
+use Rattle.ps_campaigning.proofs.Leaving.{no_more}
 use Rattle.ps_campaigning.proofs.recording.record_play.Goals as goal
 
 pub returns-in-Some : goal.returns-in-Some
@@ -31,8 +32,8 @@ returns-in-Some g c = record {
   leaves =
       let leaves = c.record_named.ensures.leaves in
       record {
-        stays = record { reads = λ other. omega arith; telling = leaves.stays.telling; writes = leaves.stays.writes };
-        unread = IfErr-weaker c.record_named.result _ _ (λ stop unread is. none_rose (unread is)) leaves.unread;
+        stays = record { reads = λ other. no_more (g.F.Files.faults c.args.files.now other); telling = leaves.stays.telling; writes = leaves.stays.writes };
+        unread = IfErr-weaker c.record_named.result _ _ (λ stop unread is. none_rose {P = Rose (g.F.Files.faults c.args.files.now (file_meant c.args.word.now)) (g.F.Files.faults c.args.files.now (file_meant c.args.word.now))} (unread is)) leaves.unread;
         unwritten = leaves.unwritten;
       };
 }

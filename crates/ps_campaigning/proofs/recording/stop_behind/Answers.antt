@@ -1,6 +1,8 @@
-use Rattle.std.proofs.Common.{◌∙◌, ap, arith, refl}
+use Rattle.std.proofs.Common.{◌∙◌, ap, refl}
 use Rattle.ps_trace.specs.declared.trace.TraceStop.TheVariants.{Refused}
+use Rattle.ps_bench_base.specs.declared.ending.Input.TheVariants.{Trace}
 use Rattle.ps_campaigning.proofs.Keeping.{said_refusal}
+use Rattle.ps_campaigning.proofs.Leaving.{input_unread_is, input_unread_refused, no_more}
 use Rattle.ps_campaigning.proofs.recording.stop_behind.Goals as goal
 
 pub returns-in-Refused : goal.returns-in-Refused
@@ -18,10 +20,10 @@ returns-in-Refused g c = record {
 
 pub returns-in-Fault : goal.returns-in-Fault
 returns-in-Fault g c = record {
-  refuses = λ r is. cc;
+  refuses = λ r is. input_unread_refused r is;
   of_run = tt;
   unread = λ is. c.in-Fault.is;
-  unwritten = λ is. cc;
-  writes = omega arith;
+  unwritten = λ is. input_unread_is Trace is;
+  writes = no_more (g.O.Sink.faults c.args.out.now);
   telling = refl;
 }

@@ -1,6 +1,7 @@
-use Rattle.std.proofs.Common.{◌∙◌, ◌++◌, ℕ, List, [], append-nil, ap, arith, inl, inr, refl, sym}
+use Rattle.std.proofs.Common.{◌∙◌, ◌++◌, ℕ, List, [], append-nil, ap, inl, inr, refl, sym}
 use Rattle.ps_bench_base.proofs.Stopped.{took_part}
 use Rattle.ps_bench_base.specs.Refusing.{sum_refused_line}
+use Rattle.ps_campaigning.proofs.Leaving.{memory_is, memory_read, no_more, unwritten_read}
 use Rattle.ps_campaigning.proofs.summing.refuse_sum.Goals as goal
 
 pub returns-in-Ok-write_all : goal.returns-in-Ok-write_all
@@ -24,7 +25,7 @@ returns-in-Ok g c = record {
         (sum_refused_line c.args.refusal) (g.O.Sink.taken c.write_all.new.out) (c.as_slice.ensures ∙ c.in-Ok.ensures)
         c.in-Err-write_all.ensures.part,
   );
-  read = λ is. cc;
+  read = λ is. unwritten_read is;
   unwritten = λ is. c.in-Err-write_all.ensures.stopped;
   writes = c.in-Err-write_all.ensures.counts;
   telling = c.in-Err-write_all.ensures.telling;
@@ -33,8 +34,8 @@ returns-in-Ok g c = record {
 pub returns : goal.returns
 returns g c = record {
   refuses = inr (inr refl, λ told. ([], sum_refused_line c.args.refusal, sym (append-nil (g.O.Sink.taken c.args.out.now)), refl));
-  read = λ is. cc;
-  unwritten = λ is. cc;
-  writes = omega arith;
+  read = λ is. memory_read is;
+  unwritten = λ is. memory_is is;
+  writes = no_more (g.O.Sink.faults c.args.out.now);
   telling = refl;
 }

@@ -1,7 +1,9 @@
-use Rattle.std.proofs.Common.{ℕ, List, Any, inr, refl, subst, arith}
+use Rattle.std.proofs.Common.{ℕ, List, Any, inr, refl, subst}
 use Rattle.std.specs.Prelude.{IfErr}
 use Rattle.ps_bench_base.specs.Ending.{IsUnread}
 use Rattle.ps_outside.specs.Outside.{Rose}
+use Rattle.ps_bench_base.specs.declared.ending.Status.TheVariants.{Usage}
+use Rattle.ps_campaigning.proofs.Leaving.{done_written, no_more}
 use Rattle.ps_campaigning.proofs.Summed.{answered, names_in, none_in, parted, stopped}
 use Rattle.ps_campaigning.proofs.summing.sum.Goals as goal
 
@@ -26,7 +28,7 @@ returns-in-None g c = record {
   answers = inr (none_in c.args.names.now c.in-None.ensures.cases, refl, λ tells. refl);
   stops = tt;
   unread = tt;
-  unwritten = λ is. cc;
-  writes = omega arith;
+  unwritten = λ is. done_written _ Usage refl is;
+  writes = no_more (g.O.Sink.faults c.args.out.now);
   telling = refl;
 }

@@ -1,6 +1,7 @@
-use Rattle.std.proofs.Common.{◌≡◌, ◌∙◌, Err, inl, inr, refl, ap, arith}
+use Rattle.std.proofs.Common.{◌∙◌, Err, inl, inr, refl, ap}
 use Rattle.std.proofs.lemmas.Result.{IfErr-weaker}
 use Rattle.ps_bench_base.specs.declared.ending.Stop.TheVariants.{Unwritten}
+use Rattle.ps_campaigning.proofs.Leaving.{input_unread_written, memory_read, memory_written, no_more, of_err}
 use Rattle.ps_campaigning.proofs.Summed.{named, told}
 use Rattle.ps_campaigning.proofs.summing.sum_named.Goals as goal
 
@@ -23,9 +24,7 @@ returns-in-Err-Refused g c = record {
     c.refuse_sum.ensures.refuses,
   );
   unread = λ is. absurd (c.refuse_sum.ensures.read is);
-  unwritten = λ is.
-      let at : c.refuse_sum.result ≡ Unwritten = cc in
-      c.refuse_sum.ensures.unwritten at;
+  unwritten = λ is. c.refuse_sum.ensures.unwritten (of_err _ c.refuse_sum.result Unwritten refl is);
   writes = c.refuse_sum.ensures.writes;
   telling = c.refuse_sum.ensures.telling;
 }
@@ -35,16 +34,16 @@ returns-in-Err-Unread g c = record {
   answers = inr (inr (inl refl, λ tells. refl));
   unread = λ is.
       c.sum_files.ensures.unread c.in-Err-Unread.place (c.in-Err-Unread.is ∙ ap Err c.in-Err-Unread.field-0-is);
-  unwritten = λ is. cc;
-  writes = omega arith;
+  unwritten = λ is. input_unread_written _ _ refl is;
+  writes = no_more (g.O.Sink.faults c.args.out.now);
   telling = refl;
 }
 
 pub returns-in-Err-NoMemory : goal.returns-in-Err-NoMemory
 returns-in-Err-NoMemory g c = record {
   answers = inr (inr (inr refl, λ tells. refl));
-  unread = λ is. cc;
-  unwritten = λ is. cc;
-  writes = omega arith;
+  unread = λ is. memory_read is;
+  unwritten = λ is. memory_written _ refl is;
+  writes = no_more (g.O.Sink.faults c.args.out.now);
   telling = refl;
 }

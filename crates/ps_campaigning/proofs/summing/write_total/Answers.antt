@@ -1,5 +1,6 @@
-use Rattle.std.proofs.Common.{◌∙◌, arith, inr, refl}
+use Rattle.std.proofs.Common.{◌∙◌, inr, refl}
 use Rattle.ps_campaigning.proofs.Summed.{written}
+use Rattle.ps_campaigning.proofs.Leaving.{output_no_memory}
 use Rattle.ps_campaigning.proofs.summing.write_total.Goals as goal
 
 pub returns-in-Ok : goal.returns-in-Ok
@@ -13,5 +14,5 @@ returns-in-Ok g c = record {
 pub returns-in-Err : goal.returns-in-Err
 returns-in-Err g c = record {
   writes = inr (refl, λ tells. refl);
-  leaves = record { telling = refl; writes = omega arith; read = λ is. cc; unwritten = λ is. cc };
+  leaves = output_no_memory (g.O.Sink.tells c.args.out.now) (g.O.Sink.faults c.args.out.now);
 }

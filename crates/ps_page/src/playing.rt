@@ -1,6 +1,6 @@
 // The run of a case of which it is kept what is shown.
 
-ghost use Rattle.std.specs.Prelude.{◌≡◌, ℕ, List, IsTrue, IfOk, IfSome, Some};
+ghost use Rattle.std.specs.Prelude.{◌≡◌, ◌≢◌, List, IfOk, IsSomeAnd, OnOk};
 ghost use Rattle.ps_cases.specs.Legible.{IsLegible};
 ghost use Rattle.ps_cases.specs.Meant.{faults_in, whole_case};
 ghost use Rattle.ps_cases.specs.Runnable.{IsRunnable};
@@ -12,14 +12,15 @@ ghost use Rattle.ps_recorder.specs.Marks.{names_shown};
 ghost use Rattle.ps_recorder.specs.Recorder.{IsFresh};
 ghost use Rattle.ps_terms.specs.declared.name.Name.{Name as NameOf};
 ghost use Rattle.ps_trace.specs.FaultOrder.{AreInOrder, AreOfOneChannel};
-ghost use Rattle.ps_trace.specs.Reading.{IsReadingTrace, file_of, input_count_of, items_left};
+ghost use Rattle.ps_trace.specs.Reading.{IsReadingTrace, input_count_of, items_left};
+ghost use Rattle.ps_trace.specs.Scans.End.{whole};
 
 use ps_base::Memory;
 use ps_cases::laws::expanded_trace_is_read;
 use ps_cases::{Case, CaseFile};
 use ps_expand::faults_of;
 use ps_model::App;
-use ps_outside::{Files, TextFail};
+use ps_outside::TextFail;
 use ps_recorder::{Recorder, Recording, names_shown, record_items, scans_expected};
 use ps_runs::{Runner, StruckWorld, Watched};
 use ps_trace::{Faults, TraceReader};
@@ -27,13 +28,13 @@ use ps_traced::Expansion;
 use ps_world::World;
 use std::alloc::Global;
 
-// Runs a trace from its first scan on, with these faults, and gives what is shown of it. None: it is no trace of the
-// application, which does not come of the trace of a case.
-fn record_trace<F: Files>(
+// Runs a trace that is held in memory from its first scan on, with these faults, and gives what is shown of it. None:
+// it is refused, which a trace that is whole is not.
+fn record_trace(
     alloc: Global,
     app: &App,
     trace: &mut TraceReader,
-    files: &mut F,
+    text: &mut Expansion,
     faults: Faults,
     recorder: Recorder,
 ) -> Result<Option<Recording>, Memory>
@@ -41,15 +42,14 @@ fn record_trace<F: Files>(
     requires ordered { AreInOrder faults }
     requires one_channel { AreOfOneChannel faults }
     requires inputs { input_count_of trace.old ≡ input_count app.now }
-    ensures records { IsTrue (F.tells files.old) → (text : List ℕ) →
-        F.held files.old (file_of trace.old) ≡ Some text → IsReadingTrace trace.old text →
+    ensures records { IsReadingTrace trace.old text.old → (items_left trace.old text.old).end ≡ whole →
         (names : List NameOf) → IsFresh names recorder →
-        IfOk result (λ got. IfSome got (RecordsItems app.now names (items_left trace.old text).items faults)) }
+        IfOk result (λ got. IsSomeAnd got (RecordsItems app.now names (items_left trace.old text.old).items faults)) }
 {
     let world = StruckWorld::new(World::build(alloc, app)?, faults);
     let performer = Watched::new(alloc, app, world)?;
     let mut runner = Runner::for_app(alloc, app, performer, recorder)?;
-    match record_items(app, trace, &mut runner, files) {
+    match record_items(app, trace, &mut runner, text) {
         Ok(()) => {
             let Runner { taker, .. } = runner;
             Ok(Some(taker.finish()?))
@@ -58,8 +58,19 @@ fn record_trace<F: Files>(
     }
 }
 
-/// Runs a case of a case file in a world of its own, and gives what is shown of it. None: its trace is none of the
-/// application, which does not come of a case that can be run. `Memory`: memory is wanting.
+// What is shown of a trace that is not begun: nothing, unless memory is wanting.
+fn not_begun(why: TextFail) -> Result<Option<Recording>, Memory>
+    ensures { OnOk result (why ≢ TextFail.Memory) }
+{
+    match why {
+        TextFail::Refused(_) => Ok(None),
+        TextFail::Fault => Ok(None),
+        TextFail::Memory => Err(Memory),
+    }
+}
+
+/// Runs a case of a case file in a world of its own, and gives what is shown of it. None: its trace is refused, which
+/// one that is read as it was written is not. `Memory`: memory is wanting.
 pub fn record_case(
     alloc: Global,
     app: &App,
@@ -68,9 +79,9 @@ pub fn record_case(
 ) -> Result<Option<Recording>, Memory>
     requires accepted { Accepted app.now }
     requires runnable { IsRunnable app.now (whole_case file.now case.now) }
-    // What is shown is the run that the case means.
+    // Where its trace is read as it was written the case is shown, by the run that it means.
     ensures records { IsLegible app.now (alone file.now case.now) →
-        IfOk result (λ got. IfSome got (IsRecordingOf app.now (whole_case file.now case.now))) }
+        IfOk result (λ got. IsSomeAnd got (IsRecordingOf app.now (whole_case file.now case.now))) }
 {
     app.sound();
     expanded_trace_is_read();
@@ -83,7 +94,6 @@ pub fn record_case(
     );
     match TraceReader::start(alloc, &mut text, "", app) {
         Ok(mut trace) => record_trace(alloc, app, &mut trace, &mut text, faults, recorder),
-        Err(TextFail::Memory) => Err(Memory),
-        Err(_) => Ok(None),
+        Err(why) => not_begun(why),
     }
 }

@@ -2,3 +2,5 @@ pub mod Expecting
 pub mod Filming
 pub mod Seeing
 pub mod Recorded
+pub mod Lasting
+pub mod Stopping

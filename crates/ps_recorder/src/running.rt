@@ -1,15 +1,18 @@
 // The loop over the scans of a trace that are recorded.
 
-ghost use Rattle.std.specs.Prelude.{◌≡◌, ◌≤◌, ℕ, List, IsTrue, OnOk, Some, ⊤};
+ghost use Rattle.std.specs.Prelude.{◌≡◌, ◌≤◌, ℕ, List, IsTrue, Err, OnOk, Some, ⊤};
+ghost use Rattle.ps_base.specs.declared.failing.Refusal.{Refusal as RefusalOf};
 ghost use Rattle.ps_model.specs.Meaning.{Meaning};
 ghost use Rattle.ps_model.specs.Network.{input_count};
 ghost use Rattle.ps_model.specs.Scanning.{State};
 ghost use Rattle.ps_recorder.specs.Running.{HasRecorded, IsBegun, made_of};
+ghost use Rattle.ps_runs.specs.Cutting.{TellsFailures};
 ghost use Rattle.ps_runs.specs.Performing.{IsStruckWorldFor};
 ghost use Rattle.ps_runs.specs.Running.{Fits};
 ghost use Rattle.ps_runs.specs.Watching.{IsWatchedFor};
 ghost use Rattle.ps_terms.specs.declared.name.Name.{Name as NameOf};
 ghost use Rattle.ps_trace.specs.Reading.{IsReadingTrace, file_of, input_count_of, items_left, last_of};
+ghost use Rattle.ps_trace.specs.Scans.End.{refused};
 
 use crate::recording::Recorder;
 use ps_model::App;
@@ -54,6 +57,13 @@ pub fn record_items<F: Files>(
         (ws : List State) → Meaning app.now (items_left trace.old text).items ws →
         OnOk result (HasRecorded app.now names
         (made_of app.now runner.old.performer.performer (items_left trace.old text).items ws) runner.new.taker) }
+    // A refusal is that of the trace.
+    ensures refuses { IsTrue (F.tells files.old) → (text : List ℕ) →
+        F.held files.old (file_of trace.old) ≡ Some text → IsReadingTrace trace.old text →
+        (refusal : RefusalOf) → result ≡ Err (Cut.Refused refusal) →
+        (items_left trace.old text).end ≡ refused refusal }
+    // It stops for nothing else but a failed read.
+    ensures failures { TellsFailures (file_of trace.old) (F.faults files.old) (F.faults files.new) 0 0 result }
 {
     app.sound();
     do_items(app, trace, runner, files, &mut Nothing {})

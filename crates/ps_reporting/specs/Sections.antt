@@ -28,9 +28,10 @@ pub record IsDrawn (r : Ran) (before after : List Piece) : Type 0 where
 abbrev pub no_diagram : List Piece
 no_diagram = element P (codes "There is no timing diagram of this case.")
 
--- A case has its timing diagram, or it is said that there is none.
+-- A case has its timing diagram. That there is none is said only of a case whose trace is not read as it was written.
 abbrev pub HasDiagram : Ran → (before after : List Piece) → Type 0
-HasDiagram r before after = IsDrawn r before after ⊎ (after ≡ before ++ no_diagram)
+HasDiagram r before after =
+    IsDrawn r before after ⊎ ((¬ IsLegible r.net (alone r.file r.case)) × (after ≡ before ++ no_diagram))
 
 -- The part of a case that was run: its name, what `test` tells of it, and its timing diagram.
 pub record HasSection (r : Ran) (before after : List Piece) : Type 0 where

@@ -1,5 +1,5 @@
-use Rattle.std.proofs.Common.{◌≡◌, ◌∙◌, ◌+◌, ◌++◌, [], ◌∷◌, List, drop, sym, ap, append_assoc}
-use Rattle.std.proofs.lemmas.List.{drop_more}
+use Rattle.std.proofs.Common.{◌≡◌, ◌∙◌, ◌+◌, ◌++◌, [], ◌∷◌, List, drop, refl, sym, ap, append_assoc, append-nil}
+use Rattle.std.proofs.lemmas.List.{drop_all, drop_more}
 use Rattle.ps_cases.specs.declared.case.Statement.{Statement}
 use Rattle.ps_recorder.proofs.Expecting.{marks-append}
 use Rattle.ps_recorder.specs.Marks.{marks_in}
@@ -19,3 +19,12 @@ loop-statement-preserved c =
     ∙ append_assoc marks (marks_in failures (s ∷ [])) (marks_in failures rest)
     ∙ ap (λ (ms : List Mark). marks ++ ms) (sym (marks-append failures (s ∷ []) rest))
     ∙ sym (ap (λ (ss : List Statement). marks ++ marks_in failures ss) next) ∙ c.loop-statement.invariant
+
+pub loop-statement-init : goal.loop-statement-init
+loop-statement-init c = refl
+
+pub returns : goal.returns
+returns c =
+    let marks = c.loop-statement.marks.items in
+    sym (append-nil marks) ∙ sym (ap (λ ss. marks ++ marks_in c.args.failures.now ss) (drop_all c.loop-statement.statement-index c.args.statements.now c.loop-statement-test.false))
+    ∙ c.loop-statement.invariant

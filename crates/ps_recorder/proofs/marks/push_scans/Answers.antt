@@ -1,5 +1,5 @@
-use Rattle.std.proofs.Common.{◌≡◌, ◌∙◌, ◌+◌, ◌++◌, [], ◌∷◌, List, ℕ, drop, sym, ap, append_assoc}
-use Rattle.std.proofs.lemmas.List.{drop_more}
+use Rattle.std.proofs.Common.{◌≡◌, ◌∙◌, ◌+◌, ◌++◌, [], ◌∷◌, List, ℕ, drop, refl, sym, ap, append_assoc, append-nil}
+use Rattle.std.proofs.lemmas.List.{drop_all, drop_more}
 use Rattle.ps_cases.specs.declared.case.Statement.{Statement}
 use Rattle.ps_recorder.proofs.Expecting.{scans-append}
 use Rattle.ps_recorder.specs.Marks.{scans_in}
@@ -17,3 +17,12 @@ loop-statement-preserved c =
     ∙ append_assoc scans (scans_in (s ∷ [])) (scans_in rest)
     ∙ ap (λ (ns : List ℕ). scans ++ ns) (sym (scans-append (s ∷ []) rest))
     ∙ sym (ap (λ (ss : List Statement). scans ++ scans_in ss) next) ∙ c.loop-statement.invariant
+
+pub loop-statement-init : goal.loop-statement-init
+loop-statement-init c = refl
+
+pub returns : goal.returns
+returns c =
+    let scans = c.loop-statement.scans.items in
+    sym (append-nil scans) ∙ sym (ap (λ ss. scans ++ scans_in ss) (drop_all c.loop-statement.statement-index c.args.statements.now c.loop-statement-test.false))
+    ∙ c.loop-statement.invariant

@@ -1,5 +1,5 @@
 use Rattle.std.proofs.Common.{◌∙◌, ◌++◌, [], ◌∷◌, map, get_or, take, sym, ap}
-use Rattle.std.proofs.lemmas.List.{map-append, take_more}
+use Rattle.std.proofs.lemmas.List.{map-append, take_all, take_more}
 use Rattle.ps_seen.specs.Moments.{moment_of}
 use Rattle.ps_seen.specs.Named.{value_in}
 use Rattle.ps_terms.specs.declared.name.Name.TheVariants.{Signal}
@@ -13,3 +13,11 @@ loop-name-preserved c =
     let value = value_in c.args.app.now (moment_of c.args.seen.now) in
     c.in_ok-push.ensures.items ∙ (λ i. c.loop-name.invariant i ++ c.value_of.ensures i ∷ [])
     ∙ sym (ap (map value) (take_more names k (Signal 0) c.loop-name-test.true) ∙ map-append value (take k names) (name ∷ []))
+
+pub loop-name-init : goal.loop-name-init
+loop-name-init c = c.new-values.ensures.items
+
+pub returns : goal.returns
+returns c =
+    c.loop-name.invariant
+    ∙ ap (map (value_in c.args.app.now (moment_of c.args.seen.now))) (take_all c.loop-name.name-index c.args.names.now c.loop-name-test.false)

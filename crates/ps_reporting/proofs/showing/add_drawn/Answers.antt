@@ -1,5 +1,5 @@
 use Rattle.std.proofs.Common.{Option, inl, inr, subst}
-use Rattle.std.specs.Prelude.{IfSome}
+use Rattle.std.specs.Prelude.{IsSomeAnd}
 use Rattle.std.proofs.lemmas.Result.{on_ok_weaker}
 use Rattle.ps_cases.specs.Meant.{whole_case}
 use Rattle.ps_page.specs.Played.{IsRecordingOf}
@@ -12,9 +12,15 @@ returns-in_ok-id-in-Some c =
     let case = whole_case run.file.now run.case.now in
     on_ok_weaker c.add_diagram.result (λ shows. inl (record {
       recording = c.in-Some.recording;
-      is_of = λ legible. subst (λ (o : Option Recording). IfSome o (IsRecordingOf run.app.now case)) c.in-Some.is (c.in_ok-recording.ensures.records legible);
+      is_of = λ legible. subst (λ (o : Option Recording). IsSomeAnd o (IsRecordingOf run.app.now case)) c.in-Some.is (c.in_ok-recording.ensures.records legible);
       shows = shows;
     })) c.add_diagram.ensures
 
 pub returns-in-None : goal.returns-in-None
-returns-in-None c = on_ok_weaker c.add_parts.result (λ is. inr is) c.add_parts.ensures
+returns-in-None c =
+    let run = c.args.run.now in
+    let case = whole_case run.file.now run.case.now in
+    on_ok_weaker c.add_parts.result (λ is. inr (
+      λ legible. subst (λ (o : Option Recording). IsSomeAnd o (IsRecordingOf run.app.now case)) c.in-None.is (c.in_ok-recording.ensures.records legible),
+      is,
+    )) c.add_parts.ensures

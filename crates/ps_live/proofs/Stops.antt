@@ -50,5 +50,5 @@ where_cut P (Err other) cut is holds = holds
 -- what holds where all is handed on holds unless a write failed
 pub unless_unwritten : {X : Type 0} (P : Type 0) (handed : Result X Cut) → ((cut : Cut) → handed ≡ Err cut → cut ≡ IsUnwritten) → OnOk handed P →
     ¬ (handed ≡ Err IsUnwritten) → P
-unless_unwritten P (Ok x) only holds no = holds
-unless_unwritten P (Err cut) only holds no = absurd (no (ap Err (only cut refl)))
+unless_unwritten P (Ok x) only holds other = holds
+unless_unwritten P (Err cut) only holds other = absurd (other (ap Err (only cut refl)))

@@ -41,8 +41,8 @@ returns-in-Ok g c = record {
   telling = c.run_behind.ensures.telling ∙ c.hand_on.ensures.telling;
 }
 
-pub returns-in-Err : goal.returns-in-Err
-returns-in-Err g c = record {
+pub returns : goal.returns
+returns g c = record {
   runs = λ told. inl (λ tells. c.hand_on.ensures.kept ∙ sym (append-nil (g.O.Sink.taken c.args.out.now)));
   handed_on = tt;
   handed_on_before = λ is. cc;

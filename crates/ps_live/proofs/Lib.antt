@@ -3,5 +3,6 @@ pub mod Coming
 mod Going
 mod Quiet
 mod Ran
+mod Stops
 mod Told
 mod Watched

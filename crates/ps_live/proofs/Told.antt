@@ -149,3 +149,12 @@ module _ (net : Network) (bytes : List ℕ) (feed : Feed) (lines : List Line) (b
         RunsStream true net bytes coming tells before after (Err (stop_by cut))
     names_cut = cut_run true net p.performer.world begun.world.world (Watches Performs net) (watcher_said net) (watcher_takes net)
         bytes feed lines behind p p' w w' p'.performer.tripped (names_come net sound p p' w w' begun spared feed.last) (none_refused_beside net)
+
+-- what is said of a run to an output that is handed on before it
+pub moved : (net : Network) (bytes coming : List ℕ) (by_name by_name' : Bool) (tells tells' : Bool) (before before' after : List ℕ) (ended : Result Bool live.LiveStop) →
+    by_name ≡ by_name' → tells ≡ tells' → before ≡ before' →
+    RunsStream by_name net bytes coming tells before after ended → RunsStream by_name' net bytes coming tells' before' after ended
+moved net bytes coming by_name by_name' tells tells' before before' after ended same telling kept runs =
+    subst (λ (b : Bool). RunsStream b net bytes coming tells' before' after ended) same
+    (subst (λ (t : Bool). RunsStream by_name net bytes coming t before' after ended) telling
+    (subst (λ (b : List ℕ). RunsStream by_name net bytes coming tells b after ended) kept runs))

@@ -44,12 +44,12 @@ returns-in-Err-Unread g c =
     let here = c.in-Err-Unread.is ∙ ap Err c.in-Err-Unread.field-0-is in
     record {
       ends = inr (inl (
-    refl,
-    ran c.args.names c.args.app.now
-        (fed (g.I.Stream.tells c.args.input.now) (g.I.Stream.coming c.args.input.now) (g.I.Stream.coming c.run_stream.new.input))
-        (g.O.Sink.tells c.args.out.now) (g.O.Sink.taken c.args.out.now) (g.O.Sink.taken c.run_stream.new.out) c.in-Err-Unread.field-0
-        living.TheVariants.Unread c.in-Err-Unread.field-0-is c.in-Err-Unread.ensures.runs,
-  ));
+        refl,
+        ran c.args.names c.args.app.now
+            (fed (g.I.Stream.tells c.args.input.now) (g.I.Stream.coming c.args.input.now) (g.I.Stream.coming c.run_stream.new.input))
+            (g.O.Sink.tells c.args.out.now) (g.O.Sink.taken c.args.out.now) (g.O.Sink.taken c.run_stream.new.out) c.in-Err-Unread.field-0
+            living.TheVariants.Unread c.in-Err-Unread.field-0-is c.in-Err-Unread.ensures.runs,
+      ));
       handed_on_before = λ is. c.run_stream.ensures.handed_on_before here;
       unread = λ unread. c.run_stream.ensures.unread here;
       unwritten = λ is. cc;

@@ -11,9 +11,9 @@ use Rattle.ps_live.proofs.teller.run_names.Goals as goal
 pub returns-in-Ok : goal.returns-in-Ok
 returns-in-Ok g c = record {
   runs = λ told bytes behind.
-          names_ended c.args.app.now bytes c.args.feed.now (lines_left c.args.feed.now (g.I.Stream.coming c.args.input.now)) behind
-          c.sound.ensures c.args.runner.now.performer c.answer_lines.new.runner.performer c.args.runner.now.taker c.answer_lines.new.runner.taker c.requires.begun c.requires.spared (lines_left c.answer_lines.new.feed (g.I.Stream.coming c.answer_lines.new.input))
-          (g.O.Sink.tells c.args.out.now) (g.O.Sink.taken c.args.out.now) (g.O.Sink.taken c.answer_lines.new.out) (g.I.Stream.coming c.answer_lines.new.input) tt (c.in-Ok.ensures.answers told);
+      names_ended c.args.app.now bytes c.args.feed.now (lines_left c.args.feed.now (g.I.Stream.coming c.args.input.now)) behind
+      c.sound.ensures c.args.runner.now.performer c.answer_lines.new.runner.performer c.args.runner.now.taker c.answer_lines.new.runner.taker c.requires.begun c.requires.spared (lines_left c.answer_lines.new.feed (g.I.Stream.coming c.answer_lines.new.input))
+      (g.O.Sink.tells c.args.out.now) (g.O.Sink.taken c.args.out.now) (g.O.Sink.taken c.answer_lines.new.out) (g.I.Stream.coming c.answer_lines.new.input) tt (c.in-Ok.ensures.answers told);
   handed_on = c.in-Ok.ensures.handed_on;
   handed_on_before = λ none is. cc;
   unread = λ is. cc;
@@ -28,14 +28,14 @@ returns-in-Ok g c = record {
 pub returns-in-Err : goal.returns-in-Err
 returns-in-Err g c = record {
   runs = λ told bytes behind.
-          let coming = g.I.Stream.coming c.answer_lines.new.input in
-          let tells = g.O.Sink.tells c.args.out.now in
-          let before = g.O.Sink.taken c.args.out.now in
-          let after = g.O.Sink.taken c.answer_lines.new.out in
-          subst (λ (stop : LiveStop). RunsStream true c.args.app.now bytes coming tells before after (Err stop)) (sym c.stop_of.ensures)
-          (names_cut c.args.app.now bytes c.args.feed.now (lines_left c.args.feed.now (g.I.Stream.coming c.args.input.now)) behind
-          c.sound.ensures c.args.runner.now.performer c.answer_lines.new.runner.performer c.args.runner.now.taker c.answer_lines.new.runner.taker c.requires.begun c.requires.spared c.answer_lines.new.feed coming c.in-Err.cut tells before after (c.in-Err.ensures.answers told)
-          (λ is. c.answer_lines.ensures.all_came (c.in-Err.is ∙ ap Err is)));
+      let coming = g.I.Stream.coming c.answer_lines.new.input in
+      let tells = g.O.Sink.tells c.args.out.now in
+      let before = g.O.Sink.taken c.args.out.now in
+      let after = g.O.Sink.taken c.answer_lines.new.out in
+      subst (λ (stop : LiveStop). RunsStream true c.args.app.now bytes coming tells before after (Err stop)) (sym c.stop_of.ensures)
+      (names_cut c.args.app.now bytes c.args.feed.now (lines_left c.args.feed.now (g.I.Stream.coming c.args.input.now)) behind
+      c.sound.ensures c.args.runner.now.performer c.answer_lines.new.runner.performer c.args.runner.now.taker c.answer_lines.new.runner.taker c.requires.begun c.requires.spared c.answer_lines.new.feed coming c.in-Err.cut tells before after (c.in-Err.ensures.answers told)
+      (λ is. c.answer_lines.ensures.all_came (c.in-Err.is ∙ ap Err is)));
   handed_on = λ none. tt;
   handed_on_before = λ none is.
       let same : c.stop_of.result ≡ Unread = cc in

@@ -6,7 +6,7 @@ ghost use Rattle.ps_outside.specs.Outside.{Rose};
 ghost use Rattle.ps_changes.specs.declared.identifier.TheConstants.{MOST_WIRES};
 ghost use Rattle.ps_vcd.specs.declared.change.TheConstants.{CHANGE_ROOM};
 ghost use Rattle.ps_vcd.specs.declared.dump.TheConstants.{SCAN_ROOM};
-ghost use Rattle.ps_changes.specs.Values.{held};
+ghost use Rattle.ps_changes.specs.Values.{held, is_same};
 ghost use Rattle.ps_vcd.specs.Text.{changed_text, changes, lines_text, scan_text};
 
 use crate::change::{CHANGE_ROOM, put_change};
@@ -144,6 +144,16 @@ fn put_changes(text: &mut [u8], at: usize, all: bool, last: &[Value], values: &[
     end
 }
 
+// Whether a bit stays as it was, where a wire has no line in any case. Most wires are such bits in most scans.
+fn is_bit_that_stays(all: bool, before: Value, value: Value) -> bool
+    ensures { result ≡ true → (all ≡ false) × (is_same (held before) (held value) ≡ true) }
+{
+    match (before, value) {
+        (Value::Bit(before), Value::Bit(value)) => !all && before == value,
+        _ => false,
+    }
+}
+
 // Puts the line of a wire whose value is not the last one, or of any.
 fn put_changed(
     text: &mut [u8],
@@ -159,6 +169,9 @@ fn put_changed(
     ensures end { result ≤ at + CHANGE_ROOM }
     ensures len { length text.new ≡ length text.old }
 {
+    if is_bit_that_stays(all, before, value) {
+        return at;
+    }
     match written(all, before, value) {
         Some(value) => put_change(text, at, wire, value),
         None => at,

@@ -1,5 +1,6 @@
 mod Quoting
 mod Ranges
+mod Unchanging
 mod Renewing
 -- what any taker writes that sees each scan
 pub mod Seeing

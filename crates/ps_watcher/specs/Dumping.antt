@@ -1,5 +1,5 @@
 -- What a writer of value changes has, and what it makes of an outcome.
-use Rattle.std.specs.Prelude.{◌≡◌, ℕ, true, false, List, [], length, map}
+use Rattle.std.specs.Prelude.{◌≡◌, ℕ, true, List, [], length, map}
 use Rattle.ps_seen.specs.Moments.{Moment}
 use Rattle.ps_model.specs.Network.{Network}
 use Rattle.ps_model.specs.declared.channel.Verdict.{Verdict}
@@ -11,15 +11,17 @@ use Rattle.ps_vcd.specs.Text.{scan_text}
 use Rattle.ps_changes.specs.Values.{Held, held}
 use Rattle.ps_watcher.specs.Watcher.{seen_behind}
 use Rattle.ps_watcher.specs.Parts.{part_held}
+use Rattle.ps_watcher.specs.Reads.{AreReadsOf}
 use Rattle.ps_watcher.specs.declared.dumper.Dumper.{Dumper}
 use Rattle.ps_changes.specs.Counts.{anew_count, next_count}
 use Rattle.ps_changes.specs.declared.count.Count.{Count}
 use Rattle.ps_watcher.specs.declared.parts.Part.{Part}
 
--- it has a wire for each part
-pub record IsDumperFor (d : Dumper) : Type 0 where
+-- it has a wire for each part, and the value of each is come by
+pub record IsDumperFor (net : Network) (d : Dumper) : Type 0 where
   pub values : length d.values.items ≡ length d.parts.items
   pub wires : wire_count d.dump ≡ length d.parts.items
+  pub reads : AreReadsOf net d.reads.items d.parts.items
 
 -- what the wires have in a scan
 abbrev pub wires_held : Network → List Part → Count → Moment → List Held

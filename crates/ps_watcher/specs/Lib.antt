@@ -9,8 +9,10 @@ pub mod Watched
 -- what the wires of a run are about, what they have in a scan, and the value changes of a whole run
 pub mod Parts
 pub mod Dumped
--- Apparatus: a line in its room, columns, the room of a line, who watches, and who writes value changes.
+-- Apparatus: a line in its room, columns, the room of a line, who watches, who writes value changes, and how values are
+-- come by.
 pub mod LineTexts
 pub mod Room
 pub mod Watcher
 pub mod Dumping
+pub mod Reads

@@ -3,7 +3,6 @@ use Rattle.std.specs.Prelude.{◌≡◌, ℕ, ◌+◌, Bool, List, length, map, 
 use Rattle.ps_changes.specs.Fields.{in_next}
 use Rattle.ps_seen.specs.Moments.{Moment}
 use Rattle.ps_seen.specs.Named.{value_in}
-use Rattle.ps_terms.specs.declared.name.Name.{Name}
 use Rattle.ps_model.specs.Network.{Network}
 use Rattle.ps_watcher.specs.Lines.{Cell, key_text}
 use Rattle.ps_watcher.specs.declared.column.Column.{Column}

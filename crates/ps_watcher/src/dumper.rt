@@ -5,9 +5,10 @@ ghost use Rattle.ps_seen.specs.Moments.{moment_of};
 ghost use Rattle.ps_changes.specs.Counts.{first_count};
 ghost use Rattle.ps_vcd.specs.Dumping.{has_begun};
 ghost use Rattle.ps_changes.specs.Values.{held};
-ghost use Rattle.ps_watcher.specs.Parts.{part_held};
+ghost use Rattle.ps_watcher.specs.Reads.{read_held};
 
-use crate::parts::{Part, value_of_part};
+use crate::parts::Part;
+use crate::reads::{Read, reads_of, value_of_read};
 use ps_base::Memory;
 use ps_changes::{Count, Value};
 use ps_model::{App, Report, Verdict};
@@ -22,6 +23,8 @@ use std::alloc::Global;
 pub struct Dumper {
     // what each wire is about
     pub(crate) parts: Vec<Part>,
+    // how it is come by
+    pub(crate) reads: Vec<Read>,
     // room for the values of a scan
     pub(crate) values: Vec<Value>,
     pub(crate) dump: Dump,
@@ -34,6 +37,7 @@ impl Drop for Dumper {
     fn drop(self) {
         let Dumper {
             parts: _,
+            reads: _,
             values: _,
             dump: _,
             next: _,
@@ -42,29 +46,31 @@ impl Drop for Dumper {
 }
 
 // Puts what the wires have in a scan.
-fn put_values(app: &App, count: Count, seen: &Seen<'_>, parts: &[Part], values: &mut [Value])
-    requires { length values.old ≡ length parts.now }
-    ensures values { map held values.new ≡ map (part_held app.now count (moment_of seen.entry.now)) parts.now }
-    ensures len { length values.new ≡ length parts.now }
+fn put_values(app: &App, count: Count, seen: &Seen<'_>, reads: &[Read], values: &mut [Value])
+    requires { length values.old ≡ length reads.now }
+    ensures values { map held values.new ≡ map (read_held app.now count (moment_of seen.entry.now)) reads.now }
+    ensures len { length values.new ≡ length reads.now }
 {
-    for wire in 0..parts.len() {
-        values[wire] = value_of_part(app, count, seen, parts[wire]);
+    for wire in 0..reads.len() {
+        values[wire] = value_of_read(app, count, seen, reads[wire]);
     }
 }
 
 impl Dumper {
     ghost use Rattle.ps_watcher.specs.Dumping.{IsDumperFor, TakesValues};
 
-    /// Who writes the value changes of these parts, before the first scan. It takes all memory that it will use.
-    pub fn new(alloc: Global, parts: Vec<Part>) -> Result<Dumper, Memory>
-        ensures fits { IfOk result IsDumperFor }
+    /// Who writes the value changes of these parts, before the first scan of an application. It takes all memory that it will use.
+    pub fn new(alloc: Global, app: &App, parts: Vec<Part>) -> Result<Dumper, Memory>
+        ensures fits { IfOk result (IsDumperFor app.now) }
         ensures parts { IfOk result (λ d. d.parts ≡ parts) }
         ensures fresh { IfOk result (λ d. has_begun d.dump ≡ false) }
         ensures next { IfOk result (λ d. d.next ≡ first_count) }
     {
         let wires = parts.len();
+        let reads = reads_of(alloc, app, parts.as_slice())?;
         Ok(Dumper {
             parts,
+            reads,
             values: vec![in alloc; Value::Bit(false); wires]?,
             dump: Dump::new(alloc, wires)?,
             next: Count::first(),
@@ -73,15 +79,15 @@ impl Dumper {
 
     // Takes what the wires have in a scan.
     fn take_values(&mut self, app: &App, seen: &Seen<'_>)
-        requires { IsDumperFor self.old }
+        requires { IsDumperFor app.now self.old }
         ensures takes { TakesValues app.now self.old (moment_of seen.entry.now) self.new }
-        ensures fits { IsDumperFor self.new }
+        ensures fits { IsDumperFor app.now self.new }
     {
         put_values(
             app,
             self.next,
             seen,
-            self.parts.as_slice(),
+            self.reads.as_slice(),
             self.values.as_mut_slice(),
         );
         self.next = self.next.next();
@@ -91,7 +97,7 @@ impl Dumper {
 impl Taker<Watched<StruckWorld>> for Dumper {
     ghost use Rattle.ps_watcher.specs.Dumping.{IsDumperFor, dumper_said, dumper_takes};
 
-    ghost fits = { λ net d. IsDumperFor d };
+    ghost fits = { IsDumperFor };
 
     ghost said = { dumper_said };
 

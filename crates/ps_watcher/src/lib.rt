@@ -19,6 +19,7 @@ mod key;
 mod line;
 mod names;
 mod parts;
+mod reads;
 mod rows;
 mod shown;
 mod telling;

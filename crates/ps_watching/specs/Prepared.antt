@@ -45,7 +45,7 @@ performer_of (Changes runner) = runner.performer
 -- who makes a run and watches it has the application's sizes
 abbrev pub IsPlayerFor : Network → Player → Type 0
 IsPlayerFor net (Lines runner) = Fits (IsWatchedFor IsStruckWorldFor net) (IsWatcherFor net) net runner
-IsPlayerFor net (Changes runner) = Fits (IsWatchedFor IsStruckWorldFor net) (λ d. IsDumperFor d) net runner
+IsPlayerFor net (Changes runner) = Fits (IsWatchedFor IsStruckWorldFor net) (IsDumperFor net) net runner
 
 -- A run whose value changes are written is at its beginning.
 pub record IsDumpBegun (net : Network) (names : List Name) (p : Watched StruckWorld) (d : Dumper) : Type 0 where

@@ -68,7 +68,7 @@ pub(crate) fn changes_of(
         IfOk result (IsPlayerOf app.now Vcd names) }
     ensures world { IfOk result (λ p. (performer_of p).performer ≡ world) }
 {
-    let dumper = Dumper::new(alloc, parts)?;
+    let dumper = Dumper::new(alloc, app, parts)?;
     let world = Watched::new(alloc, app, world)?;
     Ok(Player::Changes(Runner::for_app(alloc, app, world, dumper)?))
 }
@@ -81,7 +81,7 @@ fn dump_items<F: Files, S: Sink>(
     files: &mut F,
     out: &mut S,
 ) -> Result<(), Cut>
-    requires fits { Fits (IsWatchedFor IsStruckWorldFor app.now) (λ d. IsDumperFor d) app.now runner.old }
+    requires fits { Fits (IsWatchedFor IsStruckWorldFor app.now) (IsDumperFor app.now) app.now runner.old }
     requires due { runner.old.performer.performer.world.state.last ≤ last_of trace.old }
     requires inputs { input_count_of trace.old ≡ input_count app.now }
     ensures dumps { IsTrue (F.tells files.old) → (text : List ℕ) →

@@ -60,8 +60,9 @@ CANNOT = {
     "dist/campaign-parallel": [[], ["a"], ["GONE", "a", "t", "0", "1"], ["FOLDER", "a", "t", "0", "1"], ["EMPTY", "a", "t", "x", "1"], ["EMPTY", "a", "t", "0", "1", "--print"]],
     "dist/campaign-slurm": [[], ["a"], ["EMPTY", "a", "t", "0", "1"], ["FOLDER", "a", "t", "0", "1"], ["new", "a", "t", "0", "x"], ["new", "a", "t", "0", "1", "--print"]],
     "dist/install": [["a", "b"], ["--help"]],
+    "dist/vcd-bits": [["a", "b"], ["--help"], ["GONE"], ["FOLDER"]],
 }
-NO_HELP = ("tools/launch.py", "dist/campaign-parallel", "dist/campaign-slurm", "dist/install")  # the words of the first are a program's, and the others are no Python
+NO_HELP = ("tools/launch.py", "dist/campaign-parallel", "dist/campaign-slurm", "dist/install", "dist/vcd-bits")  # the words of the first are a program's, and the others are no Python
 
 
 class Trial:

@@ -5,10 +5,11 @@ waves.py PLCSAFE plcsafe-bench=FILE    both are programs
 
 For each run below: the rows of CSV by the reader of Python, the objects of JSON by that of Python, and the value changes by a reader
 of this script, of which each scan has the values that were last given. All three have the same values of the same names in the same
-scans; the outputs, and Ready, Error and code of each instance, are those of the lines of `run` or `fault`. Then, where valgrind is
-there, it counts the instructions that a scan takes in `run` and in each layout of `watch`, by the difference of two long traces of a
-motor, and of two of a press whose inputs change from scan to scan: a layout takes at most three times what `run` does. The status is 0
-where nothing differs and none takes more.
+scans; the outputs, and Ready, Error and code of each instance, are those of the lines of `run` or `fault`. What dist/vcd-bits makes of
+the value changes has the same values in wires of one bit, and where sigrok-cli is there it reads those of a press as they are. Then,
+where valgrind is there, it counts the instructions that a scan takes in `run` and in each layout of `watch`, by the difference of two
+long traces of a motor, and of two of a press whose inputs change from scan to scan: a layout takes at most three times what `run` does.
+The status is 0 where nothing differs and none takes more.
 """
 import csv
 import io
@@ -37,13 +38,15 @@ RUNS = [
 ]
 # The layouts of `watch`, and how many times what `run` takes each may take.
 LAYOUTS, MOST = ("text", "csv", "json", "vcd"), 3
+# The run that sigrok-cli reads.
+SAMPLED = "press/press.st", "press/strokes.trace"
 # The applications of whose scans the instructions are counted.
 COUNTED = ("stop/motor.st", "press/press.st")
 
 
-def said(words):
-    """What a call writes; a trip ends it with 4."""
-    run = subprocess.run(words, cwd=ROOT / "examples", stdin=subprocess.DEVNULL, stdout=subprocess.PIPE, stderr=subprocess.DEVNULL)
+def said(words, text=""):
+    """What a call writes that is given a text; a trip ends it with 4."""
+    run = subprocess.run(words, cwd=ROOT / "examples", input=text.encode(), stdout=subprocess.PIPE, stderr=subprocess.DEVNULL)
     if run.returncode not in (0, 4):
         raise Stop(f"{' '.join(words[1:])} ends with {run.returncode}")
     return run.stdout.decode()
@@ -86,6 +89,39 @@ def of_wire(name, scan):
     return f"{scan[name + '.DiagCode']:04X}" if name + ".DiagCode" in scan else str(scan[name])
 
 
+def in_bits(scan):
+    """The values of a scan as dist/vcd-bits has them: without the words of states, each wire of more than one bit by its bits."""
+    bits = {}
+    for name, value in scan.items():
+        width = 64 if name == "@run.Scan" else 16 if name.endswith(".DiagCode") and not name.startswith("Program.") else 1
+        if width > 1:
+            bits |= {f"{name}[{bit}]": value >> bit & 1 for bit in range(width)}
+        elif name == "@time" or isinstance(value, int):
+            bits[name.removeprefix("Program.")] = value
+    return bits
+
+
+def sampled(text):
+    """The values that sigrok-cli takes from value changes in wires of one bit: of each ms those of each wire, but for the last time's."""
+    with tempfile.NamedTemporaryFile("w", suffix=".vcd") as file:
+        file.write(text)
+        file.flush()
+        lines = said(["sigrok-cli", "-I", "vcd", "-i", file.name, "-O", "csv"]).splitlines()
+    names = next(line for line in lines if line.startswith("; Channels")).partition("): ")[2].split(", ")
+    return [dict(zip(names, map(int, line.split(",")))) for line in lines if line[:1] in "01"]
+
+
+def unlike_bits(run, bits, waves):
+    """What differs between value changes in wires of one bit and the scans of a run, by the reader of this script and by sigrok-cli."""
+    scans = [in_bits(scan) for scan in waves]
+    wrong = [] if changes(bits) == scans else [f"{run}: other values in wires of one bit"]
+    if run == SAMPLED and shutil.which("sigrok-cli"):
+        held = {scan.pop("@time"): scan for scan in scans}
+        every = [held[max(at for at in held if at <= time)] for time in range(min(held), max(held))]
+        wrong += [] if sampled(bits) == every else [f"{run}: sigrok-cli takes other values"]
+    return wrong
+
+
 def of_json(value):
     return str(int(value)) if isinstance(value, (bool, int)) else value
 
@@ -116,7 +152,7 @@ def differences(plcsafe, bench, app, trace, faults):
     lines = lines_of(said([plcsafe, "fault" if faults else "run", app, trace, *([faults] if faults else [])]))
     if not len(rows) == len(objects) == len(waves) or not rows or len(lines) > len(rows):
         return [f"{app} {trace}: {len(rows)} rows, {len(objects)} objects, {len(waves)} scans of value changes, {len(lines)} lines"], 0
-    wrong = []
+    wrong = unlike_bits((app, trace), said([ROOT / "dist/vcd-bits"], written["vcd"]), waves)
     for number, (row, found, scan) in enumerate(zip(rows, objects, waves), 1):
         wrong += [f"{app} {trace}: scan {number}, {name}: {value} in CSV, {of_json(found[name])} in JSON, {of_wire(name, scan)} in VCD"
                   for name, value in row.items() if not value == of_json(found[name]) == of_wire(name, scan)]

@@ -36,8 +36,12 @@ abbrev pub base_text : (row end : ℕ) → List ℕ
 base_text row end = start_text 140 (row_top row + 21) ++ step_text (codes "H") end
 
 -- the line of a signal, by its values in scans side by side: high for TRUE
+abbrev pub level_text : (row : ℕ) → List Span → List ℕ
+level_text row spans = line_text (row_top row + 5) (row_top row + 19) (merged spans)
+
+-- the same as pieces
 abbrev pub level_pieces : (row : ℕ) → List Span → List Piece
-level_pieces row spans = path_pieces [] (line_text (row_top row + 5) (row_top row + 19) (merged spans))
+level_pieces row spans = path_pieces [] (level_text row spans)
 
 -- how a band of a code looks: 16#0000 is idle, 16#8000 is well, and an error has its first bits
 abbrev pub band_class : (code : ℕ) → List ℕ

@@ -1,6 +1,7 @@
 // The pieces of a page, and a page that is made of them.
 
-ghost use Rattle.std.specs.Prelude.{◌≡◌, [], ◌∷◌, ◌++◌, OnOk, decimal};
+ghost use Rattle.std.specs.Prelude.{◌≡◌, [], ◌∷◌, true, false, IsTrue, decimal};
+ghost use Rattle.ps_markup.specs.Paged.{Adds};
 ghost use Rattle.ps_markup.specs.Pieces.{element, marked};
 
 use crate::names::{Key, Tag};
@@ -32,121 +33,144 @@ pub enum Piece {
     End(Tag),
 }
 
-/// A page, which contracts see as the list of its pieces.
+/// A page, which contracts see as the list of its pieces, and whether it has all of them: one for which memory was
+/// wanting is not whole, and stays so.
 #[derive(Drop)]
 pub struct Page {
     alloc: Global,
     pieces: Vec<Piece>,
+    is_whole: bool,
 }
 
 impl Model for Page {
     ghost use Rattle.std.specs.Prelude.{List};
-    ghost use Rattle.ps_markup.specs.declared.page.Piece.{Piece as PieceOf};
+    ghost use Rattle.ps_markup.specs.Paged.{Paged};
 
-    ghost Value = { List PieceOf };
+    ghost Value = { Paged };
 
-    ghost view = { λ page. page.pieces.items };
+    ghost view = { λ page. record { pieces = page.pieces.items; whole = page.is_whole } };
 }
 
 impl Page {
     /// No pieces. It takes no memory.
     pub fn new(alloc: Global) -> Page
-        ensures { result ≡ [] }
+        ensures { result ≡ record { pieces = []; whole = true } }
     {
         Page {
             alloc,
             pieces: Vec::new(alloc),
+            is_whole: true,
         }
     }
 
     /// The pieces.
-    pub fn pieces(&self) -> &[Piece]
-        ensures { result.now ≡ self.now }
+    pub(crate) fn pieces(&self) -> &[Piece]
+        ensures { result.now ≡ self.now.pieces }
     {
         self.pieces.as_slice()
     }
 
-    /// One more piece that holds no value of its own.
-    pub fn add(&mut self, piece: Piece) -> Result<(), Memory>
-        ensures { OnOk result (self.new ≡ self.old ++ piece ∷ []) }
+    /// Whether it has all that was added to it.
+    pub(crate) fn is_whole(&self) -> bool
+        ensures { result ≡ self.now.whole }
     {
-        self.pieces.push(piece)?;
-        Ok(())
+        self.is_whole
     }
 
-    /// The pieces of another page at the end.
-    pub fn join(&mut self, other: Page) -> Result<(), Memory>
-        ensures { OnOk result (self.new ≡ self.old ++ other) }
+    /// Memory was wanting for something that belongs to the page: it is not whole.
+    pub fn spoil(&mut self)
+        ensures { self.new.whole ≡ false }
+    {
+        self.is_whole = false;
+    }
+
+    /// One more piece.
+    pub fn add(&mut self, piece: Piece)
+        ensures { Adds self.old self.new (piece ∷ []) }
+    {
+        if self.pieces.push(piece).is_err() {
+            self.is_whole = false;
+        }
+    }
+
+    /// The pieces of another page at the end. The page is whole only if the other one is.
+    pub fn join(&mut self, other: Page)
+        ensures pieces { Adds self.old self.new other.pieces }
+        ensures whole { IsTrue self.new.whole → IsTrue other.whole }
     {
         let mut other = other;
-        self.pieces.append(&mut other.pieces)?;
-        Ok(())
+        if !other.is_whole || self.pieces.append(&mut other.pieces).is_err() {
+            self.is_whole = false;
+        }
     }
 
     /// An attribute with this value.
-    pub fn attribute(&mut self, key: Key, value: &[u8]) -> Result<(), Memory>
-        ensures { OnOk result (self.new ≡ self.old ++ Piece.Attribute key value.now ∷ []) }
+    pub fn attribute(&mut self, key: Key, value: &[u8])
+        ensures { Adds self.old self.new (Piece.Attribute key value.now ∷ []) }
     {
-        let value = Bytes::from_slice(self.alloc, value)?;
-        self.add(Piece::Attribute(key, value))
+        match Bytes::from_slice(self.alloc, value) {
+            Ok(value) => self.add(Piece::Attribute(key, value)),
+            Err(Memory) => self.is_whole = false,
+        }
     }
 
     /// An attribute with a number.
-    pub fn number(&mut self, key: Key, number: u32) -> Result<(), Memory>
-        ensures { OnOk result (self.new ≡ self.old ++ Piece.Attribute key (decimal number) ∷ []) }
+    pub fn number(&mut self, key: Key, number: u32)
+        ensures { Adds self.old self.new (Piece.Attribute key (decimal number) ∷ []) }
     {
         let mut digits = Buffer::new();
-        self.attribute(key, digits.format(number).as_bytes())
+        self.attribute(key, digits.format(number).as_bytes());
     }
 
     /// A text.
-    pub fn value(&mut self, value: &[u8]) -> Result<(), Memory>
-        ensures { OnOk result (self.new ≡ self.old ++ Piece.Value value.now ∷ []) }
+    pub fn value(&mut self, value: &[u8])
+        ensures { Adds self.old self.new (Piece.Value value.now ∷ []) }
     {
-        let value = Bytes::from_slice(self.alloc, value)?;
-        self.add(Piece::Value(value))
+        match Bytes::from_slice(self.alloc, value) {
+            Ok(value) => self.add(Piece::Value(value)),
+            Err(Memory) => self.is_whole = false,
+        }
     }
 
     /// The beginning of an element without attributes.
-    pub fn open(&mut self, tag: Tag) -> Result<(), Memory>
-        ensures { OnOk result (self.new ≡ self.old ++ Piece.Begin tag ∷ Piece.Inside ∷ []) }
+    pub fn open(&mut self, tag: Tag)
+        ensures { Adds self.old self.new (Piece.Begin tag ∷ Piece.Inside ∷ []) }
     {
-        self.add(Piece::Begin(tag))?;
-        self.add(Piece::Inside)
+        self.add(Piece::Begin(tag));
+        self.add(Piece::Inside);
     }
 
     /// The beginning of an element with one attribute.
-    pub fn open_with(&mut self, tag: Tag, key: Key, value: &[u8]) -> Result<(), Memory>
-        ensures { OnOk result (self.new ≡
-            self.old ++ Piece.Begin tag ∷ Piece.Attribute key value.now ∷ Piece.Inside ∷ []) }
+    pub fn open_with(&mut self, tag: Tag, key: Key, value: &[u8])
+        ensures { Adds self.old self.new (Piece.Begin tag ∷ Piece.Attribute key value.now ∷ Piece.Inside ∷ []) }
     {
-        self.add(Piece::Begin(tag))?;
-        self.attribute(key, value)?;
-        self.add(Piece::Inside)
+        self.add(Piece::Begin(tag));
+        self.attribute(key, value);
+        self.add(Piece::Inside);
     }
 
     /// The end of an element.
-    pub fn close(&mut self, tag: Tag) -> Result<(), Memory>
-        ensures { OnOk result (self.new ≡ self.old ++ Piece.End tag ∷ []) }
+    pub fn close(&mut self, tag: Tag)
+        ensures { Adds self.old self.new (Piece.End tag ∷ []) }
     {
-        self.add(Piece::End(tag))
+        self.add(Piece::End(tag));
     }
 
     /// An element without attributes that holds a text.
-    pub fn element(&mut self, tag: Tag, value: &[u8]) -> Result<(), Memory>
-        ensures { OnOk result (self.new ≡ self.old ++ element tag value.now) }
+    pub fn element(&mut self, tag: Tag, value: &[u8])
+        ensures { Adds self.old self.new (element tag value.now) }
     {
-        self.open(tag)?;
-        self.value(value)?;
-        self.close(tag)
+        self.open(tag);
+        self.value(value);
+        self.close(tag);
     }
 
     /// An element with one attribute that holds a text.
-    pub fn marked(&mut self, tag: Tag, key: Key, mark: &[u8], value: &[u8]) -> Result<(), Memory>
-        ensures { OnOk result (self.new ≡ self.old ++ marked tag key mark.now value.now) }
+    pub fn marked(&mut self, tag: Tag, key: Key, mark: &[u8], value: &[u8])
+        ensures { Adds self.old self.new (marked tag key mark.now value.now) }
     {
-        self.open_with(tag, key, mark)?;
-        self.value(value)?;
-        self.close(tag)
+        self.open_with(tag, key, mark);
+        self.value(value);
+        self.close(tag);
     }
 }

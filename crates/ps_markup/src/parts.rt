@@ -1,13 +1,12 @@
 // Parts of a page, some of which are several pieces that stand together.
 
-ghost use Rattle.std.specs.Prelude.{◌≡◌, ◌++◌, OnOk};
 ghost use Rattle.std.specs.List.{flat_map};
+ghost use Rattle.ps_markup.specs.Paged.{Adds};
 ghost use Rattle.ps_markup.specs.Parts.{pieces_of};
 ghost use Rattle.ps_markup.specs.Pieces.{class_pieces};
 
 use crate::names::{Key, Tag};
 use crate::page::{Page, Piece};
-use ps_base::Memory;
 
 /// A part of a page: a piece whose value is lent, or several that stand together.
 #[derive(Clone, Copy)]
@@ -43,18 +42,17 @@ pub enum Part<'a> {
 }
 
 // The class of an element, which may be none.
-fn add_class(page: &mut Page, class: &[u8]) -> Result<(), Memory>
-    ensures { OnOk result (page.new ≡ page.old ++ class_pieces class.now) }
+fn add_class(page: &mut Page, class: &[u8])
+    ensures { Adds page.old page.new (class_pieces class.now) }
 {
-    if class.is_empty() {
-        return Ok(());
+    if !class.is_empty() {
+        page.attribute(Key::Class, class);
     }
-    page.attribute(Key::Class, class)
 }
 
 // A part at the end of a page.
-fn add_part(page: &mut Page, part: &Part<'_>) -> Result<(), Memory>
-    ensures { OnOk result (page.new ≡ page.old ++ pieces_of part.now) }
+fn add_part(page: &mut Page, part: &Part<'_>)
+    ensures { Adds page.old page.new (pieces_of part.now) }
 {
     match part {
         Part::Prologue => page.add(Piece::Prologue),
@@ -74,12 +72,11 @@ fn add_part(page: &mut Page, part: &Part<'_>) -> Result<(), Memory>
     }
 }
 
-/// Parts at the end of a page, one behind another. An error: memory is wanting.
-pub fn add_parts(page: &mut Page, parts: &[Part<'_>]) -> Result<(), Memory>
-    ensures { OnOk result (page.new ≡ page.old ++ flat_map pieces_of parts.now) }
+/// Parts at the end of a page, one behind another.
+pub fn add_parts(page: &mut Page, parts: &[Part<'_>])
+    ensures { Adds page.old page.new (flat_map pieces_of parts.now) }
 {
     for part in parts {
-        add_part(page, part)?;
+        add_part(page, part);
     }
-    Ok(())
 }

@@ -1,8 +1,9 @@
 // Words, lines and bands of a picture.
 
 ghost use Rattle.std.specs.Prelude.{◌≡◌, ◌++◌, IfOk, OnOk};
-ghost use Rattle.ps_markup.specs.Picture.{band_class, band_pieces, base_text, bar_pieces, level_pieces, name_pieces};
-ghost use Rattle.ps_markup.specs.Picture.{path_pieces, room_in, row_top, upright_text, words_pieces};
+ghost use Rattle.ps_markup.specs.Paged.{Adds};
+ghost use Rattle.ps_markup.specs.Picture.{band_class, band_pieces, base_text, bar_pieces, level_pieces, level_text};
+ghost use Rattle.ps_markup.specs.Picture.{name_pieces, path_pieces, room_in, row_top, upright_text, words_pieces};
 
 use crate::names::{Key, Tag};
 use crate::page::Page;
@@ -31,14 +32,8 @@ fn row_top(row: u16) -> u32
 }
 
 /// Words with their class, which may be none, at a place.
-pub fn add_words<'x>(
-    page: &mut Page,
-    class: &'x [u8],
-    x: u32,
-    y: u32,
-    words: &'x [u8],
-) -> Result<(), Memory>
-    ensures { OnOk result (page.new ≡ page.old ++ words_pieces class.now x y words.now) }
+pub fn add_words<'x>(page: &mut Page, class: &'x [u8], x: u32, y: u32, words: &'x [u8])
+    ensures { Adds page.old page.new (words_pieces class.now x y words.now) }
 {
     add_parts(
         page,
@@ -51,12 +46,12 @@ pub fn add_words<'x>(
             Part::Value(words),
             Part::End(Tag::Text),
         ],
-    )
+    );
 }
 
 /// Lines with their class, which may be none.
-pub fn add_path<'x>(page: &mut Page, class: &'x [u8], lines: &'x [u8]) -> Result<(), Memory>
-    ensures { OnOk result (page.new ≡ page.old ++ path_pieces class.now lines.now) }
+pub fn add_path<'x>(page: &mut Page, class: &'x [u8], lines: &'x [u8])
+    ensures { Adds page.old page.new (path_pieces class.now lines.now) }
 {
     add_parts(
         page,
@@ -66,7 +61,7 @@ pub fn add_path<'x>(page: &mut Page, class: &'x [u8], lines: &'x [u8]) -> Result
             Part::Attribute(Key::D, lines),
             Part::Alone,
         ],
-    )
+    );
 }
 
 /// An upright line at the end of others.
@@ -78,10 +73,10 @@ pub fn add_upright(lines: &mut Bytes, x: u32, top: u32, bottom: u32) -> Result<(
 }
 
 /// The name before the line of this number.
-pub fn add_row_name(page: &mut Page, row: u16, name: &[u8]) -> Result<(), Memory>
-    ensures { OnOk result (page.new ≡ page.old ++ name_pieces row name.now) }
+pub fn add_row_name(page: &mut Page, row: u16, name: &[u8])
+    ensures { Adds page.old page.new (name_pieces row name.now) }
 {
-    add_words(page, b"name", LEFT - 8, row_top(row) + 16, name)
+    add_words(page, b"name", LEFT - 8, row_top(row) + 16, name);
 }
 
 /// The line of FALSE below the line of this number, up to a right side, at the end of other lines.
@@ -92,14 +87,23 @@ pub fn add_base(lines: &mut Bytes, row: u16, end: u32) -> Result<(), Memory>
     add_step(lines, b"H", end)
 }
 
-/// The line of a signal, by its values in scans side by side: high for TRUE.
-pub fn add_level(page: &mut Page, alloc: Global, row: u16, spans: &[Span]) -> Result<(), Memory>
-    ensures { OnOk result (page.new ≡ page.old ++ level_pieces row spans.now) }
+// The line of a signal, by its values in scans side by side: high for TRUE.
+fn level_of(alloc: Global, row: u16, spans: &[Span]) -> Result<Bytes, Memory>
+    ensures { IfOk result (λ lines. lines ≡ level_text row spans.now) }
 {
     let spans = merged(alloc, spans)?;
     let top = row_top(row);
-    let lines = line_of(alloc, spans.as_slice(), top + 5, top + 19)?;
-    add_path(page, b"", lines.as_slice())
+    line_of(alloc, spans.as_slice(), top + 5, top + 19)
+}
+
+/// The line of a signal, by its values in scans side by side: high for TRUE.
+pub fn add_level(page: &mut Page, alloc: Global, row: u16, spans: &[Span])
+    ensures { Adds page.old page.new (level_pieces row spans.now) }
+{
+    match level_of(alloc, row, spans) {
+        Ok(lines) => add_path(page, b"", lines.as_slice()),
+        Err(Memory) => page.spoil(),
+    }
 }
 
 // How a band of a code looks; most have no class of their own.
@@ -132,8 +136,8 @@ pub fn room_in(words: &[u8], width: u32) -> &[u8]
 }
 
 // The box of a code in scans side by side, with its words.
-fn add_bar(page: &mut Page, row: u16, span: &Span, words: &[u8]) -> Result<(), Memory>
-    ensures { OnOk result (page.new ≡ page.old ++ bar_pieces row span.now words.now) }
+fn add_bar(page: &mut Page, row: u16, span: &Span, words: &[u8])
+    ensures { Adds page.old page.new (bar_pieces row span.now words.now) }
 {
     add_parts(
         page,
@@ -148,23 +152,17 @@ fn add_bar(page: &mut Page, row: u16, span: &Span, words: &[u8]) -> Result<(), M
             Part::Element(Tag::Title, words),
             Part::End(Tag::Rect),
         ],
-    )
+    );
 }
 
 /// A band of a code in scans side by side: a box with its words, and what of them has room in it.
-pub fn add_band(page: &mut Page, row: u16, span: &Span, words: &[u8]) -> Result<(), Memory>
-    ensures { OnOk result (page.new ≡ page.old ++ band_pieces row span.now words.now) }
+pub fn add_band(page: &mut Page, row: u16, span: &Span, words: &[u8])
+    ensures { Adds page.old page.new (band_pieces row span.now words.now) }
 {
-    add_bar(page, row, span, words)?;
+    add_bar(page, row, span, words);
     let shown = room_in(words, span.end.saturating_sub(span.x));
-    if shown.is_empty() {
-        return Ok(());
+    if !shown.is_empty() {
+        let (x, y) = (span.x.saturating_add(4), row_top(row) + 16);
+        add_words(page, b"", x, y, shown);
     }
-    add_words(
-        page,
-        b"",
-        span.x.saturating_add(4),
-        row_top(row) + 16,
-        shown,
-    )
 }

@@ -1,6 +1,6 @@
 // The text of a page.
 
-ghost use Rattle.std.specs.Prelude.{◌≡◌, ◌++◌, OnOk};
+ghost use Rattle.std.specs.Prelude.{◌≡◌, ◌++◌, IsTrue, OnOk};
 ghost use Rattle.ps_markup.specs.Writing.{begin_text, end_text, piece_text, written};
 
 use crate::names::{Tag, key_name, tag_name};
@@ -96,10 +96,15 @@ fn add_piece(text: &mut Bytes, piece: &Piece) -> Result<(), Memory>
     }
 }
 
-/// The text of a page at the end of a text: its pieces, one behind another. An error: memory is wanting.
+/// The text of a page at the end of a text: its pieces, one behind another. An error: memory is wanting, or was for a
+/// piece of the page, so that it is not whole.
 pub fn add_page(text: &mut Bytes, page: &Page) -> Result<(), Memory>
-    ensures { OnOk result (text.new ≡ text.old ++ written page.now) }
+    ensures whole { OnOk result (IsTrue page.now.whole) }
+    ensures text { OnOk result (text.new ≡ text.old ++ written page.now.pieces) }
 {
+    if !page.is_whole() {
+        return Err(Memory);
+    }
     for piece in page.pieces() {
         add_piece(text, piece)?;
     }

@@ -276,27 +276,41 @@ fn add_pictures(page: &mut Page, sheet: &Sheet<'_>) -> Result<(), Memory>
     Ok(())
 }
 
-// What stands below the pictures of a case: what of it is not drawn.
-fn caption_of(sheet: &Sheet<'_>) -> Result<Page, Memory> {
-    let mut words = Bytes::from_slice(
-        sheet.alloc,
-        b"Inputs, outputs, instances and what is expected of others; scans in which nothing changes are left out.",
-    )?;
+// What is said of names that are not drawn, if there are any.
+fn names_left_out(sheet: &Sheet<'_>) -> &'static [u8] {
     if sheet.lanes.len() < sheet.recording.names.len() {
-        words.extend_from_slice(b" Of many names only those are drawn that change.")?;
+        b" Of many names only those are drawn that change."
+    } else {
+        b""
     }
-    if sheet.recording.is_cut {
-        words.extend_from_slice(b" Only the first 400 changes are shown.")?;
+}
+
+// What is said of scans that are not shown, if there are any that show a change.
+fn scans_left_out(recording: &Recording) -> &'static [u8] {
+    if recording.is_cut {
+        b" Only the first 400 changes are shown."
+    } else {
+        b""
     }
+}
+
+// What stands below the pictures of a case: what of it is not drawn.
+fn caption_of(sheet: &Sheet<'_>) -> Page {
     let mut page = Page::new(sheet.alloc);
     add_parts(
         &mut page,
         &[
-            Part::Element(Tag::Figcaption, words.as_slice()),
+            Part::Open(Tag::Figcaption),
+            Part::Value(
+                b"Inputs, outputs, instances and what is expected of others; scans in which nothing changes are left out.",
+            ),
+            Part::Value(names_left_out(sheet)),
+            Part::Value(scans_left_out(sheet.recording)),
+            Part::End(Tag::Figcaption),
             Part::End(Tag::Figure),
         ],
     );
-    Ok(page)
+    page
 }
 
 // The pictures of a case, and what changed in it.
@@ -304,10 +318,9 @@ fn add_sheet(page: &mut Page, sheet: &Sheet<'_>) -> Result<(), Memory>
     ensures { OnOk result (OnWhole page.old page.new (ShowsSheet sheet.now.app.now sheet.now.recording.now
         sheet.now.marks.now sheet.now.lanes.now)) }
 {
-    let caption = caption_of(sheet)?;
     add_parts(page, &[Part::Open(Tag::Figure)]);
     add_pictures(page, sheet)?;
-    page.join(caption);
+    page.join(caption_of(sheet));
     add_changes(page, sheet);
     Ok(())
 }

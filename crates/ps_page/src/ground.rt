@@ -100,47 +100,53 @@ fn time_of(scan: Option<&Scan<'_>>) -> u32 {
     }
 }
 
-// The beginning of a picture, by its number among those of the case: what it is called, the part of it that is seen,
-// and what it shows.
-fn add_frame(
-    page: &mut Page,
-    sheet: &Sheet<'_>,
-    number: u32,
-    scans: &[Scan<'_>],
-    height: u32,
-) -> Result<(), Memory> {
-    let mut id = Bytes::from_slice(sheet.alloc, sheet.id)?;
-    add_numbered(&mut id, &[(b"-", number)], b"")?;
-    let mut view = Bytes::new(sheet.alloc);
-    add_numbered(&mut view, &[(b"0 0 ", WIDTH), (b" ", height)], b"")?;
-    let mut title = Bytes::new(sheet.alloc);
-    let (from, to) = (time_of(scans.first()), time_of(scans.last()));
-    add_numbered(
-        &mut title,
-        &[(b"Timing diagram from ", from), (b" ms to ", to)],
-        b" ms; the table below it says the same",
-    )?;
+// The beginning of a picture of this height: what it is called within the page, and the part of it that is seen.
+fn add_frame<'x>(page: &mut Page, height: u32, id: &'x [u8], view: &'x [u8]) {
     add_parts(
         page,
         &[
             Part::Begin(Tag::Svg),
             Part::Attribute(Key::Role, b"img"),
-            Part::Attribute(Key::LabelledBy, id.as_slice()),
+            Part::Attribute(Key::LabelledBy, id),
             Part::Number(Key::Width, WIDTH),
             Part::Number(Key::Height, height),
-            Part::Attribute(Key::ViewBox, view.as_slice()),
+            Part::Attribute(Key::ViewBox, view),
             Part::Inside,
-            Part::Marked(Tag::Title, Key::Id, id.as_slice(), title.as_slice()),
         ],
     );
-    Ok(())
+}
+
+// What a picture shows, in words: its first time and its last one.
+fn add_title<'x>(page: &mut Page, id: &'x [u8], first: &'x [u8], last: &'x [u8]) {
+    add_parts(
+        page,
+        &[
+            Part::Begin(Tag::Title),
+            Part::Attribute(Key::Id, id),
+            Part::Inside,
+            Part::Value(b"Timing diagram from "),
+            Part::Value(first),
+            Part::Value(b" ms to "),
+            Part::Value(last),
+            Part::Value(b" ms; the table below it says the same"),
+            Part::End(Tag::Title),
+        ],
+    );
 }
 
 /// What stands in a picture before its scans and lines, by its number among those of the case.
 pub(crate) fn front_of(sheet: &Sheet<'_>, number: u32, scans: &[Scan<'_>]) -> Result<Page, Memory> {
     let height = height_of(sheet.lanes.len());
+    let mut id = Bytes::from_slice(sheet.alloc, sheet.id)?;
+    add_numbered(&mut id, &[(b"-", number)], b"")?;
+    let mut view = Bytes::new(sheet.alloc);
+    add_numbered(&mut view, &[(b"0 0 ", WIDTH), (b" ", height)], b"")?;
     let mut page = Page::new(sheet.alloc);
-    add_frame(&mut page, sheet, number, scans, height)?;
+    add_frame(&mut page, height, id.as_slice(), view.as_slice());
+    let (mut first, mut last) = (Buffer::new(), Buffer::new());
+    let first = first.format(time_of(scans.first())).as_bytes();
+    let last = last.format(time_of(scans.last())).as_bytes();
+    add_title(&mut page, id.as_slice(), first, last);
     add_ground(&mut page, sheet, scans, height.saturating_sub(18));
     Ok(page)
 }

@@ -48,7 +48,6 @@ pub(crate) struct Moment {
 
 /// What is shown of a case: the values of names in those of its scans that show a change, or of which something is
 /// expected.
-#[derive(Drop)]
 pub struct Recording {
     /// The names.
     pub(crate) names: Vec<Name>,
@@ -58,8 +57,18 @@ pub struct Recording {
     pub(crate) is_cut: bool,
 }
 
+impl Drop for Recording {
+    // One call for whoever owns one, in place of a walk through all that it holds.
+    fn drop(self) {
+        let Recording {
+            names: _,
+            moments: _,
+            is_cut: _,
+        } = self;
+    }
+}
+
 /// Who takes the scans of a case that are shown.
-#[derive(Drop)]
 pub(crate) struct Recorder {
     alloc: Global,
     // what is shown so far
@@ -74,6 +83,21 @@ pub(crate) struct Recorder {
     pub(crate) restarted: bool,
     // whether memory was wanting for a scan
     pub(crate) is_wanting: bool,
+}
+
+impl Drop for Recorder {
+    // One call for whoever owns one, in place of a walk through all that it holds.
+    fn drop(self) {
+        let Recorder {
+            alloc: _,
+            recording: _,
+            kept: _,
+            scans: _,
+            end: _,
+            restarted: _,
+            is_wanting: _,
+        } = self;
+    }
 }
 
 // How a world goes on behind a scan of this verdict.
@@ -231,9 +255,18 @@ impl Recorder {
         if self.is_wanting {
             return Err(Memory);
         }
-        let mut recording = self.recording;
+        let Recorder {
+            alloc: _,
+            mut recording,
+            kept,
+            scans: _,
+            end,
+            restarted: _,
+            is_wanting: _,
+        } = self;
+        let _ = kept;
         if !recording.is_cut {
-            recording.wait_until(self.end);
+            recording.wait_until(end);
         }
         Ok(recording)
     }

@@ -11,7 +11,7 @@ pub returns : goal.returns
 returns c = λ whole.
     let s = c.args.sheet.now in
     let r = s.recording.now in
-    let caption = c.in_ok-caption.caption.pieces in
+    let caption = c.caption_of.result.pieces in
     let changes = c.add_changes.ensures whole in
     let below = c.join.ensures.pieces changes.0 in
     let shown = c.in_ok-add_pictures.ensures below.0 in

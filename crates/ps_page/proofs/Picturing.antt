@@ -1,18 +1,26 @@
 -- Pictures, one below another, until all scans are shown.
-use Rattle.std.proofs.Common.{◌≡◌, ◌≤◌, ◌<◌, ◌∙◌, ◌+◌, ◌++◌, ℕ, Bool, true, false, List, [], ◌∷◌, length, take, drop, ⊎_elim, refl, sym, ap, subst, arith, append_assoc, append-nil}
+use Rattle.std.proofs.Common.{◌≡◌, ◌≤◌, ◌<◌, ◌∙◌, ◌+◌, ◌++◌, ℕ, Bool, true, false, List, [], ◌∷◌, length, take, drop, ⊎_elim, refl, sym, ap, subst, arith, append_assoc, append-nil, length-take}
 use Rattle.std.specs.Prelude.{◌==◌}
 use Rattle.std.specs.List.{flat_map}
 use Rattle.std.proofs.lemmas.Bool.{cases_lt, eq-eqb, eqb-true}
 use Rattle.std.proofs.lemmas.Grind.{flat_map-append}
-use Rattle.std.proofs.lemmas.List.{length-drop, nil_from_length, take-append-drop}
+use Rattle.std.proofs.lemmas.List.{length-drop, length-map, nil_from_length, take-append-drop}
 use Rattle.ps_markup.specs.declared.page.Piece.{Piece}
 use Rattle.ps_model.specs.Network.{Network}
 use Rattle.ps_page.specs.Diagram.{shown_in}
 use Rattle.ps_page.specs.Pictures.{Picture, ShowsPictures, all_shown, picture_pieces}
 use Rattle.ps_page.specs.declared.drawing.Lane.{Lane}
 use Rattle.ps_page.specs.declared.scale.Scan.{Scan}
-use Rattle.ps_recorder.specs.declared.marks.Mark.{Mark}
-use Rattle.ps_recorder.specs.declared.recording.Moment.{Moment}
+use Rattle.ps_page.specs.declared.marks.Mark.{Mark}
+use Rattle.ps_page.specs.declared.recording.Moment.{Moment}
+
+-- the first ones of scans are no more than there are
+pub first_within : (rest : List Moment) (scans : List Scan) → shown_in scans ≡ take (length scans) rest → length scans ≤ length rest
+first_within rest scans shown =
+    let as_many = length-map scans (λ (s : Scan). s.moment.now) in
+    let taken = length-take (length scans) rest in
+    let same = ap length shown in
+    omega arith
 
 module _ (net : Network) (marks : List Mark) (lanes : List Lane) (moments : List Moment) where
   -- so many pictures show the first scans, and the others are left
@@ -27,8 +35,8 @@ module _ (net : Network) (marks : List Mark) (lanes : List Lane) (moments : List
 
   added : (before : List Piece) (count : ℕ) (rest : List Moment) (mid after : List Piece) (front : List Piece) (scans : List Scan) →
       SoFar before count rest mid → after ≡ mid ++ picture_pieces net marks lanes (record { front = front; scans = scans }) →
-      shown_in scans ≡ take (length scans) rest → 0 < length scans → length scans ≤ length rest → SoFar before (count + 1) (drop (length scans) rest) after
-  added before count rest mid after front scans far is shown some within =
+      shown_in scans ≡ take (length scans) rest → 0 < length scans → SoFar before (count + 1) (drop (length scans) rest) after
+  added before count rest mid after front scans far is shown some =
       let p : Picture = record { front = front; scans = scans } in
       let n = length scans in
       let pieces = picture_pieces net marks lanes in
@@ -41,18 +49,22 @@ module _ (net : Network) (marks : List Mark) (lanes : List Lane) (moments : List
         is = is ∙ ap (λ (ps : List Piece). ps ++ pieces p) far.is ∙ append_assoc before (flat_map pieces far.pictures) (pieces p)
             ∙ ap (λ (ps : List Piece). before ++ ps)
             (ap (λ (ps : List Piece). flat_map pieces far.pictures ++ ps) (sym (append-nil (pieces p))) ∙ sym (flat_map-append pieces far.pictures (p ∷ [])));
-        left = let old = far.left in let less = length-drop n rest in omega arith;
+        left =
+            let old = far.left in
+            let less = length-drop n rest in
+            let within = first_within rest scans shown in
+            omega arith;
       }
 
   -- one picture more, with the first scans of those that are left
   pub one_more : (before : List Piece) (count : ℕ) (rest : List Moment) (mid after : List Piece) (front : List Piece) (scans items : List Scan) (n : ℕ) (later : List Moment) →
       SoFar before count rest mid → after ≡ mid ++ picture_pieces net marks lanes (record { front = front; scans = scans }) → scans ≡ items →
-      shown_in items ≡ take (length items) rest → (0 < length rest → 0 < length items) → length items ≤ length rest → 0 < length rest →
+      shown_in items ≡ take (length items) rest → (0 < length rest → 0 < length items) → 0 < length rest →
       n ≡ length scans → later ≡ drop n rest → SoFar before (count + 1) later after
-  one_more before count rest mid after front scans items n later far is same shown some within left n_is later_is =
+  one_more before count rest mid after front scans items n later far is same shown some left n_is later_is =
       subst (λ (ms : List Moment). SoFar before (count + 1) ms after) (sym (later_is ∙ ap (λ k. drop k rest) (n_is ∙ ap length same)))
       (added before count rest mid after front items far
-      (is ∙ ap (λ (ss : List Scan). mid ++ picture_pieces net marks lanes (record { front = front; scans = ss })) same) shown (some left) within)
+      (is ∙ ap (λ (ss : List Scan). mid ++ picture_pieces net marks lanes (record { front = front; scans = ss })) same) shown (some left))
 
   pub all_done : (before : List Piece) (count : ℕ) (rest : List Moment) (after : List Piece) → SoFar before count rest after → length rest ≡ 0 →
       ShowsPictures net marks lanes moments before after

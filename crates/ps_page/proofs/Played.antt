@@ -18,10 +18,10 @@ use Rattle.ps_outside.specs.Outside.{Rose}
 use Rattle.ps_outside.specs.declared.text_fail.TextFail.{TextFail}
 use Rattle.ps_outside.specs.declared.text_fail.TextFail.TheVariants.{Fault as IsFault, Memory as NoMemory, Refused as IsRefused}
 use Rattle.ps_page.specs.Played.{RecordsItems, run_of}
-use Rattle.ps_recorder.specs.Recording.{Film, IsFilmOf, Made, Records, film_of, made_in, shot_of}
-use Rattle.ps_recorder.specs.Running.{HasRecorded, made_of}
-use Rattle.ps_recorder.specs.declared.recording.Recorder.{Recorder}
-use Rattle.ps_recorder.specs.declared.recording.Recording.{Recording}
+use Rattle.ps_page.specs.Recording.{Film, IsFilmOf, Made, Records, film_of, made_in, shot_of}
+use Rattle.ps_page.specs.Running.{HasRecorded, made_of}
+use Rattle.ps_page.specs.declared.recording.Recorder.{Recorder}
+use Rattle.ps_page.specs.declared.recording.Recording.{Recording}
 use Rattle.ps_runs.specs.Cutting.{TellsFailures}
 use Rattle.ps_runs.specs.Running.{IsBeginning}
 use Rattle.ps_runs.specs.declared.items.Cut.{Cut}

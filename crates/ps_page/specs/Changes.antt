@@ -7,8 +7,8 @@ use Rattle.ps_markup.specs.declared.page.Piece.{Piece}
 use Rattle.ps_markup.specs.declared.page.Piece.TheVariants.{Begin, End, Inside}
 use Rattle.ps_model.specs.Network.{Network}
 use Rattle.ps_page.specs.Diagram.{change_row, event_of, marks_at, marks_text, value_at}
-use Rattle.ps_recorder.specs.declared.marks.Mark.{Mark}
-use Rattle.ps_recorder.specs.declared.recording.Moment.{Moment}
+use Rattle.ps_page.specs.declared.marks.Mark.{Mark}
+use Rattle.ps_page.specs.declared.recording.Moment.{Moment}
 use Rattle.ps_terms.specs.declared.name.Name.{Name}
 use Rattle.ps_told.specs.Naming.{name_text, value_text}
 

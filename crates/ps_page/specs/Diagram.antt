@@ -12,10 +12,10 @@ use Rattle.ps_markup.specs.declared.page.Piece.{Piece}
 use Rattle.ps_markup.specs.declared.page.Piece.TheVariants.{Begin, End, Inside}
 use Rattle.ps_model.specs.Network.{Network}
 use Rattle.ps_page.specs.declared.drawing.Lane.{Lane}
-use Rattle.ps_recorder.specs.declared.marks.Mark.{Mark}
-use Rattle.ps_recorder.specs.declared.recording.Course.{Course}
-use Rattle.ps_recorder.specs.declared.recording.Course.TheVariants.{Down, Runs, Trips}
-use Rattle.ps_recorder.specs.declared.recording.Moment.{Moment}
+use Rattle.ps_page.specs.declared.marks.Mark.{Mark}
+use Rattle.ps_page.specs.declared.recording.Course.{Course}
+use Rattle.ps_page.specs.declared.recording.Course.TheVariants.{Down, Runs, Trips}
+use Rattle.ps_page.specs.declared.recording.Moment.{Moment}
 use Rattle.ps_page.specs.declared.scale.Scan.{Scan}
 use Rattle.ps_terms.specs.declared.name.Name.{Name}
 use Rattle.ps_terms.specs.declared.name.Name.TheVariants.{Code, Pin, Signal}

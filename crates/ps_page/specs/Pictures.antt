@@ -13,10 +13,10 @@ use Rattle.ps_page.specs.Diagram.{lane_pieces, scan_pieces, shown_in, value_at}
 use Rattle.ps_page.specs.declared.diagram.TheConstants.{FEW_NAMES}
 use Rattle.ps_page.specs.declared.drawing.Lane.{Lane}
 use Rattle.ps_page.specs.declared.scale.Scan.{Scan}
-use Rattle.ps_recorder.specs.Marks.{marks_in}
-use Rattle.ps_recorder.specs.declared.marks.Mark.{Mark}
-use Rattle.ps_recorder.specs.declared.recording.Moment.{Moment}
-use Rattle.ps_recorder.specs.declared.recording.Recording.{Recording}
+use Rattle.ps_page.specs.Marks.{marks_in}
+use Rattle.ps_page.specs.declared.marks.Mark.{Mark}
+use Rattle.ps_page.specs.declared.recording.Moment.{Moment}
+use Rattle.ps_page.specs.declared.recording.Recording.{Recording}
 use Rattle.ps_terms.specs.declared.name.Name.{Name}
 use Rattle.ps_told.specs.Outcome.{Ran}
 

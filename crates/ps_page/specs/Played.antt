@@ -6,9 +6,9 @@ use Rattle.ps_model.specs.Meaning.{Item, Meaning, nothing}
 use Rattle.ps_model.specs.Network.{Network}
 use Rattle.ps_model.specs.Scanning.{State}
 use Rattle.ps_model.specs.declared.channel.Fault.{Fault}
-use Rattle.ps_recorder.specs.Marks.{names_shown}
-use Rattle.ps_recorder.specs.Recording.{Made, Records, made_in}
-use Rattle.ps_recorder.specs.declared.recording.Recording.{Recording}
+use Rattle.ps_page.specs.Marks.{names_shown}
+use Rattle.ps_page.specs.Recording.{Made, Records, made_in}
+use Rattle.ps_page.specs.declared.recording.Recording.{Recording}
 use Rattle.ps_seen.specs.Runs.{moments_of}
 use Rattle.ps_terms.specs.declared.name.Name.{Name}
 use Rattle.ps_world.specs.Answers.{answers_of_run}

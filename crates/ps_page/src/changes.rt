@@ -1,16 +1,18 @@
 // What changes in a case, in a table.
 
-ghost use Rattle.std.specs.Prelude.{◌≡◌, ◌++◌, None, IfOk, OnOk, if◌then◌else◌, option_map};
+ghost use Rattle.std.specs.Prelude.{◌≡◌, None, IfOk, OnOk, if◌then◌else◌, option_map};
+ghost use Rattle.ps_markup.specs.Paged.{Adds};
 ghost use Rattle.ps_page.specs.Changes.{changes_pieces, changes_text, row_of, rows_from, separator, stays_at, with_change};
 ghost use Rattle.ps_page.specs.Diagram.{change_row, marks_at, marks_text, value_at};
 
-use crate::diagram::{Sheet, add_marks_text, marks_at};
+use crate::diagram::{Sheet, marks_at, words_of};
 use crate::drawing::{event_of, value_at};
+use crate::marks::Mark;
+use crate::recording::Moment;
 use itoa::Buffer;
 use ps_base::{Bytes, Memory};
 use ps_markup::{Key, Page, Part, Tag, add_parts};
 use ps_model::App;
-use ps_recorder::{Mark, Moment};
 use ps_terms::Name;
 use ps_told::{add_name, add_value};
 use std::alloc::Global;
@@ -25,16 +27,6 @@ fn separator(words: &Bytes) -> &'static [u8]
     }
 }
 
-// A value that changed, or the first one, behind others.
-fn add_change(words: &mut Bytes, app: &App, name: Name, value: u16) -> Result<(), Memory>
-    ensures { OnOk result (words.new ≡ with_change app.now name value words.old) }
-{
-    words.extend_from_slice(separator(words))?;
-    add_name(words, app, name)?;
-    words.extend_from_slice(b" ")?;
-    add_value(words, app, name, value)
-}
-
 // Whether the name of a number has the value that it had, if there is a scan before.
 fn stays_at(before: Option<&Moment>, moment: &Moment, number: usize) -> bool
     ensures { result ≡ stays_at (option_map (λ m. m.now) before.entry) moment.entry.now number }
@@ -45,7 +37,7 @@ fn stays_at(before: Option<&Moment>, moment: &Moment, number: usize) -> bool
     }
 }
 
-// The value of a name in a scan, behind others, where it is not the one that it had.
+// The value of a name in a scan, behind others, where it is not the one that it had, if there is a scan before.
 fn add_if_changed(
     words: &mut Bytes,
     app: &App,
@@ -61,7 +53,10 @@ fn add_if_changed(
     if stays_at(before, moment, number) {
         return Ok(());
     }
-    add_change(words, app, name, value_at(moment, number))
+    words.extend_from_slice(separator(words))?;
+    add_name(words, app, name)?;
+    words.extend_from_slice(b" ")?;
+    add_value(words, app, name, value_at(moment, number))
 }
 
 // What changed from one scan to another; of a first scan all values.
@@ -83,13 +78,8 @@ fn changes_of(
 }
 
 // A row of the table of changes: a time, what changes, and what is expected.
-fn add_cells<'x>(
-    page: &mut Page,
-    time: &'x [u8],
-    changes: &'x [u8],
-    expected: &'x [u8],
-) -> Result<(), Memory>
-    ensures { OnOk result (page.new ≡ page.old ++ change_row time.now changes.now expected.now) }
+fn add_cells<'x>(page: &mut Page, time: &'x [u8], changes: &'x [u8], expected: &'x [u8])
+    ensures { Adds page.old page.new (change_row time.now changes.now expected.now) }
 {
     add_parts(
         page,
@@ -100,61 +90,54 @@ fn add_cells<'x>(
             Part::Element(Tag::Td, expected),
             Part::End(Tag::Tr),
         ],
-    )
+    );
 }
 
 // What is expected of a scan, by its lines.
 fn expected_of(alloc: Global, marks: &[Mark], scan: u32) -> Result<Bytes, Memory>
     ensures { IfOk result (λ words. words ≡ marks_text (marks_at scan marks.now)) }
 {
-    let mut words = Bytes::new(alloc);
     let marks = marks_at(alloc, marks, scan)?;
-    add_marks_text(&mut words, marks.as_slice())?;
-    Ok(words)
+    words_of(alloc, marks.as_slice())
 }
 
 // The row of a scan in the table of changes.
-fn add_row(
-    page: &mut Page,
-    sheet: &Sheet<'_>,
-    before: Option<&Moment>,
-    moment: &Moment,
-) -> Result<(), Memory>
-    ensures { OnOk result (page.new ≡ page.old ++
-        row_of sheet.now.app.now sheet.now.recording.now.names.items sheet.now.marks.now
+fn add_row(page: &mut Page, sheet: &Sheet<'_>, before: Option<&Moment>, moment: &Moment)
+    ensures { Adds page.old page.new
+        (row_of sheet.now.app.now sheet.now.recording.now.names.items sheet.now.marks.now
         (option_map (λ m. m.now) before.entry) moment.entry.now) }
 {
     let mut time = Buffer::new();
+    let time = time.format(moment.now).as_bytes();
     let names = sheet.recording.names.as_slice();
-    let changes = changes_of(sheet.alloc, sheet.app, names, before, moment)?;
-    let expected = expected_of(sheet.alloc, sheet.marks, moment.scan)?;
-    add_cells(
-        page,
-        time.format(moment.now).as_bytes(),
-        changes.as_slice(),
-        expected.as_slice(),
-    )
+    let changes = changes_of(sheet.alloc, sheet.app, names, before, moment);
+    let expected = expected_of(sheet.alloc, sheet.marks, moment.scan);
+    match (changes, expected) {
+        (Ok(changes), Ok(expected)) => {
+            add_cells(page, time, changes.as_slice(), expected.as_slice());
+        }
+        _ => page.spoil(),
+    }
 }
 
 // The rows of the table of changes.
-fn add_rows(page: &mut Page, sheet: &Sheet<'_>) -> Result<(), Memory>
-    ensures { OnOk result (page.new ≡ page.old ++
-        rows_from sheet.now.app.now sheet.now.recording.now.names.items sheet.now.marks.now None
+fn add_rows(page: &mut Page, sheet: &Sheet<'_>)
+    ensures { Adds page.old page.new
+        (rows_from sheet.now.app.now sheet.now.recording.now.names.items sheet.now.marks.now None
         sheet.now.recording.now.moments.items) }
 {
     let mut before = None;
     for moment in sheet.recording.moments.as_slice() {
-        add_row(page, sheet, before, moment)?;
+        add_row(page, sheet, before, moment);
         before = Some(moment);
     }
-    Ok(())
 }
 
 /// The table of changes: a row for each scan that is shown, with what changed from the one before it, and what is
 /// expected of it.
-pub(crate) fn add_changes(page: &mut Page, sheet: &Sheet<'_>) -> Result<(), Memory>
-    ensures { OnOk result (page.new ≡ page.old ++
-        changes_pieces sheet.now.app.now sheet.now.recording.now.names.items sheet.now.marks.now
+pub(crate) fn add_changes(page: &mut Page, sheet: &Sheet<'_>)
+    ensures { Adds page.old page.new
+        (changes_pieces sheet.now.app.now sheet.now.recording.now.names.items sheet.now.marks.now
         sheet.now.recording.now.moments.items) }
 {
     add_parts(
@@ -171,7 +154,7 @@ pub(crate) fn add_changes(page: &mut Page, sheet: &Sheet<'_>) -> Result<(), Memo
             Part::End(Tag::Thead),
             Part::Open(Tag::Tbody),
         ],
-    )?;
-    add_rows(page, sheet)?;
-    add_parts(page, &[Part::End(Tag::Tbody), Part::End(Tag::Table)])
+    );
+    add_rows(page, sheet);
+    add_parts(page, &[Part::End(Tag::Tbody), Part::End(Tag::Table)]);
 }

@@ -1,10 +1,10 @@
 //! Head, tables, texts and foot of a report.
 
-ghost use Rattle.std.specs.Prelude.{◌≡◌, ◌++◌, IfOk, OnOk, codes, if◌then◌else◌};
-ghost use Rattle.ps_bench_base.specs.Pieces.{place_text};
+ghost use Rattle.std.specs.Prelude.{◌≡◌};
+ghost use Rattle.ps_markup.specs.Paged.{Adds};
 ghost use Rattle.ps_page.specs.Results.{case_front, case_row, class_of, result_row, word_of};
 ghost use Rattle.ps_page.specs.Files.{file_row, text_part};
-ghost use Rattle.ps_told.specs.Outcome.{passes, ran_of};
+ghost use Rattle.ps_told.specs.Outcome.{ran_of};
 
 use itoa::Buffer;
 use ps_base::{Bytes, Memory};
@@ -14,7 +14,7 @@ use ps_told::CaseRun;
 use std::alloc::Global;
 
 /// The head of a page with this title, up to its first part.
-pub fn add_head(page: &mut Page, title: &[u8]) -> Result<(), Memory> {
+pub fn add_head(page: &mut Page, title: &[u8]) {
     add_parts(
         page,
         &[
@@ -24,22 +24,17 @@ pub fn add_head(page: &mut Page, title: &[u8]) -> Result<(), Memory> {
             Part::Open(Tag::Main),
             Part::Element(Tag::H1, title),
         ],
-    )
+    );
 }
 
 /// The foot of a page.
-pub fn add_foot(page: &mut Page) -> Result<(), Memory> {
-    add_parts(page, &[Part::End(Tag::Main), Part::Epilogue])
+pub fn add_foot(page: &mut Page) {
+    add_parts(page, &[Part::End(Tag::Main), Part::Epilogue]);
 }
 
 /// A part that is a text, with its blanks and lines, or one sentence where the text is empty.
-pub fn add_text<'x>(
-    page: &mut Page,
-    heading: &'x [u8],
-    text: &'x [u8],
-    none: &'x [u8],
-) -> Result<(), Memory>
-    ensures { OnOk result (page.new ≡ page.old ++ text_part heading.now text.now none.now) }
+pub fn add_text<'x>(page: &mut Page, heading: &'x [u8], text: &'x [u8], none: &'x [u8])
+    ensures { Adds page.old page.new (text_part heading.now text.now none.now) }
 {
     let told = if text.is_empty() {
         Part::Element(Tag::P, none)
@@ -54,24 +49,11 @@ pub fn add_text<'x>(
             told,
             Part::End(Tag::Section),
         ],
-    )
-}
-
-// The columns of a table, each with its name.
-fn add_columns(page: &mut Page, columns: &[&[u8]]) -> Result<(), Memory> {
-    for column in columns {
-        add_parts(page, &[Part::Marked(Tag::Th, Key::Scope, b"col", *column)])?;
-    }
-    Ok(())
+    );
 }
 
 /// A part that is a table, with its heading and these columns, up to its first row.
-pub fn open_table<'x>(
-    page: &mut Page,
-    heading: &'x [u8],
-    caption: &'x [u8],
-    columns: &[&[u8]],
-) -> Result<(), Memory> {
+pub fn open_table<'x>(page: &mut Page, heading: &'x [u8], caption: &'x [u8], columns: &[&[u8]]) {
     add_parts(
         page,
         &[
@@ -82,8 +64,10 @@ pub fn open_table<'x>(
             Part::Open(Tag::Thead),
             Part::Open(Tag::Tr),
         ],
-    )?;
-    add_columns(page, columns)?;
+    );
+    for column in columns {
+        add_parts(page, &[Part::Marked(Tag::Th, Key::Scope, b"col", *column)]);
+    }
     add_parts(
         page,
         &[
@@ -91,11 +75,11 @@ pub fn open_table<'x>(
             Part::End(Tag::Thead),
             Part::Open(Tag::Tbody),
         ],
-    )
+    );
 }
 
 /// The end of a table.
-pub fn close_table(page: &mut Page) -> Result<(), Memory> {
+pub fn close_table(page: &mut Page) {
     add_parts(
         page,
         &[
@@ -103,12 +87,12 @@ pub fn close_table(page: &mut Page) -> Result<(), Memory> {
             Part::End(Tag::Table),
             Part::End(Tag::Section),
         ],
-    )
+    );
 }
 
 /// The row of a file: its name, and what it is named by.
-pub fn add_file<'x>(page: &mut Page, name: &'x [u8], digest: &'x [u8]) -> Result<(), Memory>
-    ensures { OnOk result (page.new ≡ page.old ++ file_row name.now digest.now) }
+pub fn add_file<'x>(page: &mut Page, name: &'x [u8], digest: &'x [u8])
+    ensures { Adds page.old page.new (file_row name.now digest.now) }
 {
     add_parts(
         page,
@@ -118,7 +102,7 @@ pub fn add_file<'x>(page: &mut Page, name: &'x [u8], digest: &'x [u8]) -> Result
             Part::Marked(Tag::Td, Key::Class, b"digest", digest),
             Part::End(Tag::Tr),
         ],
-    )
+    );
 }
 
 // How a result looks.
@@ -135,24 +119,9 @@ fn word_of(passed: bool) -> &'static [u8]
     if passed { b"PASS" } else { b"FAIL" }
 }
 
-// A file and a line of it.
-fn place_of(alloc: Global, name: &[u8], line: u32) -> Result<Bytes, Memory>
-    ensures { IfOk result (λ text. text ≡ place_text name.now line) }
-{
-    let mut text = Bytes::new(alloc);
-    add_place(&mut text, name, line)?;
-    Ok(text)
-}
-
 // The row of a case of this name: its place, its result, and how many scans it made.
-fn add_result<'x>(
-    page: &mut Page,
-    name: &'x [u8],
-    place: &'x [u8],
-    passed: bool,
-    scans: &'x [u8],
-) -> Result<(), Memory>
-    ensures { OnOk result (page.new ≡ page.old ++ result_row name.now place.now passed scans.now) }
+fn add_result<'x>(page: &mut Page, name: &'x [u8], place: &'x [u8], passed: bool, scans: &'x [u8])
+    ensures { Adds page.old page.new (result_row name.now place.now passed scans.now) }
 {
     add_parts(
         page,
@@ -164,28 +133,26 @@ fn add_result<'x>(
             Part::Element(Tag::Td, scans),
             Part::End(Tag::Tr),
         ],
-    )
+    );
 }
 
 /// The row of a case that was run: its name, its place, its result, and how many scans it made.
-pub fn add_case(page: &mut Page, alloc: Global, run: &CaseRun<'_>) -> Result<(), Memory>
-    ensures { OnOk result (page.new ≡ page.old ++ case_row (ran_of run.now)) }
+pub fn add_case(page: &mut Page, alloc: Global, run: &CaseRun<'_>)
+    ensures { Adds page.old page.new (case_row (ran_of run.now)) }
 {
-    let place = place_of(alloc, run.name.as_bytes(), run.case.line)?;
     let mut scans = Buffer::new();
+    let scans = scans.format(run.outcome.scans).as_bytes();
     let name = run.case.name.as_str().as_bytes();
-    add_result(
-        page,
-        name,
-        place.as_slice(),
-        run.passed(),
-        scans.format(run.outcome.scans).as_bytes(),
-    )
+    let mut place = Bytes::new(alloc);
+    match add_place(&mut place, run.name.as_bytes(), run.case.line) {
+        Ok(()) => add_result(page, name, place.as_slice(), run.passed(), scans),
+        Err(Memory) => page.spoil(),
+    }
 }
 
 /// The beginning of the part of a case: its name, and what is told of it.
-pub fn open_case<'x>(page: &mut Page, name: &'x [u8], told: &'x [u8]) -> Result<(), Memory>
-    ensures { OnOk result (page.new ≡ page.old ++ case_front name.now told.now) }
+pub fn open_case<'x>(page: &mut Page, name: &'x [u8], told: &'x [u8])
+    ensures { Adds page.old page.new (case_front name.now told.now) }
 {
     add_parts(
         page,
@@ -194,5 +161,5 @@ pub fn open_case<'x>(page: &mut Page, name: &'x [u8], told: &'x [u8]) -> Result<
             Part::Element(Tag::H3, name),
             Part::Element(Tag::Pre, told),
         ],
-    )
+    );
 }

@@ -8,20 +8,22 @@ ghost use Rattle.ps_expand.specs.Alone.{alone};
 ghost use Rattle.ps_model.specs.Network.{input_count};
 ghost use Rattle.ps_model.specs.Typing.{Accepted};
 ghost use Rattle.ps_page.specs.Played.{IsRecordingOf, RecordsItems};
-ghost use Rattle.ps_recorder.specs.Marks.{names_shown};
-ghost use Rattle.ps_recorder.specs.Recorder.{IsFresh};
+ghost use Rattle.ps_page.specs.Marks.{names_shown};
+ghost use Rattle.ps_page.specs.Recorder.{IsFresh};
 ghost use Rattle.ps_terms.specs.declared.name.Name.{Name as NameOf};
 ghost use Rattle.ps_trace.specs.FaultOrder.{AreInOrder, AreOfOneChannel};
 ghost use Rattle.ps_trace.specs.Reading.{IsReadingTrace, input_count_of, items_left};
 ghost use Rattle.ps_trace.specs.Scans.End.{whole};
 
+use crate::marks::{marks_of, names_shown};
+use crate::recording::{Recorder, Recording};
+use crate::running::record_items;
 use ps_base::Memory;
 use ps_cases::laws::expanded_trace_is_read;
 use ps_cases::{Case, CaseFile};
 use ps_expand::faults_of;
 use ps_model::App;
 use ps_outside::TextFail;
-use ps_recorder::{Recorder, Recording, names_shown, record_items, scans_expected};
 use ps_runs::{Runner, StruckWorld, Watched};
 use ps_trace::{Faults, TraceReader};
 use ps_traced::Expansion;
@@ -90,7 +92,7 @@ pub fn record_case(
     let recorder = Recorder::new(
         alloc,
         names_shown(alloc, app, file, case)?,
-        scans_expected(alloc, file, case)?,
+        marks_of(alloc, file, case, &[])?,
     );
     match TraceReader::start(alloc, &mut text, "", app) {
         Ok(mut trace) => record_trace(alloc, app, &mut trace, &mut text, faults, recorder),

@@ -1,11 +1,12 @@
 // Where scans stand in a picture: time to scale, with breaks where nothing happens for long.
 
-ghost use Rattle.std.specs.Prelude.{◌≡◌, ◌≤◌, ◌<◌, IfOk, length, take};
+ghost use Rattle.std.specs.Prelude.{◌≡◌, ◌<◌, IfOk, length, take};
 ghost use Rattle.ps_page.specs.Diagram.{shown_in};
 
+use crate::marks::Mark;
+use crate::recording::Moment;
 use ps_base::Memory;
 use ps_markup::LEFT;
-use ps_recorder::{Mark, Moment};
 use std::alloc::Global;
 
 // How wide the scans of a picture are together at most.
@@ -44,28 +45,28 @@ pub(crate) fn unit_of(moments: &[Moment]) -> u32 {
     unit
 }
 
-// How wide a scan is to scale.
-fn scaled(moment: &Moment, unit: u32) -> u32 {
-    moment
+// Whether something is expected of a scan.
+fn is_expected(moment: &Moment, marks: &[Mark]) -> bool {
+    for mark in marks {
+        if mark.scan == moment.scan {
+            return true;
+        }
+    }
+    false
+}
+
+// How wide a scan is to scale, and at least as wide as what stands above it.
+fn width_of(moment: &Moment, marks: &[Mark], unit: u32) -> u32 {
+    let width = moment
         .wait
         .saturating_mul(LEAST_WIDTH)
         .checked_div(unit)
-        .unwrap_or(0)
-}
-
-// Whether words stand above a scan.
-fn has_words(moment: &Moment, marks: &[Mark]) -> bool {
-    moment.restarted || marks.iter().any(|mark| mark.scan == moment.scan)
-}
-
-// How wide a scan is.
-fn width_of(moment: &Moment, marks: &[Mark], unit: u32) -> u32 {
-    let least = if has_words(moment, marks) {
-        WORD_WIDTH
+        .unwrap_or(0);
+    if moment.restarted || is_expected(moment, marks) {
+        width.max(WORD_WIDTH)
     } else {
-        LEAST_WIDTH
-    };
-    scaled(moment, unit).max(least).min(BREAK_WIDTH)
+        width.max(LEAST_WIDTH)
+    }
 }
 
 /// The first scans of these, side by side, as many as a picture has room for; one at least, if there is one.
@@ -76,22 +77,21 @@ pub(crate) fn scans_of<'a>(
     unit: u32,
 ) -> Result<Vec<Scan<'a>>, Memory>
     ensures shown { IfOk result (λ scans. shown_in scans.items ≡ take (length scans.items) moments.now) }
-    ensures within { IfOk result (λ scans. length scans.items ≤ length moments.now) }
     ensures some { IfOk result (λ scans. 0 < length moments.now → 0 < length scans.items) }
 {
     let mut scans = Vec::new(alloc);
     let mut x = LEFT;
     for moment in moments {
-        let end = x.saturating_add(width_of(moment, marks, unit));
+        let width = width_of(moment, marks, unit);
+        let end = x.saturating_add(width.min(BREAK_WIDTH));
         if scans.len() > 0 && end > LEFT + MOST_WIDTH {
             return Ok(scans);
         }
-        let is_broken = scaled(moment, unit) > BREAK_WIDTH;
         scans.push(Scan {
             moment,
             x,
             end,
-            is_broken,
+            is_broken: width > BREAK_WIDTH,
         })?;
         x = end;
     }

@@ -12,7 +12,7 @@ use Rattle.ps_markup.specs.declared.page.Piece.TheVariants.{End}
 use Rattle.ps_page.specs.Pictures.{ShowsDiagram}
 use Rattle.ps_page.specs.Played.{IsRecordingOf}
 use Rattle.ps_page.specs.Results.{case_front}
-use Rattle.ps_recorder.specs.declared.recording.Recording.{Recording}
+use Rattle.ps_page.specs.declared.recording.Recording.{Recording}
 use Rattle.ps_results.specs.Report.{case_text}
 use Rattle.ps_tester.specs.Testing.{FileRan}
 use Rattle.ps_told.specs.Outcome.{Ran, none_told}

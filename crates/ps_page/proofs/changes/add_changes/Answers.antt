@@ -1,5 +1,4 @@
 use Rattle.std.proofs.Common.{[], ◌∷◌, None}
-use Rattle.std.proofs.lemmas.Result.{on_ok_weaker}
 use Rattle.ps_markup.specs.declared.names.Tag.TheVariants.{Table, Tbody}
 use Rattle.ps_markup.specs.declared.page.Piece.TheVariants.{End}
 use Rattle.ps_page.proofs.Picturing.{joined_three}
@@ -7,11 +6,13 @@ use Rattle.ps_page.specs.Changes.{changes_head, rows_from}
 use Rattle.ps_page.proofs.changes.add_changes.Goals as goal
 
 pub returns : goal.returns
-returns c =
+returns c = λ whole.
     let s = c.args.sheet.now in
     let r = s.recording.now in
-    on_ok_weaker c.add_parts-2.result
-    (λ is. joined_three c.args.page.now c.add_parts.new.page c.add_rows.new.page c.add_parts-2.new.page
-    changes_head (rows_from s.app.now r.names.items s.marks.now None r.moments.items) (End Tbody ∷ End Table ∷ [])
-    c.in_ok-add_parts.ensures c.in_ok-add_rows.ensures is)
-    c.add_parts-2.ensures
+    let end = c.add_parts-2.ensures whole in
+    let rows = c.add_rows.ensures end.0 in
+    let head = c.add_parts.ensures rows.0 in (
+      head.0,
+      joined_three c.args.page.now.pieces c.add_parts.new.page.pieces c.add_rows.new.page.pieces c.add_parts-2.new.page.pieces
+          changes_head (rows_from s.app.now r.names.items s.marks.now None r.moments.items) (End Tbody ∷ End Table ∷ []) head.1 rows.1 end.1,
+    )

@@ -4,7 +4,7 @@ use Rattle.std.proofs.lemmas.Bool.{eq-eqb, ne_eqb}
 use Rattle.std.proofs.lemmas.List.{take_more}
 use Rattle.std.proofs.lemmas.List.Elements.{filter-append}
 use Rattle.ps_page.specs.Diagram.{marks_at}
-use Rattle.ps_recorder.specs.declared.marks.Mark.{Mark}
+use Rattle.ps_page.specs.declared.marks.Mark.{Mark}
 use Rattle.ps_page.proofs.diagram.marks_at.Goals.{then-mark-scan+in_ok-push, else-mark-scan}
 use Rattle.ps_page.proofs.diagram.marks_at.Goals as goal
 

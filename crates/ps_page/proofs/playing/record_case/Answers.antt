@@ -9,8 +9,8 @@ use Rattle.ps_model.specs.Meaning.{Item}
 use Rattle.ps_model.specs.declared.channel.Fault.{Fault}
 use Rattle.ps_page.proofs.Played.{items_alone, not_begun_whole, runs_alone}
 use Rattle.ps_page.specs.Played.{IsRecordingOf, RecordsItems}
-use Rattle.ps_recorder.specs.Marks.{names_shown}
-use Rattle.ps_recorder.specs.Recorder.{IsFresh}
+use Rattle.ps_page.specs.Marks.{names_shown}
+use Rattle.ps_page.specs.Recorder.{IsFresh}
 use Rattle.ps_terms.specs.declared.name.Name.{Name}
 use Rattle.ps_trace.specs.FaultOrder.{AreInOrder, AreOfOneChannel}
 use Rattle.ps_trace.specs.Reading.{IsReadingTrace, items_left}

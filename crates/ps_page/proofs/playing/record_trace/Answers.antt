@@ -2,8 +2,8 @@ use Rattle.std.proofs.Common.{◌≡◌, ◌∙◌, Err, refl, sym, ap, subst}
 use Rattle.std.specs.Prelude.{OnOk}
 use Rattle.ps_model.specs.Meaning.{nothing}
 use Rattle.ps_page.proofs.Played.{ends_whole, records_items}
-use Rattle.ps_recorder.specs.Recorder.{IsFresh}
-use Rattle.ps_recorder.specs.Running.{HasRecorded, IsBegun, made_of}
+use Rattle.ps_page.specs.Recorder.{IsFresh}
+use Rattle.ps_page.specs.Running.{HasRecorded, IsBegun, made_of}
 use Rattle.ps_runs.specs.Cutting.{TellsFailures}
 use Rattle.ps_runs.specs.Running.{IsBeginning}
 use Rattle.ps_runs.specs.Watching.{StandsAt}

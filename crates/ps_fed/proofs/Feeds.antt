@@ -3,6 +3,8 @@ use Rattle.std.proofs.Common.{◌≡◌, ◌≤◌, ◌<◌, ◌+◌, ◌-◌, �
 use Rattle.std.proofs.lemmas.Grind.{common_steps}
 use Rattle.std.proofs.Math.Seq.{take-add, take-append-add}
 use Rattle.std.proofs.lemmas.List.{drop-drop, drop_more, take-append-le, take-take, length-take-le}
+use Rattle.std.proofs.lemmas.List.Edits.{take-paste}
+use Rattle.std.specs.List.{copy_within}
 use Rattle.std.proofs.lemmas.List.Folds.{list_any-append}
 use Rattle.std.proofs.lemmas.Bool.{lt-ltb, le-ltb}
 use Rattle.std.specs.Prelude.{◌==◌, if◌then◌else◌}
@@ -130,6 +132,20 @@ kept_part xs items buf post behind len f u k none value within room few =
     ∙ ap (take k) (append_assoc (take u xs) (buf ++ post) behind)
     ∙ take-append-le k (take u xs) ((buf ++ post) ++ behind) (omega (arith, few, length-take-le u xs within))
     ∙ take-take k u xs few ∙ ap (take k) value ∙ sym (ap (λ j. take k (drop j items)) none)
+
+-- what is moved down to the first places
+pub moved_down : (bytes moved : List ℕ) (from upto : ℕ) → from ≤ upto → upto ≤ length bytes → moved ≡ copy_within bytes from upto 0 →
+    take (upto - from - 0) moved ≡ take (upto - from) (drop from bytes)
+moved_down bytes moved from upto order within is =
+    let size : upto - from - 0 ≡ 0 + (upto - from) = omega arith in
+    ap (λ (k : ℕ). take k moved) size ∙ ap (take (0 + (upto - from))) is
+    ∙ take-paste bytes 0 (drop from bytes) (upto - from) (omega arith) (omega (arith, order, within, length-drop {A = ℕ}))
+
+-- no line feed stands where no bytes do
+pub none_behind : (bytes : List ℕ) (from looked : ℕ) → looked ≤ from → HasNoLineFeed (take (looked - from) (drop from bytes))
+none_behind bytes from looked most =
+    let none : looked - from ≡ 0 = omega (arith, most) in
+    subst (λ (k : ℕ). HasNoLineFeed (take k (drop from bytes))) (sym none) refl
 
 -- no line feed stands up to a place, where none stands before another one, nor behind that
 pub none_upto : (bytes : List ℕ) (from looked n : ℕ) → from ≤ looked → HasNoLineFeed (take (looked - from) (drop from bytes)) → HasNoLineFeed (take n (drop looked bytes)) →

@@ -14,18 +14,59 @@ end_line-requires-clause-first c =
     none_upto s.bytes.items s.from s.looked c.in-Some.n s.in_order s.none
     (subst HasNoLineFeed (take-take c.in-Some.n (s.upto - s.looked) (drop s.looked s.bytes.items) inside) found)
 
-pub invariant_of-self-clause-none : goal.invariant_of-self-clause-none
-invariant_of-self-clause-none c =
+pub invariant_of-self : goal.invariant_of-self
+invariant_of-self c =
     let s = c.args.self.now in
-    none_all s.bytes.items s.from s.looked s.upto s.in_order s.held s.none
-    (subst (λ (t : List ℕ). HasNoLineFeed (take (s.upto - s.looked) (drop s.looked t))) c.deref.ensures.value c.in-None.ensures.none)
+    record {
+      room = s.room;
+      in_order = omega arith;
+      held = omega arith;
+      within = s.within;
+      none = none_all s.bytes.items s.from s.looked s.upto s.in_order s.held s.none
+          (subst (λ (t : List ℕ). HasNoLineFeed (take (s.upto - s.looked) (drop s.looked t))) c.deref.ensures.value c.in-None.ensures.none);
+      shown = s.shown;
+      shown_within = s.shown_within;
+    }
 
-pub returns-then-is_too_long-clause-gives : goal.returns-then-is_too_long-clause-gives
-returns-then-is_too_long-clause-gives c = λ coming.
+pub returns-in-Some : goal.returns-in-Some
+returns-in-Some c = record {
+  gives = c.end_line.ensures.gives;
+  none = tt;
+  same = tt;
+  all_looked_at = tt;
+  short = tt;
+  size = tt;
+  longest = c.end_line.ensures.longest;
+}
+
+pub returns-then-is_too_long : goal.returns-then-is_too_long
+returns-then-is_too_long c =
     let s = c.args.self.now in
     let none : HasNoLineFeed (held_of s) =
     none_all s.bytes.items s.from s.looked s.upto s.in_order s.held s.none
     (subst (λ (t : List ℕ). HasNoLineFeed (take (s.upto - s.looked) (drop s.looked t))) c.deref.ensures.value c.in-None.ensures.none) in
     let size : length (held_of s) ≡ s.upto - s.from = omega (arith, length-take {A = ℕ}, length-drop {A = ℕ}) in
     let long : s.longest < length (held_of s) = omega (arith, size, c.if-is_too_long.ensures.long refl) in
-    too_long s.longest (held_of s) coming none long
+    record {
+      gives = λ coming. too_long s.longest (held_of s) coming none long;
+      none = tt;
+      same = tt;
+      all_looked_at = tt;
+      short = tt;
+      size = tt;
+      longest = refl;
+    }
+
+pub returns-else-is_too_long : goal.returns-else-is_too_long
+returns-else-is_too_long c =
+    let s = c.args.self.now in
+    record {
+      gives = tt;
+      none = none_all s.bytes.items s.from s.looked s.upto s.in_order s.held s.none
+          (subst (λ (t : List ℕ). HasNoLineFeed (take (s.upto - s.looked) (drop s.looked t))) c.deref.ensures.value c.in-None.ensures.none);
+      same = refl;
+      all_looked_at = refl;
+      short = c.if-is_too_long.ensures.kept refl;
+      size = refl;
+      longest = refl;
+    }

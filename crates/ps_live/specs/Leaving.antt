@@ -21,8 +21,8 @@ pub record Side : Type 0 where
 abbrev pub side : (held_back : List ℕ) (writes : ℕ) (tells : Bool) → Side
 side held_back writes tells = record { held_back = held_back; writes = writes; tells = tells }
 
--- A run ended, at a read or a write that failed, whose count rose, or in another way. Where it was a read, an output that
--- held nothing back before holds nothing back.
+-- A run ended, at a read or a write that failed, whose count rose, or in another way. Where it was a read, an output
+-- that held nothing back before holds nothing back.
 pub record Leaves (NotRead NotWritten : Type 0) (reads reads' : ℕ) (before after : Side) : Type 0 where
   pub handed_on : before.held_back ≡ [] → NotRead → after.held_back ≡ []
   pub unread : NotRead → Rose reads reads'

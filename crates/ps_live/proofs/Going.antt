@@ -19,32 +19,77 @@ use Rattle.ps_trace.specs.Trace.Said.{skips, restarts, scans, breaks}
 use Rattle.ps_trace.specs.declared.trace.TraceStop.{TraceStop}
 use Rattle.ps_trace.specs.declared.trace.TraceStop.TheVariants.{Refused as IsRefused, Fault as IsFault}
 use Rattle.ps_runs.specs.Cutting.{cut_of}
-use Rattle.ps_fed.specs.Feeding.{Breaks, Comes}
+use Rattle.ps_live.specs.Feeding.{Breaks, Comes, Gives}
 use Rattle.ps_stream.specs.Coming.{told_number}
-use Rattle.ps_fed.specs.declared.feed.Fed.TheVariants.{Nothing, Restart, Scan as AScan}
-use Rattle.ps_fed.specs.declared.feed.Feed.{Feed}
-use Rattle.ps_live.specs.Answering.{AnswersFrom, HasDone}
+use Rattle.ps_live.specs.declared.feed.Fed.{Fed}
+use Rattle.ps_live.specs.declared.feed.Fed.TheVariants.{Nothing, Restart, Scan as AScan, End as NoLine}
+use Rattle.ps_live.specs.declared.feed.Feed.{Feed}
+use Rattle.ps_live.specs.Answering.{AnswersFrom, DoesFed, HasDone, due_by}
+use Rattle.ps_live.specs.Leaving.{HowHanded}
 
--- An item was done and what was written is handed on, or that fails.
-pub handed : {P T V : Type 0} (performs : P → Item → Outcome V → P → Type 0) (said : T → P → Outcome V → List ℕ)
+-- An item was done, and what was written is handed on, or that failed.
+handed : {P T V : Type 0} (performs : P → Item → Outcome V → P → Type 0) (said : T → P → Outcome V → List ℕ)
     (takes : T → P → Outcome V → T → Type 0)
-    (item : Item) (p p' : P) (t t' : T) (tells : Bool) (before mid after : List ℕ) (x : Unit {0}) (ended : Result (Unit {0}) Cut) →
-    DoesItem performs said takes item p p' t t' tells before mid (Ok x) → after ≡ mid → ((cut : Cut) → ended ≡ Err cut → cut ≡ Unwritten) →
+    (item : Item) (p p' : P) (t t' : T) (tells : Bool) (before mid after : List ℕ) (done ended : Result (Unit {0}) Cut) (at at' : ℕ) →
+    DoesItem performs said takes item p p' t t' tells before mid done → after ≡ mid → HowHanded done ended at at' →
     DoesItem performs said takes item p p' t t' tells before after ended
-handed performs said takes item p p' t t' tells before mid after x (Ok y) does same only = record {
-  outcome = does.outcome;
-  done = does.done;
-  taken = does.taken;
-  written = λ on. same ∙ does.written on;
-}
-handed performs said takes item p p' t t' tells before mid after x (Err Unwritten) does same only = record {
-  outcome = does.outcome;
-  done = does.done;
-  size = length (said t p' does.outcome);
-  written = λ on. same ∙ does.written on ∙ ap (λ (bytes : List ℕ). before ++ bytes) (sym (take-length (said t p' does.outcome)));
-}
-handed performs said takes item p p' t t' tells before mid after x (Err (Refused refusal)) does same only = let no = only (Refused refusal) refl in cc
-handed performs said takes item p p' t t' tells before mid after x (Err Unread) does same only = let no = only Unread refl in cc
+handed performs said takes item p p' t t' tells before mid after done ended at at' does same (inl is) =
+    subst (λ (r : Result (Unit {0}) Cut). DoesItem performs said takes item p p' t t' tells before after r) (sym is)
+    (subst (λ (bytes : List ℕ). DoesItem performs said takes item p p' t t' tells before bytes done) (sym same) does)
+handed performs said takes item p p' t t' tells before mid after done ended at at' does same (inr cut) =
+    let whole : DoesItem performs said takes item p p' t t' tells before mid (Ok tt) =
+    subst (λ (r : Result (Unit {0}) Cut). DoesItem performs said takes item p p' t t' tells before mid r) cut.0 does in
+    subst (λ (r : Result (Unit {0}) Cut). DoesItem performs said takes item p p' t t' tells before after r) (sym cut.1)
+    (record {
+      outcome = whole.outcome;
+      done = whole.done;
+      size = length (said t p' whole.outcome);
+      written = λ on. same ∙ whole.written on ∙ ap (λ (bytes : List ℕ). before ++ bytes) (sym (take-length (said t p' whole.outcome)));
+    })
+
+-- What a line gave was done: nothing, a scan, or a restart.
+module _ {P T V : Type 0} (performs : P → Item → Outcome V → P → Type 0) (said : T → P → Outcome V → List ℕ)
+    (takes : T → P → Outcome V → T → Type 0) (fed : Fed) where
+  pub did_nothing : (fed ≡ Nothing) ⊎ (fed ≡ NoLine) → (read : Scan) (p : P) (t : T) (tells : Bool) (bytes : List ℕ) →
+      DoesFed performs said takes fed read p p t t tells bytes bytes (Ok tt)
+  did_nothing (inl is) read p t tells bytes =
+      subst (λ (f : Fed). DoesFed performs said takes f read p p t t tells bytes bytes (Ok tt)) (sym is)
+      (record { performer = refl; taker = refl; unwritten = refl; whole = refl })
+  did_nothing (inr is) read p t tells bytes =
+      subst (λ (f : Fed). DoesFed performs said takes f read p p t t tells bytes bytes (Ok tt)) (sym is)
+      (record { performer = refl; taker = refl; unwritten = refl; whole = refl })
+
+  pub did_scan : fed ≡ AScan → (read : Scan) (p p' : P) (t t' : T) (tells : Bool) (before mid after : List ℕ) (done ended : Result (Unit {0}) Cut) (at at' : ℕ) →
+      HowHanded done ended at at' → DoesItem performs said takes (scan read.now read.ins) p p' t t' tells before mid done → after ≡ mid →
+      DoesFed performs said takes fed read p p' t t' tells before after ended
+  did_scan is read p p' t t' tells before mid after done ended at at' how does same =
+      subst (λ (f : Fed). DoesFed performs said takes f read p p' t t' tells before after ended) (sym is)
+      (handed performs said takes (scan read.now read.ins) p p' t t' tells before mid after done ended at at' does same how)
+
+  pub did_restart : fed ≡ Restart → (read : Scan) (p p' : P) (t t' : T) (tells : Bool) (before mid after : List ℕ) (done ended : Result (Unit {0}) Cut) (at at' : ℕ) →
+      HowHanded done ended at at' → DoesItem performs said takes restart p p' t t' tells before mid done → after ≡ mid →
+      DoesFed performs said takes fed read p p' t t' tells before after ended
+  did_restart is read p p' t t' tells before mid after done ended at at' how does same =
+      subst (λ (f : Fed). DoesFed performs said takes f read p p' t t' tells before after ended) (sym is)
+      (handed performs said takes restart p p' t t' tells before mid after done ended at at' does same how)
+
+-- when the next scan can be at the earliest, behind what a line gave
+pub due_nothing : (fed : Fed) → (fed ≡ Nothing) ⊎ (fed ≡ NoLine) → (earliest now : ℕ) → earliest ≤ due_by fed earliest now
+due_nothing fed (inl is) earliest now = subst (λ (f : Fed). earliest ≤ due_by f earliest now) (sym is) (omega arith)
+due_nothing fed (inr is) earliest now = subst (λ (f : Fed). earliest ≤ due_by f earliest now) (sym is) (omega arith)
+
+pub due_scan : (fed : Fed) → fed ≡ AScan → (earliest now next : ℕ) → next ≤ now → next ≤ due_by fed earliest now
+due_scan fed is earliest now next most = subst (λ (f : Fed). next ≤ due_by f earliest now) (sym is) most
+
+pub due_restart : (fed : Fed) → fed ≡ Restart → (earliest now next : ℕ) → next ≤ earliest → next ≤ due_by fed earliest now
+due_restart fed is earliest now next most = subst (λ (f : Fed). next ≤ due_by f earliest now) (sym is) most
+
+-- and that is not behind the time of the last scan
+pub due_on : (fed : Fed) (earliest now last last' : ℕ) → earliest ≤ last → last ≤ last' → (fed ≡ AScan → last' ≡ now) → due_by fed earliest now ≤ last'
+due_on Nothing earliest now last last' most rises time = omega (arith, most, rises)
+due_on Restart earliest now last last' most rises time = omega (arith, most, rises)
+due_on AScan earliest now last last' most rises time = let at = time refl in omega (arith, at)
+due_on NoLine earliest now last last' most rises time = omega (arith, most, rises)
 
 -- So many lines were done; whatever comes, what is done of it ends the whole.
 pub record Went {P T V : Type 0} (performs : P → Item → Outcome V → P → Type 0) (said : T → P → Outcome V → List ℕ)
@@ -106,7 +151,7 @@ module _ {P T V : Type 0} (performs : P → Item → Outcome V → P → Type 0)
         (says_first line said' is) (leads_line line more)
 
     -- a line was skipped
-    pub went_by : (feed' : Feed) (scan_before scan_after : Scan) (rest' : List Line) → Comes Nothing feed feed' scan_before scan_after rest rest' →
+    went_by : (feed' : Feed) (scan_before scan_after : Scan) (rest' : List Line) → Comes Nothing feed feed' scan_before scan_after rest rest' →
         Went performs said takes first number p t lines tells before (count + 1) feed' p' t' rest' now
     went_by feed' scan_before scan_after rest' comes = record {
       done = went.done ++ comes.line ∷ [];
@@ -121,7 +166,7 @@ module _ {P T V : Type 0} (performs : P → Item → Outcome V → P → Type 0)
     }
 
     -- a restart was done
-    pub went_restart : (x : Unit {0}) (feed' : Feed) (scan_before scan_after : Scan) (rest' : List Line) → Comes Restart feed feed' scan_before scan_after rest rest' →
+    went_restart : (x : Unit {0}) (feed' : Feed) (scan_before scan_after : Scan) (rest' : List Line) → Comes Restart feed feed' scan_before scan_after rest rest' →
         (tells' : Bool) (p'' : P) (t'' : T) (after : List ℕ) → tells' ≡ tells →
         DoesItem performs said takes restart p' p'' t' t'' tells' now after (Ok x) →
         Went performs said takes first number p t lines tells before (count + 1) feed' p'' t'' rest' after
@@ -149,7 +194,7 @@ module _ {P T V : Type 0} (performs : P → Item → Outcome V → P → Type 0)
         record { items = scan scan_after.now (sym (ins ∙ ap (λ (found : List ℕ). inputs_of found values) same) i) ∷ later.items; end = later.end })
 
     -- a scan was done
-    pub went_scan : (x : Unit {0}) (feed' : Feed) (scan_before scan_after : Scan) (rest' : List Line) → Comes AScan feed feed' scan_before scan_after rest rest' →
+    went_scan : (x : Unit {0}) (feed' : Feed) (scan_before scan_after : Scan) (rest' : List Line) → Comes AScan feed feed' scan_before scan_after rest rest' →
         feed.last ≤ scan_after.now → (tells' : Bool) (p'' : P) (t'' : T) (after : List ℕ) → tells' ≡ tells →
         DoesItem performs said takes (scan scan_after.now scan_after.ins) p' p'' t' t'' tells' now after (Ok x) →
         Went performs said takes first number p t lines tells before (count + 1) feed' p'' t'' rest' after
@@ -167,7 +212,7 @@ module _ {P T V : Type 0} (performs : P → Item → Outcome V → P → Type 0)
     }
 
     -- all lines before those that are left were done
-    pub has_done : (x : Unit {0}) → HasDone performs said takes first number p p' t t' lines rest tells before now (Ok x)
+    has_done : (x : Unit {0}) → HasDone performs said takes first number p p' t t' lines rest tells before now (Ok x)
     has_done x = record {
       done = went.done;
       split = went.split;
@@ -177,7 +222,7 @@ module _ {P T V : Type 0} (performs : P → Item → Outcome V → P → Type 0)
     }
 
     -- a scan cut the run short
-    pub scan_cut : (cut : Cut) (feed' : Feed) (scan_before scan_after : Scan) (rest' : List Line) → Comes AScan feed feed' scan_before scan_after rest rest' →
+    scan_cut : (cut : Cut) (feed' : Feed) (scan_before scan_after : Scan) (rest' : List Line) → Comes AScan feed feed' scan_before scan_after rest rest' →
         feed.last ≤ scan_after.now → (tells' : Bool) (p'' : P) (t'' : T) (after : List ℕ) → tells' ≡ tells →
         DoesItem performs said takes (scan scan_after.now scan_after.ins) p' p'' t' t'' tells' now after (Err cut) →
         HasDone performs said takes first number p p'' t t'' lines rest' tells before after (Err cut)
@@ -193,7 +238,7 @@ module _ {P T V : Type 0} (performs : P → Item → Outcome V → P → Type 0)
     }
 
     -- a restart cut the run short
-    pub restart_cut : (cut : Cut) (feed' : Feed) (scan_before scan_after : Scan) (rest' : List Line) → Comes Restart feed feed' scan_before scan_after rest rest' →
+    restart_cut : (cut : Cut) (feed' : Feed) (scan_before scan_after : Scan) (rest' : List Line) → Comes Restart feed feed' scan_before scan_after rest rest' →
         (tells' : Bool) (p'' : P) (t'' : T) (after : List ℕ) → tells' ≡ tells →
         DoesItem performs said takes restart p' p'' t' t'' tells' now after (Err cut) →
         HasDone performs said takes first number p p'' t t'' lines rest' tells before after (Err cut)
@@ -206,8 +251,24 @@ module _ {P T V : Type 0} (performs : P → Item → Outcome V → P → Type 0)
           cut tells' restart (scans_from first.places.items (number_after comes.line went.next) feed.last []) p'' t'' after telling refl tt does);
     }
 
+    -- what a line gave was done
+    pub went_fed : (fed : Fed) → ¬ (fed ≡ NoLine) → (feed' : Feed) (scan_before scan_after : Scan) (rest' : List Line) →
+        Gives fed feed feed' scan_before scan_after rest rest' → feed.last ≤ feed'.last → (x : Unit {0}) (tells' : Bool) (p'' : P) (t'' : T) (after : List ℕ) → tells' ≡ tells →
+        DoesFed performs said takes fed scan_after p' p'' t' t'' tells' now after (Ok x) →
+        Went performs said takes first number p t lines tells before (count + 1) feed' p'' t'' rest' after
+    went_fed Nothing more feed' scan_before scan_after rest' comes rises x tells' p'' t'' after telling does =
+        subst (λ (q : P). Went performs said takes first number p t lines tells before (count + 1) feed' q t'' rest' after) (sym does.performer)
+        (subst (λ (u : T). Went performs said takes first number p t lines tells before (count + 1) feed' p' u rest' after) (sym does.taker)
+        (subst (λ (bytes : List ℕ). Went performs said takes first number p t lines tells before (count + 1) feed' p' t' rest' bytes) (sym does.unwritten)
+        (went_by feed' scan_before scan_after rest' comes)))
+    went_fed Restart more feed' scan_before scan_after rest' comes rises x tells' p'' t'' after telling does =
+        went_restart x feed' scan_before scan_after rest' comes tells' p'' t'' after telling does
+    went_fed AScan more feed' scan_before scan_after rest' comes rises x tells' p'' t'' after telling does =
+        went_scan x feed' scan_before scan_after rest' comes (omega (arith, rises, comes.says.3)) tells' p'' t'' after telling does
+    went_fed NoLine more feed' scan_before scan_after rest' comes rises x tells' p'' t'' after telling does = absurd (more refl)
+
     -- a line is refused
-    pub line_refused : (refusal : Refusal) → Breaks feed rest refusal → (left : List Line) →
+    line_refused : (refusal : Refusal) → Breaks feed rest refusal → (left : List Line) →
         AnswersFrom performs said takes first number p p' t t' lines left tells before now (Err (Refused refusal))
     line_refused refusal broken left =
         let cause = at_line broken.is_broken.rule went.next in (
@@ -226,13 +287,26 @@ module _ {P T V : Type 0} (performs : P → Item → Outcome V → P → Type 0)
         )
 
     -- an item cut the run short
-    pub item_answers : (cut : Cut) (item : Item) (tells' : Bool) (p'' : P) (t'' : T) (after : List ℕ) →
+    item_answers : (cut : Cut) (item : Item) (tells' : Bool) (p'' : P) (t'' : T) (after : List ℕ) →
         DoesItem performs said takes item p' p'' t' t'' tells' now after (Err cut) → (left rest' : List Line) →
         HasDone performs said takes first number p p'' t t'' lines left tells before after (Err cut) →
         AnswersFrom performs said takes first number p p'' t t'' lines rest' tells before after (Err cut)
     item_answers Unwritten item tells' p'' t'' after does left rest' done = (left, done)
     item_answers (Refused refusal) item tells' p'' t'' after does left rest' done = (left, refusal, done, inr (refl, (p', item, p'', does.done)))
     item_answers Unread item tells' p'' t'' after does left rest' done = absurd does
+
+    -- what a line gave cut the run short
+    pub fed_answers : (fed : Fed) (feed' : Feed) (scan_before scan_after : Scan) (rest' : List Line) →
+        Gives fed feed feed' scan_before scan_after rest rest' → feed.last ≤ feed'.last → (cut : Cut) (tells' : Bool) (p'' : P) (t'' : T) (after : List ℕ) → tells' ≡ tells →
+        DoesFed performs said takes fed scan_after p' p'' t' t'' tells' now after (Err cut) → (last : List Line) →
+        AnswersFrom performs said takes first number p p'' t t'' lines last tells before after (Err cut)
+    fed_answers Nothing feed' scan_before scan_after rest' comes rises cut tells' p'' t'' after telling does last = let no = does.whole in cc
+    fed_answers Restart feed' scan_before scan_after rest' comes rises cut tells' p'' t'' after telling does last =
+        item_answers cut restart tells' p'' t'' after does rest' last (restart_cut cut feed' scan_before scan_after rest' comes tells' p'' t'' after telling does)
+    fed_answers AScan feed' scan_before scan_after rest' comes rises cut tells' p'' t'' after telling does last =
+        item_answers cut (scan scan_after.now scan_after.ins) tells' p'' t'' after does rest' last
+        (scan_cut cut feed' scan_before scan_after rest' comes (omega (arith, rises, comes.says.3)) tells' p'' t'' after telling does)
+    fed_answers NoLine feed' scan_before scan_after rest' comes rises cut tells' p'' t'' after telling does last = let no = does.whole in cc
 
     -- all lines were done, or as many as are counted
     pub all_answers : (x : Unit {0}) (rest' : List Line) → (rest ≡ []) ⊎ (last_count ≤ count) →

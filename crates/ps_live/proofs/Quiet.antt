@@ -28,7 +28,7 @@ use Rattle.ps_world.specs.Orders.{of_scan, scan_events}
 use Rattle.ps_world.specs.Steps.{after, world_step}
 use Rattle.ps_world.specs.Whole.{IsSetupOf, Setup, machines_in}
 use Rattle.ps_world.specs.Worlds.{Machines, Restart, World_state, world_0}
-use Rattle.ps_fed.specs.Streaming.{scans_in}
+use Rattle.ps_live.specs.Streaming.{scans_in}
 use Rattle.ps_live.specs.Fault.{whole_answer}
 use Rattle.ps_live.specs.Living.{AreRun}
 

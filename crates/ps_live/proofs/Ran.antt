@@ -7,16 +7,16 @@ use Rattle.ps_model.specs.Network.{Network}
 use Rattle.ps_model.specs.Meaning.{Item}
 use Rattle.ps_outside.specs.Outside.{last_count}
 use Rattle.ps_runs.specs.Outcomes.{Outcome, refuses}
-use Rattle.ps_runs.specs.Resting.{answer_lines, answered, any_trips}
+use Rattle.ps_runs.specs.Resting.{answered, any_trips}
 use Rattle.ps_runs.specs.Doing.{Did}
 use Rattle.ps_runs.specs.Written.{HasEnded, WritesLines}
 use Rattle.ps_runs.specs.declared.items.Cut.{Cut}
 use Rattle.ps_runs.specs.declared.items.Cut.TheVariants.{Refused, Unread, Unwritten}
 use Rattle.ps_trace.specs.Scans.{Scans, End, scans_behind}
 use Rattle.ps_trace.specs.Scans.End.{whole, refused}
-use Rattle.ps_fed.specs.Feeding.{IsBehind, IsHeadless, lines_left, waiting}
-use Rattle.ps_fed.specs.Streaming.{fed_lines, scans_in}
-use Rattle.ps_fed.specs.declared.feed.Feed.{Feed}
+use Rattle.ps_live.specs.Feeding.{IsBehind, IsHeadless, lines_left, waiting}
+use Rattle.ps_live.specs.Streaming.{fed_lines, scans_in}
+use Rattle.ps_live.specs.declared.feed.Feed.{Feed}
 use Rattle.ps_world.specs.Whole.{Whole, IsWorldOf}
 use Rattle.ps_live.specs.Answering.{AnswersLines, HasDone}
 use Rattle.ps_live.specs.Living.{AreRun, IsSaid, RunsStream, stop_by}

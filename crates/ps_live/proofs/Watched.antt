@@ -21,7 +21,7 @@ use Rattle.ps_watching.specs.Showing.{ComesOf, EndsRun, Run}
 use Rattle.ps_world.specs.Answers.{answers, answers_of_run}
 use Rattle.ps_world.specs.Whole.{machines_in}
 use Rattle.ps_world.specs.Worlds.{World_state}
-use Rattle.ps_fed.specs.Streaming.{scans_in}
+use Rattle.ps_live.specs.Streaming.{scans_in}
 use Rattle.ps_live.specs.Living.{AreRun}
 use Rattle.ps_live.specs.Watch.{watch_ended, watched_by_default}
 

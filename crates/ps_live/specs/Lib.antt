@@ -4,6 +4,16 @@ pub mod Asking
 pub mod Living
 pub mod Fault
 pub mod Watch
--- what is done of the lines of a stream, and by whom
+-- the lines of a stream, those of a trace that comes so, and what readers of them hold
+pub mod Streams
+pub mod Streaming
+pub mod Reading
+pub mod Saying
+pub mod Feeding
+pub mod Came
+-- what contracts see of a stream in memory
+pub mod InMemory
+-- what is done of the lines of a stream, and by whom, and what that leaves
 pub mod Answering
 pub mod Telling
+pub mod Leaving

@@ -1,10 +1,10 @@
 -- What a run without faults writes of the lines of a stream, and how it stops.
 use Rattle.std.specs.Prelude.{◌≡◌, ◌≤◌, ◌⊎◌, [], ◌++◌, ℕ, Bool, true, false, IsTrue, List, Result, Ok, Err, length}
 use Rattle.ps_base.specs.declared.failing.Refusal.{Refusal}
-use Rattle.ps_fed.specs.Feeding.{lines_left, waiting}
-use Rattle.ps_fed.specs.Saying.{told}
-use Rattle.ps_fed.specs.Streaming.{fed_lines, scans_in}
-use Rattle.ps_fed.specs.declared.feed.Feed.{Feed}
+use Rattle.ps_live.specs.Feeding.{lines_left, waiting}
+use Rattle.ps_live.specs.Saying.{told}
+use Rattle.ps_live.specs.Streaming.{fed_lines, scans_in}
+use Rattle.ps_live.specs.declared.feed.Feed.{Feed}
 use Rattle.ps_lines.specs.Lines.{Line, HasNoLineFeed}
 use Rattle.ps_model.specs.Meaning.{Item, Meaning}
 use Rattle.ps_model.specs.Network.{Network}

@@ -1,6 +1,7 @@
-// That a run of a stream is that of a file.
+// That a stream is as a file, and a run of it that of a file.
 
 ghost use Rattle.ps_live.specs.Fault.{NoneTrips, SaysAsFault, SaysAsRun};
+ghost use Rattle.ps_live.specs.Streaming.{LinesOfFile};
 ghost use Rattle.ps_live.specs.Watch.{SaysAsWatch};
 
 use ps_model::App;
@@ -29,3 +30,8 @@ pub fn live_is_watch(app: &App)
 {
     app.sound();
 }
+
+/// Where a file could have the bytes of a stream, the lines of both are the same, and so are their items.
+pub fn lines_of_file()
+    ensures { LinesOfFile }
+{}

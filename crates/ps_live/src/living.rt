@@ -1,14 +1,14 @@
 // A run without faults of an application, over a stream.
 
-ghost use Rattle.std.specs.Prelude.{◌≡◌, ◌≤◌, ◌≢◌, [], IsTrue, Err, OnOk};
+ghost use Rattle.std.specs.Prelude.{◌≡◌, [], IsTrue, Err};
 ghost use Rattle.ps_model.specs.Typing.{Accepted};
-ghost use Rattle.ps_outside.specs.Outside.{Rose};
+ghost use Rattle.ps_live.specs.Leaving.{Leaves, headless_by, ran_by, side};
 ghost use Rattle.ps_live.specs.Living.{RunsStream, stop_by};
 ghost use Rattle.ps_live.specs.Telling.{IsTellerFor, IsUntold, is_by_name};
 
+use crate::feed::Feed;
 use crate::teller::{Teller, first_teller};
 use ps_base::{Memory, Refusal};
-use ps_fed::Feed;
 use ps_model::App;
 use ps_outside::{Failed, Output};
 use ps_runs::Cut;
@@ -40,8 +40,8 @@ impl From<Memory> for LiveStop {
     }
 }
 
-/// The reason why the lines of a stream were not all done.
-pub(crate) fn stop_of(cut: Cut) -> LiveStop
+// The reason why the lines of a stream were not all done.
+fn stop_of(cut: Cut) -> LiveStop
     ensures { result ≡ stop_by cut }
 {
     match cut {
@@ -51,7 +51,28 @@ pub(crate) fn stop_of(cut: Cut) -> LiveStop
     }
 }
 
-// Begins the run of a stream: its memory is taken, what was written before is handed on, and the header is read.
+/// How a run ends whose lines ended so, by whether a scan of it tripped.
+pub(crate) fn ran(trips: bool, ended: Result<(), Cut>) -> Result<bool, LiveStop>
+    ensures { result ≡ ran_by trips ended }
+{
+    match ended {
+        Ok(()) => Ok(trips),
+        Err(cut) => Err(stop_of(cut)),
+    }
+}
+
+// How a run stops of whose stream no feed came.
+fn headless(fail: TraceFail) -> LiveStop
+    ensures { result ≡ headless_by fail }
+{
+    match fail {
+        TraceFail::Refused(refusal) => LiveStop::Refused(refusal),
+        TraceFail::Fault => LiveStop::Unread,
+        TraceFail::Memory => LiveStop::Memory,
+    }
+}
+
+// Begins the run of a stream: its memory is taken, and the header is read.
 fn run_behind<I: Stream, O: Output>(
     alloc: Global,
     app: &App,
@@ -63,21 +84,14 @@ fn run_behind<I: Stream, O: Output>(
     requires untold { IsUntold app.now teller.old }
     ensures runs { IsTrue (I.tells input.old) → RunsStream (is_by_name teller.old) app.now
         (I.coming input.old) (I.coming input.new) (O.tells out.old) (O.taken out.old) (O.taken out.new) result }
-    ensures handed_on { O.held_back out.old ≡ [] → OnOk result (O.held_back out.new ≡ []) }
-    ensures handed_on_before { O.held_back out.old ≡ [] → result ≡ Err LiveStop.Unread → O.held_back out.new ≡ [] }
-    ensures unread { result ≡ Err LiveStop.Unread → Rose (I.faults input.old) (I.faults input.new) }
-    ensures all_read { result ≢ Err LiveStop.Unread → I.faults input.new ≡ I.faults input.old }
-    ensures unwritten { result ≡ Err LiveStop.Unwritten → Rose (O.faults out.old) (O.faults out.new) }
-    ensures all_written { result ≢ Err LiveStop.Unwritten → O.faults out.new ≡ O.faults out.old }
-    ensures reads { I.faults input.old ≤ I.faults input.new }
-    ensures writes { O.faults out.old ≤ O.faults out.new }
-    ensures telling { O.tells out.new ≡ O.tells out.old }
+    ensures leaves { Leaves (result ≡ Err LiveStop.Unread) (result ≡ Err LiveStop.Unwritten)
+        (I.faults input.old) (I.faults input.new)
+        (side (O.held_back out.old) (O.faults out.old) (O.tells out.old))
+        (side (O.held_back out.new) (O.faults out.new) (O.tells out.new)) }
 {
     match Feed::start(alloc, input, app) {
         Ok(mut feed) => teller.run(app, &mut feed, input, out),
-        Err(TraceFail::Refused(refusal)) => Err(LiveStop::Refused(refusal)),
-        Err(TraceFail::Fault) => Err(LiveStop::Unread),
-        Err(TraceFail::Memory) => Err(LiveStop::Memory),
+        Err(fail) => Err(headless(fail)),
     }
 }
 
@@ -85,9 +99,10 @@ fn run_behind<I: Stream, O: Output>(
 /// of each scan and restart, and hands it on, before it reads on; and says whether a scan tripped. A trip ends nothing.
 ///
 /// What is written is what `fault` without faults writes of a trace with these lines, and by name what `watch` writes
-/// of it. All memory is taken before the first scan. `Refused` comes exactly where a line is refused or there is no header, with the number of the line up to
-/// 4,294,967,295; its own line is not written. `Unread` comes only where the stream's count rose: what is said of
-/// each whole line that was read was then written and handed on. `Unwritten` comes only where the output's count rose.
+/// of it. All memory is taken before the first scan. `Refused` comes exactly where a line is refused or there is no
+/// header, with the number of the line up to 4,294,967,295; its own line is not written. `Unread` comes only where the
+/// stream's count rose: what is said of each whole line that was read was then written and handed on. `Unwritten` comes
+/// only where the output's count rose.
 pub(crate) fn run_stream<I: Stream, O: Output>(
     alloc: Global,
     app: &App,
@@ -98,15 +113,10 @@ pub(crate) fn run_stream<I: Stream, O: Output>(
     requires accepted { Accepted app.now }
     ensures runs { IsTrue (I.tells input.old) → RunsStream names app.now (I.coming input.old) (I.coming input.new)
         (O.tells out.old) (O.taken out.old) (O.taken out.new) result }
-    ensures handed_on { OnOk result (O.held_back out.new ≡ []) }
-    ensures handed_on_before { result ≡ Err LiveStop.Unread → O.held_back out.new ≡ [] }
-    ensures unread { result ≡ Err LiveStop.Unread → Rose (I.faults input.old) (I.faults input.new) }
-    ensures all_read { result ≢ Err LiveStop.Unread → I.faults input.new ≡ I.faults input.old }
-    ensures unwritten { result ≡ Err LiveStop.Unwritten → Rose (O.faults out.old) (O.faults out.new) }
-    ensures all_written { result ≢ Err LiveStop.Unwritten → O.faults out.new ≡ O.faults out.old }
-    ensures reads { I.faults input.old ≤ I.faults input.new }
-    ensures writes { O.faults out.old ≤ O.faults out.new }
-    ensures telling { O.tells out.new ≡ O.tells out.old }
+    ensures leaves { Leaves (result ≡ Err LiveStop.Unread) (result ≡ Err LiveStop.Unwritten)
+        (I.faults input.old) (I.faults input.new)
+        (side [] (O.faults out.old) (O.tells out.old))
+        (side (O.held_back out.new) (O.faults out.new) (O.tells out.new)) }
 {
     let mut teller = first_teller(alloc, app, names)?;
     match hand_on(out) {

@@ -1,26 +1,20 @@
 // Who makes the scans of a stream, and who tells of them: by report lines, or by name.
 
-ghost use Rattle.std.specs.Prelude.{◌≡◌, ◌≤◌, ◌≢◌, [], ℕ, true, false, List, IsTrue, IfOk, Err, OnOk};
-ghost use Rattle.ps_fed.specs.Feeding.{IsBehind, inputs_of_feed, lines_left};
-ghost use Rattle.ps_fed.specs.Streaming.{fed_lines};
+ghost use Rattle.std.specs.Prelude.{◌≡◌, [], ℕ, true, false, List, IsTrue, IfOk, Err};
+ghost use Rattle.ps_live.specs.Feeding.{IsBehind, inputs_of_feed, lines_left};
+ghost use Rattle.ps_live.specs.Streaming.{fed_lines};
 ghost use Rattle.ps_model.specs.Network.{input_count};
 ghost use Rattle.ps_model.specs.Typing.{Accepted};
-ghost use Rattle.ps_outside.specs.Outside.{Rose};
-ghost use Rattle.ps_report.specs.Lines.{line_room};
 ghost use Rattle.ps_runs.specs.Performing.{IsStruckWorldFor};
-ghost use Rattle.ps_runs.specs.Running.{Fits, IsBeginning};
-ghost use Rattle.ps_runs.specs.Watching.{IsWatchedFor};
-ghost use Rattle.ps_watcher.specs.Names.{main_names};
-ghost use Rattle.ps_watcher.specs.declared.format.Format.TheVariants.{Text};
-ghost use Rattle.ps_watcher.specs.Watched.{IsBegun};
-ghost use Rattle.ps_watcher.specs.Watcher.{IsWatcherFor};
+ghost use Rattle.ps_runs.specs.Running.{IsBeginning};
+ghost use Rattle.ps_live.specs.Leaving.{Leaves, side};
 ghost use Rattle.ps_live.specs.Living.{RunsStream};
 ghost use Rattle.ps_live.specs.Telling.{IsTellerFor, IsUntold, is_by_name};
 
 use crate::answering::answer_lines;
-use crate::living::{LiveStop, stop_of};
+use crate::feed::Feed;
+use crate::living::{LiveStop, ran};
 use ps_base::Memory;
-use ps_fed::Feed;
 use ps_model::App;
 use ps_outside::Output;
 use ps_report::LineBuffer;
@@ -96,71 +90,6 @@ pub(crate) fn first_teller(alloc: Global, app: &App, names: bool) -> Result<Tell
     }
 }
 
-// Runs the lines that are to come of a stream, and tells of them by report lines.
-fn run_lines<I: Stream, O: Output>(
-    app: &App,
-    feed: &mut Feed,
-    runner: &mut Runner<StruckWorld, LineBuffer>,
-    input: &mut I,
-    out: &mut O,
-) -> Result<bool, LiveStop>
-    requires fits { Fits (IsStruckWorldFor app.now) (λ room. line_room app.now ≤ room) app.now runner.old }
-    requires begins { IsBeginning app.now runner.old.performer }
-    requires spared { runner.old.performer.faults ≡ [] }
-    requires inputs { inputs_of_feed feed.old ≡ input_count app.now }
-    ensures runs { IsTrue (I.tells input.old) → (bytes : List ℕ) →
-        IsBehind app.now (fed_lines bytes) feed.old (lines_left feed.old (I.coming input.old)) →
-        RunsStream false app.now bytes (I.coming input.new) (O.tells out.old) (O.taken out.old) (O.taken out.new)
-        result }
-    ensures handed_on { O.held_back out.old ≡ [] → OnOk result (O.held_back out.new ≡ []) }
-    ensures handed_on_before { O.held_back out.old ≡ [] → result ≡ Err LiveStop.Unread → O.held_back out.new ≡ [] }
-    ensures unread { result ≡ Err LiveStop.Unread → Rose (I.faults input.old) (I.faults input.new) }
-    ensures all_read { result ≢ Err LiveStop.Unread → I.faults input.new ≡ I.faults input.old }
-    ensures unwritten { result ≡ Err LiveStop.Unwritten → Rose (O.faults out.old) (O.faults out.new) }
-    ensures all_written { result ≢ Err LiveStop.Unwritten → O.faults out.new ≡ O.faults out.old }
-    ensures reads { I.faults input.old ≤ I.faults input.new }
-    ensures writes { O.faults out.old ≤ O.faults out.new }
-    ensures telling { O.tells out.new ≡ O.tells out.old }
-{
-    match answer_lines(app, feed, runner, input, out) {
-        Ok(()) => Ok(runner.performer.tripped),
-        Err(cut) => Err(stop_of(cut)),
-    }
-}
-
-// Runs the lines that are to come of a stream, and tells of them by name.
-fn run_names<I: Stream, O: Output>(
-    app: &App,
-    feed: &mut Feed,
-    runner: &mut Runner<Watched<StruckWorld>, Watcher>,
-    input: &mut I,
-    out: &mut O,
-) -> Result<bool, LiveStop>
-    requires fits { Fits (IsWatchedFor IsStruckWorldFor app.now) (IsWatcherFor app.now) app.now runner.old }
-    requires begun { IsBegun app.now Text (main_names app.now) runner.old.performer runner.old.taker }
-    requires spared { runner.old.performer.performer.faults ≡ [] }
-    requires inputs { inputs_of_feed feed.old ≡ input_count app.now }
-    ensures runs { IsTrue (I.tells input.old) → (bytes : List ℕ) →
-        IsBehind app.now (fed_lines bytes) feed.old (lines_left feed.old (I.coming input.old)) →
-        RunsStream true app.now bytes (I.coming input.new) (O.tells out.old) (O.taken out.old) (O.taken out.new)
-        result }
-    ensures handed_on { O.held_back out.old ≡ [] → OnOk result (O.held_back out.new ≡ []) }
-    ensures handed_on_before { O.held_back out.old ≡ [] → result ≡ Err LiveStop.Unread → O.held_back out.new ≡ [] }
-    ensures unread { result ≡ Err LiveStop.Unread → Rose (I.faults input.old) (I.faults input.new) }
-    ensures all_read { result ≢ Err LiveStop.Unread → I.faults input.new ≡ I.faults input.old }
-    ensures unwritten { result ≡ Err LiveStop.Unwritten → Rose (O.faults out.old) (O.faults out.new) }
-    ensures all_written { result ≢ Err LiveStop.Unwritten → O.faults out.new ≡ O.faults out.old }
-    ensures reads { I.faults input.old ≤ I.faults input.new }
-    ensures writes { O.faults out.old ≤ O.faults out.new }
-    ensures telling { O.tells out.new ≡ O.tells out.old }
-{
-    app.sound();
-    match answer_lines(app, feed, runner, input, out) {
-        Ok(()) => Ok(runner.performer.performer.tripped),
-        Err(cut) => Err(stop_of(cut)),
-    }
-}
-
 impl Teller {
     /// Runs the lines that are to come of a stream, tells of each scan and restart, and hands that on, before it reads
     /// on; and says whether a scan tripped. It takes no memory.
@@ -178,19 +107,21 @@ impl Teller {
             IsBehind app.now (fed_lines bytes) feed.old (lines_left feed.old (I.coming input.old)) →
             RunsStream (is_by_name self.old) app.now bytes (I.coming input.new) (O.tells out.old) (O.taken out.old)
             (O.taken out.new) result }
-        ensures handed_on { O.held_back out.old ≡ [] → OnOk result (O.held_back out.new ≡ []) }
-        ensures handed_on_before { O.held_back out.old ≡ [] → result ≡ Err LiveStop.Unread → O.held_back out.new ≡ [] }
-        ensures unread { result ≡ Err LiveStop.Unread → Rose (I.faults input.old) (I.faults input.new) }
-        ensures all_read { result ≢ Err LiveStop.Unread → I.faults input.new ≡ I.faults input.old }
-        ensures unwritten { result ≡ Err LiveStop.Unwritten → Rose (O.faults out.old) (O.faults out.new) }
-        ensures all_written { result ≢ Err LiveStop.Unwritten → O.faults out.new ≡ O.faults out.old }
-        ensures reads { I.faults input.old ≤ I.faults input.new }
-        ensures writes { O.faults out.old ≤ O.faults out.new }
-        ensures telling { O.tells out.new ≡ O.tells out.old }
+        ensures leaves { Leaves (result ≡ Err LiveStop.Unread) (result ≡ Err LiveStop.Unwritten)
+            (I.faults input.old) (I.faults input.new)
+            (side (O.held_back out.old) (O.faults out.old) (O.tells out.old))
+            (side (O.held_back out.new) (O.faults out.new) (O.tells out.new)) }
     {
         match self {
-            Teller::Lines(runner) => run_lines(app, feed, runner, input, out),
-            Teller::Names(runner) => run_names(app, feed, runner, input, out),
+            Teller::Lines(runner) => {
+                let ended = answer_lines(app, feed, runner, input, out);
+                ran(runner.performer.tripped, ended)
+            }
+            Teller::Names(runner) => {
+                app.sound();
+                let named = answer_lines(app, feed, runner, input, out);
+                ran(runner.performer.performer.tripped, named)
+            }
         }
     }
 }

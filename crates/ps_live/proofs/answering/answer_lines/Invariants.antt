@@ -1,6 +1,6 @@
 use Rattle.std.proofs.Common.{◌≡◌, ◌≤◌, [], ℕ, IsTrue}
 use Rattle.ps_model.specs.Network.{input_count}
-use Rattle.ps_fed.specs.Feeding.{inputs_of_feed, last_of, lines_left}
+use Rattle.ps_live.specs.Feeding.{inputs_of_feed, last_of, lines_left}
 use Rattle.ps_stream.specs.Coming.{told_number}
 use Rattle.ps_runs.specs.Running.{Fits}
 use Rattle.ps_live.proofs.Going.{Went}
@@ -17,9 +17,9 @@ invariant-lines g l = record {
       l.initial.feed number l.initial.runner.performer l.initial.runner.taker (lines_left l.initial.feed (g.I.Stream.coming l.initial.input))
       (g.O.Sink.tells l.initial.out) (g.O.Sink.taken l.initial.out)
       l._count l.feed l.runner.performer l.runner.taker (lines_left l.feed (g.I.Stream.coming l.input)) (g.O.Sink.taken l.out);
-  all_read : g.I.Stream.faults l.input ≡ g.I.Stream.faults l.initial.input;
+  reads : g.I.Stream.faults l.initial.input ≤ g.I.Stream.faults l.input;
   telling : g.I.Stream.tells l.input ≡ g.I.Stream.tells l.initial.input;
   handed_on : g.O.Output.held_back l.initial.out ≡ [] → g.O.Output.held_back l.out ≡ [];
-  all_written : g.O.Sink.faults l.out ≡ g.O.Sink.faults l.initial.out;
+  writes : g.O.Sink.faults l.initial.out ≤ g.O.Sink.faults l.out;
   still_telling : g.O.Sink.tells l.out ≡ g.O.Sink.tells l.initial.out;
 }

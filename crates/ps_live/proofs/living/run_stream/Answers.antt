@@ -1,6 +1,6 @@
-use Rattle.std.proofs.Common.{◌≡◌, ◌∙◌, Bool, ℕ, List, append-nil, inl, refl, sym, subst, arith}
+use Rattle.std.proofs.Common.{◌∙◌, append-nil, inl, refl, sym, arith}
 use Rattle.std.proofs.lemmas.Result.{err_from_is_err_and}
-use Rattle.ps_outside.specs.Outside.{Rose}
+use Rattle.ps_bench_base.proofs.Stopped.{rose_since}
 use Rattle.ps_live.proofs.Told.{moved}
 use Rattle.ps_live.proofs.living.run_stream.Goals as goal
 
@@ -13,44 +13,34 @@ returns-in_err-teller g c =
     rw (p.1, p.2)
     (record {
       runs = λ told tells. sym (append-nil (g.O.Sink.taken c.args.out.now));
-      handed_on = tt;
-      handed_on_before = λ is. cc;
-      unread = λ is. cc;
-      all_read = λ no. refl;
-      unwritten = λ is. cc;
-      all_written = λ no. refl;
-      reads = omega arith;
-      writes = omega arith;
-      telling = refl;
+      leaves = record { handed_on = λ none is. cc; unread = λ is. cc; unwritten = λ is. cc; writes = omega arith; telling = refl };
     })
 
 pub returns-in-Ok : goal.returns-in-Ok
-returns-in-Ok g c = record {
-  runs = λ told.
-      moved c.args.app.now (g.I.Stream.coming c.args.input.now) (g.I.Stream.coming c.run_behind.new.input) _ c.args.names _ (g.O.Sink.tells c.args.out.now)
-      _ (g.O.Sink.taken c.args.out.now) (g.O.Sink.taken c.run_behind.new.out) c.run_behind.result
-      c.in_ok-teller.ensures.by_name c.hand_on.ensures.telling c.hand_on.ensures.kept (c.run_behind.ensures.runs told);
-  handed_on = c.run_behind.ensures.handed_on c.in-Ok.ensures.handed_on;
-  handed_on_before = c.run_behind.ensures.handed_on_before c.in-Ok.ensures.handed_on;
-  unread = c.run_behind.ensures.unread;
-  all_read = c.run_behind.ensures.all_read;
-  unwritten = λ is. subst (λ (n : ℕ). Rose n (g.O.Sink.faults c.run_behind.new.out)) c.in-Ok.ensures.all_written (c.run_behind.ensures.unwritten is);
-  all_written = λ no. c.run_behind.ensures.all_written no ∙ c.in-Ok.ensures.all_written;
-  reads = c.run_behind.ensures.reads;
-  writes = omega (arith, c.hand_on.ensures.counts, c.run_behind.ensures.writes);
-  telling = c.run_behind.ensures.telling ∙ c.hand_on.ensures.telling;
-}
+returns-in-Ok g c =
+    let left = c.run_behind.ensures.leaves in
+    record {
+      runs = λ told.
+          moved c.args.app.now (g.I.Stream.coming c.args.input.now) (g.I.Stream.coming c.run_behind.new.input) _ c.args.names _ (g.O.Sink.tells c.args.out.now)
+          _ (g.O.Sink.taken c.args.out.now) (g.O.Sink.taken c.run_behind.new.out) c.run_behind.result
+          c.in_ok-teller.ensures.by_name c.hand_on.ensures.telling c.hand_on.ensures.kept (c.run_behind.ensures.runs told);
+      leaves = record {
+        handed_on = λ none is. left.handed_on c.in-Ok.ensures.handed_on is;
+        unread = left.unread;
+        unwritten = λ is. rose_since (g.O.Sink.faults c.args.out.now) (g.O.Sink.faults c.hand_on.new.out) (g.O.Sink.faults c.run_behind.new.out) c.hand_on.ensures.counts (left.unwritten is);
+        writes = omega (arith, c.hand_on.ensures.counts, left.writes);
+        telling = left.telling ∙ c.hand_on.ensures.telling;
+      };
+    }
 
 pub returns : goal.returns
 returns g c = record {
   runs = λ told. inl (λ tells. c.hand_on.ensures.kept ∙ sym (append-nil (g.O.Sink.taken c.args.out.now)));
-  handed_on = tt;
-  handed_on_before = λ is. cc;
-  unread = λ is. cc;
-  all_read = λ no. refl;
-  unwritten = λ is. c.in-Err.ensures.unwritten;
-  all_written = λ no. absurd (no refl);
-  reads = omega arith;
-  writes = c.hand_on.ensures.counts;
-  telling = c.hand_on.ensures.telling;
+  leaves = record {
+    handed_on = λ none is. cc;
+    unread = λ is. cc;
+    unwritten = λ is. c.in-Err.ensures.unwritten;
+    writes = c.hand_on.ensures.counts;
+    telling = c.hand_on.ensures.telling;
+  };
 }

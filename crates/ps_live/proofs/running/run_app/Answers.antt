@@ -15,8 +15,8 @@ returns-in-Ok g c = record {
   handed_on_before = λ is. cc;
   unread = tt;
   unwritten = λ is. cc;
-  writes = c.run_stream.ensures.writes;
-  telling = c.run_stream.ensures.telling;
+  writes = c.run_stream.ensures.leaves.writes;
+  telling = c.run_stream.ensures.leaves.telling;
 }
 
 pub returns-in-Err-Refused : goal.returns-in-Err-Refused
@@ -26,7 +26,7 @@ returns-in-Err-Refused g c = record {
       (fed (g.I.Stream.tells c.args.input.now) (g.I.Stream.coming c.args.input.now) (g.I.Stream.coming c.run_stream.new.input))
       (g.O.Sink.tells c.args.out.now) (g.O.Sink.tells c.run_stream.new.out) (g.O.Sink.taken c.args.out.now)
       (g.O.Sink.taken c.run_stream.new.out) (g.O.Sink.taken c.refuse_line.new.out) c.in-Err-Refused.field-0 c.in-Err-Refused.refusal
-      c.refuse_line.result c.in-Err-Refused.field-0-is c.run_stream.ensures.telling c.in-Err-Refused.ensures.runs c.refuse_line.ensures.stops;
+      c.refuse_line.result c.in-Err-Refused.field-0-is c.run_stream.ensures.leaves.telling c.in-Err-Refused.ensures.runs c.refuse_line.ensures.stops;
   handed_on_before = λ is.
       let so : c.refuse_line.result ≡ Input (Unread Trace) = cc in
       absurd (c.refuse_line.ensures.read (ap stop_status so));
@@ -34,9 +34,9 @@ returns-in-Err-Refused g c = record {
   unwritten = λ is.
       let so : c.refuse_line.result ≡ Unwritten = cc in
       rose_since (g.O.Sink.faults c.args.out.now) (g.O.Sink.faults c.run_stream.new.out) (g.O.Sink.faults c.refuse_line.new.out)
-      c.run_stream.ensures.writes (c.refuse_line.ensures.unwritten so);
-  writes = omega (arith, c.run_stream.ensures.writes, c.refuse_line.ensures.writes);
-  telling = c.refuse_line.ensures.telling ∙ c.run_stream.ensures.telling;
+      c.run_stream.ensures.leaves.writes (c.refuse_line.ensures.unwritten so);
+  writes = omega (arith, c.run_stream.ensures.leaves.writes, c.refuse_line.ensures.writes);
+  telling = c.refuse_line.ensures.telling ∙ c.run_stream.ensures.leaves.telling;
 }
 
 pub returns-in-Err-Unread : goal.returns-in-Err-Unread
@@ -50,11 +50,11 @@ returns-in-Err-Unread g c =
             (g.O.Sink.tells c.args.out.now) (g.O.Sink.taken c.args.out.now) (g.O.Sink.taken c.run_stream.new.out) c.in-Err-Unread.field-0
             living.TheVariants.Unread c.in-Err-Unread.field-0-is c.in-Err-Unread.ensures.runs,
       ));
-      handed_on_before = λ is. c.run_stream.ensures.handed_on_before here;
-      unread = λ unread. c.run_stream.ensures.unread here;
+      handed_on_before = λ is. c.run_stream.ensures.leaves.handed_on refl here;
+      unread = λ unread. c.run_stream.ensures.leaves.unread here;
       unwritten = λ is. cc;
-      writes = c.run_stream.ensures.writes;
-      telling = c.run_stream.ensures.telling;
+      writes = c.run_stream.ensures.leaves.writes;
+      telling = c.run_stream.ensures.leaves.telling;
     }
 
 pub returns-in-Err-Unwritten : goal.returns-in-Err-Unwritten
@@ -68,9 +68,9 @@ returns-in-Err-Unwritten g c = record {
   )));
   handed_on_before = λ is. cc;
   unread = λ unread. cc;
-  unwritten = λ is. c.run_stream.ensures.unwritten (c.in-Err-Unwritten.is ∙ ap Err c.in-Err-Unwritten.field-0-is);
-  writes = c.run_stream.ensures.writes;
-  telling = c.run_stream.ensures.telling;
+  unwritten = λ is. c.run_stream.ensures.leaves.unwritten (c.in-Err-Unwritten.is ∙ ap Err c.in-Err-Unwritten.field-0-is);
+  writes = c.run_stream.ensures.leaves.writes;
+  telling = c.run_stream.ensures.leaves.telling;
 }
 
 pub returns-in-Err-Memory : goal.returns-in-Err-Memory
@@ -85,6 +85,6 @@ returns-in-Err-Memory g c = record {
   handed_on_before = λ is. cc;
   unread = λ unread. cc;
   unwritten = λ is. cc;
-  writes = c.run_stream.ensures.writes;
-  telling = c.run_stream.ensures.telling;
+  writes = c.run_stream.ensures.leaves.writes;
+  telling = c.run_stream.ensures.leaves.telling;
 }

@@ -1,54 +1,50 @@
-use Rattle.std.proofs.Common.{◌≡◌, sym, subst}
-use Rattle.ps_live.specs.Living.{RunsStream}
-use Rattle.ps_live.specs.Telling.{IsTellerFor, IsUntold, is_by_name}
-use Rattle.ps_live.specs.declared.teller.Teller.{Teller}
+use Rattle.std.proofs.Common.{◌≡◌, ap, subst, arith}
+use Rattle.ps_live.specs.Feeding.{lines_left}
+use Rattle.ps_live.specs.Telling.{IsTellerFor, IsUntold}
 use Rattle.ps_live.specs.declared.teller.Teller.TheVariants.{Lines, Names}
+use Rattle.ps_live.proofs.Stops.{leaves_ran}
+use Rattle.ps_live.proofs.Told.{lines_told, names_told}
+use Rattle.ps_world.specs.Worlds.{World_state}
 use Rattle.ps_live.proofs.teller.Teller.run.Goals as goal
 
-pub run_lines-requires : goal.run_lines-requires
-run_lines-requires g c =
+pub answer_lines-ended-requires : goal.answer_lines-ended-requires
+answer_lines-ended-requires g c =
     let is : c.args.self.now ≡ Lines c.in-Lines.runner = cc in
     let untold = subst (IsUntold c.args.app.now) is c.requires.untold in
-    record { fits = subst (IsTellerFor c.args.app.now) is c.requires.fits; begins = untold.0; spared = untold.1; inputs = c.requires.inputs }
+    let first = ap (λ (x : World_state). x.last) untold.0.world.beginning in
+    record { fits = subst (IsTellerFor c.args.app.now) is c.requires.fits; due = omega (arith, first); inputs = c.requires.inputs }
 
-pub run_names-requires : goal.run_names-requires
-run_names-requires g c =
+pub answer_lines-named-requires : goal.answer_lines-named-requires
+answer_lines-named-requires g c =
     let is : c.args.self.now ≡ Names c.in-Names.runner = cc in
     let untold = subst (IsUntold c.args.app.now) is c.requires.untold in
-    record { fits = subst (IsTellerFor c.args.app.now) is c.requires.fits; begun = untold.0; spared = untold.1; inputs = c.requires.inputs }
+    let first = ap (λ (x : World_state). x.last) untold.0.world.world.beginning in
+    record { fits = subst (IsTellerFor c.args.app.now) is c.requires.fits; due = omega (arith, first); inputs = c.requires.inputs }
 
 pub returns-in-Lines : goal.returns-in-Lines
-returns-in-Lines g c = record {
-  runs = λ told bytes behind.
-      let is : c.args.self.now ≡ Lines c.in-Lines.runner = cc in
-      subst (λ (teller : Teller). RunsStream (is_by_name teller) c.args.app.now bytes (g.I.Stream.coming c.run_lines.new.input) (g.O.Sink.tells c.args.out.now)
-      (g.O.Sink.taken c.args.out.now) (g.O.Sink.taken c.run_lines.new.out) c.run_lines.result) (sym is)
-      (c.run_lines.ensures.runs told bytes behind);
-  handed_on = c.run_lines.ensures.handed_on;
-  handed_on_before = c.run_lines.ensures.handed_on_before;
-  unread = c.run_lines.ensures.unread;
-  all_read = c.run_lines.ensures.all_read;
-  unwritten = c.run_lines.ensures.unwritten;
-  all_written = c.run_lines.ensures.all_written;
-  reads = c.run_lines.ensures.reads;
-  writes = c.run_lines.ensures.writes;
-  telling = c.run_lines.ensures.telling;
-}
+returns-in-Lines g c =
+    let is : c.args.self.now ≡ Lines c.in-Lines.runner = cc in
+    let untold = subst (IsUntold c.args.app.now) is c.requires.untold in
+    record {
+      runs = λ told bytes behind.
+          lines_told c.args.app.now bytes c.args.feed.now (lines_left c.args.feed.now (g.I.Stream.coming c.args.input.now)) behind
+          c.args.self.now c.in-Lines.runner is untold c.answer_lines-ended.new.runner.performer c.answer_lines-ended.new.runner.taker
+          c.answer_lines-ended.new.feed (g.I.Stream.coming c.answer_lines-ended.new.input) c.answer_lines-ended.result (g.O.Sink.tells c.args.out.now)
+          (g.O.Sink.taken c.args.out.now) (g.O.Sink.taken c.answer_lines-ended.new.out) c.ran.result c.ran.ensures
+          (c.answer_lines-ended.ensures.answers told) c.answer_lines-ended.ensures.all_came;
+      leaves = leaves_ran _ c.answer_lines-ended.result c.ran.result c.ran.ensures _ _ _ _ c.answer_lines-ended.ensures.leaves;
+    }
 
 pub returns-in-Names : goal.returns-in-Names
-returns-in-Names g c = record {
-  runs = λ told bytes behind.
-      let is : c.args.self.now ≡ Names c.in-Names.runner = cc in
-      subst (λ (teller : Teller). RunsStream (is_by_name teller) c.args.app.now bytes (g.I.Stream.coming c.run_names.new.input) (g.O.Sink.tells c.args.out.now)
-      (g.O.Sink.taken c.args.out.now) (g.O.Sink.taken c.run_names.new.out) c.run_names.result) (sym is)
-      (c.run_names.ensures.runs told bytes behind);
-  handed_on = c.run_names.ensures.handed_on;
-  handed_on_before = c.run_names.ensures.handed_on_before;
-  unread = c.run_names.ensures.unread;
-  all_read = c.run_names.ensures.all_read;
-  unwritten = c.run_names.ensures.unwritten;
-  all_written = c.run_names.ensures.all_written;
-  reads = c.run_names.ensures.reads;
-  writes = c.run_names.ensures.writes;
-  telling = c.run_names.ensures.telling;
-}
+returns-in-Names g c =
+    let is : c.args.self.now ≡ Names c.in-Names.runner = cc in
+    let untold = subst (IsUntold c.args.app.now) is c.requires.untold in
+    record {
+      runs = λ told bytes behind.
+          names_told c.args.app.now bytes c.args.feed.now (lines_left c.args.feed.now (g.I.Stream.coming c.args.input.now)) behind
+          c.args.self.now c.in-Names.runner is untold c.sound.ensures c.answer_lines-named.new.runner.performer c.answer_lines-named.new.runner.taker
+          c.answer_lines-named.new.feed (g.I.Stream.coming c.answer_lines-named.new.input) c.answer_lines-named.result (g.O.Sink.tells c.args.out.now)
+          (g.O.Sink.taken c.args.out.now) (g.O.Sink.taken c.answer_lines-named.new.out) c.ran-in-Names.result c.ran-in-Names.ensures
+          (c.answer_lines-named.ensures.answers told) c.answer_lines-named.ensures.all_came;
+      leaves = leaves_ran _ c.answer_lines-named.result c.ran-in-Names.result c.ran-in-Names.ensures _ _ _ _ c.answer_lines-named.ensures.leaves;
+    }

@@ -1,4 +1,0 @@
-mod Coming
-mod Feeds
-mod Held
-mod Sizes

@@ -1,8 +1,8 @@
 //! `campaign` and `sum` of the program `plcsafe-bench`, over any files, any output, and whoever is told.
 //!
-//! - `reading` reads the course of a trace, with the report that each of its scans has without a fault, which `recorder`
-//!   takes step by step; `recording` does so for what a word means.
-//! - `trialing` is the run of a trace with one fault, beside the reports of the run without it, and `marks` where it may
+//! - `reading` reads the course of a trace, with the report that each of its scans has without a fault, and `recorder`
+//!   takes it step by step; `recording` does so for what a word means.
+//! - `trialing` is the run of a trace with one fault, beside the reports of the run without it; `marks` is where it may
 //!   begin and end. `trials` is one trial after another, counted.
 //! - `campaigning` is `campaign APP TRACE FROM COUNT`, `telling` the text of the trials, and `printing` their faults as
 //!   lines of a fault file.

@@ -7,7 +7,7 @@ use Rattle.ps_bench_base.specs.declared.ending.Status.{Status}
 use Rattle.ps_bench_base.specs.declared.ending.Status.TheVariants.{Done}
 use Rattle.ps_bench_base.specs.declared.ending.Stop.{Stop}
 use Rattle.ps_bench_base.specs.declared.ending.Stop.TheVariants.{Unwritten}
-use Rattle.ps_course.specs.Courses.{items_in}
+use Rattle.ps_trials.specs.Steps.{items_in}
 use Rattle.ps_model.specs.Network.{Network}
 use Rattle.ps_totals.specs.Naming.{Names}
 use Rattle.ps_trace.specs.Scans.{Scans}

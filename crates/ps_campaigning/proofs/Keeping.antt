@@ -1,17 +1,15 @@
 -- The course of a trace that is held, and of what a word means.
 use Rattle.std.proofs.Common.{◌≡◌, ◌∙◌, ◌++◌, ℕ, Bool, List, Option, None, Some, Result, Ok, Err, inl, inr, sym, ap, subst, arith}
-use Rattle.std.specs.Prelude.{IfErr, IfNone, IfOk, OnOk}
+use Rattle.std.specs.Prelude.{IfNone, IfOk}
 use Rattle.std.proofs.lemmas.Option.{same_Some}
-use Rattle.ps_traced.specs.Refusing.{StopsAtTrace}
 use Rattle.ps_base.specs.declared.failing.Refusal.{Refusal}
-use Rattle.ps_bench_base.specs.Ending.{IsOfRun}
 use Rattle.ps_bench_base.specs.Opening.{Source}
 use Rattle.ps_bench_base.specs.Stopping.{Took}
 use Rattle.ps_bench_base.specs.declared.ending.Input.TheVariants.{Trace}
 use Rattle.ps_bench_base.specs.declared.ending.InputStop.TheVariants.{Refused}
 use Rattle.ps_bench_base.specs.declared.ending.Stop.{Stop}
-use Rattle.ps_bench_base.specs.declared.ending.Stop.TheVariants.{Input, Unwritten}
-use Rattle.ps_course.specs.declared.recorder.Course.{Course}
+use Rattle.ps_bench_base.specs.declared.ending.Stop.TheVariants.{Input}
+use Rattle.ps_campaigning.specs.declared.recorder.Course.{Course}
 use Rattle.ps_model.specs.Network.{Network}
 use Rattle.ps_model.specs.declared.channel.Fault.{Fault}
 use Rattle.ps_outside.specs.Outside.{Rose}
@@ -19,7 +17,7 @@ use Rattle.ps_report.specs.Short.{refusal_text}
 use Rattle.ps_totals.specs.Naming.{Names, digest_text}
 use Rattle.ps_traced.specs.Opening.{SaysRefusal}
 use Rattle.ps_traced.specs.Playing.{IsPlay}
-use Rattle.ps_campaigning.specs.Recorded.{IsCourseOf, RecordsHeld, RecordsWord, StopsUnnamed}
+use Rattle.ps_campaigning.specs.Recorded.{IsCourseOf, RecordsHeld, RecordsWord}
 use Rattle.ps_campaigning.specs.declared.recording.Recorded.{Recorded}
 
 -- what holds of a value within a value, where both are there
@@ -28,37 +26,15 @@ of_both P (Ok (Ok y)) x is holds = let same : y ≡ x = cc in subst P same holds
 of_both P (Ok (Err e)) x is holds = cc
 of_both P (Err m) x is holds = cc
 
--- a call that stops since what names the trace is not to be had refuses no trace
-pub unnamed_stops : (P : Refusal → Type 0) (stop : Stop) (tells : Bool) (before after : List ℕ) → StopsUnnamed stop →
-    StopsAtTrace P stop tells before after
-unnamed_stops P stop tells before after (inl is) = record { of_run = subst IsOfRun (sym is) tt; refuses = λ refusal at. cc }
-unnamed_stops P stop tells before after (inr is) = record { of_run = subst IsOfRun (sym is) tt; refuses = λ refusal at. cc }
-
-pub unnamed_written : {P : Type 0} (ended : Result Recorded Stop) → IfErr ended StopsUnnamed → ended ≡ Err Unwritten → P
-unnamed_written (Ok r) why is = cc
-unnamed_written (Err stop) (inl at) is = cc
-unnamed_written (Err stop) (inr at) is = cc
-
--- what is so in any case is so where it is done
-pub in_any_case : {A E P : Type 0} (ended : Result A E) → P → OnOk ended P
-in_any_case (Ok value) holds = holds
-in_any_case (Err error) holds = tt
-
--- a course with what names its trace
-pub course_kept : (Q : Course → Type 0) (course : Course) (ended : Result Recorded Stop) → IfOk ended (λ (r : Recorded). r.course ≡ course) → Q course →
-    IfOk ended (λ (r : Recorded). Q r.course)
-course_kept Q course (Ok r) is holds = subst Q (sym is) holds
-course_kept Q course (Err stop) is holds = tt
-
-pub records : (net : Network) (held : Option (List ℕ)) (text : List ℕ) (course : Course) (ended : Result Recorded Stop) → held ≡ Some text →
-    IsCourseOf net text course → IfOk ended (λ (r : Recorded). r.course ≡ course) → IfOk ended (λ (r : Recorded). Names held r.name) → IfOk ended (RecordsHeld net held)
-records net held text course (Ok r) is are same names = (
+-- a course with what names its trace is of the trace that is held
+pub records : (net : Network) (held : Option (List ℕ)) (text : List ℕ) (course : Course) (name : List ℕ) → held ≡ Some text →
+    IsCourseOf net text course → Names held name → RecordsHeld net held (record { course = course; name = name })
+records net held text course name is are names = (
   text,
   is,
-  subst (IsCourseOf net text) (sym same) are,
+  are,
   names.2 ∙ ap digest_text (same_Some names.0 text (sym names.1 ∙ is)),
 )
-records net held text course (Err stop) is are same names = tt
 
 -- what is held where a word stands is what the word means
 pub word_recorded : (from : Source) (word : List ℕ) (faults : List Fault) (held : Option (List ℕ)) (r : Recorded) →

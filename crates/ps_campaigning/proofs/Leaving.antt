@@ -54,10 +54,6 @@ memory_refused refusal is = cc
 
 -- ---- What is left.
 
--- nothing was done
-pub same : (reads : List ℕ → ℕ) (t : Bool) (w : ℕ) → Stays (sides reads t w) (sides reads t w)
-same reads t w = record { reads = λ other. no_more (reads other); telling = refl; writes = no_more w }
-
 -- files were read again
 pub read_on : (reads reads' reads'' : List ℕ → ℕ) (t t' : Bool) (w w' : ℕ) → Stays (sides reads t w) (sides reads' t' w') →
     ((other : List ℕ) → reads' other ≤ reads'' other) → Stays (sides reads t w) (sides reads'' t' w')
@@ -65,6 +61,15 @@ read_on reads reads' reads'' t t' w w' stays on = record {
   reads = λ other. le_two (reads other) (reads' other) (reads'' other) (stays.reads other) (on other);
   telling = stays.telling;
   writes = stays.writes;
+}
+
+-- files were read, before something else
+pub read_first : (reads mid reads' : List ℕ → ℕ) (t t' : Bool) (w w' : ℕ) → ((other : List ℕ) → reads other ≤ mid other) →
+    ((other : List ℕ) → mid other ≤ reads' other) → t' ≡ t → w ≤ w' → Stays (sides reads t w) (sides reads' t' w')
+read_first reads mid reads' t t' w w' first on tells counts = record {
+  reads = λ other. le_two (reads other) (mid other) (reads' other) (first other) (on other);
+  telling = tells;
+  writes = counts;
 }
 
 -- something was written
@@ -97,15 +102,12 @@ no_memory R a b stays = record {
 pub done : {X : Type 0} (R : Type 0) (a b : Sides) (x : X) → Stays a b → Leaves R a b (Ok x)
 done R a b x stays = record { stays = stays; unread = tt; unwritten = λ is. cc }
 
--- of a call that reads no file: all was written, or not all could be, or nothing was for want of memory
+-- of a call that reads no file: all was written, or not all could be
 pub output_done : {X : Type 0} (t t' : Bool) (w w' : ℕ) (x : X) → t' ≡ t → w ≤ w' → LeavesOutput t t' w w' (Ok x)
 output_done t t' w w' x tells counts = record { telling = tells; writes = counts; read = tt; unwritten = λ is. cc }
 
 pub output_unwritten : {X : Type 0} (t t' : Bool) (w w' : ℕ) → t' ≡ t → w ≤ w' → Rose w w' → LeavesOutput {X = X} t t' w w' (Err Unwritten)
 output_unwritten t t' w w' tells counts rose = record { telling = tells; writes = counts; read = λ is. cc; unwritten = λ is. rose }
-
-pub output_no_memory : {X : Type 0} (t : Bool) (w : ℕ) → LeavesOutput {X = X} t t w w (Err NoMemory)
-output_no_memory t w = record { telling = refl; writes = no_more w; read = λ is. memory_read is; unwritten = λ is. cc }
 
 -- one behind the other
 pub both : (a b c : Sides) → Stays a b → Stays b c → Stays a c

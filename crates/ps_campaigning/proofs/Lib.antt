@@ -1,12 +1,32 @@
+-- the items of a trace that were read, and those that are left
+mod Leading
+-- steps that are recorded one after another, and what is then known of them
+mod Stepping
+mod Recorded
+-- no trial is wrong
+mod Rightly
+-- how a trial goes on from step to step
+mod Going
+-- where the run without a fault may be left and come back to
+mod Marking
+-- a trial that begins and ends there
+mod Early
+-- a trial in a world of its own
+mod Trying
+-- trials that are counted, also in parts
+mod Counting
+mod Parts
+-- a call that fails
+mod Failing
 -- what comes of a call with an application
-pub mod Coming
+mod Coming
 -- the course of a trace that is held, and of what a word means
-pub mod Keeping
+mod Keeping
 -- the lines of faults, one after another
-pub mod Numbered
+mod Numbered
 -- what is told of the trials
-pub mod Ending
+mod Ending
 -- counts that are added and written
-pub mod Summed
+mod Summed
 -- what a call leaves of files and of an output
-pub mod Leaving
+mod Leaving

@@ -16,30 +16,23 @@ use Rattle.ps_tally.specs.Tallies.{none_counted}
 use Rattle.ps_totals.specs.Files.{AddsFiles, IsSum, Tells}
 use Rattle.ps_totals.specs.Sums.{text_of}
 use Rattle.ps_totals.specs.declared.summing.Totals.{Totals}
-use Rattle.ps_trialed.proofs.Parts.{parts_are_whole}
-use Rattle.ps_trialed.specs.Campaigns.{campaign, result_of}
+use Rattle.ps_campaigning.proofs.Parts.{parts_are_whole}
+use Rattle.ps_campaigning.specs.Campaigns.{campaign, result_of}
 use Rattle.ps_trials.specs.declared.drawing.Room.{Room}
 use Rattle.ps_world.specs.Worlds.{Machines}
-use Rattle.ps_campaigning.specs.Summing.{AnswersNames, AnswersSum, ArePartsFrom, PartsSumUp, StopsSum, Writes, part_text}
+use Rattle.ps_campaigning.specs.Summing.{AnswersNames, AnswersSum, ArePartsFrom, PartsSumUp, StopsSum, part_text}
 
 -- ---- what is written
 
--- a text that is written to its end, or up to where its writing stopped
-pub written : (total : Totals) (text : List ℕ) (tells : Bool) (before after : List ℕ) (ended : Result Status Stop) → text ≡ text_of total →
+-- a sum whose text was written to its end, or up to where its writing stopped
+pub told : (names : List (List ℕ)) (reading : Bool) (held : List ℕ → Option (List ℕ)) (total : Totals) (text : List ℕ) (tells : Bool)
+    (before after : List ℕ) (ended : Result Status Stop) → (IsTrue reading → IsSum held names total) → text ≡ text_of total →
     IfOk ended (λ status. (status ≡ Done) × Took text tells before after) →
-    IfErr ended (λ stop. (stop ≡ Unwritten) × TookSome text tells before after) → Writes total tells before after ended
-written total text tells before after (Ok status) is all some =
-    (all.0, subst (λ (t : List ℕ). Took t tells before after) is all.1)
-written total text tells before after (Err stop) is all some =
-    inl (some.0, subst (λ (t : List ℕ). TookSome t tells before after) is some.1)
-
--- a sum that was written
-pub told : (names : List (List ℕ)) (reading : Bool) (held : List ℕ → Option (List ℕ)) (total : Totals) (tells : Bool) (before after : List ℕ)
-    (ended : Result Status Stop) → (IsTrue reading → IsSum held names total) → Writes total tells before after ended →
-    AnswersNames names reading held tells before after ended
-told names reading held total tells before after (Ok status) sums writes = inl (total, sums, writes.0, writes.1)
-told names reading held total tells before after (Err stop) sums (inl (is, some)) = inr (inl (total, sums, is, some))
-told names reading held total tells before after (Err stop) sums (inr (is, none)) = inr (inr (inr is, none))
+    IfErr ended (λ stop. (stop ≡ Unwritten) × TookSome text tells before after) → AnswersNames names reading held tells before after ended
+told names reading held total text tells before after (Ok status) sums is all some =
+    inl (total, sums, all.0, subst (λ (t : List ℕ). Took t tells before after) is all.1)
+told names reading held total text tells before after (Err stop) sums is all some =
+    inr (inl (total, sums, some.0, subst (λ (t : List ℕ). TookSome t tells before after) is some.1))
 
 -- what `sum` answers, and how it stops, by the names as they are given
 pub answered : (names given : List (List ℕ)) (reading : Bool) (held : List ℕ → Option (List ℕ)) (tells : Bool) (before after : List ℕ)

@@ -8,7 +8,7 @@ use Rattle.ps_bench_base.specs.declared.ending.Status.{Status}
 use Rattle.ps_bench_base.specs.declared.ending.Status.TheVariants.{Done, Usage}
 use Rattle.ps_bench_base.specs.declared.ending.Stop.{Stop}
 use Rattle.ps_bench_base.specs.declared.ending.Stop.TheVariants.{UnreadApp, Unwritten, NoMemory}
-use Rattle.ps_course.specs.Courses.{scan_count}
+use Rattle.ps_campaigning.specs.Courses.{scan_count}
 use Rattle.ps_eqvm.specs.Code.{code_b}
 use Rattle.ps_model.specs.Meaning.{Item}
 use Rattle.ps_model.specs.Network.{Network}
@@ -21,7 +21,7 @@ use Rattle.ps_totals.specs.Totals.{totals_text}
 use Rattle.ps_trace.specs.Scans.{scans_of}
 use Rattle.ps_trace.specs.Scans.End.{whole}
 use Rattle.ps_traced.specs.Playing.{IsPlay, LacksCase}
-use Rattle.ps_trialed.specs.Campaigns.{campaign, room_of}
+use Rattle.ps_campaigning.specs.Campaigns.{campaign, room_of}
 use Rattle.ps_trials.specs.declared.drawing.Room.{Room}
 use Rattle.ps_world.specs.Whole.{Setup, IsSetupOf, machines_in}
 use Rattle.ps_world.specs.Worlds.{Machines, world_0}

@@ -1,12 +1,8 @@
 -- Apparatus: the trace that was read, by what is kept of it.
-use Rattle.std.specs.Prelude.{◌≡◌, ◌⊎◌, ℕ, List, Option, Some}
+use Rattle.std.specs.Prelude.{◌≡◌, ℕ, List, Option, Some}
 use Rattle.ps_bench_base.specs.Opening.{Source}
-use Rattle.ps_bench_base.specs.declared.ending.Input.TheVariants.{Trace}
-use Rattle.ps_bench_base.specs.declared.ending.InputStop.TheVariants.{Unread}
-use Rattle.ps_bench_base.specs.declared.ending.Stop.{Stop}
-use Rattle.ps_bench_base.specs.declared.ending.Stop.TheVariants.{Input, NoMemory}
-use Rattle.ps_course.specs.Courses.{items_in}
-use Rattle.ps_course.specs.declared.recorder.Course.{Course}
+use Rattle.ps_trials.specs.Steps.{items_in}
+use Rattle.ps_campaigning.specs.declared.recorder.Course.{Course}
 use Rattle.ps_model.specs.Network.{Network}
 use Rattle.ps_model.specs.declared.channel.Fault.{Fault}
 use Rattle.ps_totals.specs.Naming.{digest_text}
@@ -29,7 +25,3 @@ abbrev pub RecordsWord : Source → (word : List ℕ) → Recorded → Type 0
 RecordsWord from word r =
     (trace : List ℕ) × (brought : List Fault) × IsPlay from word trace brought
     × IsCourseOf from.net trace r.course × (r.name ≡ digest_text trace)
-
--- a call stops where what names the trace is not to be had
-abbrev pub StopsUnnamed : Stop → Type 0
-StopsUnnamed stop = (stop ≡ Input (Unread Trace)) ⊎ (stop ≡ NoMemory)

@@ -15,7 +15,7 @@ use Rattle.ps_totals.specs.Sums.{text_of}
 use Rattle.ps_totals.specs.Totals.{totals_text}
 use Rattle.ps_totals.specs.declared.refusal.SumRefusal.{SumRefusal}
 use Rattle.ps_totals.specs.declared.summing.Totals.{Totals}
-use Rattle.ps_trialed.specs.Campaigns.{campaign}
+use Rattle.ps_campaigning.specs.Campaigns.{campaign}
 use Rattle.ps_trials.specs.declared.drawing.Room.{Room}
 use Rattle.ps_world.specs.Worlds.{Machines}
 
@@ -49,13 +49,6 @@ abbrev pub AnswersNames : (names : List (List ℕ)) → (reading : Bool) (held :
     (tells : Bool) → (before after : List ℕ) → Result Status Stop → Type 0
 AnswersNames names reading held tells before after (Ok status) = AnswersSum names reading held tells before after status
 AnswersNames names reading held tells before after (Err stop) = StopsSum names reading held tells before after stop
-
--- the text of counts was written, or a beginning of it, or for want of memory nothing
-abbrev pub Writes : Totals → (tells : Bool) → (before after : List ℕ) → Result Status Stop → Type 0
-Writes total tells before after (Ok status) = (status ≡ Done) × Took (text_of total) tells before after
-Writes total tells before after (Err stop) =
-    ((stop ≡ Unwritten) × TookSome (text_of total) tells before after)
-    ⊎ ((stop ≡ NoMemory) × TookNothing tells before after)
 
 -- The texts of these names are what campaigns over one trace wrote of so many trials each, the first from this number on
 -- and each other one from where the one before it ends.

@@ -7,23 +7,21 @@ ghost use Rattle.ps_bench_base.specs.Opening.{Source, source};
 ghost use Rattle.ps_bench_base.specs.Stopping.{Took, TookSome};
 ghost use Rattle.ps_campaigning.specs.Asking.{AnswersCampaign, AnswersIn, StopsCampaign, wanted_by};
 ghost use Rattle.ps_campaigning.specs.Leaving.{Leaves, LeavesOutput, sides};
-ghost use Rattle.ps_campaigning.specs.Recorded.{RecordsWord};
-ghost use Rattle.ps_course.specs.Courses.{IsCourse};
 ghost use Rattle.ps_model.specs.Typing.{Accepted};
 ghost use Rattle.ps_model.specs.declared.channel.Fault.{Fault as FaultOf};
 ghost use Rattle.ps_outside.specs.Outside.{Rose};
 ghost use Rattle.ps_totals.specs.Naming.{Names};
 ghost use Rattle.ps_traced.specs.Playing.{MeansPlay};
 
-use crate::recording::{Recorded, record_play};
+use crate::recording::record_play;
 use crate::telling::campaign_text;
+use crate::trials::Campaign;
 use ps_base::{Bytes, Memory};
 use ps_bench_base::{Opened, Status, Stop, open_app};
 use ps_hearing::Listener;
 use ps_outside::{Files, Output, ReadFail, write_all};
 use ps_totals::name_of_file;
 use ps_traced::{Expansion, Play, open_play};
-use ps_trialed::Campaign;
 use std::alloc::Global;
 
 /// What `campaign` is asked.
@@ -53,30 +51,6 @@ pub(crate) fn write_told<O: Output>(out: &mut O, text: &[u8]) -> Result<Status, 
     }
 }
 
-// Makes the trials over a course, and writes what is told of them. `name` names the application.
-fn tell_trials<O: Output>(
-    alloc: Global,
-    out: &mut O,
-    opened: &Opened,
-    asked: &Asked<'_>,
-    name: &Bytes,
-    recorded: &Recorded,
-) -> Result<Status, Stop>
-    requires accepted { Accepted opened.now.app }
-    requires course { IsCourse opened.now.app recorded.now.course }
-    ensures answers { (from : Source) → from.net ≡ opened.now.app →
-        (IsTrue from.tells → Names (from.held asked.now.app.now) name.now) →
-        (IsTrue from.tells → RecordsWord from asked.now.trace.now recorded.now) →
-        AnswersIn from asked.now.app.now (wanted_by asked.now) (O.tells out.old) (O.taken out.old) (O.taken out.new)
-        result }
-    ensures leaves { LeavesOutput (O.tells out.old) (O.tells out.new) (O.faults out.old) (O.faults out.new) result }
-{
-    match campaign_text(alloc, &opened.app, asked, name.as_slice(), recorded) {
-        Ok(text) => write_told(out, text.as_slice()),
-        Err(Memory) => Err(Stop::NoMemory),
-    }
-}
-
 // Makes the trials over the trace of these cases, or else of the file that the word for the trace names. `name` names the
 // application.
 fn campaign_play<F: Files, O: Output>(
@@ -100,42 +74,17 @@ fn campaign_play<F: Files, O: Output>(
         (sides (F.faults files.old) (O.tells out.old) (O.faults out.old))
         (sides (F.faults files.new) (O.tells out.new) (O.faults out.new)) result }
 {
-    match record_play(alloc, files, out, &opened.app, asked.trace, cases) {
-        Ok(recorded) => tell_trials(alloc, out, opened, asked, name, &recorded),
-        Err(stop) => Err(stop),
+    let recorded = match record_play(alloc, files, out, &opened.app, asked.trace, cases) {
+        Ok(recorded) => recorded,
+        Err(stop) => return Err(stop),
+    };
+    match campaign_text(alloc, &opened.app, asked, name.as_slice(), &recorded) {
+        Ok(text) => write_told(out, text.as_slice()),
+        Err(Memory) => Err(Stop::NoMemory),
     }
 }
 
-// Makes the trials over what the word for the trace means. `name` names the application.
-fn campaign_named<F: Files, O: Output, L: Listener>(
-    alloc: Global,
-    files: &mut F,
-    out: &mut O,
-    listener: &mut L,
-    opened: &Opened,
-    asked: &Asked<'_>,
-    name: &Bytes,
-) -> Result<Status, Stop>
-    requires accepted { Accepted opened.now.app }
-    requires named { IsTrue (F.tells files.old) → Names (F.held files.old asked.now.app.now) name.now }
-    ensures answers { AnswersIn (source opened.now.app opened.now.sizes (F.tells files.old) (F.held files.old))
-        asked.now.app.now (wanted_by asked.now) (O.tells out.old) (O.taken out.old) (O.taken out.new) result }
-    ensures leaves { Leaves
-        (Rose (F.faults files.old (file_meant asked.now.trace.now)) (F.faults files.new (file_meant asked.now.trace.now)))
-        (sides (F.faults files.old) (O.tells out.old) (O.faults out.old))
-        (sides (F.faults files.new) (O.tells out.new) (O.faults out.new)) result }
-{
-    match open_play(alloc, files, out, listener, opened, asked.trace) {
-        Ok(Some(play)) => {
-            let Play { cases, faults: _ } = play;
-            campaign_play(alloc, files, out, opened, asked, name, cases)
-        }
-        Ok(None) => Ok(Status::Usage),
-        Err(stop) => Err(stop),
-    }
-}
-
-// Makes the trials on an application.
+// Makes the trials on an application, over what the word for the trace means.
 fn campaign_app<F: Files, O: Output, L: Listener>(
     alloc: Global,
     files: &mut F,
@@ -152,16 +101,24 @@ fn campaign_app<F: Files, O: Output, L: Listener>(
         (sides (F.faults files.old) (O.tells out.old) (O.faults out.old))
         (sides (F.faults files.new) (O.tells out.new) (O.faults out.new)) result }
 {
-    match name_of_file(alloc, files, asked.app) {
-        Ok(name) => campaign_named(alloc, files, out, listener, opened, asked, &name),
-        Err(ReadFail::Fault) => Err(Stop::UnreadApp),
-        Err(ReadFail::Memory) => Err(Stop::NoMemory),
+    let name = match name_of_file(alloc, files, asked.app) {
+        Ok(name) => name,
+        Err(ReadFail::Fault) => return Err(Stop::UnreadApp),
+        Err(ReadFail::Memory) => return Err(Stop::NoMemory),
+    };
+    match open_play(alloc, files, out, listener, opened, asked.trace) {
+        Ok(Some(play)) => {
+            let Play { cases, faults: _ } = play;
+            campaign_play(alloc, files, out, opened, asked, &name, cases)
+        }
+        Ok(None) => Ok(Status::Usage),
+        Err(stop) => Err(stop),
     }
 }
 
 /// `campaign APP TRACE FROM COUNT`: makes COUNT trials on the application, numbered from FROM on, each a run of the
 /// trace with the one fault that is drawn from its number, and writes how many of them were silent and how many
-/// tripped, by channel, region and cause, with the latencies. No trial is wrong, which `none_is_wrong` of ps_trialed
+/// tripped, by channel, region and cause, with the latencies. No trial is wrong, which `none_is_wrong` of this crate
 /// says. In the place of a trace may stand a case file, for the trace of all of its cases, or a case file and a line of
 /// it, for the case that has this line; faults of cases do not strike. Where the faults are to be written, they stand
 /// before all else.

@@ -7,10 +7,10 @@ ghost use Rattle.ps_cases.specs.Expanded.{region_text, turn_text};
 ghost use Rattle.ps_trials.specs.Faults.{fault_by};
 ghost use Rattle.ps_trials.specs.Trials.{trial_of};
 
+use crate::trials::{Campaign, Codes};
 use ps_base::{Bytes, Memory};
 use ps_bench_base::pieces::add_short;
 use ps_model::{Channel, Fault, Region};
-use ps_trialed::{Campaign, Codes};
 use ps_trials::{Room, draw_trial, fault_of};
 use std::alloc::Global;
 

@@ -1,23 +1,19 @@
 // The course of a trace that stands in the place of one.
 
-ghost use Rattle.std.specs.Prelude.{◌≡◌, ◌≤◌, ℕ, List, IsTrue, IfOk, IfErr, OnOk};
+ghost use Rattle.std.specs.Prelude.{◌≡◌, IsTrue, IfOk, IfErr, OnOk};
 ghost use Rattle.ps_traced.specs.Refusing.{RefusesHeld, StopsAtTrace};
-ghost use Rattle.ps_base.specs.declared.failing.Refusal.{Refusal as RefusalOf};
-ghost use Rattle.ps_bench_base.specs.Ending.{IsOfRun, IsUnread};
 ghost use Rattle.ps_bench_base.specs.Meant.{file_meant};
-ghost use Rattle.ps_bench_base.specs.Stopping.{Took};
 ghost use Rattle.ps_campaigning.specs.Leaving.{Leaves, sides};
-ghost use Rattle.ps_campaigning.specs.Recorded.{RecordsHeld, StopsUnnamed};
-ghost use Rattle.ps_course.specs.Courses.{IsCourse};
+ghost use Rattle.ps_campaigning.specs.Recorded.{RecordsHeld};
+ghost use Rattle.ps_campaigning.specs.Courses.{IsCourse};
 ghost use Rattle.ps_model.specs.Typing.{Accepted};
 ghost use Rattle.ps_outside.specs.Outside.{Rose};
-ghost use Rattle.ps_report.specs.Short.{refusal_text};
-ghost use Rattle.ps_totals.specs.Naming.{Names};
 ghost use Rattle.ps_traced.specs.Playing.{trace_held};
 
+use crate::reading::read_course;
+use crate::recorder::Course;
 use ps_base::{Bytes, Memory};
 use ps_bench_base::{Input, InputStop, Stop, word_of};
-use ps_course::{Course, read_course};
 use ps_model::App;
 use ps_outside::{Files, Output, ReadFail};
 use ps_totals::name_of_file;
@@ -38,45 +34,7 @@ impl Drop for Recorded {
     }
 }
 
-// Why a call stops whose trace was cut short.
-fn stop_behind<O: Output>(out: &mut O, why: TraceStop) -> Stop
-    ensures refuses { (refusal : RefusalOf) → result ≡ Stop.Input (InputStop.Refused Input.Trace refusal) →
-        (why ≡ TraceStop.Refused refusal)
-        × Took (refusal_text refusal) (O.tells out.old) (O.taken out.old) (O.taken out.new) }
-    ensures of_run { IsOfRun result }
-    ensures unread { IsUnread result → why ≡ TraceStop.Fault }
-    ensures unwritten { result ≡ Stop.Unwritten → Rose (O.faults out.old) (O.faults out.new) }
-    ensures writes { O.faults out.old ≤ O.faults out.new }
-    ensures telling { O.tells out.new ≡ O.tells out.old }
-{
-    match why {
-        TraceStop::Refused(refusal) => refuse_input(out, Input::Trace, refusal),
-        TraceStop::Fault => Stop::Input(InputStop::Unread(Input::Trace)),
-    }
-}
-
-// A course with what names its trace, which has this name.
-fn name_course<F: Files>(
-    alloc: Global,
-    files: &mut F,
-    name: &str,
-    course: Course,
-) -> Result<Recorded, Stop>
-    ensures course { IfOk result (λ r. r.course ≡ course) }
-    ensures names { IsTrue (F.tells files.old) → IfOk result (λ r. Names (F.held files.old name.now) r.name) }
-    ensures stops { IfErr result StopsUnnamed }
-    ensures unread { IfErr result (λ stop. IsUnread stop →
-        Rose (F.faults files.old name.now) (F.faults files.new name.now)) }
-    ensures reads { (other : List ℕ) → F.faults files.old other ≤ F.faults files.new other }
-{
-    match name_of_file(alloc, files, name) {
-        Ok(name) => Ok(Recorded { course, name }),
-        Err(ReadFail::Fault) => Err(Stop::Input(InputStop::Unread(Input::Trace))),
-        Err(ReadFail::Memory) => Err(Stop::NoMemory),
-    }
-}
-
-// The course of the trace of this name.
+// The course of the trace of this name, with what names it.
 fn record_named<F: Files, O: Output>(
     alloc: Global,
     files: &mut F,
@@ -104,8 +62,15 @@ fn record_named<F: Files, O: Output>(
         read_course(alloc, app, &mut trace, files)
     };
     match read {
-        Ok(Ok(course)) => name_course(alloc, files, name, course),
-        Ok(Err(why)) => Err(stop_behind(out, why)),
+        Ok(Ok(course)) => match name_of_file(alloc, files, name) {
+            Ok(name) => Ok(Recorded { course, name }),
+            Err(ReadFail::Fault) => Err(Stop::Input(InputStop::Unread(Input::Trace))),
+            Err(ReadFail::Memory) => Err(Stop::NoMemory),
+        },
+        Ok(Err(why)) => match why {
+            TraceStop::Refused(refusal) => Err(refuse_input(out, Input::Trace, refusal)),
+            TraceStop::Fault => Err(Stop::Input(InputStop::Unread(Input::Trace))),
+        },
         Err(Memory) => Err(Stop::NoMemory),
     }
 }

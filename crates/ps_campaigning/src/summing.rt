@@ -3,8 +3,7 @@
 ghost use Rattle.std.specs.Prelude.{◌≡◌, ◌≤◌, ◌<◌, ◌∷◌, ℕ, List, Any, IsTrue, IfOk, IfErr, IsErrOf, length, map};
 ghost use Rattle.ps_bench_base.specs.Ending.{IsUnread};
 ghost use Rattle.ps_bench_base.specs.Stopping.{Took};
-ghost use Rattle.ps_campaigning.specs.Leaving.{LeavesOutput};
-ghost use Rattle.ps_campaigning.specs.Summing.{AnswersNames, AnswersSum, RefusedBy, StopsSum, Writes};
+ghost use Rattle.ps_campaigning.specs.Summing.{AnswersNames, AnswersSum, RefusedBy, StopsSum};
 ghost use Rattle.ps_outside.specs.Outside.{Rose};
 ghost use Rattle.ps_totals.specs.Sums.{text_of};
 
@@ -46,17 +45,6 @@ fn text_of(alloc: Global, total: &Totals) -> Result<Bytes, Memory>
     Ok(text)
 }
 
-// Writes counts.
-fn write_total<O: Output>(alloc: Global, out: &mut O, total: &Totals) -> Result<Status, Stop>
-    ensures writes { Writes total.now (O.tells out.old) (O.taken out.old) (O.taken out.new) result }
-    ensures leaves { LeavesOutput (O.tells out.old) (O.tells out.new) (O.faults out.old) (O.faults out.new) result }
-{
-    match text_of(alloc, total) {
-        Ok(text) => write_told(out, text.as_slice()),
-        Err(Memory) => Err(Stop::NoMemory),
-    }
-}
-
 // Adds what the files of these names tell, and writes it.
 fn sum_named<F: Files, O: Output>(
     alloc: Global,
@@ -75,7 +63,10 @@ fn sum_named<F: Files, O: Output>(
     ensures telling { O.tells out.new ≡ O.tells out.old }
 {
     match sum_files(alloc, files, first, others) {
-        Ok(total) => write_total(alloc, out, &total),
+        Ok(total) => match text_of(alloc, &total) {
+            Ok(text) => write_told(out, text.as_slice()),
+            Err(Memory) => Err(Stop::NoMemory),
+        },
         Err(SumStop::Refused(refusal)) => Err(refuse_sum(alloc, out, refusal)),
         Err(SumStop::Unread(place)) => Err(Stop::Input(InputStop::Unread(Input::TraceAt(place)))),
         Err(SumStop::NoMemory) => Err(Stop::NoMemory),

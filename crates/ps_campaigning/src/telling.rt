@@ -2,17 +2,18 @@
 
 ghost use Rattle.std.specs.Prelude.{◌≡◌, ◌++◌, List, ℕ, IfOk, OnOk};
 ghost use Rattle.ps_campaigning.specs.Asking.{campaign_text, printed_text, sizes_in, wanted_by};
-ghost use Rattle.ps_course.specs.Courses.{IsCourse, items_in};
+ghost use Rattle.ps_campaigning.specs.Courses.{IsCourse};
+ghost use Rattle.ps_trials.specs.Steps.{items_in};
 ghost use Rattle.ps_model.specs.Typing.{Accepted};
 ghost use Rattle.ps_world.specs.Whole.{Setup, IsSetupOf, machines_in};
 
 use crate::campaigning::Asked;
 use crate::printing::add_faults;
 use crate::recording::Recorded;
+use crate::trials::{codes_of, room_of, run_campaign};
 use ps_base::{Bytes, Memory};
 use ps_model::{App, ImageSizes};
 use ps_totals::add_totals;
-use ps_trialed::{codes_of, room_of, run_campaign};
 use ps_trials::Room;
 use ps_world::World;
 use std::alloc::Global;

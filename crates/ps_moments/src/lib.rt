@@ -1,9 +1,6 @@
-//! Moments of a course: `mark` is where the run without a fault stands between two of its steps, and `times` is when a
-//! scan of it is.
+//! Moments of a course: where the run without a fault stands between two of its steps, and whether a run stands there.
 #![tactic(auto)]
 
 mod mark;
-mod times;
 
-pub use mark::{Mark, Marks};
-pub use times::struck_at;
+pub use mark::Mark;

@@ -25,27 +25,6 @@ impl Drop for Mark {
     }
 }
 
-/// The marks of a course: one at its beginning, and at most 63 behind it, the same number of steps apart.
-pub struct Marks {
-    /// The beginning.
-    pub first: Mark,
-    /// The others, in order.
-    pub later: Vec<Mark>,
-    /// How many steps lie between two.
-    pub every: usize,
-}
-
-impl Drop for Marks {
-    // One call for whoever owns one, in place of a walk through all that it holds.
-    fn drop(self) {
-        let Marks {
-            first: _,
-            later: _,
-            every: _,
-        } = self;
-    }
-}
-
 impl Mark {
     /// Whether this stands behind so many steps, and a world of the same application is what it is there.
     pub fn is_at(&self, place: usize, world: &World) -> bool

@@ -1,22 +1,25 @@
-use Rattle.std.proofs.Common.{inl, inr, refl}
+use Rattle.std.proofs.Common.{◌∙◌, ap, inl, inr, refl}
 use Rattle.ps_bench_base.specs.Meant.{file_meant}
 use Rattle.ps_bench_base.specs.Opening.{source}
 use Rattle.ps_outside.specs.Outside.{Rose}
 use Rattle.ps_traced.specs.Playing.{trace_held}
 use Rattle.ps_traced.proofs.Refused.{stops_weaker, word_refused}
-use Rattle.ps_campaigning.specs.Asking.{wanted_by}
+use Rattle.ps_trials.specs.Steps.{items_in}
+use Rattle.ps_world.specs.Whole.{machines_in}
+use Rattle.ps_campaigning.specs.Asking.{campaign_text, wanted_by}
 use Rattle.ps_campaigning.specs.Leaving.{sides}
 use Rattle.ps_campaigning.specs.Recorded.{RecordsHeld}
 use Rattle.ps_campaigning.proofs.Coming.{moved}
+use Rattle.ps_campaigning.proofs.Ending.{told_ended, told_in}
 use Rattle.ps_campaigning.proofs.Keeping.{of_given, word_recorded}
-use Rattle.ps_campaigning.proofs.Leaving.{passed, written_behind}
+use Rattle.ps_campaigning.proofs.Leaving.{no_memory, passed, written_behind}
 use Rattle.ps_campaigning.proofs.campaigning.campaign_play.Goals as goal
 
-pub tell_trials-requires : goal.tell_trials-requires
-tell_trials-requires g c = record { accepted = c.requires.accepted; course = c.in-Ok.ensures.course }
+pub campaign_text-requires : goal.campaign_text-requires
+campaign_text-requires g c = record { accepted = c.requires.accepted; course = c.in-Ok.ensures.course }
 
-pub returns-in-Ok : goal.returns-in-Ok
-returns-in-Ok g c = record {
+pub returns-in-Ok-campaign_text : goal.returns-in-Ok-campaign_text
+returns-in-Ok-campaign_text g c = record {
   answers =
       let net = c.args.opened.now.app in
       let sizes = c.args.opened.now.sizes in
@@ -26,18 +29,36 @@ returns-in-Ok g c = record {
       let held = g.F.Files.held c.args.files.now in
       let from = source net sizes reading held in
       let there = trace_held c.args.cases (held (file_meant word)) in
-      moved net sizes app (wanted_by c.args.asked.now) reading reading held held (g.O.Sink.tells c.args.out.now) _ (g.O.Sink.taken c.args.out.now) _
-      (g.O.Sink.taken c.tell_trials.new.out) c.tell_trials.result refl refl c.in-Ok.ensures.leaves.stays.telling c.in-Ok.ensures.unsaid
-      (c.tell_trials.ensures.answers from refl c.requires.named
-      (λ tells. word_recorded from word c.requires.means.0 there c.in-Ok.recorded (c.requires.means.1 tells)
-      (of_given (RecordsHeld net there) c.record_play.result c.in-Ok.recorded c.in-Ok.is (c.record_play.ensures.records tells))));
+      let wanted = wanted_by c.args.asked.now in
+      let r = c.in-Ok.recorded in
+      let text = c.in-Ok-campaign_text.text in
+      moved net sizes app wanted reading reading held held (g.O.Sink.tells c.args.out.now) _ (g.O.Sink.taken c.args.out.now) _
+      (g.O.Sink.taken c.write_told.new.out) c.write_told.result refl refl c.in-Ok.ensures.leaves.stays.telling c.in-Ok.ensures.unsaid
+      (told_ended from app wanted text c.as_slice-in-Ok-campaign_text.result.now _ _ (g.O.Sink.taken c.write_told.new.out) c.write_told.result
+      c.as_slice-in-Ok-campaign_text.ensures c.write_told.ensures.all c.write_told.ensures.some
+      (told_in from app wanted text net c.args.name.now r refl c.requires.named
+      (λ tells. word_recorded from word c.requires.means.0 there r (c.requires.means.1 tells)
+      (of_given (RecordsHeld net there) c.record_play.result r c.in-Ok.is (c.record_play.ensures.records tells)))
+      (λ setup is. c.in-Ok-campaign_text.ensures setup is
+      ∙ ap (λ name. campaign_text net (machines_in setup) (items_in r.course.steps.items) wanted name r.name) c.as_slice.ensures)));
   leaves =
       let trace = file_meant c.args.asked.now.trace.now in
       let reads = g.F.Files.faults c.args.files.now in
       let reads' = g.F.Files.faults c.record_play.new.files in
       written_behind (Rose (reads trace) (reads' trace)) reads reads' (g.O.Sink.tells c.args.out.now) (g.O.Sink.tells c.record_play.new.out)
-      (g.O.Sink.tells c.tell_trials.new.out) (g.O.Sink.faults c.args.out.now) (g.O.Sink.faults c.record_play.new.out)
-      (g.O.Sink.faults c.tell_trials.new.out) c.tell_trials.result c.in-Ok.ensures.leaves.stays c.tell_trials.ensures.leaves;
+      (g.O.Sink.tells c.write_told.new.out) (g.O.Sink.faults c.args.out.now) (g.O.Sink.faults c.record_play.new.out)
+      (g.O.Sink.faults c.write_told.new.out) c.write_told.result c.in-Ok.ensures.leaves.stays c.write_told.ensures.leaves;
+}
+
+pub returns : goal.returns
+returns g c = record {
+  answers = inr (inr (inr refl, λ tells. c.in-Ok.ensures.unsaid));
+  leaves =
+      let trace = file_meant c.args.asked.now.trace.now in
+      let reads = g.F.Files.faults c.args.files.now in
+      let reads' = g.F.Files.faults c.record_play.new.files in
+      no_memory (Rose (reads trace) (reads' trace)) (sides reads (g.O.Sink.tells c.args.out.now) (g.O.Sink.faults c.args.out.now))
+      (sides reads' (g.O.Sink.tells c.record_play.new.out) (g.O.Sink.faults c.record_play.new.out)) c.in-Ok.ensures.leaves.stays;
 }
 
 pub returns-in-Err : goal.returns-in-Err

@@ -5,15 +5,24 @@ use Rattle.ps_campaigning.proofs.Leaving.{input_unread_written, memory_read, mem
 use Rattle.ps_campaigning.proofs.Summed.{named, told}
 use Rattle.ps_campaigning.proofs.summing.sum_named.Goals as goal
 
+pub returns-in-Ok-text_of : goal.returns-in-Ok-text_of
+returns-in-Ok-text_of g c = record {
+  answers = told (named c.args.first.now c.args.others.now) (g.F.Files.tells c.args.files.now) (g.F.Files.held c.args.files.now) c.in-Ok.total
+      c.as_slice.result.now (g.O.Sink.tells c.args.out.now) (g.O.Sink.taken c.args.out.now) (g.O.Sink.taken c.write_told.new.out)
+      c.write_told.result c.in-Ok.ensures.sums (c.as_slice.ensures ∙ c.in-Ok-text_of.ensures) c.write_told.ensures.all c.write_told.ensures.some;
+  unread = IfErr-weaker c.write_told.result _ _ (λ stop read is. absurd (read is)) c.write_told.ensures.leaves.read;
+  unwritten = c.write_told.ensures.leaves.unwritten;
+  writes = c.write_told.ensures.leaves.writes;
+  telling = c.write_told.ensures.leaves.telling;
+}
+
 pub returns-in-Ok : goal.returns-in-Ok
 returns-in-Ok g c = record {
-  answers = told (named c.args.first.now c.args.others.now) (g.F.Files.tells c.args.files.now) (g.F.Files.held c.args.files.now) c.in-Ok.total
-      (g.O.Sink.tells c.args.out.now) (g.O.Sink.taken c.args.out.now) (g.O.Sink.taken c.write_total.new.out) c.write_total.result
-      c.in-Ok.ensures.sums c.write_total.ensures.writes;
-  unread = IfErr-weaker c.write_total.result _ _ (λ stop read is. absurd (read is)) c.write_total.ensures.leaves.read;
-  unwritten = c.write_total.ensures.leaves.unwritten;
-  writes = c.write_total.ensures.leaves.writes;
-  telling = c.write_total.ensures.leaves.telling;
+  answers = inr (inr (inr refl, λ tells. refl));
+  unread = λ is. memory_read is;
+  unwritten = λ is. memory_written _ refl is;
+  writes = no_more (g.O.Sink.faults c.args.out.now);
+  telling = refl;
 }
 
 pub returns-in-Err-Refused : goal.returns-in-Err-Refused
@@ -39,8 +48,8 @@ returns-in-Err-Unread g c = record {
   telling = refl;
 }
 
-pub returns-in-Err-NoMemory : goal.returns-in-Err-NoMemory
-returns-in-Err-NoMemory g c = record {
+pub returns : goal.returns
+returns g c = record {
   answers = inr (inr (inr refl, λ tells. refl));
   unread = λ is. memory_read is;
   unwritten = λ is. memory_written _ refl is;

@@ -1,8 +1,8 @@
 use Rattle.std.proofs.Common.{◌≡◌, ◌∙◌, ◌++◌}
 use Rattle.ps_campaigning.specs.Asking.{printed_text, room_in, wanted_by}
-use Rattle.ps_course.specs.Courses.{items_in}
+use Rattle.ps_trials.specs.Steps.{items_in}
 use Rattle.ps_totals.specs.Totals.{totals_text}
-use Rattle.ps_trialed.specs.Campaigns.{campaign, room_of}
+use Rattle.ps_campaigning.specs.Campaigns.{campaign, room_of}
 use Rattle.ps_world.specs.Whole.{machines_in}
 use Rattle.ps_campaigning.proofs.telling.campaign_text.Goals as goal
 

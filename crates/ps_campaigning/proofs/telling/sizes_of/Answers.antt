@@ -1,6 +1,6 @@
 use Rattle.std.proofs.Common.{◌∙◌, length, ap}
 use Rattle.ps_campaigning.specs.Asking.{sizes_in}
-use Rattle.ps_trialed.proofs.Trying.{one_setup}
+use Rattle.ps_campaigning.proofs.Trying.{one_setup}
 use Rattle.ps_world.specs.Whole.{Setup, machines_in}
 use Rattle.ps_world.specs.Worlds.{World_state}
 use Rattle.ps_campaigning.proofs.telling.sizes_of.Goals as goal

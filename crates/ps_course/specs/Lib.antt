@@ -1,2 +1,0 @@
--- what the course of a trace is
-pub mod Courses

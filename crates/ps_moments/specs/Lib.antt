@@ -1,2 +1,0 @@
--- when the scans of a course are
-pub mod Times

@@ -1,7 +1,7 @@
--- rows, one more behind others
-pub mod Rows
--- the parts of cases, one more behind others
-pub mod Sections
+-- cases that are shown, behind others, and the text of their pages
+pub mod Shown
+-- what a read leaves, and why a call stops by it
+pub mod Reading
 -- how a call stops at a case file
 pub mod Stopped
 -- what comes of a call with an application

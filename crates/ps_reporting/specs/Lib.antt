@@ -2,3 +2,5 @@
 pub mod Results
 pub mod Sections
 pub mod Asking
+-- apparatus: how calls end that read files, run their cases, and write a page
+pub mod Running

@@ -1,6 +1,7 @@
 // `report APP CASES..`: one page for the file on the safety of a machine.
 
-ghost use Rattle.std.specs.Prelude.{◌≡◌, ◌≤◌, ◌⊎◌, ◌∷◌, ◌++◌, ℕ, List, Any, IfOk, IfErr, IsErrOf, OnOk};
+ghost use Rattle.std.specs.Prelude.{◌≡◌, ◌≤◌, [], ◌∷◌, ◌++◌, ℕ, List, Any, IfOk, IfErr, IsErrOf};
+ghost use Rattle.ps_accounting.specs.Leaving.{Leaves, LeavesOutput, sides};
 ghost use Rattle.ps_bench_base.specs.Ending.{IsUnread};
 ghost use Rattle.ps_bench_base.specs.Opening.{source};
 ghost use Rattle.ps_bench_words.specs.Seen.{seen};
@@ -8,17 +9,18 @@ ghost use Rattle.ps_markup.specs.Writing.{written};
 ghost use Rattle.ps_model.specs.Typing.{Accepted};
 ghost use Rattle.ps_outside.specs.Outside.{Rose};
 ghost use Rattle.ps_reporting.specs.Asking.{AnswersReport, Ends, IsPageOf, StopsReport};
+ghost use Rattle.ps_reporting.specs.Running.{EndsPage, ReadsFile};
 
-use crate::running::{Bench, Beside, run_files};
+use crate::running::{Bench, Pages, add_named, run_files, stop_by};
 use crate::texts::{Shown, add_texts};
 use ps_base::{Bytes, Memory};
 use ps_bench_base::{Sourced, Status, Stop, open_sourced};
 use ps_cover::Cover;
-use ps_markup::{Page, Part, Tag, add_page, add_parts};
+use ps_markup::{Page, Tag, add_page};
+use ps_model::App;
 use ps_outside::{Files, Output, ReadFail, write_all};
-use ps_page::parts::{add_file, add_foot, add_head, close_table, open_table};
+use ps_page::parts::{add_foot, add_head, close_table, open_table};
 use ps_source::read_source;
-use ps_totals::name_of_file;
 use std::alloc::Global;
 
 /// What `report` is asked.
@@ -44,8 +46,8 @@ fn title_of(alloc: Global, asked: &Asked<'_>) -> Result<Bytes, Memory> {
     }
 }
 
-// What stands before the rows of the results: the head, and the files by what they are named.
-fn front_of(alloc: Global, asked: &Asked<'_>, files: Page) -> Result<Page, Memory> {
+// The beginning of the page: the head, and what stands before the rows of the files.
+fn front_of(alloc: Global, asked: &Asked<'_>) -> Result<Page, Memory> {
     let title = title_of(alloc, asked)?;
     let mut page = Page::new(alloc);
     add_head(&mut page, title.as_slice())?;
@@ -56,21 +58,36 @@ fn front_of(alloc: Global, asked: &Asked<'_>, files: Page) -> Result<Page, Memor
         b"The application, and the case files",
         columns.as_slice(),
     )?;
-    page.join(files)?;
-    close_table(&mut page)?;
-    let columns: [&[u8]; 4] = [b"Case", b"Line", b"Result", b"Scans"];
-    open_table(&mut page, b"Results", b"All cases", columns.as_slice())?;
     Ok(page)
+}
+
+// The pages of a report before any file is shown in them.
+fn first_pages<'a>(alloc: Global, app: &'a App, asked: &Asked<'_>) -> Result<Pages<'a>, Memory>
+    ensures { IfOk result (λ pages. (pages.rows ≡ []) × (pages.sections ≡ [])) }
+{
+    let cover = Cover::new(alloc, app)?;
+    let front = front_of(alloc, asked)?;
+    Ok(Pages {
+        front,
+        rows: Page::new(alloc),
+        sections: Page::new(alloc),
+        cover,
+    })
+}
+
+// What stands between the rows of the files and those of the results.
+fn open_results(page: &mut Page) -> Result<(), Memory> {
+    close_table(page)?;
+    let columns: [&[u8]; 4] = [b"Case", b"Line", b"Result", b"Scans"];
+    open_table(page, b"Results", b"All cases", columns.as_slice())
 }
 
 // What stands between the rows of the results and the parts of the cases.
 fn between_of(alloc: Global) -> Result<Page, Memory> {
     let mut page = Page::new(alloc);
     close_table(&mut page)?;
-    add_parts(
-        &mut page,
-        &[Part::Open(Tag::Section), Part::Element(Tag::H2, b"Cases")],
-    )?;
+    page.open(Tag::Section)?;
+    page.element(Tag::H2, b"Cases")?;
     Ok(page)
 }
 
@@ -79,41 +96,23 @@ fn back_of(alloc: Global, shown: &Shown<'_>) -> Result<Page, Memory>
     requires { Accepted shown.now.app.now }
 {
     let mut page = Page::new(alloc);
-    add_parts(&mut page, &[Part::End(Tag::Section)])?;
+    page.close(Tag::Section)?;
     add_texts(&mut page, alloc, shown)?;
     add_foot(&mut page)?;
     Ok(page)
 }
 
-// The pages that a report is made of, one behind another.
-#[derive(Drop)]
-struct Pages {
-    front: Page,
-    rows: Page,
-    between: Page,
-    sections: Page,
-    back: Page,
-}
-
 // The text of the pages of a report.
-fn text_of(alloc: Global, pages: Pages) -> Result<Bytes, Memory>
-    ensures { IfOk result (λ text.
-        text ≡ written (pages.front ++ pages.rows ++ pages.between ++ pages.sections ++ pages.back)) }
+fn text_of(alloc: Global, pages: &Pages<'_>, between: &Page, back: &Page) -> Result<Bytes, Memory>
+    ensures { IfOk result (λ text. text ≡ written
+        (pages.now.front ++ pages.now.rows ++ between.now ++ pages.now.sections ++ back.now)) }
 {
-    let Pages {
-        front,
-        rows,
-        between,
-        sections,
-        back,
-    } = pages;
-    let mut page = front;
-    page.join(rows)?;
-    page.join(between)?;
-    page.join(sections)?;
-    page.join(back)?;
     let mut text = Bytes::new(alloc);
-    add_page(&mut text, &page)?;
+    add_page(&mut text, &pages.front)?;
+    add_page(&mut text, &pages.rows)?;
+    add_page(&mut text, between)?;
+    add_page(&mut text, &pages.sections)?;
+    add_page(&mut text, back)?;
     Ok(text)
 }
 
@@ -123,36 +122,45 @@ fn report_text(
     sourced: &Sourced,
     asked: &Asked<'_>,
     source: &[u8],
-    rows: Page,
-    beside: Beside<'_>,
+    pages: &mut Pages<'_>,
 ) -> Result<Bytes, Memory>
     requires { Accepted sourced.now.opened.app }
-    ensures { IfOk result (IsPageOf rows beside.entry.sections) }
+    ensures { IfOk result (IsPageOf pages.old.rows pages.old.sections) }
 {
-    let Beside {
-        files,
-        sections,
-        cover,
-    } = beside;
+    open_results(&mut pages.front)?;
+    let between = between_of(alloc)?;
     let shown = Shown {
         name: asked.app,
         text: source,
         app: &sourced.opened.app,
         source: &sourced.source,
-        cover: &cover,
+        cover: &pages.cover,
     };
-    let front = front_of(alloc, asked, files)?;
-    let between = between_of(alloc)?;
     let back = back_of(alloc, &shown)?;
-    let pages = Pages {
-        front,
-        rows,
-        between,
-        sections,
-        back,
-    };
-    let text = text_of(alloc, pages)?;
-    Ok(text)
+    text_of(alloc, pages, &between, &back)
+}
+
+// Writes a report.
+fn write_report<O: Output>(
+    alloc: Global,
+    out: &mut O,
+    sourced: &Sourced,
+    asked: &Asked<'_>,
+    source: &[u8],
+    pages: &mut Pages<'_>,
+) -> Result<Status, Stop>
+    requires { Accepted sourced.now.opened.app }
+    ensures ends { EndsPage pages.old.rows pages.old.sections (O.tells out.old) (O.taken out.old) (O.taken out.new)
+        result }
+    ensures leaves { LeavesOutput (O.tells out.old) (O.tells out.new) (O.faults out.old) (O.faults out.new) result }
+{
+    match report_text(alloc, sourced, asked, source, pages) {
+        Ok(text) => match write_all(out, text.as_slice()) {
+            Ok(()) => Ok(Status::Done),
+            Err(_) => Err(Stop::Unwritten),
+        },
+        Err(Memory) => Err(Stop::NoMemory),
+    }
 }
 
 // The source of the application of this name, with its row among the files.
@@ -161,27 +169,13 @@ fn read_app<F: Files>(
     files: &mut F,
     name: &str,
     page: &mut Page,
-) -> Result<Bytes, Stop>
-    ensures stops { IfErr result (λ stop. (stop ≡ Stop.UnreadApp) ⊎ (stop ≡ Stop.NoMemory)) }
-    ensures unread { IfErr result (λ stop. IsUnread stop →
-        Rose (F.faults files.old name.now) (F.faults files.new name.now)) }
-    ensures reads { (other : List ℕ) → F.faults files.old other ≤ F.faults files.new other }
-    ensures kept { F.held files.new ≡ F.held files.old }
-    ensures reading { F.tells files.new ≡ F.tells files.old }
+) -> Result<Bytes, ReadFail>
+    ensures { ReadsFile name.now (F.tells files.old) (F.tells files.new) (F.held files.old) (F.held files.new)
+        (F.faults files.old) (F.faults files.new) result }
 {
-    let digest = match name_of_file(alloc, files, name) {
-        Ok(digest) => digest,
-        Err(ReadFail::Fault) => return Err(Stop::UnreadApp),
-        Err(ReadFail::Memory) => return Err(Stop::NoMemory),
-    };
-    match add_file(page, name.as_bytes(), digest.as_slice()) {
-        Ok(()) => (),
-        Err(Memory) => return Err(Stop::NoMemory),
-    }
-    match read_source(alloc, name, files) {
-        Ok(text) => Ok(text),
-        Err(ReadFail::Fault) => Err(Stop::UnreadApp),
-        Err(ReadFail::Memory) => Err(Stop::NoMemory),
+    match add_named(alloc, files, name, page) {
+        Ok(()) => read_source(alloc, name, files),
+        Err(fail) => Err(fail),
     }
 }
 
@@ -196,45 +190,28 @@ fn report_app<F: Files, O: Output>(
     requires { Accepted sourced.now.opened.app }
     ensures ends { Ends (source sourced.now.opened.app sourced.now.opened.sizes (F.tells files.old) (F.held files.old))
         asked.now.app.now (seen asked.now.cases.now) (O.tells out.old) (O.taken out.old) (O.taken out.new) result }
-    ensures unread { IfErr result (λ stop. IsUnread stop →
-        Any (λ (name : List ℕ). Rose (F.faults files.old name) (F.faults files.new name))
-        (asked.now.app.now ∷ seen asked.now.cases.now)) }
-    ensures unwritten { IsErrOf result Stop.Unwritten → Rose (O.faults out.old) (O.faults out.new) }
-    ensures reads { (other : List ℕ) → F.faults files.old other ≤ F.faults files.new other }
-    ensures writes { O.faults out.old ≤ O.faults out.new }
-    ensures telling { O.tells out.new ≡ O.tells out.old }
+    ensures leaves { Leaves (Any (λ (name : List ℕ). Rose (F.faults files.old name) (F.faults files.new name))
+        (asked.now.app.now ∷ seen asked.now.cases.now))
+        (sides (F.tells files.old) (F.held files.old) (F.faults files.old) (O.tells out.old) (O.faults out.old))
+        (sides (F.tells files.new) (F.held files.new) (F.faults files.new) (O.tells out.new) (O.faults out.new))
+        result }
 {
-    let opened = &sourced.opened;
-    let cover = match Cover::new(alloc, &opened.app) {
-        Ok(cover) => cover,
+    let mut pages = match first_pages(alloc, &sourced.opened.app, asked) {
+        Ok(pages) => pages,
         Err(Memory) => return Err(Stop::NoMemory),
     };
-    let mut beside = Beside {
-        files: Page::new(alloc),
-        sections: Page::new(alloc),
-        cover,
-    };
-    let text = match read_app(alloc, files, asked.app, &mut beside.files) {
+    let text = match read_app(alloc, files, asked.app, &mut pages.front) {
         Ok(text) => text,
-        Err(stop) => return Err(stop),
+        Err(fail) => return Err(stop_by(Stop::UnreadApp, fail)),
     };
     let bench = Bench {
         alloc,
-        opened,
+        opened: &sourced.opened,
         name: asked.app,
     };
-    let mut rows = Page::new(alloc);
-    match run_files(files, out, &bench, asked.cases, &mut rows, &mut beside) {
-        Ok(()) => (),
-        Err(stop) => return Err(stop),
-    }
-    let page = match report_text(alloc, sourced, asked, text.as_slice(), rows, beside) {
-        Ok(page) => page,
-        Err(Memory) => return Err(Stop::NoMemory),
-    };
-    match write_all(out, page.as_slice()) {
-        Ok(()) => Ok(Status::Done),
-        Err(_) => Err(Stop::Unwritten),
+    match run_files(files, out, &bench, asked.cases, &mut pages) {
+        Ok(()) => write_report(alloc, out, sourced, asked, text.as_slice(), &mut pages),
+        Err(stop) => Err(stop),
     }
 }
 

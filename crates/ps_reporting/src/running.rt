@@ -1,20 +1,16 @@
 // The cases of files are run, with a row for the result of each, and what else is shown of them.
 
-ghost use Rattle.std.specs.Prelude.{◌≡◌, ◌≤◌, ◌⊎◌, ◌++◌, ℕ, List, All, Any, IfErr, IsErrOf, OnOk};
-ghost use Rattle.ps_bench_base.specs.Ending.{IsUnread};
+ghost use Rattle.std.specs.Prelude.{◌≡◌, [], ◌∷◌, ℕ, List, All, Any, OnOk};
+ghost use Rattle.ps_accounting.specs.Leaving.{Leaves, sides};
 ghost use Rattle.ps_bench_base.specs.Opening.{source};
-ghost use Rattle.ps_bench_base.specs.Refusing.{refused_line};
-ghost use Rattle.ps_bench_base.specs.Stopping.{StopsAtCases};
 ghost use Rattle.ps_bench_words.specs.Seen.{seen};
 ghost use Rattle.ps_cases.specs.Meant.{whole_case};
 ghost use Rattle.ps_cases.specs.Runnable.{IsRunnable};
 ghost use Rattle.ps_cases.specs.declared.case.Case.{Case as CaseOf};
 ghost use Rattle.ps_model.specs.Typing.{Accepted};
 ghost use Rattle.ps_outside.specs.Outside.{Rose};
-ghost use Rattle.ps_page.specs.Results.{case_row};
-ghost use Rattle.ps_reporting.specs.Results.{cases_rows, files_rows};
-ghost use Rattle.ps_reporting.specs.Sections.{HasSection, HaveSections, cases_of};
-ghost use Rattle.ps_tester.specs.Testing.{AreRan, AreRanFiles, FileRan, IsRan, IsRanFile};
+ghost use Rattle.ps_reporting.specs.Running.{EndsFile, EndsFiles, ReadsFile, ShowsCases, stop_by};
+ghost use Rattle.ps_tester.specs.Testing.{AreRan, IsRan};
 ghost use Rattle.ps_told.specs.Outcome.{Ran};
 
 use crate::showing::{add_section, add_shown};
@@ -38,15 +34,28 @@ pub(crate) struct Bench<'a> {
     pub(crate) name: &'a str,
 }
 
-/// What is shown of cases beside the rows of their results.
-#[derive(Drop)]
-pub(crate) struct Beside<'a> {
-    /// The rows of the files.
-    pub(crate) files: Page,
+/// The pages that a report is made of, as far as files and their cases are shown in them.
+pub(crate) struct Pages<'a> {
+    /// What stands before the rows of the results, up to the rows of the files.
+    pub(crate) front: Page,
+    /// The rows of the results.
+    pub(crate) rows: Page,
     /// The parts of the cases.
     pub(crate) sections: Page,
     /// What their scans have shown of the application.
     pub(crate) cover: Cover<'a>,
+}
+
+impl<'a> Drop for Pages<'a> {
+    // One call for whoever owns one, in place of a walk through all that it holds.
+    fn drop(self) {
+        let Pages {
+            front: _,
+            rows: _,
+            sections: _,
+            cover: _,
+        } = self;
+    }
 }
 
 // A case file, with its place among those of the words, counted from 0, and its name.
@@ -62,14 +71,13 @@ fn run_case(
     bench: &Bench<'_>,
     named: &Named<'_>,
     case: &Case,
-    rows: &mut Page,
-    beside: &mut Beside<'_>,
+    pages: &mut Pages<'_>,
 ) -> Result<(), Memory>
     requires accepted { Accepted bench.now.opened.now.app }
     requires runnable { IsRunnable bench.now.opened.now.app (whole_case named.now.file.now case.now) }
     ensures { OnOk result ((r : Ran)
         × IsRan bench.now.opened.now.app bench.now.name.now named.now.name.now named.now.file.now case.now r
-        × (rows.new ≡ rows.old ++ case_row r) × HasSection r beside.old.sections beside.new.sections) }
+        × ShowsCases (r ∷ []) pages.old.rows pages.new.rows pages.old.sections pages.new.sections) }
 {
     let app = &bench.opened.app;
     let outcome = outcome_of(bench.alloc, app, named.file, case)?;
@@ -81,9 +89,9 @@ fn run_case(
         case,
         outcome: &outcome,
     };
-    add_case(rows, bench.alloc, &run)?;
-    add_section(&mut beside.sections, bench.alloc, named.place, &run)?;
-    add_shown(bench.alloc, app, named.file, case, &mut beside.cover)?;
+    add_case(&mut pages.rows, bench.alloc, &run)?;
+    add_section(&mut pages.sections, bench.alloc, named.place, &run)?;
+    add_shown(bench.alloc, app, named.file, case, &mut pages.cover)?;
     Ok(())
 }
 
@@ -92,91 +100,86 @@ fn run_cases(
     bench: &Bench<'_>,
     named: &Named<'_>,
     cases: &[Case],
-    rows: &mut Page,
-    beside: &mut Beside<'_>,
+    pages: &mut Pages<'_>,
 ) -> Result<(), Memory>
     requires accepted { Accepted bench.now.opened.now.app }
     requires runnable { All (λ (case : CaseOf).
         IsRunnable bench.now.opened.now.app (whole_case named.now.file.now case)) cases.now }
     ensures { OnOk result ((rs : List Ran)
         × AreRan bench.now.opened.now.app bench.now.name.now named.now.name.now named.now.file.now cases.now rs
-        × (rows.new ≡ rows.old ++ cases_rows rs) × HaveSections rs beside.old.sections beside.new.sections) }
+        × ShowsCases rs pages.old.rows pages.new.rows pages.old.sections pages.new.sections) }
 {
     for case in cases {
-        run_case(bench, named, case, rows, beside)?;
+        run_case(bench, named, case, pages)?;
     }
     Ok(())
 }
 
-// The row of the case file of this name.
-fn add_named<F: Files>(
+/// Why a call stops whose read failed: this file cannot be read, or memory is wanting.
+pub(crate) fn stop_by(unread: Stop, fail: ReadFail) -> Stop
+    ensures { result ≡ stop_by unread fail }
+{
+    match fail {
+        ReadFail::Fault => unread,
+        ReadFail::Memory => Stop::NoMemory,
+    }
+}
+
+/// The row of the file of this name.
+pub(crate) fn add_named<F: Files>(
     alloc: Global,
     files: &mut F,
     name: &str,
     page: &mut Page,
-) -> Result<(), Stop>
-    ensures stops { IfErr result (λ stop. (stop ≡ Stop.UnreadCases 0) ⊎ (stop ≡ Stop.NoMemory)) }
-    ensures unread { IfErr result (λ stop. IsUnread stop →
-        Rose (F.faults files.old name.now) (F.faults files.new name.now)) }
-    ensures reads { (other : List ℕ) → F.faults files.old other ≤ F.faults files.new other }
-    ensures kept { F.held files.new ≡ F.held files.old }
-    ensures reading { F.tells files.new ≡ F.tells files.old }
+) -> Result<(), ReadFail>
+    ensures { ReadsFile name.now (F.tells files.old) (F.tells files.new) (F.held files.old) (F.held files.new)
+        (F.faults files.old) (F.faults files.new) result }
 {
     match name_of_file(alloc, files, name) {
         Ok(digest) => match add_file(page, name.as_bytes(), digest.as_slice()) {
             Ok(()) => Ok(()),
-            Err(Memory) => Err(Stop::NoMemory),
+            Err(Memory) => Err(ReadFail::Memory),
         },
-        Err(ReadFail::Fault) => Err(Stop::UnreadCases(0)),
-        Err(ReadFail::Memory) => Err(Stop::NoMemory),
+        Err(fail) => Err(fail),
     }
 }
 
 // Runs the cases of the file of this name, at this place of the words, with a row for the result of each. Where the
-// file is refused the line of the refusal is written.
+// file is refused the line of the refusal is written, and the stop has the place.
 fn run_file<F: Files, O: Output>(
     files: &mut F,
     out: &mut O,
     bench: &Bench<'_>,
     place: usize,
     name: &str,
-    rows: &mut Page,
-    beside: &mut Beside<'_>,
+    pages: &mut Pages<'_>,
 ) -> Result<(), Stop>
     requires { Accepted bench.now.opened.now.app }
-    ensures ran { OnOk result ((f : FileRan)
-        × IsRanFile (source bench.now.opened.now.app bench.now.opened.now.sizes (F.tells files.old) (F.held files.old))
-        bench.now.name.now name.now f × (rows.new ≡ rows.old ++ cases_rows f.ran)
-        × HaveSections f.ran beside.old.sections beside.new.sections) }
-    ensures stops { IfErr result (λ stop. StopsAtCases
-        (source bench.now.opened.now.app bench.now.opened.now.sizes (F.tells files.old) (F.held files.old)) name.now
-        refused_line stop (O.tells out.old) (O.taken out.old) (O.taken out.new)) }
-    ensures unread { IfErr result (λ stop. IsUnread stop →
-        Rose (F.faults files.old name.now) (F.faults files.new name.now)) }
-    ensures unwritten { IsErrOf result Stop.Unwritten → Rose (O.faults out.old) (O.faults out.new) }
-    ensures unsaid { OnOk result (O.taken out.new ≡ O.taken out.old) }
-    ensures reads { (other : List ℕ) → F.faults files.old other ≤ F.faults files.new other }
-    ensures writes { O.faults out.old ≤ O.faults out.new }
-    ensures kept { F.held files.new ≡ F.held files.old }
-    ensures reading { F.tells files.new ≡ F.tells files.old }
-    ensures telling { O.tells out.new ≡ O.tells out.old }
+    ensures ends { EndsFile
+        (source bench.now.opened.now.app bench.now.opened.now.sizes (F.tells files.old) (F.held files.old))
+        bench.now.name.now name.now pages.old.rows pages.new.rows pages.old.sections pages.new.sections
+        (O.tells out.old) (O.taken out.old) (O.taken out.new) result }
+    ensures leaves { Leaves (Rose (F.faults files.old name.now) (F.faults files.new name.now))
+        (sides (F.tells files.old) (F.held files.old) (F.faults files.old) (O.tells out.old) (O.faults out.old))
+        (sides (F.tells files.new) (F.held files.new) (F.faults files.new) (O.tells out.new) (O.faults out.new))
+        result }
 {
     let file = match open_written_cases(bench.alloc, files, out, bench.opened, name) {
         Ok(file) => file,
-        Err(stop) => return Err(stop),
+        Err(stop) => return Err(stop.at_place(place)),
     };
+    match add_named(bench.alloc, files, name, &mut pages.front) {
+        Ok(()) => (),
+        Err(fail) => return Err(stop_by(Stop::UnreadCases(place), fail)),
+    }
     let named = Named {
         place,
         name,
         file: &file,
     };
-    match run_cases(bench, &named, file.cases.as_slice(), rows, beside) {
-        Ok(()) => (),
-        Err(Memory) => return Err(Stop::NoMemory),
-    }
-    match add_named(bench.alloc, files, name, &mut beside.files) {
+    match run_cases(bench, &named, file.cases.as_slice(), pages) {
         Ok(()) => Ok(()),
-        Err(stop) => Err(stop),
+        Err(Memory) => Err(Stop::NoMemory),
     }
 }
 
@@ -190,33 +193,24 @@ pub(crate) fn run_files<F: Files, O: Output>(
     out: &mut O,
     bench: &Bench<'_>,
     names: &[&str],
-    rows: &mut Page,
-    beside: &mut Beside<'_>,
+    pages: &mut Pages<'_>,
 ) -> Result<(), Stop>
     requires { Accepted bench.now.opened.now.app }
-    ensures ran { OnOk result ((fs : List FileRan)
-        × AreRanFiles
+    ensures ends { EndsFiles
         (source bench.now.opened.now.app bench.now.opened.now.sizes (F.tells files.old) (F.held files.old))
-        bench.now.name.now (seen names.now) fs × (rows.new ≡ rows.old ++ files_rows fs)
-        × HaveSections (cases_of fs) beside.old.sections beside.new.sections) }
-    ensures stops { IfErr result (λ stop. Any (λ (name : List ℕ). StopsAtCases
-        (source bench.now.opened.now.app bench.now.opened.now.sizes (F.tells files.old) (F.held files.old)) name
-        refused_line stop (O.tells out.old) (O.taken out.old) (O.taken out.new)) (seen names.now)) }
-    ensures unread { IfErr result (λ stop. IsUnread stop →
-        Any (λ (name : List ℕ). Rose (F.faults files.old name) (F.faults files.new name)) (seen names.now)) }
-    ensures unwritten { IsErrOf result Stop.Unwritten → Rose (O.faults out.old) (O.faults out.new) }
-    ensures unsaid { OnOk result (O.taken out.new ≡ O.taken out.old) }
-    ensures reads { (other : List ℕ) → F.faults files.old other ≤ F.faults files.new other }
-    ensures writes { O.faults out.old ≤ O.faults out.new }
-    ensures kept { F.held files.new ≡ F.held files.old }
-    ensures reading { F.tells files.new ≡ F.tells files.old }
-    ensures telling { O.tells out.new ≡ O.tells out.old }
+        bench.now.name.now (seen names.now) pages.old.rows pages.new.rows pages.old.sections pages.new.sections
+        (O.tells out.old) (O.taken out.old) (O.taken out.new) result }
+    ensures leaves { Leaves
+        (Any (λ (name : List ℕ). Rose (F.faults files.old name) (F.faults files.new name)) (seen names.now))
+        (sides (F.tells files.old) (F.held files.old) (F.faults files.old) (O.tells out.old) (O.faults out.old))
+        (sides (F.tells files.new) (F.held files.new) (F.faults files.new) (O.tells out.new) (O.faults out.new))
+        result }
 {
     let mut place = 0;
     for name in names {
-        match run_file(files, out, bench, place, *name, rows, beside) {
+        match run_file(files, out, bench, place, *name, pages) {
             Ok(()) => place += 1,
-            Err(stop) => return Err(stop.at_place(place)),
+            Err(stop) => return Err(stop),
         }
     }
     Ok(())

@@ -13,7 +13,7 @@ use ps_bench_base::pieces::add_short;
 use ps_bench_words::Format;
 use ps_cases::{Case, CaseFile};
 use ps_cover::Cover;
-use ps_markup::{Page, Part, Tag, add_parts};
+use ps_markup::{Page, Tag};
 use ps_model::App;
 use ps_outside::TextFail;
 use ps_page::parts::open_case;
@@ -44,10 +44,7 @@ fn add_drawn(page: &mut Page, alloc: Global, place: usize, run: &CaseRun<'_>) ->
             let id = id_of(alloc, place, run.case.line)?;
             add_diagram(page, alloc, run, &recording, id.as_slice())
         }
-        None => add_parts(
-            page,
-            &[Part::Element(Tag::P, b"There is no timing diagram of this case.")],
-        ),
+        None => page.element(Tag::P, b"There is no timing diagram of this case."),
     }
 }
 
@@ -66,7 +63,7 @@ pub(crate) fn add_section(
     let told = case_report(alloc, Format::Text, &Tally::none(), run)?;
     open_case(page, run.case.name.as_str().as_bytes(), told.as_slice())?;
     add_drawn(page, alloc, place, run)?;
-    add_parts(page, &[Part::End(Tag::Section)])
+    page.close(Tag::Section)
 }
 
 /// Adds what the scans of a case show of the application to what others have shown.

@@ -1,31 +1,53 @@
-use Rattle.std.proofs.Common.{◌∷◌}
+use Rattle.std.proofs.Common.{◌∷◌, Err, ap, inl}
+use Rattle.ps_bench_base.proofs.Stopped.{rose_since}
+use Rattle.ps_bench_base.specs.Opening.{Source, source}
+use Rattle.ps_bench_base.specs.declared.ending.Stop.TheVariants.{Unwritten}
 use Rattle.ps_bench_words.specs.Seen.{seen}
-use Rattle.ps_reporting.proofs.Coming.{answered, moved, stopped, unread_since}
+use Rattle.ps_reporting.specs.Asking.{Ends}
+use Rattle.ps_reporting.proofs.Coming.{answered, moved, stopped, unread_first, unread_since}
+use Rattle.ps_reporting.proofs.Reading.{le_two, of_err, same_two}
 use Rattle.ps_reporting.proofs.reporting.report.Goals as goal
 
-pub returns-in-Ok-clause-answers : goal.returns-in-Ok-clause-answers
-returns-in-Ok-clause-answers g c =
-    let opened = c.in-Ok.sourced.opened in
+pub returns-in-Ok : goal.returns-in-Ok
+returns-in-Ok g c =
+    let net = c.in-Ok.sourced.opened.app in
+    let sizes = c.in-Ok.sourced.opened.sizes in
     let app = c.args.asked.now.app.now in
     let names = seen c.args.asked.now.cases.now in
-    answered opened.app opened.sizes app names
-    (g.F.Files.tells c.args.files.now) (g.F.Files.held c.args.files.now) (g.O.Sink.tells c.args.out.now)
-    (g.O.Sink.taken c.args.out.now) (g.O.Sink.taken c.report_app.new.out) c.report_app.result c.in-Ok.ensures.app
-    (moved opened.app opened.sizes app names _ _ _ _ _ _ _ _ _ c.report_app.result
-    c.in-Ok.ensures.reading c.in-Ok.ensures.kept c.in-Ok.ensures.telling c.in-Ok.ensures.unsaid c.report_app.ensures.ends)
+    let r = g.F.Files.tells c.args.files.now in
+    let h = g.F.Files.held c.args.files.now in
+    let t = g.O.Sink.tells c.args.out.now in
+    let w = g.O.Sink.faults c.args.out.now in
+    let b = g.O.Sink.taken c.args.out.now in
+    let w' = g.O.Sink.faults c.open_sourced.new.out in
+    let w'' = g.O.Sink.faults c.report_app.new.out in
+    let is = c.in-Ok.ensures in
+    let ended = c.report_app.result in
+    let after = g.O.Sink.taken c.report_app.new.out in
+    let leaves = c.report_app.ensures.leaves in
+    let ends : Ends (source net sizes r h) app names t b after ended =
+    moved (λ (x : Source) tells taken. Ends x app names tells taken after ended) net sizes r (g.F.Files.tells c.open_sourced.new.files)
+    h (g.F.Files.held c.open_sourced.new.files) t (g.O.Sink.tells c.open_sourced.new.out) b (g.O.Sink.taken c.open_sourced.new.out)
+    is.reading is.kept is.telling is.unsaid c.report_app.ensures.ends in
+    record {
+      answers = answered net sizes app names r h t b after ended is.app ends;
+      stops = stopped net sizes app names r h t b after ended is.app ends;
+      unread = unread_since (g.F.Files.faults c.args.files.now) (g.F.Files.faults c.open_sourced.new.files) (g.F.Files.faults c.report_app.new.files)
+          (app ∷ names) ended is.reads leaves.unread;
+      unwritten = λ at. rose_since w w' w'' is.writes (leaves.unwritten at);
+      writes = le_two w w' w'' is.writes leaves.stays.writes;
+      telling = same_two t (g.O.Sink.tells c.open_sourced.new.out) (g.O.Sink.tells c.report_app.new.out) is.telling leaves.stays.telling;
+    }
 
-pub returns-in-Ok-clause-stops : goal.returns-in-Ok-clause-stops
-returns-in-Ok-clause-stops g c =
-    let opened = c.in-Ok.sourced.opened in
-    let app = c.args.asked.now.app.now in
-    let names = seen c.args.asked.now.cases.now in
-    stopped opened.app opened.sizes app names
-    (g.F.Files.tells c.args.files.now) (g.F.Files.held c.args.files.now) (g.O.Sink.tells c.args.out.now)
-    (g.O.Sink.taken c.args.out.now) (g.O.Sink.taken c.report_app.new.out) c.report_app.result c.in-Ok.ensures.app
-    (moved opened.app opened.sizes app names _ _ _ _ _ _ _ _ _ c.report_app.result
-    c.in-Ok.ensures.reading c.in-Ok.ensures.kept c.in-Ok.ensures.telling c.in-Ok.ensures.unsaid c.report_app.ensures.ends)
-
-pub returns-in-Ok-clause-unread : goal.returns-in-Ok-clause-unread
-returns-in-Ok-clause-unread g c =
-    unread_since (g.F.Files.faults c.args.files.now) (g.F.Files.faults c.open_sourced.new.files) (g.F.Files.faults c.report_app.new.files)
-    (c.args.asked.now.app.now ∷ seen c.args.asked.now.cases.now) c.report_app.result c.in-Ok.ensures.reads c.report_app.ensures.unread
+pub returns-in-Err : goal.returns-in-Err
+returns-in-Err g c =
+    let is = c.in-Err.ensures in
+    record {
+      answers = tt;
+      stops = inl is.stops;
+      unread = λ at. unread_first (g.F.Files.faults c.args.files.now) (g.F.Files.faults c.open_sourced.new.files) c.args.asked.now.app.now
+          (seen c.args.asked.now.cases.now) (is.unread at);
+      unwritten = λ at. is.unwritten (ap Err (of_err c.in-Err.stop Unwritten at));
+      writes = is.writes;
+      telling = is.telling;
+    }

@@ -1,28 +1,113 @@
-use Rattle.std.proofs.Common.{inr}
-use Rattle.ps_bench_base.specs.Opening.{source}
+use Rattle.std.proofs.Common.{◌∷◌, ℕ, List, Any, Err, ap, inl, inr, refl}
+use Rattle.ps_accounting.proofs.Leaving.{behind, both, passed, same}
+use Rattle.ps_accounting.specs.Leaving.{Stays, sides}
+use Rattle.ps_bench_base.specs.Opening.{Source, source}
+use Rattle.ps_bench_base.specs.Refusing.{refused_line}
+use Rattle.ps_bench_base.specs.Stopping.{StopsAtCases}
+use Rattle.ps_bench_base.specs.declared.ending.Stop.TheVariants.{UnreadApp}
 use Rattle.ps_bench_words.specs.Seen.{seen}
-use Rattle.ps_reporting.proofs.Coming.{ran_moved, reported, unread_behind, wrote_some}
+use Rattle.ps_outside.specs.Outside.{Rose}
+use Rattle.ps_reporting.specs.Asking.{Ends}
+use Rattle.ps_reporting.proofs.Coming.{moved, reported, unread_behind, unread_ends, unread_first, written_behind}
+use Rattle.ps_reporting.proofs.Reading.{app_written, memory_leaves, read_stays, unread_leaves}
 use Rattle.ps_reporting.proofs.reporting.report_app.Goals as goal
 
-pub returns-in-Err-run_files-clause-unread : goal.returns-in-Err-run_files-clause-unread
-returns-in-Err-run_files-clause-unread g c = λ is.
-    unread_behind (g.F.Files.faults c.args.files.now) (g.F.Files.faults c.read_app.new.files) (g.F.Files.faults c.run_files.new.files)
-    c.args.asked.now.app.now (seen c.args.asked.now.cases.now) c.in-Ok-read_app.ensures.reads (c.in-Err-run_files.ensures.unread is)
+pub returns-in-Err : goal.returns-in-Err
+returns-in-Err g c =
+    let f = g.F.Files.faults c.args.files.now in
+    let before = sides (g.F.Files.tells c.args.files.now) (g.F.Files.held c.args.files.now) f (g.O.Sink.tells c.args.out.now) (g.O.Sink.faults c.args.out.now) in
+    record {
+      ends = inl (inr refl, λ told. refl);
+      leaves = memory_leaves (Any (λ (name : List ℕ). Rose (f name) (f name)) (c.args.asked.now.app.now ∷ seen c.args.asked.now.cases.now)) before before (same before);
+    }
 
-pub returns-clause-ends : goal.returns-clause-ends
-returns-clause-ends g c =
-    let ran = c.in-Ok-run_files.ensures.ran in
-    let net = c.args.sourced.now.opened.app in
-    let sizes = c.args.sourced.now.opened.sizes in
-    let reading = g.F.Files.tells c.args.files.now in
-    let held = g.F.Files.held c.args.files.now in
+pub returns-in-Err-read_app : goal.returns-in-Err-read_app
+returns-in-Err-read_app g c =
     let app = c.args.asked.now.app.now in
     let names = seen c.args.asked.now.cases.now in
-    inr (inr (
-      c.in-Ok-report_text.page,
-      reported (source net sizes reading held) app names c.run_files.new.rows _ c.run_files.new.beside.sections _ c.in-Ok-report_text.page ran.0
-          (ran_moved net sizes app names _ _ _ _ ran.0 c.in-Ok-read_app.ensures.reading c.in-Ok-read_app.ensures.kept ran.1)
-          ran.2 c.new-rows.ensures ran.3 c.new-3.ensures c.in-Ok-report_text.ensures,
-      wrote_some c.in-Err-write_all.field-0.taken c.as_slice-2.result.now c.in-Ok-report_text.page (g.O.Sink.tells c.args.out.now) _ (g.O.Sink.taken c.args.out.now) _ (g.O.Sink.taken c.write_all.new.out)
-          c.in-Ok-run_files.ensures.telling c.in-Ok-run_files.ensures.unsaid c.as_slice-2.ensures c.in-Err-write_all.ensures.part,
-    ))
+    let r = g.F.Files.tells c.args.files.now in
+    let h = g.F.Files.held c.args.files.now in
+    let f = g.F.Files.faults c.args.files.now in
+    let r' = g.F.Files.tells c.read_app.new.files in
+    let h' = g.F.Files.held c.read_app.new.files in
+    let f' = g.F.Files.faults c.read_app.new.files in
+    let t = g.O.Sink.tells c.args.out.now in
+    let w = g.O.Sink.faults c.args.out.now in
+    let from = source c.args.sourced.now.opened.app c.args.sourced.now.opened.sizes r h in
+    let fail = c.in-Err-read_app.fail in
+    let stop = c.stop_by.result in
+    record {
+      ends = unread_ends from app names fail stop t (g.O.Sink.taken c.args.out.now) c.stop_by.ensures;
+      leaves = unread_leaves (Any (λ (name : List ℕ). Rose (f name) (f' name)) (app ∷ names)) (sides r h f t w) (sides r' h' f' t w) UnreadApp stop fail
+          c.stop_by.ensures app_written (read_stays app r r' h h' f f' t w c.read_app.result c.read_app.ensures)
+          (λ at. unread_first f f' app names (c.in-Err-read_app.ensures.fault (ap Err at)));
+    }
+
+pub returns-in-Ok-run_files : goal.returns-in-Ok-run_files
+returns-in-Ok-run_files g c =
+    let net = c.args.sourced.now.opened.app in
+    let sizes = c.args.sourced.now.opened.sizes in
+    let app = c.args.asked.now.app.now in
+    let names = seen c.args.asked.now.cases.now in
+    let r = g.F.Files.tells c.args.files.now in
+    let h = g.F.Files.held c.args.files.now in
+    let f = g.F.Files.faults c.args.files.now in
+    let t = g.O.Sink.tells c.args.out.now in
+    let w = g.O.Sink.faults c.args.out.now in
+    let b = g.O.Sink.taken c.args.out.now in
+    let r' = g.F.Files.tells c.read_app.new.files in
+    let h' = g.F.Files.held c.read_app.new.files in
+    let f' = g.F.Files.faults c.read_app.new.files in
+    let r'' = g.F.Files.tells c.run_files.new.files in
+    let h'' = g.F.Files.held c.run_files.new.files in
+    let f'' = g.F.Files.faults c.run_files.new.files in
+    let t'' = g.O.Sink.tells c.run_files.new.out in
+    let w'' = g.O.Sink.faults c.run_files.new.out in
+    let b'' = g.O.Sink.taken c.run_files.new.out in
+    let before = sides r h f t w in
+    let read = c.in-Ok-read_app.ensures in
+    let ran = c.in-Ok-run_files.ensures.ends in
+    let filed = c.in-Ok-run_files.ensures.leaves in
+    let stays : Stays before (sides r'' h'' f'' t'' w'') = both before (sides r' h' f' t w) (sides r'' h'' f'' t'' w'')
+    (read_stays app r r' h h' f f' t w c.read_app.result c.read_app.ensures) filed.stays in
+    let ended = c.write_report.result in
+    let pages = c.run_files.new.pages in
+    let after = g.O.Sink.taken c.write_report.new.out in
+    record {
+      ends = moved (λ (x : Source) tells taken. Ends x app names tells taken after ended) net sizes r r' h h' t t'' b b'' read.reading read.kept filed.stays.telling ran.0
+          (reported (source net sizes r' h') app names pages.rows c.in-Ok.pages.rows pages.sections c.in-Ok.pages.sections ran.1 t'' b'' after ended
+          ran.2 ran.3 c.in-Ok.ensures.0 c.in-Ok.ensures.1 c.write_report.ensures.ends);
+      leaves = written_behind (Any (λ (name : List ℕ). Rose (f name) (f'' name)) (app ∷ names)) r r'' h h'' f f'' t t'' (g.O.Sink.tells c.write_report.new.out) w w''
+          (g.O.Sink.faults c.write_report.new.out) ended stays c.write_report.ensures.leaves;
+    }
+
+pub returns : goal.returns
+returns g c =
+    let net = c.args.sourced.now.opened.app in
+    let sizes = c.args.sourced.now.opened.sizes in
+    let app = c.args.asked.now.app.now in
+    let names = seen c.args.asked.now.cases.now in
+    let r = g.F.Files.tells c.args.files.now in
+    let h = g.F.Files.held c.args.files.now in
+    let f = g.F.Files.faults c.args.files.now in
+    let t = g.O.Sink.tells c.args.out.now in
+    let w = g.O.Sink.faults c.args.out.now in
+    let b = g.O.Sink.taken c.args.out.now in
+    let r' = g.F.Files.tells c.read_app.new.files in
+    let h' = g.F.Files.held c.read_app.new.files in
+    let f' = g.F.Files.faults c.read_app.new.files in
+    let f'' = g.F.Files.faults c.run_files.new.files in
+    let before = sides r h f t w in
+    let middle = sides r' h' f' t w in
+    let after = sides (g.F.Files.tells c.run_files.new.files) (g.F.Files.held c.run_files.new.files) f'' (g.O.Sink.tells c.run_files.new.out) (g.O.Sink.faults c.run_files.new.out) in
+    let read = c.in-Ok-read_app.ensures in
+    let stop = c.in-Err-run_files.stop in
+    let new = g.O.Sink.taken c.run_files.new.out in
+    let later = Any (λ (name : List ℕ). Rose (f' name) (f'' name)) names in
+    record {
+      ends = inr (inl (moved (λ (x : Source) tells taken. Any (λ (name : List ℕ). StopsAtCases x name refused_line stop tells taken new) names) net sizes r r' h h' t t b b
+          read.reading read.kept refl refl c.in-Err-run_files.ensures.ends));
+      leaves = behind before middle after (Err stop) later (Any (λ (name : List ℕ). Rose (f name) (f'' name)) (app ∷ names))
+          (read_stays app r r' h h' f f' t w c.read_app.result c.read_app.ensures) (passed later middle after stop c.in-Err-run_files.ensures.leaves)
+          (λ rose. unread_behind f f' f'' app names read.reads rose);
+    }

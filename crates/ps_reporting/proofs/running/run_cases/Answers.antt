@@ -1,12 +1,13 @@
 use Rattle.std.proofs.Common.{◌<◌, ◌++◌, ◌∷◌, [], take, length, sym, subst, arith}
 use Rattle.ps_cases.specs.Meant.{whole_case}
 use Rattle.ps_cases.specs.Runnable.{IsRunnable}
-use Rattle.ps_page.specs.Results.{case_row}
 use Rattle.ps_tester.specs.Testing.{AreRan}
 use Rattle.ps_tester.proofs.Running.{are_more, item_more}
-use Rattle.ps_reporting.proofs.Rows.{rows_more}
-use Rattle.ps_reporting.proofs.Sections.{section_more}
+use Rattle.ps_reporting.proofs.Shown.{none_shown, shown_behind}
 use Rattle.ps_reporting.proofs.running.run_cases.Goals as goal
+
+pub loop-case-init : goal.loop-case-init
+loop-case-init c = ([], tt, none_shown c.args.pages.now.rows c.args.pages.now.sections)
 
 pub loop-case-preserved : goal.loop-case-preserved
 loop-case-preserved c =
@@ -22,8 +23,8 @@ loop-case-preserved c =
       subst (λ cs. AreRan net word name file cs (old.0 ++ new.0 ∷ []))
           (sym (item_more c.args.cases.now place c.case-item.result below c.case-item.is))
           (are_more net word name file (take place c.args.cases.now) c.case-item.result old.0 new.0 old.1 new.1),
-      rows_more case_row old.0 new.0 c.args.rows.now c.loop-case.rows c.run_case.new.rows old.2 new.2,
-      section_more old.0 new.0 c.args.beside.now.sections c.loop-case.beside.sections c.run_case.new.beside.sections old.3 new.3,
+      shown_behind old.0 (new.0 ∷ []) c.args.pages.now.rows c.loop-case.pages.rows c.run_case.new.pages.rows
+          c.args.pages.now.sections c.loop-case.pages.sections c.run_case.new.pages.sections old.2 new.2,
     )
 
 pub run_case-requires-clause-runnable : goal.run_case-requires-clause-runnable

@@ -1,6 +1,5 @@
-use Rattle.std.proofs.Common.{◌≡◌, ◌++◌, List, take}
-use Rattle.ps_reporting.specs.Results.{cases_rows}
-use Rattle.ps_reporting.specs.Sections.{HaveSections}
+use Rattle.std.proofs.Common.{List, take}
+use Rattle.ps_reporting.specs.Running.{ShowsCases}
 use Rattle.ps_told.specs.Outcome.{Ran}
 use Rattle.ps_tester.specs.Testing.{AreRan}
 use Rattle.ps_reporting.proofs.running.run_cases.Given as goal
@@ -9,4 +8,4 @@ abbrev pub invariant-loop-case : goal.invariant-loop-case
 invariant-loop-case l =
     (rs : List Ran)
     × AreRan l.bench.opened.now.app l.bench.name.now l.named.name.now l.named.file.now (take l.case-index l.cases) rs
-    × (l.rows ≡ l.fn.rows ++ cases_rows rs) × HaveSections rs l.fn.beside.sections l.beside.sections
+    × ShowsCases rs l.fn.pages.rows l.pages.rows l.fn.pages.sections l.pages.sections

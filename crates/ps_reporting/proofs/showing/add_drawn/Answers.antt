@@ -20,7 +20,7 @@ pub returns-in-None : goal.returns-in-None
 returns-in-None c =
     let run = c.args.run.now in
     let case = whole_case run.file.now run.case.now in
-    on_ok_weaker c.add_parts.result (λ is. inr (
+    on_ok_weaker c.element.result (λ is. inr (
       λ legible. subst (λ (o : Option Recording). IsSomeAnd o (IsRecordingOf run.app.now case)) c.in-None.is (c.in_ok-recording.ensures.records legible),
       is,
-    )) c.add_parts.ensures
+    )) c.element.ensures

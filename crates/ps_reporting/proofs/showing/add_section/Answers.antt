@@ -15,8 +15,8 @@ returns c =
     let name = c.as_bytes.ensures.value ∙ c.as_str.ensures in
     let text = c.as_slice.ensures ∙ c.in_ok-told.ensures ∙ ap (λ (t : Tally). case_text Text t r) c.none.ensures in
     let page = c.in_ok-open_case.ensures ∙ (λ x. c.args.page.now ++ case_front (name x) (text x)) in
-    on_ok_weaker c.add_parts.result (λ is. record {
+    on_ok_weaker c.close.result (λ is. record {
       drawn = c.add_drawn.new.page;
       diagram = subst (λ (p : List Piece). HasDiagram r p c.add_drawn.new.page) page c.in_ok-add_drawn.ensures;
       is = is;
-    }) c.add_parts.ensures
+    }) c.close.ensures

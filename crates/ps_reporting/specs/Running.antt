@@ -1,0 +1,64 @@
+-- Apparatus: how calls end that read files, run their cases, and write a page.
+use Rattle.std.specs.Prelude.{◌≡◌, ◌⊎◌, ◌≤◌, ℕ, Bool, List, ◌++◌, Any, Option, Result, Ok, Err, IsErrOf}
+use Rattle.ps_bench_base.specs.Opening.{Source}
+use Rattle.ps_bench_base.specs.Refusing.{refused_line}
+use Rattle.ps_bench_base.specs.Stopping.{StopsAtCases, StopsIn, Took, TookNothing}
+use Rattle.ps_bench_base.specs.declared.ending.Status.{Status}
+use Rattle.ps_bench_base.specs.declared.ending.Status.TheVariants.{Done}
+use Rattle.ps_bench_base.specs.declared.ending.Stop.{Stop}
+use Rattle.ps_bench_base.specs.declared.ending.Stop.TheVariants.{NoMemory}
+use Rattle.ps_markup.specs.declared.page.Piece.{Piece}
+use Rattle.ps_outside.specs.Outside.{Rose}
+use Rattle.ps_outside.specs.declared.reading.ReadFail.{ReadFail}
+use Rattle.ps_outside.specs.declared.reading.ReadFail.TheVariants.{Fault, Memory}
+use Rattle.ps_reporting.specs.Asking.{IsPageOf}
+use Rattle.ps_reporting.specs.Results.{cases_rows}
+use Rattle.ps_reporting.specs.Sections.{HaveSections, cases_of}
+use Rattle.ps_tester.specs.Testing.{AreRanFiles, FileRan, IsRanFile}
+use Rattle.ps_told.specs.Outcome.{Ran}
+
+-- why a call stops whose read failed: this file cannot be read, or memory is wanting
+abbrev pub stop_by : (unread : Stop) → ReadFail → Stop
+stop_by unread Fault = unread
+stop_by unread Memory = NoMemory
+
+-- The file of this name was read, or could not be: its count rose then. No count falls, and all else is as it was.
+pub record ReadsFile {X : Type 0} (name : List ℕ) (tells tells' : Bool) (held held' : List ℕ → Option (List ℕ))
+    (faults faults' : List ℕ → ℕ) (ended : Result X ReadFail) : Type 0 where
+  pub reading : tells' ≡ tells
+  pub kept : held' ≡ held
+  pub reads : (other : List ℕ) → faults other ≤ faults' other
+  pub fault : IsErrOf ended Fault → Rose (faults name) (faults' name)
+
+-- Behind rows and parts stand those of these cases.
+pub record ShowsCases (rs : List Ran) (rows rows' sections sections' : List Piece) : Type 0 where
+  pub in_rows : rows' ≡ rows ++ cases_rows rs
+  pub in_parts : HaveSections rs sections sections'
+
+-- How a call ends that runs the cases of the file of this name: all were run, and are shown, and nothing was written;
+-- or it stops without the cases.
+abbrev pub EndsFile : {X : Type 0} → Source → (app name : List ℕ) → (rows rows' sections sections' : List Piece) →
+    (tells : Bool) → (before after : List ℕ) → Result X Stop → Type 0
+EndsFile from app name rows rows' sections sections' tells before after (Ok done) =
+    (after ≡ before) × (f : FileRan) × IsRanFile from app name f × ShowsCases f.ran rows rows' sections sections'
+EndsFile from app name rows rows' sections sections' tells before after (Err stop) =
+    StopsAtCases from name refused_line stop tells before after
+
+-- The same of a call that runs the cases of the files of these names, one file after another.
+abbrev pub EndsFiles : {X : Type 0} → Source → (app : List ℕ) → (names : List (List ℕ)) →
+    (rows rows' sections sections' : List Piece) → (tells : Bool) → (before after : List ℕ) → Result X Stop → Type 0
+EndsFiles from app names rows rows' sections sections' tells before after (Ok done) =
+    (after ≡ before) × (fs : List FileRan) × AreRanFiles from app names fs
+    × ShowsCases (cases_of fs) rows rows' sections sections'
+EndsFiles from app names rows rows' sections sections' tells before after (Err stop) =
+    Any (λ (name : List ℕ). StopsAtCases from name refused_line stop tells before after) names
+
+-- How a call ends that writes a page in which these rows and parts stand: all of it was written; or nothing was, for
+-- want of memory, or a beginning of it.
+abbrev pub EndsPage : (rows sections : List Piece) → (tells : Bool) → (before after : List ℕ) → Result Status Stop →
+    Type 0
+EndsPage rows sections tells before after (Ok status) =
+    (status ≡ Done) × (text : List ℕ) × IsPageOf rows sections text × Took text tells before after
+EndsPage rows sections tells before after (Err stop) =
+    ((stop ≡ NoMemory) × TookNothing tells before after)
+    ⊎ ((text : List ℕ) × IsPageOf rows sections text × StopsIn text stop tells before after)

@@ -17,7 +17,8 @@ use Rattle.ps_outside.specs.declared.reading.ReadFail.{ReadFail}
 use Rattle.ps_outside.specs.declared.reading.ReadFail.TheVariants.{Fault, Memory}
 use Rattle.ps_reporting.specs.Asking.{AnswersReport, Ends, IsPageOf, IsReport, StopsReport}
 use Rattle.ps_reporting.specs.Results.{cases_rows, files_rows}
-use Rattle.ps_reporting.specs.Running.{EndsPage, ShowsCases, stop_by}
+use Rattle.ps_markup.specs.Paged.{Paged}
+use Rattle.ps_reporting.specs.Running.{EndsPage, MakesPage, ShowsCases, stop_by}
 use Rattle.ps_reporting.specs.Sections.{HaveSections, cases_of}
 use Rattle.ps_tester.proofs.Stopped.{any_behind}
 use Rattle.ps_tester.specs.Testing.{AreRanFiles, FileRan}
@@ -50,23 +51,25 @@ moved P net sizes r r' h h' t t' b b' r_is h_is t_is b_is holds =
     (subst (λ (x : List ℕ). P (source net sizes r' h') t' x) b_is holds)))
 
 -- the rows of the files that were run, and the parts of their cases, stand in the report
-report_is : (from : Source) (app : List ℕ) (names : List (List ℕ)) (rows none sections nothing : List Piece) (text : List ℕ)
-    (fs : List FileRan) → AreRanFiles from app names fs → ShowsCases (cases_of fs) none rows nothing sections → none ≡ [] →
-    nothing ≡ [] → IsPageOf rows sections text → IsReport from app names text
+report_is : (from : Source) (app : List ℕ) (names : List (List ℕ)) (rows none sections nothing : Paged) (text : List ℕ)
+    (fs : List FileRan) → AreRanFiles from app names fs → ShowsCases (cases_of fs) none rows nothing sections → none.pieces ≡ [] →
+    nothing.pieces ≡ [] → MakesPage rows sections text → IsReport from app names text
 report_is from app names rows none sections nothing text fs ran shows empty first has =
-    let is : rows ≡ files_rows fs = shows.in_rows ∙ ap (λ (t : List Piece). t ++ cases_rows (cases_of fs)) empty ∙ rows_of_cases fs in
+    let in_rows = shows.in_rows has.0 in
+    let in_parts = shows.in_parts has.1 in
+    let is : rows.pieces ≡ files_rows fs = in_rows.1 ∙ ap (λ (t : List Piece). t ++ cases_rows (cases_of fs)) empty ∙ rows_of_cases fs in
     record {
       files = fs;
       ran = ran;
-      sections = sections;
-      drawn = subst (λ (t : List Piece). HaveSections (cases_of fs) t sections) first shows.in_parts;
-      is = subst (λ (t : List Piece). IsPageOf t sections text) is has;
+      sections = sections.pieces;
+      drawn = subst (λ (t : List Piece). HaveSections (cases_of fs) t sections.pieces) first in_parts.1;
+      is = subst (λ (t : List Piece). IsPageOf t sections.pieces text) is has.2;
     }
 
 -- a call ends by the page in which they stand
-pub reported : (from : Source) (app : List ℕ) (names : List (List ℕ)) (rows none sections nothing : List Piece) (fs : List FileRan) (tells : Bool)
+pub reported : (from : Source) (app : List ℕ) (names : List (List ℕ)) (rows none sections nothing : Paged) (fs : List FileRan) (tells : Bool)
     (before after : List ℕ) (ended : Result Status Stop) → AreRanFiles from app names fs → ShowsCases (cases_of fs) none rows nothing sections →
-    none ≡ [] → nothing ≡ [] → EndsPage rows sections tells before after ended → Ends from app names tells before after ended
+    none.pieces ≡ [] → nothing.pieces ≡ [] → EndsPage rows sections tells before after ended → Ends from app names tells before after ended
 reported from app names rows none sections nothing fs tells before after (Ok status) ran shows empty first (done, text, has, took) =
     (done, text, report_is from app names rows none sections nothing text fs ran shows empty first has, took)
 reported from app names rows none sections nothing fs tells before after (Err stop) ran shows empty first (inl short) =

@@ -56,11 +56,6 @@ read_failed name t t' h h' f f' fail reading kept reads rose = record {
   fault = λ is. rose (of_err fail Fault is);
 }
 
--- memory was wanting
-pub read_short : {X : Type 0} (name : List ℕ) (t t' : Bool) (h h' : List ℕ → Option (List ℕ)) (f f' : List ℕ → ℕ) →
-    t' ≡ t → h' ≡ h → ((other : List ℕ) → f other ≤ f' other) → ReadsFile {X = X} name t t' h h' f f' (Err Memory)
-read_short name t t' h h' f f' reading kept reads = record { reading = reading; kept = kept; reads = reads; fault = λ is. cc }
-
 -- it failed as another one did
 pub read_passed : {X Y : Type 0} (name : List ℕ) (t t' : Bool) (h h' : List ℕ → Option (List ℕ)) (f f' : List ℕ → ℕ) (fail : ReadFail) →
     ReadsFile {X = X} name t t' h h' f f' (Err fail) → ReadsFile {X = Y} name t t' h h' f f' (Err fail)

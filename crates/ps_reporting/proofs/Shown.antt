@@ -2,6 +2,7 @@
 use Rattle.std.proofs.Common.{◌≡◌, ◌∙◌, ℕ, List, [], ◌∷◌, ◌++◌, refl, ap, subst, sym, append_assoc}
 use Rattle.std.proofs.lemmas.Grind.{flat_map-append}
 use Rattle.std.proofs.lemmas.List.{append-nil}
+use Rattle.ps_markup.specs.Paged.{Adds, OnWhole, Paged}
 use Rattle.ps_markup.specs.Writing.{piece_text, written}
 use Rattle.ps_markup.specs.declared.page.Piece.{Piece}
 use Rattle.ps_page.specs.Results.{case_row}
@@ -20,25 +21,40 @@ sections_behind (r ∷ rs) ss before middle after first second =
     (first.0, first.1, sections_behind rs ss first.0 middle after first.2 second)
 
 -- no case
-pub none_shown : (rows sections : List Piece) → ShowsCases [] rows rows sections sections
-none_shown rows sections = record { in_rows = sym (append-nil rows); in_parts = refl }
+pub none_shown : (rows sections : Paged) → ShowsCases [] rows rows sections sections
+none_shown rows sections = record {
+  in_rows = λ whole. (whole, sym (append-nil rows.pieces));
+  in_parts = λ whole. (whole, refl);
+}
 
 -- one case
-pub one_shown : (r : Ran) (rows rows' sections sections' : List Piece) → rows' ≡ rows ++ case_row r →
-    HasSection r sections sections' → ShowsCases (r ∷ []) rows rows' sections sections'
+pub one_shown : (r : Ran) (rows rows' sections sections' : Paged) → Adds rows rows' (case_row r) →
+    OnWhole sections sections' (HasSection r) → ShowsCases (r ∷ []) rows rows' sections sections'
 one_shown r rows rows' sections sections' row part = record {
-  in_rows = row ∙ ap (λ (t : List Piece). rows ++ t) (sym (append-nil (case_row r)));
-  in_parts = (sections', part, refl);
+  in_rows = λ whole.
+      let is = row whole in
+      (is.0, is.1 ∙ ap (λ (t : List Piece). rows.pieces ++ t) (sym (append-nil (case_row r))));
+  in_parts = λ whole.
+      let is = part whole in
+      (is.0, (sections'.pieces, is.1, refl));
 }
 
 -- cases behind others
-pub shown_behind : (rs ss : List Ran) (rows mid rows' sections middle sections' : List Piece) →
+pub shown_behind : (rs ss : List Ran) (rows mid rows' sections middle sections' : Paged) →
     ShowsCases rs rows mid sections middle → ShowsCases ss mid rows' middle sections' →
     ShowsCases (rs ++ ss) rows rows' sections sections'
 shown_behind rs ss rows mid rows' sections middle sections' first second = record {
-  in_rows = second.in_rows ∙ ap (λ (t : List Piece). t ++ cases_rows ss) first.in_rows ∙ append_assoc rows (cases_rows rs) (cases_rows ss)
-      ∙ ap (λ (t : List Piece). rows ++ t) (sym (flat_map-append case_row rs ss));
-  in_parts = sections_behind rs ss sections middle sections' first.in_parts second.in_parts;
+  in_rows = λ whole.
+      let two = second.in_rows whole in
+      let one = first.in_rows two.0 in (
+        one.0,
+        two.1 ∙ ap (λ (t : List Piece). t ++ cases_rows ss) one.1 ∙ append_assoc rows.pieces (cases_rows rs) (cases_rows ss)
+            ∙ ap (λ (t : List Piece). rows.pieces ++ t) (sym (flat_map-append case_row rs ss)),
+      );
+  in_parts = λ whole.
+      let two = second.in_parts whole in
+      let one = first.in_parts two.0 in
+      (one.0, sections_behind rs ss sections.pieces middle.pieces sections'.pieces one.1 two.1);
 }
 
 -- the cases of one more file
@@ -46,7 +62,7 @@ cases_more : (fs : List FileRan) (f : FileRan) → cases_of (fs ++ f ∷ []) ≡
 cases_more fs f =
     flat_map-append (λ (g : FileRan). g.ran) fs (f ∷ []) ∙ ap (λ (t : List Ran). cases_of fs ++ t) (append-nil f.ran)
 
-pub file_shown : (fs : List FileRan) (f : FileRan) (rows mid rows' sections middle sections' : List Piece) →
+pub file_shown : (fs : List FileRan) (f : FileRan) (rows mid rows' sections middle sections' : Paged) →
     ShowsCases (cases_of fs) rows mid sections middle → ShowsCases f.ran mid rows' middle sections' →
     ShowsCases (cases_of (fs ++ f ∷ [])) rows rows' sections sections'
 file_shown fs f rows mid rows' sections middle sections' first second =

@@ -1,5 +1,5 @@
 -- Apparatus: how calls end that read files, run their cases, and write a page.
-use Rattle.std.specs.Prelude.{◌≡◌, ◌⊎◌, ◌≤◌, ℕ, Bool, List, ◌++◌, Any, Option, Result, Ok, Err, IsErrOf}
+use Rattle.std.specs.Prelude.{◌≡◌, ◌⊎◌, ◌≤◌, ℕ, Bool, List, Any, Option, Result, Ok, Err, IsErrOf, IsTrue}
 use Rattle.ps_bench_base.specs.Opening.{Source}
 use Rattle.ps_bench_base.specs.Refusing.{refused_line}
 use Rattle.ps_bench_base.specs.Stopping.{StopsAtCases, StopsIn, Took, TookNothing}
@@ -7,7 +7,7 @@ use Rattle.ps_bench_base.specs.declared.ending.Status.{Status}
 use Rattle.ps_bench_base.specs.declared.ending.Status.TheVariants.{Done}
 use Rattle.ps_bench_base.specs.declared.ending.Stop.{Stop}
 use Rattle.ps_bench_base.specs.declared.ending.Stop.TheVariants.{NoMemory}
-use Rattle.ps_markup.specs.declared.page.Piece.{Piece}
+use Rattle.ps_markup.specs.Paged.{Adds, OnWhole, Paged}
 use Rattle.ps_outside.specs.Outside.{Rose}
 use Rattle.ps_outside.specs.declared.reading.ReadFail.{ReadFail}
 use Rattle.ps_outside.specs.declared.reading.ReadFail.TheVariants.{Fault, Memory}
@@ -30,14 +30,14 @@ pub record ReadsFile {X : Type 0} (name : List ℕ) (tells tells' : Bool) (held 
   pub reads : (other : List ℕ) → faults other ≤ faults' other
   pub fault : IsErrOf ended Fault → Rose (faults name) (faults' name)
 
--- Behind rows and parts stand those of these cases.
-pub record ShowsCases (rs : List Ran) (rows rows' sections sections' : List Piece) : Type 0 where
-  pub in_rows : rows' ≡ rows ++ cases_rows rs
-  pub in_parts : HaveSections rs sections sections'
+-- Behind the rows of one page and the parts of another stand those of these cases.
+pub record ShowsCases (rs : List Ran) (rows rows' sections sections' : Paged) : Type 0 where
+  pub in_rows : Adds rows rows' (cases_rows rs)
+  pub in_parts : OnWhole sections sections' (HaveSections rs)
 
 -- How a call ends that runs the cases of the file of this name: all were run, and are shown, and nothing was written;
 -- or it stops without the cases.
-abbrev pub EndsFile : {X : Type 0} → Source → (app name : List ℕ) → (rows rows' sections sections' : List Piece) →
+abbrev pub EndsFile : {X : Type 0} → Source → (app name : List ℕ) → (rows rows' sections sections' : Paged) →
     (tells : Bool) → (before after : List ℕ) → Result X Stop → Type 0
 EndsFile from app name rows rows' sections sections' tells before after (Ok done) =
     (after ≡ before) × (f : FileRan) × IsRanFile from app name f × ShowsCases f.ran rows rows' sections sections'
@@ -46,19 +46,24 @@ EndsFile from app name rows rows' sections sections' tells before after (Err sto
 
 -- The same of a call that runs the cases of the files of these names, one file after another.
 abbrev pub EndsFiles : {X : Type 0} → Source → (app : List ℕ) → (names : List (List ℕ)) →
-    (rows rows' sections sections' : List Piece) → (tells : Bool) → (before after : List ℕ) → Result X Stop → Type 0
+    (rows rows' sections sections' : Paged) → (tells : Bool) → (before after : List ℕ) → Result X Stop → Type 0
 EndsFiles from app names rows rows' sections sections' tells before after (Ok done) =
     (after ≡ before) × (fs : List FileRan) × AreRanFiles from app names fs
     × ShowsCases (cases_of fs) rows rows' sections sections'
 EndsFiles from app names rows rows' sections sections' tells before after (Err stop) =
     Any (λ (name : List ℕ). StopsAtCases from name refused_line stop tells before after) names
 
+-- The text is that of a page in which these rows and parts stand, none of which memory was wanting for.
+abbrev pub MakesPage : (rows sections : Paged) → (text : List ℕ) → Type 0
+MakesPage rows sections text =
+    IsTrue rows.whole × IsTrue sections.whole × IsPageOf rows.pieces sections.pieces text
+
 -- How a call ends that writes a page in which these rows and parts stand: all of it was written; or nothing was, for
 -- want of memory, or a beginning of it.
-abbrev pub EndsPage : (rows sections : List Piece) → (tells : Bool) → (before after : List ℕ) → Result Status Stop →
+abbrev pub EndsPage : (rows sections : Paged) → (tells : Bool) → (before after : List ℕ) → Result Status Stop →
     Type 0
 EndsPage rows sections tells before after (Ok status) =
-    (status ≡ Done) × (text : List ℕ) × IsPageOf rows sections text × Took text tells before after
+    (status ≡ Done) × (text : List ℕ) × MakesPage rows sections text × Took text tells before after
 EndsPage rows sections tells before after (Err stop) =
     ((stop ≡ NoMemory) × TookNothing tells before after)
-    ⊎ ((text : List ℕ) × IsPageOf rows sections text × StopsIn text stop tells before after)
+    ⊎ ((text : List ℕ) × MakesPage rows sections text × StopsIn text stop tells before after)

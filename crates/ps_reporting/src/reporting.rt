@@ -1,6 +1,6 @@
 // `report APP CASES..`: one page for the file on the safety of a machine.
 
-ghost use Rattle.std.specs.Prelude.{◌≡◌, ◌≤◌, [], ◌∷◌, ◌++◌, ℕ, List, Any, IfOk, IfErr, IsErrOf};
+ghost use Rattle.std.specs.Prelude.{◌≡◌, ◌≤◌, [], ◌∷◌, ◌++◌, ℕ, List, Any, IfOk, IfErr, IsErrOf, IsTrue};
 ghost use Rattle.ps_accounting.specs.Leaving.{Leaves, LeavesOutput, sides};
 ghost use Rattle.ps_bench_base.specs.Ending.{IsUnread};
 ghost use Rattle.ps_bench_base.specs.Opening.{source};
@@ -8,8 +8,8 @@ ghost use Rattle.ps_bench_words.specs.Seen.{seen};
 ghost use Rattle.ps_markup.specs.Writing.{written};
 ghost use Rattle.ps_model.specs.Typing.{Accepted};
 ghost use Rattle.ps_outside.specs.Outside.{Rose};
-ghost use Rattle.ps_reporting.specs.Asking.{AnswersReport, Ends, IsPageOf, StopsReport};
-ghost use Rattle.ps_reporting.specs.Running.{EndsPage, ReadsFile};
+ghost use Rattle.ps_reporting.specs.Asking.{AnswersReport, Ends, StopsReport};
+ghost use Rattle.ps_reporting.specs.Running.{EndsPage, MakesPage, ReadsFile};
 
 use crate::running::{Bench, Pages, add_named, run_files, stop_by};
 use crate::texts::{Shown, add_texts};
@@ -50,20 +50,20 @@ fn title_of(alloc: Global, asked: &Asked<'_>) -> Result<Bytes, Memory> {
 fn front_of(alloc: Global, asked: &Asked<'_>) -> Result<Page, Memory> {
     let title = title_of(alloc, asked)?;
     let mut page = Page::new(alloc);
-    add_head(&mut page, title.as_slice())?;
+    add_head(&mut page, title.as_slice());
     let columns: [&[u8]; 2] = [b"File", b"SHA-256"];
     open_table(
         &mut page,
         b"Files",
         b"The application, and the case files",
         columns.as_slice(),
-    )?;
+    );
     Ok(page)
 }
 
 // The pages of a report before any file is shown in them.
 fn first_pages<'a>(alloc: Global, app: &'a App, asked: &Asked<'_>) -> Result<Pages<'a>, Memory>
-    ensures { IfOk result (λ pages. (pages.rows ≡ []) × (pages.sections ≡ [])) }
+    ensures { IfOk result (λ pages. (pages.rows.pieces ≡ []) × (pages.sections.pieces ≡ [])) }
 {
     let cover = Cover::new(alloc, app)?;
     let front = front_of(alloc, asked)?;
@@ -76,36 +76,37 @@ fn first_pages<'a>(alloc: Global, app: &'a App, asked: &Asked<'_>) -> Result<Pag
 }
 
 // What stands between the rows of the files and those of the results.
-fn open_results(page: &mut Page) -> Result<(), Memory> {
-    close_table(page)?;
+fn open_results(page: &mut Page) {
+    close_table(page);
     let columns: [&[u8]; 4] = [b"Case", b"Line", b"Result", b"Scans"];
-    open_table(page, b"Results", b"All cases", columns.as_slice())
+    open_table(page, b"Results", b"All cases", columns.as_slice());
 }
 
 // What stands between the rows of the results and the parts of the cases.
-fn between_of(alloc: Global) -> Result<Page, Memory> {
+fn between_of(alloc: Global) -> Page {
     let mut page = Page::new(alloc);
-    close_table(&mut page)?;
-    page.open(Tag::Section)?;
-    page.element(Tag::H2, b"Cases")?;
-    Ok(page)
+    close_table(&mut page);
+    page.open(Tag::Section);
+    page.element(Tag::H2, b"Cases");
+    page
 }
 
 // What stands behind the parts of the cases: those that are texts, and the foot.
-fn back_of(alloc: Global, shown: &Shown<'_>) -> Result<Page, Memory>
+fn back_of(alloc: Global, shown: &Shown<'_>) -> Page
     requires { Accepted shown.now.app.now }
 {
     let mut page = Page::new(alloc);
-    page.close(Tag::Section)?;
-    add_texts(&mut page, alloc, shown)?;
-    add_foot(&mut page)?;
-    Ok(page)
+    page.close(Tag::Section);
+    add_texts(&mut page, alloc, shown);
+    add_foot(&mut page);
+    page
 }
 
 // The text of the pages of a report.
 fn text_of(alloc: Global, pages: &Pages<'_>, between: &Page, back: &Page) -> Result<Bytes, Memory>
-    ensures { IfOk result (λ text. text ≡ written
-        (pages.now.front ++ pages.now.rows ++ between.now ++ pages.now.sections ++ back.now)) }
+    ensures { IfOk result (λ text. IsTrue pages.now.rows.whole × IsTrue pages.now.sections.whole × (text ≡ written
+        (pages.now.front.pieces ++ pages.now.rows.pieces ++ between.now.pieces ++ pages.now.sections.pieces
+        ++ back.now.pieces))) }
 {
     let mut text = Bytes::new(alloc);
     add_page(&mut text, &pages.front)?;
@@ -125,10 +126,10 @@ fn report_text(
     pages: &mut Pages<'_>,
 ) -> Result<Bytes, Memory>
     requires { Accepted sourced.now.opened.app }
-    ensures { IfOk result (IsPageOf pages.old.rows pages.old.sections) }
+    ensures { IfOk result (MakesPage pages.old.rows pages.old.sections) }
 {
-    open_results(&mut pages.front)?;
-    let between = between_of(alloc)?;
+    open_results(&mut pages.front);
+    let between = between_of(alloc);
     let shown = Shown {
         name: asked.app,
         text: source,
@@ -136,7 +137,7 @@ fn report_text(
         source: &sourced.source,
         cover: &pages.cover,
     };
-    let back = back_of(alloc, &shown)?;
+    let back = back_of(alloc, &shown);
     text_of(alloc, pages, &between, &back)
 }
 

@@ -3,6 +3,7 @@
 ghost use Rattle.std.specs.Prelude.{◌≡◌, OnOk};
 ghost use Rattle.ps_cases.specs.Meant.{whole_case};
 ghost use Rattle.ps_cases.specs.Runnable.{IsRunnable};
+ghost use Rattle.ps_markup.specs.Paged.{OnWhole};
 ghost use Rattle.ps_model.specs.Typing.{Accepted};
 ghost use Rattle.ps_reporting.specs.Sections.{HasDiagram, HasSection};
 ghost use Rattle.ps_told.specs.Outcome.{ran_of};
@@ -37,14 +38,17 @@ fn id_of(alloc: Global, place: usize, line: u32) -> Result<Bytes, Memory> {
 fn add_drawn(page: &mut Page, alloc: Global, place: usize, run: &CaseRun<'_>) -> Result<(), Memory>
     requires accepted { Accepted run.now.app.now }
     requires runnable { IsRunnable run.now.app.now (whole_case run.now.file.now run.now.case.now) }
-    ensures { OnOk result (HasDiagram (ran_of run.now) page.old page.new) }
+    ensures { OnOk result (OnWhole page.old page.new (HasDiagram (ran_of run.now))) }
 {
     match record_case(alloc, run.app, run.file, run.case)? {
         Some(recording) => {
             let id = id_of(alloc, place, run.case.line)?;
             add_diagram(page, alloc, run, &recording, id.as_slice())
         }
-        None => page.element(Tag::P, b"There is no timing diagram of this case."),
+        None => {
+            page.element(Tag::P, b"There is no timing diagram of this case.");
+            Ok(())
+        }
     }
 }
 
@@ -58,12 +62,13 @@ pub(crate) fn add_section(
 ) -> Result<(), Memory>
     requires accepted { Accepted run.now.app.now }
     requires runnable { IsRunnable run.now.app.now (whole_case run.now.file.now run.now.case.now) }
-    ensures { OnOk result (HasSection (ran_of run.now) page.old page.new) }
+    ensures { OnOk result (OnWhole page.old page.new (HasSection (ran_of run.now))) }
 {
     let told = case_report(alloc, Format::Text, &Tally::none(), run)?;
-    open_case(page, run.case.name.as_str().as_bytes(), told.as_slice())?;
+    open_case(page, run.case.name.as_str().as_bytes(), told.as_slice());
     add_drawn(page, alloc, place, run)?;
-    page.close(Tag::Section)
+    page.close(Tag::Section);
+    Ok(())
 }
 
 /// Adds what the scans of a case show of the application to what others have shown.

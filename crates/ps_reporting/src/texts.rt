@@ -10,7 +10,7 @@ use ps_cover::{Cover, Exclusions};
 use ps_coverage::{Format, Told, coverage_text};
 use ps_demand::{NoLines, demand_lines};
 use ps_detail::placed_notes;
-use ps_markup::{Page, Part, Tag, add_parts};
+use ps_markup::{Page, Tag};
 use ps_model::App;
 use ps_noted::note_line;
 use ps_page::parts::add_text;
@@ -108,19 +108,15 @@ const CLAIMS: [&[u8]; 6] = [
 ];
 
 // What is claimed.
-fn add_claims(page: &mut Page) -> Result<(), Memory> {
-    add_parts(
-        page,
-        &[
-            Part::Open(Tag::Section),
-            Part::Element(Tag::H2, b"What is claimed, and what is not"),
-            Part::Open(Tag::Ul),
-        ],
-    )?;
+fn add_claims(page: &mut Page) {
+    page.open(Tag::Section);
+    page.element(Tag::H2, b"What is claimed, and what is not");
+    page.open(Tag::Ul);
     for claim in CLAIMS.as_slice() {
-        add_parts(page, &[Part::Element(Tag::Li, *claim)])?;
+        page.element(Tag::Li, *claim);
     }
-    add_parts(page, &[Part::End(Tag::Ul), Part::End(Tag::Section)])
+    page.close(Tag::Ul);
+    page.close(Tag::Section);
 }
 
 /// The application of a report: its name, its text, its source, and what the cases have shown of it.
@@ -133,68 +129,43 @@ pub(crate) struct Shown<'a> {
     pub(crate) cover: &'a Cover<'a>,
 }
 
-// The part of the text of the application.
-fn add_listing(page: &mut Page, alloc: Global, text: &[u8]) -> Result<(), Memory> {
-    let listing = numbered(alloc, text)?;
-    add_text(page, b"Application", listing.as_slice(), b"It is empty.")
-}
-
-// The part of the notes on an application of this name.
-fn add_notes(
+// A part that is a text, if memory was there for it, or one sentence where the text is empty.
+fn add_told(
     page: &mut Page,
-    alloc: Global,
-    name: &[u8],
-    source: &Source,
-    app: &App,
-) -> Result<(), Memory> {
-    let notes = notes_of(alloc, name, source, app)?;
-    add_text(
-        page,
-        b"Notes",
-        notes.as_slice(),
-        b"There are no notes on the application.",
-    )
-}
-
-// The part of the demands of an application.
-fn add_demands(page: &mut Page, alloc: Global, app: &App) -> Result<(), Memory>
-    requires { Accepted app.now }
-{
-    let demands = demands_of(alloc, app)?;
-    add_text(
-        page,
-        b"Demands",
-        demands.as_slice(),
-        b"There is no SAFEBOOL output.",
-    )
-}
-
-// The part of what the cases have shown of an application of this source.
-fn add_coverage(
-    page: &mut Page,
-    alloc: Global,
-    app: &App,
-    source: &Source,
-    cover: &Cover<'_>,
-) -> Result<(), Memory>
-    requires { Accepted app.now }
-{
-    let coverage = coverage_of(alloc, app, source, cover)?;
-    add_text(
-        page,
-        b"Coverage",
-        coverage.as_slice(),
-        b"Nothing is counted.",
-    )
+    heading: &'static [u8],
+    told: Result<Bytes, Memory>,
+    none: &'static [u8],
+) {
+    match told {
+        Ok(text) => add_text(page, heading, text.as_slice(), none),
+        Err(Memory) => page.spoil(),
+    }
 }
 
 /// The parts that are texts.
-pub(crate) fn add_texts(page: &mut Page, alloc: Global, shown: &Shown<'_>) -> Result<(), Memory>
+pub(crate) fn add_texts(page: &mut Page, alloc: Global, shown: &Shown<'_>)
     requires { Accepted shown.now.app.now }
 {
-    add_listing(page, alloc, shown.text)?;
-    add_notes(page, alloc, shown.name.as_bytes(), shown.source, shown.app)?;
-    add_demands(page, alloc, shown.app)?;
-    add_coverage(page, alloc, shown.app, shown.source, shown.cover)?;
-    add_claims(page)
+    let notes = notes_of(alloc, shown.name.as_bytes(), shown.source, shown.app);
+    let coverage = coverage_of(alloc, shown.app, shown.source, shown.cover);
+    add_told(
+        page,
+        b"Application",
+        numbered(alloc, shown.text),
+        b"It is empty.",
+    );
+    add_told(
+        page,
+        b"Notes",
+        notes,
+        b"There are no notes on the application.",
+    );
+    add_told(
+        page,
+        b"Demands",
+        demands_of(alloc, shown.app),
+        b"There is no SAFEBOOL output.",
+    );
+    add_told(page, b"Coverage", coverage, b"Nothing is counted.");
+    add_claims(page);
 }

@@ -3,4 +3,4 @@ use Rattle.ps_reporting.proofs.reporting.report_text.Goals as goal
 
 pub returns : goal.returns
 returns c = IfOk-weaker c.text_of.result _ _
-    (λ text is. (c.open_results.new.page, c.in_ok-between.between, c.in_ok-back.back, is)) c.text_of.ensures
+    (λ text is. (is.0, is.1, (c.open_results.new.page.pieces, c.between_of-between.result.pieces, c.back_of-back.result.pieces, is.2))) c.text_of.ensures

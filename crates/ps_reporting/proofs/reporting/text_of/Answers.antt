@@ -5,13 +5,16 @@ use Rattle.ps_reporting.proofs.reporting.text_of.Goals as goal
 
 pub returns : goal.returns
 returns c =
-    let p = c.args.pages.now.front in
-    let q = c.args.pages.now.rows in
-    let r = c.args.between.now in
-    let s = c.args.pages.now.sections in
-    let t = c.args.back.now in
-    let one = c.in_ok-add_page.ensures ∙ ap (λ x. x ++ written p) c.new-text.ensures in
-    let two = text_behind p q _ _ one c.in_ok-add_page-2.ensures in
-    let three = text_behind (p ++ q) r _ _ two c.in_ok-add_page-3.ensures in
-    let four = text_behind ((p ++ q) ++ r) s _ _ three c.in_ok-add_page-4.ensures in
-    text_behind (((p ++ q) ++ r) ++ s) t _ _ four c.in_ok-add_page-5.ensures ∙ ap written (pages_behind p q r s t)
+    let p = c.args.pages.now.front.pieces in
+    let q = c.args.pages.now.rows.pieces in
+    let r = c.args.between.now.pieces in
+    let s = c.args.pages.now.sections.pieces in
+    let t = c.args.back.now.pieces in
+    let one = c.in_ok-add_page.ensures.text ∙ ap (λ x. x ++ written p) c.new-text.ensures in
+    let two = text_behind p q _ _ one c.in_ok-add_page-2.ensures.text in
+    let three = text_behind (p ++ q) r _ _ two c.in_ok-add_page-3.ensures.text in
+    let four = text_behind ((p ++ q) ++ r) s _ _ three c.in_ok-add_page-4.ensures.text in (
+      c.in_ok-add_page-2.ensures.whole,
+      c.in_ok-add_page-4.ensures.whole,
+      text_behind (((p ++ q) ++ r) ++ s) t _ _ four c.in_ok-add_page-5.ensures.text ∙ ap written (pages_behind p q r s t),
+    )

@@ -1,17 +1,6 @@
 use Rattle.std.proofs.Common.{◌∙◌, Err, ap}
-use Rattle.ps_reporting.proofs.Reading.{read_done, read_failed, read_short}
+use Rattle.ps_reporting.proofs.Reading.{read_done, read_failed}
 use Rattle.ps_reporting.proofs.running.add_named.Goals as goal
-
-pub returns-in-Ok-add_file : goal.returns-in-Ok-add_file
-returns-in-Ok-add_file g c =
-    let is = c.name_of_file.ensures in
-    let t = g.F.Files.tells c.args.files.now in
-    let t' = g.F.Files.tells c.name_of_file.new.files in
-    let h = g.F.Files.held c.args.files.now in
-    let h' = g.F.Files.held c.name_of_file.new.files in
-    let f = g.F.Files.faults c.args.files.now in
-    let f' = g.F.Files.faults c.name_of_file.new.files in
-    read_done c.args.name.now t t' h h' f f' c.in-Ok-add_file.field-0 is.reading is.kept is.reads
 
 pub returns-in-Ok : goal.returns-in-Ok
 returns-in-Ok g c =
@@ -22,10 +11,10 @@ returns-in-Ok g c =
     let h' = g.F.Files.held c.name_of_file.new.files in
     let f = g.F.Files.faults c.args.files.now in
     let f' = g.F.Files.faults c.name_of_file.new.files in
-    read_short c.args.name.now t t' h h' f f' is.reading is.kept is.reads
+    read_done c.args.name.now t t' h h' f f' tt is.reading is.kept is.reads
 
-pub returns : goal.returns
-returns g c =
+pub returns-in-Err : goal.returns-in-Err
+returns-in-Err g c =
     let is = c.name_of_file.ensures in
     let t = g.F.Files.tells c.args.files.now in
     let t' = g.F.Files.tells c.name_of_file.new.files in

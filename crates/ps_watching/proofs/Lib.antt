@@ -24,3 +24,17 @@ mod Rows
 -- the log of a run means its scans, and its trace is read back
 mod Whole
 mod Back
+-- of `live`: the lines of a stream, what they say, and what is done of them
+mod LiveSizes
+mod Held
+mod Feeds
+mod Saying
+mod Told
+mod Quiet
+mod Going
+-- how a run of a stream ends, and that it is that of a file
+mod Stops
+mod Ran
+mod Watched
+-- how a call of `live` ends, by what it came to
+mod LiveComing

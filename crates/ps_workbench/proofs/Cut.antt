@@ -6,7 +6,7 @@ use Rattle.ps_bench_base.specs.declared.ending.Status.{Status}
 use Rattle.ps_bench_base.specs.declared.ending.Stop.{Stop}
 use Rattle.ps_bench_base.specs.declared.ending.Stop.TheVariants.{Unwritten}
 use Rattle.ps_bench_words.specs.Asking.{Asked}
-use Rattle.ps_live.specs.Asking.{Fed}
+use Rattle.ps_watching.specs.LiveAsking.{Fed}
 use Rattle.ps_workbench.specs.Answering.{Answers, IsCutOff, Stops}
 
 -- what came of a call that stopped, or whose output was not handed on at its end

@@ -14,7 +14,7 @@ use Rattle.ps_coverage.specs.declared.format.Format.{Format}
 use Rattle.ps_explaining.specs.Asking as explaining
 use Rattle.ps_explaining.specs.Asking.{AnswersWhy, StopsWhy}
 use Rattle.ps_never.specs.Asking.{AnswersNever, StopsNever}
-use Rattle.ps_live.specs.Asking.{AnswersLive, Fed, StopsLive}
+use Rattle.ps_watching.specs.LiveAsking.{AnswersLive, Fed, StopsLive}
 use Rattle.ps_model.specs.Network.{Network}
 use Rattle.ps_model.specs.declared.channel.Channel.{Channel}
 use Rattle.ps_model.specs.declared.channel.ImageSizes.{ImageSizes}

@@ -4,7 +4,7 @@ ghost use Rattle.std.specs.Prelude.{◌≡◌, ◌⊎◌, ◌≤◌, ◌∷◌, 
 ghost use Rattle.ps_bench_words.specs.Asking as asking;
 ghost use Rattle.ps_bench_words.specs.Asking.{Asks};
 ghost use Rattle.ps_bench_words.specs.Seen.{asked_seen};
-ghost use Rattle.ps_live.specs.Asking.{fed};
+ghost use Rattle.ps_watching.specs.LiveAsking.{fed};
 ghost use Rattle.ps_workbench.specs.Answering.{Answers, IsAnswered, IsCutOff, IsUnreadBy, Stops};
 ghost use Rattle.ps_bench_base.specs.Ending.{IsUnread, exit_number, stop_status};
 ghost use Rattle.ps_bench_base.specs.Stopping.{TookNothing};
@@ -19,7 +19,6 @@ use ps_bench_words::{Asked, asked_of, texts_of};
 use ps_campaigning::{Campaign, CampaignAsked, campaign, sum};
 use ps_explaining::{WhyAsked, why};
 use ps_hearing::Listener;
-use ps_live::{LiveAsked, live};
 use ps_never::{NeverAsked, never};
 use ps_outside::{Files, Output, write_all};
 use ps_reporting::{ReportAsked, report};
@@ -28,7 +27,7 @@ use ps_search::Observer;
 use ps_stream::Stream;
 use ps_telling::{Names, tell};
 use ps_tester::{TestAsked, expand, test};
-use ps_watching::{TraceAsked, WatchAsked, trace, watch};
+use ps_watching::{LiveAsked, TraceAsked, WatchAsked, live, trace, watch};
 use ps_words::Words;
 use std::alloc::Global;
 

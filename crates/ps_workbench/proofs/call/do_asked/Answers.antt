@@ -7,7 +7,7 @@ use Rattle.ps_bench_base.specs.Meant.{file_meant}
 use Rattle.ps_bench_base.specs.declared.ending.Status.TheVariants.{Done}
 use Rattle.ps_bench_words.specs.Seen.{asked_seen, seen}
 use Rattle.ps_bench_words.specs.declared.asking.Asked.{Asked}
-use Rattle.ps_live.specs.Asking.{fed}
+use Rattle.ps_watching.specs.LiveAsking.{fed}
 use Rattle.ps_outside.specs.Outside.{Rose}
 use Rattle.ps_reporting.specs.Asking.{AnswersReport, StopsReport}
 use Rattle.ps_tester.specs.Stopping.{StopsTesting}

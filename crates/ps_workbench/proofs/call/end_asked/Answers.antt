@@ -1,6 +1,6 @@
 use Rattle.std.proofs.Common.{◌≡◌, ℕ, List, sym, subst}
 use Rattle.ps_bench_words.specs.Seen.{asked_seen}
-use Rattle.ps_live.specs.Asking.{fed}
+use Rattle.ps_watching.specs.LiveAsking.{fed}
 use Rattle.ps_workbench.specs.Answering.{IsCutOff}
 use Rattle.ps_workbench.proofs.Cut.{cut_off}
 use Rattle.ps_workbench.proofs.call.end_asked.Goals as goal

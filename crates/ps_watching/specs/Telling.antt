@@ -1,0 +1,29 @@
+-- Who makes the scans of a stream and tells of them, before the first.
+use Rattle.std.specs.Prelude.{◌≡◌, ◌≤◌, [], Bool, true, false}
+use Rattle.ps_model.specs.Network.{Network}
+use Rattle.ps_report.specs.Lines.{line_room}
+use Rattle.ps_runs.specs.Performing.{IsStruckWorldFor}
+use Rattle.ps_runs.specs.Running.{Fits, IsBeginning}
+use Rattle.ps_runs.specs.Watching.{IsWatchedFor}
+use Rattle.ps_watcher.specs.Names.{main_names}
+use Rattle.ps_watcher.specs.declared.format.Format.TheVariants.{Text}
+use Rattle.ps_watcher.specs.Watched.{IsBegun}
+use Rattle.ps_watcher.specs.Watcher.{IsWatcherFor}
+use Rattle.ps_watching.specs.declared.teller.Teller.{Teller}
+use Rattle.ps_watching.specs.declared.teller.Teller.TheVariants.{Lines, Names}
+
+-- whether scans are told by name
+abbrev pub is_by_name : Teller → Bool
+is_by_name (Lines runner) = false
+is_by_name (Names runner) = true
+
+-- who makes the scans and tells of them has the application's sizes
+abbrev pub IsTellerFor : Network → Teller → Type 0
+IsTellerFor net (Lines runner) = Fits (IsStruckWorldFor net) (λ room. line_room net ≤ room) net runner
+IsTellerFor net (Names runner) = Fits (IsWatchedFor IsStruckWorldFor net) (IsWatcherFor net) net runner
+
+-- The run is at its beginning, and no fault strikes it; by name the outputs and the codes of instances are told.
+abbrev pub IsUntold : Network → Teller → Type 0
+IsUntold net (Lines runner) = IsBeginning net runner.performer × (runner.performer.faults ≡ [])
+IsUntold net (Names runner) =
+    IsBegun net Text (main_names net) runner.performer runner.taker × (runner.performer.performer.faults ≡ [])

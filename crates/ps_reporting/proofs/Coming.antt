@@ -9,7 +9,7 @@ use Rattle.ps_bench_base.specs.Opening.{IsOfApp, Source, source}
 use Rattle.ps_bench_base.specs.declared.ending.Status.{Status}
 use Rattle.ps_bench_base.specs.declared.ending.Stop.{Stop}
 use Rattle.ps_bench_base.specs.declared.ending.Stop.TheVariants.{UnreadApp}
-use Rattle.ps_markup.specs.declared.page.Piece.{Piece}
+use Rattle.ps_reporting.specs.declared.page.Piece.{Piece}
 use Rattle.ps_model.specs.Network.{Network}
 use Rattle.ps_model.specs.declared.channel.ImageSizes.{ImageSizes}
 use Rattle.ps_outside.specs.Outside.{Rose}
@@ -17,7 +17,7 @@ use Rattle.ps_outside.specs.declared.reading.ReadFail.{ReadFail}
 use Rattle.ps_outside.specs.declared.reading.ReadFail.TheVariants.{Fault, Memory}
 use Rattle.ps_reporting.specs.Asking.{AnswersReport, Ends, IsPageOf, IsReport, StopsReport}
 use Rattle.ps_reporting.specs.Results.{cases_rows, files_rows}
-use Rattle.ps_markup.specs.Paged.{Paged}
+use Rattle.ps_reporting.specs.Paged.{Paged}
 use Rattle.ps_reporting.specs.Running.{EndsPage, MakesPage, ShowsCases, stop_by}
 use Rattle.ps_reporting.specs.Sections.{HaveSections, cases_of}
 use Rattle.ps_tester.proofs.Stopped.{any_behind}

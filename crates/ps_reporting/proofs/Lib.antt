@@ -1,3 +1,13 @@
+-- what a case expects, and what a recorder makes of the scans of its run
+pub mod Expecting
+pub mod Films
+pub mod Seeing
+pub mod Recorded
+pub mod Lasting
+pub mod Stopping
+pub mod Played
+-- the scans that pictures show
+pub mod Picturing
 -- cases that are shown, behind others, and the text of their pages
 pub mod Shown
 -- what a read leaves, and why a call stops by it

@@ -2,13 +2,13 @@
 use Rattle.std.proofs.Common.{◌≡◌, ◌∙◌, ℕ, List, [], ◌∷◌, ◌++◌, refl, ap, subst, sym, append_assoc}
 use Rattle.std.proofs.lemmas.Grind.{flat_map-append}
 use Rattle.std.proofs.lemmas.List.{append-nil}
-use Rattle.ps_markup.specs.Paged.{Adds, OnWhole, Paged}
-use Rattle.ps_markup.specs.Writing.{piece_text, written}
-use Rattle.ps_markup.specs.declared.page.Piece.{Piece}
-use Rattle.ps_page.specs.Results.{case_row}
+use Rattle.ps_reporting.specs.CaseRows.{case_row}
+use Rattle.ps_reporting.specs.Paged.{Adds, OnWhole, Paged}
 use Rattle.ps_reporting.specs.Results.{cases_rows, files_rows}
 use Rattle.ps_reporting.specs.Running.{ShowsCases}
 use Rattle.ps_reporting.specs.Sections.{HasSection, HaveSections, cases_of}
+use Rattle.ps_reporting.specs.Writing.{piece_text, written}
+use Rattle.ps_reporting.specs.declared.page.Piece.{Piece}
 use Rattle.ps_tester.specs.Testing.{FileRan}
 use Rattle.ps_told.specs.Outcome.{Ran}
 

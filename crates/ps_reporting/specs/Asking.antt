@@ -7,12 +7,12 @@ use Rattle.ps_bench_base.specs.declared.ending.Status.{Status}
 use Rattle.ps_bench_base.specs.declared.ending.Status.TheVariants.{Done}
 use Rattle.ps_bench_base.specs.declared.ending.Stop.{Stop}
 use Rattle.ps_bench_base.specs.declared.ending.Stop.TheVariants.{NoMemory, UnreadApp}
-use Rattle.ps_markup.specs.Writing.{written}
-use Rattle.ps_markup.specs.declared.page.Piece.{Piece}
 use Rattle.ps_model.specs.Network.{Network}
 use Rattle.ps_model.specs.declared.channel.ImageSizes.{ImageSizes}
 use Rattle.ps_reporting.specs.Results.{files_rows}
 use Rattle.ps_reporting.specs.Sections.{HaveSections, cases_of}
+use Rattle.ps_reporting.specs.Writing.{written}
+use Rattle.ps_reporting.specs.declared.page.Piece.{Piece}
 use Rattle.ps_tester.specs.Testing.{AreRanFiles, FileRan}
 
 -- The text is that of a page, each piece of which is the program's own or a value that is escaped; these rows stand in

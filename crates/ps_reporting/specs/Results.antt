@@ -1,8 +1,8 @@
 -- The rows of the results of files.
 use Rattle.std.specs.Prelude.{List}
 use Rattle.std.specs.List.{flat_map}
-use Rattle.ps_markup.specs.declared.page.Piece.{Piece}
-use Rattle.ps_page.specs.Results.{case_row}
+use Rattle.ps_reporting.specs.declared.page.Piece.{Piece}
+use Rattle.ps_reporting.specs.CaseRows.{case_row}
 use Rattle.ps_tester.specs.Testing.{FileRan}
 use Rattle.ps_told.specs.Outcome.{Ran}
 

@@ -7,11 +7,11 @@ use Rattle.ps_bench_base.specs.declared.ending.Status.{Status}
 use Rattle.ps_bench_base.specs.declared.ending.Status.TheVariants.{Done}
 use Rattle.ps_bench_base.specs.declared.ending.Stop.{Stop}
 use Rattle.ps_bench_base.specs.declared.ending.Stop.TheVariants.{NoMemory}
-use Rattle.ps_markup.specs.Paged.{Adds, OnWhole, Paged}
 use Rattle.ps_outside.specs.Outside.{Rose}
 use Rattle.ps_outside.specs.declared.reading.ReadFail.{ReadFail}
 use Rattle.ps_outside.specs.declared.reading.ReadFail.TheVariants.{Fault, Memory}
 use Rattle.ps_reporting.specs.Asking.{IsPageOf}
+use Rattle.ps_reporting.specs.Paged.{Adds, OnWhole, Paged}
 use Rattle.ps_reporting.specs.Results.{cases_rows}
 use Rattle.ps_reporting.specs.Sections.{HaveSections, cases_of}
 use Rattle.ps_tester.specs.Testing.{AreRanFiles, FileRan, IsRanFile}

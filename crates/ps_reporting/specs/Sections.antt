@@ -5,14 +5,14 @@ use Rattle.ps_bench_words.specs.declared.asking.Format.TheVariants.{Text}
 use Rattle.ps_cases.specs.Legible.{IsLegible}
 use Rattle.ps_cases.specs.Meant.{whole_case}
 use Rattle.ps_expand.specs.Alone.{alone}
-use Rattle.ps_markup.specs.Pieces.{element}
-use Rattle.ps_markup.specs.declared.names.Tag.TheVariants.{P, Section}
-use Rattle.ps_markup.specs.declared.page.Piece.{Piece}
-use Rattle.ps_markup.specs.declared.page.Piece.TheVariants.{End}
-use Rattle.ps_page.specs.Pictures.{ShowsDiagram}
-use Rattle.ps_page.specs.Played.{IsRecordingOf}
-use Rattle.ps_page.specs.Results.{case_front}
-use Rattle.ps_page.specs.declared.recording.Recording.{Recording}
+use Rattle.ps_reporting.specs.Pieces.{element}
+use Rattle.ps_reporting.specs.declared.names.Tag.TheVariants.{P, Section}
+use Rattle.ps_reporting.specs.declared.page.Piece.{Piece}
+use Rattle.ps_reporting.specs.declared.page.Piece.TheVariants.{End}
+use Rattle.ps_reporting.specs.Sheets.{ShowsDiagram}
+use Rattle.ps_reporting.specs.Played.{IsRecordingOf}
+use Rattle.ps_reporting.specs.CaseRows.{case_front}
+use Rattle.ps_reporting.specs.declared.recording.Recording.{Recording}
 use Rattle.ps_results.specs.Report.{case_text}
 use Rattle.ps_tester.specs.Testing.{FileRan}
 use Rattle.ps_told.specs.Outcome.{Ran, none_told}

@@ -5,21 +5,23 @@ ghost use Rattle.ps_accounting.specs.Leaving.{Leaves, LeavesOutput, sides};
 ghost use Rattle.ps_bench_base.specs.Ending.{IsUnread};
 ghost use Rattle.ps_bench_base.specs.Opening.{source};
 ghost use Rattle.ps_bench_words.specs.Seen.{seen};
-ghost use Rattle.ps_markup.specs.Writing.{written};
 ghost use Rattle.ps_model.specs.Typing.{Accepted};
 ghost use Rattle.ps_outside.specs.Outside.{Rose};
 ghost use Rattle.ps_reporting.specs.Asking.{AnswersReport, Ends, StopsReport};
 ghost use Rattle.ps_reporting.specs.Running.{EndsPage, MakesPage, ReadsFile};
+ghost use Rattle.ps_reporting.specs.Writing.{written};
 
+use crate::names::Tag;
+use crate::page::Page;
 use crate::running::{Bench, Pages, add_named, run_files, stop_by};
+use crate::tables::{add_foot, add_head, close_table, open_table};
 use crate::texts::{Shown, add_texts};
+use crate::writing::add_page;
 use ps_base::{Bytes, Memory};
 use ps_bench_base::{Sourced, Status, Stop, open_sourced};
 use ps_cover::Cover;
-use ps_markup::{Page, Tag, add_page};
 use ps_model::App;
 use ps_outside::{Files, Output, ReadFail, write_all};
-use ps_page::parts::{add_foot, add_head, close_table, open_table};
 use ps_source::read_source;
 use std::alloc::Global;
 

@@ -13,14 +13,14 @@ ghost use Rattle.ps_reporting.specs.Running.{EndsFile, EndsFiles, ReadsFile, Sho
 ghost use Rattle.ps_tester.specs.Testing.{AreRan, IsRan};
 ghost use Rattle.ps_told.specs.Outcome.{Ran};
 
+use crate::page::Page;
 use crate::showing::{add_section, add_shown};
+use crate::tables::{add_case, add_file};
 use ps_base::Memory;
 use ps_bench_base::{Opened, Stop, open_written_cases};
 use ps_cases::{Case, CaseFile};
 use ps_cover::Cover;
-use ps_markup::Page;
 use ps_outside::{Files, Output, ReadFail};
-use ps_page::parts::{add_case, add_file};
 use ps_tester::outcome_of;
 use ps_told::CaseRun;
 use ps_totals::name_of_file;

@@ -3,22 +3,24 @@
 ghost use Rattle.std.specs.Prelude.{◌≡◌, OnOk};
 ghost use Rattle.ps_cases.specs.Meant.{whole_case};
 ghost use Rattle.ps_cases.specs.Runnable.{IsRunnable};
-ghost use Rattle.ps_markup.specs.Paged.{OnWhole};
 ghost use Rattle.ps_model.specs.Typing.{Accepted};
+ghost use Rattle.ps_reporting.specs.Paged.{OnWhole};
 ghost use Rattle.ps_reporting.specs.Sections.{HasDiagram, HasSection};
 ghost use Rattle.ps_told.specs.Outcome.{ran_of};
 
+use crate::diagram::add_diagram;
+use crate::names::Tag;
+use crate::page::Page;
+use crate::playing::record_case;
+use crate::tables::open_case;
 use ps_accounting::add_trace;
 use ps_base::{Bytes, Memory};
 use ps_bench_base::pieces::add_short;
 use ps_bench_words::Format;
 use ps_cases::{Case, CaseFile};
 use ps_cover::Cover;
-use ps_markup::{Page, Tag};
 use ps_model::App;
 use ps_outside::TextFail;
-use ps_page::parts::open_case;
-use ps_page::{add_diagram, record_case};
 use ps_results::report::case_report;
 use ps_told::{CaseRun, Tally};
 use ps_trace::TraceReader;

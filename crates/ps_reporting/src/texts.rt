@@ -3,6 +3,9 @@
 ghost use Rattle.std.specs.Prelude.{◌≡◌};
 ghost use Rattle.ps_model.specs.Typing.{Accepted};
 
+use crate::names::Tag;
+use crate::page::Page;
+use crate::tables::add_text;
 use ps_accounting::operand_places;
 use ps_base::{Bytes, Memory};
 use ps_bench_base::pieces::add_short;
@@ -10,10 +13,8 @@ use ps_cover::{Cover, Exclusions};
 use ps_coverage::{Format, Told, coverage_text};
 use ps_demand::{NoLines, demand_lines};
 use ps_detail::placed_notes;
-use ps_markup::{Page, Tag};
 use ps_model::App;
 use ps_noted::note_line;
-use ps_page::parts::add_text;
 use ps_parser::Source;
 use std::alloc::Global;
 

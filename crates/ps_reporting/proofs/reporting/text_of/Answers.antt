@@ -1,7 +1,7 @@
 use Rattle.std.proofs.Common.{◌∙◌, ◌++◌, ap}
-use Rattle.ps_markup.specs.Writing.{written}
 use Rattle.ps_reporting.proofs.Shown.{pages_behind, text_behind}
 use Rattle.ps_reporting.proofs.reporting.text_of.Goals as goal
+use Rattle.ps_reporting.specs.Writing.{written}
 
 pub returns : goal.returns
 returns c =

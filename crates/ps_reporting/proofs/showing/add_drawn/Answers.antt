@@ -2,8 +2,8 @@ use Rattle.std.proofs.Common.{Option, inl, inr, subst}
 use Rattle.std.specs.Prelude.{IsSomeAnd}
 use Rattle.std.proofs.lemmas.Result.{on_ok_weaker}
 use Rattle.ps_cases.specs.Meant.{whole_case}
-use Rattle.ps_page.specs.Played.{IsRecordingOf}
-use Rattle.ps_page.specs.declared.recording.Recording.{Recording}
+use Rattle.ps_reporting.specs.Played.{IsRecordingOf}
+use Rattle.ps_reporting.specs.declared.recording.Recording.{Recording}
 use Rattle.ps_reporting.proofs.showing.add_drawn.Goals as goal
 
 pub returns-in_ok-id-in-Some : goal.returns-in_ok-id-in-Some

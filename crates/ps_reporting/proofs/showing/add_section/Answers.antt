@@ -1,7 +1,7 @@
 use Rattle.std.proofs.Common.{◌++◌, ◌∙◌, List, ap, subst}
 use Rattle.ps_bench_words.specs.declared.asking.Format.TheVariants.{Text}
-use Rattle.ps_markup.specs.declared.page.Piece.{Piece}
-use Rattle.ps_page.specs.Results.{case_front}
+use Rattle.ps_reporting.specs.declared.page.Piece.{Piece}
+use Rattle.ps_reporting.specs.CaseRows.{case_front}
 use Rattle.ps_results.specs.Report.{case_text}
 use Rattle.ps_reporting.specs.Sections.{HasDiagram}
 use Rattle.ps_told.specs.Outcome.{ran_of}

@@ -73,6 +73,7 @@ pub record Film : Type 0 where
   pub frames : List Frame
   pub is_cut : Bool
 
+-- the film that a recording holds
 abbrev pub film_of : Recording → Film
 film_of r = record { names = r.names.items; frames = map frame_of r.moments.items; is_cut = r.is_cut }
 

@@ -2,8 +2,8 @@
 use Rattle.std.specs.Prelude.{ℕ, Bool, true, ◌==◌, List, [], ◌∷◌, ◌++◌, codes, decimal, if◌then◌else◌}
 use Rattle.std.specs.Prelude.{filter, map, slice_index_or}
 use Rattle.std.specs.List.{flat_map, list_any}
-use Rattle.ps_lanes.specs.Lanes.{merged}
-use Rattle.ps_lanes.specs.declared.lanes.Span.{Span}
+use Rattle.ps_values.specs.Lanes.{merged}
+use Rattle.ps_values.specs.declared.lanes.Span.{Span}
 use Rattle.ps_reporting.specs.Picture.{band_pieces, level_pieces, name_pieces, path_pieces, upright_text, words_pieces}
 use Rattle.ps_reporting.specs.Pieces.{element, marked}
 use Rattle.ps_reporting.specs.declared.names.Key.TheVariants.{Scope}

@@ -1,8 +1,8 @@
 -- Words, lines and bands of a picture, as pieces of a page.
 use Rattle.std.specs.Prelude.{ℕ, ◌==◌, ◌+◌, ◌-◌, ◌*◌, ◌/◌, ◌&&◌, List, [], ◌∷◌, ◌++◌, codes, decimal, if◌then◌else◌}
 use Rattle.std.specs.Prelude.{length, min, nat_le, take}
-use Rattle.ps_lanes.specs.Lanes.{line_text, merged, start_text, step_text}
-use Rattle.ps_lanes.specs.declared.lanes.Span.{Span}
+use Rattle.ps_values.specs.Lanes.{line_text, merged, start_text, step_text}
+use Rattle.ps_values.specs.declared.lanes.Span.{Span}
 use Rattle.ps_reporting.specs.Pieces.{class_pieces, element}
 use Rattle.ps_reporting.specs.declared.names.Key.TheVariants.{D, Height, Width, X, Y}
 use Rattle.ps_reporting.specs.declared.names.Tag.TheVariants.{Path, Rect, Text, Title}

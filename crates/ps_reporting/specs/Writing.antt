@@ -1,7 +1,7 @@
 -- The text of a page: each piece is one of the program's own, or a value that is escaped.
 use Rattle.std.specs.Prelude.{ℕ, List, ◌++◌, codes}
 use Rattle.std.specs.List.{flat_map}
-use Rattle.ps_escape.specs.Escaping.{attribute_text, escaped}
+use Rattle.ps_values.specs.Escaping.{attribute_text, escaped}
 use Rattle.ps_reporting.specs.Names.{key_name, tag_name}
 use Rattle.ps_reporting.specs.declared.names.Tag.{Tag}
 use Rattle.ps_reporting.specs.declared.page.Piece.{Piece}

@@ -10,7 +10,7 @@ use crate::picture::{TOP, add_band, add_level, add_path, add_row_name, add_uprig
 use crate::recording::{Course, Moment};
 use crate::scale::Scan;
 use ps_base::{Bytes, Memory};
-use ps_lanes::{Span, merged};
+use ps_values::{Span, merged};
 use ps_model::App;
 use ps_terms::Name;
 use ps_told::{add_name, add_value};

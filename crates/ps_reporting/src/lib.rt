@@ -5,7 +5,7 @@
 //!
 //! - `names`: the elements and attributes that a page may have, which are the program's own.
 //! - `page`: the pieces, and a page that is made of them. `parts`: several pieces at once.
-//! - `writing`: the text of a page, with its values as ps_escape writes them. `picture`: words, lines and bands of a
+//! - `writing`: the text of a page, with its values as ps_values writes them. `picture`: words, lines and bands of a
 //!   picture.
 //!
 //! Recording:

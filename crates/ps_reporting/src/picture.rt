@@ -9,7 +9,7 @@ use crate::names::{Key, Tag};
 use crate::page::Page;
 use crate::parts::{Part, add_parts};
 use ps_base::{Bytes, Memory};
-use ps_lanes::{Span, add_start, add_step, line_of, merged};
+use ps_values::{Span, add_start, add_step, line_of, merged};
 use std::alloc::Global;
 
 /// How far the lines of a picture are from one another.

@@ -6,7 +6,7 @@ ghost use Rattle.ps_reporting.specs.Writing.{begin_text, end_text, piece_text, w
 use crate::names::{Tag, key_name, tag_name};
 use crate::page::{Page, Piece};
 use ps_base::{Bytes, Memory};
-use ps_escape::{add_attribute, add_escaped};
+use ps_values::{add_attribute, add_escaped};
 
 /// The beginning of every page: its language, its letters, and how it looks on a screen and on paper.
 pub(crate) const PROLOGUE: &[u8] = b"<!DOCTYPE html>

@@ -1,2 +1,0 @@
--- the value at a place of spans that are merged
-pub mod Merging

@@ -1,2 +1,0 @@
--- values in scans side by side, and the line of a signal
-pub mod Lanes

@@ -10,10 +10,10 @@ use crate::picture::{TOP, add_band, add_level, add_path, add_row_name, add_uprig
 use crate::recording::{Course, Moment};
 use crate::scale::Scan;
 use ps_base::{Bytes, Memory};
-use ps_values::{Span, merged};
 use ps_model::App;
 use ps_terms::Name;
 use ps_told::{add_name, add_value};
+use ps_values::{Span, merged};
 use std::alloc::Global;
 
 /// A name that is drawn: its number among the names of the case, and the number of its line in the picture.

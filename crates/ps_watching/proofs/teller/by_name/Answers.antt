@@ -8,14 +8,16 @@ returns-in-Ok-for_app c =
     let watcher = c.in-Ok.ensures in
     record {
       fits = made.fits;
-      untold = rw (made.performer, made.taker)
-          (record {
-            world = rw watched.performer c.requires.begins;
-            evaluator = watched.first;
-            format_is = watcher.format_is;
-            names_are = watcher.names_are;
-            is_first = watcher.is_first;
-            not_restarted = watcher.not_restarted;
-          }, rw watched.performer c.requires.spared);
+      untold = rw (made.performer, made.taker) (
+        record {
+          world = rw watched.performer c.requires.begins;
+          evaluator = watched.first;
+          format_is = watcher.format_is;
+          names_are = watcher.names_are;
+          is_first = watcher.is_first;
+          not_restarted = watcher.not_restarted;
+        },
+        rw watched.performer c.requires.spared,
+      );
       by_name = refl;
     }

@@ -7,7 +7,8 @@ ghost use Rattle.ps_model.specs.Network.{input_count};
 ghost use Rattle.ps_model.specs.Typing.{Accepted};
 ghost use Rattle.ps_watching.specs.Leaving.{Leaves, side};
 ghost use Rattle.ps_watching.specs.Living.{RunsStream};
-ghost use Rattle.ps_watching.specs.Telling.{IsFirstTeller, IsFirstWatcher, IsFirstWorld, IsTellerFor, IsUntold, is_by_name};
+ghost use Rattle.ps_watching.specs.Telling.{IsFirstTeller, IsFirstWatcher, IsFirstWorld};
+ghost use Rattle.ps_watching.specs.Telling.{IsTellerFor, IsUntold, is_by_name};
 
 use crate::answering::answer_lines;
 use crate::feed::Feed;

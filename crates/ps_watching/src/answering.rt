@@ -41,11 +41,17 @@ pub(crate) fn answer_lines<I: Stream, O: Output, P: Performer, T: Taker<P>>(
         (side (O.held_back out.new) (O.faults out.new) (O.tells out.new)) }
 {
     'lines: for _count in 0..u64::MAX {
-        let fed = feed.next_item(input, &mut runner.scan)?;
+        let fed = match feed.next_item(input, &mut runner.scan) {
+            Ok(fed) => fed,
+            Err(stop) => return Err(Cut::from(stop)),
+        };
         if is_over(fed) {
             return Ok(());
         }
-        answer_fed(app, fed, runner, out)?;
+        match answer_fed(app, fed, runner, out) {
+            Ok(()) => {}
+            Err(cut) => return Err(cut),
+        }
     }
     Ok(())
 }

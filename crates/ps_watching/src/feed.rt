@@ -97,15 +97,26 @@ impl Feed {
         ensures counts { S.faults input.old ≤ S.faults input.new }
         ensures telling { S.tells input.new ≡ S.tells input.old }
     {
-        let mut lines = StreamLines::start(alloc, LONGEST_TRACE_LINE)?;
+        let mut lines = match StreamLines::start(alloc, LONGEST_TRACE_LINE) {
+            Ok(lines) => lines,
+            Err(Memory) => return Err(TraceFail::Memory),
+        };
         let mut number = 1;
         'lines: for _ in 0..u64::MAX {
-            let came = lines.next_line(input)?;
-            match header_of(alloc, &lines, came, app)? {
-                HeaderSays::Nothing => number = number_behind(number, came),
-                HeaderSays::Broken(rule) => return Err(TraceFail::Refused(at_line(rule, number))),
-                HeaderSays::Places(places) => {
-                    let values = vec![in alloc; false; places.len()]?;
+            let came = match lines.next_line(input) {
+                Ok(came) => came,
+                Err(Failed) => return Err(TraceFail::Fault),
+            };
+            match header_of(alloc, &lines, came, app) {
+                Ok(HeaderSays::Nothing) => number = number_behind(number, came),
+                Ok(HeaderSays::Broken(rule)) => return Err(TraceFail::Refused(at_line(
+                    rule, number,
+                ))),
+                Ok(HeaderSays::Places(places)) => {
+                    let values = match vec![in alloc; false; places.len()] {
+                        Ok(values) => values,
+                        Err(_) => return Err(TraceFail::Memory),
+                    };
                     return Ok(Feed {
                         lines,
                         places,
@@ -115,6 +126,7 @@ impl Feed {
                         ended: is_last(came),
                     });
                 }
+                Err(Memory) => return Err(TraceFail::Memory),
             }
         }
         Err(TraceFail::Memory)

@@ -169,9 +169,13 @@ impl StreamLines {
         ensures longest { self.new.longest ≡ self.old.longest }
     {
         self.move_down();
-        let n = input.read_some(&mut self.bytes[self.upto..])?;
-        self.upto += n;
-        Ok(n)
+        match input.read_some(&mut self.bytes[self.upto..]) {
+            Ok(n) => {
+                self.upto += n;
+                Ok(n)
+            }
+            Err(Failed) => Err(Failed),
+        }
     }
 
     // What is held is moved to the first places.

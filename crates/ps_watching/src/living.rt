@@ -29,17 +29,6 @@ pub(crate) enum LiveStop {
     Memory,
 }
 
-impl From<Memory> for LiveStop {
-    ghost use Rattle.std.specs.Prelude.{◌≡◌};
-    ghost use Rattle.ps_watching.specs.declared.living.LiveStop.TheVariants.{Memory as IsNoMemory};
-
-    ghost from_gives = { λ _ stop. stop ≡ IsNoMemory };
-
-    fn from(_memory: Memory) -> LiveStop {
-        LiveStop::Memory
-    }
-}
-
 // The reason why the lines of a stream were not all done.
 fn stop_of(cut: Cut) -> LiveStop
     ensures { result ≡ stop_by cut }
@@ -118,9 +107,11 @@ pub(crate) fn run_stream<I: Stream, O: Output>(
         (side [] (O.faults out.old) (O.tells out.old))
         (side (O.held_back out.new) (O.faults out.new) (O.tells out.new)) }
 {
-    let mut teller = first_teller(alloc, app, names)?;
-    match hand_on(out) {
-        Ok(()) => run_behind(alloc, app, &mut teller, input, out),
-        Err(Failed) => Err(LiveStop::Unwritten),
+    match first_teller(alloc, app, names) {
+        Ok(mut teller) => match hand_on(out) {
+            Ok(()) => run_behind(alloc, app, &mut teller, input, out),
+            Err(Failed) => Err(LiveStop::Unwritten),
+        },
+        Err(Memory) => Err(LiveStop::Memory),
     }
 }

@@ -1,14 +1,13 @@
 // Who makes the scans of a stream, and who tells of them: by report lines, or by name.
 
-ghost use Rattle.std.specs.Prelude.{◌≡◌, [], ℕ, true, false, List, IsTrue, IfOk, Err};
+ghost use Rattle.std.specs.Prelude.{◌≡◌, ℕ, true, false, List, IsTrue, IfOk, Err};
 ghost use Rattle.ps_watching.specs.Feeding.{IsBehind, inputs_of_feed, lines_left};
 ghost use Rattle.ps_watching.specs.Streaming.{fed_lines};
 ghost use Rattle.ps_model.specs.Network.{input_count};
 ghost use Rattle.ps_model.specs.Typing.{Accepted};
-ghost use Rattle.ps_runs.specs.Performing.{IsStruckWorldFor};
-ghost use Rattle.ps_runs.specs.Running.{IsBeginning};
 ghost use Rattle.ps_watching.specs.Leaving.{Leaves, side};
 ghost use Rattle.ps_watching.specs.Living.{RunsStream};
+ghost use Rattle.ps_watching.specs.Telling.{IsFirstTeller, IsFirstWatcher, IsFirstWorld};
 ghost use Rattle.ps_watching.specs.Telling.{IsTellerFor, IsUntold, is_by_name};
 
 use crate::answering::answer_lines;
@@ -26,7 +25,6 @@ use ps_world::World;
 use std::alloc::Global;
 
 /// Who makes the scans of a stream, and who tells of them.
-#[derive(Drop)]
 pub(crate) enum Teller {
     /// By report lines.
     Lines(Runner<StruckWorld, LineBuffer>),
@@ -34,59 +32,82 @@ pub(crate) enum Teller {
     Names(Runner<Watched<StruckWorld>, Watcher>),
 }
 
+impl Drop for Teller {
+    // One call for whoever owns one, in place of a walk through all that it holds.
+    fn drop(self) {
+        match self {
+            Teller::Lines(_) | Teller::Names(_) => {}
+        }
+    }
+}
+
 // The world of an application at the beginning of a run without faults.
 fn first_world(alloc: Global, app: &App) -> Result<StruckWorld, Memory>
     requires { Accepted app.now }
-    ensures begins { IfOk result (IsBeginning app.now) }
-    ensures fits { IfOk result (IsStruckWorldFor app.now) }
-    ensures spared { IfOk result (λ world. world.faults ≡ []) }
+    ensures { IfOk result (IsFirstWorld app.now) }
 {
-    let world = World::build(alloc, app)?;
-    let struck = StruckWorld::new(world, Faults::new(alloc));
-    Ok(struck)
+    match World::build(alloc, app) {
+        Ok(world) => Ok(StruckWorld::new(world, Faults::new(alloc))),
+        Err(memory) => Err(memory),
+    }
 }
 
 // Who tells of a world by report lines, before the first scan.
 fn by_lines(alloc: Global, app: &App, world: StruckWorld) -> Result<Teller, Memory>
-    requires fits { IsStruckWorldFor app.now world }
-    requires begins { IsBeginning app.now world }
-    requires spared { world.faults ≡ [] }
-    ensures fits { IfOk result (IsTellerFor app.now) }
-    ensures untold { IfOk result (IsUntold app.now) }
-    ensures by_lines { IfOk result (λ teller. is_by_name teller ≡ false) }
+    requires { IsFirstWorld app.now world }
+    ensures { IfOk result (IsFirstTeller false app.now) }
 {
-    let lines = LineBuffer::for_app(alloc, app)?;
-    Ok(Teller::Lines(Runner::for_app(alloc, app, world, lines)?))
+    match LineBuffer::for_app(alloc, app) {
+        Ok(lines) => match Runner::for_app(alloc, app, world, lines) {
+            Ok(runner) => Ok(Teller::Lines(runner)),
+            Err(memory) => Err(memory),
+        },
+        Err(memory) => Err(memory),
+    }
+}
+
+// Who writes the outputs and the states of instances as text, before the first scan.
+fn first_watcher(alloc: Global, app: &App) -> Result<Watcher, Memory>
+    ensures { IfOk result (IsFirstWatcher app.now) }
+{
+    match main_names(alloc, app) {
+        Ok(names) => Watcher::new(alloc, app, Format::Text, names.as_slice()),
+        Err(memory) => Err(memory),
+    }
 }
 
 // Who tells of a world by name, before the first scan.
 fn by_name(alloc: Global, app: &App, world: StruckWorld) -> Result<Teller, Memory>
-    requires fits { IsStruckWorldFor app.now world }
-    requires begins { IsBeginning app.now world }
-    requires spared { world.faults ≡ [] }
-    ensures fits { IfOk result (IsTellerFor app.now) }
-    ensures untold { IfOk result (IsUntold app.now) }
-    ensures by_name { IfOk result (λ teller. is_by_name teller ≡ true) }
+    requires { IsFirstWorld app.now world }
+    ensures { IfOk result (IsFirstTeller true app.now) }
 {
-    let names = main_names(alloc, app)?;
-    let watcher = Watcher::new(alloc, app, Format::Text, names.as_slice())?;
-    let watched = Watched::new(alloc, app, world)?;
-    Ok(Teller::Names(Runner::for_app(alloc, app, watched, watcher)?))
+    match first_watcher(alloc, app) {
+        Ok(watcher) => match Watched::new(alloc, app, world) {
+            Ok(watched) => match Runner::for_app(alloc, app, watched, watcher) {
+                Ok(runner) => Ok(Teller::Names(runner)),
+                Err(memory) => Err(memory),
+            },
+            Err(memory) => Err(memory),
+        },
+        Err(memory) => Err(memory),
+    }
 }
 
 /// Who makes the scans of an application without faults, and tells of them by name or by report lines, before the
 /// first. It takes all memory that the run will use.
 pub(crate) fn first_teller(alloc: Global, app: &App, names: bool) -> Result<Teller, Memory>
     requires { Accepted app.now }
-    ensures fits { IfOk result (IsTellerFor app.now) }
-    ensures untold { IfOk result (IsUntold app.now) }
-    ensures by_name { IfOk result (λ teller. is_by_name teller ≡ names) }
+    ensures { IfOk result (IsFirstTeller names app.now) }
 {
-    let world = first_world(alloc, app)?;
-    if names {
-        by_name(alloc, app, world)
-    } else {
-        by_lines(alloc, app, world)
+    match first_world(alloc, app) {
+        Ok(world) => {
+            if names {
+                by_name(alloc, app, world)
+            } else {
+                by_lines(alloc, app, world)
+            }
+        }
+        Err(memory) => Err(memory),
     }
 }
 

@@ -1,5 +1,4 @@
 use Rattle.std.proofs.Common.{◌≡◌, ◌∙◌, [], Bool, IsTrue, Ok, Err, length, inl, inr, refl, sym, ap, subst, arith}
-use Rattle.std.proofs.lemmas.Result.{err_from_is_err_and}
 use Rattle.ps_lines.specs.Lines.{HasNoLineFeed}
 use Rattle.ps_watching.specs.Feeding.{Gives, lines_left, waiting}
 use Rattle.ps_watching.specs.declared.feed.Fed.{Fed}
@@ -23,22 +22,21 @@ lines-init g c = record {
   still_telling = refl;
 }
 
-pub returns-in_err-fed : goal.returns-in_err-fed
-returns-in_err-fed g c =
+pub returns-in-Err : goal.returns-in-Err
+returns-in-Err g c =
     let inv = c.lines.invariant in
-    let stop = c.in_err-fed.field-0.0 in
-    let p = err_from_is_err_and c.from_residual.result c.from_residual.ensures.1 in
-    rw (p.1, p.2)
+    let stop = c.in-Err.stop in
+    rw c.from.ensures
     (record {
       answers = λ told number shown.
           let here : IsTrue (g.I.Stream.tells c.lines.input) = subst (λ (b : Bool). IsTrue b) (sym inv.telling) told in
           stop_answers _ _ _ c.args.feed.now number _ _ _ _ _ c.lines._count c.lines.feed _ _ _ _ (inv.went told number shown) (ap (λ v. v.items) inv.places) _ _
-          (λ refusal e. c.next_item.ensures.refuses here refusal (c.in_err-fed.was ∙ ap Err e))
-          (λ e. c.next_item.ensures.same_line here (c.in_err-fed.was ∙ ap Err e));
+          (λ refusal e. c.next_item.ensures.refuses here refusal (c.in-Err.is ∙ ap Err e))
+          (λ e. c.next_item.ensures.same_line here (c.in-Err.is ∙ ap Err e));
       all_came = λ is.
           let at : cut_of stop ≡ Unread = cc in
-          c.next_item.ensures.all_came (c.in_err-fed.was ∙ ap Err (cut_unread stop at));
-      leaves = leaves_stopped stop _ refl _ _ _ _ _ inv.reads (λ is. c.next_item.ensures.fault (c.in_err-fed.was ∙ ap Err is)) inv.handed_on inv.writes inv.still_telling;
+          c.next_item.ensures.all_came (c.in-Err.is ∙ ap Err (cut_unread stop at));
+      leaves = leaves_stopped stop _ refl _ _ _ _ _ inv.reads (λ is. c.next_item.ensures.fault (c.in-Err.is ∙ ap Err is)) inv.handed_on inv.writes inv.still_telling;
     })
 
 pub returns-then-is_over : goal.returns-then-is_over
@@ -50,7 +48,7 @@ returns-then-is_over g c =
           let here : IsTrue (g.I.Stream.tells c.lines.input) = subst (λ (b : Bool). IsTrue b) (sym inv.telling) told in
           let gives = subst (λ (fed : Fed). Gives fed c.lines.feed c.next_item.new.self c.lines.runner.scan c.next_item.new.into
           (lines_left c.lines.feed (coming c.lines.input)) (lines_left c.next_item.new.self (coming c.next_item.new.input)))
-          (c.is_over.ensures.over c.if-is_over.true) (c.in_ok-fed.ensures.gives here) in
+          (c.is_over.ensures.over c.if-is_over.true) (c.in-Ok.ensures.gives here) in
           all_answers _ _ _ c.args.feed.now number _ _ _ _ _ c.lines._count c.lines.feed _ _ _ _ (inv.went told number shown) (ap (λ v. v.items) inv.places) tt [] (inl gives.0);
       all_came = λ is. cc;
       leaves = leaves_whole _ refl _ _ _ _ inv.writes inv.still_telling;
@@ -59,38 +57,36 @@ returns-then-is_over g c =
 pub answer_fed-requires : goal.answer_fed-requires
 answer_fed-requires g c =
     let inv = c.lines.invariant in
-    let next = c.in_ok-fed.ensures in
+    let next = c.in-Ok.ensures in
     record {
       fits = record { performer = inv.fits.performer; taker = inv.fits.taker; inputs = next.fits ∙ inv.fits.inputs; outputs = inv.fits.outputs; diagnoses = inv.fits.diagnoses };
-      due = λ is. let time = c.next_item.ensures.time (c.in_ok-fed.was ∙ ap Ok is) in omega (arith, inv.due, next.rises, time);
+      due = λ is. let time = c.next_item.ensures.time (c.in-Ok.is ∙ ap Ok is) in omega (arith, inv.due, next.rises, time);
     }
 
-pub returns-in_err-answer_fed : goal.returns-in_err-answer_fed
-returns-in_err-answer_fed g c =
+pub returns-in-Err-answer_fed : goal.returns-in-Err-answer_fed
+returns-in-Err-answer_fed g c =
     let inv = c.lines.invariant in
-    let next = c.in_ok-fed.ensures in
-    let did = c.in_err-answer_fed.ensures in
-    let p = err_from_is_err_and c.from_residual-in_err-answer_fed.result c.from_residual-in_err-answer_fed.ensures.1 in
-    rw (p.1, p.2)
-    (record {
+    let next = c.in-Ok.ensures in
+    let did = c.in-Err-answer_fed.ensures in
+    record {
       answers = λ told number shown.
           let here : IsTrue (g.I.Stream.tells c.lines.input) = subst (λ (b : Bool). IsTrue b) (sym inv.telling) told in
           fed_answers _ _ _ c.args.feed.now number _ _ _ _ _ c.lines._count c.lines.feed _ _ _ _ (inv.went told number shown) (ap (λ v. v.items) inv.places)
-          c.in_ok-fed.fed c.next_item.new.self c.lines.runner.scan c.next_item.new.into _ (next.gives here) next.rises _ _ _ _ _ inv.still_telling did.does _;
+          c.in-Ok.fed c.next_item.new.self c.lines.runner.scan c.next_item.new.into _ (next.gives here) next.rises _ _ _ _ _ inv.still_telling did.does _;
       all_came = λ is. absurd {A = HasNoLineFeed (waiting c.next_item.new.self)} (did.hands_on.no_read is);
       leaves = leaves_cut _ _ _ _ _ _ inv.writes inv.still_telling did.hands_on;
-    })
+    }
 
 pub lines-preserved : goal.lines-preserved
 lines-preserved g c =
     let inv = c.lines.invariant in
-    let next = c.in_ok-fed.ensures in
-    let did = c.in_ok-answer_fed.ensures in
-    let fed = c.in_ok-fed.fed in
+    let next = c.in-Ok.ensures in
+    let did = c.in-Ok-answer_fed.ensures in
+    let fed = c.in-Ok.fed in
     record {
       fits = did.fits;
       due = let limit = due_on fed _ c.next_item.new.into.now c.lines.feed.last c.next_item.new.self.last inv.due next.rises
-          (λ is. c.next_item.ensures.time (c.in_ok-fed.was ∙ ap Ok is)) in omega (arith, did.due, limit);
+          (λ is. c.next_item.ensures.time (c.in-Ok.is ∙ ap Ok is)) in omega (arith, did.due, limit);
       inputs = ap (λ v. length v.items) next.places ∙ inv.inputs;
       places = next.places ∙ inv.places;
       went = λ told number shown.

@@ -1,7 +1,11 @@
+use Rattle.std.proofs.Common.{◌∙◌}
 use Rattle.ps_watching.proofs.teller.first_world.Goals as goal
 
-pub returns-clause-begins : goal.returns-clause-begins
-returns-clause-begins c = c.new-struck.ensures.begins c.args.app.now c.in_ok-world.ensures
-
-pub returns-clause-fits : goal.returns-clause-fits
-returns-clause-fits c = c.new-struck.ensures.fits c.args.app.now c.in_ok-world.ensures
+pub returns-in-Ok : goal.returns-in-Ok
+returns-in-Ok c =
+    let struck = c.new-in-Ok.ensures in
+    record {
+      fits = struck.fits c.args.app.now c.in-Ok.ensures;
+      begins = struck.begins c.args.app.now c.in-Ok.ensures;
+      spared = struck.faults ∙ c.new.ensures;
+    }

@@ -1,13 +1,12 @@
 use Rattle.std.proofs.Common.{◌≡◌, ◌∙◌, ◌≤◌, ◌<◌, ◌+◌, ◌-◌, ◌++◌, ℕ, List, length, take, drop, sym, ap, subst, arith, length-take, length-drop}
-use Rattle.std.proofs.lemmas.Result.{err_from_is_err_and}
 use Rattle.std.specs.Prelude.{vec_len}
 use Rattle.ps_lines.specs.Lines.{HasNoLineFeed}
 use Rattle.ps_watching.specs.Reading.{held_of}
 use Rattle.ps_watching.proofs.Feeds.{kept_part, read_more}
 use Rattle.ps_watching.proofs.lines.StreamLines.fetch.Goals as goal
 
-pub invariant_of-self : goal.invariant_of-self
-invariant_of-self g c =
+pub invariant_of-self-in-Err : goal.invariant_of-self-in-Err
+invariant_of-self-in-Err g c =
     let s = c.move_down.new.self in
     let within : s.upto ≤ length c.deref_mut.result.now = omega arith in
     let few : s.looked - s.from ≤ s.upto = omega arith in
@@ -22,8 +21,8 @@ invariant_of-self g c =
       shown_within = s.shown_within;
     }
 
-pub invariant_of-self-2 : goal.invariant_of-self-2
-invariant_of-self-2 g c =
+pub invariant_of-self : goal.invariant_of-self
+invariant_of-self g c =
     let s = c.move_down.new.self in
     let within : s.upto ≤ length c.deref_mut.result.now = omega arith in
     let few : s.looked - s.from ≤ s.upto = omega arith in
@@ -31,49 +30,47 @@ invariant_of-self-2 g c =
       room = s.room;
       in_order = s.in_order;
       held = omega arith;
-      within = omega (arith, c.in_ok-n.ensures.fits, length-take {A = ℕ}, length-drop {A = ℕ});
+      within = omega (arith, c.in-Ok.ensures.fits, length-take {A = ℕ}, length-drop {A = ℕ});
       none = subst HasNoLineFeed (sym (kept_part c.deref_mut.result.now s.bytes.items c.read_some.new.buf _ _ (vec_len s.bytes) s.from s.upto (s.looked - s.from)
           c.move_down.ensures.first c.deref_mut.ensures.value within s.within few)) s.none;
       shown = s.shown;
       shown_within = s.shown_within;
     }
 
-pub returns-in_err-n : goal.returns-in_err-n
-returns-in_err-n g c =
+pub returns-in-Err : goal.returns-in-Err
+returns-in-Err g c =
     let s = c.move_down.new.self in
     let within : s.upto ≤ length c.deref_mut.result.now = omega arith in
     let few : s.upto - s.from ≤ s.upto = omega arith in
     let keeps = kept_part c.deref_mut.result.now s.bytes.items c.read_some.new.buf _ _ (vec_len s.bytes) s.from s.upto (s.upto - s.from)
     c.move_down.ensures.first c.deref_mut.ensures.value within s.within few ∙ c.move_down.ensures.same in
-    let p = err_from_is_err_and c.from_residual.result c.from_residual.ensures.1 in
-    rw (p.1)
-    (record {
+    record {
       same = λ tells. ap (λ (held : List ℕ). held ++ g.S.Stream.coming c.read_some.new.self) keeps
-          ∙ ap (λ (bytes : List ℕ). held_of c.args.self.now ++ bytes) (c.in_err-n.ensures.unread tells);
+          ∙ ap (λ (bytes : List ℕ). held_of c.args.self.now ++ bytes) (c.in-Err.ensures.unread tells);
       end = λ tells is. cc;
       grows = tt;
       stays = λ is. cc;
       stays_looked_at = λ is. cc;
       none = keeps;
-      failed = c.in_err-n.ensures.failed;
+      failed = c.in-Err.ensures.failed;
       exact = tt;
       counts = c.read_some.ensures.counts;
       telling = c.read_some.ensures.telling;
       longest = c.move_down.ensures.longest;
-    })
+    }
 
-pub returns : goal.returns
-returns g c =
+pub returns-in-Ok : goal.returns-in-Ok
+returns-in-Ok g c =
     let s = c.move_down.new.self in
-    let n = c.in_ok-n.n in
+    let n = c.in-Ok.n in
     let within : s.upto ≤ length c.deref_mut.result.now = omega arith in
-    let room : s.upto + n ≤ vec_len s.bytes = omega (arith, c.in_ok-n.ensures.fits, length-take {A = ℕ}, length-drop {A = ℕ}) in
+    let room : s.upto + n ≤ vec_len s.bytes = omega (arith, c.in-Ok.ensures.fits, length-take {A = ℕ}, length-drop {A = ℕ}) in
     record {
       same = λ tells. read_more c.deref_mut.result.now s.bytes.items c.read_some.new.buf _ _ (vec_len s.bytes) s.from s.upto n _ _ _
-          c.move_down.ensures.first c.deref_mut.ensures.value within c.in_ok-n.ensures.fits room c.move_down.ensures.same (c.in_ok-n.ensures.gives tells);
+          c.move_down.ensures.first c.deref_mut.ensures.value within c.in-Ok.ensures.fits room c.move_down.ensures.same (c.in-Ok.ensures.gives tells);
       end = λ tells is.
           let some : 0 < length c.read_some.new.buf = omega (arith, length-take {A = ℕ}, length-drop {A = ℕ}) in
-          c.read_some.ensures.end tells some (c.in_ok-n.was ∙ is);
+          c.read_some.ensures.end tells some (c.in-Ok.is ∙ is);
       grows = omega (arith, c.move_down.ensures.first, c.move_down.ensures.size);
       stays = λ is.
           let none : n ≡ 0 = cc in
@@ -87,7 +84,7 @@ returns g c =
           omega (arith, none, c.move_down.ensures.all_looked_at);
       none = tt;
       failed = tt;
-      exact = c.in_ok-n.ensures.exact;
+      exact = c.in-Ok.ensures.exact;
       counts = c.read_some.ensures.counts;
       telling = c.read_some.ensures.telling;
       longest = c.move_down.ensures.longest;

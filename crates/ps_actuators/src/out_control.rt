@@ -11,7 +11,7 @@ use ps_block::{Image, Outs, Pins, SafetyBlock, Seen};
 use ps_model::Kind;
 
 /// A state of the table, one for each DiagCode.
-#[derive(Clone, Copy, PartialEq, Eq, Debug)]
+#[derive(Clone, Copy, PartialEq)]
 pub enum Phase {
     Idle,
     Init,
@@ -26,7 +26,7 @@ pub enum Phase {
 
 /// The state of an output control: the state of the table, the time in ms at which it was entered, and the
 /// Reset and the ProcessControl of the last step.
-#[derive(Clone, Copy, PartialEq, Eq, Debug)]
+#[derive(Clone, Copy)]
 pub struct OutControlState {
     phase: Phase,
     since: u32,

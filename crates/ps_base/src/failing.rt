@@ -7,7 +7,7 @@ use std::alloc::{AllocError, AllocFailed};
 use thiserror::Error;
 
 /// Memory is wanting. It is an answer of its own, merged with no other.
-#[derive(Clone, Copy, Debug, PartialEq, Eq)]
+#[derive(Clone, Copy, Debug, PartialEq)]
 pub struct Memory;
 
 impl From<AllocError> for Memory {
@@ -24,7 +24,7 @@ impl<T: Drop> From<AllocFailed<T>> for Memory {
 
 /// A place in a text: line and column, both counted from 1; a column counts bytes after the last line feed.
 /// Where a rule names a line alone, the column is 0.
-#[derive(Clone, Copy, Debug, PartialEq, Eq)]
+#[derive(Clone, Copy, Debug, PartialEq)]
 pub struct Place {
     pub line: u32,
     pub column: u32,
@@ -34,7 +34,7 @@ pub struct Place {
 ///
 /// L: tokens; P: grammar; N: names, drivers and limits; S: SAFEBOOL flow; C: the text of a certificate;
 /// O: objections to a certificate; T: traces; F: fault files; M: demand formulas; B: function blocks.
-#[derive(Clone, Copy, Debug, PartialEq, Eq)]
+#[derive(Clone, Copy, Debug, PartialEq)]
 pub enum Rule {
     L1,
     L2,
@@ -89,18 +89,18 @@ pub enum Rule {
 }
 
 /// A text is refused: by this rule, at this place.
-#[derive(Clone, Copy, Debug, PartialEq, Eq)]
+#[derive(Clone, Copy, Debug, PartialEq)]
 pub struct Refusal {
     pub rule: Rule,
     pub place: Place,
 }
 
 /// Why a text has no answer.
-#[derive(Clone, Copy, Debug, PartialEq, Eq, Error)]
+#[derive(Clone, Copy, Debug, PartialEq, Error)]
 pub enum Fail {
     #[error("memory is wanting")]
     Memory,
-    #[error("refused {:?} at line {} column {}", .0.rule, .0.place.line, .0.place.column)]
+    #[error("a rule refuses the text")]
     Refused(Refusal),
 }
 

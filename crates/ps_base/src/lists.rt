@@ -7,7 +7,7 @@ use std::alloc::Global;
 use std::marker::Model;
 
 /// Bytes, which contracts see as their list.
-#[derive(Drop, Debug)]
+#[derive(Drop)]
 pub struct Bytes {
     items: Vec<u8>,
 }
@@ -70,7 +70,7 @@ impl Bytes {
 }
 
 /// A name as it is spelt, which contracts see as its bytes.
-#[derive(Drop, Debug)]
+#[derive(Drop)]
 pub struct Label {
     text: String,
 }

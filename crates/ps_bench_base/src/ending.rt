@@ -51,7 +51,7 @@ pub fn exit_code(status: Status) -> u8
 }
 
 /// What a run or a search is made of beside the application.
-#[derive(Clone, Copy, PartialEq, Eq)]
+#[derive(Clone, Copy, PartialEq)]
 pub enum Input {
     /// A trace.
     Trace,

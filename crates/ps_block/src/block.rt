@@ -9,7 +9,7 @@ ghost use Rattle.ps_model.specs.PinBits.{pin_of};
 use ps_model::{Diag, Kind};
 
 /// The pins of a step, its limit and its time.
-#[derive(Clone, Copy, PartialEq, Eq, Debug)]
+#[derive(Clone, Copy)]
 pub struct Pins {
     /// Bit j is the kind's Boolean input pin j; higher bits are not read.
     pub bits: u32,
@@ -31,7 +31,7 @@ impl Pins {
 }
 
 /// What a block shows after a step.
-#[derive(Clone, Copy, PartialEq, Eq, Debug)]
+#[derive(Clone, Copy)]
 pub struct Outs {
     /// Bit j is the kind's safe output j; no further bit is set.
     pub safe: u16,

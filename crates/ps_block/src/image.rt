@@ -12,7 +12,7 @@ use ps_model::{Kind, auxiliary_pin, reset_pin};
 /// What the sixteen bytes of an instance hold (profile). Bytes 0 and 1 are the DiagCode, 2 the last
 /// Reset, 3 the last auxiliary input, 4 the latched mode, and 5 to 8 the time in ms at which the state
 /// was entered or restarted; numbers are big-endian, and bytes 9 to 15 are 0.
-#[derive(Clone, Copy, PartialEq, Eq, Debug)]
+#[derive(Clone, Copy)]
 pub struct Image {
     pub code: u16,
     pub last_reset: bool,

@@ -6,7 +6,7 @@ ghost use Rattle.ps_model.specs.PinBits.{pin_of};
 use crate::block::Pins;
 
 /// What the guards of a step see.
-#[derive(Clone, Copy, PartialEq, Eq, Debug)]
+#[derive(Clone, Copy)]
 pub struct Seen {
     /// The Boolean input pins: bit j is pin j.
     pub bits: u32,

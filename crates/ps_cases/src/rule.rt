@@ -7,7 +7,7 @@ use ps_base::Memory;
 use ps_outside::Failed;
 
 /// The rules by which a case file is refused.
-#[derive(Clone, Copy, PartialEq, Eq)]
+#[derive(Clone, Copy, PartialEq)]
 pub enum CaseRule {
     /// The form of a line; at the line behind the last one: there is no case.
     K1,

@@ -5,7 +5,7 @@ use std::marker::Model;
 
 /// The first objection to a certificate: its rule, O1 to O5, and a line of the certificate, counted from 1. O4 and O5
 /// stand one past the last line.
-#[derive(Clone, Copy, Debug, PartialEq, Eq)]
+#[derive(Clone, Copy)]
 pub struct Objection {
     pub line: u32,
     pub rule: Rule,
@@ -13,7 +13,7 @@ pub struct Objection {
 
 /// A certificate that was checked: the number of the application's nodes, and that of the certificate's lines.
 /// `check` alone makes one.
-#[derive(Drop, Debug)]
+#[derive(Drop)]
 pub struct Checked {
     nodes: u32,
     lines: u32,

@@ -8,14 +8,14 @@ use ps_base::Place;
 use ps_quoted::{cut_at, line_at};
 
 /// A position of the Language Server Protocol: line and column, both counted from 0; a column counts UTF-16 code units.
-#[derive(Clone, Copy, Debug, PartialEq, Eq)]
+#[derive(Clone, Copy)]
 pub struct Position {
     pub line: u32,
     pub character: u32,
 }
 
 /// A piece of a text, from a position up to but without another.
-#[derive(Clone, Copy, Debug, PartialEq, Eq)]
+#[derive(Clone, Copy)]
 pub struct Range {
     pub start: Position,
     pub end: Position,

@@ -15,7 +15,6 @@ use std::marker::Model;
 /// Channel C: a machine that runs decision code (profile). It has its own copy of the code and its cells, and
 /// remembers nothing else. Every turn reads its row from that code, so bytes that a fault replaced
 /// are run as they are. Of its calls only `new` takes memory.
-#[derive(Debug)]
 pub struct DecisionChannel {
     frame: Frame,
 }

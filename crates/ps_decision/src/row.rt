@@ -16,7 +16,7 @@ pub(crate) const END: u8 = 4;
 
 /// A row of decision code (profile). In code each begins with its opcode, from 1 for DECIDE to 4 for END, and numbers
 /// are big-endian. An operand names a pin cell or a signal; a place is an offset in the code.
-#[derive(Clone, Copy, PartialEq, Eq, Debug)]
+#[derive(Clone, Copy)]
 pub enum Row {
     /// Goes on at the place `yes_at` where the byte of this operand is 1, and at the place `no_at` where it is 0.
     Decide {

@@ -19,14 +19,14 @@ use std::alloc::Global;
 use thiserror::Error;
 
 /// Why the demands of an application's outputs are not written.
-#[derive(Clone, Copy, Debug, PartialEq, Eq, Error)]
+#[derive(Clone, Copy, Debug, Error)]
 pub enum NoLines {
     /// Memory is wanting.
     #[error("memory is wanting")]
     Memory,
     /// The demand of this signal has over 1,000 leaves before it is made slim. It is the first SAFEBOOL output of which
     /// that is so.
-    #[error("the demand of signal {0} has over 1,000 leaves")]
+    #[error("the demand of a signal has over 1,000 leaves")]
     Large(u16),
 }
 

@@ -8,7 +8,7 @@ use std::alloc::Global;
 const MOST_ODD: usize = 20;
 
 // Where among code and comments a byte of an application stands.
-#[derive(Clone, Copy, PartialEq, Eq)]
+#[derive(Clone, Copy, PartialEq)]
 enum Spot {
     Code,
     Line,

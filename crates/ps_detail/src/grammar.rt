@@ -8,7 +8,7 @@ use ps_model::kind_named;
 use std::alloc::Global;
 
 // Where among the declarations and statements of a text a token stands.
-#[derive(Clone, Copy, PartialEq, Eq)]
+#[derive(Clone, Copy, PartialEq)]
 enum Spot {
     Outside,
     Head,

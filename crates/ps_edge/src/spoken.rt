@@ -10,7 +10,7 @@ use ps_base::limits::{
 use ps_top::Words;
 
 /// The texts that a call is given.
-#[derive(Clone, Copy, PartialEq, Eq)]
+#[derive(Clone, Copy)]
 pub(crate) enum Spoken {
     App,
     Cert,

@@ -14,7 +14,7 @@ use std::marker::Model;
 /// Cells with plain bytes, which contracts see as the list of these bytes. They are kept in words of
 /// 64 bits: a value bit and an odd bit for each cell, and one byte for each cell that counts only
 /// where the odd bit is set.
-#[derive(Drop, Debug)]
+#[derive(Drop)]
 pub struct BitCells {
     value: Vec<u64>,
     odd: Vec<u64>,

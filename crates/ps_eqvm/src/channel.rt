@@ -17,7 +17,6 @@ use std::marker::Model;
 /// remembers nothing else of a scan. Contracts see both as bytes as they are stored: each byte of the cells is
 /// 255 less its plain value. Every turn reads its row from that code, so bytes that a fault replaced
 /// are run as they are. Of its calls only `new` takes memory.
-#[derive(Debug)]
 pub struct EquationChannel {
     sizes: Sizes,
     code: Vec<u8>,

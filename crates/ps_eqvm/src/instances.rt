@@ -11,7 +11,7 @@ use std::marker::Model;
 
 /// Sixteen bytes for each instance, one instance after the other, which contracts see as the list of
 /// their plain values. They are kept as they are stored: each is 255 less its plain value.
-#[derive(Drop, Debug)]
+#[derive(Drop)]
 pub struct InstanceBytes {
     stored: Vec<u8>,
 }

@@ -5,7 +5,7 @@ ghost use Rattle.ps_eqvm.specs.Opcodes.{byte_of_opcode};
 ghost use Rattle.ps_eqvm.specs.declared.opcode.Opcode.{Opcode};
 
 /// How a row gives its target the value of an operand.
-#[derive(Clone, Copy, PartialEq, Eq, Debug)]
+#[derive(Clone, Copy)]
 pub enum Gate {
     /// SET: the target becomes the value.
     Set,
@@ -16,7 +16,7 @@ pub enum Gate {
 }
 
 /// What a row does (profile).
-#[derive(Clone, Copy, PartialEq, Eq, Debug)]
+#[derive(Clone, Copy)]
 pub enum Opcode {
     /// LAST: the scan ends.
     Last,

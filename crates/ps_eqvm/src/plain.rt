@@ -22,7 +22,6 @@ use std::marker::Model;
 
 /// Channel B's cells, which contracts see with their plain content. The numbers are kept as numbers,
 /// the work cells and signals as bits, and the instances' bytes as they are stored.
-#[derive(Debug)]
 pub struct PlainCells {
     offset: u32,
     progress: u8,

@@ -4,7 +4,7 @@ ghost use Rattle.std.specs.Prelude.{◌≡◌};
 ghost use Rattle.ps_eqvm.specs.Traps.{number_of};
 
 /// Why a turn traps (profile). The numbers mean the same in every machine.
-#[derive(Clone, Copy, PartialEq, Eq, Debug)]
+#[derive(Clone, Copy)]
 pub enum Trap {
     /// 1: no row begins with this byte.
     UnknownOpcode,

@@ -8,7 +8,7 @@ use ps_columns::Range;
 use ps_report::rule_name;
 
 /// Which of the two a finding is.
-#[derive(Clone, Copy, Debug, PartialEq, Eq)]
+#[derive(Clone, Copy)]
 pub enum What {
     /// A rule refuses the text.
     Refused(Rule),

@@ -8,7 +8,7 @@ use std::marker::Model;
 pub const MOST_LINES: u32 = u32::MAX - 1;
 
 /// By which rule a line shows that its node is SAFEBOOL.
-#[derive(Clone, Copy, Debug, PartialEq, Eq)]
+#[derive(Clone, Copy)]
 pub enum LineRule {
     /// The node is a signal of type SAFEBOOL.
     Src,
@@ -20,7 +20,7 @@ pub enum LineRule {
 
 /// The lines that a line rests on, by their numbers, counted from 1. Contracts see them as a list of numbers of 32
 /// bits.
-#[derive(Drop, Debug)]
+#[derive(Drop)]
 pub struct Premises {
     items: Vec<u32>,
 }
@@ -36,7 +36,7 @@ impl Model for Premises {
 }
 
 /// One line of a certificate: the node that it speaks of, its rule, and the lines that it rests on.
-#[derive(Drop, Debug)]
+#[derive(Drop)]
 pub struct CertLine {
     pub node: u32,
     pub rule: LineRule,
@@ -45,7 +45,7 @@ pub struct CertLine {
 
 /// The lines of a certificate in order, at most `MOST_LINES`. Contracts see them as a list of lines, whose nodes and
 /// premises are numbers of 32 bits.
-#[derive(Drop, Debug)]
+#[derive(Drop)]
 pub struct Certificate {
     lines: Vec<CertLine>,
 }

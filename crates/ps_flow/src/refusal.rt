@@ -9,7 +9,7 @@ use thiserror::Error;
 
 /// The first step that SAFEBOOL flow refuses, by S1 to S4, and the number of its first such pin in the pin table.
 /// `pin` is None for S1, where the step is an assignment, and the pin's number otherwise.
-#[derive(Clone, Copy, Debug, PartialEq, Eq)]
+#[derive(Clone, Copy, Debug)]
 pub struct FlowRefusal {
     pub rule: Rule,
     pub step: u16,
@@ -17,11 +17,11 @@ pub struct FlowRefusal {
 }
 
 /// Why an application has no certificate: memory is wanting, or SAFEBOOL flow refuses it.
-#[derive(Clone, Copy, Debug, PartialEq, Eq, Error)]
+#[derive(Clone, Copy, Debug, Error)]
 pub enum FlowFail {
     #[error("memory is wanting")]
     Memory,
-    #[error("refused {:?} at step {}", .0.rule, .0.step)]
+    #[error("SAFEBOOL flow refuses the application")]
     Refused(FlowRefusal),
 }
 

@@ -10,7 +10,7 @@ use std::alloc::Global;
 use std::marker::Model;
 
 /// A keyword of the language, spelt in any letter case.
-#[derive(Clone, Copy, Debug, PartialEq, Eq)]
+#[derive(Clone, Copy, PartialEq)]
 pub enum Word {
     Program,
     EndProgram,
@@ -25,7 +25,7 @@ pub enum Word {
 }
 
 /// What a token is. The sign `&` is the word And.
-#[derive(Drop, Debug)]
+#[derive(Drop)]
 pub enum Form {
     Word(Word),
     /// A name, with its bytes as they are spelt.
@@ -42,7 +42,7 @@ pub enum Form {
 }
 
 /// A token: its span is `from` up to but without `upto`, and its place is that of its first byte.
-#[derive(Drop, Debug)]
+#[derive(Drop)]
 pub struct Token {
     pub form: Form,
     pub from: u32,
@@ -52,7 +52,7 @@ pub struct Token {
 
 /// Tokens in the order of the text, which contracts see as a list. Each name among them is a name of the language,
 /// each TIME literal is at most `LARGEST_TIME` ms, and there are at most `MOST_TOKENS` of them.
-#[derive(Drop, Debug)]
+#[derive(Drop)]
 pub struct TokenList {
     items: Vec<Token>,
 }
@@ -70,7 +70,7 @@ impl Model for TokenList {
 }
 
 /// The tokens of a text, and the place one past its last byte.
-#[derive(Drop, Debug)]
+#[derive(Drop)]
 pub struct Tokens {
     pub list: TokenList,
     pub end: Place,

@@ -14,7 +14,7 @@ use std::alloc::Global;
 const PIECE: usize = 4096;
 
 /// The limits of a text, in bytes.
-#[derive(Clone, Copy, Debug, PartialEq, Eq)]
+#[derive(Clone, Copy)]
 pub struct Limits {
     /// The most bytes of a line, without its line feed.
     pub longest: u32,
@@ -23,7 +23,7 @@ pub struct Limits {
 }
 
 /// What came next.
-#[derive(Clone, Copy, Debug, PartialEq, Eq)]
+#[derive(Clone, Copy, PartialEq)]
 pub enum Got {
     /// A line that a line feed ends.
     Line,

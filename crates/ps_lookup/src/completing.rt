@@ -10,7 +10,7 @@ use ps_model::{Kind, input_count, kind_name, kind_numbered, pin_count, pin_name}
 use std::alloc::Global;
 
 /// What an item of a completion is.
-#[derive(Clone, Copy, Debug, PartialEq, Eq)]
+#[derive(Clone, Copy)]
 pub enum Sort {
     Kind,
     Pin,

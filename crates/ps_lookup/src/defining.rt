@@ -6,7 +6,7 @@ use ps_base::{Memory, Place};
 use std::alloc::Global;
 
 /// Where a name is declared.
-#[derive(Clone, Copy, Debug, PartialEq, Eq)]
+#[derive(Clone, Copy)]
 pub struct Defined {
     /// Its place in the text that declares it.
     pub place: Place,

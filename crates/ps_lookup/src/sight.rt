@@ -35,7 +35,7 @@ impl Drop for Sight {
 }
 
 /// A declared name: the text that declares it, and the number of its token there.
-#[derive(Clone, Copy, Debug, PartialEq, Eq)]
+#[derive(Clone, Copy)]
 pub(crate) struct Declared {
     pub(crate) is_today: bool,
     pub(crate) at: usize,

@@ -22,7 +22,7 @@ use serde_json::{Value, json};
 use std::alloc::{AllocError, Global};
 
 /// How far a server is.
-#[derive(Clone, Copy, Debug, PartialEq, Eq)]
+#[derive(Clone, Copy, PartialEq)]
 pub enum Stage {
     /// It has not been asked to begin.
     Fresh,

@@ -11,7 +11,7 @@ use ps_rpc::{Frame, Incoming, Unsent, read_frame, send_reply};
 use std::alloc::Global;
 
 /// How a server ended.
-#[derive(Clone, Copy, Debug, PartialEq, Eq)]
+#[derive(Clone, Copy)]
 pub(crate) enum Ending {
     /// It was told to exit, after it was asked to shut down.
     Exit,

@@ -10,7 +10,6 @@ use std::alloc::Global;
 /// application, its own copy of the code, and its cells. In these the bytes of the signals begin at a place, and the
 /// sixteen bytes of each instance stand behind them. What the bytes before that place mean, and what a turn does, is
 /// the channel's own.
-#[derive(Debug)]
 pub struct Frame {
     /// The sizes of the application.
     pub sizes: Sizes,

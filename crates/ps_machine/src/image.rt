@@ -5,7 +5,7 @@ use std::alloc::Global;
 use std::marker::Model;
 
 /// Compiled code, which contracts see as its bytes: at most 4,294,967,295 of them. A channel runs any bytes.
-#[derive(Drop, Debug)]
+#[derive(Drop)]
 pub struct CodeImage {
     items: Vec<u8>,
 }

@@ -7,7 +7,7 @@ use ps_base::Rule;
 use ps_report::rule_name;
 
 /// What is said to a person whose text a rule refuses.
-#[derive(Clone, Copy, Debug, PartialEq, Eq)]
+#[derive(Clone, Copy)]
 pub struct Advice {
     /// The rule's name, as `N2`.
     pub name: &'static str,

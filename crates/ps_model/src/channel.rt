@@ -3,7 +3,7 @@
 use ps_base::Bytes;
 
 /// A channel of the world of two.
-#[derive(Clone, Copy, Debug, PartialEq, Eq)]
+#[derive(Clone, Copy, PartialEq)]
 pub enum Channel {
     /// Stack code.
     A,
@@ -12,7 +12,7 @@ pub enum Channel {
 }
 
 /// A region of a channel's bytes.
-#[derive(Clone, Copy, Debug, PartialEq, Eq)]
+#[derive(Clone, Copy, PartialEq)]
 pub enum Region {
     /// The code image.
     Code,
@@ -21,7 +21,7 @@ pub enum Region {
 }
 
 /// Why a scan is tripped.
-#[derive(Clone, Copy, Debug, PartialEq, Eq)]
+#[derive(Clone, Copy, PartialEq)]
 pub enum Cause {
     /// The reports differ, first in the field of this number.
     Differ(u16),
@@ -34,7 +34,7 @@ pub enum Cause {
 }
 
 /// The answer of a comparison.
-#[derive(Clone, Copy, Debug, PartialEq, Eq)]
+#[derive(Clone, Copy, PartialEq)]
 pub enum Verdict {
     /// The report is released.
     Released,
@@ -45,7 +45,7 @@ pub enum Verdict {
 }
 
 /// Where a channel stands in a scan.
-#[derive(Clone, Copy, Debug, PartialEq, Eq)]
+#[derive(Clone, Copy, PartialEq)]
 pub enum Progress {
     /// It runs.
     Running,
@@ -56,11 +56,11 @@ pub enum Progress {
 }
 
 /// The bytes that were to be replaced do not lie in the region.
-#[derive(Clone, Copy, Debug, PartialEq, Eq)]
+#[derive(Clone, Copy)]
 pub struct OutOfRegion;
 
 /// The lengths of the code and the cells of both channels, in bytes.
-#[derive(Clone, Copy, Debug, PartialEq, Eq)]
+#[derive(Clone, Copy)]
 pub struct ImageSizes {
     /// Of channel A's code.
     pub a_code: u32,
@@ -73,7 +73,7 @@ pub struct ImageSizes {
 }
 
 /// A line of a fault file: at one moment of a run some bytes of a channel are replaced.
-#[derive(Drop, Debug)]
+#[derive(Drop)]
 pub struct Fault {
     /// In this scan, counted from 1.
     pub scan: u32,

@@ -7,7 +7,7 @@ ghost use Rattle.ps_model.specs.Demand.{demand};
 use crate::kind::Kind;
 
 /// A part of a demand formula, which speaks of an input pin by its number.
-#[derive(Clone, Copy, PartialEq, Eq, Debug)]
+#[derive(Clone, Copy)]
 pub enum Need {
     /// The input pin is TRUE.
     On(u8),

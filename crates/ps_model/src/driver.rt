@@ -7,7 +7,7 @@ use ps_base::Memory;
 
 /// What drives a signal: the step that assigns it, or the step that calls the instance whose output it is.
 /// Steps, instances and the outputs of an instance are numbered from 0.
-#[derive(Clone, Copy, PartialEq, Eq, Debug)]
+#[derive(Clone, Copy)]
 pub enum Driver {
     /// A step assigns the signal.
     Assigned {

@@ -6,7 +6,7 @@ ghost use Rattle.ps_base.specs.LetterCase.{SameName};
 ghost use Rattle.ps_model.specs.declared.kind.Kind.{Kind};
 
 /// The type of a pin or a signal: SAFEBOOL, BOOL or TIME (PLCopen TC5, IEC 61131-3).
-#[derive(Clone, Copy, PartialEq, Eq, Debug)]
+#[derive(Clone, Copy, PartialEq)]
 pub enum Ty {
     /// SAFEBOOL.
     Safe,
@@ -17,7 +17,7 @@ pub enum Ty {
 }
 
 /// A kind of function block, of the thirteen that PLCopen TC5 names.
-#[derive(Clone, Copy, PartialEq, Eq, Debug)]
+#[derive(Clone, Copy, PartialEq)]
 pub enum Kind {
     /// SF_Equivalent.
     Equivalent,

@@ -10,7 +10,7 @@ use ps_base::Memory;
 use ps_base::limits::MOST_NODES;
 
 /// What a node of an expression is.
-#[derive(Clone, Copy, PartialEq, Eq, Debug)]
+#[derive(Clone, Copy)]
 pub enum Shape {
     /// A signal, by its number.
     Signal(u16),
@@ -21,7 +21,7 @@ pub enum Shape {
 }
 
 /// What an application lists of a node.
-#[derive(Clone, Copy, PartialEq, Eq, Debug)]
+#[derive(Clone, Copy)]
 pub struct Node {
     /// What it is.
     pub shape: Shape,

@@ -9,7 +9,7 @@ use crate::pin_tables::pins;
 
 /// A row of a kind's pin table: the pin's type, whether it is an input, and the value of a free
 /// Boolean input pin.
-#[derive(Clone, Copy, PartialEq, Eq, Debug)]
+#[derive(Clone, Copy)]
 pub struct PinRow {
     /// SAFEBOOL, BOOL or TIME.
     pub ty: Ty,

@@ -7,7 +7,7 @@ use std::alloc::Global;
 use std::marker::Model;
 
 /// What a scan takes in.
-#[derive(Drop, Debug)]
+#[derive(Drop)]
 pub struct Scan {
     /// The time in ms.
     pub now: u32,
@@ -16,7 +16,7 @@ pub struct Scan {
 }
 
 /// What a block says of itself (PLCopen TC5).
-#[derive(Clone, Copy, Debug, PartialEq, Eq)]
+#[derive(Clone, Copy, PartialEq)]
 pub struct Diag {
     /// Ready: the block is not in Idle.
     pub ready: bool,
@@ -27,7 +27,7 @@ pub struct Diag {
 }
 
 /// What each instance says of itself, in order, which contracts see as a list.
-#[derive(Drop, Debug)]
+#[derive(Drop)]
 pub struct Diags {
     items: Vec<Diag>,
 }
@@ -42,7 +42,6 @@ impl Model for Diags {
 }
 
 /// The report of a scan.
-#[derive(Debug)]
 pub struct Report {
     /// The values of the outputs, in order.
     pub outs: Bits,

@@ -10,7 +10,6 @@ use std::alloc::Global;
 
 /// The sizes of an application: how many signals, instances, inputs and outputs it has, and where the outputs of each
 /// instance stand.
-#[derive(Debug)]
 pub struct Sizes {
     /// How many signals there are, pin outputs among them.
     pub signals: u16,

@@ -6,7 +6,7 @@ use std::alloc::Global;
 use std::marker::Model;
 
 /// Truth values, which contracts see as a list.
-#[derive(Drop, Debug)]
+#[derive(Drop)]
 pub struct Bits {
     items: Vec<bool>,
 }
@@ -86,7 +86,7 @@ impl Bits {
 }
 
 /// First output signals of instances, which contracts see as a list.
-#[derive(Drop, Debug)]
+#[derive(Drop)]
 pub struct FirstPins {
     items: Vec<u16>,
 }
@@ -136,7 +136,7 @@ impl FirstPins {
 }
 
 /// Kinds of instances, which contracts see as a list.
-#[derive(Drop, Debug)]
+#[derive(Drop)]
 pub struct Kinds {
     items: Vec<Kind>,
 }

@@ -5,7 +5,7 @@ use ps_model::{Kind, Ty};
 use ps_parser::Name;
 
 /// What the name of a type stands for: SAFEBOOL or BOOL, or a kind of function block.
-#[derive(Clone, Copy, PartialEq, Eq, Debug)]
+#[derive(Clone, Copy)]
 pub enum TypeNamed {
     Signal(Ty),
     Block(Kind),
@@ -13,7 +13,7 @@ pub enum TypeNamed {
 
 /// What a declaration makes its name: a signal of a type in VAR_INPUT, VAR_OUTPUT or VAR, an instance of a kind in VAR,
 /// or nothing where the type's name stands for nothing or does not fit the section.
-#[derive(Clone, Copy, PartialEq, Eq, Debug)]
+#[derive(Clone, Copy)]
 pub enum Sort {
     InputSignal(Ty),
     OutputSignal(Ty),

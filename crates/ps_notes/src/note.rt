@@ -4,7 +4,7 @@ use ps_base::Place;
 
 /// Something in an accepted application that is most likely not meant so. Instances, signals and steps have their
 /// numbers in the application, and pins those of their kind.
-#[derive(Clone, Copy, PartialEq, Eq, Debug)]
+#[derive(Clone, Copy)]
 pub enum Note {
     /// Nothing stands at the pin Activate of an instance, so the block stays Idle.
     Idle {
@@ -91,7 +91,7 @@ pub enum Note {
 }
 
 /// A note, and the place in the text at which it is told.
-#[derive(Clone, Copy, PartialEq, Eq, Debug)]
+#[derive(Clone, Copy)]
 pub struct Placed {
     /// The note.
     pub note: Note,
@@ -100,7 +100,7 @@ pub struct Placed {
 }
 
 /// What in a comment an editor shows otherwise than it is read.
-#[derive(Clone, Copy, PartialEq, Eq, Debug)]
+#[derive(Clone, Copy)]
 pub enum Oddity {
     /// A carriage return that ends no line: other editors show what stands behind it as a line of its own.
     Return,
@@ -109,7 +109,7 @@ pub enum Oddity {
 }
 
 /// A comment that an editor shows otherwise than it is read.
-#[derive(Clone, Copy, PartialEq, Eq, Debug)]
+#[derive(Clone, Copy)]
 pub struct OddComment {
     /// What is odd in it.
     pub what: Oddity,

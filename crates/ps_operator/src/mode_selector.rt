@@ -13,7 +13,7 @@ use ps_block::{Image, Outs, Pins, SafetyBlock, Seen};
 use ps_model::Kind;
 
 /// One of the eight modes.
-#[derive(Clone, Copy, PartialEq, Eq, Debug)]
+#[derive(Clone, Copy, PartialEq)]
 pub enum Mode {
     Mode0,
     Mode1,
@@ -26,7 +26,7 @@ pub enum Mode {
 }
 
 /// A state of the table, one for each DiagCode; the two that have latched a mode carry it.
-#[derive(Clone, Copy, PartialEq, Eq, Debug)]
+#[derive(Clone, Copy, PartialEq)]
 pub enum Phase {
     Idle,
     ModeChanged,
@@ -40,7 +40,7 @@ pub enum Phase {
 
 /// The state of a mode selector: the state of the table, the time in ms at which it was entered or
 /// restarted, and the Reset and the S_SetMode of the last step.
-#[derive(Clone, Copy, PartialEq, Eq, Debug)]
+#[derive(Clone, Copy)]
 pub struct ModeSelectorState {
     phase: Phase,
     since: u32,

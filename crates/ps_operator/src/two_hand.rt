@@ -12,7 +12,7 @@ ghost use Rattle.ps_operator.specs.TwoHandStates.{code_of, waits_for_second};
 use ps_block::Seen;
 
 /// A state of the table of type II, one for each DiagCode.
-#[derive(Clone, Copy, PartialEq, Eq, Debug)]
+#[derive(Clone, Copy, PartialEq)]
 pub enum CommonPhase {
     Idle,
     Init,

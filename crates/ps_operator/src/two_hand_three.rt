@@ -13,7 +13,7 @@ use ps_model::Kind;
 
 /// A state of the table, one for each DiagCode: those of type II, and three in which the second button came late or not
 /// at all.
-#[derive(Clone, Copy, PartialEq, Eq, Debug)]
+#[derive(Clone, Copy, PartialEq)]
 pub enum Phase {
     Common(CommonPhase),
     TimeError1,
@@ -23,7 +23,7 @@ pub enum Phase {
 
 /// The state of a two-hand control of type III: the state of the table, and the time in ms at which it
 /// was entered.
-#[derive(Clone, Copy, PartialEq, Eq, Debug)]
+#[derive(Clone, Copy)]
 pub struct TwoHandThreeState {
     phase: Phase,
     since: u32,

@@ -8,7 +8,7 @@ use ps_model::Kind;
 
 /// The state of a two-hand control of type II: the state of the table, and the time in ms at which it
 /// was entered.
-#[derive(Clone, Copy, PartialEq, Eq, Debug)]
+#[derive(Clone, Copy)]
 pub struct TwoHandTwoState {
     phase: CommonPhase,
     since: u32,

@@ -10,7 +10,7 @@ use std::alloc::Global;
 use thiserror::Error;
 
 /// Why a file's bytes were not read.
-#[derive(Clone, Copy, Debug, PartialEq, Eq, Error)]
+#[derive(Clone, Copy, Debug, Error)]
 pub enum ReadFail {
     #[error("memory is wanting")]
     Memory,

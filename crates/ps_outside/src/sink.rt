@@ -57,7 +57,7 @@ pub trait Output: Sink {
 }
 
 /// A write of a whole piece that stopped after this many of its bytes, which were taken.
-#[derive(Clone, Copy, Debug, PartialEq, Eq)]
+#[derive(Clone, Copy)]
 pub struct Stopped {
     pub taken: usize,
 }

@@ -9,7 +9,7 @@ use std::alloc::{AllocError, AllocFailed};
 use thiserror::Error;
 
 /// Why a text gave nothing.
-#[derive(Clone, Copy, Debug, PartialEq, Eq, Error)]
+#[derive(Clone, Copy, Debug, Error)]
 pub enum TextFail {
     /// There was no memory for what it gives.
     #[error("memory is wanting")]
@@ -18,7 +18,7 @@ pub enum TextFail {
     #[error("a file could not be read")]
     Fault,
     /// A rule refuses it.
-    #[error("refused {:?} at line {}", .0.rule, .0.place.line)]
+    #[error("a rule refuses the text")]
     Refused(Refusal),
 }
 

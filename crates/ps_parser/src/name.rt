@@ -7,14 +7,14 @@ use std::alloc::Global;
 use std::marker::Model;
 
 /// A name as it is spelt, at the place of its first byte.
-#[derive(Drop, Debug)]
+#[derive(Drop)]
 pub struct Name {
     pub text: Bytes,
     pub place: Place,
 }
 
 /// Names in order, which contracts see as a list.
-#[derive(Drop, Debug)]
+#[derive(Drop)]
 pub struct Names {
     items: Vec<Name>,
 }

@@ -8,7 +8,7 @@ use std::alloc::Global;
 use std::marker::Model;
 
 /// What a section declares: VAR_INPUT, VAR_OUTPUT or VAR.
-#[derive(Clone, Copy, Debug, PartialEq, Eq)]
+#[derive(Clone, Copy)]
 pub enum Part {
     Input,
     Output,
@@ -16,27 +16,27 @@ pub enum Part {
 }
 
 /// Names of one type, which is a name too.
-#[derive(Drop, Debug)]
+#[derive(Drop)]
 pub struct Declaration {
     pub names: Names,
     pub ty: Name,
 }
 
 /// Declarations in order, which contracts see as a list.
-#[derive(Drop, Debug)]
+#[derive(Drop)]
 pub struct Declarations {
     items: Vec<Declaration>,
 }
 
 /// The declarations between one of the words VAR_INPUT, VAR_OUTPUT and VAR, and END_VAR.
-#[derive(Drop, Debug)]
+#[derive(Drop)]
 pub struct Section {
     pub part: Part,
     pub declarations: Declarations,
 }
 
 /// Sections in order, which contracts see as a list.
-#[derive(Drop, Debug)]
+#[derive(Drop)]
 pub struct Sections {
     items: Vec<Section>,
 }

@@ -2,7 +2,7 @@
 
 /// A token that is always spelt alike, but for letter case. FUNCTION_BLOCK and END_FUNCTION_BLOCK are among them, which
 /// are names for the lexer. The sign `&` is AND.
-#[derive(Clone, Copy, Debug, PartialEq, Eq)]
+#[derive(Clone, Copy, PartialEq)]
 pub enum Sign {
     Program,
     EndProgram,

@@ -25,7 +25,7 @@ pub struct Arguments {
 }
 
 /// What an assignment assigns: a name, or a name after the name of an instance and a dot.
-#[derive(Drop, Debug)]
+#[derive(Drop)]
 pub enum Target {
     Name(Name),
     Pin(Name, Name),

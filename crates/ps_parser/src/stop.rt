@@ -5,7 +5,7 @@ use ps_lexer::Token;
 use std::alloc::{AllocError, AllocFailed};
 
 /// What is wrong with a token: none of the language goes on with it, or it opens a group that is nested too deep.
-#[derive(Clone, Copy, Debug, PartialEq, Eq)]
+#[derive(Clone, Copy)]
 pub enum Flaw {
     Unexpected,
     TooDeep,

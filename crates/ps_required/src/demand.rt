@@ -46,7 +46,7 @@ pub struct Demands {
 pub const MOST_LEAVES: u32 = 1_000;
 
 /// Why a demand is not answered.
-#[derive(Clone, Copy, Debug, PartialEq, Eq, Error)]
+#[derive(Clone, Copy, Debug, Error)]
 pub enum DemandFail {
     /// Memory is wanting.
     #[error("memory is wanting")]

@@ -1,7 +1,7 @@
 // By which word parts are joined.
 
 /// By which word the parts of a formula are joined.
-#[derive(Clone, Copy, PartialEq, Eq, Debug)]
+#[derive(Clone, Copy)]
 pub enum Join {
     /// AND: it holds where every part does.
     And,

@@ -7,7 +7,7 @@ ghost use Rattle.ps_resolve.specs.Literals.{literal_in_factor, literal_in_produc
 use ps_parser::{Factor, Product, Sum};
 
 /// A Boolean literal, or a TIME literal with its value in ms.
-#[derive(Clone, Copy, Debug, PartialEq, Eq)]
+#[derive(Clone, Copy)]
 pub enum Literal {
     Bool(bool),
     Time(u32),

@@ -12,7 +12,7 @@ use crate::view::pin;
 use ps_model::Kind;
 
 // What the table says of a kind.
-#[derive(Clone, Copy, PartialEq, Eq)]
+#[derive(Clone, Copy)]
 pub(crate) struct KindEntry {
     // The kind.
     pub kind: Kind,

@@ -6,7 +6,7 @@ ghost use Rattle.ps_rows.specs.Placed.{is_placed};
 
 /// One row of a kind's table (profile). It decides in its state where the conditions under `care`
 /// equal `value`. Conditions are complemented: a bit that is 1 says FALSE.
-#[derive(Clone, Copy, PartialEq, Eq, Debug)]
+#[derive(Clone, Copy)]
 pub struct MaskRow {
     /// The DiagCode of the state.
     pub state: u16,
@@ -21,7 +21,7 @@ pub struct MaskRow {
 }
 
 /// Places in a kind's table of rows, from 0: from `from` up to but without `upto`.
-#[derive(Clone, Copy, PartialEq, Eq, Debug)]
+#[derive(Clone, Copy)]
 pub struct RowRange {
     /// The first place.
     pub from: u16,

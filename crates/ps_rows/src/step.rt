@@ -18,7 +18,7 @@ use crate::view::{BlockView, conditions_in, pin};
 use ps_model::Kind;
 
 /// What a channel keeps of an instance whose timer counts down (profile).
-#[derive(Clone, Copy, PartialEq, Eq, Debug)]
+#[derive(Clone, Copy)]
 pub struct CountedBlock {
     /// The DiagCode of the state.
     pub code: u16,

@@ -11,7 +11,7 @@ ghost use Rattle.ps_rows.specs.Viewed.{names_in};
 use ps_model::Kind;
 
 /// What a step of a block reads beside its state (profile).
-#[derive(Clone, Copy, PartialEq, Eq, Debug)]
+#[derive(Clone, Copy)]
 pub struct BlockView {
     /// The Boolean input pins: bit j is the kind's pin j; higher bits are not read.
     pub bits: u32,

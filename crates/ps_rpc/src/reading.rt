@@ -19,7 +19,7 @@ pub const LONGEST_HEAD: usize = 4_096;
 const HEAD_END: [u8; 4] = [13, 10, 13, 10];
 
 /// What is read of a stream.
-#[derive(Drop, Debug)]
+#[derive(Drop)]
 pub enum Frame {
     /// The body of a message.
     Message(Bytes),

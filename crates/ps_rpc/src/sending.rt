@@ -26,7 +26,7 @@ impl Drop for Reply {
 }
 
 /// Why a message was not sent whole.
-#[derive(Clone, Copy, Debug, PartialEq, Eq)]
+#[derive(Clone, Copy)]
 pub enum Unsent {
     /// The output could not be written.
     Unwritten,

@@ -7,7 +7,7 @@ use ps_base::Memory;
 use ps_outside::Failed;
 
 /// What a line of a rules file is refused for.
-#[derive(Clone, Copy, PartialEq, Eq)]
+#[derive(Clone, Copy, PartialEq)]
 pub enum Flaw {
     /// The form of a line: another word, one missing or too many, no `=`, a setting behind a rule, a rule without
     /// conditions; at the line behind the last one: there is no rule.

@@ -18,7 +18,7 @@ use ps_trace::{Next, TraceReader, TraceStop};
 use std::alloc::Global;
 
 /// Why the items of a trace were not all done.
-#[derive(Clone, Copy, PartialEq, Eq)]
+#[derive(Clone, Copy)]
 pub enum Cut {
     /// A line of the trace is refused, or a scan was begun and is refused.
     Refused(Refusal),

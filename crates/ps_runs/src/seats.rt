@@ -14,7 +14,7 @@ use ps_model::{App, Report, Scan};
 use ps_vote::{Seat, Vote, VoteFaults, VoteWorld};
 
 /// A seat that was outvoted again in the scan behind its healing.
-#[derive(Clone, Copy, Debug, PartialEq, Eq)]
+#[derive(Clone, Copy)]
 pub struct Again {
     /// The time of that scan in ms.
     pub now: u32,

@@ -15,7 +15,7 @@ use ps_vote::VoteFault;
 use ps_world::World;
 
 /// A scan that tripped.
-#[derive(Clone, Copy, Debug, PartialEq, Eq)]
+#[derive(Clone, Copy)]
 pub struct Trip {
     /// Its time in ms.
     pub now: u32,

@@ -17,7 +17,7 @@ use std::marker::Model;
 
 /// Why a channel that has ended has no report: it trapped with this number, it spent its budget while
 /// Running, or its cells hold no Boolean report. They are looked for in this order.
-#[derive(Clone, Copy, Debug, PartialEq, Eq)]
+#[derive(Clone, Copy)]
 pub enum Failing {
     Trap(u8),
     Stuck,

@@ -15,7 +15,7 @@ use ps_block::{Image, Outs, Pins, SafetyBlock, Seen};
 use ps_model::Kind;
 
 /// A state of the table, one for each DiagCode.
-#[derive(Clone, Copy, PartialEq, Eq, Debug)]
+#[derive(Clone, Copy, PartialEq)]
 pub enum Phase {
     Idle,
     Init,
@@ -29,7 +29,7 @@ pub enum Phase {
 }
 
 /// The state of a pair of contacts: the state of the table, and the time in ms at which it was entered.
-#[derive(Clone, Copy, PartialEq, Eq, Debug)]
+#[derive(Clone, Copy)]
 pub struct ContactsState {
     phase: Phase,
     since: u32,

@@ -13,7 +13,7 @@ use ps_block::{Image, Outs, Pins, SafetyBlock, Seen};
 use ps_model::Kind;
 
 /// A state of the table, one for each DiagCode.
-#[derive(Clone, Copy, PartialEq, Eq, Debug)]
+#[derive(Clone, Copy, PartialEq)]
 pub enum Phase {
     Idle,
     Init,
@@ -28,7 +28,7 @@ pub enum Phase {
 
 /// The state of an emergency stop or of an ESPE: the state of the table, the time in ms at which it was
 /// entered, and the Reset of the last step.
-#[derive(Clone, Copy, PartialEq, Eq, Debug)]
+#[derive(Clone, Copy)]
 pub struct StopState {
     phase: Phase,
     since: u32,

@@ -15,7 +15,6 @@ use std::marker::Model;
 /// Channel A: a machine that runs stack code (profile). It has its own copy of the code and its cells, and
 /// remembers nothing else. Every turn reads its instruction from that code, so bytes that a fault replaced
 /// are run as they are. Of its calls only `new` takes memory.
-#[derive(Debug)]
 pub struct StackChannel {
     frame: Frame,
     // of each instance the signal of its Ready, as `new` found it by the sizes

@@ -24,7 +24,7 @@ pub(crate) const END: u8 = 7;
 
 /// An instruction of stack code (profile). In code each begins with its opcode, from 1 for LOAD to 7 for
 /// END, and numbers are big-endian.
-#[derive(Clone, Copy, PartialEq, Eq, Debug)]
+#[derive(Clone, Copy)]
 pub enum Instruction {
     /// Pushes the byte of this signal.
     Load(u16),

@@ -5,7 +5,7 @@ ghost use Rattle.ps_stackvm.specs.Traps.{trap_number};
 
 /// Why a turn ends the scan without a report (profile). In the progress byte stands its number and one
 /// more; the numbers mean the same in all channels.
-#[derive(Clone, Copy, PartialEq, Eq, Debug)]
+#[derive(Clone, Copy)]
 pub enum Trap {
     /// 1: no such opcode.
     NoOpcode,

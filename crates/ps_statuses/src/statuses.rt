@@ -23,7 +23,7 @@ close other programs, or raise the limit on memory (docs/refusals.md)\n\
 ";
 
 /// Why a file could not be read.
-#[derive(Clone, Copy, Debug, PartialEq, Eq)]
+#[derive(Clone, Copy)]
 pub enum Unread {
     /// There is none of this name.
     Missing,
@@ -38,7 +38,7 @@ pub enum Unread {
 }
 
 // What is wrong with a file, and what helps.
-#[derive(Clone, Copy, PartialEq, Eq)]
+#[derive(Clone, Copy)]
 struct OfFile {
     wrong: &'static str,
     remedy: &'static str,

@@ -29,7 +29,7 @@ pub use ps_runs::{Again, Trip};
 pub use ps_words::Words;
 
 /// How a call of the program ended.
-#[derive(Clone, Copy, Debug, PartialEq, Eq)]
+#[derive(Clone, Copy)]
 pub enum Status {
     /// All was done.
     Done,

@@ -6,7 +6,7 @@ use std::alloc::Global;
 use std::marker::Model;
 
 /// Faults in the order of their file, which contracts see as a list.
-#[derive(Drop, Debug)]
+#[derive(Drop)]
 pub struct Faults {
     items: Vec<Fault>,
 }

@@ -11,7 +11,7 @@ use crate::words::{first_field, next_word, number};
 use ps_base::Rule;
 
 /// What a line after the header says. A scan's values are written aside.
-#[derive(Clone, Copy, PartialEq, Eq)]
+#[derive(Clone, Copy)]
 pub enum LineSays {
     /// It is skipped.
     Nothing,

@@ -8,7 +8,7 @@ use ps_base::Bytes;
 use ps_model::Region;
 
 /// The parts of a line of a fault file: at one moment of a run some bytes are replaced.
-#[derive(Drop, Debug)]
+#[derive(Drop)]
 pub struct FaultLine<W> {
     /// In this scan, counted from 1.
     pub scan: u32,

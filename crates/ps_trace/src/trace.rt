@@ -33,7 +33,7 @@ const LIMITS: Limits = Limits {
 };
 
 /// Why no scan came.
-#[derive(Clone, Copy, Debug, PartialEq, Eq)]
+#[derive(Clone, Copy)]
 pub enum TraceStop {
     /// A read failed. A later call goes on with the same line.
     Fault,
@@ -42,7 +42,7 @@ pub enum TraceStop {
 }
 
 /// What comes next in a trace.
-#[derive(Clone, Copy, Debug, PartialEq, Eq)]
+#[derive(Clone, Copy)]
 pub enum Next {
     Scan,
     Restart,

@@ -6,7 +6,7 @@ use ps_model::Region;
 use std::marker::Model;
 
 /// A line of a fault file of three seats: at one moment of a run some bytes of a seat are replaced.
-#[derive(Drop, Debug)]
+#[derive(Drop)]
 pub struct VoteFault {
     /// The line of the file, counted from 1.
     pub line: u32,
@@ -25,7 +25,7 @@ pub struct VoteFault {
 }
 
 /// Faults in the order of their file, which contracts see as a list.
-#[derive(Drop, Debug)]
+#[derive(Drop)]
 pub struct VoteFaults {
     items: Vec<VoteFault>,
 }

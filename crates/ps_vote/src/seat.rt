@@ -5,7 +5,7 @@ ghost use Rattle.ps_vote.specs.Orders.{seat_after};
 ghost use Rattle.ps_vote.specs.Worlds.{mark, marked, is_another_dirty};
 
 /// A seat of the world of three.
-#[derive(Clone, Copy, Debug, PartialEq, Eq)]
+#[derive(Clone, Copy, PartialEq)]
 pub enum Seat {
     /// Channel A, of stack code.
     A,
@@ -16,7 +16,7 @@ pub enum Seat {
 }
 
 /// The answer of a vote.
-#[derive(Clone, Copy, Debug, PartialEq, Eq)]
+#[derive(Clone, Copy)]
 pub enum Vote {
     /// Three reports are equal.
     All,
@@ -27,7 +27,7 @@ pub enum Vote {
 }
 
 /// The lengths of the regions in bytes, in the order of the seats A, B and C.
-#[derive(Clone, Copy, Debug, PartialEq, Eq)]
+#[derive(Clone, Copy)]
 pub struct VoteSizes {
     /// Of the code.
     pub code: [u32; 3],
@@ -36,7 +36,7 @@ pub struct VoteSizes {
 }
 
 /// Which seats were spoiled and not rebuilt since.
-#[derive(Clone, Copy, Debug, PartialEq, Eq)]
+#[derive(Clone, Copy)]
 pub struct DirtySeats {
     /// Seat A.
     pub a: bool,

@@ -22,9 +22,9 @@ ROOT = pathlib.Path(__file__).resolve().parent.parent
 PARTS = re.compile(r"\.(Lts|Proof|Answers|Invariants|Given|Goals|Tie|Reads|Layout|Kinds|Code|Named|Met)\b")
 
 
-def files(crate):
-    """The files that the check kept, in the order in which it wrote them: when, the name of what was proved, and the size."""
-    found = (ROOT / "crates" / crate / "out" / "incremental").glob("**/*.oantt")
+def files(folder):
+    """The files that a check kept in a folder, in the order in which it wrote them: when, the name of what was proved, and the size."""
+    found = folder.glob("**/*.oantt")
     named = [(path.stat().st_mtime_ns / 1e9, path.name.split("-", 2)[-1].removesuffix(".oantt").removesuffix(".decls"), path.stat().st_size) for path in found]
     return sorted(named)
 
@@ -49,7 +49,7 @@ def costs(kept):
 def main(words):
     if len(words) not in (1, 2) or words[0].startswith("-") or not all(word.isdecimal() for word in words[1:]):
         return None
-    kept = files(words[0])
+    kept = files(ROOT / "crates" / words[0] / "out" / "incremental")
     if not kept:
         raise Stop(f"no check of a crate {words[0]} left its times here: call `rt check --jobs 1` in its folder")
     whole, size, paths, goals = costs(kept)

@@ -47,6 +47,7 @@ CANNOT = {
     "tools/rules.py": [[], MANY, ["BYTES"], ["BYTES", "plcsafe-bench=GONE"], ["plcsafe-bench=FOLDER"], ["plcsafe-bench=BYTES"]],
     "tools/shared": [["nothing"], MANY],
     "tools/timing.py": [[], ["nothing"], MANY],
+    "tools/wrong": [MANY, ["ps_nothing"]],
     "tools/waves.py": [[], ["BYTES"], ["BYTES", "plcsafe-bench=GONE"], ["GONE", "plcsafe-bench=BYTES"], ["FOLDER", "plcsafe-bench=FOLDER"]],
     "bench/allocations.py": [MANY, ["GONE"], ["FOLDER"], ["--few", "BYTES"]],
     "bench/functions.py": [[], ["ps_nothing"], ["ps_main", "a"], MANY],

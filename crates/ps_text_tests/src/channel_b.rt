@@ -18,7 +18,7 @@ const CODE: [u8; 37] = [
     0xFF, 0xFF, 0, 0, 0xFF, 0xFE, 0xFF, 0xFE, 0, 1, // its pins: TRUE, S_In, FALSE, FALSE, Ack
     0xF1, 0xF0, 0, 0, 4, // SET work cell 0 := E.S_EStopOut
     0xF2, 0xF0, 0, 0, 2, // ALL work cell 0 with Run
-    0xF1, 0, 3, 0xF0, 0,    // SET S_Motor := work cell 0
+    0xF1, 0, 3, 0xF0, 0, // SET S_Motor := work cell 0
     0xF0, // LAST
 ];
 
@@ -65,7 +65,7 @@ fn is_made(
         return false;
     };
     channel.begin(&scan);
-    channel.turns(turns + 1) == turns && number_of(channel.progress()) == DONE
+    channel.turns(turns) == turns && number_of(channel.progress()) == DONE
 }
 
 // What a channel of one output and one instance reports: the output, and the DiagCode of the instance. None: its cells
@@ -100,22 +100,35 @@ fn holds(channel: &EquationChannel, values: u64, odd: u64) -> bool {
 }
 
 // Scans: the time, the inputs, what is reported, and the value word.
-const SCANS: &[(u32, [bool; 3], (bool, u16), u64)] = &[
+const SCANS: [(u32, [bool; 3], (bool, u16), u64); 6] = [
     (0, [true, false, true], (false, 0x8001), 0x0025000000000000),
     (10, [true, false, true], (false, 0x8002), 0x0025000000000000),
     (20, [true, false, true], (false, 0x8003), 0x0025000000000000),
     (30, [true, true, true], (true, 0x8000), 0x003F000000000001),
-    (40, [true, false, false], (false, 0x8000), 0x0031000000000000),
-    (50, [false, false, true], (false, 0x8004), 0x0024000000000000),
+    (
+        40,
+        [true, false, false],
+        (false, 0x8000),
+        0x0031000000000000,
+    ),
+    (
+        50,
+        [false, false, true],
+        (false, 0x8004),
+        0x0024000000000000,
+    ),
 ];
 
 // Asserts what comes of each scan, one after the other.
 fn scans(rt: &impl Abort, alloc: Global) -> Result<(), Memory> {
     let mut motor = motor(alloc)?;
     for (now, inputs, wanted, values) in SCANS {
-        let is_made = is_made(alloc, &mut motor, *now, inputs.as_slice(), 5);
-        let is_reported = reported(alloc, &motor)? == Some(*wanted);
-        assert!(rt; is_made && is_reported && holds(&motor, *values, 0), "at {now}");
+        let is_made = is_made(alloc, &mut motor, now, &inputs, 5);
+        let is_reported = reported(alloc, &motor)? == Some(wanted);
+        assert!(rt;
+            is_made && is_reported && holds(&motor, values, 0),
+            "at {now}"
+        );
     }
     Ok(())
 }
@@ -276,10 +289,12 @@ const ALL_CELLS: &[(u8, u64, u64, u8, Said)] = &[
 fn is_all(alloc: Global, row: &(u8, u64, u64, u8, Said)) -> Result<bool, Memory> {
     let (stored, values, odd, progress, report) = *row;
     let mut motor = motor(alloc)?;
-    Ok(motor.spoil(Region::Cells, 0, &[stored; 84]).is_ok()
-        && reported(alloc, &motor)? == report
-        && holds(&motor, values, odd)
-        && number_of(motor.progress()) == progress)
+    Ok(
+        motor.spoil(Region::Cells, 0, &[stored; 84]).is_ok()
+            && reported(alloc, &motor)? == report
+            && holds(&motor, values, odd)
+            && number_of(motor.progress()) == progress,
+    )
 }
 
 #[test]

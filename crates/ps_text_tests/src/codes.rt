@@ -76,7 +76,8 @@ type Figures = [u32; 3];
 fn figures_a(alloc: Global, app: &App, sizes: &Sizes) -> Result<Figures, Memory>
     requires { Accepted app.now }
 {
-    let channel = StackChannel::new(alloc, &stack_image(alloc, app)?, sizes)?;
+    let code = stack_image(alloc, app)?;
+    let channel = StackChannel::new(alloc, &code, sizes)?;
     Ok([
         channel.region_len(Region::Code),
         channel.region_len(Region::Cells),
@@ -88,7 +89,8 @@ fn figures_a(alloc: Global, app: &App, sizes: &Sizes) -> Result<Figures, Memory>
 fn figures_b(alloc: Global, app: &App, sizes: &Sizes) -> Result<Figures, Memory>
     requires { Accepted app.now }
 {
-    let channel = EquationChannel::new(alloc, &equation_image(alloc, app)?, sizes)?;
+    let code = equation_image(alloc, app)?;
+    let channel = EquationChannel::new(alloc, &code, sizes)?;
     Ok([
         channel.region_len(Region::Code),
         channel.region_len(Region::Cells),
@@ -100,7 +102,8 @@ fn figures_b(alloc: Global, app: &App, sizes: &Sizes) -> Result<Figures, Memory>
 fn figures_c(alloc: Global, app: &App, sizes: &Sizes) -> Result<Figures, Memory>
     requires { Accepted app.now }
 {
-    let channel = DecisionChannel::new(alloc, &decision_image(alloc, app)?, sizes)?;
+    let code = decision_image(alloc, app)?;
+    let channel = DecisionChannel::new(alloc, &code, sizes)?;
     Ok([
         channel.region_len(Region::Code),
         channel.region_len(Region::Cells),
@@ -112,9 +115,11 @@ fn figures_c(alloc: Global, app: &App, sizes: &Sizes) -> Result<Figures, Memory>
 fn has_figures(alloc: Global, text: &str, wanted: &[Figures; 3]) -> Result<bool, Fail> {
     let app = application(alloc, text)?;
     let sizes = Sizes::of(alloc, &app)?;
-    Ok(figures_a(alloc, &app, &sizes)? == wanted[0]
-        && figures_b(alloc, &app, &sizes)? == wanted[1]
-        && figures_c(alloc, &app, &sizes)? == wanted[2])
+    Ok(
+        figures_a(alloc, &app, &sizes)? == wanted[0]
+            && figures_b(alloc, &app, &sizes)? == wanted[1]
+            && figures_c(alloc, &app, &sizes)? == wanted[2],
+    )
 }
 
 // The figures of M.
@@ -137,7 +142,8 @@ const OF_WIDE: [Figures; 3] = [
 ];
 
 /// What stands before the first operand of that AND, and behind the last.
-pub const BEFORE_WIDE: &str = "PROGRAM W VAR_INPUT a : BOOL; END_VAR VAR_OUTPUT o : BOOL; END_VAR o := a";
+pub const BEFORE_WIDE: &str =
+    "PROGRAM W VAR_INPUT a : BOOL; END_VAR VAR_OUTPUT o : BOOL; END_VAR o := a";
 
 pub const AFTER_WIDE: &str = "; END_PROGRAM";
 

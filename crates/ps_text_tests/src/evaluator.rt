@@ -24,13 +24,13 @@ fn bits_of(alloc: Global, digits: &str) -> Result<Bits, Memory> {
 
 // Whether the instances are in these states, in hexadecimal with a space between.
 fn shows_codes(diags: &Diags, codes: &str) -> bool {
-    let mut count = 0;
+    let mut count: usize = 0;
     for word in codes.split_whitespace() {
-        let is_so = count < diags.len() && u16::from_str_radix(word, 16) == Ok(diags.at(count).code);
-        if !is_so {
+        let code = u16::from_str_radix(word, 16).ok();
+        if count >= diags.len() || code != Some(diags.at(count).code) {
             return false;
         }
-        count = count + 1;
+        count = count.saturating_add(1);
     }
     count == diags.len()
 }
@@ -94,6 +94,9 @@ fn evaluator(rt: HostRuntime) -> Result<(), Fail> {
         assert!(rt; met(rt.alloc(), text, rows)?, "{name}");
     }
     let wide = repeated(rt.alloc(), BEFORE_WIDE, " AND a", 511, AFTER_WIDE)?;
-    assert!(rt; met(rt.alloc(), wide.as_str(), "0 0 0\n10 1 1\n")?, "512 operands");
+    assert!(rt;
+        met(rt.alloc(), wide.as_str(), "0 0 0\n10 1 1\n")?,
+        "512 operands"
+    );
     Ok(())
 }

@@ -7,8 +7,9 @@ use ps_base::Memory;
 use ps_decision::DecisionChannel;
 use ps_eqvm::EquationChannel;
 use ps_machine::{CodeImage, ScanMachine};
-use ps_model::{Bits, Diags, FirstPins, Kind, Kinds, Progress, Region, Report, Scan, Sizes};
-use ps_model::output_count;
+use ps_model::{
+    Bits, Diags, FirstPins, Kind, Kinds, Progress, Region, Report, Scan, Sizes, output_count,
+};
 use ps_stackvm::StackChannel;
 use std::alloc::Global;
 

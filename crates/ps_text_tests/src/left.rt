@@ -29,16 +29,16 @@ fn words_of(alloc: Global, text: &str) -> Result<Words, Memory> {
     Ok(words)
 }
 
-// The values of the fields of both channels' reports at the end of the trace: S_Motor, Ready, Error and DiagCode.
-const FIELDS: [u16; 4] = [0, 1, 0, 0x8004];
+// The fields of both channels' reports with their values at the end of the trace: S_Motor, Ready, Error and DiagCode.
+const FIELDS: [(u16, u16); 4] = [(0, 0), (1, 1), (2, 0), (3, 0x8004)];
 
 // Whether a world rests after the last scan, with these values in both channels.
 fn is_after(world: &mut World) -> bool {
     let mut is_so = !world.is_tripped() && !world.scan_begun();
-    for (field, value) in (0u16..).zip(FIELDS.iter()) {
-        for of in [Channel::A, Channel::B] {
-            is_so = is_so && world.field_value(of, field) == Some(*value);
-        }
+    for (field, value) in FIELDS {
+        let a = world.field_value(Channel::A, field);
+        let b = world.field_value(Channel::B, field);
+        is_so = is_so && a == Some(value) && b == Some(value);
     }
     is_so
 }

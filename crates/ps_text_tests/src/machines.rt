@@ -93,11 +93,13 @@ fn hold<M: Struck>(rt: &impl Abort, alloc: Global, sizes: &Sizes, turns: u32, ta
 }
 
 // Signal 3,999 is the last that an operand of channel B can name, however many there are: here 4,001.
-const LAST_SIGNALS: &[&str] = &["\
+const LAST_SIGNALS: &[&str] = &[
+    "\
 f1 0f 9e ff ff => runs
 f1 0f 9f ff ff => runs
 f1 0f a0 ff ff => trap 5
-"];
+",
+];
 
 #[test]
 fn turns(rt: HostRuntime) -> Result<(), Fail> {

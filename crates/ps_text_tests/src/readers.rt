@@ -174,11 +174,46 @@ const HEADER: &str = "time S_In Ack Run\n";
 // A part and how often it stands behind the header, what stands behind it, the most bytes of a piece, the read that
 // fails, and what comes. The first piece of the last trace has the header and 509 whole lines.
 static TRACES: &[(&str, u32, &str, u32, u32, [(u32, u32); 2])] = &[
-    ("0 1 0 1\n", 3, "restart\n5 1 0 1", 0, 0, [(3, RESTART), (1, END)]),
-    ("0 1 0 1\n", 3, "restart\n5 1 0 1", 1, 0, [(3, RESTART), (1, END)]),
-    ("0 1 0 1\n", 3, "restart\n5 1 0 1", 3, 0, [(3, RESTART), (1, END)]),
-    ("0 1 0 1\n", 2, "10 1 0 2\n20 1 0 1\n", 0, 0, [(2, REFUSED), (0, REFUSED)]),
-    ("0 1 0 1\n", 2, "10 1 0 2\n20 1 0 1\n", 1, 0, [(2, REFUSED), (0, REFUSED)]),
+    (
+        "0 1 0 1\n",
+        3,
+        "restart\n5 1 0 1",
+        0,
+        0,
+        [(3, RESTART), (1, END)],
+    ),
+    (
+        "0 1 0 1\n",
+        3,
+        "restart\n5 1 0 1",
+        1,
+        0,
+        [(3, RESTART), (1, END)],
+    ),
+    (
+        "0 1 0 1\n",
+        3,
+        "restart\n5 1 0 1",
+        3,
+        0,
+        [(3, RESTART), (1, END)],
+    ),
+    (
+        "0 1 0 1\n",
+        2,
+        "10 1 0 2\n20 1 0 1\n",
+        0,
+        0,
+        [(2, REFUSED), (0, REFUSED)],
+    ),
+    (
+        "0 1 0 1\n",
+        2,
+        "10 1 0 2\n20 1 0 1\n",
+        1,
+        0,
+        [(2, REFUSED), (0, REFUSED)],
+    ),
     ("0 1 0 1\n", 2, "", 3, 0, [(2, END), (0, END)]),
     ("0 0 0 0\n", 1000, "", 0, 2, [(509, FAULT), (491, END)]),
 ];
@@ -195,7 +230,10 @@ const SIZES: ImageSizes = ImageSizes {
 static FAULTS: &[(&str, Option<usize>)] = &[
     (" before\t2 turn 3 B code 0 fFA0 \r\n#\n\n \t\n", Some(1)),
     ("before 4294967295 turn 4294967295 A memory 96 00", Some(1)),
-    ("before 1 B memory 4294967294 00\nbefore 1 B memory 0 0001", Some(2)),
+    (
+        "before 1 B memory 4294967294 00\nbefore 1 B memory 0 0001",
+        Some(2),
+    ),
     ("before 1 B memory 4294967295 00", None),
     ("before 1 B memory 4294967294 0000", None),
     ("before 1 A memory 97 00", None),
@@ -206,19 +244,24 @@ static FAULTS: &[(&str, Option<usize>)] = &[
 // Whether a fault file has so many faults, or is refused, read in pieces of at most so many bytes.
 fn are_faults(alloc: Global, text: &str, most: u32, wanted: Option<usize>) -> Result<bool, Memory> {
     let mut files = files_of(alloc, text, most, 0)?;
-    Ok(match (read_faults(alloc, &mut files, "T", &SIZES), wanted) {
-        (Ok(faults), Some(count)) => faults.len() == count,
-        (Err(TraceFail::Refused(refusal)), None) => {
-            matches!(refusal.rule, Rule::F3) && refusal.place.line == 1
-        }
-        _ => false,
-    })
+    Ok(
+        match (read_faults(alloc, &mut files, "T", &SIZES), wanted) {
+            (Ok(faults), Some(count)) => faults.len() == count,
+            (Err(TraceFail::Refused(refusal)), None) => {
+                matches!(refusal.rule, Rule::F3) && refusal.place.line == 1
+            }
+            _ => false,
+        },
+    )
 }
 
 #[test]
 fn readers(rt: HostRuntime) -> Result<(), Fail> {
     for (text, most, failing, reads) in LINES {
-        assert!(rt; are_read(rt.alloc(), text, *most, *failing, reads)?, "{text:?}");
+        assert!(rt;
+            are_read(rt.alloc(), text, *most, *failing, reads)?,
+            "{text:?}"
+        );
     }
     let app = application(rt.alloc(), MOTOR)?;
     for (part, times, end, most, failing, wanted) in TRACES {
@@ -228,7 +271,10 @@ fn readers(rt: HostRuntime) -> Result<(), Fail> {
     }
     for (text, wanted) in FAULTS {
         for most in [0, 1, 3] {
-            assert!(rt; are_faults(rt.alloc(), text, most, *wanted)?, "{text:?} by {most}");
+            assert!(rt;
+                are_faults(rt.alloc(), text, most, *wanted)?,
+                "{text:?} by {most}"
+            );
         }
     }
     Ok(())

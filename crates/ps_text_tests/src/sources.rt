@@ -73,12 +73,14 @@ fn are_places(alloc: Global) -> Result<bool, Fail> {
         return Ok(false);
     }
     let third = tokens.list.at(2);
-    Ok(third.from == 14
-        && third.upto == 18
-        && third.place.line == 2
-        && third.place.column == 2
-        && tokens.end.line == 3
-        && tokens.end.column == 1)
+    Ok(
+        third.from == 14
+            && third.upto == 18
+            && third.place.line == 2
+            && third.place.column == 2
+            && tokens.end.line == 3
+            && tokens.end.column == 1,
+    )
 }
 
 // A function block and a program.
@@ -95,8 +97,17 @@ static TURNS: &[(u32, bool, Result<u32, u32>)] = &[
 ];
 
 // Whether a source is read from a token on up to that one, or refused there.
-fn is_next(alloc: Global, at: u32, is_program: bool, wanted: Result<u32, u32>) -> Result<bool, Fail> {
-    let heads = if is_program { Heads::Program } else { Heads::Block };
+fn is_next(
+    alloc: Global,
+    at: u32,
+    is_program: bool,
+    wanted: Result<u32, u32>,
+) -> Result<bool, Fail> {
+    let heads = if is_program {
+        Heads::Program
+    } else {
+        Heads::Block
+    };
     let tokens = lex(alloc, BOTH.as_bytes())?;
     if at as usize > tokens.list.len() {
         return Ok(false);
@@ -133,7 +144,10 @@ fn stands(line: &[u8], at: usize, expected: Option<(usize, usize)>) -> bool {
 #[test]
 fn sources(rt: HostRuntime) -> Result<(), TestFail> {
     for (text, count) in COUNTS {
-        assert!(rt; count_of(rt.alloc(), text.as_bytes())? == *count, "{text:?}");
+        assert!(rt;
+            count_of(rt.alloc(), text.as_bytes())? == *count,
+            "{text:?}"
+        );
     }
     assert!(rt; count_of(rt.alloc(), ODD)? == 0 && is_no_text(rt.alloc(), NO_TEXT, 2, 1));
     for word in NAMES.split(' ') {
@@ -141,10 +155,16 @@ fn sources(rt: HostRuntime) -> Result<(), TestFail> {
     }
     assert!(rt; are_places(rt.alloc())?);
     for (at, is_program, wanted) in TURNS {
-        assert!(rt; is_next(rt.alloc(), *at, *is_program, *wanted)?, "from {at}");
+        assert!(rt;
+            is_next(rt.alloc(), *at, *is_program, *wanted)?,
+            "from {at}"
+        );
     }
     for (line, at, expected) in LINES {
-        assert!(rt; stands(line.as_bytes(), *at, *expected), "{line:?} from {at}");
+        assert!(rt;
+            stands(line.as_bytes(), *at, *expected),
+            "{line:?} from {at}"
+        );
     }
     for (word, expected) in NUMBERS {
         assert!(rt; number(word.as_bytes()) == *expected, "{word}");

@@ -109,13 +109,7 @@ const THIRTEEN_PINS: &str = "\
 ";
 
 /// The tables of single turns.
-pub const TABLES: &[&str] = &[
-    READING,
-    DECISIONS,
-    SETTINGS,
-    CALLS,
-    LOADING,
-];
+pub const TABLES: &[&str] = &[READING, DECISIONS, SETTINGS, CALLS, LOADING];
 
 /// The tables of two turns.
 pub const TWICE: &[&str] = &[DECISIONS_TWICE, SETTINGS_TWICE, CALLS_TWICE];

@@ -344,5 +344,9 @@ pub const TABLES: &[(&str, &str, &str)] = &[
     ("press", PRESS, PRESS_AT_WORK),
     ("feedback of locals", FEEDBACK, FEEDBACK_ROWS),
     ("deepest expression", DEEP, DEEPEST),
-    ("deepest expression at the last pin", DEEP_RESET, MODE_SELECTOR),
+    (
+        "deepest expression at the last pin",
+        DEEP_RESET,
+        MODE_SELECTOR,
+    ),
 ];

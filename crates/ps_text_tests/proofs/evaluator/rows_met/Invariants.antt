@@ -8,5 +8,5 @@ abbrev pub invariant-loop-row : goal.invariant-loop-row
 invariant-loop-row l = record {
   sizes : IsFor l.app l.scanner;
   outs : length l.report.outs ≡ length l.app.outputs;
-  diags : length l.report.diags ≡ instance_count l.app
+  diags : length l.report.diags ≡ instance_count l.app;
 }

@@ -8,15 +8,14 @@ instructions.py program [FOLDER [PROGRAM]]   the program on the files of generat
 instructions.py reader                       the reader of traces alone, for each line of three values
 instructions.py channels [SCANS]             channels A, B and C: of SCANS scans (100,000) of a motor behind an emergency stop the turns in
                                              a scan, the instructions of a scan with its Begin and its report, and the same for each turn
-instructions.py stack                        each turn of channel A. First six scans of an application with one SF_EmergencyStop: a line is
-                                             a scan, whose turns are CONST, LOAD, CONST, CONST, LOAD, CALL, LOAD, LOAD, AND, STORE and END.
-                                             Then three CALLs of each kind: from Idle on, in its first state, and with Activate FALSE. Each
-                                             turn is a run of its own: about 26 instructions of each count begin and end the run
-instructions.py equation                     each turn of channel B in the same six scans: BLOCK, SET, ALL, SET and LAST
+instructions.py stack [PROGRAM]              each turn of channel A in runs of PROGRAM, or of the one that ./plcsafe builds. First six scans
+                                             of an application with one SF_EmergencyStop: a line is a scan, whose turns are CONST, LOAD, CONST,
+                                             CONST, LOAD, CALL, LOAD, LOAD, AND, STORE and END. Then three CALLs of each kind, whose pins are
+                                             inputs: from Idle on, in its first state, and with Activate FALSE
+instructions.py equation [PROGRAM]           each turn of channel B in the same six scans: BLOCK, SET, ALL, SET and LAST
 
-The reader and the channels are measured by the program crates/ps_bench, and turns by the tests of crates/ps_channel_tests. What
-`rt ci` left of these is taken as it is; where there is nothing, `rt run` or `rt test` proves and builds it first. Where a count is not
-to be had, the status is 1.
+The reader and the channels are measured by the program crates/ps_bench. What `rt ci` left of it is taken as it is; where there is
+nothing, `rt run` proves and builds it first. Where a count is not to be had, the status is 1.
 """
 import os
 import pathlib
@@ -30,6 +29,7 @@ import generate
 
 sys.path.append(os.path.join(os.path.dirname(os.path.abspath(__file__)), "..", "tools"))
 from plainly import Stop, plainly
+from rows import sections
 
 ROOT = pathlib.Path(__file__).resolve().parent.parent
 BUILT = ROOT / "built" / "ps_main" / "program"
@@ -136,35 +136,56 @@ def of_channels(scans="100000"):
 # ---- turn by turn
 
 
-def turns_of(function, test, count):
-    """The instructions of each call of a function in a test: callgrind writes a file for each, and a last one for what is behind them."""
-    program = made("ps_channel_tests", "_tests", "test")
+# Six scans of the motor: the stop is reset, and pressed.
+SIX = "time S_In Ack Run\n0 1 0 1\n10 1 0 1\n20 1 0 1\n30 1 1 1\n40 1 0 0\n50 0 0 1\n"
+STACK, EQUATION = "ps_stackvm::turn::turns", "ps_eqvm::channel::EquationChannel::turn"
+
+
+def turns_of(program, function, app, trace, count):
+    """The instructions of each call of a function in a run, which is made turn by turn, since a fault waits behind the turns of each scan.
+    callgrind writes a file for each call, and a last one for what is behind them."""
+    program = pathlib.Path(program).resolve()
+    if not program.is_file() or not os.access(program, os.X_OK):
+        raise Stop(f"{program} is no program" + ("" if program != BUILT else ": run ./plcsafe once"))
     with tempfile.TemporaryDirectory(prefix="plcsafe-bench-") as folder:
-        counted(program, [test], "/", within=function, out=f"{folder}/whole")
+        scans = trace.count("\n") - 1
+        texts = {"A": app, "T": trace, "F": "".join(f"before {scan} turn 1000 A memory 0 00\n" for scan in range(1, scans + 1))}
+        for name, text in texts.items():
+            (pathlib.Path(folder) / name).write_text(text)
+        words = ["fault", "A", "T", "F"]
+        counted(program, words, folder, within=function, out=f"{folder}/whole")
         command = ["valgrind", "--quiet", "--tool=callgrind", f"--callgrind-out-file={folder}/turn", f"--toggle-collect={function}", f"--dump-after={function}"]
-        subprocess.run([*command, program, test], cwd="/", stdin=subprocess.DEVNULL, stdout=subprocess.DEVNULL, check=True)
+        subprocess.run([*command, program, *words], cwd=folder, stdin=subprocess.DEVNULL, stdout=subprocess.DEVNULL, stderr=subprocess.DEVNULL, check=True)
         files = [pathlib.Path(folder) / f"turn.{number}" for number in range(1, count + 1)]
         if not all(file.is_file() for file in files):
-            raise Stop(f"the test {test} makes less than {count} turns")
+            raise Stop(f"{program.name} makes less than {count} calls of {function}")
         return [int(re.search(r"(?m)^totals: (\d+)", file.read_text())[1]) for file in files]
 
 
-def in_lines(counts, width, heads=()):
-    """Prints so many counts in a line, behind its head."""
-    for number, first in enumerate(range(0, len(counts), width)):
-        print(*heads[number : number + 1], *counts[first : first + width])
+def in_lines(counts, width):
+    """Prints so many counts in a line."""
+    for first in range(0, len(counts), width):
+        print(*counts[first : first + width], flush=True)
 
 
-def of_stack():
-    in_lines(turns_of("ps_stackvm::turn::turns", "channel_a::scans::six_scans", 66), 11)
-    in_lines(turns_of("ps_stackvm::turn::turns", "channel_a::kinds::each_kind", 39), 3, KINDS)
+def of_stack(program=BUILT):
+    texts = sections()[1]
+    in_lines(turns_of(program, STACK, texts["motor", "MOTOR"], SIX, 66), 11)
+    for kind in KINDS:
+        # An application of tests/calls/walks.calls: each pin is an input, and each safe output an output.
+        app = next(text for (file, _), text in texts.items() if file == "walks" and f"VAR E : {kind};" in text)
+        pins = re.findall(r"(?m)^  (\w+) : \w+;$", app)
+        off = " 0" * (len(pins) - 1)
+        turns = len(pins) + 1 + 2 * app.count(" := E.") + 1
+        counts = turns_of(program, STACK, app, f"time {' '.join(pins)}\n0 1{off}\n0 1{off}\n0 0{off}\n", 3 * turns)
+        print(kind, *counts[len(pins) :: turns], flush=True)
 
 
-def of_equation():
-    in_lines(turns_of("ps_eqvm::channel::EquationChannel::turn", "channel_b::scans::six_scans", 30), 5)
+def of_equation(program=BUILT):
+    in_lines(turns_of(program, EQUATION, sections()[1]["motor", "MOTOR"], SIX, 30), 5)
 
 
-WHAT = {"program": (of_program, 2), "reader": (of_reader, 0), "channels": (of_channels, 1), "stack": (of_stack, 0), "equation": (of_equation, 0)}
+WHAT = {"program": (of_program, 2), "reader": (of_reader, 0), "channels": (of_channels, 1), "stack": (of_stack, 1), "equation": (of_equation, 1)}
 
 
 def main(words):
@@ -178,4 +199,4 @@ def main(words):
 
 
 if __name__ == "__main__":
-    plainly(main, "bench/instructions.py program [FOLDER [PROGRAM]] | reader | channels [SCANS] | stack | equation")
+    plainly(main, "bench/instructions.py program [FOLDER [PROGRAM]] | reader | channels [SCANS] | stack [PROGRAM] | equation [PROGRAM]")

@@ -8,7 +8,7 @@ A file of tests/calls/ has sections, each of a line that begins with `@ ` and wh
 @ text NAME                       a text, which other sections name: NAME, or FILE.NAME from another file
 @ call WORDS ; PART ; ..          a call, and the text that it has to write
 @ walk WORDS ; PART ; ..          a call, and the lines of its trace, which it reads as T: each with, behind ` => `, the line that is
-                                  written for it
+                                  written for it. Between the words of several calls, which are all to write this, stands ` | `
 @ each FILE of WORDS ; PART ; ..  a call for each line, which is the text of FILE: a bar stands for a line feed. Behind ` => ` stands the
                                   line that it has to write; with `gives TEXT` it writes this text, and the line's words stand for its `%`
 @ told WORDS ; PART ; ..          a call, and what it has to say on standard error
@@ -155,7 +155,8 @@ def do_walk(rows, section, texts):
     trace = "".join(line + "\n" for line, _, _ in pairs)
     text = "".join(line + "\n" for _, sign, line in pairs if sign)
     files = {**files_of(section, texts), "T": trace}
-    rows.gives(f"{section.file}: {section.title()}", section.words.split(" "), files, (int(section.part("status ")), text))
+    for words in section.words.split(" | "):
+        rows.gives(f"{section.file}: {words}: {section.title()}", words.split(" "), files, (int(section.part("status ")), text))
 
 
 def do_each(rows, section, texts):
@@ -207,6 +208,11 @@ SIZES = (
     ("statements", lambda n: "PROGRAM W VAR x : BOOL; END_VAR" + " x := x;" * n + " END_PROGRAM",
      ((20_000, "refused N7 line 1 column 41"), (20_001, "refused B4 line 1 column 9"))),
     # 1,048,576 bytes, and one more.
+    # Bytes are counted before characters are looked at, and a token may be any of them.
+    ("signs", lambda n: "@" * n, ((1_048_577, "refused L5 line 1 column 1"),)), ("tokens", lambda n: ";" * n, ((1_048_576, "refused P1 line 1 column 1"),)),
+    ("operands", lambda n: "PROGRAM P\nS_o := a" + " AND a" * n + "; END_PROGRAM", ((99_999, "refused N2 line 2 column 1"),)),
+    ("function blocks", lambda n: copies(n, "FUNCTION_BLOCK F# END_FUNCTION_BLOCK ") + "PROGRAM P END_PROGRAM",
+     ((64, accepted()), (65, "refused B4 line 1 column 2469"))),
     ("bytes", lambda n: "PROGRAM P END_PROGRAM" + " " * (64 * 16_383 + n), ((43, accepted()), (44, "refused L5 line 1 column 1"))),
     ("inputs beside a literal",
      lambda n: "PROGRAM W VAR_INPUT " + copies(n, "S_# : SAFEBOOL; ") + "END_VAR VAR_OUTPUT o : BOOL; END_VAR o := TRUE; END_PROGRAM", ((513, TOO_LARGE),)),
@@ -241,13 +247,21 @@ CHAINS = (
     ("65 deep", SOURCE, 64, ONCE, "refused B4 line 66 column 9"), ("60 deep with long names", SUM, 60, NAMED, accepted(locals_=62, steps=62, nodes=9_063)),
 )
 ONE = "PROGRAM P VAR_INPUT a : SAFEBOOL; END_VAR VAR_OUTPUT o : SAFEBOOL; END_VAR o := a; END_PROGRAM"
-CERTIFICATES = (("0 SRC", 39_999, "verified 40000 lines"), ("x", 39_999, "refused C1 line 40000"), ("x", 40_000, "refused C2 line 1"))
+CERTIFICATES = (
+    ("0 SRC", 39_999, "verified 40000 lines"), ("x", 39_999, "refused C1 line 40000"), ("x", 40_000, "refused C2 line 1"),
+    # 1,048,576 bytes, and one more.
+    ("1" * 1_048_576, 0, "refused C1 line 1"), ("1" * 1_048_577, 0, "refused C2 line 1"),
+)
 FAULT = "before 7 A memory 0 00\n"
 LONG_FAULTS = (
     ("most faults", FAULT * 1_000, None), ("most skipped lines", "#\n" * 1_000, None), ("a line more", FAULT * 1_000 + "x", "refused F5 line 1001\n"),
     ("a skipped line more", "#\n" * 1_001, "refused F5 line 1001\n"), ("the first line", "x\n" + "#\n" * 1_001, "refused F1 line 1\n"),
+    ("a line of another form before the last", "#\n" * 999 + "x\nx", "refused F1 line 1000\n"),
+    # A fault has at most 256 bytes: with so many it passes the region's end, and with one more it is no fault.
+    ("the most bytes", "before 7 B memory 0 " + "00" * 256, "refused F3 line 1\n"), ("a byte more", "before 7 B memory 0 " + "00" * 257, "refused F1 line 1\n"),
     # A line has at most 600 bytes, skipped or not. A carriage return before its end counts.
     ("the longest line", "#" + "x" * 598 + "\r\n", None), ("a longer line", "#" + "x" * 599 + "\r\n", "refused F1 line 1\n"),
+    ("a line of 2,000,000 bytes", "#" + "x" * 2_000_000, "refused F1 line 1\n"),
 )
 
 
@@ -309,6 +323,18 @@ def demands(rows):
     rows.gives("demands: 500 names", ["demand", "A"], {"A": text}, (0, f"S_o needs {all_}\nS_p needs S_0 OR ({all_})\n"))
 
 
+def wide(rows, texts):
+    """The AND of 512 inputs: all of them are TRUE, all but the first, and all but the last, in two channels and in three; and the regions of C."""
+    head = "time " + " ".join(f"S_{k}" for k in range(512)) + "\n"
+    for title, off, value in (("all", 512, 1), ("all but the first", 0, 0), ("all but the last", 511, 0)):
+        files = {"A": texts["images", "WIDE"], "T": head + "0 " + " ".join("0" if k == off else "1" for k in range(512)) + "\n", "F": ""}
+        for words in (["run", "A", "T"], ["vote", "A", "T", "F"]):
+            rows.gives(f"wide: {words[0]}, {title}", words, files, (0, f"0 S_O={value}\n"))
+        for region, size in (("code", 11 * 512 + 2 * 8 + 1), ("memory", 22 + 513)):
+            for at, wanted in ((size - 1, (0, f"0 S_O={value}\n")), (size, (3, "refused F3 line 1\n"))):
+                rows.gives(f"wide: {region} of C at {at}, {title}", ["vote", "A", "T", "F"], {**files, "F": f"before 2 C {region} {at} 00\n"}, wanted)
+
+
 def long_lines(rows, texts):
     """Long fault files and long lines of a trace, of the motor."""
     motor, use, ordinary = texts["motor", "MOTOR"], texts["strikes", "USE"], texts["strikes", "ORDINARY"]
@@ -316,6 +342,14 @@ def long_lines(rows, texts):
         wanted = (0, ordinary) if refusal is None else (3, refusal)
         rows.gives(f"long: {title}", ["fault", "A", "T", "F"], {"A": motor, "T": use, "F": faults}, wanted)
     said = "0 S_Motor=0 E=1,0,8001\n10 S_Motor=0 E=1,0,8002\n"
+    begun = "time S_In Ack Run\n0 1 0 1\n#"
+    # A carriage return before the end counts. Of 67,108,865 bytes the last line is too large, which comes first, and of one less too long.
+    for count, after, wanted in ((65_534, "\r\n5 0 0 1", (0, "0 S_Motor=0 E=1,0,8001\n5 S_Motor=0 E=1,0,8002\n")),
+                                 (65_535, "\r\n5 0 0 1", (3, "0 S_Motor=0 E=1,0,8001\nrefused T8 line 3\n")),
+                                 (65_536, "", (3, "0 S_Motor=0 E=1,0,8001\nrefused T8 line 3\n")),
+                                 (67_108_837, "", (3, "0 S_Motor=0 E=1,0,8001\nrefused T8 line 3\n")),
+                                 (67_108_838, "", (3, "0 S_Motor=0 E=1,0,8001\nrefused T9 line 3\n"))):
+        rows.gives(f"long: {count} bytes behind a sign, {after!r}", ["run", "A", "T"], {"A": motor, "T": begun + "x" * count + after}, wanted)
     for count, after, wanted in ((65_535, "\n", (0, said)), (65_536, "\n20 1 0 1\n", (3, said + "refused T8 line 4\n"))):
         trace = "time S_In Ack Run\n0 1 0 1\n10 1 0 1\n#" + "x" * count + after
         rows.gives(f"long: a line of {count} bytes behind a sign", ["run", "A", "T"], {"A": motor, "T": trace}, wanted)
@@ -337,6 +371,7 @@ def main(words):
         copies_of_blocks(rows)
         demands(rows)
         long_lines(rows, texts)
+        wide(rows, texts)
     for line in rows.wrong:
         print("another answer:", line)
     print(f"{rows.count} calls, {len(rows.wrong)} with another answer")

@@ -5,12 +5,11 @@ ghost use Rattle.ps_model.specs.Network.{input_count, instance_count};
 ghost use Rattle.ps_model.specs.Sized.{AreSizesOf};
 ghost use Rattle.ps_model.specs.Typing.{Accepted};
 
+use crate::application::{decision_channel, equation_channel, motor, stack_channel};
 use ps_base::{Fail, Memory};
-use ps_channel_tests::code::{application, equation_channel, stack_channel};
-use ps_channel_tests::texts::MOTOR;
-use ps_decision::{DecisionChannel, decision_image, turns_c};
+use ps_decision::{DecisionChannel, turns_c};
 use ps_eqvm::EquationChannel;
-use ps_model::{App, Report, Scan, Sizes};
+use ps_model::{App, Report, Scan};
 use ps_stackvm::StackChannel;
 use std::alloc::Global;
 
@@ -57,16 +56,6 @@ fn fill(scan: &mut Scan, k: u32)
         scan.ins.set(1, k % 10 == 3);
         scan.ins.set(2, true);
     }
-}
-
-// Channel C of an accepted application, at the start.
-fn decision_channel(alloc: Global, app: &App) -> Result<DecisionChannel, Memory>
-    requires { Accepted app.now }
-    ensures { IfOk result (λ channel. AreSizesOf app.now channel.sizes) }
-{
-    let sizes = Sizes::of(alloc, app)?;
-    let code = decision_image(alloc, app)?;
-    DecisionChannel::new(alloc, &code, &sizes)
 }
 
 // What a scan of an application is made with.
@@ -184,7 +173,7 @@ fn tally_c(alloc: Global, app: &App, scans: u32) -> Result<Tally, Memory>
 
 /// So many scans of the motor through each channel.
 pub fn run(alloc: Global, scans: u32) -> Result<Tallies, Fail> {
-    let app = application(alloc, MOTOR)?;
+    let app = motor(alloc)?;
     let a = tally_a(alloc, &app, scans)?;
     let b = tally_b(alloc, &app, scans)?;
     let c = tally_c(alloc, &app, scans)?;

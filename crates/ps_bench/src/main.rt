@@ -6,6 +6,7 @@
 //! how many turns the scans take, and after how many of them the motor is on.
 #![tactic(auto)]
 
+mod application;
 mod channels;
 mod traces;
 

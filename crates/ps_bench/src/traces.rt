@@ -3,10 +3,11 @@
 ghost use Rattle.std.specs.Prelude.{◌≡◌, length};
 ghost use Rattle.ps_trace.specs.Reading.{input_count_of};
 
+use crate::application::motor;
+use ps_base::Fail;
 use ps_base::limits::LARGEST_TRACE;
 use ps_model::Scan;
 use ps_outside::Files;
-use ps_text_tests::inputs::{application, no_scan};
 use ps_trace::{Next, TraceFail, TraceReader, TraceStop};
 use std::alloc::Global;
 
@@ -29,8 +30,12 @@ fn count_scans<F: Files>(
 
 /// How many scans the trace T gives before its first restart or its end, or why it is not read.
 pub fn count_trace<F: Files>(alloc: Global, files: &mut F) -> Result<u32, TraceFail> {
-    let app = application(alloc)?;
-    let mut scan = no_scan(alloc)?;
+    let app = match motor(alloc) {
+        Ok(app) => app,
+        Err(Fail::Memory) => return Err(TraceFail::Memory),
+        Err(Fail::Refused(refusal)) => return Err(TraceFail::Refused(refusal)),
+    };
+    let mut scan = Scan::for_app(alloc, &app)?;
     let mut reader = TraceReader::start(alloc, files, "T", &app)?;
     match count_scans(&mut reader, files, &mut scan) {
         Ok(count) => Ok(count),

@@ -1,1 +1,1 @@
-pub mod InputsAlone
+mod Beginnings

@@ -1,38 +1,54 @@
-//! Tests of what reads and writes texts, by its public calls: tokens, sources, certificates, traces, fault files, the
-//! lines of files, the outside world and the lines of a report. And the application of three inputs that the tests of
-//! traces use.
+//! Tests of what no call of a program shows, by the public calls of the libraries. They are few and go over tables, since
+//! each function of a test is proved over all that it stands on. A failed assertion names its row. What a call of a
+//! program shows is tested by `tests/calls/`.
 //!
-//! - `tokens`, `sources`, `libraries`, `certificates`: the texts of applications, of function blocks and of
-//!   certificates.
-//! - `traces`, `long_traces`, `fault_files`, `words`: the texts of traces and fault files, told in words by `telling`
-//!   and `saying`. `inputs`: the application that they are of.
-//! - `lines`, `outside`: how texts are read, and where from. `report`: the lines that are written.
+//! - `application`: from a text to its accepted application, and texts that several tests take. `fixtures`: channels of
+//!   one instance, scans and reports.
+//! - `machines`: turns of each channel over given bytes, by the rows of `turns_a`, `turns_b` and `turns_c`. `channel_a`,
+//!   `channel_b`: scans, regions and spoiled bytes. `codes`: the codes of channel C, and the figures of all three.
+//! - `evaluator`: the plain evaluator over the tables of `worked`. `rows`: channel B's rows.
+//! - `events`: single events of a world of two channels, by `scripts`, over the world of a `stage`; and with `watched` a
+//!   run with the plain evaluator beside the world, and alone. `left`: the world that a call of the program leaves.
+//! - `sources`, `readers`, `outside`: tokens and sources, texts that are read in pieces, files and outputs.
 #![tactic(auto)]
 
 #[cfg(test)]
-mod certificates;
+mod application;
 #[cfg(test)]
-mod fault_files;
-pub mod inputs;
+mod channel_a;
 #[cfg(test)]
-mod libraries;
+mod channel_b;
 #[cfg(test)]
-mod lines;
+mod codes;
 #[cfg(test)]
-mod long_traces;
+mod evaluator;
+#[cfg(test)]
+mod events;
+#[cfg(test)]
+mod fixtures;
+#[cfg(test)]
+mod left;
+#[cfg(test)]
+mod machines;
 #[cfg(test)]
 mod outside;
 #[cfg(test)]
-mod report;
+mod readers;
 #[cfg(test)]
-mod saying;
+mod rows;
+#[cfg(test)]
+mod scripts;
 #[cfg(test)]
 mod sources;
 #[cfg(test)]
-mod telling;
+mod stage;
 #[cfg(test)]
-mod tokens;
+mod turns_a;
 #[cfg(test)]
-mod traces;
+mod turns_b;
 #[cfg(test)]
-mod words;
+mod turns_c;
+#[cfg(test)]
+mod watched;
+#[cfg(test)]
+mod worked;

@@ -25,18 +25,18 @@ static IN_MEMORY: &[Read] = &[("fish", 100, Some("one fish")), ("bird", 0, None)
 // Reads of files in memory of which the second call fails: it would find the end.
 static FAILING: &[Read] = &[("fish", 100, None), ("fish", 3, Some("one"))];
 
-// Pieces that are written, and what comes of each.
-type Write = (&'static str, Result<(), Stopped>);
+// Pieces that are written, and how many bytes of each are taken before a write fails. None: all.
+type Write = (&'static str, Option<usize>);
 
 // Pieces in four bytes of room: then a write takes nothing.
-static IN_A_ROOM: &[Write] = &[("ab", Ok(())), ("cdef", Err(Stopped { taken: 2 }))];
+static IN_A_ROOM: &[Write] = &[("ab", None), ("cdef", Some(2))];
 
 // Pieces in six bytes of room, of which the second write fails. Then the room that is left is two bytes.
 static FAILING_ONCE: &[Write] = &[
-    ("one ", Ok(())),
-    ("f", Err(Stopped { taken: 0 })),
-    ("fish", Err(Stopped { taken: 0 })),
-    ("is", Ok(())),
+    ("one ", None),
+    ("f", Some(0)),
+    ("fish", Some(0)),
+    ("is", None),
 ];
 
 // Whether a read of some files gives those bytes.
@@ -45,6 +45,16 @@ fn is_read<F: Files>(alloc: Global, files: &mut F, read: &Read) -> bool {
     match (read_upto(alloc, files, name, *most), expected) {
         (Ok(bytes), Some(text)) => bytes.as_slice() == text.as_bytes(),
         (Err(ReadFail::Fault), None) => true,
+        _ => false,
+    }
+}
+
+// Whether this comes of a piece.
+fn is_written<S: Sink>(sink: &mut S, write: &Write) -> bool {
+    let (piece, expected) = write;
+    match (write_all(sink, piece.as_bytes()), expected) {
+        (Ok(()), None) => true,
+        (Err(Stopped { taken }), Some(count)) => taken == *count,
         _ => false,
     }
 }
@@ -58,8 +68,8 @@ fn reads<F: Files>(rt: &impl Abort, alloc: Global, files: &mut F, rows: &[Read])
 
 // Asserts what comes of each piece, one after the other.
 fn writes<S: Sink>(rt: &impl Abort, sink: &mut S, rows: &[Write]) {
-    for (piece, expected) in rows {
-        assert_eq!(rt; write_all(sink, piece.as_bytes()), *expected, "{piece}");
+    for write in rows {
+        assert!(rt; is_written(sink, write), "{write:?}");
     }
 }
 

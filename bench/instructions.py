@@ -14,7 +14,7 @@ instructions.py stack [PROGRAM]              each turn of channel A in runs of P
                                              inputs: from Idle on, in its first state, and with Activate FALSE
 instructions.py equation [PROGRAM]           each turn of channel B in the same six scans: BLOCK, SET, ALL, SET and LAST
 
-The reader and the channels are measured by the program crates/ps_bench. What `rt ci` left of it is taken as it is; where there is
+The reader and the channels are measured by the program crates/ps_measure. What `rt ci` left of it is taken as it is; where there is
 nothing, `rt run` proves and builds it first. Where a count is not to be had, the status is 1.
 """
 import os
@@ -113,7 +113,7 @@ def of_program(folder=FOLDER, program=BUILT):
 
 
 def of_reader():
-    program, counts = made("ps_bench", "", "run"), []
+    program, counts = made("ps_measure", "", "run"), []
     with tempfile.TemporaryDirectory(prefix="plcsafe-bench-") as folder:
         for scans in (1_000, 11_000):
             lines = [f"{10 * k} {k % 2} {k // 2 % 2} {k // 4 % 2}\n" for k in range(scans)]
@@ -125,11 +125,11 @@ def of_reader():
 def of_channels(scans="100000"):
     if not scans.isdecimal() or not 0 < int(scans) < 1 << 32:
         raise Stop(f"{scans} is no number of scans")
-    program = made("ps_bench", "", "run", "--", "1")
+    program = made("ps_measure", "", "run", "--", "1")
     said = subprocess.run([program, scans], stdin=subprocess.DEVNULL, stdout=subprocess.PIPE, text=True, cwd="/").stdout
     turns = {letter: int(count) for letter, count in re.findall(r"(?m)^([ABC]) scans \d+ turns (\d+)", said)}
     for letter, function in (("A", "run_stack"), ("B", "run_equation"), ("C", "run_decision")):
-        count = counted(program, [scans], "/", within=f"ps_bench::channels::{function}")
+        count = counted(program, [scans], "/", within=f"ps_measure::channels::{function}")
         print(f"{letter}: {turns[letter] // int(scans)} turns a scan, {count // int(scans)} instructions a scan, {count / turns[letter]:.1f} for each turn", flush=True)
 
 

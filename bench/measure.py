@@ -16,7 +16,7 @@ sys.path.append(os.path.join(HERE, "..", "tools"))
 from plainly import plainly
 
 BUILT = os.path.join(HERE, "..", "built", "ps_main", "program")
-WORKBENCH = os.path.abspath(os.path.join(HERE, "..", "built", "ps_workbench", "program"))
+WORKBENCH = os.path.abspath(os.path.join(HERE, "..", "built", "ps_bench_main", "program"))
 PROGRAM = os.path.abspath(sys.argv[2] if len(sys.argv) > 2 else BUILT)
 MIB = 1 << 20
 RUNS = 9

@@ -22,7 +22,7 @@ from plainly import Stop, plainly
 from trials import compile_oracle
 
 SEED, CASES = 1, 200
-WORLD, VOTES, SEATS = "crates/ps_world/src/world.rt", "crates/ps_vote/src/world.rt", "crates/ps_seat/src/seat.rt"
+WORLD, VOTES, SEATS = "crates/ps_world/src/world.rt", "crates/ps_vote/src/world.rt", "crates/ps_machine/src/seat.rt"
 EQUATIONS = "crates/ps_eqvm/src/channel.rt"
 
 # The name of a mutant, what is wrong, the file, and pairs of an old text, which stands there once, and a new one.

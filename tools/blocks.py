@@ -1,4 +1,4 @@
-"""The tables of docs/blocks.md, the words of states of the crate ps_states, and the mask rows of the crate ps_rows, for the
+"""The tables of docs/blocks.md, the words of states of the crate ps_ways, and the mask rows of the crate ps_rows, for the
 scripts of this folder."""
 import pathlib
 import re
@@ -6,7 +6,7 @@ import re
 ROOT = pathlib.Path(__file__).resolve().parent.parent
 PAGE = ROOT / "docs" / "blocks.md"
 ROWS = ROOT / "crates" / "ps_rows" / "src"
-WORDS = ROOT / "crates" / "ps_states" / "specs" / "Words.antt"
+WORDS = ROOT / "crates" / "ps_ways" / "specs" / "Words.antt"
 FILES = {  # the file of a kind's rows
     "SF_Equivalent": "equivalent",
     "SF_Antivalent": "equivalent",
@@ -43,7 +43,7 @@ def rows_of(file):
 
 
 def words():
-    """What the states of each kind are called, as the crate ps_states has it: for each kind the words of its codes."""
+    """What the states of each kind are called, as the crate ps_ways has it: for each kind the words of its codes."""
     lists = re.findall(r"abbrev pub (\w+) : List Called\n\w+ =\n(.*?)\n    ∷ \[\]", WORDS.read_text(), re.S)
     found = {name: dict(re.findall(r'\(0x(\w+), codes "([^"]*)"\)', rows)) for name, rows in lists}
     found["two_hand_three"] = {**found["two_hand_two"], **found["late"]}

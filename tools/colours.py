@@ -63,8 +63,8 @@ def words_in(kind):
     found = {
         "trace": words_of("ps_trace/src/header.rt", "ps_trace/src/scan_line.rt"),
         "faults": words_of("ps_trace/src/fault_line.rt"),
-        "cases": words_of("ps_cases/src/line.rt", "ps_cases/src/deeds.rt", "ps_cases/src/checks.rt", "ps_cases/src/strike.rt"),
-        "rules": words_of("ps_rules/src/line.rt", "ps_rules/src/taking.rt", "ps_rules/src/words.rt"),
+        "cases": words_of("ps_bench_cases/src/line.rt", "ps_bench_cases/src/deeds.rt", "ps_bench_cases/src/checks.rt", "ps_bench_cases/src/strike.rt"),
+        "rules": words_of("ps_bench_rules/src/line.rt", "ps_bench_rules/src/taking.rt", "ps_bench_rules/src/words.rt"),
     }[kind]
     wanted = {"trace": 2, "faults": 4, "cases": 16, "rules": 8}[kind]
     if len(found) != wanted:

@@ -4,7 +4,7 @@
 diagrams.py            prints the diagrams, in mermaid
 diagrams.py --write    writes them into the page, each between its two marks
 diagrams.py --check    asks whether the page has these diagrams, and whether its tables have the states and the ways of the
-                       rows, in the order in which they are tried, and the words of ps_states; by its status
+                       rows, in the order in which they are tried, and the words of ps_ways; by its status
 
 The rows are those that channel B runs. They are proved equal to the tables of ps_model (laws `.._rows` of ps_rows). Ways to Idle
 are left out, since they are the same in each state: Activate FALSE.

@@ -1,4 +1,4 @@
-// Why a call gives no answer: memory is wanting, or a rule refuses a text.
+// Why a call gives no answer: memory runs out, or a rule refuses a text.
 
 ghost use Rattle.std.specs.Prelude.{◌≡◌};
 ghost use Rattle.ps_base.specs.declared.failing.Fail.TheVariants.{Memory as NoMemory};
@@ -6,7 +6,7 @@ ghost use Rattle.ps_base.specs.declared.failing.Fail.TheVariants.{Memory as NoMe
 use std::alloc::{AllocError, AllocFailed};
 use thiserror::Error;
 
-/// Memory is wanting. It is an answer of its own, merged with no other.
+/// Out of memory. It is an answer of its own, merged with no other.
 #[derive(Clone, Copy, Debug, PartialEq)]
 pub struct Memory;
 

@@ -1,4 +1,4 @@
-//! The words that all crates share: want of memory, places and refusals, lists of bytes, and the limits.
+//! The words that all crates share: running out of memory, places and refusals, lists of bytes, and the limits.
 #![tactic(auto)]
 
 mod failing;

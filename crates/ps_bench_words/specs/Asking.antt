@@ -1,5 +1,5 @@
 -- What the words of a call ask of the program. They are read as `clap` reads words: options stand before, between and
--- behind the others, `--` ends them, `--format=tap` and `--format tap` are the same.
+-- after the others, `--` ends them, `--format=tap` and `--format tap` are the same.
 use Rattle.std.specs.Prelude.{◌≡◌, ◌⊎◌, ℕ, Bool, ◌==◌, List, [], Option, Some, None, codes, nat_le, nat_lt}
 use Rattle.std.specs.Prelude.{if◌then◌else◌, unwrap_or}
 use Rattle.std.specs.List.{list_any}
@@ -16,8 +16,8 @@ use Rattle.ps_bench_words.specs.declared.asking.Format.{Format}
 use Rattle.ps_bench_words.specs.declared.asking.Format.TheVariants.{Text, Tap, Junit}
 use Rattle.ps_bench_words.specs.declared.asking.Layout.{Layout}
 use Rattle.ps_bench_words.specs.declared.asking.Layout.TheVariants.{Text as AsText, Csv, Json, Vcd}
-use Rattle.ps_coverage.specs.declared.format.Format.{Format as Output}
-use Rattle.ps_coverage.specs.declared.format.Format.TheVariants.{Text as InText, Json as InJson}
+use Rattle.ps_cover.specs.declared.format.Format.{Format as Output}
+use Rattle.ps_cover.specs.declared.format.Format.TheVariants.{Text as InText, Json as InJson}
 use Rattle.ps_model.specs.declared.channel.Channel.{Channel}
 use Rattle.ps_model.specs.declared.channel.Channel.TheVariants.{A, B}
 use Rattle.ps_trace.specs.Words.{number_of}

@@ -23,7 +23,7 @@ use crate::reading::{
 use clap::error::ErrorKind;
 use clap::{ArgMatches, Command, Error};
 use ps_base::Memory;
-use ps_coverage::Format as Output;
+use ps_cover::Format as Output;
 use ps_model::Channel;
 use ps_words::Words;
 use std::alloc::{AllocError, Global};
@@ -151,7 +151,7 @@ pub enum Asked<'a> {
     },
 }
 
-/// The texts of the words. An error: memory is wanting.
+/// The texts of the words. An error means out of memory.
 pub fn texts_of(alloc: Global, words: &Words) -> Result<Vec<&str>, Memory>
     ensures { IfOk result (λ texts. seen texts.items ≡ words.now) }
 {
@@ -184,7 +184,7 @@ fn wrong_value(alloc: Global, name: &str, why: &str) -> Result<String, Memory> {
     text_of(alloc, &error)
 }
 
-// The page that `--help` shows behind these words.
+// The page that `--help` shows after these words.
 fn shown_page(alloc: Global, words: &[&str]) -> Result<String, Memory> {
     match program(alloc)?.try_get_matches_from(words) {
         Ok(_) => Ok(String::new(alloc)),
@@ -283,7 +283,7 @@ fn refused<'a>(alloc: Global, error: &Error) -> Result<Asked<'a>, Memory>
     }
 }
 
-/// What the words ask of the program, as `clap` reads them. An error: memory is wanting.
+/// What the words ask of the program, as `clap` reads them. An error means out of memory.
 pub fn asked_of<'a>(alloc: Global, words: &'a [&'a str]) -> Result<Asked<'a>, Memory>
     ensures { IfOk result (λ asked. asking.Asks (seen words.now) (asked_seen asked)) }
 {

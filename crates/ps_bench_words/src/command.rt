@@ -51,7 +51,7 @@ fn bare_command<'a>(alloc: Global, form: &Form) -> Command<'a>
         .after_help(form.example)
 }
 
-/// A command of this form. An error: memory is wanting.
+/// A command of this form. An error means out of memory.
 pub(crate) fn command_of<'a>(alloc: Global, form: &Form) -> Result<Command<'a>, AllocError>
     ensures app { IfOk result (λ c. app_of c ≡ command_seen form.now) }
     ensures local { IfOk result (λ c. (fields_of c).has_globals ≡ false) }
@@ -98,7 +98,7 @@ fn program_of<'a>(alloc: Global, forms: &[Form]) -> Result<Command<'a>, AllocErr
     Ok(program)
 }
 
-/// The program with its commands, as `clap` reads them. An error: memory is wanting.
+/// The program with its commands, as `clap` reads them. An error means out of memory.
 pub(crate) fn program<'a>(alloc: Global) -> Result<Command<'a>, AllocError>
     ensures { IfOk result (λ c. app_of c ≡ commands.workbench) }
 {

@@ -24,7 +24,7 @@ pub(crate) enum Given {
 /// An argument of a command.
 #[derive(Clone, Copy)]
 pub(crate) struct Argument {
-    /// By what it is read back: what usage calls a word, or the name of an option behind its `--`.
+    /// By what it is read back: what usage calls a word, or the name of an option after its `--`.
     pub(crate) id: &'static str,
     /// Whether it may not be left out.
     pub(crate) required: bool,
@@ -39,7 +39,7 @@ pub(crate) struct Argument {
 pub(crate) struct Form {
     /// Its name.
     pub(crate) name: &'static str,
-    /// Its name behind that of the program.
+    /// Its name after that of the program.
     pub(crate) call: &'static str,
     /// What it does.
     pub(crate) about: &'static str,

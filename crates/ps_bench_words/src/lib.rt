@@ -12,4 +12,4 @@ mod pages;
 mod reading;
 
 pub use asking::{Asked, Format, Layout, asked_of, texts_of};
-pub use ps_coverage::Format as Output;
+pub use ps_cover::Format as Output;

@@ -12,7 +12,7 @@ use crate::asking::{Asked, Format, Layout};
 use crate::pages;
 use clap::ArgMatches;
 use ps_base::Memory;
-use ps_coverage::Format as Output;
+use ps_cover::Format as Output;
 use ps_model::Channel;
 use ps_trace::number;
 use std::alloc::Global;
@@ -23,7 +23,7 @@ const USUAL_STATES: u32 = 1_000_000;
 /// Why what a command asks is not read.
 #[derive(Clone, Copy)]
 pub(crate) enum Unread {
-    /// Memory is wanting.
+    /// Out of memory.
     NoMemory,
     /// A value is none that its option takes: what it takes.
     Wrong(&'static str),

@@ -20,7 +20,7 @@ at_first f n j rest h =
     get_or_append_left (map f (range_with_len 0 n)) rest false j (let e = length-map-range_with_len f 0 n in omega arith)
     ∙ get_or-map-range_with_len f 0 n j j false h (omega arith)
 
--- behind the first n
+-- after the first n
 behind : (f : ℕ → Bool) (n : ℕ) (r e : Bool) → get_or (map f (range_with_len 0 n) ++ (r ∷ e ∷ [])) (n + 1) false ≡ e
 behind f n r e =
     ap (λ m. get_or (map f (range_with_len 0 n) ++ (r ∷ e ∷ [])) (m + 1) false) (sym (length-map-range_with_len f 0 n))

@@ -79,7 +79,7 @@ module _ (node : ℕ) where
       before_operands (at + length (nodes e)) es (omega arith)
       ∙ ap (λ b. b || is_one (at + length (nodes e)) es) (sym (ne_eqb at node (λ same. omega arith)))
 
-  -- nor is one behind them
+  -- nor is one after them
   pub behind_operands : (at : ℕ) (es : Formulas) → at + length (nodes_below es) ≤ node → false ≡ is_one at es
   behind_operands at no_operand h = refl
   behind_operands at (operand e es) h =

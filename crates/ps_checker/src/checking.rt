@@ -76,7 +76,7 @@ fn is_operand(app: &App, depth: usize, at: usize, end: usize, node: usize) -> bo
     app.nodes()[node].depth.saturating_sub(depth) == 1
 }
 
-// Whether a rule fits a node of this shape, whose operands stand behind it, from node `at` on.
+// Whether a rule fits a node of this shape, whose operands stand after it, from node `at` on.
 fn shape_fits(
     app: &App,
     lines: &[CertLine],

@@ -26,7 +26,7 @@ module _ (net : Network) (cs : List Called) (are : AreCalls net cs) where
       let h = are.kept k (slice_index_or cs k d) (slice_get-get_or cs k d within) in
       (h.0, subst (λ n. IsCallKept net (slice_get net.steps n) (slice_index_or cs k d)) (sym h.0) h.1)
 
-  -- so it is behind a step of one of them
+  -- so it is after a step of one of them
   pub still_calls : (k : ℕ) (c : Called) → k < length cs → c.step ≡ k → IsCallKept net (slice_get net.steps k) c → AreCalls net (set cs k c)
   still_calls k c within same kept = record {
     each = length-set cs k c ∙ are.each;

@@ -1,4 +1,4 @@
--- What is known of each point behind the scans of a trace.
+-- What is known of each point after the scans of a trace.
 use Rattle.std.proofs.Common.{◌≡◌, ◌∙◌, ◌||◌, ℕ, Bool, false, true, List, [], ◌∷◌, Some, length, slice_get, refl, sym, ap, subst}
 use Rattle.std.specs.Prelude.{slice_index_or}
 use Rattle.std.specs.List.{list_any}
@@ -9,11 +9,11 @@ use Rattle.ps_model.specs.Scanning.{State, Solves}
 use Rattle.ps_cover.specs.Applying.{ScanStep}
 use Rattle.ps_cover.specs.Covering.{AreScanned, Looks, point_of}
 use Rattle.ps_cover.specs.Covers.{IsAt, IsCoverFor, Knows, KnowsOf, Renews, TakesScan, time_of}
-use Rattle.ps_marks.specs.Clock.{since}
+use Rattle.ps_cover.specs.Clock.{since}
 use Rattle.ps_cover.specs.Points.{shows}
 use Rattle.ps_cover.specs.declared.cover.Cover.{Cover}
 use Rattle.ps_cover.specs.declared.point.Point.{Point}
-use Rattle.ps_pins.specs.declared.signals.Signals.{Signals}
+use Rattle.ps_machine.specs.declared.signals.Signals.{Signals}
 use Rattle.ps_cover.proofs.Standing.{shown_so, stands_first, stands_next}
 
 -- of no scans nothing more is known
@@ -54,7 +54,7 @@ module _ (net : Network) (past : Past) (now : ℕ) (new : State) (t t' : Cover) 
   passes : since t.clock.last now ≡ passed past now
   passes = ap (λ l. since l now) is_at.time ∙ since_is past now
 
-  -- what a scan shows is known behind it
+  -- what a scan shows is known after it
   look_known : (b : Bool) (before behind : List Bool) → Looks net x t'.calls.items b t.points.items before behind →
       KnowsOf net (record { old = old_state net past; since = passed past now; new = new } ∷ []) t.points.items b before behind
   look_known b was is looks = record {
@@ -74,7 +74,7 @@ module _ (net : Network) (past : Past) (now : ℕ) (new : State) (t t' : Cover) 
     on = look_known true t.on.items t'.on.items takes.on;
   }
 
-  -- and what is kept stands behind it
+  -- and what is kept stands after it
   pub scan_at : (ins : List Bool) → Solves net (old_state net past) ins (passed past now) new → IsCoverFor net t' → IsAt net (last now new) t'
   scan_at ins solves fits = record {
     fits = fits;

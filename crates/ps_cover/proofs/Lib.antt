@@ -1,7 +1,8 @@
+-- what a block does alone, and what traces show
 pub mod Applying
 pub mod Calling
 pub mod Counting
-pub mod Deciding
+pub mod CoverDeciding
 pub mod Fixing
 pub mod Inputs
 pub mod Joining
@@ -15,3 +16,11 @@ pub mod Showing
 pub mod Standing
 pub mod Taken
 pub mod Unshown
+-- pins that are fixed
+pub mod Allowing
+-- what the text of the report cites
+pub mod Capitals
+pub mod Chains
+pub mod Counts
+pub mod Made
+pub mod OfTraces

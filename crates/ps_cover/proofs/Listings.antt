@@ -32,7 +32,7 @@ pub listed_are : (es : List Formula) → listed (operands es) ≡ es
 listed_are [] = refl
 listed_are (e ∷ es) = ap (λ fs. e ∷ fs) (listed_are es)
 
--- two pieces, one behind the other, where the last was listed
+-- two pieces, one after the other, where the last was listed
 pub both_listed : {A E P : Type 0} (r : Result A E) (old middle new one two all : List P) → middle ≡ old ++ one → all ≡ one ++ two →
     OnOk r (new ≡ middle ++ two) → OnOk r (new ≡ old ++ all)
 both_listed (Ok v) old middle new one two all first is last = last ∙ ap (λ ps. ps ++ two) first ∙ append_assoc old one two ∙ ap (λ ps. old ++ ps) (sym is)

@@ -1,4 +1,4 @@
--- What is seen behind a scan, point by point.
+-- What is seen after a scan, point by point.
 use Rattle.std.proofs.Common.{◌≡◌, ℕ, ◌<◌, ◌≤◌, ◌⊎◌, inl, inr, ◌||◌, ◌+◌, Bool, false, List, length, set, slice_get, Some, ap, subst, ◌∙◌, arith}
 use Rattle.std.specs.Prelude.{slice_index_or}
 use Rattle.std.proofs.lemmas.Bool.{cases_lt}

@@ -20,17 +20,17 @@ use Rattle.ps_ways.specs.Moving.{moved_by}
 use Rattle.ps_cover.specs.Blocks.{called_in, moved_in}
 use Rattle.ps_cover.specs.Covering.{AreCalls, AreScanned, makes_in, operands_in, point_of, shows_in}
 use Rattle.ps_cover.specs.Covers.{StandsFor, idle_call, idle_step}
-use Rattle.ps_marks.specs.Deciding.{is_value}
+use Rattle.ps_cover.specs.Deciding.{is_value}
 use Rattle.ps_cover.specs.Points.{decides, makes_at, shows}
-use Rattle.ps_pins.specs.Reading.{read_in}
-use Rattle.ps_pins.proofs.Between.{reads_are as read_as}
+use Rattle.ps_machine.specs.Reading.{read_in}
+use Rattle.ps_machine.proofs.Between.{reads_are as read_as}
 use Rattle.ps_cover.specs.declared.block.Called.{Called}
 use Rattle.ps_ways.specs.declared.moving.Moved.{Moved}
 use Rattle.ps_cover.specs.declared.point.Point.{Point}
 use Rattle.ps_cover.specs.declared.point.Point.TheVariants.{Mark, Value, Decides}
 use Rattle.ps_cover.proofs.Calling.{no_call}
 use Rattle.ps_cover.proofs.Calling.{idle_at as idle_step_at}
-use Rattle.ps_pins.specs.declared.signals.Signals.{Signals}
+use Rattle.ps_machine.specs.declared.signals.Signals.{Signals}
 
 run_out : (limit age dt : ℕ) → (limit - age - dt == 0) ≡ nat_le limit (age + dt)
 run_out limit age dt =
@@ -85,7 +85,7 @@ module _ (net : Network) (x : Signals) (old new : State) (before : x.before.now 
       ∙ (λ j. moved_by (kind_at net i) (limit_of (kind_at net i) args) (pins_under (read_in net x (is j)) (kind_at net i) args) since c.moved.block)
       ∙ (λ j. moved_by (kind_at net i) (limit_of (kind_at net i) args) (pins_under (reads_are k j) (kind_at net i) args) since c.moved.block)
 
-  -- the marks of a call behind a scan
+  -- the marks of a call after a scan
   made_so : (since k : ℕ) (a : Option Action) → slice_get net.steps k ≡ a → (c : Called) → c.step ≡ k →
       ((i : ℕ) (args : List Actual) → a ≡ Some (calls i args) → StandsBy (Remains (limit_of (kind_at net i) args)) (kept_of c.moved.block) (block_in old i)) →
       (mark : ℕ) → makes_in net a (Some (called_in net x since c)) mark ≡ makes_at net k a mark (record { old = old; since = since; new = new })
@@ -136,7 +136,7 @@ module _ (net : Network) (x : Signals) (old new : State) (before : x.before.now 
     shown_so b (Value s) = ap (λ (bs : List Bool). is_value b (slice_index_or bs s false)) behind
     shown_so b (Decides d) = ap (λ v. decides v d.of_and (operands_in d) d.place b) (reads_are d.step)
 
-    -- and the calls stand for the state behind
+    -- and the calls stand for the state after
     pub stands_next : (ins : List Bool) → Solves net old ins since new → StandsFor net (last now new) cs'
     stands_next ins solves k i args c' at here = by (slice_get cs k) refl
       where

@@ -6,7 +6,7 @@ use Rattle.ps_cover.specs.Covers.{JoinsBits}
 use Rattle.ps_cover.specs.declared.block.Called.{Called}
 use Rattle.ps_cover.specs.declared.point.Point.{Point}
 use Rattle.ps_model.specs.Network.{Network}
-use Rattle.ps_pins.specs.declared.signals.Signals.{Signals}
+use Rattle.ps_machine.specs.declared.signals.Signals.{Signals}
 
 -- a look at the same points, with the same calls
 pub looks_same : (net : Network) (x : Signals) (b : Bool) (cs cs' : List Called) (ps ps' : List Point) (before before' behind behind' : List Bool) →

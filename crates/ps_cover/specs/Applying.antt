@@ -11,7 +11,7 @@ use Rattle.ps_ways.specs.Calling.{seen_by}
 use Rattle.ps_cover.specs.Alone.{Allows, IsExcluded}
 use Rattle.ps_cover.specs.Marks.{marked}
 
--- A scan of a run: the state before it, the ms that passed since the scan before, and the state behind it.
+-- A scan of a run: the state before it, the ms that passed since the scan before, and the state after it.
 pub record ScanStep : Type 0 where
   pub old : State
   pub since : ℕ

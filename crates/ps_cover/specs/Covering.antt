@@ -11,13 +11,13 @@ use Rattle.ps_cover.specs.Blocks.{called_in}
 use Rattle.ps_cover.specs.Points as points
 use Rattle.ps_model.specs.Formula.{Formula}
 use Rattle.ps_cover.specs.Points.{decides, leaves, others_leave}
-use Rattle.ps_marks.specs.Deciding.{is_value}
-use Rattle.ps_pins.specs.Reading.{read_in}
+use Rattle.ps_cover.specs.Deciding.{is_value}
+use Rattle.ps_machine.specs.Reading.{read_in}
 use Rattle.ps_cover.specs.declared.block.Called.{Called}
 use Rattle.ps_cover.specs.declared.point.Point.{Point}
 use Rattle.ps_cover.specs.declared.point.Point.TheVariants.{Mark, Value, Decides}
 use Rattle.ps_cover.specs.declared.point.Decision.{Decision}
-use Rattle.ps_pins.specs.declared.signals.Signals.{Signals}
+use Rattle.ps_machine.specs.declared.signals.Signals.{Signals}
 
 -- the operands of a decision
 abbrev pub operands_in : Decision → List Formula
@@ -53,13 +53,13 @@ others_leave_in net x d = others_leave (read_in net x d.step) d.of_and (operands
 abbrev pub decides_in : Network → Signals → (b : Bool) → Decision → Bool
 decides_in net x b d = decides (read_in net x d.step) d.of_and (operands_in d) d.place b
 
--- a scan with these signals, behind which the calls stand so, shows a point with value b
+-- a scan with these signals, after which the calls stand so, shows a point with value b
 abbrev pub shows_in : Network → Signals → List Called → (b : Bool) → Point → Bool
 shows_in net x cs b (Mark k mark) = makes_in net (slice_get net.steps k) (slice_get cs k) mark
 shows_in net x cs b (Value s) = is_value b (slice_index_or x.behind.now s false)
 shows_in net x cs b (Decides d) = decides_in net x b d
 
--- What was seen with value b before a scan, and what the scan shows with it, is seen behind it.
+-- What was seen with value b before a scan, and what the scan shows with it, is seen after it.
 pub record Looks (net : Network) (x : Signals) (cs : List Called) (b : Bool) (points : List Point)
     (before behind : List Bool) : Type 0 where
   pub each : length behind ≡ length before
@@ -77,7 +77,7 @@ pub record AreCalls (net : Network) (cs : List Called) : Type 0 where
   pub each : length cs ≡ length net.steps
   pub kept : (k : ℕ) (c : Called) → slice_get cs k ≡ Some c → (c.step ≡ k) × IsCallKept net (slice_get net.steps k) c
 
--- each call is behind a scan what the scan makes of it
+-- each call is after a scan what the scan makes of it
 abbrev pub AreScanned : Network → Signals → (passed : ℕ) → (before behind : List Called) → Type 0
 AreScanned net x passed before behind =
     (k : ℕ) → slice_get behind k ≡ option_map (called_in net x passed) (slice_get before k)

@@ -10,13 +10,13 @@ use Rattle.ps_model.specs.Scanning.{block_in, limit_of}
 use Rattle.ps_rows.specs.Counted.{kept_of}
 use Rattle.ps_cover.specs.Applying.{ScanStep}
 use Rattle.ps_ways.specs.Moving.{counted_of}
-use Rattle.ps_marks.specs.Clock.{since}
+use Rattle.ps_cover.specs.Clock.{since}
 use Rattle.ps_cover.specs.Covering.{AreCalls, AreScanned, Looks, point_of}
 use Rattle.ps_cover.specs.Points.{shows}
 use Rattle.ps_cover.specs.declared.block.Called.{Called}
 use Rattle.ps_cover.specs.declared.point.Point.{Point}
 use Rattle.ps_cover.specs.declared.cover.Cover.{Cover}
-use Rattle.ps_pins.specs.declared.signals.Signals.{Signals}
+use Rattle.ps_machine.specs.declared.signals.Signals.{Signals}
 
 -- it has a call for each step of the application, and knows of each point whether it was shown, with both values
 pub record IsCoverFor (net : Network) (c : Cover) : Type 0 where

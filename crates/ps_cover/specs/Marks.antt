@@ -12,12 +12,12 @@ use Rattle.ps_ways.specs.declared.way.Way.{Way}
 abbrev pub takes : Kind → (q : ℕ) → Conditions → Way → Bool
 takes kind q c w = w.state == q && w.number == number_taken kind q c
 
--- behind a step from state q the block is in the state that this way leaves
+-- after a step from state q the block is in the state that this way leaves
 abbrev pub enters : Kind → (q : ℕ) → Conditions → Way → Bool
 enters kind q c w = w.state == next kind q c
 
 -- The marks of a step under these conditions, by number: for each way of the kind, in order, whether it is taken, and
--- behind these, for each way, whether the state that it leaves is entered.
+-- after these, for each way, whether the state that it leaves is entered.
 abbrev pub marked : Kind → (q : ℕ) → Conditions → (mark : ℕ) → Bool
 marked kind q c mark =
     if nat_lt mark (length (ways_of kind)) then of_way (takes kind q c) (slice_get (ways_of kind) mark)

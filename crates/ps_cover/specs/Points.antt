@@ -6,7 +6,7 @@ use Rattle.ps_model.specs.Action.{Action, assigns, calls}
 use Rattle.ps_model.specs.Formula.{Formula, signal, value}
 use Rattle.ps_model.specs.Network.{Network}
 use Rattle.ps_model.specs.Scanning.{read_at, signal_in}
-use Rattle.ps_marks.specs.Deciding.{is_value}
+use Rattle.ps_cover.specs.Deciding.{is_value}
 use Rattle.ps_cover.specs.Applying.{ScanStep, makes}
 
 -- An operand of an AND or of an OR: the number of its step, whether it is of an AND, all operands, and its place among

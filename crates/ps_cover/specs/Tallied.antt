@@ -24,7 +24,7 @@ pub record IsUnseen (c : Cover) : Type 0 where
 abbrev pub KnowsTraces : Network → List (List ScanStep) → (old new : Cover) → Type 0
 KnowsTraces net traces old new = Knows net (flat_map (λ steps. steps) traces) old new
 
--- What is known behind some traces, and behind one more, before which all began anew, is known behind them all.
+-- What is known after some traces, and after one more, before which all began anew, is known after them all.
 abbrev pub TracesAddUp : Type 0
 TracesAddUp = (net : Network) (traces : List (List ScanStep)) (more : List ScanStep) (old behind begun new : Cover) →
     KnowsTraces net traces old behind → BeginsAnew behind begun → Knows net more begun new →
@@ -36,14 +36,14 @@ pub record IsWhole (net : Network) (c : Cover) : Type 0 where
   pub off_each : length c.off.items ≡ length c.points.items
   pub on_each : length c.on.items ≡ length c.points.items
 
--- What is known behind some traces, to which is added what one more shows to a cover of its own that had seen nothing,
--- is known behind them all.
+-- What is known after some traces, to which is added what one more shows to a cover of its own that had seen nothing,
+-- is known after them all.
 abbrev pub JoinsAddUp : Type 0
 JoinsAddUp = (net : Network) (traces : List (List ScanStep)) (more : List ScanStep) (old behind begun other new : Cover) →
     IsWhole net old → KnowsTraces net traces old behind → IsWhole net begun → IsUnseen begun →
     Knows net more begun other → Joins behind other new → KnowsTraces net (traces ++ more ∷ []) old new
 
--- Behind some traces a point was shown exactly where its definition says so.
+-- After some traces a point was shown exactly where its definition says so.
 abbrev pub CoveredIsDefined : Type 0
 CoveredIsDefined = (net : Network) (traces : List (List ScanStep)) (old new : Cover) →
     IsUnseen old → KnowsTraces net traces old new →

@@ -6,9 +6,8 @@ ghost use Rattle.ps_cover.specs.Blocks.{called_in};
 ghost use Rattle.ps_cover.specs.Covers.{idle_call, idle_step};
 ghost use Rattle.ps_cover.specs.Covering.{AreCalls, AreScanned, IsCallKept};
 
-use ps_machine::call_limit;
+use ps_machine::{Signals, call_limit, read_pins};
 use ps_model::{App, Kind, Step};
-use ps_pins::{Signals, read_pins};
 use ps_rows::CountedBlock;
 use ps_ways::{Moved, Taken, moved_by};
 
@@ -17,7 +16,7 @@ use ps_ways::{Moved, Taken, moved_by};
 pub struct Called {
     /// The number of the step.
     pub step: u16,
-    /// The block behind the last scan; Idle where there was none, and where the step assigns.
+    /// The block after the last scan; Idle where there was none, and where the step assigns.
     pub moved: Moved,
 }
 
@@ -49,7 +48,7 @@ impl Called {
         }
     }
 
-    /// The call behind a scan, before which so many ms passed.
+    /// The call after a scan, before which so many ms passed.
     fn scanned(self, app: &App, signals: &Signals<'_>, passed: u32) -> Called
         requires { IsCallKept app.now (slice_get app.now.steps self.step) self }
         ensures scans { result ≡ called_in app.now signals.entry.now passed self }
@@ -73,7 +72,7 @@ impl Called {
     }
 }
 
-/// The calls behind a scan with these signals, before which so many ms passed.
+/// The calls after a scan with these signals, before which so many ms passed.
 pub(crate) fn scan_calls(app: &App, signals: &Signals<'_>, passed: u32, calls: &mut [Called])
     requires { AreCalls app.now calls.old }
     ensures scans { AreScanned app.now signals.entry.now passed calls.old calls.new }

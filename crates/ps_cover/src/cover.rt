@@ -6,13 +6,13 @@ ghost use Rattle.ps_cover.specs.Covering.{AreCalls, point_of};
 ghost use Rattle.ps_cover.specs.Listing.{points_of};
 ghost use Rattle.ps_cover.specs.Covers.{BeginsAnew, IsAt, IsCoverFor, Joins, StandsFor, TakesScan};
 
+use crate::Clock;
 use crate::block::{Called, begin_calls, scan_calls};
 use crate::listing::{push_steps, push_values};
 use crate::point::{Point, look};
 use ps_base::Memory;
-use ps_marks::Clock;
+use ps_machine::{Signals, bit_at};
 use ps_model::App;
-use ps_pins::{Signals, bit_at};
 use std::alloc::Global;
 
 /// What the scans so far have shown of an application: of each point whether one of them showed it.
@@ -107,7 +107,7 @@ impl<'a> Cover<'a> {
 }
 
 impl Cover<'_> {
-    /// Takes a scan at a time in ms, of which these are the signals before it and behind it.
+    /// Takes a scan at a time in ms, of which these are the signals before it and after it.
     pub fn take(&mut self, app: &App, now: u32, signals: &Signals<'_>)
         requires { IsCoverFor app.now self.old }
         ensures takes { TakesScan app.now self.old now signals.entry.now self.new }

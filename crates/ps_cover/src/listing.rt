@@ -10,9 +10,9 @@ ghost use Rattle.ps_cover.specs.Listing.{call_points, decision_points, does_coun
 ghost use Rattle.ps_cover.specs.Listing.{mark_points, operand_points, pin_points, place_points, root_points};
 ghost use Rattle.ps_cover.specs.Listing.{signal_points, step_points, steps_points, value_points};
 
+use crate::is_and;
 use crate::point::{Decision, Point};
 use ps_base::Memory;
-use ps_marks::is_and;
 use ps_model::{App, Arg, Args, Expr, Exprs, Kind, Step};
 use ps_ways::{Way, ways};
 

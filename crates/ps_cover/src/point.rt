@@ -4,9 +4,9 @@ ghost use Rattle.std.specs.Prelude.{◌≡◌, ◌<◌, ◌||◌, length, slice_
 ghost use Rattle.ps_cover.specs.Covering.{Looks, decides_in, leaves_in, makes_in, others_leave_in, shows_in};
 
 use crate::block::{Called, makes};
-use ps_marks::{is_value, leaves_decision};
+use crate::{is_value, leaves_decision};
+use ps_machine::{Signals, bit_at, read_value};
 use ps_model::{App, Exprs, Step};
-use ps_pins::{Signals, bit_at, read_value};
 
 /// An operand of an AND or an OR.
 #[derive(Clone, Copy)]
@@ -90,7 +90,7 @@ fn made(app: &App, calls: &[Called], k: u16, mark: usize) -> bool
 }
 
 impl Point<'_> {
-    // Whether a scan with these signals, behind which the calls stand so, shows it with a value.
+    // Whether a scan with these signals, after which the calls stand so, shows it with a value.
     fn is_shown(&self, app: &App, calls: &[Called], signals: &Signals<'_>, value: bool) -> bool
         ensures { result ≡ shows_in app.now signals.entry.now calls.now value self.entry.now }
     {
@@ -116,7 +116,7 @@ fn sees(
     was || point.is_shown(app, calls, signals, value)
 }
 
-/// Notes what a scan shows with a value, with these signals, and behind which the calls stand so.
+/// Notes what a scan shows with a value, with these signals, and after which the calls stand so.
 pub(crate) fn look(
     app: &App,
     calls: &[Called],

@@ -7,10 +7,10 @@ ghost use Rattle.ps_cover.specs.Tallying.{percent, percent_of, seen_with, shown_
 
 use crate::cover::Cover;
 use crate::excluding::Exclusions;
+use crate::is_missed;
 use crate::point::Point;
-use ps_marks::is_missed;
+use ps_machine::bit_at;
 use ps_model::{App, Kind, Step};
-use ps_pins::bit_at;
 use ps_ways::ways;
 
 /// What is counted.

@@ -93,7 +93,7 @@ module _ (n m : ℕ) (few : n ≤ 4000) (now : ℕ) (blocks code : List ℕ) whe
     any_step (operand e es) false cells j behind yes_at no_at x next =
         leads_on n m now code blocks blocks cells j (decisions_below (operand e es)) behind (cond (any_true v (operand e es)) yes_at no_at) pins pins v v x (next (omega arith) (turned (turn_of n m code) x.turns cells) x.there)
 
-    -- the rows of the next operand stand behind those of the first
+    -- the rows of the next operand stand after those of the first
     behind_first : (e : Formula) (rest : List Row) (at yes_at no_at : ℕ) → HasAt code at (value_rows e at yes_at no_at ++ rest) → HasAt code (behind_value at e) rest
     behind_first e rest at yes_at no_at has =
         subst (λ k. HasAt code (at + k) rest) (size_of_value e at yes_at no_at) (has_back code at (value_rows e at yes_at no_at) rest has)
@@ -134,7 +134,7 @@ module _ (n m : ℕ) (few : n ≤ 4000) (now : ℕ) (blocks code : List ℕ) whe
     Sets target pins' v' = (b : Bool) (cells : List ℕ) (at next : ℕ) → Has code at (Set target (bit b) next) → Holds n now blocks cells at pins v →
         Holds n now blocks (turn_of n m code cells) next (pins' b) (v' b)
 
-    -- from the yes place or the no place of a value to behind the rows that set its target
+    -- from the yes place or the no place of a value to after the rows that set its target
     set_step : (target : ℕ) (pins' : Bool → List Bool) (v' : Bool → ℕ → Bool) → Sets target pins' v' → (b : Bool) (cells : List ℕ) (j set next : ℕ) →
         Has code set (Set target 1 next) → Has code (set + 8) (Set target 0 next) → Leads n m now code blocks cells j (cond b set (set + 8)) pins v →
         Leads n m now code blocks cells (j + 1) next (pins' b) (v' b)

@@ -73,7 +73,7 @@ any_next code e es yes_at no_at goes is new written =
     ∙ ap (λ l. code ++ l) (sym (bytes-append (value_rows e at yes_at goes) (any_rows es behind yes_at no_at)))
     ∙ ap (λ g. code ++ bytes_of (value_rows e at yes_at g ++ any_rows es behind yes_at no_at)) is
 
--- the operand at a place and those behind it
+-- the operand at a place and those after it
 next_operand : {X : Type 0} (f : X → Formula) (all : List X) (place : ℕ) (x : X) → slice_get all place ≡ Some x →
     operands (map f (drop place all)) ≡ operand (f x) (operands (map f (drop (place + 1) all)))
 next_operand f all place x there =

@@ -24,7 +24,7 @@ scan_time cells = be4 cells TIME_AT
 abbrev pub pin_bytes : (n : ℕ) → List ℕ → List ℕ
 pin_bytes n cells = take n (drop PINS_AT cells)
 
--- behind the signals, which begin with byte 22: sixteen bytes for each instance
+-- after the signals, which begin with byte 22: sixteen bytes for each instance
 abbrev pub block_bytes : (signals i : ℕ) → List ℕ → List ℕ
 block_bytes signals i cells = instance_bytes (SIGNALS_AT + signals) i cells
 

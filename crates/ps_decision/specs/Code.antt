@@ -21,11 +21,11 @@ abbrev pub size_all : List Row → ℕ
 size_all [] = 0
 size_all (row ∷ rows) = size_of row + size_all rows
 
--- where the rows behind those of a value begin: each of its signals has one row
+-- where the rows after those of a value begin: each of its signals has one row
 abbrev pub behind_value : (at : ℕ) → Formula → ℕ
 behind_value at e = at + 11 * decisions e
 
--- a place for the last operand, and another for one that has others behind it
+-- a place for the last operand, and another for one that has others after it
 abbrev pub if_last : Formulas → (last more : ℕ) → ℕ
 if_last no_operand last more = last
 if_last (operand e es) last more = more
@@ -49,13 +49,13 @@ abbrev mutual
       value_rows e at yes_at (if_last es no_at (behind_value at e)) ++ any_rows es (behind_value at e) yes_at no_at
 
 -- the value's rows, SET of the target with 1, which is their yes place, and SET with 0, which is their no place; both
--- go on behind the second
+-- go on after the second
 abbrev pub assigned_rows : (target : ℕ) → Formula → (at : ℕ) → List Row
 assigned_rows target e at =
     let set = behind_value at e in
     value_rows e at set (set + 8) ++ Set target 1 (set + 16) ∷ Set target 0 (set + 16) ∷ []
 
--- one SET of a literal or free value, which goes on behind itself; a value as it is assigned; a TIME literal is FALSE
+-- one SET of a literal or free value, which goes on after itself; a value as it is assigned; a TIME literal is FALSE
 -- there
 abbrev pub pin_rows : (target : ℕ) → Bool → Actual → (at : ℕ) → List Row
 pin_rows target default free at = Set target (bit default) (at + 8) ∷ []

@@ -92,7 +92,7 @@ fn call_block<B: SafetyBlock>(cells: &mut [u8], site: Site)
     }
 }
 
-// The step of an instance as a block, with pins that are there. The row behind follows.
+// The step of an instance as a block, with pins that are there. The row after follows.
 fn step_block<B: SafetyBlock>(cells: &mut [u8], bits: u32, site: Site)
     requires end { SIGNALS_AT + site.signals + INSTANCE_SIZE * site.instance + 16 ≤ length cells.old }
     requires outs { site.first + output_count B.KIND ≤ site.signals }

@@ -106,7 +106,7 @@ pub(crate) fn emit_assigned(code: &mut Vec<u8>, target: u16, e: &Expr) -> Result
     Ok(())
 }
 
-// Writes one row that sets a target and goes on behind itself.
+// Writes one row that sets a target and goes on after itself.
 fn emit_literal(code: &mut Vec<u8>, target: u16, value: bool) -> Result<(), Memory>
     requires { length code.old.items + 8 < 2 ^ 32 }
     ensures { OnOk result (code.new.items ≡ code.old.items ++ encoded (Row.Set target (bit value) (length code.old.items + 8))) }

@@ -23,7 +23,7 @@ use ps_machine::{CodeImage, call_limit, free_value};
 use ps_model::{App, Args, Kind, Step, boolean_count, kind_number};
 use std::alloc::Global;
 
-/// The decision code of an accepted application: its steps in order, and END behind them (profile). Run by channel C,
+/// The decision code of an accepted application: its steps in order, and END after them (profile). Run by channel C,
 /// from cells that stand for any state, every scan ends Done in at most `turns_c` turns without a trap, and its report
 /// is the meaning's.
 pub fn decision_image(alloc: Global, app: &App) -> Result<CodeImage, Memory>

@@ -30,7 +30,7 @@ fn is_on(cells: &[u8], s: usize) -> bool
     cells[SIGNALS_AT + s] == 1
 }
 
-// The signal of an instance's Ready, which stands behind its safe outputs. That of its Error is the next.
+// The signal of an instance's Ready, which stands after its safe outputs. That of its Error is the next.
 #[tactic(auto, using(std::proofs::lemmas::Option::get_or_from_slice_get), unfolding(ps_model::specs::Blocks::output_count))]
 fn ready_signal(sizes: &Sizes, i: usize) -> usize
     requires { i < sizes.now.instances }

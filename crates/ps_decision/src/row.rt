@@ -31,7 +31,7 @@ pub enum Row {
         next: u32,
     },
     /// Steps this instance as the kind with this number, with this limit in ms. Its Boolean pins are the pin cells, and
-    /// its outputs are written from the signal `first` on. The row behind it follows.
+    /// its outputs are written from the signal `first` on. The row after it follows.
     Call {
         instance: u16,
         kind: u8,
@@ -55,7 +55,7 @@ impl Row {
         }
     }
 
-    /// Writes it behind the code that stands: its opcode, and its numbers big-endian.
+    /// Writes it after the code that stands: its opcode, and its numbers big-endian.
     pub fn write(self, code: &mut Vec<u8>) -> Result<(), Memory>
         ensures { OnOk result (code.new.items ≡ code.old.items ++ encoded self) }
     {

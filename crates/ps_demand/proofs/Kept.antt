@@ -3,11 +3,11 @@ use Rattle.std.proofs.Common.{◌≡◌, ℕ, zero, suc, ◌<◌, false, List, [
 use Rattle.std.specs.Prelude.{slice_index_or, slice_set}
 use Rattle.std.proofs.lemmas.Bool.{true≢false}
 use Rattle.std.proofs.lemmas.List.{map-set, get_or-set_other}
-use Rattle.ps_required.specs.declared.demand.Demand.{Demand}
-use Rattle.ps_required.specs.Passes.{kept_for, KeepsWanted}
-use Rattle.ps_required.specs.Requirement.{never}
-use Rattle.ps_required.specs.Views.{requirement}
-use Rattle.ps_required.specs.Wanted.{is_wanted}
+use Rattle.ps_demand.specs.declared.demand.Demand.{Demand}
+use Rattle.ps_demand.specs.Passes.{kept_for, KeepsWanted}
+use Rattle.ps_demand.specs.Requirement.{never}
+use Rattle.ps_demand.specs.Views.{requirement}
+use Rattle.ps_demand.specs.Wanted.{is_wanted}
 
 pub kept_at : (rows : List Demand) (s : ℕ) (d : Demand) → s < length rows → d ≡ slice_index_or rows s d → requirement d ≡ kept_for rows s
 kept_at [] s d inside is = absurd (omega arith)

@@ -5,11 +5,11 @@ use Rattle.std.specs.List.{list_any}
 use Rattle.std.proofs.lemmas.Bool.{cases_Bool, and_right, or_right, or_from, true≢false, false≢true, cond-true, cond-false}
 use Rattle.std.proofs.lemmas.List.{map-append}
 use Rattle.indexmap.specs.IndexSet.{insert_key}
-use Rattle.ps_required.specs.declared.join.Join.{Join}
-use Rattle.ps_required.specs.declared.join.Join.TheVariants.{And}
-use Rattle.ps_required.specs.Requirement.{Requirement, requirements, parts, group, same, same_parts}
-use Rattle.ps_required.specs.Passes.{slim_together}
-use Rattle.ps_required.specs.Slim.{neutral, parts_within, telling, gathered, joined}
+use Rattle.ps_demand.specs.declared.join.Join.{Join}
+use Rattle.ps_demand.specs.declared.join.Join.TheVariants.{And}
+use Rattle.ps_demand.specs.Requirement.{Requirement, requirements, parts, group, same, same_parts}
+use Rattle.ps_demand.specs.Passes.{slim_together}
+use Rattle.ps_demand.specs.Slim.{neutral, parts_within, telling, gathered, joined}
 
 -- more than one part is a group
 pub gathered_many : (join : Join) (ds : List Requirement) → 1 < length ds → gathered join ds ≡ group join (requirements ds)

@@ -1,11 +1,11 @@
 -- The requirement of each kind of demand.
 use Rattle.std.proofs.Common.{◌≡◌, ℕ, map, sym, ap, ◌∙◌}
-use Rattle.ps_required.specs.declared.join.Join.TheVariants.{And, Or}
-use Rattle.ps_required.specs.declared.demand.Demand.{Demand, Demand-F, fold-roll-Demand}
-use Rattle.ps_required.specs.declared.demand.Demand.TheVariants.{True, NotBefore, All, Any, rolls-True, rolls-NotBefore, rolls-All, rolls-Any}
-use Rattle.ps_required.specs.declared.demand.Demands.{Demands-F, fold-Demands, fold_out-Demands}
-use Rattle.ps_required.specs.Requirement.{Requirement, Requirements, always, not_before, group, requirements}
-use Rattle.ps_required.specs.Views.{requirement, requirement_of_part, requirements_of_parts}
+use Rattle.ps_demand.specs.declared.join.Join.TheVariants.{And, Or}
+use Rattle.ps_demand.specs.declared.demand.Demand.{Demand, Demand-F, fold-roll-Demand}
+use Rattle.ps_demand.specs.declared.demand.Demand.TheVariants.{True, NotBefore, All, Any, rolls-True, rolls-NotBefore, rolls-All, rolls-Any}
+use Rattle.ps_demand.specs.declared.demand.Demands.{Demands-F, fold-Demands, fold_out-Demands}
+use Rattle.ps_demand.specs.Requirement.{Requirement, Requirements, always, not_before, group, requirements}
+use Rattle.ps_demand.specs.Views.{requirement, requirement_of_part, requirements_of_parts}
 
 requirements-group : (ds : Demands-F Demand (Unit {0})) →
     fold-Demands Requirement Requirements requirement_of_part requirements_of_parts ds ≡ requirements (map requirement ds.items.items)

@@ -1,14 +1,14 @@
 -- What is answered when the demand of a signal is asked for.
 use Rattle.std.specs.Prelude.{◌≡◌, ℕ, ◌≤◌, ◌<◌, Result, Ok, Err}
 use Rattle.ps_model.specs.Network.{Network}
-use Rattle.ps_required.specs.declared.demand.Demand.{Demand}
-use Rattle.ps_required.specs.declared.demand.DemandFail.{DemandFail}
-use Rattle.ps_required.specs.declared.demand.DemandFail.TheVariants.{Memory as NoMemory, Large}
-use Rattle.ps_required.specs.declared.demand.TheConstants.{MOST_LEAVES}
-use Rattle.ps_required.specs.Requirement.{leaf_count}
-use Rattle.ps_required.specs.Demand.{demand}
-use Rattle.ps_required.specs.Slim.{slim}
-use Rattle.ps_required.specs.Views.{requirement}
+use Rattle.ps_demand.specs.declared.demand.Demand.{Demand}
+use Rattle.ps_demand.specs.declared.demand.DemandFail.{DemandFail}
+use Rattle.ps_demand.specs.declared.demand.DemandFail.TheVariants.{Memory as NoMemory, Large}
+use Rattle.ps_demand.specs.declared.demand.TheConstants.{MOST_LEAVES}
+use Rattle.ps_demand.specs.Requirement.{leaf_count}
+use Rattle.ps_demand.specs.Demand.{demand}
+use Rattle.ps_demand.specs.Slim.{slim}
+use Rattle.ps_demand.specs.Views.{requirement}
 
 -- the demand made slim where it has few leaves before it is made so, and Large where it has too many
 abbrev pub IsAnswer : Network → ℕ → Result Demand DemandFail → Type 0

@@ -3,13 +3,13 @@ use Rattle.std.specs.Prelude.{◌≡◌, ℕ, ◌+◌, ◌<◌, ◌≤◌, true,
 use Rattle.std.specs.List.{range_with_len}
 use Rattle.ps_model.specs.Network.{Network, input_count}
 use Rattle.ps_model.specs.Typing.{is_safe_signal}
-use Rattle.ps_required.specs.declared.demand.TheConstants.{MOST_LEAVES}
+use Rattle.ps_demand.specs.declared.demand.TheConstants.{MOST_LEAVES}
 use Rattle.ps_demand.specs.declared.lines.NoLines.{NoLines}
 use Rattle.ps_demand.specs.declared.lines.NoLines.TheVariants.{Memory, Large}
-use Rattle.ps_required.specs.Requirement.{leaf_count}
-use Rattle.ps_required.specs.Demand.{demand}
-use Rattle.ps_required.specs.Slim.{slim}
-use Rattle.ps_required.specs.Texts.{full_name, text}
+use Rattle.ps_demand.specs.Requirement.{leaf_count}
+use Rattle.ps_demand.specs.Demand.{demand}
+use Rattle.ps_demand.specs.Slim.{slim}
+use Rattle.ps_demand.specs.Texts.{full_name, text}
 
 -- a signal is a SAFEBOOL output
 pub record IsSafeOutput (net : Network) (s : ℕ) : Type 0 where

@@ -5,10 +5,10 @@ ghost use Rattle.ps_model.specs.Network.{signal_count};
 ghost use Rattle.ps_model.specs.Typing.{Accepted, is_safe_signal};
 ghost use Rattle.ps_demand.specs.Answering.{IsAnswer};
 
+use crate::counting::count_leaves;
+use crate::demand::{Demand, DemandFail, MOST_LEAVES};
 use crate::slimming::slim_demand;
 use ps_model::App;
-use ps_required::counting::count_leaves;
-use ps_required::demand::{Demand, DemandFail, MOST_LEAVES};
 use std::alloc::Global;
 
 /// What a SAFEBOOL output of an accepted application demands of the inputs of the same scan and of the signals of the
@@ -16,7 +16,7 @@ use std::alloc::Global;
 ///
 /// `Large` comes exactly where the demand has over 1,000 leaves before it is made slim, TRUE and FALSE among them. That
 /// is decided by counting, in time linear in the nodes of the application, before anything is built. `Memory` comes
-/// only where memory is wanting.
+/// only if memory runs out.
 pub fn demand_of(alloc: Global, app: &App, out: u16) -> Result<Demand, DemandFail>
     requires accepted { Accepted app.now }
     requires signal { out < signal_count app.now }

@@ -2,14 +2,14 @@
 
 ghost use Rattle.std.specs.Prelude.{◌≡◌, [], ◌∷◌, ◌++◌, IfOk, OnOk, map};
 ghost use Rattle.std.specs.List.{list_any};
-ghost use Rattle.ps_required.specs.Requirement.{same};
-ghost use Rattle.ps_required.specs.Slim.{neutral, deciding, parts_within, telling, gathered, slim_of_parts};
-ghost use Rattle.ps_required.specs.Views.{requirement};
+ghost use Rattle.ps_demand.specs.Requirement.{same};
+ghost use Rattle.ps_demand.specs.Slim.{neutral, deciding, parts_within, telling, gathered, slim_of_parts};
+ghost use Rattle.ps_demand.specs.Views.{requirement};
 
+use crate::demand::{Demand, Demands, is_among, is_same};
+use crate::join::Join;
 use indexmap::IndexSet;
 use ps_base::Memory;
-use ps_required::demand::{Demand, Demands, is_among, is_same};
-use ps_required::join::Join;
 use std::alloc::Global;
 
 // What says nothing as a part: TRUE in a conjunction, FALSE in a disjunction.

@@ -1,8 +1,8 @@
 // Laws of demands.
 
 ghost use Rattle.ps_model.specs.Typing.{Accepted};
-ghost use Rattle.ps_required.specs.Leaves.{LeavesAreSafe};
-ghost use Rattle.ps_required.specs.Laws.{ValuesMeetDemands, ScansMeetDemands, RunsMeetDemands, SlimHoldsTheSame};
+ghost use Rattle.ps_demand.specs.Leaves.{LeavesAreSafe};
+ghost use Rattle.ps_demand.specs.Laws.{ValuesMeetDemands, ScansMeetDemands, RunsMeetDemands, SlimHoldsTheSame};
 
 use ps_model::App;
 use ps_model::block_laws::each_demands;

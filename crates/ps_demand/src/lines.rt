@@ -3,25 +3,25 @@
 ghost use Rattle.std.specs.Prelude.{◌≡◌, ◌<◌, ◌≤◌, ◌+◌, ◌++◌, true, IfOk, IfNone, IfSome, OnOk, length};
 ghost use Rattle.ps_model.specs.Network.{input_count, signal_count, declared_count};
 ghost use Rattle.ps_model.specs.Typing.{Accepted, is_safe_signal};
-ghost use Rattle.ps_required.specs.Demand.{demand as demanded};
+ghost use Rattle.ps_demand.specs.Demand.{demand as demanded};
 ghost use Rattle.ps_demand.specs.Lines.{AreDemandLines, IsFirstLarge, NoneIsLarge, demand_line, demand_lines};
-ghost use Rattle.ps_required.specs.Passes.{AreCounts, HasSlim};
-ghost use Rattle.ps_required.specs.Slim.{slim};
-ghost use Rattle.ps_required.specs.Views.{requirement};
+ghost use Rattle.ps_demand.specs.Passes.{AreCounts, HasSlim};
+ghost use Rattle.ps_demand.specs.Slim.{slim};
+ghost use Rattle.ps_demand.specs.Views.{requirement};
 
+use crate::counting::count_signals;
+use crate::demand::{Demand, MOST_LEAVES};
 use crate::slimming::slim_signals;
+use crate::text::write_demand;
 use ps_base::{Bytes, Memory};
 use ps_model::{App, is_safe};
-use ps_required::counting::count_signals;
-use ps_required::demand::{Demand, MOST_LEAVES};
-use ps_required::text::write_demand;
 use std::alloc::Global;
 use thiserror::Error;
 
 /// Why the demands of an application's outputs are not written.
 #[derive(Clone, Copy, Debug, Error)]
 pub enum NoLines {
-    /// Memory is wanting.
+    /// Out of memory.
     #[error("memory is wanting")]
     Memory,
     /// The demand of this signal has over 1,000 leaves before it is made slim. It is the first SAFEBOOL output of which
@@ -92,7 +92,7 @@ fn write_lines(alloc: Global, app: &App, rows: &[Demand]) -> Result<Bytes, Memor
 /// `Large` comes exactly where an output's demand has over 1,000 leaves before it is made slim, with the first such
 /// output; that is decided by counting, before anything is built. Each step is gone through a fixed number of times for
 /// all outputs together, and the work on a demand grows with its leaves. What no output comes to is not built, and what
-/// no later step reads is not kept. `Memory` comes only where memory is wanting.
+/// no later step reads is not kept. `Memory` comes only if memory runs out.
 pub fn demand_lines(alloc: Global, app: &App) -> Result<Bytes, NoLines>
     requires { Accepted app.now }
     ensures lines { AreDemandLines app.now result }

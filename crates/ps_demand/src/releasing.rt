@@ -1,13 +1,13 @@
 // Demands that are wanted no more.
 
 ghost use Rattle.std.specs.Prelude.{◌≡◌, ◌<◌, ◌+◌, length};
-ghost use Rattle.ps_required.specs.Passes.{KeepsWanted};
+ghost use Rattle.ps_demand.specs.Passes.{KeepsWanted};
 
+use crate::demand::Demand;
+use crate::wanted::is_wanted_behind;
 use ps_model::{App, Arg, Args, Expr, Step, safe_count};
-use ps_required::demand::Demand;
-use ps_required::wanted::is_wanted_behind;
 
-// Lets the demand of a signal go, where no step behind step k wants it.
+// Lets the demand of a signal go, where no step after step k wants it.
 fn release_signal(signal: u16, k: u16, last: &[Option<u16>], rows: &mut Vec<Demand>)
     ensures { KeepsWanted last.now (k + 1) rows.old.items rows.new.items }
 {
@@ -17,7 +17,7 @@ fn release_signal(signal: u16, k: u16, last: &[Option<u16>], rows: &mut Vec<Dema
     }
 }
 
-// Lets go the demands of the signals that a value reads, where no step behind step k wants them.
+// Lets go the demands of the signals that a value reads, where no step after step k wants them.
 fn release_value(value: &Expr, k: u16, last: &[Option<u16>], rows: &mut Vec<Demand>)
     ensures { KeepsWanted last.now (k + 1) rows.old.items rows.new.items }
 {
@@ -52,7 +52,7 @@ fn release_outputs(first: u16, count: u8, k: u16, last: &[Option<u16>], rows: &m
     }
 }
 
-// Behind step k, lets go the demands that it read or made and that no later step wants.
+// After step k, lets go the demands that it read or made and that no later step wants.
 pub(crate) fn release_step(app: &App, k: u16, last: &[Option<u16>], rows: &mut Vec<Demand>)
     requires { k < length app.now.steps }
     ensures { KeepsWanted last.now (k + 1) rows.old.items rows.new.items }

@@ -9,28 +9,28 @@ ghost use Rattle.ps_model.specs.Network.{signal_count};
 ghost use Rattle.ps_model.specs.Scanning.{pin_at};
 ghost use Rattle.ps_model.specs.Typing.{Accepted, is_safe_signal};
 ghost use Rattle.ps_model.specs.Values.{IsBelow, AreBelow, values_at_pin};
-ghost use Rattle.ps_required.specs.Demand.{constant, negated_signal, negated_at_pin, demand};
-ghost use Rattle.ps_required.specs.Passes.{stands_before, slim_over, safe_slims, all_slims, slim_at_pin, slim_of_need};
-ghost use Rattle.ps_required.specs.Passes.{slim_output, kept_for, saturated, count_in, output_weight, IsNeedOf};
-ghost use Rattle.ps_required.specs.Passes.{AreCounts, AreSlim, AreOutputs, HasSlim};
-ghost use Rattle.ps_required.specs.Requirement.{leaf_count};
-ghost use Rattle.ps_required.specs.Slim.{joined, slim};
-ghost use Rattle.ps_required.specs.Views.{requirement};
-ghost use Rattle.ps_required.specs.Wanted.{WantsReads};
-ghost use Rattle.ps_required.specs.declared.join.Join.TheVariants.{And, Or};
+ghost use Rattle.ps_demand.specs.Demand.{constant, negated_signal, negated_at_pin, demand};
+ghost use Rattle.ps_demand.specs.Passes.{stands_before, slim_over, safe_slims, all_slims, slim_at_pin, slim_of_need};
+ghost use Rattle.ps_demand.specs.Passes.{slim_output, kept_for, saturated, count_in, output_weight, IsNeedOf};
+ghost use Rattle.ps_demand.specs.Passes.{AreCounts, AreSlim, AreOutputs, HasSlim};
+ghost use Rattle.ps_demand.specs.Requirement.{leaf_count};
+ghost use Rattle.ps_demand.specs.Slim.{joined, slim};
+ghost use Rattle.ps_demand.specs.Views.{requirement};
+ghost use Rattle.ps_demand.specs.Wanted.{WantsReads};
+ghost use Rattle.ps_demand.specs.declared.join.Join.TheVariants.{And, Or};
 
+use crate::counting::{count_output, count_step, count_value, first_counts, is_safe_value};
+use crate::demand::{Demand, MOST_LEAVES, copy};
+use crate::join::Join;
 use crate::joining::{add_part, slim_of_parts};
 use crate::releasing::release_step;
+use crate::table::write_over;
+use crate::wanted::{is_wanted_behind, last_readers};
 use ps_base::Memory;
 use ps_model::{
     App, Arg, Args, Driver, Expr, Kind, Need, Step, Ty, demand, input_type, is_safe, pin_row,
     safe_count,
 };
-use ps_required::counting::{count_output, count_step, count_value, first_counts, is_safe_value};
-use ps_required::demand::{Demand, MOST_LEAVES, copy};
-use ps_required::join::Join;
-use ps_required::table::write_over;
-use ps_required::wanted::{is_wanted_behind, last_readers};
 use std::alloc::Global;
 
 // Whether a signal has a driver before step k.

@@ -44,7 +44,7 @@ front_of_longer (x ∷ xs) ys (z ∷ zs) ws e le =
 pub program_or_block : (p b : SourceTree) (xs ys : List Symbol) → spelt Program p ++ xs ≡ spelt Block b ++ ys → ⊥
 program_or_block p b xs ys e = let firsts : Some (Mark sign.Program) ≡ Some (Mark sign.FunctionBlock) = ap next e in cc
 
--- A text whose front is these blocks: the blocks that follow them, and what is spelt behind them.
+-- A text whose front is these blocks: the blocks that follow them, and what is spelt after them.
 pub record IsBehind (depth : ℕ) (bs cs : List SourceTree) (p : SourceTree) (rest : List Symbol) : Type 0 where
   pub later : List SourceTree
   pub blocks : cs ≡ bs ++ later
@@ -63,7 +63,7 @@ behind_blocks n m (b ∷ bs) (c ∷ cs) p rest wb wc e =
     let more = behind_blocks n m bs cs p rest wb.1 wc.1 same.1 in
     record { later = more.later; blocks = λ i. same.0 i ∷ more.blocks i; within = more.within; spelling = more.spelling }
 
--- behind all blocks stands the program alone
+-- after all blocks stands the program alone
 pub program_behind : (n m : ℕ) (later : List SourceTree) (p q : SourceTree) (rest : List Symbol) → IsSourceWithin n p → IsSourceWithin m q
     → blocks_spelt later ++ spelt Program p ≡ spelt Program q ++ rest → (later ≡ []) × (p ≡ q) × (rest ≡ [])
 program_behind n m [] p q rest wp wq e =

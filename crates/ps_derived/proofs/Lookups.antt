@@ -35,7 +35,7 @@ found_at p xs k x at within is = sym (found_item p xs ∙ ap (item_at xs) (sym a
 pub found_none : {X : Type 0} (p : X → Bool) (xs : List X) → None ≡ position p xs → None ≡ find p xs
 found_none p xs at = sym (found_item p xs ∙ ap (item_at xs) (sym at))
 
--- it is behind the end
+-- it is after the end
 pub found_past : {X : Type 0} (p : X → Bool) (xs : List X) (k : ℕ) → Some k ≡ position p xs → length xs ≤ k → None ≡ find p xs
 found_past p xs k at past = sym (found_item p xs ∙ ap (item_at xs) (sym at) ∙ slice_get_past xs k past)
 

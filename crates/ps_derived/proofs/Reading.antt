@@ -32,7 +32,7 @@ pub record IsReadUpto (list : List Token) (bs : List SourceTree) (at : ℕ) : Ty
 pub nothing_read : (list : List Token) → IsReadUpto list [] 0
 nothing_read list = record { within = tt; inside = omega arith; spelling = refl }
 
--- the source that is spelt next stands behind the blocks
+-- the source that is spelt next stands after the blocks
 symbols_upto : (h : Heads) (list : List Token) (bs : List SourceTree) (at next : ℕ) (s : SourceTree) → IsReadUpto list bs at → IsSpeltBetween h list at next s → symbols (take next list) ≡ blocks_spelt bs ++ spelt h s
 symbols_upto h list bs at next s r p =
     let ahead = p.ahead in
@@ -54,7 +54,7 @@ fewer_tokens_left list at next b p =
     let ahead = p.ahead in
     omega (arith, some, ap length p.spelling.spelling, length-map (take (next - at) ts) symbol, length-take (next - at) ts)
 
--- behind the program nothing may stand
+-- after the program nothing may stand
 breaks_behind_text : (l : Library) (front : List Symbol) (rest : List Token) → IsLibraryWithin MOST_GROUPS l → front ≡ library_spelt l → 0 < length rest → Breaks P1 libraries front (symbols rest)
 breaks_behind_text l front [] w e some = absurd (omega arith)
 breaks_behind_text l front (t ∷ rest) w e some = λ depth text.
@@ -91,7 +91,7 @@ module _ (list : List Token) (bs : List SourceTree) (at next : ℕ) (p : SourceT
     spelling = ap symbols (sym (take_all next list le)) ∙ symbols_upto Program list bs at next p r s;
   }
 
--- what is refused behind the blocks is what the whole text answers
+-- what is refused after the blocks is what the whole text answers
 pub exit : (h : Heads) (tokens : Tokens) (bs : List SourceTree) (at : ℕ) → IsReadUpto tokens.list bs at → IsHeadOf h (symbols (drop at tokens.list))
     → (e : Fail) (r : Result Library Fail) → IsErrAnd r (λ d. d ≡ e) → AnswersFrom h tokens at (Err e) → Answers libraries tokens r
 exit h tokens bs at read head e (Ok l) is p = absurd is

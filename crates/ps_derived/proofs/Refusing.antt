@@ -1,4 +1,4 @@
--- What is refused behind function blocks is refused of the whole text.
+-- What is refused after function blocks is refused of the whole text.
 use Rattle.std.proofs.Common.{◌≡◌, ◌≢◌, ℕ, suc, List, [], ◌∷◌, ◌++◌, Some, length, take, drop, refl, sym, ap, ◌∙◌, subst, ⊎_elim, append_assoc, arith}
 use Rattle.std.proofs.lemmas.Bool.{cases_lt}
 use Rattle.std.proofs.lemmas.List.{append-nil, take-append-drop, take-map, map-append}
@@ -24,7 +24,7 @@ use Rattle.ps_parser.proofs.Uniqueness.{one_source_at_front, some_source, some_s
 use Rattle.ps_derived.specs.Texts.{library_spelt, libraries}
 use Rattle.ps_derived.proofs.Fronts.{blocks_spelt, blocks_spelt_push, all_within_deeper, all_within_push, front_of_longer, behind_blocks}
 
--- the front of a source is that of a text, behind any blocks
+-- the front of a source is that of a text, after any blocks
 begins_behind : (h : Heads) (depth : ℕ) (bs : List SourceTree) (front : List Symbol) → AllByRecursion (IsSourceWithin depth) bs → BeginsTree (sources h) depth front → BeginsTree libraries depth (blocks_spelt bs ++ front)
 begins_behind Program depth bs front w b = record {
   tree = record { blocks = bs; program = b.tree };
@@ -106,7 +106,7 @@ ends_here Block depth [] p front head b none wc e =
 ends_here Block depth (c ∷ cs) p front head b none wc e =
     absurd (none_within depth c front (blocks_spelt cs ++ spelt Program p) wc.0 b none (sym e ∙ append_assoc (spelt Block c) (blocks_spelt cs) (spelt Program p)))
 
--- what breaks a rule of sources behind these blocks breaks it of whole texts
+-- what breaks a rule of sources after these blocks breaks it of whole texts
 module _ (h : Heads) (bs : List SourceTree) (front : List Symbol) (w : AllByRecursion (IsSourceWithin MOST_GROUPS) bs) (b : BeginsTree (sources h) MOST_GROUPS front) (none : NoneAtFront h front) where
   only_here : (depth : ℕ) (t : Symbol) → IsHeadOf h (front ++ t ∷ []) → BeginsTree libraries depth ((blocks_spelt bs ++ front) ++ t ∷ []) → BeginsTree (sources h) depth (front ++ t ∷ [])
   only_here depth t head text =
@@ -128,7 +128,7 @@ module _ (h : Heads) (bs : List SourceTree) (front : List Symbol) (w : AllByRecu
   )
   breaks_behind _ rest head breaks = breaks
 
--- what is refused from a number on, behind whole blocks, is refused of all tokens
+-- what is refused from a number on, after whole blocks, is refused of all tokens
 module _ (list : List Token) (at : ℕ) (bs : List SourceTree) (w : AllByRecursion (IsSourceWithin MOST_GROUPS) bs) (spelling : symbols (take at list) ≡ blocks_spelt bs) where
   none_at_front : (h : Heads) (end : Place) (refusal : Refusal) (r : IsRefusedFrom h (drop at list) end refusal) → NoneAtFront h (symbols r.refused.front)
   none_at_front h end refusal r s more within e =

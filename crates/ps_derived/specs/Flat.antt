@@ -141,6 +141,6 @@ blocks_flat before [] = before
 blocks_flat before (b ∷ bs) = blocks_flat (before ++ block_flat before b ∷ []) bs
 
 -- The flat source of a whole text. So each part of a dotted name is spelt as at its own declaration: an instance's name
--- and an output behind its dot in each body, and each other name of a function block before its copies are made.
+-- and an output after its dot in each body, and each other name of a function block before its copies are made.
 abbrev pub flat : Library → SourceTree
 flat l = body_flat (blocks_flat [] (map spelt_as_declared l.blocks)) l.program

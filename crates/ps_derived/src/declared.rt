@@ -2,12 +2,12 @@
 
 ghost use Rattle.std.specs.Prelude.{◌≡◌, ◌++◌, IfOk, OnOk, IsTrue, ◌↔◌};
 ghost use Rattle.std.specs.List.{flat_map};
-ghost use Rattle.ps_table.specs.Tables.{Indexes};
+ghost use Rattle.ps_names.specs.NameTables.{Indexes};
 ghost use Rattle.ps_derived.specs.Bodies.{declared_as, declares, section_declares, declared_names, is_input};
 
 use ps_base::{Bytes, Memory};
+use ps_names::Table;
 use ps_parser::{Declaration, Name, Part, Section};
-use ps_table::Table;
 use std::alloc::Global;
 
 /// A declared name, the part of its section, and the name of its type.

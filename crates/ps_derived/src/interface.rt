@@ -9,8 +9,8 @@ ghost use Rattle.ps_derived.specs.Interfaces.{declares_input, declares_output};
 use crate::declared::{Declared, copy_of};
 use crate::scope::Scope;
 use ps_base::Memory;
+use ps_names::Table;
 use ps_parser::{Name, Names, Part, Source};
-use ps_table::Table;
 use std::alloc::Global;
 use std::marker::Model;
 
@@ -51,7 +51,7 @@ impl Model for Interfaces {
 
     ghost Value = { List Interface };
 
-    ghost use Rattle.ps_table.specs.Tables.{Indexes};
+    ghost use Rattle.ps_names.specs.NameTables.{Indexes};
 
     ghost view = { λ s. s.items.items };
 

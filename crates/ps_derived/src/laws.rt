@@ -15,7 +15,7 @@ pub fn one_spelling()
     ensures { (depth : ℕ) (l other : Library) → IsLibraryWithin depth l → IsLibraryWithin depth other → library_spelt l ≡ library_spelt other → l ≡ other }
 {}
 
-/// Tokens have one answer of `parse_library`: two answers, neither of which is want of memory, are equal.
+/// Tokens have one answer of `parse_library`: two answers, neither of which is running out of memory, are equal.
 pub fn one_answer()
     ensures { (tokens : Tokens) (r q : Result Library Fail) → Answers libraries tokens r → Answers libraries tokens q
         → r ≢ Err Fail.Memory → q ≢ Err Fail.Memory → r ≡ q }

@@ -9,7 +9,7 @@ use ps_lexer::Tokens;
 use ps_parser::{Heads, is_head_at, parse_from};
 use std::alloc::Global;
 
-/// The library that the tokens spell: any number of function blocks, and then one program, with nothing behind it.
+/// The library that the tokens spell: any number of function blocks, and then one program, with nothing after it.
 /// Their groups are nested at most `MOST_GROUPS` deep. Time is linear in the number of tokens.
 ///
 /// Otherwise the refusal at the earliest token: P1 where no text goes on with it, whatever the depth of its groups, or

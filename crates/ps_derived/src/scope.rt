@@ -6,8 +6,8 @@ ghost use Rattle.ps_derived.specs.Bodies.{declared_names, first_declared};
 
 use crate::declared::{Declared, declared_names, index};
 use ps_base::Memory;
+use ps_names::Table;
 use ps_parser::{Name, Section};
-use ps_table::Table;
 use std::alloc::Global;
 use std::marker::Model;
 
@@ -34,7 +34,7 @@ impl Model for Scope {
 
     ghost Value = { List Declared };
 
-    ghost use Rattle.ps_table.specs.Tables.{Indexes};
+    ghost use Rattle.ps_names.specs.NameTables.{Indexes};
 
     ghost view = { λ s. s.declared.items };
 

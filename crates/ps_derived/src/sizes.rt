@@ -2,7 +2,7 @@
 
 ghost use Rattle.std.specs.Prelude.{◌≡◌, ◌<◌, ◌≤◌, ◌+◌, ◌^◌, ◌↔◌, List, IfOk, IsTrue, Some, map};
 ghost use Rattle.std.specs.List.{sum_by};
-ghost use Rattle.ps_table.specs.Tables.{Indexes};
+ghost use Rattle.ps_names.specs.NameTables.{Indexes};
 ghost use Rattle.ps_parser.specs.StatementView.{statement_tree};
 ghost use Rattle.ps_derived.specs.Bodies.{first_declared};
 ghost use Rattle.ps_derived.specs.Flat.{FlatBlock, block_flat};
@@ -16,8 +16,8 @@ use crate::library::Library;
 use crate::limits::{MOST_BLOCKS, MOST_FLAT_NAMES, MOST_FLAT_STATEMENTS};
 use crate::scope::Scope;
 use ps_base::Memory;
+use ps_names::Table;
 use ps_parser::{Name, Part, Source, Statement};
-use ps_table::Table;
 use std::alloc::Global;
 
 /// A function block's name, its number of inputs, and the numbers of declared names and of statements of its flat

@@ -1,7 +1,7 @@
 -- What is told of a refusal.
 use Rattle.std.proofs.Common.{◌≡◌, ℕ, List, [], Some, Result, Ok, Err, IfOk, IfSome, sym, subst, ◌∙◌, append-nil}
 use Rattle.ps_base.specs.declared.failing.Refusal.{Refusal}
-use Rattle.ps_refused.proofs.Refused.{IsWithFurther}
+use Rattle.ps_findings.proofs.Refused.{IsWithFurther}
 use Rattle.ps_message.specs.Message.{Says}
 use Rattle.ps_top.specs.declared.left.Left.{Left}
 use Rattle.ps_edge.specs.Spoken.{IsNamed, spoken_of}

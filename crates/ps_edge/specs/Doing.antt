@@ -37,7 +37,7 @@ pub record Does (words : List (List ℕ)) (files files' : FilesSeen) (out out' :
   pub untripped : IsTrue files.tells → (app trace faults : List ℕ) →
       (asked.command_of words ≡ Vote app trace faults)
       ⊎ (asked.command_of words ≡ Heal app trace faults) → ended ≢ Tripped
-  -- One that was cut short appends nothing or a beginning of the answer, and where memory is wanting nothing.
+  -- One that was cut short appends nothing or a beginning of the answer, and if memory runs out nothing.
   pub stopped : IsTrue files.tells → ended ≡ WriteFault →
       AppendsNothing out.tells out.taken out'.taken ⊎ AppendsPart (IsRight words files) out.tells out.taken out'.taken
   pub unread : IsTrue files.tells → ended ≡ ReadFault →
@@ -56,14 +56,14 @@ pub record Does (words : List (List ℕ)) (files files' : FilesSeen) (out out' :
       (name : List ℕ) × IsAsked words files name × ReadFailed files files' name
   pub read_fault : ended ≡ ReadFault → Any (ReadFailed files files') (asked.names_of (asked.command_of words))
   pub write_fault : ended ≡ WriteFault → Rose out.faults out'.faults
-  -- And no failure is hidden, whatever the files and the output tell. A write that fails at the end, behind a read
+  -- And no failure is hidden, whatever the files and the output tell. A write that fails at the end, after a read
   -- that failed, is what the status tells of the two.
   pub no_read_failed : ended ≢ ReadFault → ended ≢ WriteFault → CountsStay files.faults files'.faults
   pub no_write_failed : ended ≢ WriteFault → out'.faults ≡ out.faults
-  -- Usage comes exactly where the words are not taken, unless the output fails or memory is wanting.
+  -- Usage comes exactly where the words are not taken, unless the output fails or memory runs out.
   pub usage : ended ≡ Usage → asked.command_of words ≡ NotTaken
   pub not_taken : asked.command_of words ≡ NotTaken → (ended ≡ Usage) ⊎ (ended ≡ WriteFault) ⊎ (ended ≡ Memory)
-  -- Where nothing failed the call says all, or memory is wanting.
+  -- Where nothing failed the call says all, or memory runs out.
   pub completes : IsTrue files.tells → ((name : List ℕ) → IsAsked words files name → ¬ (ReadFailed files files' name)) →
       ¬ (Rose out.faults out'.faults) →
       (ended ≡ Memory) ⊎ AppendsAll (IsRight words files) out.tells out.taken out'.taken ended

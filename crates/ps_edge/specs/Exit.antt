@@ -17,7 +17,7 @@ exit_number ReadFault = 5
 exit_number WriteFault = 6
 exit_number Memory = 7
 
--- where there are no words: the number of want of memory, or 8 where the system does not give them
+-- where there are no words: the number of running out of memory, or 8 where the system does not give them
 abbrev pub number_without_words : ErrorKind → ℕ
 number_without_words OutOfMemory = 7
 number_without_words _ = 8

@@ -4,13 +4,13 @@ use Rattle.std.specs.Prelude.{map, slice_get, IfSome}
 use Rattle.std.specs.List.{flat_map}
 use Rattle.std.specs.Str.{bytes_eq}
 use Rattle.ps_base.specs.declared.failing.Refusal.{Refusal}
-use Rattle.ps_detail.specs.declared.usage.TheConstants.{HELP, VERSION}
-use Rattle.ps_quoted.specs.Also.{also_text}
-use Rattle.ps_statuses.specs.Ending.{again_text, trip_text, unread_text, usage_text}
+use Rattle.ps_findings.specs.declared.usage.TheConstants.{HELP, VERSION}
+use Rattle.ps_text.specs.Also.{also_text}
+use Rattle.ps_message.specs.Ending.{again_text, trip_text, unread_text, usage_text}
 use Rattle.ps_message.specs.Message.{Says}
-use Rattle.ps_noted.specs.NoteLine.{note_text, odd_text}
-use Rattle.ps_statuses.specs.declared.statuses.Unread.{Unread}
-use Rattle.ps_statuses.specs.declared.statuses.TheConstants.{NO_MEMORY, UNWRITTEN}
+use Rattle.ps_message.specs.NoteLine.{note_text, odd_text}
+use Rattle.ps_message.specs.declared.statuses.Unread.{Unread}
+use Rattle.ps_message.specs.declared.statuses.TheConstants.{NO_MEMORY, UNWRITTEN}
 use Rattle.ps_model.specs.Network.{Network}
 use Rattle.ps_notes.specs.Notes.{notes}
 use Rattle.ps_notes.specs.declared.note.OddComment.{OddComment}
@@ -72,7 +72,7 @@ letter_of A = 65
 letter_of B = 66
 letter_of C = 67
 
--- the message of a seat that was outvoted again in the scan behind its healing, by the name of the trace, where there
+-- the message of a seat that was outvoted again in the scan after its healing, by the name of the trace, where there
 -- is such a seat, and else nothing
 abbrev pub IsOfAgain : (words : List (List ℕ)) → Option Again → List ℕ → Type 0
 IsOfAgain words None text = text ≡ []
@@ -90,7 +90,7 @@ abbrev pub AreOfDone : (words : List (List ℕ)) → Left → List ℕ → Type 
 AreOfDone words left text = AreNotes words left text ⊎ AreOfWholeRun words left text
 
 -- The message of the refusal that is left, by the name of the text that its rule is about, and the lines of further
--- refusals behind it. Of an application it quotes the text that was read. Which refusals are further ones is left open.
+-- refusals after it. Of an application it quotes the text that was read. Which refusals are further ones is left open.
 abbrev pub IsOfRefusal : (words : List (List ℕ)) → Left → List ℕ → Type 0
 IsOfRefusal words left text =
     (refusal : Refusal) × (left.refusal ≡ Some refusal) × (file : List ℕ) × IsNamed words (spoken_of refusal.rule) file
@@ -98,12 +98,12 @@ IsOfRefusal words left text =
     × (given first : List ℕ) × Says file source refusal given first
     × (further : List Refusal) × (more : ℕ) × (text ≡ first ++ also_text file source further more)
 
--- the message of the refusal that is left, and behind it that of the seat that was outvoted again, as it is left
+-- the message of the refusal that is left, and after it that of the seat that was outvoted again, as it is left
 abbrev pub IsOfBadInput : (words : List (List ℕ)) → Left → List ℕ → Type 0
 IsOfBadInput words left text =
     (refused again : List ℕ) × IsOfRefusal words left refused × IsOfAgain words left.again again × (text ≡ refused ++ again)
 
--- The message of the scan that tripped first, as it is left, by the name of the trace, and the lines on comments behind
+-- The message of the scan that tripped first, as it is left, by the name of the trace, and the lines on comments after
 -- it. What name and which values stand before the number of a field is left open.
 abbrev pub IsOfTrip : (words : List (List ℕ)) → Left → List ℕ → Type 0
 IsOfTrip words left text =

@@ -1,4 +1,4 @@
-// What is told of a seat that was outvoted again in the scan behind its healing.
+// What is told of a seat that was outvoted again in the scan after its healing.
 
 ghost use Rattle.std.specs.Prelude.{◌≡◌, IfOk};
 ghost use Rattle.ps_edge.specs.Telling.{Carries, IsOfAgain, IsOfBadInput, IsOfRefusal, letter_of};
@@ -6,7 +6,7 @@ ghost use Rattle.ps_edge.specs.Telling.{Carries, IsOfAgain, IsOfBadInput, IsOfRe
 use crate::spoken::Spoken;
 use crate::telling::Message;
 use ps_base::{Bytes, Memory};
-use ps_statuses::again_message;
+use ps_message::again_message;
 use ps_top::{Left, Words};
 use ps_vote::Seat;
 use std::alloc::Global;
@@ -34,7 +34,7 @@ pub(crate) fn again_on(alloc: Global, words: &Words, left: &Left) -> Result<Byte
     }
 }
 
-// The message of a refusal, and behind it that of the seat that was outvoted again.
+// The message of a refusal, and after it that of the seat that was outvoted again.
 pub(crate) fn refusal_and_again(
     alloc: Global,
     words: &Words,

@@ -5,8 +5,8 @@ ghost use Rattle.ps_edge.specs.Telling.{Carries, IsOfWords, asks_help, asks_vers
 
 use crate::telling::Message;
 use ps_base::Memory;
-use ps_detail::{HELP, VERSION, right_words, wrong_words};
-use ps_statuses::usage_message;
+use ps_findings::{HELP, VERSION, right_words, wrong_words};
+use ps_message::usage_message;
 use ps_top::Words;
 use std::alloc::Global;
 

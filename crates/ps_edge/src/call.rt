@@ -4,14 +4,14 @@ ghost use Rattle.std.specs.Prelude.{◌≡◌, ◌≢◌, [], IsTrue};
 ghost use Rattle.ps_edge.specs.Doing.{Does};
 ghost use Rattle.ps_edge.specs.Exit.{exit_number};
 ghost use Rattle.ps_edge.specs.Telling.{IsTold};
-ghost use Rattle.ps_hearing.specs.Hearing.{Hears};
+ghost use Rattle.ps_message.specs.Hearing.{Hears};
 ghost use Rattle.ps_top.specs.Calls.{files_seen, output_seen};
 ghost use Rattle.ps_top.specs.declared.left.Left.{Left as LeftBehind};
 ghost use Rattle.ps_top.specs.declared.Status.{Status as StatusOf};
 
 use crate::exit::{ended, exit_code};
 use crate::telling::tell;
-use ps_hearing::Listener;
+use ps_message::Listener;
 use ps_outside::{Files, Output};
 use ps_top::{Left, Status, Words, top};
 use std::alloc::Global;
@@ -36,7 +36,7 @@ fn do_call<F: Files, O: Output>(
 /// Does what the words ask, and says the number with which the program exits: all that the program does, over any
 /// files, any output, and whoever is told in words why a call did not do all.
 ///
-/// `words` are those behind the program's name. The number is that of a status, 0 to 7. What the output holds back is
+/// `words` are those after the program's name. The number is that of a status, 0 to 7. What the output holds back is
 /// handed on at the end; where that fails a write failed. Nothing is told of an output that nobody reads any more.
 pub fn exit_of_call<F: Files, O: Output, L: Listener>(
     alloc: Global,

@@ -26,7 +26,7 @@ pub fn exit_code(status: Status) -> u8
     }
 }
 
-/// The exit status where there are no words, by the kind of the error: that of want of memory, or else `NO_WORDS`.
+/// The exit status where there are no words, by the kind of the error: that of running out of memory, or else `NO_WORDS`.
 pub fn exit_code_without_words(kind: ErrorKind) -> u8
     ensures { result ≡ number_without_words kind }
 {

@@ -31,10 +31,10 @@ fn words_behind<I: Iterator<Item = String> + Drop>(alloc: Global, args: I) -> Re
     Ok(words)
 }
 
-/// The words of a call, by the strings that the system gives, of which the first is the program's name: all behind
+/// The words of a call, by the strings that the system gives, of which the first is the program's name: all after
 /// it, in their order.
 ///
-/// An error is the number with which the program exits where there are no words: that of want of memory, or
+/// An error is the number with which the program exits where there are no words: that of running out of memory, or
 /// `NO_WORDS` where the system does not give the strings, as where one is not UTF-8.
 pub fn words_given<I: Iterator<Item = String> + Drop>(
     alloc: Global,

@@ -2,7 +2,7 @@
 //! program exits.
 //!
 //! `call` is one call of the program, over any files, any output and whoever is told: `exit_of_call`. `given` takes
-//! the words that come behind the program's name, and `exit` has the numbers. `telling` is what a listener is told: of
+//! the words that come after the program's name, and `exit` has the numbers. `telling` is what a listener is told: of
 //! a refusal (`refusing`), of an application that is accepted and of comments (`noting`), of a seat that was healed in
 //! vain (`again`), and of words that are not taken (`asking`); `spoken` which word of a call names the text that a rule
 //! speaks of. `program` makes the call over the files and the outputs of the system, and is all that `main` calls.

@@ -9,7 +9,7 @@ use crate::call::exit_of_call;
 use crate::exit::exit_code;
 use crate::given::words_given;
 use crate::telling::tell;
-use ps_hearing::StandardError;
+use ps_message::StandardError;
 use ps_outside::{DiskFiles, StdSink};
 use ps_top::{Left, Status, Words};
 use std::io::{BufWriter, Eprint, Print};
@@ -25,7 +25,7 @@ pub fn exit_of_words<R: Env + rt::Files + Print + Eprint + AllocGlobal>(
 ) -> u8
     ensures in_range { result ≤ 7 }
 
-    // Usage comes exactly where the words are not taken, unless the output fails or memory is wanting.
+    // Usage comes exactly where the words are not taken, unless the output fails or memory runs out.
     ensures usage { result ≡ exit_number Status.Usage → asked.command_of words.now ≡ NotTaken }
     ensures not_taken { asked.command_of words.now ≡ NotTaken →
         (result ≡ exit_number Status.Usage) ⊎ (result ≡ exit_number Status.WriteFault)

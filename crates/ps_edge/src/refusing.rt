@@ -6,12 +6,12 @@ ghost use Rattle.ps_edge.specs.Telling.{Carries, IsOfRefusal};
 
 use crate::spoken::Spoken;
 use crate::telling::Message;
+use ps_accepted::accept_text;
 use ps_base::{Bytes, Fail, Memory, Refusal, Rule};
-use ps_detail::{RegionSizes, detail_on, dirty_told, header_told, inputs_told, past_told};
-use ps_hearing::Listener;
-use ps_message::message;
-use ps_refused::refusal_of_app;
-use ps_source::accept_text;
+use ps_findings::{
+    RegionSizes, detail_on, dirty_told, header_told, inputs_told, past_told, refusal_of_app,
+};
+use ps_message::{Listener, message};
 use ps_top::{Left, Words};
 use ps_vote::{Seat, VoteSizes, VoteWorld};
 use std::alloc::Global;
@@ -31,7 +31,7 @@ fn mark(world: &VoteWorld, seat: Seat, letter: u8) -> u8 {
     if world.is_dirty(seat) { letter } else { b' ' }
 }
 
-// What is told of a fault that came while another seat was dirty, or behind one of another channel.
+// What is told of a fault that came while another seat was dirty, or after one of another channel.
 fn fault_told(alloc: Global, left: &Left, text: &[u8], refusal: &Refusal) -> Result<Bytes, Memory> {
     match &left.votes {
         Some(world) => {

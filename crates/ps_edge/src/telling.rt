@@ -2,7 +2,7 @@
 
 ghost use Rattle.std.specs.Prelude.{◌≡◌, IsTrue, IfOk, true};
 ghost use Rattle.ps_edge.specs.Telling.{Carries, IsOfTrip, IsOfUnread, IsTold};
-ghost use Rattle.ps_hearing.specs.Hearing.{Hears};
+ghost use Rattle.ps_message.specs.Hearing.{Hears};
 
 use crate::again::refusal_and_again;
 use crate::asking::usage_on;
@@ -10,9 +10,8 @@ use crate::noting::{comments_on, done_on};
 use crate::refusing::refusal_on;
 use crate::spoken::Spoken;
 use ps_base::{Bytes, Memory};
-use ps_detail::field_told;
-use ps_hearing::{Listener, hear_bytes};
-use ps_statuses::{NO_MEMORY, UNWRITTEN, trip_message, unread_message};
+use ps_findings::field_told;
+use ps_message::{Listener, NO_MEMORY, UNWRITTEN, hear_bytes, trip_message, unread_message};
 use ps_top::{Left, Status, Trip, Words};
 use std::alloc::Global;
 

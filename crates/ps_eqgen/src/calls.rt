@@ -19,7 +19,7 @@ fn time_at(arg: &Arg) -> u32
     0
 }
 
-/// The limit of a call in ms: the literal at the TIME pin, which stands behind the Boolean pins, 0 where
+/// The limit of a call in ms: the literal at the TIME pin, which stands after the Boolean pins, 0 where
 /// that pin is free, and the kind's own where it has no TIME pin (profile).
 #[tactic(auto, using(ps_machine::proofs::Timing::limit_timed, ps_machine::proofs::Timing::limit_own))]
 pub fn call_limit(kind: Kind, args: &Args) -> u32

@@ -28,7 +28,7 @@ use ps_model::{App, Args, Kind, Step};
 use ps_rows::{boolean_pins, free_value, number_of};
 use std::alloc::Global;
 
-/// The equation code of an accepted application: its steps in order, and LAST behind them (profile). Run by
+/// The equation code of an accepted application: its steps in order, and LAST after them (profile). Run by
 /// channel B, from cells that stand for any state, every scan ends Done in `turns_b` turns without a
 /// trap, and its report is the meaning's. It takes memory for the code alone.
 pub fn equation_image(alloc: Global, app: &App) -> Result<EquationImage, Memory>

@@ -18,8 +18,8 @@ fn inputs_of(app: &App) -> u16
 
 /// The sizes of an application, by which channel B finds its cells. They are counted by code that channel A does not
 /// run, so that one wrong count does not make both channels read another signal alike: each instance's outputs stand
-/// behind those of the instance before, by channel B's own table of kinds, and the place behind the last is the
-/// number of signals. They are those that `Sizes::of` answers. `Err` comes only where memory is wanting.
+/// after those of the instance before, by channel B's own table of kinds, and the place after the last is the
+/// number of signals. They are those that `Sizes::of` answers. `Err` comes only if memory runs out.
 pub fn equation_sizes(alloc: Global, app: &App) -> Result<Sizes, Memory>
     ensures sizes { IfOk result (λ sizes. AreSizesOf app.now sizes) }
     ensures same { IfOk result (λ sizes. (other : Sizes) → AreSizesOf app.now other → sizes ≡ other) }

@@ -6,7 +6,7 @@ use Rattle.std.proofs.lemmas.List.{drop-drop, take_at, length-take-le, length-ma
 use Rattle.ps_machine.specs.Bytes.{bit, replaced}
 use Rattle.ps_machine.proofs.Places.{length-replaced}
 
--- a part, and then one behind it
+-- a part, and then one after it
 pub replaced_twice : (c : List ℕ) (a b : ℕ) (m m' : List ℕ) → a + length m ≡ b → b + length m' ≤ length c → replaced (replaced c a m) b m' ≡ replaced c a (m ++ m')
 replaced_twice c a b m m' is room =
     let pre = take a c ++ m in
@@ -28,7 +28,7 @@ taken_long n values low = length-map (take n values) bit ∙ length-take-le n va
 pub size_kept : (c now : List ℕ) (a n : ℕ) (values : List Bool) → a + length values ≤ length c → n ≤ length values → now ≡ replaced c a (map bit (take n values)) → length now ≡ length c
 size_kept c now a n values room low is = ap length is ∙ length-replaced c a (map bit (take n values)) (let e = taken_long n values low in omega (arith, e, room, low))
 
--- more values behind those that stand in their cells
+-- more values after those that stand in their cells
 pub more_values : (c now new : List ℕ) (a n m : ℕ) (values : List Bool) → a + length values ≤ length c → n ≤ m → m ≤ length values → now ≡ replaced c a (map bit (take n values)) →
     new ≡ replaced now (a + n) (map bit (take (m - n) (drop n values))) → new ≡ replaced c a (map bit (take m values))
 more_values c now new a n m values room low high is is' =

@@ -22,7 +22,7 @@ stored_set p p' at stored small h =
     let back : 255 - (255 - stored) ≡ stored = omega arith in
     ap complement h ∙ map-set (λ byte. 255 - byte) (plain_bytes p) at (255 - stored) ∙ ap (slice_set (laid_out p) at) back
 
--- a byte of a list behind another
+-- a byte of a list after another
 behind : (xs ys : List ℕ) (i v : ℕ) → xs ++ slice_set ys i v ≡ slice_set (xs ++ ys) (length xs + i) v
 behind xs ys i v =
     let e : length xs + i - length xs ≡ i = omega arith in
@@ -31,7 +31,7 @@ behind xs ys i v =
 numbers : Plain → List ℕ
 numbers p = to_be_bytes w32 p.offset ++ (p.progress ∷ (to_be_bytes w32 p.last ++ to_be_bytes w32 p.passed))
 
--- behind the numbers
+-- after the numbers
 pub set_behind : (p : Plain) (l l' : List ℕ) (at v : ℕ) → l' ≡ slice_set l at v →
     to_be_bytes w32 p.offset ++ (p.progress ∷ (to_be_bytes w32 p.last ++ (to_be_bytes w32 p.passed ++ l')))
     ≡ slice_set (to_be_bytes w32 p.offset ++ (p.progress ∷ (to_be_bytes w32 p.last ++ (to_be_bytes w32 p.passed ++ l)))) (WORK_AT + at) v
@@ -44,7 +44,7 @@ cell_set cells blocks at v low = sym (set-append_left cells blocks at v low)
 pub block_set : (cells blocks : List ℕ) (at v : ℕ) → length cells ≤ at → cells ++ slice_set blocks (at - length cells) v ≡ slice_set (cells ++ blocks) at v
 block_set cells blocks at v high = sym (set-append_right cells blocks (length cells) at v refl high)
 
--- reads behind the numbers
+-- reads after the numbers
 pub signal_at : (p : Plain) (s : ℕ) → WORK_CELLS + s < length p.cells → slice_index (plain_bytes p) (SIGNALS_AT + s) ≡ slice_index p.cells (WORK_CELLS + s)
 signal_at p s low =
     let e : SIGNALS_AT + s ≡ WORK_AT + (WORK_CELLS + s) = omega arith in

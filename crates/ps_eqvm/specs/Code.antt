@@ -57,7 +57,7 @@ abbrev mutual
   group_rows d join no_operand = []
   group_rows d join (operand e es) = expression_rows (d + 1) e ++ (set_row (work d) (operand_at (d + 1) e) ∷ later_rows d join es)
 
-  -- the rows of the operands behind the first, each joined to work cell d
+  -- the rows of the operands after the first, each joined to work cell d
   pub later_rows : ℕ → (join : ℕ → ℕ → EquationRow) → Formulas → List EquationRow
   later_rows d join no_operand = []
   later_rows d join (operand e es) = expression_rows (d + 1) e ++ (join (work d) (operand_at (d + 1) e) ∷ later_rows d join es)

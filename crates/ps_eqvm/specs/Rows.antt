@@ -23,7 +23,7 @@ pub data EquationRow : Type 0 where
   any_row : (target operand : ℕ) → EquationRow
   block_row : (instance kind first limit : ℕ) (pins : List ℕ) → EquationRow
 
--- An operand is a signal or a work cell, a constant, or bad. Work cell k is cell k, and signal s is the cell s behind
+-- An operand is a signal or a work cell, a constant, or bad. Work cell k is cell k, and signal s is the cell s after
 -- them.
 abbrev pub operand_of : (signals number : ℕ) → Operand
 operand_of signals number =

@@ -20,7 +20,7 @@ pub const FALSE: u16 = 0xFFFE;
 pub const TRUE: u16 = 0xFFFF;
 
 /// What the two bytes of an operand mean (profile). Work cell k is cell k, and the signals are the cells
-/// behind the work cells.
+/// after the work cells.
 #[derive(Clone, Copy)]
 pub enum Operand {
     /// A work cell or a signal.

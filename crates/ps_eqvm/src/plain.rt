@@ -87,7 +87,7 @@ fn put_eights(cells: &mut BitCells, at: usize, values: &[bool]) -> usize
     done
 }
 
-// The same of the values behind the first ones, of which so many are written, one by one.
+// The same of the values after the first ones, of which so many are written, one by one.
 #[inline(always)]
 fn put_rest(cells: &mut BitCells, at: usize, done: usize, values: &[bool])
     requires low { at < 2 ^ 32 }
@@ -455,7 +455,7 @@ impl PlainCells {
         }
     }
 
-    // A byte behind the numbers becomes another, by its plain value.
+    // A byte after the numbers becomes another, by its plain value.
     fn poke_cell(&mut self, at: usize, byte: u8)
         requires { at < length self.old.cells + length self.old.blocks }
         ensures poked { plain_bytes self.new ≡ slice_set (plain_bytes self.old) (WORK_AT + at) byte }

@@ -1,1 +1,2 @@
-mod Telling
+-- the message of an application that is refused
+pub mod Refused

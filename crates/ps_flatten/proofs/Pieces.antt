@@ -4,7 +4,7 @@ use Rattle.std.specs.List.{flat_map}
 use Rattle.std.proofs.lemmas.List.{append-nil, map_more, take_more}
 use Rattle.std.proofs.lemmas.Grind.{flat_map-append}
 
--- one more item behind what was there
+-- one more item after what was there
 pub map_grown : {X Y : Type 0} (f : X → Y) (start written more : List Y) (y : Y) (xs : List X) (i : ℕ) (d : X) → i < length xs →
     written ≡ start ++ map f (take i xs) → more ≡ written ++ y ∷ [] → y ≡ f (get_or xs i d) → more ≡ start ++ map f (take (i + 1) xs)
 map_grown f start written more y xs i d lt was is one =
@@ -19,7 +19,7 @@ on_ok_then P Q (Err e) f h = tt
 pub piece_pushed : {X Y : Type 0} (f : X → List Y) (old new : List X) (p : X) → new ≡ old ++ p ∷ [] → flat_map f new ≡ flat_map f old ++ f p
 piece_pushed f old new p is = ap (flat_map f) is ∙ flat_map-append f old (p ∷ []) ∙ ap (λ l. flat_map f old ++ l) (append-nil (f p))
 
--- what one more item stands for behind what was there
+-- what one more item stands for after what was there
 pub flat_grown : {X Y : Type 0} (f : X → List Y) (start written more : List Y) (xs : List X) (i : ℕ) (d : X) → i < length xs →
     written ≡ start ++ flat_map f (take i xs) → more ≡ written ++ f (get_or xs i d) → more ≡ start ++ flat_map f (take (i + 1) xs)
 flat_grown f start written more xs i d lt was is =

@@ -70,7 +70,7 @@ block_seen before l = record {
   };
 }
 
--- these function blocks behind those that stand before them, each over all before it
+-- these function blocks after those that stand before them, each over all before it
 abbrev pub seen_after : List FlatBlock → List Laid → List FlatBlock
 seen_after before [] = []
 seen_after before (l ∷ ls) = block_seen before l ∷ seen_after (before ++ block_seen before l ∷ []) ls

@@ -8,8 +8,8 @@ ghost use Rattle.ps_flatten.specs.Laying.{block_seen, blocks_seen, kept_seen, in
 
 use ps_base::Memory;
 use ps_derived::{Interface, Scope};
+use ps_names::Table;
 use ps_parser::{Declaration, Name, Part, Statement};
-use ps_table::Table;
 use std::alloc::Global;
 use std::marker::Model;
 
@@ -72,7 +72,7 @@ impl Model for Laids {
 
     ghost coded = { Prim.hlevel (codes, sum_code, sum.the_row.coded) };
 
-    ghost use Rattle.ps_table.specs.Tables.{Indexes};
+    ghost use Rattle.ps_names.specs.NameTables.{Indexes};
 
     ghost view = { λ s. s.items.items };
 

@@ -19,7 +19,7 @@ use ps_parser::{
 };
 use std::alloc::Global;
 
-/// What the names of a body become: names inside an instance, behind its name and a dot; or the same names, spelt as
+/// What the names of a body become: names inside an instance, after its name and a dot; or the same names, spelt as
 /// these declarations spell them.
 #[derive(Clone, Copy)]
 pub enum Renaming<'a> {

@@ -7,7 +7,7 @@ ghost use Rattle.ps_parser.specs.declared.statement.Argument.{Argument};
 ghost use Rattle.ps_parser.specs.ArgumentView.{argument_tree};
 ghost use Rattle.ps_parser.specs.StatementView.{statement_tree};
 ghost use Rattle.ps_derived.specs.Bodies.{same};
-ghost use Rattle.ps_table.specs.Tables.{Indexes};
+ghost use Rattle.ps_names.specs.NameTables.{Indexes};
 ghost use Rattle.ps_derived.specs.Dotted.{inside, statement_inside};
 ghost use Rattle.ps_derived.specs.Flat.{instance_of, input_assigned, call_flat, statement_flat};
 ghost use Rattle.ps_flatten.specs.Laying.{IsKept, blocks_seen, instance_seen, states};
@@ -17,8 +17,8 @@ use crate::laid::{Body, Instance, StatementPiece, instance_of};
 use crate::values::{arguments_flat, sum_flat};
 use ps_base::Memory;
 use ps_derived::copy_of;
+use ps_names::Table;
 use ps_parser::{Argument, Name, Products, Statement, Sum, Target};
-use ps_table::Table;
 use std::alloc::Global;
 
 // The table of the pins that these arguments name, each with the place of its first argument.

@@ -26,7 +26,7 @@ fn output_text(alloc: Global, instance: &Instance, pin: &Name) -> Result<Bytes, 
     }
 }
 
-// What is read behind the dot of a name: of a derived instance a name with a dot, at the place of the instance's name.
+// What is read after the dot of a name: of a derived instance a name with a dot, at the place of the instance's name.
 fn output_flat(alloc: Global, body: &Body, name: &Name, pin: &Name) -> Result<Factor, Memory>
     ensures { IfOk result (λ f. factor_tree f ≡ output_read name.now pin.now (instance_of (blocks_seen body.now.blocks.now) body.now.scope.now name.now)) }
 {

@@ -1,4 +1,4 @@
--- Deriving an application and reading a text have one answer alone, but for want of memory.
+-- Deriving an application and reading a text have one answer alone, but if memory runs out.
 use Rattle.std.proofs.Common.{◌≡◌, ◌≢◌, ◌+◌, ◌++◌, ◌∷◌, ◌∙◌, ◌⊎◌, [], ℕ, suc, List, Result, Ok, Err, refl, sym, ap, inl, inr, arith, length, map}
 use Rattle.std.specs.Prelude.{All}
 use Rattle.std.proofs.lemmas.List.Elements.{All-head, All-tail}
@@ -50,7 +50,7 @@ too_large_or_within : (text : List ℕ) → IsTooLarge text → IsWithin text �
 too_large_or_within text (inl many) within = let few = within.lines in omega (arith, many, few)
 too_large_or_within text (inr many) within = let few = within.bytes in omega (arith, many, few)
 
--- of two lines that are the first not of the form, both stand behind equally many
+-- of two lines that are the first not of the form, both stand after equally many
 same_count : (a b : List CertLine) (x y : List ℕ) (xs ys : List (List ℕ)) → All IsNumbered a → All IsNumbered b →
     ((l : CertLine) → IsNumbered l → x ≢ line_text l) → ((l : CertLine) → IsNumbered l → y ≢ line_text l) →
     map line_text a ++ x ∷ xs ≡ map line_text b ++ y ∷ ys → length a ≡ length b

@@ -8,7 +8,7 @@ use Rattle.ps_flow.specs.declared.refusal.FlowFail.TheVariants.{Memory, Refused}
 use Rattle.ps_flow.specs.Derivation.{certificate}
 use Rattle.ps_flow.specs.Refusals.{IsFirstBreach}
 
--- The certificate of an application that is accepted, or the first breach of one that is not. Want of memory is the one
+-- The certificate of an application that is accepted, or the first breach of one that is not. Running out of memory is the one
 -- free answer.
 abbrev pub Certifies : Network → Result (List CertLine) FlowFail → Type 0
 Certifies net (Ok lines) = Accepted net × (lines ≡ certificate net)

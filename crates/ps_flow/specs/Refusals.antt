@@ -45,7 +45,7 @@ abbrev pub PinFails : Network → Ty → Actual → PinFail → Type 0
 PinFails net ty a Memory = Unit {0}
 PinFails net ty a (Breaks rule) = BreaksAt net ty a rule
 
--- What the answer of a step says: memory is wanting, or the step breaks the rule at the pin.
+-- What the answer of a step says: memory runs out, or the step breaks the rule at the pin.
 abbrev pub StepFails : Network → Action → StepFail → Type 0
 StepFails net a StepMemory = Unit {0}
 StepFails net a (StepBreaks rule pin) = BreaksStep net a rule pin

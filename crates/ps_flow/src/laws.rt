@@ -19,7 +19,7 @@ pub fn refused_is_not_accepted()
         IsFirstBreach net rule step pin → Accepted net → ⊥ }
 {}
 
-/// `derive` has one answer for an application, but for want of memory: one certificate, or one rule at one step and
+/// `derive` has one answer for an application, but if memory runs out: one certificate, or one rule at one step and
 /// pin.
 pub fn one_derivation()
     ensures { (net : Network) → (a b : Result (List CertLine) FlowFail) → Certifies net a → Certifies net b →
@@ -38,7 +38,7 @@ pub fn written_lines_are_of_the_form()
         All IsNumbered lines → IsTextOf lines text → IsFirstOther text n → ⊥ }
 {}
 
-/// `read_certificate` has one answer for a text, but for want of memory: one certificate, or one rule at one line.
+/// `read_certificate` has one answer for a text, but if memory runs out: one certificate, or one rule at one line.
 pub fn one_reading()
     ensures { (text : List ℕ) (a b : Result (List CertLine) Fail) → ReadsAs text a → ReadsAs text b →
         a ≢ Err Fail.Memory → b ≢ Err Fail.Memory → a ≡ b }

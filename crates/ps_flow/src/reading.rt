@@ -18,7 +18,7 @@ use ps_base::{Fail, Memory, Place, Refusal, Rule};
 use std::alloc::Global;
 use std::str;
 
-// What stands before the first such byte, and what stands behind it.
+// What stands before the first such byte, and what stands after it.
 fn split_once(text: &[u8], byte: u8) -> Option<(&[u8], &[u8])>
     ensures found { IfSome result (λ parts.
         (text.now ≡ parts.0.now ++ byte ∷ parts.1.now) × HasNo byte parts.0.now) }
@@ -28,7 +28,7 @@ fn split_once(text: &[u8], byte: u8) -> Option<(&[u8], &[u8])>
     Some((&text[..at], &text[at + 1..]))
 }
 
-// The first line of a text that has one, and the text behind it.
+// The first line of a text that has one, and the text after it.
 fn first_line(text: &[u8]) -> (&[u8], &[u8])
     requires { 0 < length text.now }
     ensures lines { lines_of text.now ≡ result.0.now ∷ lines_of result.1.now }
@@ -40,7 +40,7 @@ fn first_line(text: &[u8]) -> (&[u8], &[u8])
     }
 }
 
-// The first word of a line, and what stands behind the space after it.
+// The first word of a line, and what stands after the space after it.
 fn first_word(line: &[u8]) -> (&[u8], Option<&[u8]>)
     ensures words { words_in line.now ≡ result.0.now ∷ words_left (option_copied result.1) }
     ensures less { IfSome result.1 (λ rest. length rest.now < length line.now) }

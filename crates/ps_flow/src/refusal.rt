@@ -16,7 +16,7 @@ pub struct FlowRefusal {
     pub pin: Option<u8>,
 }
 
-/// Why an application has no certificate: memory is wanting, or SAFEBOOL flow refuses it.
+/// Why an application has no certificate: memory runs out, or SAFEBOOL flow refuses it.
 #[derive(Clone, Copy, Debug, Error)]
 pub enum FlowFail {
     #[error("memory is wanting")]

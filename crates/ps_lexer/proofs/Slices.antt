@@ -17,7 +17,7 @@ length-slice_range text i j h w = length-take-le (j - i) (drop i text) (omega (a
 pub slice_first : (text : List ℕ) (i j : ℕ) → i < j → slice_index (slice_range text i j) 0 ≡ slice_index text i
 slice_first text i j h = slice_index-slice_range text i j 0 (omega arith) ∙ ap (slice_index text) (omega arith)
 
--- a part of the text is its first byte, and the part behind it
+-- a part of the text is its first byte, and the part after it
 pub slice_cons : (text : List ℕ) (i j : ℕ) → i < j → j ≤ length text → slice_range text i j ≡ slice_index text i ∷ slice_range text (i + 1) j
 slice_cons text i j h w =
     let d : drop i text ≡ slice_index text i ∷ drop (i + 1) text = rw add-one (drop-cons text i 0 (omega arith)) in

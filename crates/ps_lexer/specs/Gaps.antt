@@ -40,7 +40,7 @@ pub record IsOpenComment (text : List ℕ) (i : ℕ) : Type 0 where
 abbrev pub is_line_feed : ℕ → Bool
 is_line_feed b = b == line_feed
 
--- the place behind these bytes: one more than their LFs, and one more than the bytes after the last LF
+-- the place after these bytes: one more than their LFs, and one more than the bytes after the last LF
 abbrev pub place_after : List ℕ → Place
 place_after before = record {
   line = 1 + count_by is_line_feed before;

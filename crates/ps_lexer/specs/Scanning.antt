@@ -74,7 +74,7 @@ abbrev pub Stops : (ℕ → Bool) → List ℕ → Type 0
 Stops test [] = Unit {0}
 Stops test (b ∷ bytes) = test b ≡ false
 
--- the longest run of digits, the longest run of letters behind it, and the rest
+-- the longest run of digits, the longest run of letters after it, and the rest
 pub record IsSplit (bytes digits letters tail : List ℕ) : Type 0 where
   pub is : bytes ≡ digits ++ (letters ++ tail)
   pub only_digits : AllByRecursion (λ b. is_ascii_digit b ≡ true) digits
@@ -82,7 +82,7 @@ pub record IsSplit (bytes digits letters tail : List ℕ) : Type 0 where
   pub only_letters : AllByRecursion (λ b. is_ascii_alphabetic b ≡ true) letters
   pub no_letter : Stops is_ascii_alphabetic tail
 
--- what stands behind an underscore, or at once
+-- what stands after an underscore, or at once
 abbrev pub gap_rest : List ℕ → List ℕ
 gap_rest [] = []
 gap_rest (b ∷ bytes) = if b == 95 then bytes else b ∷ bytes

@@ -271,7 +271,7 @@ fn piece_at(alloc: Global, text: &[u8], i: usize) -> Result<Piece, Memory>
     }
 }
 
-// The place behind the bytes from one place up to another.
+// The place after the bytes from one place up to another.
 fn advance(text: &[u8], from: usize, upto: usize, place: Place) -> Place
     requires size { length text.now ≤ LARGEST_SOURCE }
     requires order { from ≤ upto }

@@ -92,7 +92,7 @@ fn letters_len(bytes: &[u8]) -> usize
     n
 }
 
-// The digits that the bytes begin with, the letters behind them, and the rest.
+// The digits that the bytes begin with, the letters after them, and the rest.
 fn split_part(bytes: &[u8]) -> (&[u8], &[u8], &[u8])
     ensures { IsSplit bytes.now result.0.now result.1.now result.2.now }
 {
@@ -115,7 +115,7 @@ fn number(digits: &[u8]) -> Option<u32>
     Some(n)
 }
 
-// What stands behind an underscore, if the bytes begin with one, and else all of them.
+// What stands after an underscore, if the bytes begin with one, and else all of them.
 fn behind_gap(tail: &[u8]) -> &[u8]
     ensures { result.now ≡ gap_rest tail.now }
 {
@@ -149,7 +149,7 @@ fn parts(bytes: &[u8], least: u8) -> Option<u32>
     here.checked_add(rest)
 }
 
-/// The value in ms of a TIME literal, from the bytes behind its `#`; None where they are no parts in order, or their
+/// The value in ms of a TIME literal, from the bytes after its `#`; None where they are no parts in order, or their
 /// sum is above `LARGEST_TIME`, the largest u32.
 pub fn time_value(bytes: &[u8]) -> Option<u32>
     ensures some { IfSome result (IsTimeValue bytes.now) }

@@ -44,7 +44,7 @@ first_bytes-from (b ∷ line) rest none =
 take-side : (text : List ℕ) (at m n : ℕ) → take (m + n) (drop at text) ≡ take m (drop at text) ++ take n (drop (at + m) text)
 take-side text at m n = take-add m n (drop at text) ∙ ap (λ (t : List ℕ). take m (drop at text) ++ take n t) (drop-drop m at text)
 
--- the front of what is held, and what is behind it
+-- the front of what is held, and what is after it
 held_front : {longest : ℕ} {text : List ℕ} {read : ℕ} {held : List ℕ} {count : ℕ} {line : List ℕ} (m : ℕ) → Follows longest text read held count line → m ≤ length held →
     take m held ≡ take m (drop (read - length held) text)
 held_front {longest} {text} {read} {held} m follows fits = ap (take m) follows.piece ∙ take-take m (length held) (drop (read - length held) text) fits
@@ -88,7 +88,7 @@ line_goes_on {longest} {text} {read} {held} {count} {line} m after follows fits 
           (subst HasNoLineFeed (sym whole) (none_in_both (take count (drop (read - length held - count) text)) (take m held) follows.one_line none));
     }
 
--- the line was ended by what is held up to a place, and the next one begins behind it
+-- the line was ended by what is held up to a place, and the next one begins after it
 pub line_over : {longest : ℕ} {text : List ℕ} {read : ℕ} {held : List ℕ} {count : ℕ} {line : List ℕ} (m : ℕ) (after : List ℕ) → Follows longest text read held count line →
     length held ≤ read → m ≤ length held → Follows longest text read (drop m held) 0 after
 line_over {longest} {text} {read} {held} m after follows fits within =
@@ -102,7 +102,7 @@ line_over {longest} {text} {read} {held} m after follows fits within =
       one_line = refl;
     }
 
--- a text from an offset on, cut behind the line feed at a place
+-- a text from an offset on, cut after the line feed at a place
 cut_at : (text : List ℕ) (at k : ℕ) → at + k < length text → get_or text (at + k) 0 ≡ 10 → drop at text ≡ take k (drop at text) ++ 10 ∷ drop (at + (k + 1)) text
 cut_at text at k fits feed =
     let whole = take-append-drop k (drop at text) in

@@ -7,7 +7,7 @@ use Rattle.std.specs.List.{prefix_len, list_any}
 use Rattle.std.specs.Simd.Lanes.{chunk}
 use Rattle.ps_lines.specs.Lines.{HasNoLineFeed}
 
--- bytes that are no line feeds, behind others that are none
+-- bytes that are no line feeds, after others that are none
 none_behind : (bytes : List ℕ) (from n : ℕ) → from + n ≤ length bytes → HasNoLineFeed (take from bytes) →
     ((k : ℕ) → from ≤ k → k < from + n → eqb (get_or bytes k 0) 10 ≡ false) → HasNoLineFeed (take (from + n) bytes)
 none_behind bytes from zero within before none = subst (λ (k : ℕ). HasNoLineFeed (take k bytes)) (omega arith) before
@@ -25,7 +25,7 @@ none_before bytes from r room counted before =
     let few : r ≤ 16 = run_in_chunk_le (λ b. eqb b 10) bytes from 16 r 0 room counted in
     none_behind bytes from r (omega arith) before (run_in_chunk_fails (λ b. eqb b 10) bytes from 16 r 0 room counted)
 
--- and the byte behind them is one, where they are fewer than sixteen
+-- and the byte after them is one, where they are fewer than sixteen
 pub feed_behind : (bytes : List ℕ) (from r : ℕ) → from + 16 ≤ length bytes → r ≡ prefix_len (λ b. not (eqb b 10)) (chunk from 16 bytes) →
     r < 16 → get_or bytes (from + r) 0 ≡ 10
 feed_behind bytes from r room counted few =

@@ -217,7 +217,7 @@ impl LineReader {
         Got::LastLine
     }
 
-    // Looks at the bytes that are held. None: the line goes on behind them.
+    // Looks at the bytes that are held. None: the line goes on after them.
     #[inline(always)]
     fn look(&mut self) -> Option<Got>
         ensures reads { (text : List ℕ) → IsReading self.old text → IsReading self.new text }
@@ -295,7 +295,7 @@ impl LineReader {
     }
 
     // The line that came last began in a piece before. What is held of it, up to the line feed at place `n`, is put
-    // behind what was kept.
+    // after what was kept.
     #[cold]
     fn show_kept(&mut self, n: usize) -> Got
         requires held { n < self.old.upto - self.old.from }
@@ -355,7 +355,7 @@ pub fn stripped(line: &[u8]) -> usize
     }
 }
 
-// Puts a part behind the first bytes of a line, if it has room.
+// Puts a part after the first bytes of a line, if it has room.
 fn keep(line: &mut [u8], count: usize, part: &[u8])
     ensures { count + length part.now ≤ length line.old → take (count + length part.now) line.new ≡ take count line.old ++ part.now }
 {

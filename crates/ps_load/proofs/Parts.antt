@@ -64,12 +64,12 @@ pub read_more : (text buffer part : List ℕ) (at done k : ℕ) → done ≤ len
 read_more text buffer part at done k fits so_far more buffer' is =
     is ∙ ap (λ l. l ++ take k part) so_far ∙ ap (λ l. take done (drop at text) ++ l) (more ∙ ap (take k) (sym (drop-drop done at text))) ∙ sym (take-add done k (drop at text))
 
--- the rest of a text behind a place, taken as a part of known length
+-- the rest of a text after a place, taken as a part of known length
 pub part_is_rest : (text part : List ℕ) (p size n : ℕ) → part ≡ text → length text ≡ size → take n (take (size - p) (drop p part)) ≡ take n (drop p text)
 part_is_rest text part p size n is long =
     ap (λ l. take n (take (size - p) (drop p l))) is ∙ ap (take n) (take_all (size - p) (drop p text) (omega (arith, length-drop p text, long)))
 
--- the first bytes of a buffer, into which a part was read behind others
+-- the first bytes of a buffer, into which a part was read after others
 pub first_and_part : (buffer part after : List ℕ) (done k : ℕ) → done ≤ length buffer → k ≤ length part →
     take (done + k) (take done buffer ++ (part ++ after)) ≡ take done buffer ++ take k part
 first_and_part buffer part after done k fits small =

@@ -1,1 +1,2 @@
+-- what is served of a stream, message by message
 mod Streams

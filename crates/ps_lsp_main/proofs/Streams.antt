@@ -3,17 +3,17 @@ use Rattle.std.proofs.Common.{◌≡◌, ◌∙◌, ℕ, List, [], ◌∷◌, �
 use Rattle.ps_lsp_main.specs.Streaming.{EndsWith, IsShort, IsWhole, ReadsAll, ServesAll, ServesFrame, ServesNext, ServesStream, ServesUpTo}
 use Rattle.ps_lsp_main.specs.declared.serving.Ending.{Ending}
 use Rattle.ps_lsp_main.specs.declared.serving.Ending.TheVariants.{Exit, Broken, Unread, Unwritten, Memory}
-use Rattle.ps_rpc.specs.Frames.{Gives}
-use Rattle.ps_rpc.specs.Sending.{Continues}
-use Rattle.ps_rpc.specs.declared.reading.Frame.{Frame}
+use Rattle.ps_lsp_rpc.specs.Frames.{Gives}
+use Rattle.ps_lsp_rpc.specs.Sending.{Continues}
+use Rattle.ps_lsp_rpc.specs.declared.reading.Frame.{Frame}
 
--- one more is read behind these
+-- one more is read after these
 reads_more : (frames : List Frame) (frame : Frame) (ahead between left : List ℕ) → ReadsAll frames ahead between →
     Gives between left frame → ReadsAll (frames ++ frame ∷ []) ahead left
 reads_more [] frame ahead between left all next = (left, subst (λ (t : List ℕ). Gives t left frame) all next, refl)
 reads_more (first ∷ more) frame ahead between left all next = (all.0, all.1, reads_more more frame all.0 between left all.2 next)
 
--- one more is served behind these
+-- one more is served after these
 serves_more : (frames : List Frame) (frame : Frame) (before between after : List ℕ) → ServesAll frames before between →
     ServesFrame frame between after → ServesAll (frames ++ frame ∷ []) before after
 serves_more [] frame before between after all next = (after, subst (λ (t : List ℕ). ServesFrame frame t after) all next, refl)
@@ -24,7 +24,7 @@ serves_more (first ∷ more) frame before between after all next =
 pub begun : (reads writes : Bool) (ahead before : List ℕ) → ServesUpTo reads writes ahead ahead before before
 begun reads writes ahead before = record { frames = []; read = λ _. refl; served = λ _. refl }
 
--- the next one is served behind what was served
+-- the next one is served after what was served
 pub served_next : (reads writes readsnow writesnow : Bool) (ahead between left before middle after : List ℕ) →
     ServesUpTo reads writes ahead between before middle → readsnow ≡ reads → writesnow ≡ writes →
     ServesNext readsnow writesnow between left middle after → ServesUpTo reads writes ahead left before after
@@ -43,7 +43,7 @@ whole_ends reads writes Unread left after whole = elim whole [ ]
 whole_ends reads writes Unwritten left after whole = elim whole [ ]
 whole_ends reads writes Memory left after whole = elim whole [ ]
 
--- the server ended behind the next one
+-- the server ended after the next one
 pub ended_next : (reads writes readsnow writesnow : Bool) (ending : Ending) (ahead between left before middle after : List ℕ) →
     ServesUpTo reads writes ahead between before middle → readsnow ≡ reads → writesnow ≡ writes →
     ServesNext readsnow writesnow between left middle after → IsWhole ending →

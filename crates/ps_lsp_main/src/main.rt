@@ -1,5 +1,5 @@
-//! The program `plcsafe-lsp`: a language server over standard input and standard output. Each message of the stream is
-//! read, answered and written, up to the end.
+//! The program `plcsafe-lsp`: a language server for applications, over standard input and standard output. Each message
+//! of the stream is read, answered and written, up to the end.
 //!
 //! `serving` serves one message, and goes on to the end of the stream; `system` is the edge over standard input and
 //! standard output.

@@ -1,13 +1,13 @@
 // From the beginning of a stream to its end.
 
 ghost use Rattle.std.specs.Prelude.{◌≡◌, IfErr, IfOk, IfSome, IsTrue, OnErr, OnOk};
-ghost use Rattle.ps_rpc.specs.Sending.{Continues};
+ghost use Rattle.ps_lsp_rpc.specs.Sending.{Continues};
 ghost use Rattle.ps_lsp_main.specs.Streaming.{EndsWith, IsShort, IsWhole, Serves, ServesFrame, ServesNext};
 ghost use Rattle.ps_lsp_main.specs.Streaming.{ServesStream};
 
-use ps_lsp::Server;
+use ps_lsp_rpc::{Frame, Incoming, Unsent, read_frame, send_reply};
+use ps_lsp_text::Server;
 use ps_outside::{Output, ReadFail};
-use ps_rpc::{Frame, Incoming, Unsent, read_frame, send_reply};
 use std::alloc::Global;
 
 /// How a server ended.
@@ -21,12 +21,12 @@ pub(crate) enum Ending {
     Unread,
     /// Its output could not be written.
     Unwritten,
-    /// Memory was wanting.
+    /// Memory ran out.
     Memory,
 }
 
 impl Ending {
-    /// The number with which the program exits: 0 behind a shutdown, 1 without one, and else that of the other
+    /// The number with which the program exits: 0 after a shutdown, 1 without one, and else that of the other
     /// programs for the same failure.
     pub(crate) fn number(self) -> u8 {
         match self {
@@ -73,7 +73,7 @@ fn ending_of(server: &Server) -> Option<Ending>
     }
 }
 
-// Serves what is read; how the server ended behind it, if it did.
+// Serves what is read; how the server ended after it, if it did.
 fn serve_frame<O: Output>(
     alloc: Global,
     server: &mut Server,
@@ -128,7 +128,7 @@ fn serve_next<I: Incoming, O: Output>(
 
 /// Serves the messages of a stream, one after the other, until one tells it to exit or the stream ends. Each message
 /// that is read is answered by just its answer and its notice, in the order of the messages, but for the last one where
-/// the output fails or memory is wanting.
+/// the output fails or memory runs out.
 pub(crate) fn serve<I: Incoming, O: Output>(alloc: Global, input: &mut I, out: &mut O) -> Ending
     ensures { ServesStream (I.tells input.old) (O.tells out.old) result (I.ahead input.old) (I.ahead input.new)
         (O.taken out.old) (O.taken out.new) }

@@ -1,8 +1,8 @@
 // The server over standard input and standard output.
 
 use crate::serving::{Ending, serve};
+use ps_lsp_rpc::SystemIncoming;
 use ps_outside::StdSink;
-use ps_rpc::SystemIncoming;
 use std::io;
 use std::io::{BufReader, BufWriter, Input, Print};
 

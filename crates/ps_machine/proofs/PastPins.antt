@@ -1,4 +1,4 @@
--- A kind has at most 13 Boolean pins, and behind them only TIME pins, where nothing is TRUE.
+-- A kind has at most 13 Boolean pins, and after them only TIME pins, where nothing is TRUE.
 use Rattle.std.proofs.Common.{◌≡◌, ℕ, zero, suc, ◌+◌, ◌-◌, ◌<◌, ◌≤◌, Bool, true, false, List, [], ◌∷◌, length, drop, refl, ap, ◌∙◌, subst, inl, inr, arith, length-drop, get_or, Some}
 use Rattle.std.specs.Prelude.{slice_index_or, slice_get, not, ◌&&◌}
 use Rattle.std.specs.List.{list_all}
@@ -16,7 +16,7 @@ use Rattle.ps_model.specs.Scanning.{pin_at, no_pin, pin_value, pins_under}
 use Rattle.ps_model.specs.Sound.{IsSound}
 use Rattle.ps_model.specs.Typing.{Accepted, MayStand}
 
--- the pins behind the Boolean ones are TIME pins, which are never TRUE where they are free
+-- the pins after the Boolean ones are TIME pins, which are never TRUE where they are free
 abbrev is_time : Ty → Bool
 is_time Safe = false
 is_time Plain = false

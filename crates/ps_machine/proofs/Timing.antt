@@ -1,4 +1,4 @@
--- The limit of a call is what stands behind its Boolean pins, or the kind's own.
+-- The limit of a call is what stands after its Boolean pins, or the kind's own.
 use Rattle.std.proofs.Common.{inl, inr, ◌⊎◌, ◌≡◌, ℕ, zero, suc, ◌<◌, ◌≤◌, true, List, [], ◌∷◌, length, take, drop, refl, ap, ◌∙◌, arith}
 use Rattle.std.specs.Prelude.{slice_get, Some, codes}
 use Rattle.std.specs.List.{list_all}
@@ -57,7 +57,7 @@ first_boolean SafetyRequest = refl
 first_boolean OutControl = refl
 first_boolean Edm = refl
 
--- a kind has one TIME pin behind them and no limit of its own, or none
+-- a kind has one TIME pin after them and no limit of its own, or none
 record IsTimed (kind : Kind) : Type 0 where
   own : (block kind).fixed_limit ≡ 0
   long : length (block kind).inputs ≡ suc (boolean_count kind)

@@ -18,7 +18,7 @@ module _ (z : Sizes) (first : ℕ) (cells : List ℕ) where
   abbrev pub output_byte : ℕ → ℕ
   output_byte j = signal_byte (z.inputs + j)
 
-  -- the signal behind the outputs of an instance: Ready and Error are the last two of them
+  -- the signal after the outputs of an instance: Ready and Error are the last two of them
   abbrev pub past_outputs : ℕ → ℕ
   past_outputs i = slice_index_or z.first_pins i 0 + output_count (slice_index_or z.kinds i Equivalent)
 

@@ -8,7 +8,7 @@ use std::alloc::Global;
 
 /// What a channel has whose cells are kept byte by byte, as those of channels A and C are: the sizes of its
 /// application, its own copy of the code, and its cells. In these the bytes of the signals begin at a place, and the
-/// sixteen bytes of each instance stand behind them. What the bytes before that place mean, and what a turn does, is
+/// sixteen bytes of each instance stand after them. What the bytes before that place mean, and what a turn does, is
 /// the channel's own.
 pub struct Frame {
     /// The sizes of the application.

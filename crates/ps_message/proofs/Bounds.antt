@@ -3,10 +3,10 @@ use Rattle.std.proofs.Common.{◌≡◌, ℕ, ◌+◌, ◌-◌, ◌*◌, ◌^◌
 use Rattle.std.proofs.lemmas.Bool.Decides.{nat_tests}
 use Rattle.ps_base.specs.declared.failing.Place.{Place}
 use Rattle.ps_message.specs.declared.advice.Advice.{Advice}
-use Rattle.ps_quoted.specs.Shown.{first_shown, last_shown}
-use Rattle.ps_quoted.specs.Quoted.{line_of, behind, name_at, quoted}
-use Rattle.ps_quoted.specs.Lines.{IsEnded}
-use Rattle.ps_quoted.proofs.Lengths.{length-column, length-first_shown, length-last_shown, length-name_at, length-number, length-quoted}
+use Rattle.ps_text.specs.Shown.{first_shown, last_shown}
+use Rattle.ps_text.specs.Quoted.{line_of, behind, name_at, quoted}
+use Rattle.ps_text.specs.Lines.{IsEnded}
+use Rattle.ps_text.proofs.Lengths.{length-column, length-first_shown, length-last_shown, length-name_at, length-number, length-quoted}
 use Rattle.ps_message.specs.Message.{heading, reason, further, remedy, message_text, is_short}
 
 -- no part of an advice is long

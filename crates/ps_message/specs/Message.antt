@@ -6,9 +6,9 @@ use Rattle.ps_base.specs.declared.failing.Place.{Place}
 use Rattle.ps_base.specs.declared.failing.Refusal.{Refusal}
 use Rattle.ps_report.specs.Short.{rule_text}
 use Rattle.ps_message.specs.declared.advice.Advice.{Advice}
-use Rattle.ps_quoted.specs.Shown.{first_shown, last_shown}
-use Rattle.ps_quoted.specs.Quoted.{line_of, behind, name_at, quoted}
-use Rattle.ps_quoted.specs.Further.{AreGiven}
+use Rattle.ps_text.specs.Shown.{first_shown, last_shown}
+use Rattle.ps_text.specs.Quoted.{line_of, behind, name_at, quoted}
+use Rattle.ps_text.specs.Further.{AreGiven}
 
 -- where the refusal is and by which rule, as `motor.st:4:15: N2: `; of a longer name of a file the last 255 bytes
 abbrev pub heading : (file : List ℕ) → Place → Advice → List ℕ

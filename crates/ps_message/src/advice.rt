@@ -13,7 +13,7 @@ pub struct Advice {
     pub name: &'static str,
     /// What is wrong, where no name stands at the place.
     pub sentence: &'static str,
-    /// What is said of the name at the place, behind it; empty where a name does not help.
+    /// What is said of the name at the place, after it; empty where a name does not help.
     pub of_name: &'static str,
     /// What helps.
     pub remedy: &'static str,
@@ -237,7 +237,7 @@ fn said_of(rule: Rule) -> Said
     }
 }
 
-// What is said of the name at the place, behind it; empty where a name does not help.
+// What is said of the name at the place, after it; empty where a name does not help.
 fn said_of_name(rule: Rule) -> &'static str
     ensures { IsTrue (are_few 200 result.now) }
 {

@@ -22,7 +22,7 @@ pub(crate) enum Hint {
     Empty,
     /// A semicolon where what it ends is not whole.
     Early,
-    /// A comma behind which nothing follows.
+    /// A comma after which nothing follows.
     Comma,
     /// A sign stands where a value is asked.
     Valueless,
@@ -60,7 +60,7 @@ pub(crate) enum Hint {
     Unnamed,
     /// A value at a declaration.
     Initial,
-    /// A further program or function block behind the end.
+    /// A further program or function block after the end.
     Behind,
     /// An operator on numbers, or a comparison.
     Arithmetic,

@@ -6,7 +6,7 @@ ghost use Rattle.ps_message.specs.Message.{IsOf, is_short};
 use crate::advice::{Advice, advice_on};
 use crate::hint::{Hint, hinted};
 use ps_base::Rule;
-use ps_quoted::{
+use ps_text::{
     before_last_word, first_word, is_of_word, last_word, without_blanks, without_front_blanks,
 };
 
@@ -77,7 +77,7 @@ fn joins(word: &[u8]) -> bool {
     word.eq_ignore_ascii_case(b"AND") || word.eq_ignore_ascii_case(b"OR")
 }
 
-// Whether a value is asked behind these bytes.
+// Whether a value is asked after these bytes.
 fn asks_value(front: &[u8]) -> bool {
     let word = last_word(front);
     front.ends_with(b":=") || front.ends_with(b"&") || joins(word)
@@ -89,7 +89,7 @@ fn ends_unnamed(front: &[u8]) -> bool {
     !word.is_empty() && asks_pin(without_blanks(before_last_word(front)))
 }
 
-// Whether the name of a pin is asked behind these bytes.
+// Whether the name of a pin is asked after these bytes.
 fn asks_pin(front: &[u8]) -> bool {
     front.ends_with(b"(") || front.ends_with(b",")
 }
@@ -123,7 +123,7 @@ fn ends_with_head(front: &[u8]) -> bool {
     keyword.eq_ignore_ascii_case(b"PROGRAM") || keyword.eq_ignore_ascii_case(b"FUNCTION_BLOCK")
 }
 
-// Whether nothing is to be ended by a semicolon behind these bytes.
+// Whether nothing is to be ended by a semicolon after these bytes.
 fn ends_already(front: &[u8]) -> bool {
     let word = last_word(front);
     front.ends_with(b";")
@@ -133,7 +133,7 @@ fn ends_already(front: &[u8]) -> bool {
         || word.eq_ignore_ascii_case(b"END_FUNCTION_BLOCK")
 }
 
-// What is said of a sign that does not fit behind these bytes.
+// What is said of a sign that does not fit after these bytes.
 fn hint_on_sign(front: &[u8], back: &[u8]) -> Hint {
     if asks_value(front) {
         Hint::Valueless
@@ -271,7 +271,7 @@ fn hint_on_byte(front: &[u8], back: &[u8]) -> Option<Hint> {
     }
 }
 
-// Whether a TIME literal at the beginning of bytes goes on with a digit behind a comma.
+// Whether a TIME literal at the beginning of bytes goes on with a digit after a comma.
 fn has_decimal_comma(bytes: &[u8]) -> bool {
     let mut is_behind = false;
     for byte in bytes {

@@ -3,13 +3,13 @@
 ghost use Rattle.std.specs.Prelude.{◌≡◌, ◌<◌, ◌≤◌, ◌^◌, ◌++◌, codes, decimal, length, IfOk, IsTrue, OnOk};
 ghost use Rattle.ps_message.specs.Message.{further, heading, reason, reference, remedy, message_text, IsOf, Says};
 ghost use Rattle.ps_message.specs.Message.{is_short};
-ghost use Rattle.ps_quoted.specs.Lines.{IsEnded};
-ghost use Rattle.ps_quoted.specs.Quoted.{line_of, behind, name_at, quoted};
+ghost use Rattle.ps_text.specs.Lines.{IsEnded};
+ghost use Rattle.ps_text.specs.Quoted.{line_of, behind, name_at, quoted};
 
 use crate::advice::Advice;
 use crate::hints::{advice_at, advice_behind, advice_on_none};
 use ps_base::{Bytes, Memory, Place, Refusal, Rule};
-use ps_quoted::{
+use ps_text::{
     MOST_OF_FILE, add_first, add_last, add_number, add_quoted, cut_at, further_on, is_bare,
     line_at, line_before, name_of,
 };

@@ -12,7 +12,7 @@ use Rattle.ps_model.specs.Named.{owners_from}
 abbrev pub count_outputs : List Instance → ℕ
 count_outputs xs = sum_by (λ x. output_count x.kind) xs
 
--- one more instance owns its outputs, behind all others
+-- one more instance owns its outputs, after all others
 pub owners-one_more : (n : ℕ) (xs : List Instance) (x : Instance) → owners_from n (xs ++ x ∷ []) ≡ owners_from n xs ++ replicate (output_count x.kind) (n + length xs)
 owners-one_more n [] x =
     append-nil (replicate (output_count x.kind) n) ∙ ap (replicate (output_count x.kind)) (let e : n ≡ n + 0 = omega arith in e)
@@ -25,7 +25,7 @@ length-owners n [] = refl
 length-owners n (x ∷ xs) =
     omega (arith, sum_by-cons (λ (y : Instance). output_count y.kind) x xs, length-append (replicate (output_count x.kind) n) (owners_from (n + 1) xs), length-replicate (output_count x.kind) n, length-owners (n + 1) xs)
 
--- Instance i owns place p among the outputs of these instances: its outputs begin at or before p, and end behind it.
+-- Instance i owns place p among the outputs of these instances: its outputs begin at or before p, and end after it.
 pub record Owns (xs : List Instance) (p i : ℕ) : Type 0 where
   pub instance : Instance
   pub stands : slice_get xs i ≡ Some instance

@@ -16,11 +16,11 @@ pub record OffWhereInactive : Type 0 where
   pub code : (kind : Kind) (limit : ℕ) (pins : ℕ → Bool) (dt : ℕ) (s : Block_state) → pins 0 ≡ false → (moved kind limit pins dt s).code ≡ 0
   pub outputs : (kind : Kind) (mode j : ℕ) → slice_index_or (outs kind 0 mode) j false ≡ false
 
--- behind the safe outputs stands Ready
+-- after the safe outputs stands Ready
 abbrev pub ready_of : Kind → List Bool → Bool
 ready_of kind os = slice_index_or os (length (block kind).outputs) false
 
--- behind the safe outputs and Ready stands Error
+-- after the safe outputs and Ready stands Error
 abbrev pub error_of : Kind → List Bool → Bool
 error_of kind os = slice_index_or os (length (block kind).outputs + 1) false
 

@@ -34,7 +34,7 @@ static_row q = in_state (q + 1) (no reset ⇒ q ∷ [])
 abbrev pub errors : List ℕ
 errors = 0xC010 ∷ 0xC020 ∷ 0xC030 ∷ 0xC040 ∷ 0xC050 ∷ 0xC060 ∷ 0xC070 ∷ 0xC080 ∷ 0xC090 ∷ []
 
--- the states of SF_EDM, with the error states behind
+-- the states of SF_EDM, with the error states after
 abbrev pub table : List Row
 table =
     (in_state 0x8001 (start ⇒ 0x8010 ∷ edge ⇒ 0x8010 ∷ static ⇒ 0xC001 ∷ [])

@@ -4,7 +4,7 @@ use Rattle.ps_model.specs.Network.{Network}
 use Rattle.ps_model.specs.Scanning.{State}
 use Rattle.ps_model.specs.Meaning.{Item, scan, restart, Past, nothing, last, Runs}
 
--- the time and the state of the last of these scans, or nothing where a restart stands behind it; the states are those
+-- the time and the state of the last of these scans, or nothing where a restart stands after it; the states are those
 -- of the scans, in order
 abbrev pub past_after : Past → List Item → List State → Past
 past_after past [] ws = past

@@ -25,7 +25,7 @@ pub enum Driver {
     },
 }
 
-// Makes room for a number. What is noted stays, also where memory is wanting.
+// Makes room for a number. What is noted stays, also if memory runs out.
 pub(crate) fn make_room(slots: &mut Vec<Option<usize>>, number: u16) -> Result<(), Memory>
     ensures kept { (n : ℕ) → step_noted slots.new.items n ≡ step_noted slots.old.items n }
     ensures room { OnOk result (number < length slots.new.items) }

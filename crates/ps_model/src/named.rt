@@ -118,7 +118,7 @@ fn output_types(kind: Kind) -> &'static [Ty]
     }
 }
 
-// The types of the outputs of one more instance, and its number for each of them. Where memory is wanting all is as
+// The types of the outputs of one more instance, and its number for each of them. If memory runs out all is as
 // before.
 fn push_outputs(
     types: &mut Vec<Ty>,
@@ -154,7 +154,7 @@ impl Signals {
         }
     }
 
-    /// One more signal at the end. `Err` comes only where memory is wanting.
+    /// One more signal at the end. `Err` comes only if memory runs out.
     pub fn push(&mut self, signal: Signal) -> Result<(), Memory>
         requires { signal.ty ≢ Time }
         ensures { OnOk result (self.new ≡ self.old ++ signal ∷ []) }
@@ -195,7 +195,7 @@ impl Instances {
         }
     }
 
-    /// One more instance at the end. `Err` comes only where memory is wanting, and then the instances are as before.
+    /// One more instance at the end. `Err` comes only if memory runs out, and then the instances are as before.
     pub fn push(&mut self, instance: Instance) -> Result<(), Memory>
         ensures pushed { OnOk result (self.new ≡ self.old ++ instance ∷ []) }
         ensures refused { OnErr result (self.new ≡ self.old) }

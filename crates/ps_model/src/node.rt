@@ -60,7 +60,7 @@ fn root_shape(e: &Expr) -> Shape
 }
 
 /// Lists the nodes of an expression at the end, each before its operands. The AND and OR that stand around the
-/// expression, `depth` in number, are already listed. `Err` comes only where memory is wanting.
+/// expression, `depth` in number, are already listed. `Err` comes only if memory runs out.
 pub fn write_nodes(e: &Expr, depth: usize, list: &mut Vec<Node>) -> Result<(), Memory>
     requires { depth ≤ length list.old.items }
     ensures { OnOk result (list.new.items ≡ list.old.items ++ listed_at depth (formula e.now)) }

@@ -99,7 +99,7 @@ impl Diags {
         }
     }
 
-    /// Those of this many idle blocks. `Err` comes only where memory is wanting.
+    /// Those of this many idle blocks. `Err` comes only if memory runs out.
     pub fn all_idle(alloc: Global, count: usize) -> Result<Diags, Memory>
         ensures { IfOk result (λ d. d ≡ replicate count no_diag) }
     {
@@ -107,7 +107,7 @@ impl Diags {
         Ok(Diags { items })
     }
 
-    /// One more at the end. `Err` comes only where memory is wanting.
+    /// One more at the end. `Err` comes only if memory runs out.
     pub fn push(&mut self, diag: Diag) -> Result<(), Memory>
         ensures { OnOk result (self.new ≡ self.old ++ diag ∷ []) }
     {

@@ -66,7 +66,7 @@ impl Sizes {
     ghost use Rattle.std.specs.Prelude.{◌≡◌, IfOk};
     ghost use Rattle.ps_model.specs.Sized.{AreSizesOf};
 
-    /// The sizes of an application. `Err` comes only where memory is wanting.
+    /// The sizes of an application. `Err` comes only if memory runs out.
     pub fn of(alloc: Global, app: &App) -> Result<Sizes, Memory>
         ensures { IfOk result (λ sizes. AreSizesOf app.now sizes) }
     {
@@ -87,7 +87,7 @@ impl Sizes {
         })
     }
 
-    /// A copy of these sizes. `Err` comes only where memory is wanting.
+    /// A copy of these sizes. `Err` comes only if memory runs out.
     pub fn copy(&self, alloc: Global) -> Result<Sizes, Memory>
         ensures { IfOk result (λ copy. copy ≡ self.now) }
     {

@@ -111,7 +111,7 @@ impl Args {
         }
     }
 
-    /// One more argument at the end. `Err` comes only where memory is wanting.
+    /// One more argument at the end. `Err` comes only if memory runs out.
     pub fn push(&mut self, arg: Arg) -> Result<(), Memory>
         ensures { OnOk result (self.new ≡ self.old ++ actual arg ∷ []) }
     {
@@ -153,7 +153,7 @@ impl Steps {
         }
     }
 
-    /// One more step at the end. `Err` comes only where memory is wanting, and then the steps are as before.
+    /// One more step at the end. `Err` comes only if memory runs out, and then the steps are as before.
     pub fn push(&mut self, step: Step) -> Result<(), Memory>
         ensures pushed { OnOk result (self.new ≡ self.old ++ action step ∷ []) }
         ensures refused { OnErr result (self.new ≡ self.old) }
@@ -248,7 +248,7 @@ fn write_step(step: &Step, list: &mut Vec<Node>) -> Result<(), Memory>
     }
 }
 
-// Makes room to note a step. What is noted stays, also where memory is wanting.
+// Makes room to note a step. What is noted stays, also if memory runs out.
 fn make_room_for_step(
     step: &Step,
     assigning: &mut Vec<Option<usize>>,
@@ -264,7 +264,7 @@ fn make_room_for_step(
     }
 }
 
-// Notes a step that stands behind all that were noted: for the signal that it assigns, or the instance that it calls.
+// Notes a step that stands after all that were noted: for the signal that it assigns, or the instance that it calls.
 fn note_step(
     step: &Step,
     place: usize,
@@ -282,7 +282,7 @@ fn note_step(
 }
 
 // Keeps beside the steps what one more at the end gives: its nodes, and its place as the first that assigns a signal or
-// calls an instance. Where memory is wanting, what is kept stays.
+// calls an instance. If memory runs out, what is kept stays.
 fn write_beside(
     step: &Step,
     place: usize,

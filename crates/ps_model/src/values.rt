@@ -31,7 +31,7 @@ impl Bits {
         }
     }
 
-    /// This many values, each FALSE. `Err` comes only where memory is wanting.
+    /// This many values, each FALSE. `Err` comes only if memory runs out.
     pub fn all_false(alloc: Global, count: usize) -> Result<Bits, Memory>
         ensures { IfOk result (λ b. b ≡ replicate count false) }
     {
@@ -39,7 +39,7 @@ impl Bits {
         Ok(Bits { items })
     }
 
-    /// One more value at the end. `Err` comes only where memory is wanting.
+    /// One more value at the end. `Err` comes only if memory runs out.
     pub fn push(&mut self, value: bool) -> Result<(), Memory>
         ensures { OnOk result (self.new ≡ self.old ++ value ∷ []) }
     {
@@ -111,7 +111,7 @@ impl FirstPins {
         }
     }
 
-    /// One more at the end. `Err` comes only where memory is wanting.
+    /// One more at the end. `Err` comes only if memory runs out.
     pub fn push(&mut self, first: u16) -> Result<(), Memory>
         ensures { OnOk result (self.new ≡ self.old ++ first ∷ []) }
     {
@@ -162,7 +162,7 @@ impl Kinds {
         }
     }
 
-    /// One more at the end. `Err` comes only where memory is wanting.
+    /// One more at the end. `Err` comes only if memory runs out.
     pub fn push(&mut self, kind: Kind) -> Result<(), Memory>
         ensures { OnOk result (self.new ≡ self.old ++ kind ∷ []) }
     {

@@ -1,3 +1,4 @@
+-- if no rule is broken: names differ, each signal has one driver, and the application is sound
 pub mod Firsts
 pub mod Distinct
 pub mod Unbroken
@@ -16,5 +17,9 @@ pub mod FewNodes
 pub mod Booleans
 pub mod Times
 pub mod Whole
+-- what is found by name, names that come again, and one more name in a table
 pub mod Lookups
 pub mod NamesAgain
+pub mod Indexing
+-- operands that are not one
+pub mod Many

@@ -12,7 +12,7 @@ use Rattle.ps_base.specs.declared.failing.Rule.TheVariants.{N1}
 use Rattle.ps_names.specs.Offences.{noted, first_of, offence, when}
 use Rattle.ps_base.specs.LetterCase.{is_same_name}
 use Rattle.ps_names.specs.Names.{same}
-use Rattle.ps_table.specs.declared.table.Table.{Table}
+use Rattle.ps_names.specs.declared.table.Table.{Table}
 use Rattle.ps_names.specs.Tables.{Has}
 use Rattle.ps_names.specs.Rules.{repeated}
 

@@ -51,7 +51,7 @@ read_kind n q (LocalSignal t) h = cc
 read_kind n q (Instance kind) h = (kind, refl)
 read_kind n q Nothing h = cc
 
--- the number of outputs of a kind, behind its inputs in the table of pins
+-- the number of outputs of a kind, after its inputs in the table of pins
 pins_are : (kind : Kind) → length (pin_names kind) ≡ length (block kind).inputs + output_count kind
 unfolding output_count
 pins_are kind =

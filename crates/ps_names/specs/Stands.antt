@@ -43,7 +43,7 @@ kind_of _ = Equivalent
 abbrev pub sort_or : Option Sort → Sort
 sort_or s = unwrap_or s Nothing
 
--- the place of an output among those of its kind: outputs stand behind the inputs in the table of pins
+-- the place of an output among those of its kind: outputs stand after the inputs in the table of pins
 abbrev pub output_at : Kind → Name → ℕ
 output_at kind q = unwrap_or (pin_at kind q) 0 - length (block kind).inputs
 

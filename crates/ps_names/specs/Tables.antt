@@ -3,8 +3,8 @@ use Rattle.std.specs.Prelude.{◌≡◌, ℕ, List, is_some}
 use Rattle.std.specs.List.{list_any}
 use Rattle.ps_base.specs.LetterCase.{is_same_name}
 use Rattle.ps_parser.specs.declared.name.Name.{Name}
-use Rattle.ps_table.specs.declared.table.Table.{Table}
-use Rattle.ps_table.specs.Tables.{place_in, Indexes}
+use Rattle.ps_names.specs.declared.table.Table.{Table}
+use Rattle.ps_names.specs.NameTables.{place_in, Indexes}
 use Rattle.ps_names.specs.declared.entry.Entry.{Entry}
 
 -- the table has each declared name, with the place of its first declaration

@@ -6,11 +6,11 @@ ghost use Rattle.ps_names.specs.Offences.{noted};
 ghost use Rattle.ps_names.specs.Rules.{repeated, declared_twice};
 ghost use Rattle.ps_names.specs.Tables.{IndexesDeclared, Has};
 
+use crate::Table;
 use crate::entry::Entry;
 use crate::offence::note_if;
 use ps_base::{Memory, Refusal, Rule};
 use ps_parser::Name;
-use ps_table::Table;
 use std::alloc::Global;
 
 /// Enters a name in a table, and notes it against a rule where the table had it.

@@ -102,7 +102,7 @@ pub struct Placed {
 /// What in a comment an editor shows otherwise than it is read.
 #[derive(Clone, Copy)]
 pub enum Oddity {
-    /// A carriage return that ends no line: other editors show what stands behind it as a line of its own.
+    /// A carriage return that ends no line: other editors show what stands after it as a line of its own.
     Return,
     /// A character that turns the direction of what is shown.
     Turn,

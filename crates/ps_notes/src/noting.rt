@@ -152,7 +152,7 @@ fn of_signal(app: &App, readers: &[Option<u16>], signal: u16) -> Option<Note>
 
 /// The notes of an application: of its calls in the order of the text, for each its pins in their order, then what is
 /// of several of them, and then the instance; and of its signals in the order of their numbers. It takes time linear in
-/// the application. `Err` comes only where memory is wanting.
+/// the application. `Err` comes only if memory runs out.
 pub fn notes(alloc: Global, app: &App) -> Result<Vec<Note>, Memory>
     ensures { IfOk result (λ list. list.items ≡ notes app.now) }
 {

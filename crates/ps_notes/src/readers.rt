@@ -100,7 +100,7 @@ fn note_step(app: &App, step: &Step, k: u16, readers: &mut [Option<u16>])
     }
 }
 
-/// The first step that reads each signal, the one that drives it left out. `Err` comes only where memory is wanting.
+/// The first step that reads each signal, the one that drives it left out. `Err` comes only if memory runs out.
 pub(crate) fn first_readers(alloc: Global, app: &App) -> Result<Vec<Option<u16>>, Memory>
     ensures { IfOk result (λ readers. AreReaders app.now readers.items) }
 {

@@ -1,15 +1,14 @@
 // The offences of a text against the rules B.
 
 use crate::adding::add;
-use ps_base::{Memory, Refusal, Rule};
-use ps_derived::{Interface, Interfaces, Library, Scope};
-use ps_derived_rules::{
+use crate::{
     Body, calls_of, check_calls, check_count, check_kinds, check_names, check_size, check_types,
     check_uses, declared_of,
 };
-use ps_names::note_again;
+use ps_base::{Memory, Refusal, Rule};
+use ps_derived::{Interface, Interfaces, Library, Scope};
+use ps_names::{Table, note_again};
 use ps_parser::{Heads, Source, Statement};
-use ps_table::Table;
 use std::alloc::Global;
 use std::slice::from_ref;
 
@@ -46,7 +45,7 @@ fn add_types(
     Ok(())
 }
 
-// Adds the first offence of each statement in what it reads and assigns behind dots: B3.
+// Adds the first offence of each statement in what it reads and assigns after dots: B3.
 fn add_uses(
     alloc: Global,
     body: &Body,

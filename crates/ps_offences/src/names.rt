@@ -2,13 +2,12 @@
 
 use crate::adding::add;
 use ps_base::{Memory, Refusal, Rule};
-use ps_names::{Entry, index, note_again};
+use ps_names::{Entry, Table, index, note_again};
 use ps_parser::{Source, Statement};
 use ps_resolve::{
     Names, calls, check_called, check_calls, check_driven, check_limits, check_statements,
     check_types, declared_names, note_called, note_target, read_names, targets,
 };
-use ps_table::Table;
 use std::alloc::Global;
 use std::slice::from_ref;
 

@@ -127,7 +127,7 @@ impl<W: Write + Drop> Sink for StdSink<W> {
     }
 }
 
-// Behind a flush that succeeds the buffer is empty. What the writer below did with the bytes is for the system to say.
+// After a flush that succeeds the buffer is empty. What the writer below did with the bytes is for the system to say.
 impl<W: Write + Drop> Output for StdSink<BufWriter<W>> {
     ghost held_back = { λ output. writer_buffer output.writer };
 

@@ -70,7 +70,7 @@ impl MemFiles {
     /// Holds a copy of these bytes under a name from now on, in place of those that were held there.
     ///
     /// Every name keeps its count: a new file begins with the count of the names that are not held.
-    /// Where memory is wanting nothing changes.
+    /// If memory runs out nothing changes.
     pub fn put(&mut self, name: &str, bytes: &[u8]) -> Result<(), Memory>
         ensures held { OnOk result ((in_memory self.new).held name.now ≡ Some bytes.now) }
         ensures others { (other : List ℕ) → other ≢ name.now → (in_memory self.new).held other ≡ (in_memory self.old).held other }
@@ -95,7 +95,7 @@ impl MemFiles {
         Ok(())
     }
 
-    /// Lets the read with this number fail, counted from 1 over all reads. Where memory is wanting nothing changes.
+    /// Lets the read with this number fail, counted from 1 over all reads. If memory runs out nothing changes.
     pub fn fail_at(&mut self, call: u32) -> Result<(), Memory>
         ensures chosen { OnOk result (in_memory self.new ≡ record (in_memory self.old) { failing = (in_memory self.old).failing ++ call ∷ [] }) }
         ensures refused { OnErr result (in_memory self.new ≡ in_memory self.old) }

@@ -60,7 +60,7 @@ impl MemSink {
         })
     }
 
-    /// Lets the write with this number fail, counted from 1. Where memory is wanting nothing changes.
+    /// Lets the write with this number fail, counted from 1. If memory runs out nothing changes.
     pub fn fail_at(&mut self, call: u32) -> Result<(), Memory>
         ensures chosen { OnOk result (self.new ≡ record self.old { failing = self.old.failing ++ call ∷ [] }) }
         ensures refused { OnErr result (self.new ≡ self.old) }

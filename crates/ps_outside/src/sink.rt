@@ -51,7 +51,7 @@ pub trait Output: Sink {
         ensures kept { Self.taken self.new ≡ Self.taken self.old }
         ensures telling { Self.tells self.new ≡ Self.tells self.old };
 
-    /// Whether the last write, or the last handing on, failed since nobody reads the output any more, as behind `|
+    /// Whether the last write, or the last handing on, failed since nobody reads the output any more, as after `|
     /// head`.
     fn is_closed(&self) -> bool;
 }

@@ -26,7 +26,7 @@ fn arranged_sections(alloc: Global, app: &App, sections: &[Section]) -> Result<S
 
 /// Makes the source of another application that with its declarations in the order of this one: each name is declared
 /// alone, those of inputs and outputs of this one first. It takes a walk over the declarations for each of these. `Err`
-/// comes only where memory is wanting.
+/// comes only if memory runs out.
 pub fn arrange(alloc: Global, app: &App, source: &mut Source) -> Result<(), Memory>
     ensures { OnOk result (source.new ≡ arranged app.now source.old) }
 {
@@ -37,7 +37,7 @@ pub fn arrange(alloc: Global, app: &App, source: &mut Source) -> Result<(), Memo
 }
 
 /// The application of a source with its declarations in the order of another application, which the source has then.
-/// None comes where that breaks a rule of names, `Err` only where memory is wanting.
+/// None comes where that breaks a rule of names, `Err` only if memory runs out.
 pub fn app_arranged(alloc: Global, app: &App, source: &mut Source) -> Result<Option<App>, Memory>
     ensures { IfOk result (IsArranged app.now source.old) }
 {

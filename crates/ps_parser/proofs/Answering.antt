@@ -107,7 +107,7 @@ from_err h flaw all list k left end place e tokens le r at =
       refused = refusal_of_left h flaw (drop k all) left end place proper inner (at ∙ ap (λ l. place_at l end) here);
     })
 
--- the refusal of what stands behind a whole source
+-- the refusal of what stands after a whole source
 breaks_behind : (h : Heads) (s : SourceTree) (front : List Symbol) (rest : List Token) → (a_source h).fits MOST_GROUPS s → spelt h s ≡ front → 0 < length rest → Breaks P1 (sources h) front (symbols rest)
 breaks_behind h s front [] fits e some = absurd (omega arith)
 breaks_behind h s front (t ∷ rest) fits e some = λ depth b.

@@ -93,7 +93,7 @@ ends_sum_of n ends x y r q fx fy sx sy e =
     let same = ends_joined (Mark Or) (is_mark Or) a_product refl product_parts tt n (ends_product_of n ends) (products x) (products y) r q fx fy sx sy e in
     (sym (sum_of-products x) ∙ ap sum_of same.0 ∙ sum_of-products y, same.1)
 
--- what stands behind the opening bracket
+-- what stands after the opening bracket
 pub group_spelt : (s : SumTree) (r : List Symbol) → factor_spelt (Group s) ++ r ≡ Mark LeftBracket ∷ (a_sum.spell s ++ (Mark RightBracket ∷ r))
 group_spelt s r =
     ap (λ l. Mark LeftBracket ∷ l) (append_assoc (sum_spelt s) (Mark RightBracket ∷ []) r ∙ ap (λ l. l ++ (Mark RightBracket ∷ r)) (sum_spelt_lem s))
@@ -169,7 +169,7 @@ ends_target n (target.Pin m j) (target.Pin k l) r q fx fy sx sy e = (cc, cc)
 pub target_law : Lawful a_target
 target_law = record { fits_deeper = λ n m x le f. tt; ends = ends_target; some = target.Name some_name; some_fits = tt; some_proper = (some_proper, tt) }
 
--- a sum, and the sign behind it
+-- a sum, and the sign after it
 pub sum_meets : (t : Symbol) → is_mark Dot t ≡ false → is_mark And t ≡ false → is_mark Or t ≡ false → Meets a_sum (just t)
 sum_meets t ed ea eo n s y after f stops = sum_goes s t ed ea eo
 

@@ -11,7 +11,7 @@ use Rattle.ps_parser.proofs.Choices.{refuses_left, refuses_right, reads_left, re
 use Rattle.ps_parser.proofs.Expressions.{reads_sign}
 use Rattle.ps_parser.proofs.Sentences.{pin_twin, pin_joint, call_twin, call_joint, open_value, open_call, open_pin, value_apart, is_value_or_call, open_value_or_call, tail_apart}
 
--- behind a dot
+-- after a dot
 pub pin_refuses : (n : ℕ) (ts after : List Symbol) → ts ≡ Mark Dot ∷ after → Carries pin_end a_tail n n after ts
 pin_refuses n ts after e flaw left h =
     refuses_left a_pin_value value_or_call (is_mark Dot) is_value_or_call open_pin open_value_or_call tail_apart n ts (subst (Stops is_value_or_call) (sym e) refl) flaw left
@@ -22,7 +22,7 @@ pin_reads n ts after rest p e h =
     reads_left a_pin_value value_or_call (is_mark Dot) is_value_or_call open_pin open_value_or_call tail_apart n ts rest p
     (reads_as pin_parts n ts rest p (reads_both pin_joint n ts after rest tt p (reads_sign (Mark Dot) n ts after e) h))
 
--- behind an opening bracket
+-- after an opening bracket
 pub call_refuses : (n : ℕ) (ts after : List Symbol) → ts ≡ Mark LeftBracket ∷ after → Carries call_end a_tail n n after ts
 call_refuses n ts after e flaw left h =
     refuses_right a_pin_value value_or_call (is_mark Dot) is_value_or_call open_pin open_value_or_call tail_apart n ts (subst (Stops (is_mark Dot)) (sym e) refl) flaw left

@@ -88,7 +88,7 @@ a_value = seen value_parts (just (Mark sign.Assign) then value_end)
 abbrev pub pin_end : Phrase (Name × SumTree)
 pin_end = a_name then a_value
 
--- a pin and its value behind the dot
+-- a pin and its value after the dot
 abbrev pub pin_parts : Name × SumTree → Unit {0} × (Name × SumTree)
 pin_parts p = (tt, p)
 

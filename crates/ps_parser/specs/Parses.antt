@@ -14,7 +14,7 @@ abbrev pub Stopped : {X : Type 0} → Phrase X → ℕ → List Symbol → Stop 
 Stopped g limit ts Memory = Unit {0}
 Stopped g limit ts (Refused flaw left) = Refuses g limit flaw ts (symbols left.now)
 
--- the phrase, and the tokens behind it
+-- the phrase, and the tokens after it
 abbrev pub Parses : {R X : Type 0} → Phrase X → ℕ → List Symbol → (R → X) → (R → List Symbol) → Result R Stop → Type 0
 Parses g limit ts tree rest (Ok r) = Reads g limit ts (tree r) (rest r)
 Parses g limit ts tree rest (Err e) = Stopped g limit ts e

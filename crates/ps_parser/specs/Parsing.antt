@@ -34,7 +34,7 @@ pub record IsRefusedFrom (h : Heads) (tokens : List Token) (end : Place) (refusa
   pub none : (front rest : List Token) (s : SourceTree) → tokens ≡ front ++ rest → IsSpelt (sources h) front s → ⊥
   pub refused : IsRefused (sources h) tokens end refusal
 
--- The source from a number on and the number of the token behind it; or the refusal, where no source is spelt from
+-- The source from a number on and the number of the token after it; or the refusal, where no source is spelt from
 -- there.
 abbrev pub AnswersFrom : Heads → Tokens → ℕ → Result (SourceTree × ℕ) Fail → Type 0
 AnswersFrom h tokens at (Ok r) = IsSpeltBetween h tokens.list at r.1 r.0

@@ -100,7 +100,7 @@ many a first = record {
   goes_on = goes_on_many a.goes_on first;
 }
 
--- a sign, and a phrase behind it
+-- a sign, and a phrase after it
 abbrev pub behind : {X : Type 0} → Symbol → Phrase X → Phrase X
 behind t g = record { fits = g.fits; spell = λ x. t ∷ g.spell x; goes_on = g.goes_on }
 

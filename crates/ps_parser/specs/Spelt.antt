@@ -35,7 +35,7 @@ abbrev mutual
   product_spelt no_factor = []
   product_spelt (factor f fs) = factor_spelt f ++ more_factors fs
 
-  -- the factors behind the first, each behind an AND
+  -- the factors after the first, each after an AND
   pub more_factors : ProductTree → List Symbol
   more_factors no_factor = []
   more_factors (factor f fs) = Mark sign.And ∷ (factor_spelt f ++ more_factors fs)
@@ -45,7 +45,7 @@ abbrev mutual
   sum_spelt no_product = []
   sum_spelt (product p ps) = product_spelt p ++ more_products ps
 
-  -- the products behind the first, each behind an OR
+  -- the products after the first, each after an OR
   pub more_products : SumTree → List Symbol
   more_products no_product = []
   more_products (product p ps) = Mark sign.Or ∷ (product_spelt p ++ more_products ps)

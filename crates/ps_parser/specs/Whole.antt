@@ -28,7 +28,7 @@ module _ (IsNamed : List ℕ → Type 0) where
     ProductWhole no_factor = ⊥
     ProductWhole (factor f fs) = FactorWhole f × MoreFactorsWhole fs
 
-    -- the factors behind the first
+    -- the factors after the first
     pub MoreFactorsWhole : ProductTree → Type 0
     MoreFactorsWhole no_factor = Unit {0}
     MoreFactorsWhole (factor f fs) = FactorWhole f × MoreFactorsWhole fs
@@ -38,7 +38,7 @@ module _ (IsNamed : List ℕ → Type 0) where
     SumWhole no_product = ⊥
     SumWhole (product p ps) = ProductWhole p × MoreProductsWhole ps
 
-    -- the products behind the first
+    -- the products after the first
     pub MoreProductsWhole : SumTree → Type 0
     MoreProductsWhole no_product = Unit {0}
     MoreProductsWhole (product p ps) = ProductWhole p × MoreProductsWhole ps

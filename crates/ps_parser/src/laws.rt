@@ -33,13 +33,13 @@ pub fn no_spelling_begins_another()
         → spelt h other ≡ spelt h s ++ more → more ≡ [] }
 {}
 
-/// Tokens have one answer of `parse`: two answers, neither of which is want of memory, are equal.
+/// Tokens have one answer of `parse`: two answers, neither of which is running out of memory, are equal.
 pub fn one_answer()
     ensures { (tokens : Tokens) (r q : Result SourceTree Fail) → Answers (sources Program) tokens r → Answers (sources Program) tokens q
         → r ≢ Err Fail.Memory → q ≢ Err Fail.Memory → r ≡ q }
 {}
 
-/// From a number on, tokens have one answer of `parse_from`: two answers, neither of which is want of memory, are
+/// From a number on, tokens have one answer of `parse_from`: two answers, neither of which is running out of memory, are
 /// equal.
 pub fn one_answer_from()
     ensures { (h : Heads) (tokens : Tokens) (at : ℕ) (r q : Result (SourceTree × ℕ) Fail)

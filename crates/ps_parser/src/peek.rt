@@ -56,7 +56,7 @@ pub fn sign_of(token: &Token) -> Option<Sign>
     }
 }
 
-/// The tokens behind the sign, where it stands next.
+/// The tokens after the sign, where it stands next.
 pub fn behind<'a>(tokens: &'a [Token], sign: Sign) -> Option<&'a [Token]>
     ensures found { IfSome result (λ rest. symbols tokens.now ≡ Mark sign ∷ symbols rest.now) }
     ensures none { IfNone result (next (symbols tokens.now) ≢ Some (Mark sign)) }
@@ -69,7 +69,7 @@ pub fn behind<'a>(tokens: &'a [Token], sign: Sign) -> Option<&'a [Token]>
     }
 }
 
-/// The tokens behind the sign, which has to stand next.
+/// The tokens after the sign, which has to stand next.
 pub fn expect<'a>(tokens: &'a [Token], sign: Sign) -> Result<&'a [Token], Stop<'a>>
     ensures { (limit : ℕ) → Parses (just (Mark sign)) limit (symbols tokens.now) (λ _. tt) (λ r. symbols r.now) result }
 {
@@ -79,7 +79,7 @@ pub fn expect<'a>(tokens: &'a [Token], sign: Sign) -> Result<&'a [Token], Stop<'
     }
 }
 
-/// The text and the place of a name, and the tokens behind it, where one stands next.
+/// The text and the place of a name, and the tokens after it, where one stands next.
 pub fn next_name(tokens: &[Token]) -> Option<(&Bytes, Place, &[Token])>
     ensures found { IfSome result (λ r. symbols tokens.now ≡ Named (record { text = r.0.now; place = r.1 }) ∷ symbols r.2.now) }
     ensures none { IfNone result (Stops is_named (symbols tokens.now)) }
@@ -111,7 +111,7 @@ pub fn next_name(tokens: &[Token]) -> Option<(&Bytes, Place, &[Token])>
     }
 }
 
-/// The part of the section that begins here, and the tokens behind the word, where one does.
+/// The part of the section that begins here, and the tokens after the word, where one does.
 pub fn next_part(tokens: &[Token]) -> Option<(Part, &[Token])>
     ensures found { IfSome result (λ r. symbols tokens.now ≡ Mark (part_sign r.0) ∷ symbols r.1.now) }
     ensures none { IfNone result (Stops is_part (symbols tokens.now)) }
@@ -126,7 +126,7 @@ pub fn next_part(tokens: &[Token]) -> Option<(Part, &[Token])>
     Some((Part::Local, rest))
 }
 
-/// The literal that stands next, as a factor, and the tokens behind it.
+/// The literal that stands next, as a factor, and the tokens after it.
 pub fn next_literal(tokens: &[Token]) -> Option<(Factor, &[Token])>
     ensures found { (limit : ℕ) → IfSome result (λ r. Reads a_factor limit (symbols tokens.now) (factor_tree r.0) (symbols r.1.now)) }
     ensures none { IfNone result (Stops is_literal (symbols tokens.now)) }

@@ -78,7 +78,7 @@ fn operand<'a>(
     }
 }
 
-// A sum in brackets, where one more group is allowed. Its first token is the bracket, behind which it goes on.
+// A sum in brackets, where one more group is allowed. Its first token is the bracket, after which it goes on.
 #[cycle(expression)]
 fn group<'a>(
     alloc: Global,

@@ -99,7 +99,7 @@ pub fn is_head_at(tokens: &Tokens, at: u32, heads: Heads) -> bool
 }
 
 /// The source that begins at the token with the number `at`, between the words of `heads`, and the number of the token
-/// behind it. Its groups are nested at most `MOST_GROUPS` deep, and none of its names is FUNCTION_BLOCK or
+/// after it. Its groups are nested at most `MOST_GROUPS` deep, and none of its names is FUNCTION_BLOCK or
 /// END_FUNCTION_BLOCK in any letter case. Time is linear in the number of tokens.
 ///
 /// Otherwise the refusal at the earliest token: P1 where no source goes on with it, whatever the depth of its groups,
@@ -125,10 +125,10 @@ pub fn parse_from(
     }
 }
 
-/// The program that the tokens spell, from PROGRAM to END_PROGRAM, with nothing behind it. Its groups are nested at
+/// The program that the tokens spell, from PROGRAM to END_PROGRAM, with nothing after it. Its groups are nested at
 /// most `MOST_GROUPS` deep. Time is linear in the number of tokens.
 ///
-/// Otherwise the refusal P1 or P2 at the earliest token, as `parse_from` says; P1 also at the first token behind
+/// Otherwise the refusal P1 or P2 at the earliest token, as `parse_from` says; P1 also at the first token after
 /// END_PROGRAM.
 pub fn parse(alloc: Global, tokens: &Tokens) -> Result<Source, Fail>
     ensures { Answers (sources Heads.Program) tokens.now result }

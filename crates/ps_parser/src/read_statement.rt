@@ -29,7 +29,7 @@ fn value<'a>(alloc: Global, tokens: &'a [Token]) -> Result<(Sum, &'a [Token]), S
     Ok((value, rest))
 }
 
-// A pin behind the dot, and what is assigned to it: `name := sum ;`.
+// A pin after the dot, and what is assigned to it: `name := sum ;`.
 fn pin_value<'a>(alloc: Global, tokens: &'a [Token]) -> Result<((Name, Sum), &'a [Token]), Stop<'a>>
     ensures { Parses grammar.pin_end MOST_GROUPS (symbols tokens.now) (λ r. (r.0.0, sum_tree r.0.1)) (λ r. symbols r.1.now) result }
 {
@@ -79,7 +79,7 @@ fn any_arguments<'a>(
     Ok((Arguments::new(alloc), tokens))
 }
 
-// A call behind its opening bracket: `arguments ) ;`.
+// A call after its opening bracket: `arguments ) ;`.
 fn call_end<'a>(alloc: Global, tokens: &'a [Token]) -> Result<(Arguments, &'a [Token]), Stop<'a>>
     ensures { Parses grammar.call_end MOST_GROUPS (symbols tokens.now) (λ r. (r.0, (tt, tt))) (λ r. symbols r.1.now) result }
 {

@@ -11,7 +11,7 @@ pub enum Flaw {
     TooDeep,
 }
 
-/// Why a phrase was not read: memory is wanting, or a token is refused, with the tokens from the refused one on.
+/// Why a phrase was not read: memory runs out, or a token is refused, with the tokens from the refused one on.
 #[derive(Drop)]
 pub enum Stop<'a> {
     Memory,

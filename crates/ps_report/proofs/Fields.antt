@@ -34,7 +34,7 @@ pub false_texts-drop : (outputs : List Signal) (j : ℕ) → j < length outputs 
     ≡ named_value (get_or outputs j no_signal).name false ++ flat_map (λ o. named_value o.name false) (drop (j + 1) outputs)
 false_texts-drop outputs j h = ap (λ (os : List Signal). flat_map (λ o. named_value o.name false) os) (drop_more outputs j no_signal h)
 
--- a field was written behind what was written before, and these are left
+-- a field was written after what was written before, and these are left
 pub field_written : (before after field rest left : List ℕ) → after ≡ before ++ field → left ≡ field ++ rest → after ++ rest ≡ before ++ left
 field_written before after field rest left is all =
     ap (λ (t : List ℕ). t ++ rest) is ∙ append_assoc before field rest ∙ ap (λ (t : List ℕ). before ++ t) (sym all)

@@ -9,7 +9,7 @@ ghost use Rattle.ps_report.specs.Lines.{code_text, named_value, named_diag};
 use itoa::Buffer;
 use ps_model::Diag;
 
-// Puts these bytes at a place of a line that has room for them. What is answered is the place behind them.
+// Puts these bytes at a place of a line that has room for them. What is answered is the place after them.
 pub(crate) fn put(line: &mut [u8], at: usize, bytes: &[u8]) -> usize
     requires { at + length bytes.now ≤ length line.old }
     ensures bytes { take result line.new ≡ take at line.old ++ bytes.now }
@@ -21,7 +21,7 @@ pub(crate) fn put(line: &mut [u8], at: usize, bytes: &[u8]) -> usize
     end
 }
 
-// Puts a byte at a place of a line. What is answered is the place behind it.
+// Puts a byte at a place of a line. What is answered is the place after it.
 pub(crate) fn put_byte(line: &mut [u8], at: usize, byte: u8) -> usize
     requires { at < length line.old }
     ensures bytes { take result line.new ≡ take at line.old ++ byte ∷ [] }
@@ -32,7 +32,7 @@ pub(crate) fn put_byte(line: &mut [u8], at: usize, byte: u8) -> usize
     at + 1
 }
 
-// Puts a number at a place of a line that has room for ten digits. What is answered is the place behind it.
+// Puts a number at a place of a line that has room for ten digits. What is answered is the place after it.
 pub(crate) fn put_number(line: &mut [u8], at: usize, number: u32) -> usize
     requires { at + 10 ≤ length line.old }
     ensures bytes { take result line.new ≡ take at line.old ++ decimal number }
@@ -72,7 +72,7 @@ fn code_digits(code: u16) -> [u8; 4]
     ]
 }
 
-// Puts a name with a truth value, as ` S_Motor=1`, at a place of a line. What is answered is the place behind it.
+// Puts a name with a truth value, as ` S_Motor=1`, at a place of a line. What is answered is the place after it.
 pub(crate) fn put_named_value(line: &mut [u8], at: usize, name: &str, value: bool) -> usize
     requires { at + (length name.now + 3) ≤ length line.old }
     ensures bytes { take result line.new ≡ take at line.old ++ named_value name.now value }
@@ -86,7 +86,7 @@ pub(crate) fn put_named_value(line: &mut [u8], at: usize, name: &str, value: boo
 }
 
 // Puts a name with Ready, Error and DiagCode, as ` E=1,0,8000`, at a place of a line. What is answered is the place
-// behind it.
+// after it.
 pub(crate) fn put_named_diag(line: &mut [u8], at: usize, name: &str, diag: Diag) -> usize
     requires { at + (length name.now + 10) ≤ length line.old }
     ensures bytes { take result line.new ≡ take at line.old ++ named_diag name.now diag }

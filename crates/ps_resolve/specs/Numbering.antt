@@ -8,7 +8,7 @@ use Rattle.ps_names.specs.Limits.{signals}
 use Rattle.ps_names.specs.Stands.{number_as, outputs_before}
 use Rattle.ps_resolve.specs.declared.limits.Counts.{Counts}
 use Rattle.ps_resolve.specs.declared.numbers.Numbered.{Numbered}
-use Rattle.ps_table.specs.declared.table.Table.{Table}
+use Rattle.ps_names.specs.declared.table.Table.{Table}
 use Rattle.ps_names.specs.Tables.{IndexesDeclared}
 
 -- the number of a name of a sort, where so many of each sort stand before it

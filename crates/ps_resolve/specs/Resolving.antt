@@ -8,7 +8,7 @@ use Rattle.ps_names.specs.Offences.{refused}
 use Rattle.ps_names.specs.Rules.{offences}
 use Rattle.ps_names.specs.Stands.{Stands}
 
--- the application that stands for the source; want of memory; or the first of the source's offences
+-- the application that stands for the source; running out of memory; or the first of the source's offences
 abbrev pub Resolves : SourceTree → Result Network Fail → Type 0
 Resolves p (Ok app) = Stands p app
 Resolves p (Err Memory) = Unit {0}

@@ -12,10 +12,8 @@ ghost use Rattle.ps_names.specs.Rules.{repeated, pins_twice, assigned_twice, cal
 ghost use Rattle.ps_names.specs.Tables.{Has};
 
 use ps_base::{Memory, Refusal, Rule};
-use ps_names::{Entry, note_again};
+use ps_names::{Entry, Table, check_type, note_again, note_uncalled, note_undriven};
 use ps_parser::{Argument, Name, Statement, Target};
-use ps_table::Table;
-use ps_uses::{check_type, note_uncalled, note_undriven};
 use std::alloc::Global;
 
 // ---- N5

@@ -10,10 +10,8 @@ ghost use Rattle.ps_resolve.specs.Numbering.{number_in, AreNumbers, IsNumbered};
 use crate::limits::{Counts, count, count_one, outputs_of};
 use ps_base::Memory;
 use ps_base::limits::{MOST_INSTANCES, MOST_SIGNALS};
-use ps_names::{Entry, Sort};
+use ps_names::{Entry, Sort, Table, output_at, sort_at};
 use ps_parser::Name;
-use ps_table::Table;
-use ps_uses::{output_at, sort_at};
 use std::alloc::Global;
 
 /// The number of a declared name, and the number of the first output of the instances from there on.

@@ -11,8 +11,8 @@ ghost use Rattle.ps_names.specs.Uses.{statement_uses};
 ghost use Rattle.ps_names.specs.Tables.{Has};
 
 use ps_base::Memory;
+use ps_names::Table;
 use ps_parser::{Argument, Factor, Product, Statement, Sum};
-use ps_table::Table;
 use std::alloc::Global;
 
 // Enters the names that a sum reads.

@@ -22,9 +22,8 @@ use crate::steps::steps_of;
 use crate::uses::{Names, check_statements};
 use ps_base::{Fail, Memory, Place, Refusal};
 use ps_model::App;
-use ps_names::{Entry, index};
+use ps_names::{Entry, Table, index};
 use ps_parser::{Part, Source, Statement};
-use ps_table::Table;
 use std::alloc::Global;
 
 // The table of declared names, and the first of what names, types, uses of names and pins break: N1 to N6 and N12.

@@ -18,9 +18,8 @@ use crate::literal::{Literal, literal_of};
 use crate::numbers::{Numbering, number, pin_number};
 use ps_base::Memory;
 use ps_model::{Arg, Args, Expr, Exprs, Kind, Step, Steps, input_count, pin_name};
-use ps_names::Sort;
+use ps_names::{Sort, all_of, any_of, sort_at};
 use ps_parser::{Argument, Factor, Name, Product, Statement, Sum, Target};
-use ps_uses::{all_of, any_of, sort_at};
 use std::alloc::Global;
 
 // The expression that a sum stands for.

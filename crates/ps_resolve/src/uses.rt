@@ -14,12 +14,11 @@ ghost use Rattle.ps_names.specs.Tables.{IndexesDeclared};
 
 use crate::literal::literal_of;
 use ps_base::{Memory, Refusal, Rule};
-use ps_names::{Entry, Sort, note};
-use ps_parser::{Argument, Factor, Name, Product, Statement, Sum, Target};
-use ps_table::Table;
-use ps_uses::{
-    note_argument, note_call, note_drive, note_drive_pin, note_read, note_read_pin, sort_at,
+use ps_names::{
+    Entry, Sort, Table, note, note_argument, note_call, note_drive, note_drive_pin, note_read,
+    note_read_pin, sort_at,
 };
+use ps_parser::{Argument, Factor, Name, Product, Statement, Sum, Target};
 use std::alloc::Global;
 
 /// The declared names with their table.

@@ -16,7 +16,7 @@ digit (suc (suc n)) h = absurd (omega arith)
 sums : (b w rest mask field : ℕ) → b ≡ w → mask ≡ rest → field ≡ rest * 2 + w → b + 2 * mask ≡ field
 sums b w rest mask field h1 h2 h3 = omega arith
 
--- n pins from the one behind pin i on, as a number
+-- n pins from the one after pin i on, as a number
 mask_is : (n bits i : ℕ) → mask_l (map (λ m. pin_of bits (m + 1)) (range_with_len i n)) ≡ bits / 2 ^ (i + 1) % 2 ^ n
 mask_is zero bits i = omega arith
 mask_is (suc n) bits i =

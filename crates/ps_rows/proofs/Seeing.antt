@@ -2,7 +2,7 @@
 use Rattle.std.specs.Prelude.{ℕ, Bool, false, List, ◌&&◌, not, slice_index_or}
 use Rattle.ps_model.specs.Table.{Conditions}
 
--- the named condition at a place; FALSE behind the last one
+-- the named condition at a place; FALSE after the last one
 abbrev pub on : List Bool → ℕ → Bool
 on bs j = slice_index_or bs j false
 

@@ -25,7 +25,7 @@ pub struct MaskRow {
 pub struct RowRange {
     /// The first place.
     pub from: u16,
-    /// The place behind the last one.
+    /// The place after the last one.
     pub upto: u16,
 }
 

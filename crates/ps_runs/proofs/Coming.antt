@@ -53,7 +53,7 @@ module _ {F : Type 0} (scan_of : F → ℕ) where
       sym (ap (those_of n) (sym (take-append-drop k fs)) ∙ filter-append (λ f. scan_of f == n) (take k fs) (drop k fs)
       ∙ ap (λ l. l ++ those_of n (drop k fs)) (none_of_scan n (take k fs) (All-weaker (λ f. scan_of f ≤ m) (λ f. scan_of f ≡ n → ⊥) (λ f le same. omega (arith, le, same, lt)) (take k fs) upto)))
 
-  -- of those that come behind so many scans, those that are counted up to the next scan are those that are due
+  -- of those that come after so many scans, those that are counted up to the next scan are those that are due
   pub counted_are_due : (coming : List F) (made number k : ℕ) → All (λ f. made < scan_of f) coming → (coming ≡ []) ⊎ (number ≡ suc made) →
       All (λ f. scan_of f ≤ number) (take k coming) → All (λ f. number < scan_of f) (drop k coming) → take k coming ≡ those_of (suc made) coming
   counted_are_due coming made number k after_last counts upto later =
@@ -83,7 +83,7 @@ module _ {F : Type 0} (scan_of : F → ℕ) where
       (λ is. ap (λ n. those_of (suc n) coming) is ∙ stands.same (suc done) (omega arith))
       stands.counted
 
-  -- behind the next scan
+  -- after the next scan
   pub stands_next : (all : List F) (done : ℕ) (coming coming' : List F) (made made' : ℕ) → StandsAt all done coming made → coming ≡ those_of (suc made) coming ++ coming' →
       (coming ≡ []) ⊎ (made' ≡ suc made) → StandsAt all (suc done) coming' made'
   stands_next all done coming coming' made made' stands leaves counts = record {

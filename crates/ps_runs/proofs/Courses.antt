@@ -21,7 +21,7 @@ use Rattle.ps_runs.specs.declared.items.Cut.TheVariants.{Refused, Unread, Unwrit
 use Rattle.ps_runs.specs.declared.seats.StruckSeats.{StruckSeats}
 use Rattle.ps_runs.proofs.SeatFaults.{Stands, due_of_scan, first_stands, stands_behind}
 
--- events behind others
+-- events after others
 events_behind : (m : Machines) (es later : List Event) (x : World_state) → after m (es ++ later) x ≡ after m later (after m es x)
 events_behind m [] later x = refl
 events_behind m (e ∷ es) later x = events_behind m es later (world_step m e x)
@@ -45,7 +45,7 @@ module _ (net : Network) (heals : Bool) (faults : List VoteFault) where
   abbrev pub saying : (number : ℕ) → List Item → Whole → List ℕ
   saying number items w = course_lines net (machines_in w.setup) (coming heals faults number items w).done (coming heals faults number items w).votes
 
-  -- the world behind them
+  -- the world after them
   abbrev pub ending : (number : ℕ) → List Item → Whole → Whole
   ending number items w = after_events (coming heals faults number items w).events w
 
@@ -53,7 +53,7 @@ module _ (net : Network) (heals : Bool) (faults : List VoteFault) where
   abbrev pub StandsIn : ℕ → StruckSeats → Type 0
   StandsIn done p = Stands faults done p × (p.heals ≡ heals)
 
-  -- A run goes on behind an item: what is to come of the item and later ones is its outcome and what is to come of those.
+  -- A run goes on after an item: what is to come of the item and later ones is its outcome and what is to come of those.
   record Goes (done : ℕ) (item : Item) (outcome : Outcome Vote) (p after : StruckSeats) : Type 0 where
     made : ℕ
     stands : StandsIn made after
@@ -76,7 +76,7 @@ module _ (net : Network) (heals : Bool) (faults : List VoteFault) where
     abbrev path : Bool → List VoteFault → Path
     path h struck = path_of_scan h m struck now ins p.world.state
 
-    -- what comes behind the scan
+    -- what comes after the scan
     abbrev later : List Item → Course
     later items = course_from heals m faults (suc (suc done)) items (after m (path p.heals (due p)).events p.world.state)
 
@@ -133,7 +133,7 @@ module _ (net : Network) (heals : Bool) (faults : List VoteFault) where
   stops_at done (scan now ins) refusal p after' stands makes = stops_scan done now ins (refuses refusal) p after' stands makes refusal (next_path p now ins).refused refl refl
   stops_at done restart refusal p after' stands begins = let anew_is = begins.0 in cc
 
-  -- All was done that the run does: this was written, this is the world behind it, and so it ends.
+  -- All was done that the run does: this was written, this is the world after it, and so it ends.
   pub record Came (done : ℕ) (scans : Scans) (p after' : StruckSeats) (bytes : List ℕ) (end : End) : Type 0 where
     pub written : bytes ≡ saying (suc done) scans.items p.world
     pub ends : after'.world ≡ ending (suc done) scans.items p.world

@@ -35,7 +35,7 @@ module _ (net : Network) (faults : List Fault) where
   abbrev pub any_of : (number : ℕ) → List Item → Whole → Bool
   any_of number items w = any_trips (answered net faults number items w)
 
-  -- A run goes on behind an item: what is to come of the item and later ones is its outcome and what is to come of those.
+  -- A run goes on after an item: what is to come of the item and later ones is its outcome and what is to come of those.
   record Goes (done : ℕ) (item : Item) (outcome : Outcome Verdict) (p after : StruckWorld) : Type 0 where
     made : ℕ
     stands : Stands faults made after
@@ -45,7 +45,7 @@ module _ (net : Network) (faults : List Fault) where
 
   -- a scan that the faults of its number strike
   module _ (done now : ℕ) (ins : List Bool) (outcome : Outcome Verdict) (p after : StruckWorld) (stands : Stands faults done p) (makes : MakesScan net p now ins outcome after) where
-    -- the world behind the scan, where these faults strike it
+    -- the world after the scan, where these faults strike it
     abbrev behind_scan : List Fault → Whole
     behind_scan struck = after_events (scan_events (machines_in p.world.setup) struck now ins p.world.state) p.world
 
@@ -108,7 +108,7 @@ module _ (net : Network) (faults : List Fault) where
     TakesAll t [] t' = t' ≡ t
     TakesAll t (outcome ∷ later) t' = (mid : T) × takes t outcome mid × TakesAll mid later t'
 
-    -- All items were done: this was written, this was taken, and this is the world behind them.
+    -- All items were done: this was written, this was taken, and this is the world after them.
     pub record Came (done : ℕ) (items : List Item) (p after : StruckWorld) (t t' : T) (bytes : List ℕ) : Type 0 where
       pub written : bytes ≡ saying (suc done) items p.world
       pub taken : TakesAll t (coming (suc done) items p.world) t'

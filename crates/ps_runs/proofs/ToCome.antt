@@ -50,7 +50,7 @@ first_fits net p begins = record {
 pub due_of_scan : (all : List Fault) (done : ℕ) (p : StruckWorld) → Stands all done p → due p ≡ of_scan (suc done) all
 due_of_scan all done p stands = due_next scan_of all done (to_come p) p.scans stands
 
--- behind the next scan
+-- after the next scan
 pub stands_behind : (all : List Fault) (done : ℕ) (p after : StruckWorld) → Stands all done p → to_come p ≡ due p ++ to_come after → (to_come p ≡ []) ⊎ (after.scans ≡ suc p.scans) →
     Stands all (suc done) after
 stands_behind all done p after stands leaves counts = stands_next scan_of all done (to_come p) (to_come after) p.scans after.scans stands leaves counts

@@ -1,4 +1,4 @@
--- Which seat is outvoted again in the scan behind its healing.
+-- Which seat is outvoted again in the scan after its healing.
 use Rattle.std.specs.Prelude.{ℕ, Bool, true, false, Option, Some, None, if◌then◌else◌}
 use Rattle.ps_vote.specs.declared.seat.Seat.{Seat}
 use Rattle.ps_vote.specs.declared.seat.Vote.{Vote}
@@ -6,14 +6,14 @@ use Rattle.ps_vote.specs.declared.seat.Vote.TheVariants.{All, Two, Split}
 use Rattle.ps_vote.specs.Worlds.{is_same}
 use Rattle.ps_runs.specs.declared.seats.Again.{Again}
 
--- the seat that a run heals behind a vote: the one that is outvoted, where the run heals
+-- the seat that a run heals after a vote: the one that is outvoted, where the run heals
 abbrev pub healed_by : (heals : Bool) → Vote → Option Seat
 healed_by false vote = None
 healed_by true All = None
 healed_by true (Two seat) = Some seat
 healed_by true Split = None
 
--- the seat that was healed behind the scan before is outvoted again by the vote of a scan at this time
+-- the seat that was healed after the scan before is outvoted again by the vote of a scan at this time
 abbrev pub again_at : (healed : Option Seat) → (now : ℕ) → Vote → Option Again
 again_at None now vote = None
 again_at (Some seat) now All = None

@@ -32,7 +32,7 @@ counted_report c report = record {
   errors = with_more c.errors (true_errors report);
 }
 
--- what was counted, behind an outcome: a scan that is released counts
+-- what was counted, after an outcome: a scan that is released counts
 abbrev pub counted : Counter → Outcome Verdict → Counter
 counted c (performed now Released report) = counted_report c report
 counted c (performed now (Tripped cause) report) = c

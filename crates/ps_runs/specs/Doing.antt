@@ -1,5 +1,5 @@
 -- What is done of the items of a trace, one after another: by a performer, which makes something of each item and
--- becomes another by it, and by a taker, which is lent the performer behind the item, writes of what came of it, and
+-- becomes another by it, and by a taker, which is lent the performer after the item, writes of what came of it, and
 -- becomes another.
 use Rattle.std.specs.Prelude.{◌≡◌, ◌≤◌, ℕ, Bool, List, [], ◌++◌, take, IsTrue, Result, Ok, Err}
 use Rattle.ps_base.specs.declared.failing.Refusal.{Refusal}
@@ -15,7 +15,7 @@ abbrev pub IsDue : ℕ → Item → Type 0
 IsDue time (scan now ins) = time ≤ now
 IsDue time restart = Unit {0}
 
--- the time of the last scan, behind an item
+-- the time of the last scan, after an item
 abbrev pub time_behind : ℕ → Item → ℕ
 time_behind time (scan now ins) = now
 time_behind time restart = time

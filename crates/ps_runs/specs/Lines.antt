@@ -22,7 +22,7 @@ seat_letter C = codes "C"
 abbrev pub outvoted_line : (now : ℕ) → Seat → List ℕ
 outvoted_line now seat = decimal now ++ codes " OUTVOTED " ++ seat_letter seat ++ codes "\n"
 
--- The lines of a scan of three seats at a time, with its report and its vote: the report line, and behind it the line
+-- The lines of a scan of three seats at a time, with its report and its vote: the report line, and after it the line
 -- of the seat that is outvoted.
 abbrev pub voted_text : Network → (now : ℕ) → Report → Vote → List ℕ
 voted_text net now report All = report_text net now report

@@ -21,7 +21,7 @@ abbrev pub outcome_of : {V : Type 0} → ℕ → Report → Result V Refusal →
 outcome_of now report (Ok verdict) = performed now verdict report
 outcome_of now report (Err refusal) = refuses refusal
 
--- an outcome that a run goes on behind, which is told
+-- an outcome that a run goes on after, which is told
 abbrev pub IsTold : {V : Type 0} → Outcome V → Type 0
 IsTold (performed now verdict report) = Unit {0}
 IsTold (refuses refusal) = ⊥

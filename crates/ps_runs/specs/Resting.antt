@@ -39,7 +39,7 @@ abbrev pub any_trips : List Answered → Bool
 any_trips [] = false
 any_trips (a ∷ given) = trips_with a.verdict || any_trips given
 
--- What a run from its beginning over these scans came to: the bytes that it wrote, and at its end the world behind
+-- What a run from its beginning over these scans came to: the bytes that it wrote, and at its end the world after
 -- all events, and whether a scan tripped.
 pub record RunsTo (net : Network) (scans : Scans) (p after : StruckWorld) (bytes : List ℕ)
     (ended : Result (Unit {0}) Cut) : Type 0 where

@@ -80,13 +80,13 @@ abbrev pub unless_at_fault : Option VoteFault → Outcome Vote → Outcome Vote
 unless_at_fault None outcome = outcome
 unless_at_fault (Some f) outcome = refuses (fault_refusal f)
 
--- the seat that is healed behind an outcome
+-- the seat that is healed after an outcome
 abbrev pub healed_behind : StruckSeats → Outcome Vote → Option Seat
 healed_behind p (performed now vote report) = healed_by p.heals vote
 healed_behind p (refuses refusal) = None
 healed_behind p anew = None
 
--- the first seat that was outvoted again in the scan behind its healing, behind an outcome
+-- the first seat that was outvoted again in the scan after its healing, after an outcome
 abbrev pub again_behind : StruckSeats → Outcome Vote → Option Again
 again_behind p (performed now vote report) = first_again p.again p.healed now vote
 again_behind p (refuses refusal) = p.again
@@ -104,7 +104,7 @@ pub record VotesScan (net : Network) (p : StruckSeats) (now : ℕ) (ins : List B
   pub healed : after.healed ≡ healed_behind p outcome
   pub again : after.again ≡ again_behind p outcome
 
--- the same run with another world, behind no healing
+-- the same run with another world, after no healing
 abbrev pub with_seats : Whole → StruckSeats → StruckSeats
 with_seats w p = record p { world = w; healed = None }
 
@@ -125,12 +125,12 @@ course_lines net m (scan now ins ∷ items) [] = []
 course_lines net m (scan now ins ∷ items) (z ∷ votes) =
     vote_lines net (vote_taken net m now z) ++ course_lines net m items votes
 
--- the world behind it
+-- the world after it
 abbrev pub voted_world : (heals : Bool) → List VoteFault → List Item → Whole → Whole
 voted_world heals faults items w = after_events (coming heals faults 1 items w).events w
 
 -- What a run from its beginning over these scans came to: the bytes that it wrote, and at its end, also where that is
--- at a fault that is refused, the world behind all events.
+-- at a fault that is refused, the world after all events.
 pub record VotesTo (net : Network) (scans : Scans) (p after : StruckSeats) (bytes : List ℕ)
     (ended : Result (Unit {0}) Cut) : Type 0 where
   pub written : let run = coming p.heals p.faults 1 scans.items p.world in

@@ -1,5 +1,5 @@
 -- What the plain evaluator makes of the items of a trace, alone and beside another performer: its states before and
--- behind the last scan are those of what the items mean.
+-- after the last scan are those of what the items mean.
 use Rattle.std.specs.Prelude.{◌≡◌, ◌≤◌, ℕ, List, Bool, length}
 use Rattle.ps_model.specs.declared.report.Report.{Report}
 use Rattle.ps_model.specs.Network.{Network, instance_count}
@@ -24,7 +24,7 @@ pub record StandsAt (net : Network) (past : Past) (e : Evaluated) : Type 0 where
   pub time : e.last ≡ last_time past
 
 -- The scan that comes next was evaluated, with this report: there is a state that solves its equations, the evaluator
--- stands behind it and has kept the state before, and the report is that of the new state.
+-- stands after it and has kept the state before, and the report is that of the new state.
 pub record IsNext (net : Network) (past : Past) (now : ℕ) (ins : List Bool) (report : Report)
     (after : Evaluated) : Type 0 where
   pub state : State

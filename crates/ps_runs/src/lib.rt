@@ -9,7 +9,7 @@
 //! |---|---|---|
 //! | `StruckWorld` | a world of two channels that faults strike | released, tripped or down |
 //! | `StruckSeats` | a world of three seats that faults strike | the vote |
-//! | `Evaluated` | the plain evaluator, with the states before and behind the last scan | none |
+//! | `Evaluated` | the plain evaluator, with the states before and after the last scan | none |
 //! | `Watched<P>` | P, with the evaluator beside it | that of P |
 //!
 //! - `items`: the loop, and what cuts it short.

@@ -13,7 +13,7 @@ use ps_base::{Place, Refusal, Rule};
 use ps_model::{App, Report, Scan};
 use ps_vote::{Seat, Vote, VoteFaults, VoteWorld};
 
-/// A seat that was outvoted again in the scan behind its healing.
+/// A seat that was outvoted again in the scan after its healing.
 #[derive(Clone, Copy)]
 pub struct Again {
     /// The time of that scan in ms.
@@ -31,9 +31,9 @@ pub struct StruckSeats {
     pub faults: VoteFaults,
     /// Whether a seat that a vote outvotes is healed.
     pub heals: bool,
-    /// The first seat of the whole run that was outvoted again in the scan behind its healing, where one was.
+    /// The first seat of the whole run that was outvoted again in the scan after its healing, where one was.
     pub again: Option<Again>,
-    // the seat that was healed behind the last scan, where no restart came since
+    // the seat that was healed after the last scan, where no restart came since
     pub(crate) healed: Option<Seat>,
     // the place of the first fault that is still to come
     pub(crate) next: usize,
@@ -51,7 +51,7 @@ pub fn at_line(rule: Rule, line: u32) -> Refusal
     }
 }
 
-// The seat that a run heals behind this vote.
+// The seat that a run heals after this vote.
 fn healed_by(heals: bool, vote: Vote) -> Option<Seat>
     ensures { result ≡ healed_by heals vote }
 {
@@ -61,7 +61,7 @@ fn healed_by(heals: bool, vote: Vote) -> Option<Seat>
     }
 }
 
-// The first seat that was outvoted again right behind its healing, behind a scan at this time with this vote.
+// The first seat that was outvoted again right after its healing, after a scan at this time with this vote.
 fn first_again(before: Option<Again>, healed: Option<Seat>, now: u32, vote: Vote) -> Option<Again>
     ensures { result ≡ first_again before healed now vote }
 {

@@ -79,7 +79,7 @@ pub(crate) fn count_upto<F: Strikes>(faults: &[F], scan: u32) -> usize
     faults.partition_point(|fault| fault.scan() <= scan)
 }
 
-// The number of the scan behind so many, counted while faults are still to come.
+// The number of the scan after so many, counted while faults are still to come.
 pub(crate) fn number_behind<F: Strikes>(scans: u32, faults: &[F]) -> u32
     requires { All (λ f. scans < F.in_scan f) faults.now }
     ensures { (faults.now ≡ []) ⊎ (result ≡ suc scans) }

@@ -17,7 +17,7 @@ use ps_report::{LineBuffer, ShortLine};
 use ps_vote::{Seat, Vote};
 
 /// What takes what comes of each scan: its time, the performer's verdict, the report, and the performer as it stands
-/// behind the scan. It is told of each restart too. It may write of them.
+/// after the scan. It is told of each restart too. It may write of them.
 ///
 /// Contracts know of it when it has the application's sizes, what it writes of an outcome, and what it becomes by
 /// taking one. No call takes memory.
@@ -153,7 +153,7 @@ fn write_both<S: Sink>(out: &mut S, first: &[u8], second: &[u8]) -> Result<(), S
     }
 }
 
-/// The lines of a run of three seats: one for each item, and behind that of a scan which outvotes a seat one more.
+/// The lines of a run of three seats: one for each item, and after that of a scan which outvotes a seat one more.
 impl Taker<StruckSeats> for LineBuffer {
     ghost fits = { λ net room. line_room net ≤ room };
 

@@ -11,7 +11,7 @@ use ps_model::{App, Report, Scan};
 use ps_scan::Scanner;
 use std::alloc::Global;
 
-/// The plain evaluator, with the states before and behind the last scan.
+/// The plain evaluator, with the states before and after the last scan.
 ///
 /// As a performer it makes each scan by the application's equations, refuses none, and answers nothing beside the
 /// report.
@@ -19,7 +19,7 @@ use std::alloc::Global;
 pub struct Evaluated {
     // the state that the last scan started from; anything where there was none
     pub(crate) before: Scanner,
-    // the state behind the last scan or restart; at first that before the first scan
+    // the state after the last scan or restart; at first that before the first scan
     pub(crate) behind: Scanner,
     // the time of the last scan in ms; 0 where there is none since the start or a restart
     pub(crate) last: u32,
@@ -45,7 +45,7 @@ impl Evaluated {
         self.before.signals()
     }
 
-    /// The value of every signal behind the last scan or restart, in the order of their numbers.
+    /// The value of every signal after the last scan or restart, in the order of their numbers.
     pub fn signals(&self) -> &[bool]
         ensures { result.now ≡ self.now.behind.signals }
     {

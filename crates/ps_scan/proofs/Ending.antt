@@ -20,7 +20,7 @@ use Rattle.ps_model.proofs.Once.{place_of, any_of_one}
 use Rattle.ps_model.proofs.OneSolution.{call_is, block_stays, signal_stays, solves_from}
 use Rattle.ps_model.specs.declared.named.Instance.{Instance}
 use Rattle.ps_model.specs.Network.{no_instance}
-use Rattle.ps_instances.specs.Instances.{KeptInstance, kept_instance, no_kept_instance}
+use Rattle.ps_scan.specs.Instances.{KeptInstance, kept_instance, no_kept_instance}
 use Rattle.ps_scan.specs.Cells.{Cells, signal_at, kept_at, first_instances, IsFor}
 use Rattle.ps_scan.specs.Midway.{is_called, Waits, Midway}
 use Rattle.ps_scan.specs.Scan.{CellsStand, IsScan}

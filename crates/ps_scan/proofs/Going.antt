@@ -19,7 +19,7 @@ use Rattle.ps_model.specs.declared.report.Diag.{Diag}
 use Rattle.ps_model.proofs.Once.{take_next, alone_before}
 use Rattle.ps_model.proofs.OneSolution.{one_call, is_call_itself}
 use Rattle.ps_model.proofs.Keeping.{go_on}
-use Rattle.ps_instances.specs.Instances.{KeptInstance}
+use Rattle.ps_scan.specs.Instances.{KeptInstance}
 use Rattle.ps_scan.specs.Cells.{Cells, signal_at, instance_at, kept_at}
 use Rattle.ps_scan.specs.Midway.{is_called, Waits, Midway}
 

@@ -1,8 +1,8 @@
 -- What a scanner holds after a write to one instance.
 use Rattle.std.proofs.Common.{◌≡◌, ◌≢◌, ◌<◌, ℕ, List, length, map, set, get_or, sym, ap, ◌∙◌, arith}
 use Rattle.std.proofs.lemmas.List.{get_or-set_same, get_or-set_other, get_or-map, length-map, map-set}
-use Rattle.ps_instances.specs.Instances.{KeptInstance, no_kept_instance, instance_of}
-use Rattle.ps_instances.specs.declared.instance.Instance.{Instance}
+use Rattle.ps_scan.specs.Instances.{KeptInstance, no_kept_instance, instance_of}
+use Rattle.ps_scan.specs.declared.instance.Instance.{Instance}
 
 pub view_other : (xs : List Instance) (i j : ℕ) (x : Instance) → j ≢ i → get_or (map instance_of (set xs i x)) j no_kept_instance ≡ get_or (map instance_of xs) j no_kept_instance
 view_other xs i j x other = ap (λ (hs : List KeptInstance). get_or hs j no_kept_instance) (map-set instance_of xs i x) ∙ get_or-set_other (map instance_of xs) i j (instance_of x) no_kept_instance other

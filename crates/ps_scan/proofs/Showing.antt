@@ -13,7 +13,7 @@ use Rattle.ps_model.specs.Network.{Network, kind_at}
 use Rattle.ps_block.specs.declared.block.Outs.{Outs}
 use Rattle.ps_model.specs.PinBits.{pin_of}
 use Rattle.ps_block.specs.Shown.{Shows}
-use Rattle.ps_instances.specs.Instances.{KeptInstance, kept_instance}
+use Rattle.ps_scan.specs.Instances.{KeptInstance, kept_instance}
 use Rattle.ps_scan.specs.Cells.{Cells, instance_at}
 
 same_ends : (xs ys : List Bool) (r e r' e' : Bool) → length xs ≡ length ys → xs ++ (r ∷ e ∷ []) ≡ ys ++ (r' ∷ e' ∷ []) → (r ≡ r') × (e ≡ e')

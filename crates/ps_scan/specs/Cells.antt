@@ -3,7 +3,7 @@ use Rattle.std.specs.Prelude.{◌≡◌, ℕ, Bool, false, List, length, map, sl
 use Rattle.ps_model.specs.declared.named.Instance.{Instance}
 use Rattle.ps_model.specs.Network.{Network, signal_count, instance_count, kind_at}
 use Rattle.ps_model.specs.Kept.{Kept, fresh}
-use Rattle.ps_instances.specs.Instances.{KeptInstance, kept_instance, no_kept_instance}
+use Rattle.ps_scan.specs.Instances.{KeptInstance, kept_instance, no_kept_instance}
 
 -- A value of each signal, and what is kept of each instance.
 pub record Cells : Type 0 where

@@ -1,6 +1,7 @@
--- What a reader must believe: what a scanner keeps, for which state it stands, and what a scan makes of it.
-pub use Rattle.ps_instances.specs.Instances
+-- what a scanner keeps, for which state it stands, and what a scan makes of it: what a reader must believe
 pub mod Cells
 pub mod Scan
--- Apparatus: where a scan is after its first steps.
+-- for which state the state of an instance's block stands: what a reader must believe
+pub mod Instances
+-- apparatus: where a scan is after its first steps
 pub mod Midway

@@ -3,13 +3,13 @@
 ghost use Rattle.std.specs.Prelude.{◌≡◌, ◌+◌, ◌<◌, ◌≤◌, ℕ, length, map, false, replicate, slice_index_or, IfOk};
 ghost use Rattle.std.specs.List.{range_with_len};
 ghost use Rattle.ps_model.specs.Network.{instance_count, signal_count};
-ghost use Rattle.ps_instances.specs.Instances.{instance_of};
+ghost use Rattle.ps_scan.specs.Instances.{instance_of};
 ghost use Rattle.ps_scan.specs.Cells.{first_instances};
 
 use crate::steps::do_steps;
+use crate::{Instance, write_at};
 use ps_base::Memory;
 use ps_block::{Outs, Pins};
-use ps_instances::{Instance, write_at};
 use ps_model::{App, Bits, Report};
 use std::alloc::Global;
 use std::marker::Model;
@@ -82,7 +82,7 @@ impl Drop for Scanner {
 
 impl Model for Scanner {
     ghost use Rattle.std.specs.Prelude.{map};
-    ghost use Rattle.ps_instances.specs.Instances.{instance_of};
+    ghost use Rattle.ps_scan.specs.Instances.{instance_of};
     ghost use Rattle.ps_scan.specs.Cells.{Cells};
 
     ghost Value = { Cells };
@@ -97,7 +97,7 @@ impl Scanner {
     ghost use Rattle.ps_model.specs.Kept.{stepped_at};
     ghost use Rattle.ps_model.specs.PinBits.{pin_of};
     ghost use Rattle.ps_block.specs.Shown.{Shows};
-    ghost use Rattle.ps_instances.specs.Instances.{kept_instance};
+    ghost use Rattle.ps_scan.specs.Instances.{kept_instance};
     ghost use Rattle.ps_scan.specs.Cells.{IsFor, signal_at, instance_at, kept_at};
     ghost use Rattle.ps_scan.specs.Scan.{CellsStand, IsScan};
 

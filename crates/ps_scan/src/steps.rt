@@ -11,8 +11,8 @@ ghost use Rattle.ps_scan.specs.Cells.{IsFor};
 ghost use Rattle.ps_scan.specs.Midway.{Midway};
 
 use crate::scanner::Scanner;
+use crate::{pin_bits, shown_values};
 use ps_block::Pins;
-use ps_instances::{pin_bits, shown_values};
 use ps_machine::call_limit;
 use ps_model::{App, Args, Diags, Expr, Step, evaluate, safe_count};
 

@@ -20,7 +20,7 @@ use ps_model::{App, Args, Kind, Step, boolean_count, kind_number};
 use ps_stackvm::{Instruction, StackImage};
 use std::alloc::Global;
 
-/// The stack code of an accepted application: its steps in order, and END behind them (profile). Run by
+/// The stack code of an accepted application: its steps in order, and END after them (profile). Run by
 /// channel A, from cells that stand for any state, every scan ends Done in `turns_a` turns without a
 /// trap, and its report is the meaning's.
 pub fn stack_image(alloc: Global, app: &App) -> Result<StackImage, Memory>

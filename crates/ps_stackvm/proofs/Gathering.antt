@@ -116,7 +116,7 @@ each_small [] h j = omega arith
 each_small (b ∷ bs) h zero = ltb-false 1 b (or_parts (is_no_bit b) (list_any is_no_bit bs) h).0
 each_small (b ∷ bs) h (suc j) = each_small bs (or_parts (is_no_bit b) (list_any is_no_bit bs) h).1 j
 
--- eight bytes: these, and 0 behind them
+-- eight bytes: these, and 0 after them
 abbrev eight : List ℕ → List ℕ
 eight xs = get_or xs 0 0 ∷ get_or xs 1 0 ∷ get_or xs 2 0 ∷ get_or xs 3 0 ∷ get_or xs 4 0 ∷ get_or xs 5 0 ∷ get_or xs 6 0 ∷ get_or xs 7 0 ∷ []
 

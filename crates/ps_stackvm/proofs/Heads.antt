@@ -230,7 +230,7 @@ module _ (signals instances pc h : ℕ) (code c : List ℕ) (fits : pc < 2 ^ 32)
   turn_stopped trap err =
       ap (λ r. carried_out signals instances r (with_head pc h c)) (sym err ∙ ap (fetched code) (sym (pc_is pc h c fits)))
 
--- ---- One turn more, behind k turns of a running scan.
+-- ---- One turn more, after k turns of a running scan.
 
 module _ (f : List ℕ → List ℕ) (k k' pc h : ℕ) (c old : List ℕ) (next : k' ≡ k + 1) (made : with_head pc h c ≡ turned f k old) where
   pub turned_more : (after : List ℕ) → after ≡ f (with_head pc h c) → after ≡ turned f k' old

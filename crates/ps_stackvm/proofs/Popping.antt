@@ -80,7 +80,7 @@ pins_found xs number bits h none bits-are j =
     ap (λ b. bit_at b j == 1) (bits-are ∙ ap (λ m. m * 72624976668147840 % 2 ^ 64 / 2 ^ 56) h.is ∙ gathers_bits xs h.long all)
     ∙ ap (λ y. y == 1) (bit_of xs all j)
 
--- ---- More than eight bytes: the first eight of them, and those behind.
+-- ---- More than eight bytes: the first eight of them, and those after.
 
 or_true : (a : Bool) → (a || true) ≡ true
 or_true true = refl

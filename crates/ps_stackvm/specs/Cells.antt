@@ -30,7 +30,7 @@ stack_byte cells k = slice_index cells (STACK_AT + k)
 abbrev pub signal_byte : List ℕ → ℕ → ℕ
 signal_byte cells s = slice_index cells (SIGNALS_AT + s)
 
--- behind the signals: sixteen bytes for each instance
+-- after the signals: sixteen bytes for each instance
 abbrev pub block_bytes : (signals i : ℕ) → List ℕ → List ℕ
 block_bytes signals i cells = instance_bytes (SIGNALS_AT + signals) i cells
 

@@ -40,7 +40,7 @@ abbrev mutual
   group_code join no_operand = []
   group_code join (operand e es) = expression_code e ++ later_code join es
 
-  -- the code of the operands behind the first, each joined to what stands before it
+  -- the code of the operands after the first, each joined to what stands before it
   pub later_code : Instruction → Formulas → List Instruction
   later_code join no_operand = []
   later_code join (operand e es) = expression_code e ++ (join ∷ later_code join es)

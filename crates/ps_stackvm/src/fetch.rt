@@ -22,7 +22,7 @@ fn call_at(code: &[u8], pc: usize) -> Instruction
     }
 }
 
-// The instruction at a place of the code that the longest instruction but CALL fits behind. A CALL is tested by itself.
+// The instruction at a place of the code that the longest instruction but CALL fits after. A CALL is tested by itself.
 fn fetch_inside(code: &[u8], pc: usize) -> Result<Instruction, Trap>
     requires { pc + 3 ≤ length code.now }
     ensures { result ≡ fetched code.now pc }

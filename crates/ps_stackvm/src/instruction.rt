@@ -61,7 +61,7 @@ impl Instruction {
         }
     }
 
-    /// Writes it behind the code that stands: its opcode, and its numbers big-endian.
+    /// Writes it after the code that stands: its opcode, and its numbers big-endian.
     pub fn write(self, code: &mut Vec<u8>) -> Result<(), Memory>
         ensures { OnOk result (code.new.items ≡ code.old.items ++ encoded self) }
     {

@@ -15,7 +15,7 @@ pub const STACK_AT: usize = 10;
 /// How many bytes the stack has.
 pub const STACK_SIZE: u8 = 64;
 
-/// One byte for each signal; behind them stand the bytes of the instances.
+/// One byte for each signal; after them stand the bytes of the instances.
 pub const SIGNALS_AT: usize = 74;
 
 /// How many bytes each instance has.

@@ -30,7 +30,7 @@ fn few_pins(bytes: &[u8], count: u8) -> Option<u32>
     Some((number.wrapping_mul(0x0102_0408_1020_4080) >> 56) as u32)
 }
 
-// The same for more than eight bytes: the first eight of them, and those behind.
+// The same for more than eight bytes: the first eight of them, and those after.
 fn more_pins(bytes: &[u8], count: u8) -> Option<u32>
     requires long { count ≤ length bytes.now }
     requires more { 9 ≤ count }

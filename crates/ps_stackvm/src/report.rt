@@ -16,7 +16,7 @@ use ps_base::Memory;
 use ps_model::{Bits, Diag, Diags, Report, Sizes, output_count};
 use std::alloc::Global;
 
-// Of each instance the signal of its Ready: Error is the one behind it.
+// Of each instance the signal of its Ready: Error is the one after it.
 #[tactic(auto, unfolding(ps_model::specs::Blocks::output_count))]
 pub(crate) fn ready_signals(alloc: Global, sizes: &Sizes) -> Result<Vec<u16>, Memory>
     ensures { IfOk result (λ readies. AreReadies sizes.now readies.items) }
@@ -30,7 +30,7 @@ pub(crate) fn ready_signals(alloc: Global, sizes: &Sizes) -> Result<Vec<u16>, Me
     Ok(readies)
 }
 
-// The signal behind the outputs of an instance: Ready and Error are the last two of them.
+// The signal after the outputs of an instance: Ready and Error are the last two of them.
 fn past_outputs(sizes: &Sizes, readies: &[u16], i: usize) -> usize
     requires instance { i < sizes.now.instances }
     requires readies { AreReadies sizes.now readies.now }

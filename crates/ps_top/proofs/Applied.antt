@@ -5,8 +5,8 @@ use Rattle.ps_flow.specs.Written.{written}
 use Rattle.ps_flow.specs.declared.certificate.CertLine.{CertLine}
 use Rattle.ps_model.specs.Network.{Network}
 use Rattle.ps_report.specs.Short.{refusal_text}
-use Rattle.ps_source.specs.Source.{Reading, IsAcceptedAs, counts}
-use Rattle.ps_source.specs.Source.Reading.{stands_for, is_refused}
+use Rattle.ps_accepted.specs.Source.{Reading, IsAcceptedAs, counts}
+use Rattle.ps_accepted.specs.Source.Reading.{stands_for, is_refused}
 use Rattle.ps_top.specs.Asking.{Asking, Worked, worked}
 use Rattle.ps_top.specs.Asking.Asking.{Says, Asks, Finds, Leaves}
 use Rattle.ps_top.specs.Calls.{CallSeen, Passes, Answers}
@@ -17,7 +17,7 @@ use Rattle.ps_top.specs.declared.Status.{Status}
 use Rattle.ps_top.specs.declared.Status.TheVariants.{Done, Refused as RefusedStatus}
 use Rattle.ps_top.proofs.Calling.{GoesOnAs, asks_on, finds_on, leaves_on, goes_both, memory_answers, unread_answers, said_answers, answers_behind, answers_wider}
 
--- what is asked behind an accepted application, whose certificate leaves its counts
+-- what is asked after an accepted application, whose certificate leaves its counts
 abbrev pub with_counts : (Network → Asking) → Network → Asking
 with_counts next net = Leaves (leaves_checked (counts net (certificate net))) (next net)
 
@@ -25,7 +25,7 @@ with_counts next net = Leaves (leaves_checked (counts net (certificate net))) (n
 abbrev pub asked : List ℕ → (List ℕ → Reading → Type 0) → (Network → Asking) → Asking
 asked app Readings next = Asks app (λ source. Finds Reading (Readings source) (with_application next))
 
--- behind the reading of a source that is held
+-- after the reading of a source that is held
 pub reads_on : (app text : List ℕ) (Readings : List ℕ → Reading → Type 0) (next : Network → Asking) (reading : Reading) (held : List ℕ → Option (List ℕ)) (work : Worked) (status : Status) →
     held app ≡ Some text → Readings text reading → GoesOnAs (asked app Readings next) (with_application next reading) held work status
 reads_on app text Readings next reading held work status is reads =
@@ -54,7 +54,7 @@ module _ (app : List ℕ) (Readings : List ℕ → Reading → Type 0) (next : N
       answers_wider app (answers_behind (asked app Readings next) (next net) names {old = old} {mid = mid} {new = new} passes
       (λ tells. reads_on app (read tells).0 Readings next (stands_for net) old.files.held (worked new.left) status (read tells).1 (read tells).2) answers)
 
--- behind the text of a source whose application was found, with what is left of its certificate
+-- after the text of a source whose application was found, with what is left of its certificate
 pub checked_on : (app text : List ℕ) (Readings : List ℕ → Reading → Type 0) (next : Network → Asking) (net : Network) (held : List ℕ → Option (List ℕ)) (work : Worked) (status : Status) → held app ≡ Some text →
     Readings text (stands_for net) → (¬ IsCut status → leaves_checked (counts net (certificate net)) work) →
     GoesOnAs (asked app Readings (with_counts next)) (next net) held work status

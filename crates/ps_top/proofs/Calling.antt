@@ -114,7 +114,7 @@ rose_behind old mid new name keeps rose = rose_earlier (old.files.faults name) (
 still_writes : {old mid : CallSeen} → Passes old mid → IsTrue old.out.tells → IsTrue mid.out.tells
 still_writes passes tells = subst (λ (o : OutputSeen). IsTrue o.tells) (sym passes.out) tells
 
--- the causes of a call behind a part of it that went on without a failure
+-- the causes of a call after a part of it that went on without a failure
 pub causes_behind : {names : List (List ℕ)} {old mid new : CallSeen} {status : Status} → Passes old mid → Causes names mid new status → Causes names old new status
 causes_behind {names} {old} {mid} {new} passes rest = record {
   read_fault = λ is. any_wider names (λ name rose. rose_behind old mid new name passes.keeps rose) (rest.read_fault is);
@@ -173,7 +173,7 @@ said_causes names {said} {old} {new} {status} no_cut says = record {
   keeps = keeps_of_writes says.writes;
 }
 
--- an answer was said behind a part that wrote nothing of what it says
+-- an answer was said after a part that wrote nothing of what it says
 pub says_behind : {said : Answer} {old mid new : CallSeen} {status : Status} → ¬ IsCut said.status → Writes ⊥ old mid → (IsTrue old.out.tells → mid.out.taken ≡ old.out.taken) →
     SaysAnswer said mid new status → SaysAnswer said old new status
 says_behind {said} {old} {mid} {new} {status} no_cut first same says = record {
@@ -201,7 +201,7 @@ says_nothing said {old} {new} fails writes same = record {
 
 -- ---- answers
 
--- memory is wanting before anything was written
+-- memory runs out before anything was written
 pub memory_answers : (asking : Asking) (names : List (List ℕ)) {old new : CallSeen} → Passes old new → Answers asking names old new Memory
 memory_answers asking names {old} {new} passes = record {
   meets = λ tells. subst (λ (o : OutputSeen). Meets asking old.files.held (NameRose old new) old.out.tells old.out.taken o.taken Memory) (sym passes.out)
@@ -239,7 +239,7 @@ pub record GoesOnAs (asking rest : Asking) (held : List ℕ → Option (List ℕ
   pub leaves : ¬ IsCut status → IsLeft rest held work → IsLeft asking held work
 
 module _ (held : List ℕ → Option (List ℕ)) (work : Worked) (status : Status) where
-  -- behind the text that is held
+  -- after the text that is held
   pub asks_on : (name text : List ℕ) (next : List ℕ → Asking) → held name ≡ Some text → GoesOnAs (Asks name next) (next text) held work status
   asks_on name text next is = record {
     right = λ answer right. (text, is, right);
@@ -247,7 +247,7 @@ module _ (held : List ℕ → Option (List ℕ)) (work : Worked) (status : Statu
     leaves = λ not_cut leaves. (text, is, leaves);
   }
 
-  -- behind what was found
+  -- after what was found
   pub finds_on : (X : Type 0) (Fits : X → Type 0) (next : X → Asking) (x : X) → Fits x → GoesOnAs (Finds X Fits next) (next x) held work status
   finds_on X Fits next x fits = record {
     right = λ answer right. (x, fits, right);
@@ -255,7 +255,7 @@ module _ (held : List ℕ → Option (List ℕ)) (work : Worked) (status : Statu
     leaves = λ not_cut leaves. (x, fits, leaves);
   }
 
-  -- behind what is left
+  -- after what is left
   pub leaves_on : (Fact : Worked → Type 0) (next : Asking) → (¬ IsCut status → Fact work) → GoesOnAs (Leaves Fact next) next held work status
   leaves_on Fact next fact = record {
     right = λ answer right. right;
@@ -351,7 +351,7 @@ causes_left left causes = record {
   keeps = record { files = causes.keeps.files; out = causes.keeps.out; loans = causes.keeps.loans };
 }
 
--- two writes, one behind the other, of which neither failed
+-- two writes, one after the other, of which neither failed
 pub writes_both : {failed : Type 0} {old mid new : CallSeen} → Writes ⊥ old mid → ¬ failed → Writes failed mid new → Writes ⊥ old new
 writes_both {old = old} {mid = mid} {new = new} first not second = record {
   rose = λ no. absurd no;
@@ -361,7 +361,7 @@ writes_both {old = old} {mid = mid} {new = new} first not second = record {
   loans = second.loans ∙ first.loans;
 }
 
--- a write that failed behind others that did not
+-- a write that failed after others that did not
 pub writes_failed : {failed : Type 0} {old mid new : CallSeen} → Writes ⊥ old mid → failed → Writes failed mid new → Writes (WriteFault ≡ WriteFault) old new
 writes_failed {old = old} {mid = mid} {new = new} first fails second = record {
   rose = λ is. rose_earlier old.out.faults mid.out.faults new.out.faults first.keeps.counts (second.rose fails);
@@ -371,7 +371,7 @@ writes_failed {old = old} {mid = mid} {new = new} first fails second = record {
   loans = second.loans ∙ first.loans;
 }
 
--- an answer was said behind something that was left
+-- an answer was said after something that was left
 pub says_left : {said : Answer} {old mid new : CallSeen} {status : Status} (left : Left) → mid ≡ with_left left old → SaysAnswer said mid new status → SaysAnswer said old new status
 says_left {said} {old} {mid} {new} {status} left is says =
     let here = subst (λ (c : CallSeen). SaysAnswer said c new status) is says in

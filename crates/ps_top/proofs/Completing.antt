@@ -30,7 +30,7 @@ cut_or_not Memory = inl (inr (inr refl))
 
 module _ (asking : Asking) (held : List ℕ → Option (List ℕ)) (rose : List ℕ → Type 0) (tells : Bool) (before after : List ℕ) (status : Status)
     (meets : Meets asking held rose tells before after status) where
-  -- where nothing failed all is said, or memory is wanting
+  -- where nothing failed all is said, or memory runs out
   pub all_said : ((name : List ℕ) → AsksFor asking held name → ¬ (rose name)) → ¬ (status ≡ WriteFault) →
       (status ≡ Memory) ⊎ AppendsAll (IsAnswer asking held) tells before after status
   all_said no_read no_write =
@@ -42,7 +42,7 @@ module _ (asking : Asking) (held : List ℕ → Option (List ℕ)) (rose : List 
         | inr not_cut ↦ inr (meets.gives.whole not_cut)
       ]
 
-  -- where there is no answer nothing is written, and the status tells of a failed read or of want of memory
+  -- where there is no answer nothing is written, and the status tells of a failed read or of running out of memory
   pub nothing_said : ((answer : Answer) → ¬ (IsAnswer asking held answer)) → AppendsNothing tells before after × ((status ≡ ReadFault) ⊎ (status ≡ Memory))
   nothing_said none =
       elim (cut_or_not status) [

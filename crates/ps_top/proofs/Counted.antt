@@ -17,10 +17,10 @@ use Rattle.ps_model.proofs.Runs.{one_run}
 use Rattle.ps_model.specs.Meaning.{Item, Past, Runs, Meaning, report, last, nothing}
 use Rattle.ps_model.specs.Meaning.Item.{scan, restart}
 use Rattle.ps_report.specs.Short.{refusal_text}
-use Rattle.ps_seat.specs.Items.{AreTimely}
+use Rattle.ps_machine.specs.Items.{AreTimely}
 use Rattle.ps_base.specs.declared.failing.Refusal.{Refusal}
-use Rattle.ps_source.specs.Source.{Reading, IsAcceptedAs}
-use Rattle.ps_source.specs.Source.Reading.{is_refused as is_refused_source}
+use Rattle.ps_accepted.specs.Source.{Reading, IsAcceptedAs}
+use Rattle.ps_accepted.specs.Source.Reading.{is_refused as is_refused_source}
 use Rattle.ps_trace.specs.Scans.{Scans, End}
 use Rattle.ps_trace.specs.Scans.End.{whole, refused as is_refused}
 use Rattle.ps_world.specs.Worlds.{Machines, World_state, Restart, world_0}
@@ -34,7 +34,7 @@ use Rattle.ps_outside.specs.Outside.{Rose, last_count}
 use Rattle.ps_top.specs.Asking.{Answer, worked}
 use Rattle.ps_top.specs.Asking.Asking.{Says, Finds}
 use Rattle.ps_top.specs.Calls.{CallSeen, SaysAnswer, LeavesRefusal, Answers}
-use Rattle.ps_source.specs.Answering.{IsAcceptance}
+use Rattle.ps_accepted.specs.Answering.{IsAcceptance}
 use Rattle.ps_top.specs.Meets.{IsCut}
 use Rattle.ps_top.specs.Refusing.{SaysNone}
 use Rattle.ps_runs.specs.Counting.{none_counted, with_more, counted_report, counted}

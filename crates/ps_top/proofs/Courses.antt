@@ -56,7 +56,7 @@ module _ (net : Network) (heals : Bool) (faults : List VoteFault) where
     told_gives bytes tells start now (Err Unread) wrote begun = part_unread wanted tells start now (begun_part bytes tells start now wrote begun)
     told_gives bytes tells start now (Err Unwritten) wrote begun = part_given wanted tells start now (begun_part bytes tells start now wrote begun)
 
-    -- the world that is left behind items that were done to an end
+    -- the world that is left after items that were done to an end
     told_ends : (bytes : List ℕ) (ended : Result (Unit {0}) Cut) → IsEnd ended → CameTo net heals faults 0 scans p after' bytes ended → after'.world ≡ voted_world heals faults scans.items p.world
     told_ends bytes (Ok x) end came = came.ends
     told_ends bytes (Err (Refused refusal)) end came = came.ends

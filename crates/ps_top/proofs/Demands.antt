@@ -9,11 +9,11 @@ use Rattle.ps_checker.specs.Counts.{Counts}
 use Rattle.ps_flow.specs.Derivation.{certificate}
 use Rattle.ps_flow.specs.declared.certificate.CertLine.{CertLine}
 use Rattle.ps_model.specs.Network.{Network}
-use Rattle.ps_source.proofs.OneBreach.{one_acceptance}
-use Rattle.ps_source.specs.Demanding.{AreDemands, GivesDemanded, IsCheckedOf, IsDemandableAs, IsDemanding, app_demanded, checked_demanded, lines_demanded}
-use Rattle.ps_source.specs.Source.{IsAcceptedAs, counts}
-use Rattle.ps_source.specs.Source.Reading.{stands_for, is_refused}
-use Rattle.ps_source.specs.declared.demanding.Demanded.{Demanded}
+use Rattle.ps_accepted.proofs.OneBreach.{one_acceptance}
+use Rattle.ps_accepted.specs.Demanding.{AreDemands, GivesDemanded, IsCheckedOf, IsDemandableAs, IsDemanding, app_demanded, checked_demanded, lines_demanded}
+use Rattle.ps_accepted.specs.Source.{IsAcceptedAs, counts}
+use Rattle.ps_accepted.specs.Source.Reading.{stands_for, is_refused}
+use Rattle.ps_accepted.specs.declared.demanding.Demanded.{Demanded}
 use Rattle.ps_top.specs.Asking.{Asking, Worked, worked}
 use Rattle.ps_top.specs.Asking.Asking.{Says, Asks, Leaves}
 use Rattle.ps_top.specs.Calls.{Answers, CallSeen, LeavesRefusal, Passes}
@@ -55,7 +55,7 @@ module _ (name : List ℕ) (d : Demanded) {old mid : CallSeen} (passes : Passes 
   }
   lines_found new (Err status) goes are = tt
 
-  -- there are none, by the rule M1 or for want of memory
+  -- there are none, by the rule M1 or if memory runs out
   none_for : (new : CallSeen) (why : Fail) (status : Status) → lines_demanded d ≡ Err why → SaysNone why mid new status → LeavesRefusal new.left new.out status →
       GivesNone IsDemandableAs name old new status
   none_for new NoneForRules status are says leaves = short says.0 (passes_both {old = old} {mid = mid} {new = new} passes says.1)

@@ -43,14 +43,14 @@ module _ {F : Type 0} (faults_in : List ℕ → FaultList F) (name : List ℕ) (
   abbrev behind_text : FaultList F → Asking
   behind_text list = unless_refused next list.faults list.refusal
 
-  -- behind the faults of a file that is held
+  -- after the faults of a file that is held
   faults_on : (text : List ℕ) (struck : List F) (held : List ℕ → Option (List ℕ)) (work : Worked) (status : Status) → held name ≡ Some text →
       faults_in text ≡ record { faults = struck; refusal = None } → GoesOnAs (with_file faults_in name next) (next struck) held work status
   faults_on text struck held work status is gives =
       subst (λ (list : FaultList F). GoesOnAs (with_file faults_in name next) (behind_text list) held work status) gives
       (asks_on held work status name text (λ t. behind_text (faults_in t)) is)
 
-  -- behind a fault file that is refused
+  -- after a fault file that is refused
   refused_on : (text : List ℕ) (refusal : Refusal) (held : List ℕ → Option (List ℕ)) (work : Worked) (status : Status) → held name ≡ Some text →
       (faults_in text).refusal ≡ Some refusal → GoesOnAs (with_file faults_in name next) (Says (answer (refusal_text refusal) BadInput)) held work status
   refused_on text refusal held work status is refuses =

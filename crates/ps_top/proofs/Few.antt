@@ -41,7 +41,7 @@ scans_few found number last (line ∷ lines) =
     onto_scans_few found said number (length lines) (scans_from found (number_after line number) (last_after said last) lines)
     (scans_few found (number_after line number) (last_after said last) lines)
 
--- the scans behind a header are no more than these
+-- the scans after a header are no more than these
 abbrev AreFew : ℕ → Headed → Type 0
 AreFew n headed = length (scans_behind headed).items ≤ n
 

@@ -12,7 +12,7 @@ use Rattle.ps_model.specs.Scanning.{State}
 use Rattle.ps_model.specs.Meaning.{Item, report}
 use Rattle.ps_model.specs.Meaning.Item.{scan, restart}
 use Rattle.ps_report.specs.Lines.{report_text}
-use Rattle.ps_seat.specs.Outcomes.{Outcome as Given, gives, lacks, outcome}
+use Rattle.ps_machine.specs.Outcomes.{Outcome as Given, gives, lacks, outcome}
 use Rattle.ps_trace.specs.Scans.{End}
 use Rattle.ps_trace.specs.Scans.End.{whole, refused}
 use Rattle.ps_world.specs.Worlds.{Machines, World_state, Begin, Restart, world_0}
@@ -79,7 +79,7 @@ verdict_in m faults now ins x =
     let z = at_compare m faults now ins x in
     subst (λ down. IsVerdictIn down (verdict m z)) (still_tripped m faults now ins x) (judged_in z.tripped (outcome m.a z.a.cells) (outcome m.b z.b.cells))
 
--- whether the world is tripped behind a verdict
+-- whether the world is tripped after a verdict
 tripped_behind : (v : Verdict) (down : Bool) → IsVerdictIn down v → is_trip v ≡ (down || is_some (cause_in v))
 tripped_behind Released down is = ap (λ b. b || false) (sym is)
 tripped_behind (Tripped cause) down is = ap (λ b. b || true) (sym is)

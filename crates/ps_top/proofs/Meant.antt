@@ -10,7 +10,7 @@ use Rattle.ps_model.specs.Sound.{IsSound}
 use Rattle.ps_model.specs.Meaning.{Item, nothing}
 use Rattle.ps_model.proofs.Runs.{one_run}
 use Rattle.ps_report.specs.Short.{refusal_text}
-use Rattle.ps_seat.specs.Items.{AreTimely}
+use Rattle.ps_machine.specs.Items.{AreTimely}
 use Rattle.ps_trace.specs.FaultOrder.{AreOfOneChannel}
 use Rattle.ps_trace.specs.Reading.{only_refused}
 use Rattle.ps_trace.specs.Scans.{Scans}
@@ -42,7 +42,7 @@ one_spared (f ∷ faults) one = (other f.channel, (others_differ f.channel f.cha
     all_spared [] each = tt
     all_spared (g ∷ gs) each = (others_differ f.channel g.channel (each 0 g (omega arith)), all_spared gs (λ i d lt. each (suc i) d (omega (arith, lt))))
 
--- the world behind a run is that of all its events
+-- the world after a run is that of all its events
 pub ran_is : (net : Network) (faults : List Fault) (w : Whole) → IsWorldOf net w → (items : List Item) →
     ran faults 1 items w ≡ after_events (events (machines_in w.setup) items faults) (first_world w.setup)
 ran_is net faults w built items = λ i. record { setup = w.setup; state = (after_run (built.beginning i)) }

@@ -32,7 +32,7 @@ gives_wider wider gives = record {
   memory = gives.memory;
 }
 
--- memory is wanting, and nothing was written
+-- memory runs out, and nothing was written
 pub memory_meets : (asking : Asking) (held : List ℕ → Option (List ℕ)) (rose : List ℕ → Type 0) (tells : Bool) (taken : List ℕ) → Meets asking held rose tells taken taken Memory
 memory_meets asking held rose tells taken = record {
   gives = record { whole = λ not_cut. absurd (not_cut (inr (inr refl))); stopped = λ is. cc; unread = λ is. cc; memory = λ is on. refl };
@@ -83,7 +83,7 @@ all_given P answer tells before after no_cut right appended = record {
 
 -- ---- what was written before
 
--- the rest of an answer was given behind what was written of it
+-- the rest of an answer was given after what was written of it
 pub given_behind : (P : Answer → Type 0) (said : Answer) (bytes : List ℕ) (tells : Bool) (before mid after : List ℕ) (status : Status) → P (behind bytes said) →
     (IsTrue tells → mid ≡ before ++ bytes) → Gives (λ given. given ≡ said) tells mid after status → ¬ (status ≡ Memory) → ¬ (status ≡ ReadFault) → Gives P tells before after status
 given_behind P said bytes tells before mid after status right wrote gives no_memory no_read = record {

@@ -22,14 +22,14 @@ use Rattle.ps_top.specs.Asking.{Answer, Asking, IsAnswer, AsksFor, Worked}
 use Rattle.ps_top.specs.Asking.Asking.{Says, Asks, Finds, Leaves}
 use Rattle.ps_top.specs.Program.{Ruling, Judges, verdict, leaves_accepted, leaves_checked, with_application, accepted_source, accepted, summary, sum_scans, sum_trace, load, leaves_world, answer, image_lines, imaged, region_sizes, trips_of, unless_refused, with_faults, run_quietly, run_struck, answer_scans, run_named, verify_named, verify, demanded, demand, seat_faults_of, seat_sizes, told_votes, leaves_votes, vote_scans, vote_named, with_seat_faults, vote_struck, said, told, text}
 use Rattle.ps_top.specs.Program.Ruling.{derives, objects}
-use Rattle.ps_source.specs.Demanding.{IsDemandableAs}
-use Rattle.ps_source.specs.Source.{Reading, Resolves, IsResolvedAs, IsAcceptedAs, counts}
+use Rattle.ps_accepted.specs.Demanding.{IsDemandableAs}
+use Rattle.ps_accepted.specs.Source.{Reading, Resolves, IsResolvedAs, IsAcceptedAs, counts}
 use Rattle.ps_top.specs.declared.Status.TheVariants.{Done}
-use Rattle.ps_source.specs.Source.Reading.{stands_for, is_refused}
-use Rattle.ps_source.proofs.Demandable.{one_demanding}
-use Rattle.ps_source.proofs.Keeping.{resolved_sound}
-use Rattle.ps_source.proofs.OneReading.{one_resolution}
-use Rattle.ps_source.proofs.OneBreach.{one_acceptance}
+use Rattle.ps_accepted.specs.Source.Reading.{stands_for, is_refused}
+use Rattle.ps_accepted.proofs.Demandable.{one_demanding}
+use Rattle.ps_accepted.proofs.Keeping.{resolved_sound}
+use Rattle.ps_accepted.proofs.OneReading.{one_resolution}
+use Rattle.ps_accepted.proofs.OneBreach.{one_acceptance}
 use Rattle.ps_top.proofs.Applied.{with_counts}
 use Rattle.ps_top.proofs.OneJudgement.{one_judgement}
 use Rattle.ps_top.proofs.Setups.{one_setup, one_seat_setup}

@@ -6,7 +6,7 @@ use Rattle.ps_model.specs.Network.{Network}
 use Rattle.ps_outside.specs.declared.reading.ReadFail.{ReadFail}
 use Rattle.ps_outside.specs.declared.text_fail.TextFail.{TextFail}
 use Rattle.ps_outside.specs.declared.text_fail.TextFail.TheVariants.{Memory, Fault, Refused}
-use Rattle.ps_source.proofs.Sourced.{some_of}
+use Rattle.ps_accepted.proofs.Sourced.{some_of}
 use Rattle.ps_trace.specs.Faults.{FaultList}
 use Rattle.ps_trace.specs.Reading.{IsRead, IsReadingTrace, items_left}
 use Rattle.ps_trace.specs.Scans.{header_in, scans_of, scans_behind}

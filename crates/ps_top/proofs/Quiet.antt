@@ -14,9 +14,9 @@ use Rattle.ps_eqgen.proofs.Scanning as equation
 use Rattle.ps_eqvm.specs.Channel.{machine_b}
 use Rattle.ps_eqvm.specs.Code.{code_b}
 use Rattle.ps_eqvm.specs.Stands.{StandsB}
-use Rattle.ps_seat.specs.Items.{AreTimely}
-use Rattle.ps_source.specs.Source.{Reading, IsAcceptedAs}
-use Rattle.ps_source.specs.Source.Reading.{stands_for, is_refused}
+use Rattle.ps_machine.specs.Items.{AreTimely}
+use Rattle.ps_accepted.specs.Source.{Reading, IsAcceptedAs}
+use Rattle.ps_accepted.specs.Source.Reading.{stands_for, is_refused}
 use Rattle.ps_stackgen.proofs.Scanning as stack
 use Rattle.ps_stackvm.specs.Channel.{machine_a}
 use Rattle.ps_stackvm.specs.Code.{code_a}
@@ -37,7 +37,7 @@ use Rattle.ps_vote.specs.Whole as seats
 use Rattle.ps_top.specs.Program.{with_application, run, run_quietly, end_status, trips_of, unless_refused, seat_faults_of, seat_sizes, vote_named, vote_struck, voted}
 use Rattle.ps_runs.specs.Seats.{run_end}
 use Rattle.ps_top.specs.declared.Status.TheVariants.{Tripped}
-use Rattle.ps_source.proofs.Keeping.{resolved_sound}
+use Rattle.ps_accepted.proofs.Keeping.{resolved_sound}
 use Rattle.ps_top.proofs.Applied.{with_counts}
 use Rattle.ps_top.proofs.Timely.{scans_timely}
 

@@ -21,7 +21,7 @@ cut_refuses_not ReadFault refusing cut = grind arith
 cut_refuses_not WriteFault refusing cut = grind arith
 cut_refuses_not Memory refusing cut = grind arith
 
--- where memory is wanting nothing is refused
+-- if memory runs out nothing is refused
 pub memory_refuses : (left : Left) (out' : OutputSeen) → LeavesRefusal left out' Memory
 memory_refuses left out' = λ refusing. absurd (cut_refuses_not Memory refusing (inr (inr refl)))
 

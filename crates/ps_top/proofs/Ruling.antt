@@ -2,7 +2,7 @@
 use Rattle.std.proofs.Common.{◌≡◌, ◌∙◌, ◌⊎◌, ℕ, List, [], ◌∷◌, Option, Some, IsTrue, length, ap, sym, subst, inl, inr, arith}
 use Rattle.ps_checker.specs.Counts.{Counts}
 use Rattle.ps_model.specs.Network.{Network}
-use Rattle.ps_source.specs.Source.{counts}
+use Rattle.ps_accepted.specs.Source.{counts}
 use Rattle.ps_top.specs.Asking.{Worked, worked}
 use Rattle.ps_top.specs.Asking.Asking.{Says, Finds}
 use Rattle.ps_top.specs.Calls.{CallSeen, Passes, Answers, SaysAnswer, LeavesRefusal}
@@ -51,7 +51,7 @@ module _ (net : Network) (cert : List ℕ) {old mid new : CallSeen} {status : St
       (judged_on net text j old.files.held (worked new.left) status (judged tells).2 leaves))
       (said_answers (told_of j) [] (told_no_cut j) says refuses))
 
-  -- a certificate was read and judged, and its line was said, or memory was wanting for it
+  -- a certificate was read and judged, and its line was said, or memory ran out for it
   pub judgement_answers : (j : Judgement) → (IsTrue old.files.tells → (text : List ℕ) × (old.files.held cert ≡ Some text) × IsJudged net text j) → SaysJudgement j mid new status →
       LeavesRefusal new.left new.out status → Answers (verify_named net cert) (cert ∷ []) old new status
   judgement_answers (Derives c) judged (inl none) refuses =

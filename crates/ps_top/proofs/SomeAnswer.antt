@@ -5,11 +5,11 @@ use Rattle.ps_model.specs.Network.{Network}
 use Rattle.ps_model.specs.Scanning.{State}
 use Rattle.ps_model.specs.Sound.{IsSound}
 use Rattle.ps_model.proofs.Runs.{one_run}
-use Rattle.ps_source.specs.Demanding.{IsDemandableAs}
-use Rattle.ps_source.specs.Source.{Reading, Resolves, IsResolvedAs, IsAcceptedAs}
-use Rattle.ps_source.specs.Source.Reading.{stands_for, is_refused}
-use Rattle.ps_source.proofs.Demandable.{some_demanding}
-use Rattle.ps_source.proofs.Sourced.{some_of}
+use Rattle.ps_accepted.specs.Demanding.{IsDemandableAs}
+use Rattle.ps_accepted.specs.Source.{Reading, Resolves, IsResolvedAs, IsAcceptedAs}
+use Rattle.ps_accepted.specs.Source.Reading.{stands_for, is_refused}
+use Rattle.ps_accepted.proofs.Demandable.{some_demanding}
+use Rattle.ps_accepted.proofs.Sourced.{some_of}
 use Rattle.ps_model.specs.declared.channel.Fault.{Fault}
 use Rattle.ps_base.specs.declared.failing.Refusal.{Refusal}
 use Rattle.ps_trace.specs.Faults.{faults_of}
@@ -26,7 +26,7 @@ use Rattle.ps_top.specs.Asking.Asking.{Says, Asks, Finds, Leaves}
 use Rattle.ps_top.specs.Program.{Ruling, Judges, verdict, leaves_accepted, with_application, accepted_source, accepted, summary, sum_scans, sum_trace, load, answer, image_lines, imaged, region_sizes, trips_of, unless_refused, with_faults, run_quietly, run_struck, answer_scans, run_named, verify_named, verify, demanded, demand, seat_faults_of, seat_sizes, told_votes, vote_scans, vote_named, with_seat_faults, vote_struck, said, told, text}
 use Rattle.ps_top.specs.Program.Ruling.{derives, objects}
 use Rattle.ps_top.specs.declared.Status.TheVariants.{Done}
-use Rattle.ps_source.proofs.Keeping.{resolved_sound}
+use Rattle.ps_accepted.proofs.Keeping.{resolved_sound}
 use Rattle.ps_top.proofs.Applied.{with_counts}
 use Rattle.ps_top.proofs.Setups.{some_setup, some_seat_setup}
 

@@ -4,9 +4,9 @@ use Rattle.std.proofs.Common.{◌≡◌, ◌∙◌, ℕ, List, Some, IsTrue, Res
 use Rattle.ps_base.specs.declared.failing.Fail.{Fail}
 use Rattle.ps_base.specs.declared.failing.Fail.TheVariants.{Memory as NoneForRules, Refused as RefusedByRules}
 use Rattle.ps_base.specs.declared.failing.Refusal.{Refusal}
-use Rattle.ps_source.specs.Answering.{IsFrontOf}
-use Rattle.ps_source.specs.Source.{Reading}
-use Rattle.ps_source.specs.Source.Reading.{is_refused}
+use Rattle.ps_accepted.specs.Answering.{IsFrontOf}
+use Rattle.ps_accepted.specs.Source.{Reading}
+use Rattle.ps_accepted.specs.Source.Reading.{is_refused}
 use Rattle.ps_top.specs.Calls.{CallSeen, Passes, ReadsName, LeavesRefusal, with_left}
 use Rattle.ps_top.specs.Refusing.{GivesNone, short, unread, refuses, IsUnread, SaysNone}
 use Rattle.ps_top.specs.Sourcing.{AreOfSource}

@@ -69,7 +69,7 @@ module _ (net : Network) (faults : List Fault) where
       told_gives bytes tells start now (Err Unread) wrote begun = part_unread wanted tells start now (begun_part bytes tells start now wrote begun)
       told_gives bytes tells start now (Err Unwritten) wrote begun = part_given wanted tells start now (begun_part bytes tells start now wrote begun)
 
-      -- the world that is left behind items that were done to an end
+      -- the world that is left after items that were done to an end
       told_ends : (bytes : List ℕ) (ended : Result (Unit {0}) Cut) → IsEnd ended → CameTo net faults (outcome_line net) takes 0 scans p after t t' bytes ended → after.world ≡ ran faults 1 scans.items p.world
       told_ends bytes (Ok x) end came = came.0.ends
       told_ends bytes (Err (Refused refusal)) end came = came.0.ends

@@ -10,7 +10,7 @@ use Rattle.ps_base.specs.declared.failing.Rule.TheVariants.{T2, T3, T4, T5, T7}
 use Rattle.ps_lines.specs.Lines.{Line}
 use Rattle.ps_lines.specs.Lines.Line.{Kept, KeptLast, Long, Large}
 use Rattle.ps_model.specs.Network.{Network, input_count}
-use Rattle.ps_seat.specs.Items.{AreTimely}
+use Rattle.ps_machine.specs.Items.{AreTimely}
 use Rattle.ps_trace.specs.Words.{fields, number_of, digits_value}
 use Rattle.ps_trace.specs.Trace.{Said, value_of, scan_at_time, scan_line, is_restart, line_said}
 use Rattle.ps_trace.specs.Trace.Said.{skips, restarts, scans, breaks}
@@ -110,7 +110,7 @@ line_place names (KeptLast line) = words_place names (fields line)
 line_place names Long = tt
 line_place names Large = tt
 
--- the places behind a header are as many as the names
+-- the places after a header are as many as the names
 abbrev ArePlaced : ℕ → Headed → Type 0
 ArePlaced n (begins found number lines) = length found ≡ n
 ArePlaced n (fails refusal) = Unit {0}

@@ -5,10 +5,10 @@ use Rattle.ps_model.specs.declared.channel.Fault.{Fault}
 use Rattle.ps_model.specs.Network.{Network}
 use Rattle.ps_model.proofs.Runs.{one_run}
 use Rattle.ps_model.specs.Meaning.{nothing}
-use Rattle.ps_source.specs.Source.{Reading, IsAcceptedAs}
-use Rattle.ps_source.specs.Source.Reading.{stands_for}
-use Rattle.ps_source.proofs.Keeping.{resolved_sound}
-use Rattle.ps_source.proofs.OneBreach.{one_acceptance}
+use Rattle.ps_accepted.specs.Source.{Reading, IsAcceptedAs}
+use Rattle.ps_accepted.specs.Source.Reading.{stands_for}
+use Rattle.ps_accepted.proofs.Keeping.{resolved_sound}
+use Rattle.ps_accepted.proofs.OneBreach.{one_acceptance}
 use Rattle.ps_trace.specs.Faults.{FaultList, faults_of}
 use Rattle.ps_trace.specs.Scans.{scans_of}
 use Rattle.ps_world.specs.Whole.{Setup}
@@ -27,7 +27,7 @@ no_fault_no_trip source text net setup is built =
     no_trips net sound is.1 setup built (scans_of text net) (scans_timely text net) run.0 run.1
 
 module _ (held : Held) (app trace : List ℕ) (net : Network) (text : List ℕ) (said : Answer) (is : AreHeld held app trace net text) where
-  -- what is said behind the application that is held
+  -- what is said after the application that is held
   behind_app : (next : Network → Asking) → IsAnswer (accepted app next) held said → IsAnswer (next net) held said
   behind_app next right =
       let same : right.0 ≡ is.source = same_Some right.0 is.source (sym right.1 ∙ is.source_is) in

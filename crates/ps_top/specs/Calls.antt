@@ -116,7 +116,7 @@ with_left left call = record call { left = left }
 
 -- Failures are exact, whatever the files and the output tell. A read that failed shows in the status, by a name whose
 -- count rose; a write that failed does, by the count of the output; and with any other status no count changed. Where
--- memory was wanting nothing was written.
+-- memory ran out nothing was written.
 pub record Causes (names : List (List ℕ)) (old new : CallSeen) (status : Status) : Type 0 where
   pub read_fault : status ≡ ReadFault → Any (NameRose old new) names
   pub write_fault : status ≡ WriteFault → Rose old.out.faults new.out.faults

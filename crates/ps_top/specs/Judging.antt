@@ -5,7 +5,7 @@ use Rattle.ps_model.specs.Network.{Network}
 use Rattle.ps_report.specs.Short.{refusal_text}
 use Rattle.ps_top.specs.Lines.{verified_line}
 use Rattle.ps_top.specs.Asking.{Answer}
-use Rattle.ps_source.specs.Source.{counts}
+use Rattle.ps_accepted.specs.Source.{counts}
 use Rattle.ps_top.specs.Calls.{CallSeen, SaysAnswer}
 use Rattle.ps_top.specs.Program.{answer, Judges}
 use Rattle.ps_top.specs.Program.Ruling.{derives, objects}
@@ -24,7 +24,7 @@ abbrev pub told_of : Judgement → Answer
 told_of (Derives c) = answer (verified_line c.lines) Done
 told_of (Objects refusal) = answer (refusal_text refusal) BadInput
 
--- The line of a judgement is said, and the counts of what was checked are left. Or memory was wanting, and nothing was
+-- The line of a judgement is said, and the counts of what was checked are left. Or memory ran out, and nothing was
 -- done.
 abbrev pub SaysJudgement : Judgement → (old new : CallSeen) → Status → Type 0
 SaysJudgement (Derives c) old new status =

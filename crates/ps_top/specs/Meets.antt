@@ -34,7 +34,7 @@ pub record Gives (IsRight : Answer → Type 0) (tells : Bool) (before after : Li
   pub whole : ¬ IsCut status → AppendsAll IsRight tells before after status
   pub stopped : status ≡ WriteFault → AppendsPart IsRight tells before after
   pub unread : status ≡ ReadFault → AppendsNothing tells before after ⊎ AppendsPart IsRight tells before after
-  -- memory is wanting only before the first byte
+  -- memory runs out only before the first byte
   pub memory : status ≡ Memory → AppendsNothing tells before after
 
 -- What a call does that is asked to say this. `rose` says of which names the count of faults rose.

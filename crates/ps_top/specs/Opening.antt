@@ -16,7 +16,7 @@ abbrev pub GivesText : (most : ℕ) → Option (List ℕ) → Result (List ℕ) 
 GivesText most held (Ok bytes) = (text : List ℕ) × (held ≡ Some text) × (bytes ≡ take most text)
 GivesText most held (Err fail) = Unit {0}
 
--- a reader of the trace, behind its header, with all of its items to come; or the refusal of the header
+-- a reader of the trace, after its header, with all of its items to come; or the refusal of the header
 abbrev pub OpensTrace : Network → Option (List ℕ) → Result TraceReader TextFail → Type 0
 OpensTrace net held (Ok reader) =
     (text : List ℕ) × (held ≡ Some text) × IsReadingTrace reader text × (items_left reader text ≡ scans_of text net)
@@ -25,7 +25,7 @@ OpensTrace net held (Err (Refused refusal)) =
 OpensTrace net held (Err Memory) = Unit {0}
 OpensTrace net held (Err Fault) = Unit {0}
 
--- a reader stands behind the header of this file
+-- a reader stands after the header of this file
 pub record IsOpened (net : Network) (name : List ℕ) (reader : TraceReader) : Type 0 where
   pub file : file_of reader ≡ name
   pub inputs : input_count_of reader ≡ input_count net

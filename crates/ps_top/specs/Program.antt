@@ -46,9 +46,9 @@ use Rattle.ps_runs.specs.Counting.{true_outputs, true_errors}
 use Rattle.ps_runs.specs.Lines.{restart_line, voted_text}
 use Rattle.ps_runs.specs.Seats.{run_end}
 use Rattle.ps_top.specs.Lines.{verified_line}
-use Rattle.ps_source.specs.Demanding.{IsDemandableAs}
-use Rattle.ps_source.specs.Source.{Reading, IsResolvedAs, IsAcceptedAs, counts}
-use Rattle.ps_source.specs.Source.Reading.{stands_for, is_refused}
+use Rattle.ps_accepted.specs.Demanding.{IsDemandableAs}
+use Rattle.ps_accepted.specs.Source.{Reading, IsResolvedAs, IsAcceptedAs, counts}
+use Rattle.ps_accepted.specs.Source.Reading.{stands_for, is_refused}
 use Rattle.ps_top.specs.declared.Status.{Status}
 use Rattle.ps_top.specs.declared.Status.TheVariants.{Done, Refused, Usage, BadInput, Tripped}
 
@@ -260,7 +260,7 @@ abbrev pub seat_faults_of : (heals : Bool) → List ℕ → VoteSizes → FaultL
 seat_faults_of false text sizes = vote_faults_of text sizes
 seat_faults_of true text sizes = heal_faults_of text sizes
 
--- the lines of items with these votes, whose scans have these states: the report line of each scan, and behind it that
+-- the lines of items with these votes, whose scans have these states: the report line of each scan, and after it that
 -- of the seat that its vote outvotes
 abbrev pub voted_lines : Network → List Item → List Vote → List State → List ℕ
 voted_lines net [] votes ws = []

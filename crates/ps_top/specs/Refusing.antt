@@ -4,8 +4,8 @@ use Rattle.ps_base.specs.declared.failing.Fail.{Fail}
 use Rattle.ps_base.specs.declared.failing.Fail.TheVariants.{Memory as NoneForRules, Refused as RefusedByRules}
 use Rattle.ps_base.specs.declared.failing.Refusal.{Refusal}
 use Rattle.ps_report.specs.Short.{refusal_text}
-use Rattle.ps_source.specs.Source.{Reading}
-use Rattle.ps_source.specs.Source.Reading.{is_refused}
+use Rattle.ps_accepted.specs.Source.{Reading}
+use Rattle.ps_accepted.specs.Source.Reading.{is_refused}
 use Rattle.ps_outside.specs.declared.text_fail.TextFail.{TextFail}
 use Rattle.ps_outside.specs.declared.text_fail.TextFail.TheVariants.{Memory as NoMemory, Fault as IsFault}
 use Rattle.ps_outside.specs.declared.text_fail.TextFail.TheVariants.{Refused as IsRefused}
@@ -14,14 +14,14 @@ use Rattle.ps_top.specs.Program.{answer}
 use Rattle.ps_top.specs.declared.Status.{Status}
 use Rattle.ps_top.specs.declared.Status.TheVariants.{Refused, ReadFault, Memory}
 
--- a refusal has its line, with this status; of want of memory and of a failed read nothing is written, and the status
+-- a refusal has its line, with this status; of running out of memory and of a failed read nothing is written, and the status
 -- tells of it
 abbrev pub Fails : Status → TextFail → (old new : CallSeen) → Status → Type 0
 Fails said (IsRefused refusal) old new status = SaysAnswer (answer (refusal_text refusal) said) old new status
 Fails said NoMemory old new status = (status ≡ Memory) × (new ≡ old)
 Fails said IsFault old new status = (status ≡ ReadFault) × (new ≡ old)
 
--- a source gives nothing: its refusal has its line, and of want of memory the status tells
+-- a source gives nothing: its refusal has its line, and of running out of memory the status tells
 abbrev pub SaysNone : Fail → (old new : CallSeen) → Status → Type 0
 SaysNone (RefusedByRules refusal) old new status = SaysAnswer (answer (refusal_text refusal) Refused) old new status
 SaysNone NoneForRules old new status = (status ≡ Memory) × Passes old new
@@ -35,7 +35,7 @@ SaysWhy lines old new status =
 abbrev pub IsUnread : Status → Type 0
 IsUnread status = (status ≡ Memory) ⊎ (status ≡ ReadFault)
 
--- A name gave no application, by the readings that a source has: memory was wanting, or the name could not be read, or
+-- A name gave no application, by the readings that a source has: memory ran out, or the name could not be read, or
 -- the source is refused, and its refusal was said and left.
 pub data GivesNone (Readings : List ℕ → Reading → Type 0) (name : List ℕ) (old new : CallSeen)
     (status : Status) : Type 0 where

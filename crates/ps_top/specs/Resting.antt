@@ -46,6 +46,6 @@ abbrev pub load_answer : (n : ℕ) → Network → List Fault → Whole → Scan
 load_answer n net faults w scans =
     counted_answer n scans.end (fold counted none_counted (outcomes scans.items (answered net faults 1 scans.items w)))
 
--- an answer behind a line
+-- an answer after a line
 abbrev pub behind : List ℕ → Answer → Answer
 behind line answer = record { bytes = line ++ answer.bytes; status = answer.status }

@@ -16,7 +16,7 @@ use Rattle.ps_top.specs.Program.{answer}
 use Rattle.ps_top.specs.declared.Status.{Status}
 use Rattle.ps_top.specs.declared.Status.TheVariants.{BadInput, ReadFault, WriteFault, Memory}
 
--- The line of a refusal is said behind what was written before: all of it, or a beginning where a write failed.
+-- The line of a refusal is said after what was written before: all of it, or a beginning where a write failed.
 pub record SaysRefusal (refusal : Refusal) (tells : Bool) (before after : List ℕ) (status : Status) : Type 0 where
   pub ends : (status ≡ BadInput) ⊎ (status ≡ WriteFault)
   pub gives : Gives (λ said. said ≡ answer (refusal_text refusal) BadInput) tells before after status
@@ -44,7 +44,7 @@ abbrev pub DoesTrace : {P T V : Type 0} → (P → Item → Outcome V → P → 
 DoesTrace performs said takes net text p p' t t' tells before after ended =
     DoesItems performs said takes 0 p t (scans_of text net) tells before after ended p' t'
 
--- Why a trace was not run to its end: memory was wanting, or its beginning could not be read; or its header is refused,
+-- Why a trace was not run to its end: memory ran out, or its beginning could not be read; or its header is refused,
 -- and its refusal was said, and nothing was performed; or its items were cut short.
 pub data StopsTrace {P T V : Type 0} (performs : P → Item → Outcome V → P → Type 0) (said : T → P → Outcome V → List ℕ)
     (takes : T → P → Outcome V → T → Type 0) (net : Network) (held : Option (List ℕ)) (p p' : P) (t t' : T)

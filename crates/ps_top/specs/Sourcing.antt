@@ -1,8 +1,8 @@
 -- How a call comes to what the source of a name stands for.
 use Rattle.std.specs.Prelude.{◌≡◌, ℕ, List, Some, IsTrue}
 use Rattle.ps_model.specs.Network.{Network}
-use Rattle.ps_source.specs.Answering.{IsFrontHeld}
-use Rattle.ps_source.specs.Demanding.{GivesLines}
+use Rattle.ps_accepted.specs.Answering.{IsFrontHeld}
+use Rattle.ps_accepted.specs.Demanding.{GivesLines}
 use Rattle.ps_top.specs.Asking.{worked}
 use Rattle.ps_top.specs.Calls.{CallSeen, Passes}
 use Rattle.ps_top.specs.Program.{leaves_accepted}

@@ -5,8 +5,8 @@ use Rattle.ps_model.specs.declared.channel.Fault.{Fault}
 use Rattle.ps_model.specs.Meaning.{Meaning}
 use Rattle.ps_model.specs.Network.{Network}
 use Rattle.ps_model.specs.Scanning.{State}
-use Rattle.ps_source.specs.Source.{IsAcceptedAs}
-use Rattle.ps_source.specs.Source.Reading.{stands_for}
+use Rattle.ps_accepted.specs.Source.{IsAcceptedAs}
+use Rattle.ps_accepted.specs.Source.Reading.{stands_for}
 use Rattle.ps_trace.specs.Faults.{faults_of}
 use Rattle.ps_trace.specs.Scans.{Scans, scans_of}
 use Rattle.ps_world.specs.Whole.{Setup, IsSetupOf}
@@ -33,7 +33,7 @@ pub record HasFaults (held : Held) (name : List ℕ) (net : Network) (setup : Se
   pub faults_are : faults_of text (region_sizes setup) ≡ record { faults = faults; refusal = None }
 
 -- The answer tells every scan of a trace, to its end or its refused line: these trip, and have their TRIP lines, as
--- have those behind a trip up to a restart; and each other one has the report line of the state that it means.
+-- have those after a trip up to a restart; and each other one has the report line of the state that it means.
 pub record TellsScans (net : Network) (tripped : List (ℕ × Cause)) (scans : Scans) (said : Answer) : Type 0 where
   pub states : List State
   pub meaning : Meaning net scans.items states

@@ -3,10 +3,10 @@
 ghost use Rattle.std.specs.Prelude.{◌≡◌, ◌≢◌, Some, Ok, IfOk, IfErr, IsErrOf, OnOk};
 ghost use Rattle.ps_flow.specs.Derivation.{certificate};
 ghost use Rattle.ps_model.specs.Typing.{Accepted as IsAccepted};
-ghost use Rattle.ps_source.specs.Answering.{IsChecked, app_of};
-ghost use Rattle.ps_source.specs.Demanding.{IsDemandableAs, checked_demanded, lines_demanded};
-ghost use Rattle.ps_source.specs.Source.{IsAcceptedAs, IsResolvedAs, counts};
-ghost use Rattle.ps_source.specs.Source.Reading.{stands_for};
+ghost use Rattle.ps_accepted.specs.Answering.{IsChecked, app_of};
+ghost use Rattle.ps_accepted.specs.Demanding.{IsDemandableAs, checked_demanded, lines_demanded};
+ghost use Rattle.ps_accepted.specs.Source.{IsAcceptedAs, IsResolvedAs, counts};
+ghost use Rattle.ps_accepted.specs.Source.Reading.{stands_for};
 ghost use Rattle.ps_top.specs.Asking.{worked};
 ghost use Rattle.ps_top.specs.Calls.{LeavesRefusal, Passes, ReadsName};
 ghost use Rattle.ps_top.specs.Meets.{IsCut};
@@ -17,11 +17,11 @@ use crate::Status;
 use crate::call::Call;
 use crate::left::Leaving;
 use crate::saying::say_none;
+use ps_accepted::{Accepted, Demanded, accept_text, demand_text, resolve_text};
 use ps_base::limits::LARGEST_SOURCE;
 use ps_base::{Bytes, Fail};
 use ps_model::App;
 use ps_outside::ReadFail;
-use ps_source::{Accepted, Demanded, accept_text, demand_text, resolve_text};
 
 // Reads the source of a name: all of it, or one byte more than the largest source has.
 fn read_source<C: Call>(call: &mut C, name: &str) -> Result<Bytes, Status>

@@ -38,7 +38,7 @@ pub trait Call {
             GivesText most ((seen self.old).files.held name.now) result }
         ensures reads { ReadsName name.now (IsErrOf result ReadFail.Fault) (seen self.old) (seen self.new) };
 
-    /// Begins to read the trace of a name, behind its header.
+    /// Begins to read the trace of a name, after its header.
     fn open_trace(&mut self, name: &str, app: &App) -> Result<TraceReader, TextFail>
         ensures opens { IsTrue (seen self.old).files.tells →
             OpensTrace app.now ((seen self.old).files.held name.now) result }
@@ -118,12 +118,12 @@ pub trait Call {
         ensures writes { Writes (IsErr result) (seen self.old) (seen self.new) }
         ensures left { (seen self.new).left ≡ (seen self.old).left };
 
-    /// Leaves something behind.
+    /// Leaves something after.
     fn leave(&mut self, what: Leaving)
         ensures { seen self.new ≡ with_left (left_with what (seen self.old).left) (seen self.old) };
 }
 
-/// A call over files and an output, which leaves something behind in the place that its maker lends.
+/// A call over files and an output, which leaves something after in the place that its maker lends.
 pub(crate) struct CallOver<'a, F: Files, S: Sink> {
     pub(crate) alloc: Global,
     pub(crate) files: &'a mut F,

@@ -5,15 +5,15 @@ ghost use Rattle.ps_model.specs.Meaning.{Item, Meaning, nothing};
 ghost use Rattle.ps_demand.specs.Laws.{EachHasDemands};
 ghost use Rattle.ps_model.specs.Network.{Network, input_count};
 ghost use Rattle.ps_model.specs.Scanning.{State};
-ghost use Rattle.ps_seat.specs.Items.{AreTimely};
+ghost use Rattle.ps_machine.specs.Items.{AreTimely};
 ghost use Rattle.ps_trace.specs.Scans.{scans_of};
 ghost use Rattle.ps_top.specs.Asking.{Answer, AsksFor, IsAnswer};
 ghost use Rattle.ps_top.specs.Program as program;
 ghost use Rattle.ps_top.specs.Skeletons.{AreSafeScans};
 ghost use Rattle.ps_top.specs.Untripped.{NoFaultNoTrip, RunsTellAll, QuietFaultsTellAll, FaultsTellTrips};
 ghost use Rattle.ps_top.specs.Program.{Ruling, Judges};
-ghost use Rattle.ps_source.specs.Source.{Reading, IsAcceptedAs, IsResolvedAs};
-ghost use Rattle.ps_source.specs.Source.Reading.{stands_for};
+ghost use Rattle.ps_accepted.specs.Source.{Reading, IsAcceptedAs, IsResolvedAs};
+ghost use Rattle.ps_accepted.specs.Source.Reading.{stands_for};
 
 use ps_model::block_laws::each_demands;
 

@@ -20,7 +20,7 @@ pub struct Left {
     pub refusal: Option<Refusal>,
     /// The first scan that tripped, where one did.
     pub trip: Option<Trip>,
-    /// The first seat that was outvoted again in the scan behind its healing, where one was.
+    /// The first seat that was outvoted again in the scan after its healing, where one was.
     pub again: Option<Again>,
     /// The text of the application, where it was read: up to one byte more than the largest.
     pub text: Option<Bytes>,
@@ -83,7 +83,7 @@ pub enum Leaving {
     Checked(Checked),
     /// The world of two channels that a run ended with, and its first trip.
     World(World, Option<Trip>),
-    /// The world of three seats that a run ended with, and the first seat that was outvoted again behind its healing.
+    /// The world of three seats that a run ended with, and the first seat that was outvoted again after its healing.
     Votes(VoteWorld, Option<Again>),
     /// The refusal that is said.
     Refusal(Refusal),

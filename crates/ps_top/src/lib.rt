@@ -1,7 +1,7 @@
 //! The program `plcsafe`, over any files and any output.
 //!
 //! `program` has the call that does all that the program does, by the definition `text`. A command works on a `Call`:
-//! the files, the output and what is left behind (`left`), as one value. One room for each command: `checking`,
+//! the files, the output and what is left after (`left`), as one value. One room for each command: `checking`,
 //! `certifying`, `verifying`, `imaging`, `loading`, `demanding`, `running`, `voting`. `accepting` is how they come to
 //! an application; `running` has the body of all that run a trace, whoever performs its scans and takes what comes of
 //! them; `saying` writes answers.
@@ -45,6 +45,6 @@ pub enum Status {
     ReadFault,
     /// The output could not be written.
     WriteFault,
-    /// Memory is wanting.
+    /// Out of memory.
     Memory,
 }

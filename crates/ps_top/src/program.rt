@@ -22,9 +22,8 @@ use crate::saying::say;
 use crate::verifying::verify;
 use crate::voting::vote;
 use ps_base::Memory;
-use ps_command::command_of;
 use ps_outside::{Files, Sink};
-use ps_words::{Command, USAGE, Words};
+use ps_words::{Command, USAGE, Words, command_of};
 use std::alloc::Global;
 
 // Does what the words ask.
@@ -97,7 +96,7 @@ pub fn top<F: Files, S: Sink>(
         (asked.command_of words.now ≡ Vote app trace faults) ⊎ (asked.command_of words.now ≡ Heal app trace faults) →
         result ≢ Status.Tripped }
 
-    // One that was cut short appends a beginning of it, and where memory is wanting nothing.
+    // One that was cut short appends a beginning of it, and if memory runs out nothing.
     ensures stopped { IsTrue (F.tells files.old) → result ≡ Status.WriteFault →
         AppendsPart (IsAnswer (program.text words.now) (F.held files.old)) (S.tells out.old) (S.taken out.old)
         (S.taken out.new) }
@@ -113,7 +112,7 @@ pub fn top<F: Files, S: Sink>(
     // A refusal that was said is left: its line ends what an output that tells took.
     ensures refuses { LeavesRefusal left.new (output_seen S.tells S.taken S.faults out.new) result }
 
-    // Where a name that the text asks for is not held, nothing is written, and a read failed or memory is wanting.
+    // Where a name that the text asks for is not held, nothing is written, and a read failed or memory runs out.
     ensures not_held { IsTrue (F.tells files.old) → (name : List ℕ) →
         AsksFor (program.text words.now) (F.held files.old) name →
         F.held files.old name ≡ None → (result ≡ Status.ReadFault) ⊎ (result ≡ Status.Memory) }
@@ -134,12 +133,12 @@ pub fn top<F: Files, S: Sink>(
     ensures no_read_failed { result ≢ Status.ReadFault → CountsStay (F.faults files.old) (F.faults files.new) }
     ensures no_write_failed { result ≢ Status.WriteFault → S.faults out.new ≡ S.faults out.old }
 
-    // Usage comes exactly where the words are not taken, unless the output fails or memory is wanting.
+    // Usage comes exactly where the words are not taken, unless the output fails or memory runs out.
     ensures usage { result ≡ Status.Usage → asked.command_of words.now ≡ NotTaken }
     ensures not_taken { asked.command_of words.now ≡ NotTaken → (result ≡ Status.Usage) ⊎
         ((result ≡ Status.WriteFault) ⊎ (result ≡ Status.Memory)) }
 
-    // Where nothing failed the call says all, or memory is wanting.
+    // Where nothing failed the call says all, or memory runs out.
     ensures completes { IsTrue (F.tells files.old) →
         ((name : List ℕ) → AsksFor (program.text words.now) (F.held files.old) name →
         ¬ (Rose (F.faults files.old name) (F.faults files.new name))) →

@@ -40,7 +40,7 @@ pub(crate) fn say_refused<C: Call>(call: &mut C, refusal: &Refusal, status: Stat
     say(call, refusal_line(refusal).as_slice(), status)
 }
 
-// Ends a call that gets no text: its refusal is said, with this status, and left; a failed read and want of memory are
+// Ends a call that gets no text: its refusal is said, with this status, and left; a failed read and running out of memory are
 // told by the status alone.
 pub(crate) fn fail<C: Call>(call: &mut C, why: TextFail, status: Status) -> Status
     requires no_cut { ¬ IsCut status }
@@ -57,7 +57,7 @@ pub(crate) fn fail<C: Call>(call: &mut C, why: TextFail, status: Status) -> Stat
     }
 }
 
-// Ends a call whose source gives nothing by the rules: its refusal is said and left, and of want of memory the status
+// Ends a call whose source gives nothing by the rules: its refusal is said and left, and of running out of memory the status
 // tells.
 pub(crate) fn say_none<C: Call>(call: &mut C, why: Fail) -> Status
     ensures says { SaysNone why (C.seen call.old) (C.seen call.new) result }
@@ -104,7 +104,7 @@ fn write_line<C: Call>(call: &mut C, text: &[u8], from: usize, upto: usize) -> R
     call.write(&text[from..upto])
 }
 
-// The place behind the line that begins at a place: behind its line feed, or the end of the text.
+// The place after the line that begins at a place: after its line feed, or the end of the text.
 fn line_end(text: &[u8], from: usize) -> usize
     requires within { from < length text.now }
     requires begins { 0 < from → slice_index text.now (from - 1) ≡ 10 }

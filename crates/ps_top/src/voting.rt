@@ -99,7 +99,7 @@ fn run_struck<C: Call>(call: &mut C, app: &App, trace: &str, faults: &str, heals
 }
 
 // `vote APP TRACE FAULTS`: the report lines of the scans of a trace in three seats, of which the faults of a file
-// strike one, with a line behind each whose vote outvotes a seat. `heal APP TRACE FAULTS`: the same lines, where a seat
+// strike one, with a line after each whose vote outvotes a seat. `heal APP TRACE FAULTS`: the same lines, where a seat
 // that is outvoted is rebuilt from another, and faults may strike one seat after another; a fault that is reached
 // before the seat that was struck last is healed ends the run.
 pub(crate) fn vote<C: Call>(

@@ -88,7 +88,7 @@ same_faults same = ap (λ l. l.faults) same
 pub same_refusal : {Fault : Type 0} {a b : FaultList Fault} → a ≡ b → a.refusal ≡ b.refusal
 same_refusal same = ap (λ l. l.refusal) same
 
--- behind other faults
+-- after other faults
 pub same_behind : {Fault : Type 0} (front : List Fault) {a b : FaultList Fault} → a ≡ b → front ++ a.faults ≡ front ++ b.faults
 same_behind front same = ap (λ l. front ++ l.faults) same
 
@@ -100,7 +100,7 @@ pub one_more : {Fault : Type 0} (front new behind : List Fault) (fault made : Fa
 one_more front new behind fault made is same =
     sym (append_assoc front (made ∷ []) behind) ∙ same_before behind (ap (λ f. front ++ f ∷ []) (sym same) ∙ sym is)
 
--- the lines that are left are read behind this one
+-- the lines that are left are read after this one
 pub read_behind : {Who Fault : Type 0} (t : Targets Who Fault) {before other : Before Who} → other ≡ before → (number : ℕ) (lines : List cut.Line) → faults_from t before number lines ≡ faults_from t other number lines
 read_behind t same number lines = ap (λ b. faults_from t b number lines) (sym same)
 

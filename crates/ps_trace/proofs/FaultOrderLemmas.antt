@@ -56,14 +56,14 @@ module _ {Who Fault : Type 0} (t : Targets Who Fault) where
   struck_from equal before [] line is = cc
   struck_from equal before (word ∷ words) line is = formed_from equal before (fault_said t.named (word ∷ words)) line is
 
-  -- a fault line behind those up to the line before strikes no earlier than they
+  -- a fault line after those up to the line before strikes no earlier than they
   no_earlier : (before : Before Who) (first line : FaultLine Who) → IsUpTo before first → IsFrom before line → StrikesNoLater first line
   no_earlier before first line upto from = (
     omega (arith, upto.scan, from.scan),
     λ same. omega (arith, upto.turn (omega (arith, upto.scan, from.scan)), from.turn (omega (arith, upto.scan, from.scan))),
   )
 
-  -- who the first fault line strikes, with this one behind it
+  -- who the first fault line strikes, with this one after it
   first_is : (first : Option Who) (who : Who) → ((other : Who) → first ≡ Some other → other ≡ who) → first_struck first who ≡ who
   first_is None who same = refl
   first_is (Some other) who same = same other refl

@@ -1,4 +1,4 @@
--- A time and values that stand behind one blank each.
+-- A time and values that stand after one blank each.
 use Rattle.std.proofs.Common.{◌≡◌, ◌<◌, ◌≤◌, ◌+◌, ◌*◌, ◌==◌, ◌++◌, ℕ, List, [], ◌∷◌, Bool, true, false, is_some, length, map, take, drop, slice_set, slice_index, refl, sym, subst, ◌∙◌, ap, arith, length-take}
 use Rattle.std.proofs.lemmas.Grind.{common_steps}
 use Rattle.std.proofs.lemmas.Bool.{and_parts}
@@ -11,7 +11,7 @@ use Rattle.ps_trace.specs.LineSays.{word_of, is_pair, spaced, IsApart, IsNumbere
 use Rattle.ps_trace.proofs.WordLemmas.{words-blank, words-one, words-more}
 use Rattle.ps_trace.proofs.Numbers.{number_of-all, number_of-parts}
 
--- the value behind a blank is the first word
+-- the value after a blank is the first word
 pub words-value : (blank : ℕ) (value : Bool) (bytes behind : List ℕ) → is_blank blank ≡ true → bytes ≡ blank ∷ (word_of value ++ behind) → IsApart behind →
     words bytes ≡ word_of value ∷ words behind
 words-value blank false bytes behind plain is apart = ap words is ∙ words-blank blank (48 ∷ behind) plain ∙ words-one 48 behind refl apart
@@ -29,7 +29,7 @@ values-plain [] = refl
 values-plain (false ∷ values) = ap (λ (t : List Bool). false ∷ t) (values-plain values)
 values-plain (true ∷ values) = ap (λ (t : List Bool). true ∷ t) (values-plain values)
 
--- values behind one space each end no word in front of them
+-- values after one space each end no word in front of them
 pub apart-spaced : (values : List Bool) → IsApart (spaced values)
 apart-spaced [] some = absurd (omega arith)
 apart-spaced (value ∷ values) some = refl
@@ -46,7 +46,7 @@ spaced-append (value ∷ values) others =
     ap (λ (t : List ℕ). 32 ∷ (word_of value ++ t)) (spaced-append values others)
     ∙ ap (λ (t : List ℕ). 32 ∷ t) (sym (append_assoc (word_of value) (spaced values) (spaced others)))
 
--- a pair is its value behind a space
+-- a pair is its value after a space
 pair_spaced : (space digit : ℕ) → is_pair space digit ≡ true → space ∷ digit ∷ [] ≡ spaced ((digit == 49) ∷ [])
 pair_spaced space digit pair = grind (arith, common_steps)
 
@@ -89,7 +89,7 @@ fields-digits (b ∷ digits) behind some all =
     let digit : is_ascii_digit b ≡ true = first.0 in
     grind (arith, common_steps)
 
--- a line that begins with digits, with values behind them
+-- a line that begins with digits, with values after them
 pub plain-line : (line behind : List ℕ) (now : ℕ) (values : List Bool) → IsNumbered line now behind → behind ≡ spaced values → IsPlain line now values
 plain-line line behind now values numbered is =
     let apart : IsApart behind = subst IsApart (sym is) (apart-spaced values) in
@@ -102,7 +102,7 @@ plain-line line behind now values numbered is =
       number = numbered.number;
     }
 
--- the digits before a place, with the bytes behind them
+-- the digits before a place, with the bytes after them
 pub numbered-at : (bytes behind : List ℕ) (end value : ℕ) → 0 < end → end ≤ length bytes → list_all is_ascii_digit (take end bytes) ≡ true → value ≡ digits_value (take end bytes) →
     value < 4294967296 → behind ≡ drop end bytes → IsNumbered bytes value behind
 numbered-at bytes behind end value some within digits is fits rest = record {

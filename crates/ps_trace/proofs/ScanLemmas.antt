@@ -1,4 +1,4 @@
--- One line of a trace, and what is left behind it.
+-- One line of a trace, and what is left after it.
 use Rattle.std.proofs.Common.{◌≡◌, ◌≢◌, ◌<◌, ◌+◌, ℕ, List, Bool, Ok, Err, length, refl, ◌∙◌, ap, arith}
 use Rattle.std.proofs.lemmas.Grind.{common_steps}
 use Rattle.ps_base.specs.declared.failing.Rule.{Rule}
@@ -54,7 +54,7 @@ headed_fails TooLong names number rule lines rest bytes gives is = ap (header_fr
 headed_fails TooLarge names number rule lines rest bytes gives is = ap (header_from names number) gives.2 ∙ grind (arith, common_steps)
 headed_fails End names number rule lines rest bytes gives is = ap (header_from names number) gives.0 ∙ grind (arith, common_steps)
 
--- a line behind the header is skipped
+-- a line after the header is skipped
 pub scans_skip : (got : Got) (found : List ℕ) (number last feeds : ℕ) (lines rest : List cut.Line) (bytes : List ℕ) → Gives lines got bytes rest → feeds_of got ≡ Ok feeds →
     line_said (length found) last (fields bytes) ≡ skips → scans_from found number last lines ≡ scans_from found (number + feeds) last rest
 scans_skip Line found number last feeds lines rest bytes gives is says = ap (scans_from found number last) gives ∙ grind (arith, common_steps)

@@ -16,7 +16,7 @@ use Rattle.ps_trace.specs.Faults.Struck.{broken}
 use Rattle.ps_trace.specs.FaultSays.{faults_read}
 use Rattle.ps_trace.specs.declared.fault_file.TheConstants.{LARGEST_READ}
 
--- no line stands behind one that the text's end ends
+-- no line stands after one that the text's end ends
 EndsLast : List RawLine → Type 0
 EndsLast [] = Unit {0}
 EndsLast (Ended line ∷ lines) = EndsLast lines
@@ -55,7 +55,7 @@ read_near at line near =
     ap (λ (b : Bool). if b then Large else kept_of LONGEST_FAULT_LINE line) (le-ltb LARGEST_READ (at + bytes_of line) near)
 
 module _ {Who Fault : Type 0} (t : Targets Who Fault) where
-  -- a line that a rule refuses is the file's refusal, whatever stands behind it
+  -- a line that a rule refuses is the file's refusal, whatever stands after it
   refused_here : (before : Before Who) (number : ℕ) (line : Line) (rest : List Line) (rule : Rule) → struck_of t before number line ≡ broken rule →
       faults_from t before number (line ∷ rest) ≡ record { faults = []; refusal = Some (at_line rule number) }
   refused_here before number line rest rule is =
@@ -92,7 +92,7 @@ module _ {Who Fault : Type 0} (t : Targets Who Fault) where
       ∙ struck_long before number (nat_lt LARGEST_READ (at + bytes_of line)) few)
       (ap (struck_of t before number) long ∙ struck_few before number Long few)
 
-  -- a line that is kept gives the same on both sides, where the lines behind it do
+  -- a line that is kept gives the same on both sides, where the lines after it do
   both_kept : (before : Before Who) (number at : ℕ) (line : RawLine) (kept : Line) (rest others : List Line) →
       at + bytes_of line ≤ LARGEST_READ → kept_of LONGEST_FAULT_LINE line ≡ kept →
       ((next : Before Who) → faults_from t next (number_after kept number) rest ≡ faults_from t next (number_after kept number) others) →
@@ -102,7 +102,7 @@ module _ {Who Fault : Type 0} (t : Targets Who Fault) where
       ∙ ap (onto_faults t (struck_of t before number kept) number) (later (before_next (struck_of t before number kept) before))
       ∙ sym (ap (λ (l : Line). faults_from t before number (l ∷ others)) is)
 
-  -- a line that a line feed ends, behind lines of at most 600 bytes and their line feeds
+  -- a line that a line feed ends, after lines of at most 600 bytes and their line feeds
   both_ended : (before : Before Who) (number at : ℕ) (bytes : List ℕ) (rest others : List Line) → at + 601 ≤ 601 * number →
       (length bytes ≤ LONGEST_FAULT_LINE → (next : Before Who) → faults_from t next (number + 1) rest ≡ faults_from t next (number + 1) others) →
       faults_from t before number (read_line at (Ended bytes) ∷ rest) ≡ faults_from t before number (kept_of LONGEST_FAULT_LINE (Ended bytes) ∷ others)

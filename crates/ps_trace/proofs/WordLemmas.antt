@@ -19,7 +19,7 @@ words-blanks (suc n) line at within blanks =
     let same : at + 1 + n ≡ at + suc n = omega arith in
     ap words next ∙ words-blank (get_or line at 0) (drop (at + 1) line) first ∙ rest ∙ ap (λ (k : ℕ). words (drop k line)) same
 
--- a word of one byte, behind which a blank or nothing stands
+-- a word of one byte, after which a blank or nothing stands
 pub words-one : (b : ℕ) (bytes : List ℕ) → is_blank b ≡ false → (0 < length bytes → is_blank (get_or bytes 0 0) ≡ true) → words (b ∷ bytes) ≡ (b ∷ []) ∷ words bytes
 words-one b [] plain ends = grind (arith, common_steps)
 words-one b (c ∷ bytes) plain ends =

@@ -26,7 +26,7 @@ abbrev pub first_of : List (List ℕ) → List ℕ
 first_of [] = []
 first_of (word ∷ words) = word
 
--- the words behind the first
+-- the words after the first
 abbrev pub others_of : List (List ℕ) → List (List ℕ)
 others_of [] = []
 others_of (word ∷ words) = words
@@ -73,7 +73,7 @@ module _ {Who : Type 0} (named : List ℕ → Option Who) where
   target_said scan turn (who ∷ region ∷ at ∷ bytes ∷ []) = line_of_parts scan turn (named who) (region_of region) (number_of at) (bytes_said bytes)
   target_said scan turn _ = None
 
-  -- behind the scan: the word `turn` and a turn, or turn 0
+  -- after the scan: the word `turn` and a turn, or turn 0
   abbrev pub turn_said : Option ℕ → List (List ℕ) → Option (FaultLine Who)
   turn_said scan words =
       if bytes_eq (first_of words) (codes "turn") then target_said scan (above_zero (number_of (first_of (others_of words)))) (others_of (others_of words))
@@ -94,7 +94,7 @@ no_fault = record { scan = 0; turn = 0; first = None }
 abbrev pub falls : {Who : Type 0} → Before Who → (scan turn : ℕ) → Bool
 falls before scan turn = nat_lt scan before.scan || (scan == before.scan && nat_lt turn before.turn)
 
--- who the first fault line strikes, with a fault line behind
+-- who the first fault line strikes, with a fault line after
 abbrev pub first_struck : {Who : Type 0} → Option Who → Who → Who
 first_struck None who = who
 first_struck (Some first) who = first
@@ -121,7 +121,7 @@ pub record FaultList (Fault : Type 0) : Type 0 where
   pub refusal : Option Refusal
 
 module _ {Who Fault : Type 0} (t : Targets Who Fault) where
-  -- a fault line behind others
+  -- a fault line after others
   abbrev pub fault_judged : Before Who → FaultLine Who → Struck Who
   fault_judged before line =
       if falls before line.scan line.turn then broken F2

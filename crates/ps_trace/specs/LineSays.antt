@@ -18,7 +18,7 @@ abbrev pub word_of : Bool → List ℕ
 word_of false = 48 ∷ []
 word_of true = 49 ∷ []
 
--- these values, each behind one space
+-- these values, each after one space
 abbrev pub spaced : List Bool → List ℕ
 spaced [] = []
 spaced (value ∷ values) = 32 ∷ (word_of value ++ spaced values)
@@ -27,7 +27,7 @@ spaced (value ∷ values) = 32 ∷ (word_of value ++ spaced values)
 abbrev pub is_pair : (space value : ℕ) → Bool
 is_pair space value = space == 32 && (value == 48 || value == 49)
 
--- the first bytes are as many of these values, each behind one space
+-- the first bytes are as many of these values, each after one space
 abbrev pub IsSpacedTo : List ℕ → ℕ → List Bool → Type 0
 IsSpacedTo bytes count values = take (2 * count) bytes ≡ spaced (take count values)
 
@@ -41,7 +41,7 @@ pub record IsNumbered (bytes : List ℕ) (value : ℕ) (behind : List ℕ) : Typ
   pub whole : bytes ≡ digits ++ behind
   pub number : number_of digits ≡ Some value
 
--- a line with this time, and with these values behind it
+-- a line with this time, and with these values after it
 pub record IsPlain (line : List ℕ) (now : ℕ) (values : List Bool) : Type 0 where
   pub time : List ℕ
   pub whole : fields line ≡ time ∷ map word_of values

@@ -40,7 +40,7 @@ IsReadingTrace reader text = IsReading reader.lines text
 abbrev pub only_refused : Refusal → Scans
 only_refused refusal = record { items = []; end = refused refusal }
 
--- what is left behind a refusal, if there is one, or else these items
+-- what is left after a refusal, if there is one, or else these items
 abbrev pub unless_refused : Option Refusal → Scans → Scans
 unless_refused (Some refusal) items = only_refused refusal
 unless_refused None items = items
@@ -82,7 +82,7 @@ abbrev pub IsHeaded : Headed → Type 0
 IsHeaded (begins places number lines) = Unit {0}
 IsHeaded (fails refusal) = ⊥
 
--- the trace was read: an answer that neither a failed read nor want of memory gives
+-- the trace was read: an answer that neither a failed read nor running out of memory gives
 abbrev pub IsRead : {A : Type 0} → Result A TextFail → Type 0
 IsRead (Ok value) = Unit {0}
 IsRead (Err NoMemory) = ⊥

@@ -29,7 +29,7 @@ pub record Scans : Type 0 where
 abbrev pub at_line : Rule → ℕ → Refusal
 at_line rule number = record { rule = rule; place = record { line = number; column = 0 } }
 
--- the number of the line behind one: a line's number is one more than the line feeds before it
+-- the number of the line after one: a line's number is one more than the line feeds before it
 abbrev pub number_after : Line → ℕ → ℕ
 number_after (Kept line) number = number + 1
 number_after _ number = number
@@ -41,7 +41,7 @@ said_of names last (KeptLast line) = line_said names last (fields line)
 said_of names last Long = breaks T8
 said_of names last Large = breaks T9
 
--- the time of the last scan, behind a line
+-- the time of the last scan, after a line
 abbrev pub last_after : Said → ℕ → ℕ
 last_after (scans now values) last = now
 last_after _ last = last
@@ -68,7 +68,7 @@ scans_from found number last (line ∷ lines) =
     onto_scans found (said_of (length found) last line) number
     (scans_from found (number_after line number) (last_after (said_of (length found) last line) last) lines)
 
--- Where a trace's header ends: the places of the inputs' values, with the lines behind it and the number of the first;
+-- Where a trace's header ends: the places of the inputs' values, with the lines after it and the number of the first;
 -- or the refusal.
 pub data Headed : Type 0 where
   begins : List ℕ → ℕ → List Line → Headed
@@ -93,7 +93,7 @@ header_from names number [] = fails (at_line T1 number)
 header_from names number (line ∷ lines) =
     onto_headed (header_of names line) number (number_after line number) lines (header_from names (number_after line number) lines)
 
--- the scans and restarts behind a header
+-- the scans and restarts after a header
 abbrev pub scans_behind : Headed → Scans
 scans_behind (begins found number lines) = scans_from found number 0 lines
 scans_behind (fails refusal) = record { items = []; end = refused refusal }

@@ -22,7 +22,7 @@ use ps_outside::Files;
 use std::alloc::Global;
 
 // The bytes of as many lines as a fault file may have, of the longest length and with their line feeds. The line that
-// has a byte behind them is refused in any case: it is line 1,001, or too long, or one before it was.
+// has a byte after them is refused in any case: it is line 1,001, or too long, or one before it was.
 const LARGEST_READ: u32 = MOST_FAULT_LINES * (LONGEST_FAULT_LINE + 1);
 
 const LIMITS: Limits = Limits {
@@ -49,7 +49,7 @@ pub(crate) enum FaultSays<W> {
 /// The faults of a fault file, in its order, which is the order in which they strike. Where `one_alone` is asked all
 /// strike one alone.
 ///
-/// A line is `before <scan> <who> <code|memory> <offset> <bytes>`, or has `turn <turn>` behind the scan. The first
+/// A line is `before <scan> <who> <code|memory> <offset> <bytes>`, or has `turn <turn>` after the scan. The first
 /// refused line decides: it is line 1,001 (F5); it has over 600 bytes or not this form (F1); its scan or turn is less
 /// than an earlier line's (F2); it passes the region's end (F3); where `one_alone` is asked, it strikes another one
 /// than the first fault (F4). `Fault` comes only where the files' count of the name rose in this call; every other
@@ -110,7 +110,7 @@ pub fn read_faults_of<W: Target, F: Files>(
     }
 }
 
-// What a line says behind others.
+// What a line says after others.
 fn read_line<W: Target>(
     alloc: Global,
     line: &[u8],
@@ -132,7 +132,7 @@ fn read_line<W: Target>(
     }
 }
 
-// The rule that refuses a fault line behind others.
+// The rule that refuses a fault line after others.
 fn judge<W: Target>(
     sizes: &W::Sizes,
     one_alone: bool,
@@ -171,7 +171,7 @@ fn is_other<W: Target>(first: Option<W>, who: W) -> bool
     }
 }
 
-// What stands before the line behind a fault line.
+// What stands before the line after a fault line.
 fn behind<W: Target>(before: Before<W>, line: &FaultLine<W>) -> Before<W>
     ensures { result ≡ before_next (strikes line.now) before }
 {

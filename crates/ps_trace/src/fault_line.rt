@@ -87,7 +87,7 @@ fn fault_line<W: Target>(
     })
 }
 
-// The next word of a line, empty where there is none, and the place behind it.
+// The next word of a line, empty where there is none, and the place after it.
 fn take_word(line: &[u8], at: usize) -> (&[u8], usize)
     requires { at ≤ length line.now }
     ensures within { result.1 ≤ length line.now }

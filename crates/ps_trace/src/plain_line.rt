@@ -1,4 +1,4 @@
-// The lines of a trace as most of them are: a time where the line begins, and behind it values that stand behind one
+// The lines of a trace as most of them are: a time where the line begins, and after it values that stand after one
 // space each.
 
 ghost use Rattle.std.specs.Prelude.{◌≡◌, ◌≤◌, ◌<◌, ◌+◌, ◌*◌, ◌==◌, IsTrue, length, slice_index, IfSome};
@@ -19,7 +19,7 @@ pub(crate) fn read_plain(line: &[u8], values: &mut [bool]) -> Option<u32>
     }
 }
 
-// The number that the digits are with which the bytes begin, at most nine of them, and the bytes behind these. None:
+// The number that the digits are with which the bytes begin, at most nine of them, and the bytes after these. None:
 // the bytes begin with no digit. Where there are nine bytes, their count is a constant.
 fn leading_number(bytes: &[u8]) -> Option<(u32, &[u8])>
     ensures { IfSome result (λ found. IsNumbered bytes.now found.0 found.1.now) }
@@ -51,7 +51,7 @@ fn number_within(bytes: &[u8], most: usize) -> Option<(u32, &[u8])>
     Some((value, &bytes[end..]))
 }
 
-// Reads values, one for each place, each behind one space, and nothing else. False: the bytes have another form.
+// Reads values, one for each place, each after one space, and nothing else. False: the bytes have another form.
 fn plain_values(bytes: &[u8], values: &mut [bool]) -> bool
     ensures { IsTrue result → bytes.now ≡ spaced values.new }
 {

@@ -23,7 +23,7 @@ pub enum LineSays {
     Broken(Rule),
 }
 
-// The words behind a scan's time: how many there are, and whether each is a value.
+// The words after a scan's time: how many there are, and whether each is a value.
 #[derive(Clone, Copy)]
 struct Values {
     count: usize,
@@ -77,7 +77,7 @@ fn judge_time(time: Option<u32>, last: u32) -> LineSays
     }
 }
 
-// Whether a first word with so many words behind it is `restart` alone.
+// Whether a first word with so many words after it is `restart` alone.
 fn is_restart(word: &[u8], others: usize) -> bool
     ensures { (words : List (List ℕ)) → length words ≡ others → result ≡ is_restart word.now words }
 {

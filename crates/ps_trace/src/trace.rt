@@ -49,7 +49,7 @@ pub enum Next {
     End,
 }
 
-/// A reader of the trace of an application, behind its header. All memory that it uses is taken by `start`.
+/// A reader of the trace of an application, after its header. All memory that it uses is taken by `start`.
 pub struct TraceReader {
     lines: LineReader,
     // for each input the place of its value on a scan line, and the values of a line
@@ -87,7 +87,7 @@ impl Drop for TraceReader {
 impl TraceReader {
     ghost use Rattle.ps_trace.specs.Reading.{IsReadingTrace, IsHeaded, IsRead, Comes, Fills, GoesOn, file_of, input_count_of, items_left, last_of, refusal_of, only_refused};
 
-    /// A reader of the trace of this name, behind its header.
+    /// A reader of the trace of this name, after its header.
     ///
     /// It takes all memory that the reader will use, among it a piece of 4,096 bytes and one line of 65,536 bytes.
     /// `Refused` comes exactly where the header is refused, or a line before it, or there is no header (T1, at the

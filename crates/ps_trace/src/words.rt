@@ -14,7 +14,7 @@ pub fn next_word(line: &[u8], at: usize) -> Option<(usize, usize)>
     ensures found { IfSome result (λ word. IsNextWord line.now at word.0 word.1) }
     ensures none { IfNone result (AreBlank line.now at) }
 
-    // The words that are left are this one and those behind it.
+    // The words that are left are this one and those after it.
     ensures first { IfSome result (λ word. words (drop at line.now) ≡ take (word.1 - word.0) (drop word.0 line.now) ∷ words (drop word.1 line.now)) }
     ensures no_words { IfNone result (words (drop at line.now) ≡ []) }
 {

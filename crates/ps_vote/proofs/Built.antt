@@ -9,7 +9,7 @@ use Rattle.ps_model.specs.Sound.{IsSound}
 use Rattle.ps_machine.specs.Keeping.{Keeps}
 use Rattle.ps_machine.specs.Machines.{Machine}
 use Rattle.ps_machine.proofs.Reports.{report_in_sized}
-use Rattle.ps_seat.specs.Outcomes.{GivesSized}
+use Rattle.ps_machine.specs.Outcomes.{GivesSized}
 use Rattle.ps_stackvm.specs.Channel.{machine_a}
 use Rattle.ps_stackvm.specs.Code.{code_a}
 use Rattle.ps_stackvm.specs.Stands.{StandsA}

@@ -2,9 +2,9 @@
 use Rattle.std.proofs.Common.{◌≡◌, ◌∙◌, ℕ, Bool, List, [], Option, None, sym, ap, subst, arith}
 use Rattle.ps_machine.specs.Machines.{machine_of, turned}
 use Rattle.ps_machine.specs.Channels.{after_turn}
-use Rattle.ps_seat.specs.Seats.{Seat_state, Finishes}
-use Rattle.ps_seat.proofs.Turning.{finished_seat, each_turn_goes, last_turn_ends}
-use Rattle.ps_seat.proofs.Left.{HasLeft, left_within}
+use Rattle.ps_machine.specs.Seats.{Seat_state, Finishes}
+use Rattle.ps_machine.proofs.Turning.{finished_seat, each_turn_goes, last_turn_ends}
+use Rattle.ps_machine.proofs.Left.{HasLeft, left_within}
 use Rattle.ps_stackvm.specs.Channel.{workings_a}
 use Rattle.ps_eqvm.specs.Channel.{workings_b}
 use Rattle.ps_decision.specs.Channel.{workings_c}

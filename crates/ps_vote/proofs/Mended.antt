@@ -5,7 +5,7 @@ use Rattle.ps_model.specs.Scanning.{State}
 use Rattle.ps_model.specs.Meaning.{Past, nothing, Meaning, Runs}
 use Rattle.ps_model.specs.PastAfter.{past_after}
 use Rattle.ps_machine.specs.Keeping.{Keeps}
-use Rattle.ps_seat.specs.Outcomes.{GivesSized}
+use Rattle.ps_machine.specs.Outcomes.{GivesSized}
 use Rattle.ps_vote.specs.declared.seat.Seat.{Seat}
 use Rattle.ps_vote.specs.declared.seat.Vote.TheVariants.{All, Two, Split}
 use Rattle.ps_vote.specs.Worlds.{Machines, World_state, Event, Begin, Turn, Spoil, TakeVote, Restart, Heal, is_same, machine, channel, source, rebuilt, mark, world_0}

@@ -3,7 +3,7 @@ use Rattle.std.proofs.Common.{◌≡◌, ℕ, zero, suc, ◌+◌, ◌≤◌, Boo
 use Rattle.std.proofs.lemmas.Bool.{cases_Bool, false≢true}
 use Rattle.ps_machine.specs.Machines.{turned}
 use Rattle.ps_machine.specs.Channels.{after_turn, ended}
-use Rattle.ps_seat.proofs.Left.{HasLeft, one_less}
+use Rattle.ps_machine.proofs.Left.{HasLeft, one_less}
 use Rattle.ps_vote.specs.declared.seat.Seat.{Seat}
 use Rattle.ps_vote.specs.declared.seat.Seat.TheVariants.{A, B, C}
 use Rattle.ps_vote.specs.Worlds.{Machines, World_state, Turn, machine, channel}
@@ -30,7 +30,7 @@ pub record LeadsTo (m : Machines) (p : Path) (x y : World_state) : Type 0 where
   pub goes : p.refused ≡ None
 
 module _ (heals : Bool) (m : Machines) where
-  -- what the turns behind one of this seat lead to
+  -- what the turns after one of this seat lead to
   abbrev Behind : (left done : ℕ) → Seat → (x y : World_state) → Type 0
   Behind left done o x y = LeadsTo m (turns heals m [] left (done + 1) (Some o) (world_step m (Turn o) x)) (world_step m (Turn o) x) y
 

@@ -6,7 +6,7 @@ use Rattle.std.proofs.lemmas.Bool.{cases_Bool, false≢true}
 use Rattle.ps_model.specs.declared.channel.Region.{Region}
 use Rattle.ps_model.specs.Meaning.{Item, scan}
 use Rattle.ps_machine.specs.Channels.{after_turn, after_strike, ended}
-use Rattle.ps_seat.proofs.Left.{spent, same_turns, turns_are_left}
+use Rattle.ps_machine.proofs.Left.{spent, same_turns, turns_are_left}
 use Rattle.ps_vote.specs.declared.faults.VoteFault.{VoteFault}
 use Rattle.ps_vote.specs.declared.seat.Seat.{Seat}
 use Rattle.ps_vote.specs.declared.seat.Seat.TheVariants.{A, B, C}
@@ -390,7 +390,7 @@ module _ (heals : Bool) (m : Machines) (n : ℕ) (faults : List VoteFault) where
       begins p.refused p.events (turns heals m faults (most_turns m) 0 None y) now ins x early (turn_spoils_reach heals m n faults 0 x)
       (turns_come (most_turns m) 0 None y refl (no_turns y (begun_none now ins (after m p.events x))) (omega arith))
 
--- ---- Behind the vote.
+-- ---- After the vote.
 
 module _ (m : Machines) where
   pub rest_behind : (healing : Bool) (x : World_state) → (after m (closing healing m x) x).begun ≡ false

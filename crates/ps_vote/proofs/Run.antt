@@ -5,8 +5,8 @@ use Rattle.ps_model.specs.Scanning.{State, Solves}
 use Rattle.ps_model.specs.Meaning.{Item, scan, restart, Past, nothing, last, old_state, passed, Runs, report}
 use Rattle.ps_model.specs.PastAfter.{past_after}
 use Rattle.ps_machine.specs.Keeping.{Keeps}
-use Rattle.ps_seat.specs.Items.{AreTimely}
-use Rattle.ps_seat.specs.Outcomes.{GivesSized}
+use Rattle.ps_machine.specs.Items.{AreTimely}
+use Rattle.ps_machine.specs.Outcomes.{GivesSized}
 use Rattle.ps_trace.specs.FaultOrder.{StrikeOne}
 use Rattle.ps_vote.specs.declared.faults.VoteFault.{VoteFault}
 use Rattle.ps_vote.specs.declared.seat.Seat.{Seat}
@@ -77,7 +77,7 @@ module _ (net : Network) (m : Machines) (Stands : Seat → State → ℕ → Lis
         given = r.is_given;
       }
 
-  -- behind it the seats stand for the meaning still
+  -- after it the seats stand for the meaning still
   closing_sound : (healing : Bool) (x : World_state) (past : Past) → StandsFor x past → May m (input_count net) TakeVote x → StandsFor (after m (closing healing m x) x) past
   closing_sound healing x past h may = by healing (vote m x) refl
     where
@@ -95,7 +95,7 @@ module _ (net : Network) (m : Machines) (Stands : Seat → State → ℕ → Lis
 
   -- ---- One scan.
 
-  -- The world behind a scan that was closed: its vote was right, the seats stand for the meaning, and the next item may come.
+  -- The world after a scan that was closed: its vote was right, the seats stand for the meaning, and the next item may come.
   pub record Closes (heal : Bool) (due : List VoteFault) (now : ℕ) (ins : List Bool) (x : World_state) (w : State) : Type 0 where
     pub right : VotesRight (at_vote heal m due now ins x) w
     pub stands : StandsFor (after m (path_of_scan heal m due now ins x).events x) (last now w)

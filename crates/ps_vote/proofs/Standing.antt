@@ -13,7 +13,7 @@ use Rattle.ps_machine.specs.Keeping.{Keeps}
 use Rattle.ps_machine.specs.Channels.{after_turn, after_strike, new_channel, remade, ended}
 use Rattle.ps_machine.specs.Phases.{AtRest, Midway, Phase}
 use Rattle.ps_machine.proofs.Phases.{begins_midway, turn_goes_on, scan_over, closes_at_rest, restarts_at_rest, remade_at_rest}
-use Rattle.ps_seat.specs.Outcomes.{outcome_by, GivesSized}
+use Rattle.ps_machine.specs.Outcomes.{outcome_by, GivesSized}
 use Rattle.ps_vote.specs.declared.seat.Seat.{Seat}
 use Rattle.ps_vote.specs.declared.seat.Seat.TheVariants.{A, B, C}
 use Rattle.ps_vote.specs.declared.seat.Vote.{Vote}

@@ -12,11 +12,11 @@ module _ (heals : Bool) (m : Machines) (faults : List VoteFault) (left done : �
   abbrev pub next_spoils : Path
   next_spoils = spoils heals m (of_turn (done + 1) faults) x
 
-  -- the world behind them
+  -- the world after them
   abbrev pub struck : World_state
   struck = after m next_spoils.events x
 
-  -- the turn of this seat in a world, and those behind it
+  -- the turn of this seat in a world, and those after it
   abbrev pub turn_of : World_state → Seat → Path
   turn_of y o = first (Turn o) (turns heals m faults left (done + 1) (Some o) (world_step m (Turn o) y))
 

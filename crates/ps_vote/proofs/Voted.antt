@@ -5,8 +5,8 @@ use Rattle.ps_model.specs.declared.report.Report.{Report}
 use Rattle.ps_model.specs.Fields.{first_difference}
 use Rattle.ps_model.proofs.FieldPlaces.{equal_from_no_difference, no_difference_from_equal}
 use Rattle.ps_machine.specs.Machines.{Machine}
-use Rattle.ps_seat.specs.Outcomes.{Outcome, gives, lacks, GivesSized}
-use Rattle.ps_seat.proofs.Sized.{outcome_sized}
+use Rattle.ps_machine.specs.Outcomes.{Outcome, gives, lacks, GivesSized}
+use Rattle.ps_machine.proofs.Sized.{outcome_sized}
 use Rattle.ps_vote.specs.declared.seat.Seat.{Seat}
 use Rattle.ps_vote.specs.declared.seat.Seat.TheVariants.{A, B, C}
 use Rattle.ps_vote.specs.declared.seat.Vote.{Vote}

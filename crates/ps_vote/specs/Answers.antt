@@ -5,7 +5,7 @@ use Rattle.ps_model.specs.Network.{Network, input_count, instance_count}
 use Rattle.ps_model.specs.Scanning.{State}
 use Rattle.ps_model.specs.Meaning.{Item, Meaning, report}
 use Rattle.ps_trace.specs.FaultOrder.{StrikeOne}
-use Rattle.ps_seat.specs.Items.{AreTimely}
+use Rattle.ps_machine.specs.Items.{AreTimely}
 use Rattle.ps_vote.specs.declared.faults.VoteFault.{VoteFault}
 use Rattle.ps_vote.specs.declared.seat.Vote.{Vote}
 use Rattle.ps_vote.specs.declared.seat.Vote.TheVariants.{Split}

@@ -39,16 +39,16 @@ pub record Path : Type 0 where
 abbrev pub no_more : Path
 no_more = record { events = []; refused = None }
 
--- an event, and a path behind it
+-- an event, and a path after it
 abbrev pub first : Event → Path → Path
 first e p = record { events = e ∷ p.events; refused = p.refused }
 
--- these events, and a path behind them unless they end at a fault
+-- these events, and a path after them unless they end at a fault
 abbrev pub unless_refused : Option VoteFault → List Event → Path → Path
 unless_refused None es later = record { events = es ++ later.events; refused = later.refused }
 unless_refused (Some f) es later = record { events = es; refused = Some f }
 
--- a path from this world, and behind it the one from the world to which it leads, unless it ends at a fault
+-- a path from this world, and after it the one from the world to which it leads, unless it ends at a fault
 abbrev pub followed : Machines → World_state → Path → (World_state → Path) → Path
 followed m x p later = unless_refused p.refused p.events (later (after m p.events x))
 
@@ -107,7 +107,7 @@ path_to_vote heals m faults now ins x = followed m x (spoils heals m (of_turn 0 
 abbrev pub at_vote : (heals : Bool) → Machines → List VoteFault → (now : ℕ) (ins : List Bool) → World_state → World_state
 at_vote heals m faults now ins x = after m (path_to_vote heals m faults now ins x).events x
 
--- what comes behind a vote: a run that heals heals the seat that it outvotes
+-- what comes after a vote: a run that heals heals the seat that it outvotes
 abbrev pub behind_vote : (heals : Bool) → Vote → List Event
 behind_vote heals All = []
 behind_vote heals (Two seat) = if heals then Heal seat ∷ [] else []
@@ -142,11 +142,11 @@ pub record Course : Type 0 where
   pub events : List Event
   pub refused : Option VoteFault
 
--- a restart, and what comes behind it
+-- a restart, and what comes after it
 abbrev pub restarted : Course → Course
 restarted later = record { votes = later.votes; done = restart ∷ later.done; events = Restart ∷ later.events; refused = later.refused }
 
--- a scan with these events and this world at its vote, and what comes behind it; one that ends at a fault ends the run
+-- a scan with these events and this world at its vote, and what comes after it; one that ends at a fault ends the run
 abbrev pub scanned : Option VoteFault → (item : Item) → (es : List Event) → (at : World_state) → Course → Course
 scanned None item es at later = record { votes = at ∷ later.votes; done = item ∷ later.done; events = es ++ later.events; refused = later.refused }
 scanned (Some f) item es at later = record { votes = []; done = []; events = es; refused = Some f }

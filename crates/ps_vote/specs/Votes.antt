@@ -3,7 +3,7 @@ use Rattle.std.specs.Prelude.{◌≡◌, ℕ, length, List, Bool, true, false, i
 use Rattle.ps_model.specs.declared.report.Report.{Report}
 use Rattle.ps_model.specs.Fields.{first_difference, blank_report}
 use Rattle.ps_machine.specs.Machines.{Machine}
-use Rattle.ps_seat.specs.Outcomes.{Outcome, gives, lacks, outcome}
+use Rattle.ps_machine.specs.Outcomes.{Outcome, gives, lacks, outcome}
 use Rattle.ps_vote.specs.declared.seat.Seat.{Seat}
 use Rattle.ps_vote.specs.declared.seat.Seat.TheVariants.{A, B, C}
 use Rattle.ps_vote.specs.declared.seat.Vote.{Vote}

@@ -87,7 +87,7 @@ impl Target for Seat {
 
 /// The faults of a fault file of `vote`, in its order, which is the order in which they strike. All strike one seat.
 ///
-/// A line is `before <scan> <A|B|C> <code|memory> <offset> <bytes>`, or has `turn <turn>` behind the scan. The first
+/// A line is `before <scan> <A|B|C> <code|memory> <offset> <bytes>`, or has `turn <turn>` after the scan. The first
 /// refused line decides: it is line 1,001 (F5); it has over 600 bytes or not this form (F1); its scan or turn is less
 /// than an earlier line's (F2); it passes the region's end (F3); its seat is not that of the first fault (F4). `Fault`
 /// comes only where the files' count of the name rose in this call; every other answer leaves the counts as they were.

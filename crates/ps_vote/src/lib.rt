@@ -2,7 +2,7 @@
 //! of two out of three, and seats that are rebuilt from another.
 //!
 //! - `seat`: the seats, what a vote answers, and which seats are dirty.
-//! - `world`: `VoteWorld`, three seats of `ps_seat`. Each call that changes it is its event of `world_step`.
+//! - `world`: `VoteWorld`, three seats of `ps_machine`. Each call that changes it is its event of `world_step`.
 //! - `scans`: `VoteWorld::make_scan`, the events of one scan in the order of the commands `vote` and `heal`.
 //! - `faults`, `fault_file`: the faults that strike seats, and their files.
 //! - `limits`: the limits of an application's instances, by which a seat is rebuilt from another.

@@ -44,7 +44,7 @@ impl VoteWorld {
         Ok(self.close_scan(heals, into))
     }
 
-    // The vote of a scan, and behind it, where it heals, the Heal of a seat that is outvoted.
+    // The vote of a scan, and after it, where it heals, the Heal of a seat that is outvoted.
     fn close_scan(&mut self, heals: bool, into: &mut Report) -> Vote
         requires begun { self.old.state.begun ≡ true }
         requires over { all_ended (machines_in self.old.setup) self.old.state ≡ true }

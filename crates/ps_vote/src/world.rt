@@ -4,7 +4,7 @@ ghost use Rattle.std.specs.Prelude.{◌≡◌, ◌≤◌, ◌<◌, ◌^◌, ◌&
 ghost use Rattle.std.specs.Prelude.{IfOk, None, Some, [], ◌∷◌};
 ghost use Rattle.ps_model.specs.Typing.{Accepted};
 ghost use Rattle.ps_machine.specs.Channels.{ended};
-ghost use Rattle.ps_seat.specs.Seats.{machine_in, new_seat};
+ghost use Rattle.ps_machine.specs.Seats.{machine_in, new_seat};
 ghost use Rattle.ps_vote.specs.Worlds.{machine, channel, mark, is_another_dirty};
 ghost use Rattle.ps_vote.specs.Orders.{turns, most_turns};
 ghost use Rattle.ps_vote.specs.Worlds.Event.{Begin, Turn, Spoil, TakeVote, Restart, Heal};
@@ -39,9 +39,9 @@ use std::marker::Model;
 /// three. A seat that was outvoted takes part again, and can be rebuilt from another. Contracts see it as a `Whole`.
 /// Only `build` takes memory.
 pub struct VoteWorld {
-    a: ps_seat::Seat<StackChannel>,
-    b: ps_seat::Seat<EquationChannel>,
-    c: ps_seat::Seat<DecisionChannel>,
+    a: ps_machine::Seat<StackChannel>,
+    b: ps_machine::Seat<EquationChannel>,
+    c: ps_machine::Seat<DecisionChannel>,
     limits: Vec<u32>,
     dirty: DirtySeats,
     last: u32,
@@ -103,7 +103,7 @@ impl Model for VoteWorld {
 
 // Writes the report of a seat that has ended into one of the application's sizes, which is made blank before, so that
 // nothing of an earlier scan takes part in a vote; false where it has none.
-fn report_into<C: ScanMachine>(seat: &ps_seat::Seat<C>, into: &mut Report) -> bool
+fn report_into<C: ScanMachine>(seat: &ps_machine::Seat<C>, into: &mut Report) -> bool
     requires outs { length into.old.outs ≡ seat.now.sizes.outputs }
     requires diags { length into.old.diags ≡ seat.now.sizes.instances }
     ensures report { report_in (machine_in C.workings seat.now) seat.now.channel.cells ≡ shown result into.new }
@@ -152,11 +152,11 @@ fn stack_seat(
     alloc: Global,
     app: &App,
     sizes: &Sizes,
-) -> Result<ps_seat::Seat<StackChannel>, Memory>
+) -> Result<ps_machine::Seat<StackChannel>, Memory>
     requires { Accepted app.now }
     ensures { IfOk result (λ seat. seat ≡ new_seat workings_a sizes.now (code_a app.now) (turns_a app.now)) }
 {
-    ps_seat::Seat::build(alloc, stack_image(alloc, app)?, sizes, app.turns_a())
+    ps_machine::Seat::build(alloc, stack_image(alloc, app)?, sizes, app.turns_a())
 }
 
 // Seat B of an application of these sizes, with its equation code. They are counted for it anew: it does not take those
@@ -165,7 +165,7 @@ fn equation_seat(
     alloc: Global,
     app: &App,
     sizes: &Sizes,
-) -> Result<ps_seat::Seat<EquationChannel>, Memory>
+) -> Result<ps_machine::Seat<EquationChannel>, Memory>
     requires accepted { Accepted app.now }
     requires sizes { AreSizesOf app.now sizes.now }
     ensures { IfOk result (λ seat. seat ≡ new_seat workings_b sizes.now (code_b app.now) (turns_b app.now)) }
@@ -173,7 +173,7 @@ fn equation_seat(
     let own_sizes = equation_sizes(alloc, app)?;
     let image = equation_image(alloc, app)?;
     let budget = app.turns_b();
-    ps_seat::Seat::build(alloc, image, &own_sizes, budget)
+    ps_machine::Seat::build(alloc, image, &own_sizes, budget)
 }
 
 // Seat C of an application, with its decision code.
@@ -181,11 +181,11 @@ fn decision_seat(
     alloc: Global,
     app: &App,
     sizes: &Sizes,
-) -> Result<ps_seat::Seat<DecisionChannel>, Memory>
+) -> Result<ps_machine::Seat<DecisionChannel>, Memory>
     requires { Accepted app.now }
     ensures { IfOk result (λ seat. seat ≡ new_seat workings_c sizes.now (code_c app.now) (turns_c app.now)) }
 {
-    ps_seat::Seat::build(alloc, decision_image(alloc, app)?, sizes, turns_c(app))
+    ps_machine::Seat::build(alloc, decision_image(alloc, app)?, sizes, turns_c(app))
 }
 
 // Room for the reports of channels B and C, and for the bytes of the signals and instances of a seat that is rebuilt.

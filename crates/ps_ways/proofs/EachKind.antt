@@ -1,4 +1,4 @@
--- The ways of each kind are those of its table: in each state, in the order of the table, behind Idle.
+-- The ways of each kind are those of its table: in each state, in the order of the table, after Idle.
 use Rattle.std.proofs.Common.{◌≡◌, ◌∙◌, ℕ, true, cond, refl, ap, ◌&&◌, ◌||◌, not}
 use Rattle.std.specs.Prelude.{◌==◌, nat_le}
 use Rattle.ps_model.specs.Blocks.{block}

@@ -2,6 +2,9 @@
 pub mod Choices
 pub mod Agreeing
 pub mod EachKind
--- of the marks of a step, and of pins in a number
+-- the marks of a step, and pins in a number
 mod Marking
 pub mod Pins
+-- the words of conditions and of states
+mod Wording
+pub mod StateWording

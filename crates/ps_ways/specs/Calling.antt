@@ -6,7 +6,7 @@ use Rattle.ps_model.specs.Network.{Network, kind_at}
 use Rattle.ps_model.specs.Scanning.{State, block_in, limit_of, pins_under, read_at}
 use Rattle.ps_model.specs.Table.{Conditions}
 
--- a scan: the state before it, the ms that passed since the scan before, and the state behind it
+-- a scan: the state before it, the ms that passed since the scan before, and the state after it
 module _ (net : Network) (old : State) (since : ℕ) (new : State) where
   -- the pins of an instance as the call of step k reads them
   abbrev pub pins_read : (k i : ℕ) → List Actual → ℕ → Bool

@@ -40,18 +40,18 @@ pub(crate) static ENABLE_SWITCH: [Way; 35] = [
     // C010 not in position 1 at the start
     way!(0xC010, 1, 0x8004, Not(ACTIVE)),
     way!(0xC010, 2, 0xC020, Not(CH1), Is(CH2)),
-    // C020 position 1 behind C010
+    // C020 position 1 after C010
     way!(0xC020, 1, 0x8004, Not(ACTIVE)),
     way!(0xC020, 2, 0xC010, Is(CH1)),
     way!(0xC020, 2, 0xC010, Not(CH2)),
     way!(0xC020, 3, 0xC001, Is(HELD)),
     way!(0xC020, 4, 0x8006, Is(AUTO)),
     way!(0xC020, 4, 0x8006, Is(EDGE)),
-    // C030 position 2 behind position 3
+    // C030 position 2 after position 3
     way!(0xC030, 1, 0x8004, Not(ACTIVE)),
     way!(0xC030, 2, 0xC040, Not(CH1)),
     way!(0xC030, 2, 0xC040, Not(CH2)),
-    // C040 position 2 left behind C030
+    // C040 position 2 left after C030
     way!(0xC040, 1, 0x8004, Not(ACTIVE)),
     way!(0xC040, 2, 0xC030, Is(CH1), Is(CH2)),
     way!(0xC040, 3, 0xC002, Is(HELD)),

@@ -14,7 +14,7 @@ use crate::table::guard_taken;
 use ps_model::Kind;
 use ps_rows::CountedBlock;
 
-/// A block behind a step of it.
+/// A block after a step of it.
 #[derive(Clone, Copy)]
 pub struct Moved {
     /// The DiagCode of the state before the step.

@@ -7,7 +7,7 @@ use crate::table::ways;
 use crate::way::Way;
 use ps_model::Kind;
 
-/// A step of a block: its state before, the number of the guard by which it leaves it, or 0, and its state behind.
+/// A step of a block: its state before, the number of the guard by which it leaves it, or 0, and its state after.
 #[derive(Clone, Copy)]
 pub struct Taken {
     /// The kind of the block.
@@ -16,7 +16,7 @@ pub struct Taken {
     pub from: u16,
     /// The number of the guard, from 1 on; 0 where none is taken.
     pub number: u8,
-    /// The DiagCode of its state behind.
+    /// The DiagCode of its state after.
     pub to: u16,
 }
 
@@ -35,7 +35,7 @@ impl Taken {
         way.state == self.to
     }
 
-    /// Whether the step makes a mark: for each way of the kind, in order, that it is taken, and behind these, for each
+    /// Whether the step makes a mark: for each way of the kind, in order, that it is taken, and after these, for each
     /// way, that the state that it leaves is entered.
     pub fn makes(&self, mark: usize) -> bool
         ensures { result ≡ made self.now.kind self.now.from self.now.number self.now.to mark }

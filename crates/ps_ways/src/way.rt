@@ -32,7 +32,7 @@ pub enum Ask {
 /// A part of a guard: that something holds, or that it does not.
 #[derive(Clone, Copy)]
 pub enum Literal {
-    /// Nothing is asked here, nor behind it.
+    /// Nothing is asked here, nor after it.
     Any,
     /// It holds.
     Is(Ask),
@@ -44,7 +44,7 @@ pub enum Literal {
 pub(crate) const ANY: Literal = Literal::Any;
 
 /// A way from a state to the next: all of its literals hold. A guard has one such way, or one for each of its
-/// alternatives, which stand one behind the other and have the guard's number.
+/// alternatives, which stand one after the other and have the guard's number.
 #[derive(Clone, Copy)]
 pub struct Way {
     /// The DiagCode of the state.

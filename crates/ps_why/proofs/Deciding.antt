@@ -10,9 +10,9 @@ use Rattle.ps_ways.specs.declared.way.Ask.{Ask}
 use Rattle.ps_ways.specs.declared.way.Literal.{Literal}
 use Rattle.ps_ways.specs.declared.way.Literal.TheVariants.{Any, Is, Not}
 use Rattle.ps_ways.specs.declared.way.Way.{Way}
-use Rattle.ps_facts.specs.Guards.{IsClosed, IsKept, IsLeft, IsOpen, IsPassed, LiteralIs, asked, before_any}
-use Rattle.ps_facts.specs.declared.fact.Fact.{Fact}
-use Rattle.ps_facts.specs.declared.fact.Fact.TheVariants.{AskIs}
+use Rattle.ps_why.specs.Guards.{IsClosed, IsKept, IsLeft, IsOpen, IsPassed, LiteralIs, asked, before_any}
+use Rattle.ps_why.specs.declared.fact.Fact.{Fact}
+use Rattle.ps_why.specs.declared.fact.Fact.TheVariants.{AskIs}
 use Rattle.ps_why.proofs.Taking.{next_by}
 
 and_on : (b : Bool) → (b && true) ≡ b

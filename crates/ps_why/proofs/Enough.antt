@@ -19,9 +19,9 @@ use Rattle.ps_ways.specs.Calling.{seen_by}
 use Rattle.ps_why.specs.Facts.{IsSo}
 use Rattle.ps_why.specs.Laws.{FormulasFollow, GroundsAreEnough, WhateverTheInputs, WhyIsEnough}
 use Rattle.ps_why.specs.Rests.{IsOutput, Rests}
-use Rattle.ps_facts.specs.declared.fact.Fact.{Fact}
-use Rattle.ps_facts.specs.declared.fact.Fact.TheVariants.{SignalIs, SignalWas, PinIs, AskIs, StateIs, StateWas}
-use Rattle.ps_facts.specs.declared.fact.Fact.TheVariants.{ResetWas, AuxiliaryWas, ModeIs, ModeWas}
+use Rattle.ps_why.specs.declared.fact.Fact.{Fact}
+use Rattle.ps_why.specs.declared.fact.Fact.TheVariants.{SignalIs, SignalWas, PinIs, AskIs, StateIs, StateWas}
+use Rattle.ps_why.specs.declared.fact.Fact.TheVariants.{ResetWas, AuxiliaryWas, ModeIs, ModeWas}
 use Rattle.ps_why.proofs.Resting.{AsksAreSo, ModesAreSo, PinsAreSo, SignalsAreSo, StatesAreSo, assigned_is_so, denied_is_so, latched_is_so, moved_is_so, output_driven, read_is_so, reads, settled_is_so, shown_is_so, undriven_is_so}
 use Rattle.ps_why.proofs.Valued.{follows}
 

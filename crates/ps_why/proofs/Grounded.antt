@@ -27,14 +27,14 @@ use Rattle.ps_ways.specs.declared.way.Way.{Way}
 use Rattle.ps_why.specs.Explained.{IsLeaf}
 use Rattle.ps_ways.specs.Calling.{pins_read, seen_by}
 use Rattle.ps_why.specs.Facts.{IsSo}
-use Rattle.ps_facts.specs.Operands.{EachHasValue, HasValue, SomeHasValue}
+use Rattle.ps_why.specs.Operands.{EachHasValue, HasValue, SomeHasValue}
 use Rattle.ps_why.specs.Grounds.{MayBe, PinHasValue, ReadIsTold}
-use Rattle.ps_facts.specs.Guards.{IsKept, IsLeft, IsPassed, LiteralIs, asked}
+use Rattle.ps_why.specs.Guards.{IsKept, IsLeft, IsPassed, LiteralIs, asked}
 use Rattle.ps_why.specs.Laws.{EachFactHasGrounds, IsOfApplication}
 use Rattle.ps_why.specs.Rests.{IsDecided, IsEntered, IsInactive, IsLatched, IsMoved, IsRead, Rests}
-use Rattle.ps_facts.specs.declared.fact.Fact.{Fact}
-use Rattle.ps_facts.specs.declared.fact.Fact.TheVariants.{SignalIs, SignalWas, PinIs, AskIs, StateIs, StateWas}
-use Rattle.ps_facts.specs.declared.fact.Fact.TheVariants.{ResetWas, AuxiliaryWas, ModeIs, ModeWas}
+use Rattle.ps_why.specs.declared.fact.Fact.{Fact}
+use Rattle.ps_why.specs.declared.fact.Fact.TheVariants.{SignalIs, SignalWas, PinIs, AskIs, StateIs, StateWas}
+use Rattle.ps_why.specs.declared.fact.Fact.TheVariants.{ResetWas, AuxiliaryWas, ModeIs, ModeWas}
 use Rattle.ps_why.proofs.Deciding.{all_asked, not_not}
 use Rattle.ps_why.proofs.Resting.{code_is, mode_is, next_decided, next_entered, next_inactive}
 use Rattle.ps_why.proofs.Taking.{decided_by_ways, next_by}

@@ -14,7 +14,7 @@ use Rattle.ps_model.specs.Table.{Conditions, decided, row_at}
 use Rattle.ps_model.specs.declared.demands.Need.{Need}
 use Rattle.ps_model.specs.declared.demands.Need.TheVariants.{On, Off}
 use Rattle.ps_model.specs.declared.kind.Kind.{Kind}
-use Rattle.ps_required.proofs.SafeOutputs.{safe_shown}
+use Rattle.ps_demand.proofs.SafeOutputs.{safe_shown}
 use Rattle.ps_ways.specs.Tables.{ways_of}
 use Rattle.ps_ways.specs.declared.way.Ask.{Ask}
 use Rattle.ps_why.specs.Explained.{IsOfBefore}
@@ -22,9 +22,9 @@ use Rattle.ps_ways.specs.Calling.{pins_read, seen_by}
 use Rattle.ps_why.specs.Facts.{IsSo}
 use Rattle.ps_why.specs.Grounds.{MayBe, PinHasValue, ReadIsTold}
 use Rattle.ps_why.specs.Rests.{IsAssigned, IsDecided, IsDenied, IsEntered, IsInactive, IsLatched, IsMoved, IsOutput, IsRead, IsSettled, IsShown, IsUndriven, unmet}
-use Rattle.ps_facts.specs.declared.fact.Fact.{Fact}
-use Rattle.ps_facts.specs.declared.fact.Fact.TheVariants.{SignalIs, SignalWas, PinIs, AskIs, StateIs, StateWas}
-use Rattle.ps_facts.specs.declared.fact.Fact.TheVariants.{ResetWas, AuxiliaryWas, ModeIs, ModeWas}
+use Rattle.ps_why.specs.declared.fact.Fact.{Fact}
+use Rattle.ps_why.specs.declared.fact.Fact.TheVariants.{SignalIs, SignalWas, PinIs, AskIs, StateIs, StateWas}
+use Rattle.ps_why.specs.declared.fact.Fact.TheVariants.{ResetWas, AuxiliaryWas, ModeIs, ModeWas}
 use Rattle.ps_why.proofs.Deciding.{is_kept, is_left}
 use Rattle.ps_why.proofs.Taking.{decided_by_ways, next_by}
 use Rattle.ps_why.proofs.Valued.{follows}

@@ -2,7 +2,7 @@
 use Rattle.std.proofs.Common.{◌≡◌, ℕ, Bool, true, false, refl, inl, inr}
 use Rattle.std.proofs.lemmas.Bool.{and_from, and_left, and_right, or_from, or_left, or_right}
 use Rattle.ps_model.specs.Formula.{Formula, Formulas, signal, all_of, any_of, no_operand, operand, value, all_true, any_true}
-use Rattle.ps_facts.specs.Operands.{HasValue, EachHasValue, SomeHasValue}
+use Rattle.ps_why.specs.Operands.{HasValue, EachHasValue, SomeHasValue}
 
 module _ (Reads : ℕ → Bool → Type 0) (v : ℕ → Bool) (reads : (s : ℕ) (b : Bool) → Reads s b → v s ≡ b) where
   mutual

@@ -5,9 +5,9 @@ use Rattle.ps_model.specs.Scanning.{State}
 use Rattle.ps_ways.specs.declared.way.Ask.TheVariants.{Elapsed}
 use Rattle.ps_why.specs.Facts.{IsSo}
 use Rattle.ps_why.specs.Rests.{Rests}
-use Rattle.ps_facts.specs.declared.fact.Fact.{Fact}
-use Rattle.ps_facts.specs.declared.fact.Fact.TheVariants.{SignalIs, SignalWas, AskIs, StateWas}
-use Rattle.ps_facts.specs.declared.fact.Fact.TheVariants.{ResetWas, AuxiliaryWas, ModeWas}
+use Rattle.ps_why.specs.declared.fact.Fact.{Fact}
+use Rattle.ps_why.specs.declared.fact.Fact.TheVariants.{SignalIs, SignalWas, AskIs, StateWas}
+use Rattle.ps_why.specs.declared.fact.Fact.TheVariants.{ResetWas, AuxiliaryWas, ModeWas}
 
 -- the value of an input
 abbrev pub IsOfInput : Network → Fact → Type 0

@@ -5,15 +5,15 @@ use Rattle.ps_model.specs.Network.{Network}
 use Rattle.ps_model.specs.Scanning.{State, block_in, signal_in}
 use Rattle.ps_ways.specs.Calling.{pins_read, seen_by}
 use Rattle.ps_ways.specs.Ways.{asks}
-use Rattle.ps_facts.specs.declared.fact.Fact.{Fact}
-use Rattle.ps_facts.specs.declared.fact.Fact.TheVariants.{SignalIs, SignalWas, PinIs, AskIs, StateIs, StateWas}
-use Rattle.ps_facts.specs.declared.fact.Fact.TheVariants.{ResetWas, AuxiliaryWas, ModeIs, ModeWas}
+use Rattle.ps_why.specs.declared.fact.Fact.{Fact}
+use Rattle.ps_why.specs.declared.fact.Fact.TheVariants.{SignalIs, SignalWas, PinIs, AskIs, StateIs, StateWas}
+use Rattle.ps_why.specs.declared.fact.Fact.TheVariants.{ResetWas, AuxiliaryWas, ModeIs, ModeWas}
 
 -- it is so of the call that stands at step k: of its instance, and of what stands at its pins
 abbrev pub OfCall : Network → (k : ℕ) → ((i : ℕ) → List Actual → Type 0) → Type 0
 OfCall net k P = (i : ℕ) (args : List Actual) → slice_get net.steps k ≡ Some (calls i args) → P i args
 
--- a scan of an application: the state before it, the ms that passed since the scan before, and the state behind it
+-- a scan of an application: the state before it, the ms that passed since the scan before, and the state after it
 module _ (net : Network) (old : State) (since : ℕ) (new : State) where
   -- what is told is so
   abbrev pub IsSo : Fact → Type 0

@@ -2,11 +2,11 @@
 use Rattle.std.specs.Prelude.{◌≡◌, ℕ, Bool, false}
 use Rattle.std.specs.Bool.{MatchBool}
 use Rattle.ps_model.specs.Action.{Actual, free, literal, time, wired}
-use Rattle.ps_facts.specs.Operands.{HasValue}
+use Rattle.ps_why.specs.Operands.{HasValue}
 use Rattle.ps_model.specs.Kept.{Kept}
 use Rattle.ps_model.specs.Network.{Network, is_new}
-use Rattle.ps_facts.specs.declared.fact.Fact.{Fact}
-use Rattle.ps_facts.specs.declared.fact.Fact.TheVariants.{SignalIs, SignalWas, PinIs, ResetWas, AuxiliaryWas, ModeWas}
+use Rattle.ps_why.specs.declared.fact.Fact.{Fact}
+use Rattle.ps_why.specs.declared.fact.Fact.TheVariants.{SignalIs, SignalWas, PinIs, ResetWas, AuxiliaryWas, ModeWas}
 
 -- `told`: the facts that are told
 module _ (net : Network) (told : Fact → Type 0) where

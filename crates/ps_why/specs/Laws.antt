@@ -5,11 +5,11 @@ use Rattle.ps_model.specs.Network.{Network, instance_count}
 use Rattle.ps_model.specs.Scanning.{Solves, State, read_at}
 use Rattle.ps_why.specs.Explained.{EachIsSo, EachOfIsSo, IsExplained, IsLeaf, IsOfInput}
 use Rattle.ps_why.specs.Facts.{IsSo}
-use Rattle.ps_facts.specs.Operands.{HasValue}
+use Rattle.ps_why.specs.Operands.{HasValue}
 use Rattle.ps_why.specs.Grounds.{ReadIsTold}
 use Rattle.ps_why.specs.Rests.{Rests}
-use Rattle.ps_facts.specs.declared.fact.Fact.{Fact}
-use Rattle.ps_facts.specs.declared.fact.Fact.TheVariants.{StateIs, ModeIs}
+use Rattle.ps_why.specs.declared.fact.Fact.{Fact}
+use Rattle.ps_why.specs.declared.fact.Fact.TheVariants.{StateIs, ModeIs}
 
 -- In every scan in which these facts are so, a formula has the value that follows from them at step k.
 abbrev pub FormulasFollow : Type 0
@@ -37,7 +37,7 @@ WhateverTheInputs net = (facts : List Fact) → IsExplained net facts →
     (others : List Bool) (other : State) → Solves net old others since other →
     EachOfIsSo net old since other (IsOfInput net) facts → EachIsSo net old since other facts
 
--- An instance of which a fact speaks of the state behind the scan, or of the mode, is declared.
+-- An instance of which a fact speaks of the state after the scan, or of the mode, is declared.
 abbrev pub IsOfApplication : Network → Fact → Type 0
 IsOfApplication net (StateIs i q) = i < instance_count net
 IsOfApplication net (ModeIs i m) = i < instance_count net

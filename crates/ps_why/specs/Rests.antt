@@ -14,12 +14,12 @@ use Rattle.ps_ways.specs.Tables.{ways_of}
 use Rattle.ps_ways.specs.Ways.{asks}
 use Rattle.ps_ways.specs.declared.way.Ask.{Ask}
 use Rattle.ps_why.specs.Facts.{OfCall}
-use Rattle.ps_facts.specs.Operands.{HasValue}
+use Rattle.ps_why.specs.Operands.{HasValue}
 use Rattle.ps_why.specs.Grounds.{MayBe, PinHasValue, ReadIsTold}
-use Rattle.ps_facts.specs.Guards.{Decides}
-use Rattle.ps_facts.specs.declared.fact.Fact.{Fact}
-use Rattle.ps_facts.specs.declared.fact.Fact.TheVariants.{SignalIs, SignalWas, PinIs, AskIs, StateIs, StateWas}
-use Rattle.ps_facts.specs.declared.fact.Fact.TheVariants.{ResetWas, AuxiliaryWas, ModeIs, ModeWas}
+use Rattle.ps_why.specs.Guards.{Decides}
+use Rattle.ps_why.specs.declared.fact.Fact.{Fact}
+use Rattle.ps_why.specs.declared.fact.Fact.TheVariants.{SignalIs, SignalWas, PinIs, AskIs, StateIs, StateWas}
+use Rattle.ps_why.specs.declared.fact.Fact.TheVariants.{ResetWas, AuxiliaryWas, ModeIs, ModeWas}
 
 -- the fact that a pin of the call of step k is not as a demand asks
 abbrev pub unmet : (k : ℕ) → Need → Fact

@@ -6,10 +6,10 @@ ghost use Rattle.ps_model.specs.Demand.{are_met, demand, is_met};
 ghost use Rattle.ps_model.specs.declared.demands.Need.{Need};
 ghost use Rattle.ps_ways.specs.Stepping.{conditions_of};
 ghost use Rattle.ps_why.specs.Rests.{unmet};
-ghost use Rattle.ps_facts.specs.Telling.{Adds, IsPinOf};
+ghost use Rattle.ps_why.specs.Telling.{Adds, IsPinOf};
 
+use crate::Fact;
 use ps_base::Memory;
-use ps_facts::Fact;
 use ps_model::{Kind, Need, demand};
 use ps_ways::StepConditions;
 

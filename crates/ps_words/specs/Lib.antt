@@ -2,3 +2,5 @@
 pub mod Command
 -- how the code has it
 pub mod Seen
+-- what `clap` is asked to read
+pub mod Parsing

@@ -79,7 +79,7 @@ fn is_plain(word: &str) -> bool
 }
 
 /// The texts of the words, where each of them is neither empty nor begins with a hyphen; None: one is or does. An
-/// error: memory is wanting.
+/// error: memory runs out.
 pub fn plain_texts(alloc: Global, words: &Words) -> Result<Option<Vec<&str>>, Memory>
     ensures { IfOk result (λ texts. MatchOption texts (list_all asked.is_plain words.now ≡ false)
         (λ v. (seen v.items ≡ words.now) × (list_all asked.is_plain words.now ≡ true))) }

@@ -1,7 +1,7 @@
 -- A scan has at most the two budgets of Turns.
 use Rattle.std.proofs.Common.{ℕ, ◌+◌, ◌≤◌, List, [], ◌∷◌, arith}
 use Rattle.ps_model.specs.declared.channel.Channel.TheVariants.{A, B}
-use Rattle.ps_seat.proofs.Left.{turns_are_left, same_turns}
+use Rattle.ps_machine.proofs.Left.{turns_are_left, same_turns}
 use Rattle.ps_world.specs.Worlds.{Machines, World_state, Event, Begin, Turn, Spoil, Compare, Restart}
 use Rattle.ps_world.specs.Steps.{world_step, Lawful}
 use Rattle.ps_world.specs.Lists.{IsWithinScan, turn_count}

@@ -12,7 +12,7 @@ use Rattle.ps_stackvm.specs.Stands.{StandsA}
 use Rattle.ps_eqvm.specs.Channel.{machine_b}
 use Rattle.ps_eqvm.specs.Code.{code_b}
 use Rattle.ps_eqvm.specs.Stands.{StandsB}
-use Rattle.ps_seat.specs.Outcomes.{GivesSized}
+use Rattle.ps_machine.specs.Outcomes.{GivesSized}
 use Rattle.ps_world.specs.Whole.{Setup, machines_in, IsSetupOf}
 
 pub sized_a : (sizes : Sizes) (image : List ℕ) (budget : ℕ) → GivesSized (machine_a sizes image budget) sizes.outputs sizes.instances

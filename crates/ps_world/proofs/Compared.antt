@@ -9,8 +9,8 @@ use Rattle.ps_model.specs.declared.report.Report.{Report}
 use Rattle.ps_model.specs.Fields.{first_difference}
 use Rattle.ps_model.proofs.FieldPlaces.{equal_from_no_difference, no_difference_from_equal}
 use Rattle.ps_world.specs.Worlds.{Machines, World_state}
-use Rattle.ps_seat.specs.Outcomes.{Outcome, gives, lacks, outcome, GivesSized}
-use Rattle.ps_seat.proofs.Sized.{IsSized, outcome_sized}
+use Rattle.ps_machine.specs.Outcomes.{Outcome, gives, lacks, outcome, GivesSized}
+use Rattle.ps_machine.proofs.Sized.{IsSized, outcome_sized}
 use Rattle.ps_world.specs.Verdicts.{cause_of, agreed, judged, verdict}
 use Rattle.ps_world.specs.Laws.{Disagree, TripsExactly}
 

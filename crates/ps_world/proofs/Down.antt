@@ -2,7 +2,7 @@
 use Rattle.std.proofs.Common.{◌≡◌, ℕ, true, cond, List, [], ◌∷◌, ap}
 use Rattle.ps_model.specs.declared.channel.Verdict.TheVariants.{Down}
 use Rattle.ps_world.specs.Worlds.{Machines, World_state, Event, Begin, Turn, Spoil, Compare, Restart}
-use Rattle.ps_seat.specs.Outcomes.{outcome}
+use Rattle.ps_machine.specs.Outcomes.{outcome}
 use Rattle.ps_world.specs.Verdicts.{judged, verdict, is_trip, given_with}
 use Rattle.ps_world.specs.Steps.{world_step, after, Lawful}
 use Rattle.ps_world.specs.Lists.{HasNoRestart}

@@ -8,7 +8,7 @@ use Rattle.ps_machine.specs.Channels.{after_turn, ended}
 use Rattle.ps_world.specs.Worlds.{Machines, World_state, Event, Turn}
 use Rattle.ps_world.specs.Steps.{world_step, after, both_ended}
 use Rattle.ps_world.specs.Orders.{in_turn, next_turn, turn_events}
-use Rattle.ps_seat.proofs.Left.{HasLeft, one_less, goes}
+use Rattle.ps_machine.proofs.Left.{HasLeft, one_less, goes}
 
 -- the world with both channels after so many turns of each
 abbrev pub finished : Machines → (ka kb : ℕ) → World_state → World_state

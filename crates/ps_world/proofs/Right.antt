@@ -12,8 +12,8 @@ use Rattle.ps_model.specs.Meaning.{Past, nothing, old_state, Meaning, Runs, repo
 use Rattle.ps_model.specs.PastAfter.{past_after}
 use Rattle.ps_machine.specs.Keeping.{Keeps}
 use Rattle.ps_world.specs.Worlds.{Machines, World_state, Event, Begin, Turn, Spoil, Compare, Restart, machine, channel, world_0}
-use Rattle.ps_seat.specs.Outcomes.{gives, outcome_by, outcome, GivesSized}
-use Rattle.ps_seat.proofs.Sized.{outcome_sized}
+use Rattle.ps_machine.specs.Outcomes.{gives, outcome_by, outcome, GivesSized}
+use Rattle.ps_machine.proofs.Sized.{outcome_sized}
 use Rattle.ps_world.specs.Verdicts.{judged, verdict, is_trip, report_or, given_with, report_given}
 use Rattle.ps_world.specs.Steps.{world_step, after, May, Lawful}
 use Rattle.ps_world.specs.Lists.{IsSpared, items_of}

@@ -11,8 +11,8 @@ use Rattle.ps_model.specs.Scanning.{State, Solves}
 use Rattle.ps_model.specs.Meaning.{Item, scan, restart, Past, nothing, last, old_state, passed, Runs, report}
 use Rattle.ps_model.specs.PastAfter.{past_after}
 use Rattle.ps_machine.specs.Keeping.{Keeps}
-use Rattle.ps_seat.specs.Items.{AreTimely}
-use Rattle.ps_seat.specs.Outcomes.{outcome, GivesSized}
+use Rattle.ps_machine.specs.Items.{AreTimely}
+use Rattle.ps_machine.specs.Outcomes.{outcome, GivesSized}
 use Rattle.ps_world.specs.Worlds.{Machines, World_state, Event, Begin, Compare, Restart, machine, world_0}
 use Rattle.ps_world.specs.Verdicts.{judged, verdict, is_trip}
 use Rattle.ps_world.specs.Steps.{world_step, after, both_ended, May, Lawful}
@@ -26,7 +26,7 @@ use Rattle.ps_world.proofs.Right.{meant_outcome, released_report, releases}
 
 -- ---- One scan, in a world that is not tripped.
 
--- The events up to the Compare are lawful, are this scan alone, spare what the faults spare, and a Compare may come behind them.
+-- The events up to the Compare are lawful, are this scan alone, spare what the faults spare, and a Compare may come after them.
 pub record ComesToCompare (m : Machines) (n : ℕ) (faults : List Fault) (now : ℕ) (ins : List Bool) (es : List Event) (x : World_state) : Type 0 where
   pub lawful : Lawful m n es x
   pub scan_alone : items_of es ≡ scan now ins ∷ []

@@ -10,7 +10,7 @@ use Rattle.ps_machine.specs.Channels.{ended}
 use Rattle.ps_world.specs.Worlds.{Machines, World_state, Event, Turn, Spoil, machine, channel}
 use Rattle.ps_world.specs.Steps.{world_step, after, both_ended}
 use Rattle.ps_world.specs.Orders.{spoil_of, spoils_before, next_turn, turn_events}
-use Rattle.ps_seat.proofs.Left.{spent, same_turns, turns_are_left}
+use Rattle.ps_machine.proofs.Left.{spent, same_turns, turns_are_left}
 
 pub after_append : (m : Machines) (es fs : List Event) (x : World_state) → after m (es ++ fs) x ≡ after m fs (after m es x)
 after_append m [] fs x = refl

@@ -8,7 +8,7 @@ use Rattle.ps_model.specs.declared.report.Report.{Report}
 use Rattle.ps_model.specs.Network.{Network, input_count, instance_count}
 use Rattle.ps_model.specs.Scanning.{State}
 use Rattle.ps_model.specs.Meaning.{Item, scan, restart, Meaning, report}
-use Rattle.ps_seat.specs.Items.{AreTimely}
+use Rattle.ps_machine.specs.Items.{AreTimely}
 use Rattle.ps_world.specs.Worlds.{Machines, World_state, Restart, world_0}
 use Rattle.ps_world.specs.Verdicts.{verdict, report_given}
 use Rattle.ps_world.specs.Steps.{world_step, after}

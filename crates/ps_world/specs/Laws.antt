@@ -12,7 +12,7 @@ use Rattle.ps_model.specs.Meaning.{nothing, old_state, Meaning, report}
 use Rattle.ps_model.specs.PastAfter.{past_after}
 use Rattle.ps_machine.specs.Channels.{alone}
 use Rattle.ps_world.specs.Worlds.{Machines, World_state, Event, Begin, Compare, machine, channel, world_0}
-use Rattle.ps_seat.specs.Outcomes.{gives, outcome}
+use Rattle.ps_machine.specs.Outcomes.{gives, outcome}
 use Rattle.ps_world.specs.Verdicts.{verdict, report_given}
 use Rattle.ps_world.specs.Steps.{after, Lawful}
 use Rattle.ps_world.specs.Lists.{OneSided, HasNoSpoil, own_events, items_of, HasNoRestart, IsWithinScan, turn_count}

@@ -8,8 +8,8 @@ use Rattle.ps_model.specs.declared.channel.Verdict.{Verdict}
 use Rattle.ps_model.specs.declared.channel.Verdict.TheVariants.{Released, Tripped, Down}
 use Rattle.ps_model.specs.declared.report.Report.{Report}
 use Rattle.ps_model.specs.Fields.{fields, first_difference, blank_report}
-use Rattle.ps_seat.specs.declared.seat.Failing.{Failing}
-use Rattle.ps_seat.specs.Outcomes.{Outcome, gives, lacks, outcome}
+use Rattle.ps_machine.specs.declared.seat.Failing.{Failing}
+use Rattle.ps_machine.specs.Outcomes.{Outcome, gives, lacks, outcome}
 use Rattle.ps_world.specs.Worlds.{Machines, World_state}
 
 -- the cause that a channel's failing is

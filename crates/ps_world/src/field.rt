@@ -2,13 +2,12 @@
 
 ghost use Rattle.std.specs.Prelude.{◌≡◌, ◌<◌, Some, length, slice_get};
 ghost use Rattle.ps_model.specs.Fields.{diag_fields, fields};
-ghost use Rattle.ps_seat.specs.Outcomes.{outcome};
-ghost use Rattle.ps_seat.specs.Seats.{machine_in};
+ghost use Rattle.ps_machine.specs.Outcomes.{outcome};
+ghost use Rattle.ps_machine.specs.Seats.{machine_in};
 ghost use Rattle.ps_world.specs.Verdicts.{field_in};
 
-use ps_machine::ScanMachine;
+use ps_machine::{ScanMachine, Seat};
 use ps_model::{Diag, Report};
-use ps_seat::Seat;
 
 // Ready, Error or DiagCode, numbered 0 to 2: 0 or 1 of a Boolean.
 fn part_of(diag: Diag, part: usize) -> u16

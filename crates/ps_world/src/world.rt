@@ -8,7 +8,7 @@ ghost use Rattle.ps_model.specs.Sized.{AreSizesOf};
 ghost use Rattle.ps_machine.specs.Channels.{ended};
 ghost use Rattle.ps_eqvm.specs.Channel.{workings_b};
 ghost use Rattle.ps_eqvm.specs.Code.{code_b};
-ghost use Rattle.ps_seat.specs.Seats.{new_seat};
+ghost use Rattle.ps_machine.specs.Seats.{new_seat};
 ghost use Rattle.ps_world.specs.Worlds.{machine, channel};
 ghost use Rattle.ps_world.specs.Worlds.Event.{Begin, Turn, Spoil, Compare, Restart};
 ghost use Rattle.ps_world.specs.Steps.{both_ended};
@@ -16,17 +16,17 @@ ghost use Rattle.ps_world.specs.Verdicts.{verdict, report_given, judged, cause_o
 ghost use Rattle.ps_world.specs.Whole.{machines_in, region_in, happened, after_events, IsWorldOf};
 ghost use Rattle.ps_world.specs.Orders.{spoils_before, next_turn, turn_events, events_before_compare, at_compare};
 ghost use Rattle.ps_world.specs.Orders.{scan_events};
-ghost use Rattle.ps_seat.specs.Outcomes.{outcome};
-ghost use Rattle.ps_seat.specs.Outcomes.Outcome.{gives};
+ghost use Rattle.ps_machine.specs.Outcomes.{outcome};
+ghost use Rattle.ps_machine.specs.Outcomes.Outcome.{gives};
 
 use crate::field::value_given;
 use ps_base::Memory;
 use ps_eqgen::{equation_image, equation_sizes};
 use ps_eqvm::EquationChannel;
+use ps_machine::{Failing, Seat};
 use ps_model::{
     App, Cause, Channel, Fault, ImageSizes, OutOfRegion, Region, Report, Scan, Sizes, Verdict,
 };
-use ps_seat::{Failing, Seat};
 use ps_stackgen::stack_image;
 use ps_stackvm::StackChannel;
 use std::alloc::Global;

@@ -1,7 +1,7 @@
 use Rattle.std.proofs.Common.{◌≡◌, ◌++◌, ◌∙◌, OnOk, ap, false, inl, inr, map, subst, sym, true}
 use Rattle.ps_model.specs.Exprs.{formula}
 use Rattle.ps_model.proofs.Formulas.{formula-And, formula-Or}
-use Rattle.ps_marks.specs.Deciding.{is_and}
+use Rattle.ps_cover.specs.Deciding.{is_and}
 use Rattle.ps_cover.specs.Covering.{point_of}
 use Rattle.ps_cover.specs.Listing.{operand_points, root_points}
 use Rattle.ps_cover.proofs.Listings.{listed_are}

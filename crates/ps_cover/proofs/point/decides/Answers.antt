@@ -1,12 +1,12 @@
 use Rattle.std.proofs.Common.{◌≡◌, ◌≤◌, ◌<◌, ◌∙◌, ◌&&◌, false, true, ap, length, sym, arith}
 use Rattle.std.proofs.lemmas.Bool.{le-ltb, lt-ltb}
 use Rattle.std.proofs.lemmas.List.{length-map}
-use Rattle.ps_marks.specs.Deciding.{is_value}
+use Rattle.ps_cover.specs.Deciding.{is_value}
 use Rattle.ps_model.specs.Exprs.{formula}
-use Rattle.ps_pins.specs.Reading.{read_in}
+use Rattle.ps_machine.specs.Reading.{read_in}
 use Rattle.ps_cover.specs.Covering.{operands_in, others_leave_in}
 use Rattle.ps_cover.specs.Points.{value_at}
-use Rattle.ps_cover.proofs.Deciding.{value_of}
+use Rattle.ps_cover.proofs.CoverDeciding.{value_of}
 use Rattle.ps_cover.proofs.point.decides.Goals as goal
 
 pub returns-then-decision-len : goal.returns-then-decision-len

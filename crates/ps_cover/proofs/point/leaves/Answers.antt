@@ -1,8 +1,8 @@
 use Rattle.std.proofs.Common.{sym, ap, ◌∙◌, ◌||◌}
 use Rattle.std.specs.Prelude.{◌==◌}
-use Rattle.ps_pins.specs.Reading.{read_in}
-use Rattle.ps_marks.specs.Deciding.{is_value}
-use Rattle.ps_cover.proofs.Deciding.{value_of}
+use Rattle.ps_machine.specs.Reading.{read_in}
+use Rattle.ps_cover.specs.Deciding.{is_value}
+use Rattle.ps_cover.proofs.CoverDeciding.{value_of}
 use Rattle.ps_cover.proofs.point.leaves.Goals as goal
 
 pub returns : goal.returns

@@ -1,6 +1,6 @@
 use Rattle.std.proofs.Common.{◌<◌, ◌∙◌, length, sym, arith}
 use Rattle.std.proofs.lemmas.List.{length-map}
-use Rattle.ps_marks.proofs.Allowing.{not_all, one_more}
+use Rattle.ps_cover.proofs.Allowing.{not_all, one_more}
 use Rattle.ps_model.specs.Exprs.{formula}
 use Rattle.ps_cover.specs.Covering.{leaves_in, operands_in}
 use Rattle.ps_cover.proofs.point.others_leave.Goals as goal

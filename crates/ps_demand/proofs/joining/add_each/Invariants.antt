@@ -1,5 +1,5 @@
 use Rattle.std.proofs.Common.{◌≡◌, ◌++◌, map}
-use Rattle.ps_required.specs.Views.{requirement}
+use Rattle.ps_demand.specs.Views.{requirement}
 use Rattle.ps_demand.proofs.joining.add_each.Given as goal
 
 -- what is added, and what is left, is the whole

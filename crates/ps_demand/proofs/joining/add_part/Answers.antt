@@ -1,8 +1,8 @@
 use Rattle.std.proofs.Common.{◌≡◌, List, ◌++◌, OnOk, map, sym, ap, ◌∙◌, subst}
-use Rattle.ps_required.specs.declared.join.Join.TheVariants.{And, Or}
-use Rattle.ps_required.specs.Requirement.{Requirement}
-use Rattle.ps_required.specs.Slim.{parts_within}
-use Rattle.ps_required.specs.Views.{requirement}
+use Rattle.ps_demand.specs.declared.join.Join.TheVariants.{And, Or}
+use Rattle.ps_demand.specs.Requirement.{Requirement}
+use Rattle.ps_demand.specs.Slim.{parts_within}
+use Rattle.ps_demand.specs.Views.{requirement}
 use Rattle.ps_demand.proofs.Parts.{parts_of_list}
 use Rattle.ps_demand.proofs.Views.{requirement-All, requirement-Any}
 use Rattle.ps_demand.proofs.joining.add_part.Goals as goal

@@ -1,7 +1,7 @@
 use Rattle.std.proofs.Common.{◌<◌, map, length, sym, ap, ◌∙◌, arith}
 use Rattle.std.proofs.lemmas.List.{length-map}
-use Rattle.ps_required.specs.Requirement.{group, requirements}
-use Rattle.ps_required.specs.Views.{requirement}
+use Rattle.ps_demand.specs.Requirement.{group, requirements}
+use Rattle.ps_demand.specs.Views.{requirement}
 use Rattle.ps_demand.proofs.Parts.{gathered_many}
 use Rattle.ps_demand.proofs.Views.{requirement-All, requirement-Any}
 use Rattle.ps_demand.proofs.joining.gather.Goals as goal

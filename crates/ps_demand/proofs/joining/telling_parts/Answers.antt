@@ -1,8 +1,8 @@
 use Rattle.std.proofs.Common.{◌≡◌, List, ◌++◌, map, false, sym, ap, ◌∙◌}
-use Rattle.ps_required.specs.declared.demand.Demand.{Demand}
-use Rattle.ps_required.specs.Requirement.{same}
-use Rattle.ps_required.specs.Slim.{neutral, telling}
-use Rattle.ps_required.specs.Views.{requirement}
+use Rattle.ps_demand.specs.declared.demand.Demand.{Demand}
+use Rattle.ps_demand.specs.Requirement.{same}
+use Rattle.ps_demand.specs.Slim.{neutral, telling}
+use Rattle.ps_demand.specs.Views.{requirement}
 use Rattle.ps_demand.proofs.Parts.{inserted}
 use Rattle.ps_demand.proofs.joining.telling_parts.Goals as goal
 

@@ -1,6 +1,6 @@
 use Rattle.std.proofs.Common.{◌≡◌, [], ◌++◌, map}
-use Rattle.ps_required.specs.Slim.{telling}
-use Rattle.ps_required.specs.Views.{requirement}
+use Rattle.ps_demand.specs.Slim.{telling}
+use Rattle.ps_demand.specs.Views.{requirement}
 use Rattle.ps_demand.proofs.joining.telling_parts.Given as goal
 
 -- what tells so far, and what does of the parts that are left, make the whole

@@ -1,4 +1,4 @@
-use Rattle.ps_required.proofs.SafeLeaves as leaves
+use Rattle.ps_demand.proofs.SafeLeaves as leaves
 use Rattle.ps_demand.proofs.laws.leaves_are_safe.Goals as goal
 
 pub returns : goal.returns

@@ -1,4 +1,4 @@
-use Rattle.ps_required.proofs.RunsHold.{runs_hold}
+use Rattle.ps_demand.proofs.RunsHold.{runs_hold}
 use Rattle.ps_demand.proofs.laws.runs_meet_demands.Goals as goal
 
 pub returns : goal.returns

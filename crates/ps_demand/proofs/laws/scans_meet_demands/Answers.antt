@@ -1,4 +1,4 @@
-use Rattle.ps_required.proofs.RunsHold.{scan_holds}
+use Rattle.ps_demand.proofs.RunsHold.{scan_holds}
 use Rattle.ps_demand.proofs.laws.scans_meet_demands.Goals as goal
 
 pub returns : goal.returns

@@ -1,4 +1,4 @@
-use Rattle.ps_required.proofs.DemandHolds.{value_holds}
+use Rattle.ps_demand.proofs.DemandHolds.{value_holds}
 use Rattle.ps_demand.proofs.laws.values_meet_demands.Goals as goal
 
 pub returns : goal.returns

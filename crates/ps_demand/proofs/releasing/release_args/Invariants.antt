@@ -1,5 +1,5 @@
 use Rattle.std.proofs.Common.{◌+◌}
-use Rattle.ps_required.specs.Passes.{KeepsWanted}
+use Rattle.ps_demand.specs.Passes.{KeepsWanted}
 use Rattle.ps_demand.proofs.releasing.release_args.Given as goal
 
 abbrev pub invariant-loop-j : goal.invariant-loop-j

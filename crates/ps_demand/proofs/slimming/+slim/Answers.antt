@@ -10,13 +10,13 @@ use Rattle.ps_model.specs.Nodes.{nodes, nodes_below}
 use Rattle.ps_model.specs.Typing.{safe}
 use Rattle.ps_model.specs.Values.{IsBelow, AreBelow}
 use Rattle.ps_model.proofs.Formulas.{formula-Signal, formula-And, formula-Or}
-use Rattle.ps_required.specs.declared.join.Join.TheVariants.{And, Or}
-use Rattle.ps_required.specs.Passes.{slim_over, safe_slims, all_slims, kept_for}
-use Rattle.ps_required.specs.Requirement.{Requirement}
-use Rattle.ps_required.specs.Slim.{parts_within, slim_of_parts}
-use Rattle.ps_required.specs.Views.{requirement}
+use Rattle.ps_demand.specs.declared.join.Join.TheVariants.{And, Or}
+use Rattle.ps_demand.specs.Passes.{slim_over, safe_slims, all_slims, kept_for}
+use Rattle.ps_demand.specs.Requirement.{Requirement}
+use Rattle.ps_demand.specs.Slim.{parts_within, slim_of_parts}
+use Rattle.ps_demand.specs.Views.{requirement}
 use Rattle.ps_demand.proofs.Kept.{kept_at}
-use Rattle.ps_required.proofs.Operands.{operands_at}
+use Rattle.ps_demand.proofs.Operands.{operands_at}
 use Rattle.ps_demand.proofs.Parts.{within_more}
 use Rattle.ps_demand.proofs.slimming.+slim.Goals as goal
 use Rattle.ps_demand.proofs.slimming.+slim.Goals.{slim_conjunction-then-is_safe_value+in_ok-part+in_ok-add_part, slim_conjunction-else-is_safe_value}

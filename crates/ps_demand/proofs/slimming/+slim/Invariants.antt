@@ -4,10 +4,10 @@ use Rattle.ps_model.specs.Exprs.{formula, operands}
 use Rattle.ps_model.specs.Network.{signal_count}
 use Rattle.ps_model.specs.Nodes.{nodes, nodes_below}
 use Rattle.ps_model.specs.Values.{AreBelow}
-use Rattle.ps_required.specs.declared.join.Join.TheVariants.{And, Or}
-use Rattle.ps_required.specs.Passes.{safe_slims, all_slims, kept_for}
-use Rattle.ps_required.specs.Slim.{parts_within}
-use Rattle.ps_required.specs.Views.{requirement}
+use Rattle.ps_demand.specs.declared.join.Join.TheVariants.{And, Or}
+use Rattle.ps_demand.specs.Passes.{safe_slims, all_slims, kept_for}
+use Rattle.ps_demand.specs.Slim.{parts_within}
+use Rattle.ps_demand.specs.Views.{requirement}
 use Rattle.ps_demand.proofs.slimming.+slim.Given as goal
 
 abbrev pub decreases-slim_value : goal.decreases-slim_value

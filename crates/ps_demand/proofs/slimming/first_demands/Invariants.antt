@@ -1,6 +1,6 @@
 use Rattle.std.proofs.Common.{◌≡◌, ℕ, ◌<◌, length}
-use Rattle.ps_required.specs.Demand.{demand_read}
-use Rattle.ps_required.specs.Passes.{kept_for}
+use Rattle.ps_demand.specs.Demand.{demand_read}
+use Rattle.ps_demand.specs.Passes.{kept_for}
 use Rattle.ps_demand.proofs.slimming.first_demands.Given as goal
 
 abbrev pub invariant-loop-s : goal.invariant-loop-s

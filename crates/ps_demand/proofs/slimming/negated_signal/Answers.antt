@@ -3,8 +3,8 @@ use Rattle.std.specs.Prelude.{nat_lt}
 use Rattle.std.specs.List.{list_any}
 use Rattle.std.proofs.lemmas.Bool.{cond-true, cond-false, or_right, or_from, le-ltb}
 use Rattle.ps_model.specs.Network.{input_count, drives, is_new}
-use Rattle.ps_required.specs.Requirement.{always, not_now, not_before}
-use Rattle.ps_required.proofs.DriverStands.{driven_before}
+use Rattle.ps_demand.specs.Requirement.{always, not_now, not_before}
+use Rattle.ps_demand.proofs.DriverStands.{driven_before}
 use Rattle.ps_demand.proofs.Views.{requirement-True, requirement-NotBefore}
 use Rattle.ps_demand.proofs.slimming.negated_signal.Goals as goal
 

@@ -1,8 +1,8 @@
 use Rattle.std.proofs.Common.{◌≡◌, ◌<◌, length, ◌∙◌, subst, IfOk, arith}
-use Rattle.ps_required.specs.Requirement.{Requirement}
-use Rattle.ps_required.specs.Demand.{demand}
-use Rattle.ps_required.specs.Slim.{slim}
-use Rattle.ps_required.specs.Views.{requirement}
+use Rattle.ps_demand.specs.Requirement.{Requirement}
+use Rattle.ps_demand.specs.Demand.{demand}
+use Rattle.ps_demand.specs.Slim.{slim}
+use Rattle.ps_demand.specs.Views.{requirement}
 use Rattle.ps_demand.proofs.Kept.{kept_at}
 use Rattle.ps_demand.proofs.slimming.slim_demand.Goals as goal
 

@@ -8,10 +8,10 @@ use Rattle.ps_model.specs.Scanning.{pin_at}
 use Rattle.ps_model.specs.Typing.{is_safe_type}
 use Rattle.ps_model.specs.Values.{IsBelow, values_at_pin}
 use Rattle.ps_flow.proofs.Walk.{part_of, found_or}
-use Rattle.ps_required.specs.Demand.{negated_at_pin}
-use Rattle.ps_required.specs.Requirement.{Requirement, always}
-use Rattle.ps_required.specs.Passes.{kept_for, slim_at_pin, slim_of_need}
-use Rattle.ps_required.specs.Views.{requirement}
+use Rattle.ps_demand.specs.Demand.{negated_at_pin}
+use Rattle.ps_demand.specs.Requirement.{Requirement, always}
+use Rattle.ps_demand.specs.Passes.{kept_for, slim_at_pin, slim_of_need}
+use Rattle.ps_demand.specs.Views.{requirement}
 use Rattle.ps_demand.proofs.slimming.slim_need.Goals as goal
 
 pub slim_argument-requires-clause-below : goal.slim_argument-requires-clause-below

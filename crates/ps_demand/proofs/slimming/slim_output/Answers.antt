@@ -4,12 +4,12 @@ use Rattle.std.proofs.lemmas.List.{drop_all}
 use Rattle.std.proofs.Math.Seq.{drop-cons}
 use Rattle.ps_model.specs.declared.demands.Need.{Need}
 use Rattle.ps_model.specs.declared.demands.Need.TheVariants.{On}
-use Rattle.ps_required.specs.declared.join.Join.TheVariants.{And}
-use Rattle.ps_required.specs.Passes.{IsNeedOf, slim_of_need, slim_together, kept_for}
-use Rattle.ps_required.specs.Requirement.{Requirement}
-use Rattle.ps_required.specs.Slim.{parts_within, slim_of_parts}
-use Rattle.ps_required.specs.Views.{requirement}
-use Rattle.ps_required.proofs.NeedPins.{needs_within}
+use Rattle.ps_demand.specs.declared.join.Join.TheVariants.{And}
+use Rattle.ps_demand.specs.Passes.{IsNeedOf, slim_of_need, slim_together, kept_for}
+use Rattle.ps_demand.specs.Requirement.{Requirement}
+use Rattle.ps_demand.specs.Slim.{parts_within, slim_of_parts}
+use Rattle.ps_demand.specs.Views.{requirement}
+use Rattle.ps_demand.proofs.NeedPins.{needs_within}
 use Rattle.ps_demand.proofs.Parts.{within_more, together_alone, together_joined}
 use Rattle.ps_demand.proofs.slimming.slim_output.Goals as goal
 

@@ -1,9 +1,9 @@
 use Rattle.std.proofs.Common.{◌≡◌, ◌++◌, map, drop}
 use Rattle.std.specs.Prelude.{flat_map}
-use Rattle.ps_required.specs.declared.join.Join.TheVariants.{And}
-use Rattle.ps_required.specs.Passes.{slim_of_need, kept_for}
-use Rattle.ps_required.specs.Slim.{parts_within}
-use Rattle.ps_required.specs.Views.{requirement}
+use Rattle.ps_demand.specs.declared.join.Join.TheVariants.{And}
+use Rattle.ps_demand.specs.Passes.{slim_of_need, kept_for}
+use Rattle.ps_demand.specs.Slim.{parts_within}
+use Rattle.ps_demand.specs.Views.{requirement}
 use Rattle.ps_demand.proofs.slimming.slim_output.Given as goal
 
 -- the parts so far, and those of the pins that are left, make the whole

@@ -1,4 +1,4 @@
-use Rattle.ps_required.specs.Passes.{AreOutputs}
+use Rattle.ps_demand.specs.Passes.{AreOutputs}
 use Rattle.ps_demand.proofs.slimming.slim_outputs.Given as goal
 
 abbrev pub invariant-loop-j : goal.invariant-loop-j

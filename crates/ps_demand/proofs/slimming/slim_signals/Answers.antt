@@ -1,5 +1,5 @@
 use Rattle.std.proofs.Common.{◌≡◌, ℕ, length, subst, arith}
-use Rattle.ps_required.specs.Passes.{AreSlim}
+use Rattle.ps_demand.specs.Passes.{AreSlim}
 use Rattle.ps_demand.proofs.slimming.slim_signals.Goals as goal
 
 pub returns : goal.returns

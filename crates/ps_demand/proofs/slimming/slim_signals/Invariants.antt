@@ -1,4 +1,4 @@
-use Rattle.ps_required.specs.Passes.{AreCounts, AreSlim}
+use Rattle.ps_demand.specs.Passes.{AreCounts, AreSlim}
 use Rattle.ps_demand.proofs.slimming.slim_signals.Given as goal
 
 abbrev pub invariant-loop-k : goal.invariant-loop-k

@@ -11,19 +11,19 @@ use Rattle.ps_model.specs.Network.{Network, kind_at, first_pin, signal_count}
 use Rattle.ps_model.specs.Steps.{action}
 use Rattle.ps_model.specs.Typing.{is_safe_signal}
 use Rattle.ps_model.specs.Values.{reads, values_at_pin}
-use Rattle.ps_required.specs.declared.demand.Demand.{Demand}
-use Rattle.ps_required.specs.declared.demand.TheConstants.{MOST_LEAVES}
-use Rattle.ps_required.specs.Requirement.{Requirement, never, leaf_count}
-use Rattle.ps_required.specs.Demand.{demand_over, demand_read}
-use Rattle.ps_required.specs.Slim.{slim}
-use Rattle.ps_required.specs.Passes.{count_in, kept_for, slim_over, AreOutputs, AreSlim}
-use Rattle.ps_required.specs.Views.{requirement}
-use Rattle.ps_required.specs.Wanted.{is_wanted}
-use Rattle.ps_required.proofs.CallFacts.{may_stand, value_below, args_below, pin_below, pin_reads}
-use Rattle.ps_required.proofs.Counted.{weight_is, output_weight_is}
-use Rattle.ps_required.proofs.Lasting.{earlier_wanted}
-use Rattle.ps_required.proofs.Slimmed.{slim_is, output_slim_is}
-use Rattle.ps_required.proofs.Tables.{AreRight, assigned_right, skipped_right, unwritten_right, called_right, values_fit, length-over}
+use Rattle.ps_demand.specs.declared.demand.Demand.{Demand}
+use Rattle.ps_demand.specs.declared.demand.TheConstants.{MOST_LEAVES}
+use Rattle.ps_demand.specs.Requirement.{Requirement, never, leaf_count}
+use Rattle.ps_demand.specs.Demand.{demand_over, demand_read}
+use Rattle.ps_demand.specs.Slim.{slim}
+use Rattle.ps_demand.specs.Passes.{count_in, kept_for, slim_over, AreOutputs, AreSlim}
+use Rattle.ps_demand.specs.Views.{requirement}
+use Rattle.ps_demand.specs.Wanted.{is_wanted}
+use Rattle.ps_demand.proofs.CallFacts.{may_stand, value_below, args_below, pin_below, pin_reads}
+use Rattle.ps_demand.proofs.Counted.{weight_is, output_weight_is}
+use Rattle.ps_demand.proofs.Lasting.{earlier_wanted}
+use Rattle.ps_demand.proofs.Slimmed.{slim_is, output_slim_is}
+use Rattle.ps_demand.proofs.Tables.{AreRight, assigned_right, skipped_right, unwritten_right, called_right, values_fit, length-over}
 use Rattle.ps_demand.proofs.slimming.slim_step.Goals.{else-is_safe-via-then-is_safe+else-is_wanted_behind, else-is_safe-via-then-is_safe+then-is_wanted_behind+else-count_value-le-MOST_LEAVES, else-is_safe-via-else-is_safe}
 use Rattle.ps_demand.proofs.slimming.slim_step.Goals as goal
 

@@ -1,5 +1,5 @@
 use Rattle.std.proofs.Common.{take}
-use Rattle.ps_table.specs.Tables.{Indexes}
+use Rattle.ps_names.specs.NameTables.{Indexes}
 use Rattle.ps_derived.proofs.declared.index.Given as goal
 
 abbrev pub invariant-loop-i : goal.invariant-loop-i

@@ -1,8 +1,8 @@
 use Rattle.std.proofs.Common.{[], ◌++◌, ◌∷◌, take, position, is_some, sym, ap, ◌∙◌, if◌then◌else◌, arith}
 use Rattle.std.proofs.lemmas.List.{take_more, length-take-le}
 use Rattle.ps_base.specs.LetterCase.{is_same_name}
-use Rattle.ps_table.specs.Tables.{place_in}
-use Rattle.ps_table.proofs.Indexing.{indexes_push, placed_among}
+use Rattle.ps_names.specs.NameTables.{place_in}
+use Rattle.ps_names.proofs.Indexing.{indexes_push, placed_among}
 use Rattle.ps_derived.specs.Bodies.{is_input, inputs}
 use Rattle.ps_derived.proofs.Inputs.{inputs_pushed}
 use Rattle.ps_derived.proofs.interface.inputs.Goals as goal

@@ -1,5 +1,5 @@
 use Rattle.std.proofs.Common.{◌≡◌, take}
-use Rattle.ps_table.specs.Tables.{Indexes}
+use Rattle.ps_names.specs.NameTables.{Indexes}
 use Rattle.ps_derived.specs.Bodies.{inputs}
 use Rattle.ps_derived.proofs.interface.inputs.Given as goal
 

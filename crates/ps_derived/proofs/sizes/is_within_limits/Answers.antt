@@ -1,8 +1,8 @@
 use Rattle.std.proofs.Common.{◌≤◌, [], ◌∷◌, ◌++◌, length, take, get_or, position, map, sym, ap, ◌∙◌, subst, arith}
 use Rattle.std.proofs.lemmas.List.{map_more, take_all, map-append}
 use Rattle.ps_base.specs.LetterCase.{is_same_name}
-use Rattle.ps_table.specs.Tables.{place_in}
-use Rattle.ps_table.proofs.Indexing.{indexes_push}
+use Rattle.ps_names.specs.NameTables.{place_in}
+use Rattle.ps_names.proofs.Indexing.{indexes_push}
 use Rattle.ps_derived.specs.declared.limits.TheConstants.{MOST_FLAT_NAMES, MOST_FLAT_STATEMENTS}
 use Rattle.ps_derived.specs.Spelling.{spelt_as_declared}
 use Rattle.ps_derived.specs.Flat.{block_flat, blocks_flat, flat}

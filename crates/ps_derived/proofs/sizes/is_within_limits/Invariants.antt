@@ -1,5 +1,5 @@
 use Rattle.std.proofs.Common.{◌≡◌, map, take, []}
-use Rattle.ps_table.specs.Tables.{Indexes}
+use Rattle.ps_names.specs.NameTables.{Indexes}
 use Rattle.ps_derived.specs.Spelling.{spelt_as_declared}
 use Rattle.ps_derived.specs.Flat.{blocks_flat}
 use Rattle.ps_derived.specs.Limits.{size_of}

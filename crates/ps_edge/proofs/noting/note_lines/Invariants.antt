@@ -1,5 +1,5 @@
 use Rattle.std.proofs.Common.{◌≡◌, take, flat_map}
-use Rattle.ps_noted.specs.NoteLine.{note_text}
+use Rattle.ps_message.specs.NoteLine.{note_text}
 use Rattle.ps_edge.proofs.noting.note_lines.Given as goal
 
 abbrev pub invariant-loop-note : goal.invariant-loop-note

@@ -2,8 +2,8 @@ use Rattle.std.proofs.Common.{take, get_or, position, sym, ap, ◌∙◌, arith}
 use Rattle.std.proofs.lemmas.List.{take_more, length-take-le}
 use Rattle.ps_base.specs.LetterCase.{is_same_name}
 use Rattle.ps_parser.specs.declared.statement.Argument.{Argument}
-use Rattle.ps_table.specs.Tables.{place_in}
-use Rattle.ps_table.proofs.Indexing.{indexes_push}
+use Rattle.ps_names.specs.NameTables.{place_in}
+use Rattle.ps_names.proofs.Indexing.{indexes_push}
 use Rattle.ps_flatten.proofs.statements.pins_of.Goals as goal
 
 pub loop-i-preserved : goal.loop-i-preserved

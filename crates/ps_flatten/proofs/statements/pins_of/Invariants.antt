@@ -1,5 +1,5 @@
 use Rattle.std.proofs.Common.{take}
-use Rattle.ps_table.specs.Tables.{Indexes}
+use Rattle.ps_names.specs.NameTables.{Indexes}
 use Rattle.ps_parser.specs.declared.statement.Argument.{Argument}
 use Rattle.ps_flatten.proofs.statements.pins_of.Given as goal
 

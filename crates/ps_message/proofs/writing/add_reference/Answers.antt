@@ -1,5 +1,5 @@
 use Rattle.std.proofs.Common.{ℕ, List, ◌++◌, codes, ap, ◌∙◌}
-use Rattle.ps_quoted.proofs.Joining.{three_more}
+use Rattle.ps_text.proofs.Joining.{three_more}
 use Rattle.ps_message.proofs.writing.add_reference.Goals as goal
 
 pub returns : goal.returns

@@ -1,10 +1,10 @@
 use Rattle.std.proofs.Common.{length, ◌≤◌, refl, ◌∙◌}
 use Rattle.ps_base.specs.declared.failing.Place.{Place}
-use Rattle.ps_quoted.specs.Further.{AreGiven}
-use Rattle.ps_quoted.specs.Lines.{IsEnded}
+use Rattle.ps_text.specs.Further.{AreGiven}
+use Rattle.ps_text.specs.Lines.{IsEnded}
 use Rattle.ps_message.specs.Message.{message_text, Says}
 use Rattle.ps_message.proofs.Bounds.{short-advice, length-message, message-ended}
-use Rattle.ps_quoted.proofs.Joining.{of_given}
+use Rattle.ps_text.proofs.Joining.{of_given}
 use Rattle.ps_message.proofs.writing.message.Goals as goal
 
 pub returns-clause-bounded : goal.returns-clause-bounded

@@ -1,7 +1,7 @@
 use Rattle.std.proofs.Common.{map, take, get_or, [], position, sym, ap, ◌∙◌, is_some, arith}
 use Rattle.std.proofs.lemmas.List.{map_more, take_more, length-take-le}
-use Rattle.ps_table.specs.Tables.{place_in}
-use Rattle.ps_table.proofs.Indexing.{indexes_push, placed_among}
+use Rattle.ps_names.specs.NameTables.{place_in}
+use Rattle.ps_names.proofs.Indexing.{indexes_push, placed_among}
 use Rattle.ps_names.proofs.NamesAgain.{noted_more}
 use Rattle.ps_names.proofs.repeats.index.Goals as goal
 use Rattle.ps_base.specs.LetterCase.{is_same_name}

@@ -1,5 +1,5 @@
 use Rattle.std.proofs.Common.{◌≡◌, take, map, length}
-use Rattle.ps_instances.specs.Instances.{instance_of}
+use Rattle.ps_scan.specs.Instances.{instance_of}
 use Rattle.ps_scan.specs.Cells.{first_instances}
 use Rattle.ps_scan.proofs.scanner.renew.Given as goal
 

@@ -12,7 +12,7 @@ use Rattle.ps_model.specs.Scanning.{pins_under, limit_of}
 use Rattle.ps_model.proofs.FirstPinBound.{first_pin-bound}
 use Rattle.ps_model.specs.PinBits.{pin_of}
 use Rattle.ps_block.specs.Shown.{Shows, shown}
-use Rattle.ps_instances.specs.Instances.{KeptInstance, no_kept_instance}
+use Rattle.ps_scan.specs.Instances.{KeptInstance, no_kept_instance}
 use Rattle.ps_scan.specs.Cells.{Cells, signal_at, instance_at, kept_at}
 use Rattle.ps_scan.specs.Midway.{Midway}
 use Rattle.ps_scan.proofs.Going.{called_on}

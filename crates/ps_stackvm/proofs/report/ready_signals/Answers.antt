@@ -9,7 +9,7 @@ use Rattle.ps_model.specs.Blocks.{output_count}
 use Rattle.ps_model.proofs.OutputLengths.{output_count_is}
 use Rattle.ps_stackvm.proofs.report.ready_signals.Goals as goal
 
--- one more behind those that are there
+-- one more after those that are there
 more : (readies firsts : List ℕ) (kinds : List Kind) (i ready : ℕ) → length readies ≡ i → ready + 2 ≡ slice_index_or firsts i 0 + output_count (slice_index_or kinds i Equivalent) →
     ((k : ℕ) → k < i → slice_index readies k + 2 ≡ slice_index_or firsts k 0 + output_count (slice_index_or kinds k Equivalent)) →
     (k : ℕ) → k < i + 1 → slice_index (readies ++ ready ∷ []) k + 2 ≡ slice_index_or firsts k 0 + output_count (slice_index_or kinds k Equivalent)

@@ -1,6 +1,6 @@
 use Rattle.std.proofs.Common.{◌∙◌, Err, inl, subst}
 use Rattle.ps_base.specs.declared.failing.Fail.{Fail}
-use Rattle.ps_source.specs.Demanding.{IsDemandableAs, IsDemanding}
+use Rattle.ps_accepted.specs.Demanding.{IsDemandableAs, IsDemanding}
 use Rattle.ps_top.proofs.Calling.{passes_read}
 use Rattle.ps_top.proofs.Demands.{demanded_left, left_with_lines, left_without, lines_found, lines_none, refused_left}
 use Rattle.ps_top.proofs.Sourced.{refused_none}

@@ -1,7 +1,7 @@
 use Rattle.std.proofs.Common.{◌≡◌, ◌∙◌, ℕ, List, Err, subst}
 use Rattle.ps_base.specs.declared.failing.Fail.{Fail}
-use Rattle.ps_source.specs.Answering.{IsResolved}
-use Rattle.ps_source.specs.Source.{IsResolvedAs}
+use Rattle.ps_accepted.specs.Answering.{IsResolved}
+use Rattle.ps_accepted.specs.Source.{IsResolvedAs}
 use Rattle.ps_top.proofs.Calling.{passes_read, passes_left, passes_both}
 use Rattle.ps_top.proofs.Sourced.{refused_none}
 use Rattle.ps_top.proofs.accepting.resolve.Goals as goal

@@ -4,8 +4,8 @@ use Rattle.ps_flow.specs.Derivation.{certificate}
 use Rattle.ps_flow.specs.Written.{written}
 use Rattle.ps_flow.specs.declared.certificate.CertLine.{CertLine}
 use Rattle.ps_model.specs.Network.{Network}
-use Rattle.ps_source.specs.Answering.{app_of}
-use Rattle.ps_source.specs.Source.{IsAcceptedAs, counts}
+use Rattle.ps_accepted.specs.Answering.{app_of}
+use Rattle.ps_accepted.specs.Source.{IsAcceptedAs, counts}
 use Rattle.ps_top.specs.Asking.{Asking}
 use Rattle.ps_top.specs.Asking.Asking.{Says}
 use Rattle.ps_top.specs.Calls.{SaysAnswer}

@@ -3,8 +3,8 @@ use Rattle.ps_checker.specs.Counts.{Counts}
 use Rattle.ps_flow.specs.declared.certificate.CertLine.{CertLine}
 use Rattle.ps_model.specs.Network.{Network}
 use Rattle.ps_report.specs.Short.{check_text}
-use Rattle.ps_source.specs.Answering.{app_of}
-use Rattle.ps_source.specs.Source.{IsAcceptedAs, counts}
+use Rattle.ps_accepted.specs.Answering.{app_of}
+use Rattle.ps_accepted.specs.Source.{IsAcceptedAs, counts}
 use Rattle.ps_top.specs.Asking.{Asking}
 use Rattle.ps_top.specs.Asking.Asking.{Says}
 use Rattle.ps_top.specs.Calls.{SaysAnswer}

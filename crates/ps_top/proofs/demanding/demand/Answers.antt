@@ -1,6 +1,6 @@
 use Rattle.std.proofs.Common.{ℕ, List, [], ◌∷◌, sym, subst, arith}
-use Rattle.ps_source.specs.Demanding.{IsDemandableAs}
-use Rattle.ps_source.specs.Source.{Reading}
+use Rattle.ps_accepted.specs.Demanding.{IsDemandableAs}
+use Rattle.ps_accepted.specs.Source.{Reading}
 use Rattle.ps_top.specs.Asking.{Asking, worked}
 use Rattle.ps_top.specs.Asking.Asking.{Finds}
 use Rattle.ps_top.specs.Calls.{SaysAnswer}

@@ -1,6 +1,6 @@
 use Rattle.std.proofs.Common.{◌∙◌, ℕ, List, [], ap, subst, arith}
 use Rattle.ps_model.specs.Network.{Network}
-use Rattle.ps_source.specs.Source.{IsAcceptedAs}
+use Rattle.ps_accepted.specs.Source.{IsAcceptedAs}
 use Rattle.ps_world.specs.Whole.{Setup, IsSetupOf}
 use Rattle.ps_top.specs.Asking.Asking.{Says}
 use Rattle.ps_top.specs.Calls.{SaysAnswer}

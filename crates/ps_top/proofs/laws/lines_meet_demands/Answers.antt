@@ -1,6 +1,6 @@
-use Rattle.ps_required.proofs.RunsHold.{runs_hold}
+use Rattle.ps_demand.proofs.RunsHold.{runs_hold}
 use Rattle.ps_model.specs.Meaning.{nothing}
-use Rattle.ps_source.proofs.Keeping.{resolved_sound}
+use Rattle.ps_accepted.proofs.Keeping.{resolved_sound}
 use Rattle.ps_top.proofs.laws.lines_meet_demands.Goals as goal
 
 pub returns : goal.returns

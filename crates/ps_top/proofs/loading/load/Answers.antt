@@ -6,9 +6,9 @@ use Rattle.ps_flow.specs.declared.certificate.CertLine.{CertLine}
 use Rattle.ps_load.specs.Holding.{Load, held_of}
 use Rattle.ps_load.specs.Texts.{app_text}
 use Rattle.ps_model.specs.Network.{Network}
-use Rattle.ps_source.specs.Answering.{app_of}
-use Rattle.ps_source.specs.Source.{Reading, IsAcceptedAs, counts}
-use Rattle.ps_source.specs.Source.Reading.{stands_for}
+use Rattle.ps_accepted.specs.Answering.{app_of}
+use Rattle.ps_accepted.specs.Source.{Reading, IsAcceptedAs, counts}
+use Rattle.ps_accepted.specs.Source.Reading.{stands_for}
 use Rattle.ps_top.specs.Asking.{worked}
 use Rattle.ps_top.specs.Calls.{CallSeen}
 use Rattle.ps_top.specs.Leaving.{left_with}

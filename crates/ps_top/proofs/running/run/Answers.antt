@@ -1,5 +1,5 @@
 use Rattle.std.proofs.Common.{◌∷◌, ◌∙◌, []}
-use Rattle.ps_source.specs.Source.{IsAcceptedAs}
+use Rattle.ps_accepted.specs.Source.{IsAcceptedAs}
 use Rattle.ps_top.specs.Program.{run_quietly}
 use Rattle.ps_top.proofs.Applied.{accepted_answers, checked_none}
 use Rattle.ps_top.proofs.running.run.Goals as goal

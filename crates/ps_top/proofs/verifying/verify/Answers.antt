@@ -1,6 +1,6 @@
 use Rattle.std.proofs.Common.{[], ◌∷◌}
 use Rattle.ps_model.specs.Network.{Network}
-use Rattle.ps_source.specs.Source.{IsResolvedAs}
+use Rattle.ps_accepted.specs.Source.{IsResolvedAs}
 use Rattle.ps_top.specs.Program.{verify_named}
 use Rattle.ps_top.proofs.Applied.{found_answers, none_answers}
 use Rattle.ps_top.proofs.verifying.verify.Goals as goal

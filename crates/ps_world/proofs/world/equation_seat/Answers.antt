@@ -1,6 +1,6 @@
 use Rattle.std.proofs.Common.{◌≡◌, IfOk, subst}
 use Rattle.ps_eqvm.specs.Channel.{workings_b}
-use Rattle.ps_seat.specs.Seats.{new_seat}
+use Rattle.ps_machine.specs.Seats.{new_seat}
 use Rattle.ps_world.proofs.world.equation_seat.Goals as goal
 
 pub returns : goal.returns

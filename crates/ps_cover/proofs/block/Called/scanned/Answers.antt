@@ -8,7 +8,7 @@ use Rattle.ps_rows.specs.Counted.{kept_of}
 use Rattle.ps_ways.specs.Moving.{moved_by}
 use Rattle.ps_cover.specs.Blocks.{moved_in}
 use Rattle.ps_cover.specs.Covering.{IsCallKept}
-use Rattle.ps_pins.specs.Reading.{read_in}
+use Rattle.ps_machine.specs.Reading.{read_in}
 use Rattle.ps_cover.specs.declared.block.Called.{Called}
 use Rattle.ps_ways.specs.declared.moving.Moved.{Moved}
 use Rattle.ps_cover.proofs.block.Called.scanned.Goals as goal

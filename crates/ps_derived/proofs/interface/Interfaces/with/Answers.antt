@@ -1,7 +1,7 @@
 use Rattle.std.proofs.Common.{position, sym, ap, ◌∙◌, arith}
 use Rattle.ps_base.specs.LetterCase.{is_same_name}
-use Rattle.ps_table.specs.Tables.{place_in}
-use Rattle.ps_table.proofs.Indexing.{indexes_push}
+use Rattle.ps_names.specs.NameTables.{place_in}
+use Rattle.ps_names.proofs.Indexing.{indexes_push}
 use Rattle.ps_derived.proofs.interface.Interfaces.with.Goals as goal
 
 pub invariant_of-result : goal.invariant_of-result

@@ -1,8 +1,8 @@
 use Rattle.std.proofs.Common.{position, sym, ap, subst, ◌∙◌, arith}
 use Rattle.std.proofs.SliceLists.{all_by_recursion_push}
 use Rattle.ps_base.specs.LetterCase.{is_same_name}
-use Rattle.ps_table.specs.Tables.{place_in}
-use Rattle.ps_table.proofs.Indexing.{indexes_push}
+use Rattle.ps_names.specs.NameTables.{place_in}
+use Rattle.ps_names.proofs.Indexing.{indexes_push}
 use Rattle.ps_flatten.specs.Laying.{KnowInputs, KnowsInputs}
 use Rattle.ps_flatten.proofs.laid.Laids.with.Goals as goal
 

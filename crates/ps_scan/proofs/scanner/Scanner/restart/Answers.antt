@@ -2,8 +2,8 @@ use Rattle.std.proofs.Common.{◌∙◌, List, length, map, ap, arith}
 use Rattle.std.proofs.lemmas.List.{with_items_is}
 use Rattle.ps_model.specs.Network.{signal_count}
 use Rattle.ps_scan.specs.Cells.{Cells}
-use Rattle.ps_instances.specs.Instances.{instance_of}
-use Rattle.ps_instances.specs.declared.instance.Instance.{Instance}
+use Rattle.ps_scan.specs.Instances.{instance_of}
+use Rattle.ps_scan.specs.declared.instance.Instance.{Instance}
 use Rattle.ps_scan.proofs.Showing.{all_false}
 use Rattle.ps_scan.proofs.Ending.{stands_first}
 use Rattle.ps_scan.proofs.scanner.Scanner.restart.Goals as goal

@@ -3,7 +3,7 @@ use Rattle.std.proofs.lemmas.List.{length-map}
 use Rattle.ps_model.specs.Kept.{stepped_at}
 use Rattle.ps_model.specs.PinBits.{pin_of}
 use Rattle.ps_block.specs.Shown.{Shows}
-use Rattle.ps_instances.specs.Instances.{KeptInstance, kept_instance, instance_of}
+use Rattle.ps_scan.specs.Instances.{KeptInstance, kept_instance, instance_of}
 use Rattle.ps_scan.specs.Cells.{Cells, instance_at}
 use Rattle.ps_scan.proofs.Holding.{view_other, view_same, view_at}
 use Rattle.ps_scan.proofs.scanner.Scanner.step.Goals as goal

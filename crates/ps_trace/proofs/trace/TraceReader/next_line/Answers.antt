@@ -31,12 +31,12 @@ left_open : (reader : TraceReader) (text : List ℕ) → reader.refusal ≡ None
 left_open reader text is =
     ap (λ (r : Option Refusal). unless_refused r (scans_from reader.places.items reader.number reader.last (left reader.lines text))) is
 
--- what is left behind a refusal
+-- what is left after a refusal
 left_refused : (reader : TraceReader) (text : List ℕ) (refusal : Refusal) → reader.refusal ≡ Some refusal → items_left reader text ≡ only_refused refusal
 left_refused reader text refusal is =
     ap (λ (r : Option Refusal). unless_refused r (scans_from reader.places.items reader.number reader.last (left reader.lines text))) is
 
--- what is left behind a line
+-- what is left after a line
 left_behind : (old new : TraceReader) (lines : LineReader) (number last : ℕ) (text : List ℕ) → new.refusal ≡ None → new.places ≡ old.places →
     new.lines ≡ lines → new.number ≡ number → new.last ≡ last → items_left new text ≡ scans_from old.places.items number last (left lines text)
 left_behind old new lines number last text unrefused places on counted time = left_open new text unrefused ∙ cc

@@ -1,7 +1,7 @@
 use Rattle.std.proofs.Common.{◌≡◌, ◌∙◌, ◌+◌, ◌*◌, ◌≤◌, ◌^◌, Bool, sym, ap, subst}
 use Rattle.ps_model.specs.declared.sizes.Sizes.{Sizes}
-use Rattle.ps_seat.specs.Seats.{Seat_state}
-use Rattle.ps_seat.proofs.Turning.{finished_seat}
+use Rattle.ps_machine.specs.Seats.{Seat_state}
+use Rattle.ps_machine.proofs.Turning.{finished_seat}
 use Rattle.ps_stackvm.specs.Channel.{workings_a}
 use Rattle.ps_eqvm.specs.Channel.{workings_b}
 use Rattle.ps_decision.specs.Channel.{workings_c}

@@ -2,13 +2,13 @@ use Rattle.std.proofs.Common.{◌≡◌, ◌∙◌, ◌+◌, ◌*◌, ◌≤◌,
 use Rattle.ps_model.specs.declared.sizes.Sizes.{Sizes}
 use Rattle.ps_machine.specs.Machines.{machine_of, turned}
 use Rattle.ps_machine.specs.Channels.{after_turn}
-use Rattle.ps_seat.specs.Seats.{Seat_state, machine_in}
-use Rattle.ps_seat.proofs.Turning.{finished_seat, each_turn_goes, last_turn_ends}
+use Rattle.ps_machine.specs.Seats.{Seat_state, machine_in}
+use Rattle.ps_machine.proofs.Turning.{finished_seat, each_turn_goes, last_turn_ends}
 use Rattle.ps_stackvm.specs.Channel.{workings_a}
 use Rattle.ps_eqvm.specs.Channel.{workings_b}
 use Rattle.ps_world.specs.Whole.{Whole, machines_in, after_events}
 use Rattle.ps_world.specs.Orders.{turn_events}
-use Rattle.ps_seat.proofs.Left.{HasLeft, left_within}
+use Rattle.ps_machine.proofs.Left.{HasLeft, left_within}
 use Rattle.ps_world.proofs.Quick.{turns_finish}
 use Rattle.ps_world.proofs.world.World.finish_both.Goals as goal
 

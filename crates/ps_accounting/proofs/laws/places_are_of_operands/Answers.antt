@@ -1,5 +1,0 @@
-use Rattle.ps_accounting.proofs.Fitting.{places_are}
-use Rattle.ps_accounting.proofs.laws.places_are_of_operands.Goals as goal
-
-pub returns : goal.returns
-returns c = places_are

@@ -1,5 +1,0 @@
-use Rattle.ps_answers.proofs.Flow.{flow_decided}
-use Rattle.ps_answers.proofs.laws.accepted_or_breaks.Goals as goal
-
-pub returns : goal.returns
-returns c = flow_decided

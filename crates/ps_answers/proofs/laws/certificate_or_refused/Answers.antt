@@ -1,5 +1,0 @@
-use Rattle.ps_answers.proofs.CertificateText.{certificate_decided}
-use Rattle.ps_answers.proofs.laws.certificate_or_refused.Goals as goal
-
-pub returns : goal.returns
-returns c = certificate_decided

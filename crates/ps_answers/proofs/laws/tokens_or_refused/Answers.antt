@@ -1,5 +1,0 @@
-use Rattle.ps_answers.proofs.Lexing.{tokens_decided}
-use Rattle.ps_answers.proofs.laws.tokens_or_refused.Goals as goal
-
-pub returns : goal.returns
-returns c = tokens_decided

@@ -1,2 +1,0 @@
--- lines that are told, one after another
-pub mod Tellings

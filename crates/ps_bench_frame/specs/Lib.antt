@@ -1,0 +1,12 @@
+-- pieces of what the commands write, and the line of a refusal: what a reader of the clauses has to believe
+pub mod Pieces
+pub mod Refusing
+-- what a word means in the place of a trace
+pub mod Meant
+-- what a command takes its application and its case files from
+pub mod Opening
+-- what a text gives besides its application
+pub mod Sourcing
+-- how a call ends, and what it leaves that stops
+pub mod Ending
+pub mod Stopping

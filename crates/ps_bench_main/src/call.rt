@@ -1,0 +1,425 @@
+// One call of the program, from its words to the number with which it exits.
+
+ghost use Rattle.std.specs.Prelude.{◌≡◌, ◌⊎◌, ◌≤◌, ◌∷◌, [], ℕ, List, Any, Ok, Err, IfOk, IfErr, IsErrOf, OnErr};
+ghost use Rattle.ps_bench_words.specs.Asking as asking;
+ghost use Rattle.ps_bench_words.specs.Asking.{Asks};
+ghost use Rattle.ps_bench_words.specs.Seen.{asked_seen};
+ghost use Rattle.ps_bench_watch.specs.LiveAsking.{fed};
+ghost use Rattle.ps_bench_main.specs.Answering.{Answers, IsAnswered, IsCutOff, IsUnreadBy, Stops};
+ghost use Rattle.ps_bench_frame.specs.Ending.{IsUnread, exit_number, stop_status};
+ghost use Rattle.ps_bench_frame.specs.Stopping.{TookNothing};
+ghost use Rattle.ps_bench_frame.specs.declared.ending.Status.{Status as StatusOf};
+ghost use Rattle.ps_outside.specs.Outside.{Rose};
+ghost use Rattle.ps_bench_watch.specs.Tracing.{AnswersTrace, StopsTrace};
+
+use ps_base::Memory;
+use ps_bench_campaign::{Campaign, CampaignAsked, campaign, sum};
+use ps_bench_cover::{CoverAsked, cover};
+use ps_bench_frame::{Status, Stop, exit_code};
+use ps_bench_messages::{Names, tell};
+use ps_bench_never::{NeverAsked, SameAsked, never, same};
+use ps_bench_report::{ReportAsked, report};
+use ps_bench_test::{TestAsked, expand, test};
+use ps_bench_watch::{LiveAsked, Stream, TraceAsked, WatchAsked, live, trace, watch};
+use ps_bench_why::{WhyAsked, why};
+use ps_bench_words::{Asked, asked_of, texts_of};
+use ps_message::Listener;
+use ps_outside::{Files, Output, write_all};
+use ps_search::Observer;
+use ps_words::Words;
+use std::alloc::Global;
+
+// Tells what is wrong with words.
+fn tell_words<L: Listener>(listener: &mut L, text: &str) {
+    if !listener.is_quiet() {
+        listener.hear(text);
+    }
+}
+
+// Writes the trace of a log.
+fn do_trace<F: Files, O: Output>(
+    alloc: Global,
+    files: &mut F,
+    out: &mut O,
+    asked: &TraceAsked<'_>,
+) -> Result<Status, Stop>
+    ensures answers { IfOk result (λ status. (status ≡ StatusOf.Done)
+        × AnswersTrace asked.now.app.now asked.now.log.now (F.tells files.old) (F.held files.old)
+        (O.tells out.old) (O.taken out.old) (O.taken out.new)) }
+    ensures stops { IfErr result (λ stop. StopsTrace asked.now.app.now asked.now.log.now (F.tells files.old) (F.held files.old)
+        (O.tells out.old) (O.taken out.old) (O.taken out.new) stop) }
+    ensures unread { IfErr result (λ stop. IsUnread stop → Any (λ (name : List ℕ).
+        Rose (F.faults files.old name) (F.faults files.new name)) (asked.now.app.now ∷ asked.now.log.now ∷ [])) }
+    ensures unwritten { IsErrOf result Stop.Unwritten → Rose (O.faults out.old) (O.faults out.new) }
+    ensures writes { O.faults out.old ≤ O.faults out.new }
+    ensures telling { O.tells out.new ≡ O.tells out.old }
+{
+    match trace(alloc, files, out, asked) {
+        Ok(()) => Ok(Status::Done),
+        Err(stop) => Err(stop),
+    }
+}
+
+// Does what is asked. Words that are not taken are told.
+fn do_asked<F: Files, I: Stream, O: Output, L: Listener, W: Observer>(
+    alloc: Global,
+    asked: &Asked<'_>,
+    files: &mut F,
+    input: &mut I,
+    out: &mut O,
+    listener: &mut L,
+    observer: &mut W,
+) -> Result<Status, Stop>
+    ensures answers { IfOk result (λ status.
+        Answers (asked_seen asked.now) (fed (I.tells input.old) (I.coming input.old) (I.coming input.new))
+        (F.tells files.old) (F.held files.old) status
+        (O.tells out.old) (O.taken out.old) (O.taken out.new)) }
+    ensures stops { IfErr result (λ stop.
+        Stops (asked_seen asked.now) (fed (I.tells input.old) (I.coming input.old) (I.coming input.new))
+        (F.tells files.old) (F.held files.old) stop
+        (O.tells out.old) (O.taken out.old) (O.taken out.new)) }
+    ensures unread { IfErr result (λ stop. IsUnread stop → IsUnreadBy (asked_seen asked.now)
+        (F.faults files.old) (F.faults files.new) (I.faults input.old) (I.faults input.new)) }
+    ensures unwritten { IsErrOf result Stop.Unwritten → Rose (O.faults out.old) (O.faults out.new) }
+    ensures writes { O.faults out.old ≤ O.faults out.new }
+    ensures telling { O.tells out.new ≡ O.tells out.old }
+{
+    match asked {
+        Asked::Test { app, cases, format } => {
+            let asked = TestAsked {
+                app: *app,
+                cases: cases.as_slice(),
+                format: *format,
+            };
+            test(alloc, files, out, listener, &asked)
+        }
+        Asked::Expand { app, cases } => {
+            expand(alloc, files, out, *app, *cases)?;
+            Ok(Status::Done)
+        }
+        Asked::Watch {
+            app,
+            trace,
+            names,
+            faults,
+            layout,
+        } => {
+            let asked = WatchAsked {
+                app: *app,
+                trace: *trace,
+                names: names.as_slice(),
+                faults: *faults,
+                layout: *layout,
+            };
+            watch(alloc, files, out, listener, &asked)
+        }
+        Asked::Trace { app, csv } => {
+            let asked = TraceAsked {
+                app: *app,
+                log: *csv,
+            };
+            do_trace(alloc, files, out, &asked)
+        }
+        Asked::Why {
+            app,
+            trace,
+            time,
+            name,
+            output,
+        } => {
+            let asked = WhyAsked {
+                app: *app,
+                trace: *trace,
+                time: *time,
+                name: *name,
+                format: *output,
+            };
+            why(alloc, files, out, listener, &asked)
+        }
+        Asked::Cover {
+            app,
+            traces,
+            output,
+            least,
+            ideas,
+        } => {
+            let asked = CoverAsked {
+                app: *app,
+                traces: traces.as_slice(),
+                format: *output,
+                least: *least,
+                ideas: *ideas,
+            };
+            cover(alloc, files, out, listener, &asked)
+        }
+        Asked::Never { app, rules, states } => {
+            let asked = NeverAsked {
+                app: *app,
+                rules: *rules,
+                states: *states,
+            };
+            never(alloc, files, out, &asked, observer)
+        }
+        Asked::Same {
+            app,
+            other,
+            rules,
+            states,
+        } => {
+            let asked = SameAsked {
+                app: *app,
+                other: *other,
+                rules: *rules,
+                states: *states,
+            };
+            same(alloc, files, out, listener, &asked, observer)
+        }
+        Asked::Campaign {
+            app,
+            trace,
+            from,
+            count,
+            channel,
+            print,
+        } => {
+            let asked = CampaignAsked {
+                app: *app,
+                trace: *trace,
+                trials: Campaign {
+                    from: *from,
+                    count: *count,
+                    channel: *channel,
+                },
+                print: *print,
+            };
+            campaign(alloc, files, out, listener, &asked)
+        }
+        Asked::Sum { files: names } => sum(alloc, files, out, names.as_slice()),
+        Asked::Report { app, cases, title } => {
+            let asked = ReportAsked {
+                app: *app,
+                cases: cases.as_slice(),
+                title: *title,
+            };
+            report(alloc, files, out, &asked)
+        }
+        Asked::Live { app, names } => {
+            let asked = LiveAsked {
+                app: *app,
+                names: *names,
+            };
+            live(alloc, files, input, out, &asked)
+        }
+        Asked::Page { text } => {
+            write_all(out, text.as_bytes())?;
+            Ok(Status::Done)
+        }
+        Asked::NotTaken { text } => {
+            tell_words(listener, text.as_str());
+            Ok(Status::Usage)
+        }
+    }
+}
+
+// The names of the files that are asked of, for messages.
+fn names_in<'a>(asked: &'a Asked<'a>) -> Names<'a> {
+    match asked {
+        Asked::Test { app, cases, .. } => Names {
+            cases: cases.as_slice(),
+            ..Names::of_app(*app)
+        },
+        Asked::Expand { app, cases } => Names {
+            cases: std::slice::from_ref(cases),
+            ..Names::of_app(*app)
+        },
+        Asked::Watch {
+            app,
+            trace,
+            faults,
+            ..
+        } => Names {
+            trace: *trace,
+            faults: faults.unwrap_or(""),
+            ..Names::of_app(*app)
+        },
+        Asked::Trace { app, csv } => Names {
+            log: *csv,
+            ..Names::of_app(*app)
+        },
+        Asked::Why { app, trace, .. } => Names {
+            trace: *trace,
+            ..Names::of_app(*app)
+        },
+        Asked::Cover { app, traces, .. } => Names {
+            traces: traces.as_slice(),
+            ..Names::of_app(*app)
+        },
+        Asked::Never { app, rules, .. } => Names {
+            rules: *rules,
+            ..Names::of_app(*app)
+        },
+        Asked::Same {
+            app,
+            other,
+            rules,
+            ..
+        } => Names {
+            other: *other,
+            rules: rules.unwrap_or(""),
+            ..Names::of_app(*app)
+        },
+        Asked::Campaign { app, trace, .. } => Names {
+            trace: *trace,
+            ..Names::of_app(*app)
+        },
+        Asked::Sum { files } => Names {
+            traces: files.as_slice(),
+            ..Names::of_app("")
+        },
+        Asked::Report { app, cases, .. } => Names {
+            cases: cases.as_slice(),
+            ..Names::of_app(*app)
+        },
+        Asked::Live { app, .. } => Names::of_app(*app),
+        Asked::Page { .. } | Asked::NotTaken { .. } => Names::of_app(""),
+    }
+}
+
+// How a call ended whose output was to hand on the rest at its end: a handing on that failed is a write that failed.
+fn finished<O: Output>(done: Result<Status, Stop>, out: &mut O) -> Result<Status, Stop>
+    ensures done { IfOk result (λ status. done ≡ Ok status) }
+    ensures stopped { IfErr result (λ stop. (done ≡ Err stop) ⊎ (stop ≡ Stop.Unwritten)) }
+    ensures unwritten { OnErr result ((done ≡ result) ⊎ Rose (O.faults out.old) (O.faults out.new)) }
+    ensures writes { O.faults out.old ≤ O.faults out.new }
+    ensures kept { O.taken out.new ≡ O.taken out.old }
+    ensures telling { O.tells out.new ≡ O.tells out.old }
+{
+    match out.finish() {
+        Ok(()) => done,
+        Err(_) => Err(Stop::Unwritten),
+    }
+}
+
+// The status of a call that stopped, and tells why unless nobody reads the output any more.
+fn stopped<O: Output, L: Listener>(
+    alloc: Global,
+    out: &O,
+    listener: &mut L,
+    names: &Names<'_>,
+    stop: Stop,
+) -> Status
+    ensures status { result ≡ stop_status stop }
+    ensures unanswered { ¬ IsAnswered result }
+{
+    if !out.is_closed() {
+        tell(alloc, listener, names, stop);
+    }
+    stop.status()
+}
+
+// Does what is asked, has the output hand on what it holds back, and tells why it stopped, where it did.
+fn end_asked<F: Files, I: Stream, O: Output, L: Listener, W: Observer>(
+    alloc: Global,
+    asked: &Asked<'_>,
+    files: &mut F,
+    input: &mut I,
+    out: &mut O,
+    listener: &mut L,
+    observer: &mut W,
+) -> Status
+    ensures answers { IsAnswered result →
+        Answers (asked_seen asked.now) (fed (I.tells input.old) (I.coming input.old) (I.coming input.new))
+        (F.tells files.old) (F.held files.old) result
+        (O.tells out.old) (O.taken out.old) (O.taken out.new) }
+    ensures cut_off { ¬ IsAnswered result →
+        IsCutOff (asked_seen asked.now) (fed (I.tells input.old) (I.coming input.old) (I.coming input.new))
+        (F.tells files.old) (F.held files.old) result
+        (O.tells out.old) (O.taken out.old) (O.taken out.new) }
+    ensures unread { result ≡ StatusOf.ReadFault → IsUnreadBy (asked_seen asked.now)
+        (F.faults files.old) (F.faults files.new) (I.faults input.old) (I.faults input.new) }
+    ensures unwritten { result ≡ StatusOf.WriteFault → Rose (O.faults out.old) (O.faults out.new) }
+{
+    let done = do_asked(alloc, asked, files, input, out, listener, observer);
+    match finished(done, out) {
+        Ok(status) => status,
+        Err(stop) => stopped(alloc, out, listener, &names_in(asked), stop),
+    }
+}
+
+// Does what the words ask. An error means out of memory before anything was done.
+fn do_words<F: Files, I: Stream, O: Output, L: Listener, W: Observer>(
+    alloc: Global,
+    words: &Words,
+    files: &mut F,
+    input: &mut I,
+    out: &mut O,
+    listener: &mut L,
+    observer: &mut W,
+) -> Result<Status, Memory>
+    ensures answers { IfOk result (λ status. IsAnswered status → (asked : asking.Asked) × Asks words.now asked
+        × Answers asked (fed (I.tells input.old) (I.coming input.old) (I.coming input.new))
+        (F.tells files.old) (F.held files.old) status
+        (O.tells out.old) (O.taken out.old) (O.taken out.new)) }
+    ensures cut_off { IfOk result (λ status. ¬ IsAnswered status → (asked : asking.Asked) × Asks words.now asked
+        × IsCutOff asked (fed (I.tells input.old) (I.coming input.old) (I.coming input.new))
+        (F.tells files.old) (F.held files.old) status
+        (O.tells out.old) (O.taken out.old) (O.taken out.new)
+        × (status ≡ StatusOf.ReadFault → IsUnreadBy asked
+        (F.faults files.old) (F.faults files.new) (I.faults input.old) (I.faults input.new))) }
+    ensures unwritten { IfOk result (λ status. status ≡ StatusOf.WriteFault →
+        Rose (O.faults out.old) (O.faults out.new)) }
+    ensures nothing { OnErr result (O.taken out.new ≡ O.taken out.old) }
+{
+    let texts = texts_of(alloc, words)?;
+    let asked = asked_of(alloc, texts.as_slice())?;
+    Ok(end_asked(alloc, &asked, files, input, out, listener, observer))
+}
+
+// The status of a call for which there is no memory before anything was done, and tells of it.
+fn without_memory<L: Listener>(alloc: Global, listener: &mut L) -> Status
+    ensures status { result ≡ StatusOf.Memory }
+{
+    tell(alloc, listener, &Names::of_app(""), Stop::NoMemory);
+    Status::Memory
+}
+
+/// Does what the words ask, and says the number with which the program exits: all that the program does, over any
+/// files, any input, any output, whoever is told in words why a call did not do all, and whoever watches a search.
+///
+/// `words` are those after the program's name. The number is that of a status, 0 to 7. Nothing is told of an output
+/// that nobody reads any more.
+pub fn exit_of_call<F: Files, I: Stream, O: Output, L: Listener, W: Observer>(
+    alloc: Global,
+    words: &Words,
+    files: &mut F,
+    input: &mut I,
+    out: &mut O,
+    listener: &mut L,
+    observer: &mut W,
+) -> u8
+    // The number is that of a status. Where nothing stopped the call, the status and what was written are those of what
+    // the words ask: of `test`, 0 exactly where every case passed, and else 4; of `never`, 0 where every rule holds,
+    // of `cover` where no less was shown than was asked for, and of `live` where no scan tripped. Where the call did
+    // not do all, why it stopped and what was written up to there are those of what the words ask, unless memory was
+    // wanting before that; of a file or an input that could not be read, and of an output that could not be written,
+    // the count rose.
+    ensures does { (status : StatusOf) × (result ≡ exit_number status)
+        × (IsAnswered status → (asked : asking.Asked) × Asks words.now asked
+        × Answers asked (fed (I.tells input.old) (I.coming input.old) (I.coming input.new))
+        (F.tells files.old) (F.held files.old) status
+        (O.tells out.old) (O.taken out.old) (O.taken out.new))
+        × (¬ IsAnswered status →
+        ((status ≡ StatusOf.Memory) × TookNothing (O.tells out.old) (O.taken out.old) (O.taken out.new))
+        ⊎ ((asked : asking.Asked) × Asks words.now asked
+        × IsCutOff asked (fed (I.tells input.old) (I.coming input.old) (I.coming input.new))
+        (F.tells files.old) (F.held files.old) status
+        (O.tells out.old) (O.taken out.old) (O.taken out.new)
+        × (status ≡ StatusOf.ReadFault → IsUnreadBy asked
+        (F.faults files.old) (F.faults files.new) (I.faults input.old) (I.faults input.new))))
+        × (status ≡ StatusOf.WriteFault → Rose (O.faults out.old) (O.faults out.new)) }
+{
+    match do_words(alloc, words, files, input, out, listener, observer) {
+        Ok(status) => exit_code(status),
+        Err(Memory) => exit_code(without_memory(alloc, listener)),
+    }
+}

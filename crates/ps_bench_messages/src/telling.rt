@@ -1,0 +1,352 @@
+// What a person reads on standard error of a call that stopped.
+
+use crate::advising::{MOST_LOOKED_AT, case_message};
+use crate::logged::log_message;
+use crate::ruled::rules_message;
+use crate::summed::sum_message;
+use ps_accepted::accept_text;
+use ps_base::limits::{LARGEST_SOURCE, LARGEST_TRACE, LONGEST_FAULT_LINE, MOST_FAULT_LINES};
+use ps_base::{Bytes, Fail, Memory, Refusal, Rule};
+use ps_bench_cases::CaseRefusal;
+use ps_bench_frame::pieces::add_shown;
+use ps_bench_frame::{Input, InputStop, Stop, word_of};
+use ps_bench_trials::{LARGEST_SUM, SumRefusal};
+use ps_findings::{RegionSizes, detail_on, header_told, inputs_told, past_told, refusal_of_app};
+use ps_message::{
+    Listener, NO_MEMORY, UNWRITTEN, Unread, hear_bytes, message as refusal_message, unread_message,
+};
+use ps_model::ImageSizes;
+use ps_world::World;
+use std::alloc::Global;
+
+// What a trace is called that comes by standard input.
+const FED: &str = "standard input";
+
+// What is told where scans at any times are asked for.
+const ANY_TIMES: &str =
+    "scans at any times are not searched: write a number of ms behind every (docs/never.md)\n";
+
+/// The names of the files of a call, and what it is to watch.
+#[derive(Clone, Copy)]
+pub struct Names<'a> {
+    /// The application.
+    pub app: &'a str,
+    /// The case files.
+    pub cases: &'a [&'a str],
+    /// The word in the place of a trace; empty of a call whose trace comes by standard input.
+    pub trace: &'a str,
+    /// The words in the place of traces, of a call that names several; of one that adds counts, their files.
+    pub traces: &'a [&'a str],
+    /// The fault file.
+    pub faults: &'a str,
+    /// The rules file.
+    pub rules: &'a str,
+    /// The log.
+    pub log: &'a str,
+    /// The application with which another one is compared.
+    pub other: &'a str,
+}
+
+impl<'a> Names<'a> {
+    /// The name of an application, and no other name.
+    pub fn of_app(app: &'a str) -> Names<'a> {
+        Names {
+            app,
+            cases: &[],
+            trace: "",
+            traces: &[],
+            faults: "",
+            rules: "",
+            log: "",
+            other: "",
+        }
+    }
+}
+
+// The message of a refusal of the application.
+fn app_refused<L: Listener>(
+    alloc: Global,
+    listener: &L,
+    name: &str,
+    refusal: &Refusal,
+) -> Result<Bytes, Memory> {
+    let text = listener.text_of(alloc, name, LARGEST_SOURCE + 1);
+    refusal_of_app(alloc, name, text.as_slice(), refusal)
+}
+
+// The message of a refusal of a case file.
+fn cases_refused<L: Listener>(
+    alloc: Global,
+    listener: &L,
+    app: &str,
+    name: &str,
+    refusal: CaseRefusal,
+) -> Result<Bytes, Memory> {
+    let source = listener.text_of(alloc, app, LARGEST_SOURCE + 1);
+    let text = listener.text_of(alloc, name, MOST_LOOKED_AT);
+    case_message(
+        alloc,
+        source.as_slice(),
+        name.as_bytes(),
+        text.as_slice(),
+        refusal,
+    )
+}
+
+// The message of a file that cannot be read; nothing where it can be read by now.
+fn unread<L: Listener>(alloc: Global, listener: &L, name: &str) -> Result<Bytes, Memory> {
+    match listener.why_unread(name) {
+        Some(why) => unread_message(alloc, name.as_bytes(), why),
+        None => Ok(Bytes::new(alloc)),
+    }
+}
+
+// The name at a place among names.
+fn name_at<'a>(names: &[&'a str], place: usize) -> &'a str {
+    if place < names.len() {
+        names[place]
+    } else {
+        ""
+    }
+}
+
+// The name of the case file at a place of the words; of a call that names none, the file that its word in the place of
+// a trace names, or the one at this place of its words for traces.
+fn case_file<'a>(names: &Names<'a>, place: usize) -> &'a str {
+    if !names.cases.is_empty() {
+        name_at(names.cases, place)
+    } else if !names.traces.is_empty() {
+        word_of(name_at(names.traces, place)).file
+    } else {
+        word_of(names.trace).file
+    }
+}
+
+// Whether this is a trace that came by standard input: nothing of it can be read again.
+fn is_fed(names: &Names<'_>, input: Input) -> bool {
+    input == Input::Trace && names.trace.is_empty()
+}
+
+// The name of what a run is made of.
+fn input_name<'a>(names: &Names<'a>, input: Input) -> &'a str {
+    match input {
+        Input::Trace if names.trace.is_empty() => FED,
+        Input::Trace => names.trace,
+        Input::TraceAt(place) => name_at(names.traces, place),
+        Input::Faults => names.faults,
+        Input::Rules => names.rules,
+        Input::Log => names.log,
+        Input::Other => names.other,
+    }
+}
+
+// As many bytes of what a run is made of as its rules look at.
+fn most_of(input: Input) -> u32 {
+    match input {
+        Input::Trace | Input::TraceAt(_) => LARGEST_TRACE,
+        Input::Faults => MOST_FAULT_LINES * (LONGEST_FAULT_LINE + 1),
+        Input::Rules | Input::Log => MOST_LOOKED_AT,
+        Input::Other => LARGEST_SOURCE + 1,
+    }
+}
+
+// The lengths in bytes of the regions of the channels of an application of this text. None: it is refused.
+fn sizes_of(alloc: Global, source: &[u8]) -> Result<Option<ImageSizes>, Memory> {
+    match accept_text(alloc, source) {
+        Ok(accepted) => {
+            let (app, _) = accepted.into_parts();
+            Ok(Some(World::build(alloc, &app)?.sizes()))
+        }
+        Err(Fail::Memory) => Err(Memory),
+        Err(Fail::Refused(_)) => Ok(None),
+    }
+}
+
+// What is told of a fault whose bytes pass the end of its region: how long that is.
+fn region_told(
+    alloc: Global,
+    source: &[u8],
+    text: &[u8],
+    refusal: &Refusal,
+) -> Result<Bytes, Memory> {
+    let Some(sizes) = sizes_of(alloc, source)? else {
+        return Ok(Bytes::new(alloc));
+    };
+    let channels = [
+        RegionSizes {
+            channel: b'A',
+            code: sizes.a_code,
+            memory: sizes.a_cells,
+        },
+        RegionSizes {
+            channel: b'B',
+            code: sizes.b_code,
+            memory: sizes.b_cells,
+        },
+    ];
+    past_told(alloc, text, refusal.place.line, &channels)
+}
+
+// What is told of a refusal besides its rule: where a trace has not the inputs of the application of this text, what
+// these are, or which it has not; how long a region is; or what the line tells.
+fn told_on(alloc: Global, source: &[u8], text: &[u8], refusal: &Refusal) -> Result<Bytes, Memory> {
+    match refusal.rule {
+        Rule::T2 => inputs_told(alloc, source),
+        Rule::T3 if text.is_empty() => inputs_told(alloc, source),
+        Rule::T3 => header_told(alloc, source, text),
+        Rule::F3 => region_told(alloc, source, text, refusal),
+        _ => detail_on(alloc, text, refusal),
+    }
+}
+
+// The text of what a run is made of, as far as its rules look at it.
+fn input_text<L: Listener>(alloc: Global, listener: &L, names: &Names<'_>, input: Input) -> Bytes {
+    if is_fed(names, input) {
+        Bytes::new(alloc)
+    } else {
+        listener.text_of(alloc, input_name(names, input), most_of(input))
+    }
+}
+
+// The message of a refusal of what a run is made of.
+fn input_refused<L: Listener>(
+    alloc: Global,
+    listener: &L,
+    names: &Names<'_>,
+    input: Input,
+    refusal: &Refusal,
+) -> Result<Bytes, Memory> {
+    let name = input_name(names, input);
+    let source = listener.text_of(alloc, names.app, LARGEST_SOURCE);
+    let text = input_text(alloc, listener, names, input);
+    let words = told_on(alloc, source.as_slice(), text.as_slice(), refusal)?;
+    refusal_message(
+        alloc,
+        name.as_bytes(),
+        text.as_slice(),
+        refusal,
+        words.as_slice(),
+    )
+}
+
+// The message of a refusal of a file of counts.
+fn sum_refused<L: Listener>(
+    alloc: Global,
+    listener: &L,
+    names: &Names<'_>,
+    refusal: SumRefusal,
+) -> Result<Bytes, Memory> {
+    let name = name_at(names.traces, refusal.place);
+    let text = listener.text_of(alloc, name, LARGEST_SUM + 1);
+    sum_message(
+        alloc,
+        name_at(names.traces, 0),
+        name.as_bytes(),
+        text.as_slice(),
+        refusal,
+    )
+}
+
+// What is told of a call that stopped at what a run or a search is made of.
+fn input_message<L: Listener>(
+    alloc: Global,
+    listener: &L,
+    names: &Names<'_>,
+    why: InputStop,
+) -> Result<Bytes, Memory> {
+    match why {
+        InputStop::Refused(input, refusal) => {
+            input_refused(alloc, listener, names, input, &refusal)
+        }
+        InputStop::RulesRefused(refusal) => {
+            let source = listener.text_of(alloc, names.app, LARGEST_SOURCE + 1);
+            let text = listener.text_of(alloc, names.rules, MOST_LOOKED_AT);
+            rules_message(
+                alloc,
+                source.as_slice(),
+                names.rules.as_bytes(),
+                text.as_slice(),
+                refusal,
+            )
+        }
+        InputStop::LogRefused(refusal) => {
+            let source = listener.text_of(alloc, names.app, LARGEST_SOURCE + 1);
+            let text = listener.text_of(alloc, names.log, MOST_LOOKED_AT);
+            log_message(
+                alloc,
+                source.as_slice(),
+                names.log.as_bytes(),
+                text.as_slice(),
+                refusal,
+            )
+        }
+        InputStop::SumRefused(refusal) => sum_refused(alloc, listener, names, refusal),
+        InputStop::OtherRefused(refusal) => app_refused(alloc, listener, names.other, &refusal),
+        InputStop::Unlike => Ok(Bytes::new(alloc)),
+        InputStop::Unread(input) if is_fed(names, input) => {
+            unread_message(alloc, FED.as_bytes(), Unread::Failed)
+        }
+        InputStop::Unread(input) => unread(alloc, listener, input_name(names, input)),
+    }
+}
+
+// What is told of a call that stopped so.
+fn message<L: Listener>(
+    alloc: Global,
+    listener: &L,
+    names: &Names<'_>,
+    stop: Stop,
+) -> Result<Bytes, Memory> {
+    match stop {
+        Stop::App(refusal) => app_refused(alloc, listener, names.app, &refusal),
+        Stop::Cases(place, refusal) => {
+            cases_refused(alloc, listener, names.app, case_file(names, place), refusal)
+        }
+        Stop::UnreadApp => unread(alloc, listener, names.app),
+        Stop::UnreadCases(place) => unread(alloc, listener, case_file(names, place)),
+        Stop::Input(why) => input_message(alloc, listener, names, why),
+        Stop::Unwritten => Bytes::from_slice(alloc, UNWRITTEN.as_bytes()),
+        Stop::NoMemory => Err(Memory),
+    }
+}
+
+/// Tells a listener why a call stopped. If memory runs out it tells of that.
+pub fn tell<L: Listener>(alloc: Global, listener: &mut L, names: &Names<'_>, stop: Stop) {
+    if listener.is_quiet() {
+        return;
+    }
+    match message(alloc, listener, names, stop) {
+        Ok(text) => hear_bytes(listener, text.as_slice()),
+        Err(Memory) => listener.hear(NO_MEMORY),
+    }
+}
+
+// What is told of a word that names nothing in the application of this name.
+fn no_name(alloc: Global, app: &str, word: &str) -> Result<Bytes, Memory> {
+    let mut text = Bytes::new(alloc);
+    add_shown(&mut text, app.as_bytes())?;
+    text.extend_from_slice(b": nothing there is called ")?;
+    add_shown(&mut text, word.as_bytes())?;
+    text.extend_from_slice(
+        b"\nname an input, an output, a local, an instance, or INSTANCE.PIN for a BOOL or SAFEBOOL pin (docs/watch.md)\n",
+    )?;
+    Ok(text)
+}
+
+/// Tells a listener that a word names nothing in the application of this name.
+pub fn tell_no_name<L: Listener>(alloc: Global, listener: &mut L, app: &str, word: &str) {
+    if listener.is_quiet() {
+        return;
+    }
+    match no_name(alloc, app, word) {
+        Ok(text) => hear_bytes(listener, text.as_slice()),
+        Err(Memory) => listener.hear(NO_MEMORY),
+    }
+}
+
+/// Tells a listener that scans at any times are not searched.
+pub fn tell_any_times<L: Listener>(listener: &mut L) {
+    if !listener.is_quiet() {
+        listener.hear(ANY_TIMES);
+    }
+}

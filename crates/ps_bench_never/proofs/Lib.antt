@@ -1,0 +1,22 @@
+-- what a rules file asks, what is found of a rule, and its text
+pub mod Marking
+pub mod Matching
+pub mod Pins
+pub mod Joining
+pub mod Alike
+pub mod Pacing
+pub mod Saying
+pub mod Finding
+pub mod JoiningAny
+-- what `never` answered, and why the call stopped, by what it came to
+pub mod Coming
+-- of `same`: what inputs follow are inputs and outputs
+pub mod Sharing
+-- what is asked of both
+pub mod Asking
+-- what is found by the text of a rules file
+pub mod SameFinding
+-- the output that is named differs
+pub mod Naming
+-- how a call of `same` ends, by what stood before its parts
+pub mod SameComing

@@ -1,0 +1,23 @@
+-- what a rules file asks: what a reader of the clauses has to believe
+pub mod Wanted
+pub mod Asked
+-- what `never` is asked, what it writes by that, and how it stops
+pub mod Asking
+-- what `never` says: what a reader of the promise has to believe
+pub mod Pieces
+pub mod Casing
+pub mod Telling
+pub mod Answering
+-- what it says if scans come at any times: what a reader of the promise has to believe
+pub mod TellingAny
+pub mod AnsweringAny
+-- the law: cases some ms apart among those at any times
+pub mod Whenever
+-- what `same` is asked, what it writes by that, and how it stops
+pub mod SameAsking
+-- what `same` says: what a reader of the promise has to believe
+pub mod Likeness
+pub mod SameTelling
+pub mod SameAnswering
+-- the law: the output that is named differs
+pub mod Naming

@@ -1,0 +1,18 @@
+-- what a case expects, and what a recorder makes of the scans of its run
+pub mod Expecting
+pub mod Films
+pub mod Seeing
+pub mod Recorded
+pub mod Lasting
+pub mod Stopping
+pub mod Played
+-- the scans that pictures show
+pub mod Picturing
+-- cases that are shown, after others, and the text of their pages
+pub mod Shown
+-- what a read leaves, and why a call stops by it
+pub mod Reading
+-- how a call stops at a case file
+pub mod Stopped
+-- what comes of a call with an application
+pub mod Coming

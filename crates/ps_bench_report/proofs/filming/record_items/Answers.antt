@@ -1,0 +1,13 @@
+use Rattle.ps_bench_report.proofs.Recorded.{recorded}
+use Rattle.ps_bench_report.proofs.Stopping.{done_refused}
+use Rattle.ps_bench_report.proofs.filming.record_items.Goals as goal
+
+pub returns : goal.returns
+returns g c = record {
+  records = λ tells text held reading names begun ws means.
+      let does = c.do_items.ensures.does tells text held reading in
+      recorded c.args.app.now names c.sound.ensures _ _ c.args.runner.now.performer c.args.runner.now.taker _ does.bytes _ _ _ begun does.did ws means;
+  refuses = λ tells text held reading refusal is.
+      done_refused c.args.app.now _ _ _ _ _ _ _ _ _ _ refusal (c.do_items.ensures.does tells text held reading).did is;
+  failures = c.do_items.ensures.failures;
+}

@@ -1,0 +1,52 @@
+use Rattle.std.proofs.Common.{◌≡◌, ◌∙◌, Err, refl, sym, ap, subst}
+use Rattle.std.specs.Prelude.{OnOk}
+use Rattle.ps_model.specs.Meaning.{nothing}
+use Rattle.ps_bench_report.proofs.Played.{ends_whole, records_items}
+use Rattle.ps_bench_report.specs.Recorder.{IsFresh}
+use Rattle.ps_bench_report.specs.Filmed.{HasRecorded, IsBegun, made_of}
+use Rattle.ps_runs.specs.Cutting.{TellsFailures}
+use Rattle.ps_runs.specs.Running.{IsBeginning}
+use Rattle.ps_runs.specs.Watching.{StandsAt}
+use Rattle.ps_runs.specs.declared.striking.StruckWorld.{StruckWorld}
+use Rattle.ps_runs.specs.declared.watching.Watched.{Watched}
+use Rattle.ps_trace.specs.Reading.{file_of, items_left}
+use Rattle.ps_bench_report.proofs.playing.record_trace.Goals as goal
+
+pub new-requires : goal.new-requires
+new-requires c = c.new-world.ensures.fits c.args.app.now c.in_ok-build.ensures
+
+pub returns-in_ok-finish-in-Ok : goal.returns-in_ok-finish-in-Ok
+returns-in_ok-finish-in-Ok c = record {
+  records = λ reading whole names fresh.
+      let net = c.args.app.now in
+      let text = c.args.text.now in
+      let items = (items_left c.args.trace.now text).items in
+      let ran = c.in_ok-runner.runner in
+      let performer_is : ran.performer ≡ c.in_ok-performer.performer = c.in_ok-runner.ensures.performer in
+      let world_is : ran.performer.performer ≡ c.new-world.result =
+      ap (λ (w : Watched StruckWorld). w.performer) performer_is ∙ c.in_ok-performer.ensures.performer in
+      let begins : IsBeginning net ran.performer.performer =
+      subst (IsBeginning net) (sym world_is) (c.new-world.ensures.begins net c.in_ok-build.ensures) in
+      let faults_are : ran.performer.performer.faults ≡ c.args.faults =
+      ap (λ (w : StruckWorld). w.faults) world_is ∙ c.new-world.ensures.faults in
+      let begun : IsBegun net names ran.performer ran.taker = record {
+        world = begins;
+        evaluator = subst (λ (w : Watched StruckWorld). StandsAt net nothing w.evaluator) (sym performer_is) c.in_ok-performer.ensures.first;
+        fresh = subst (IsFresh names) (sym c.in_ok-runner.ensures.taker) fresh;
+      } in
+      records_items net names items c.args.faults ran.performer.performer c.record_items.new.runner.taker c.in_ok-finish-in-Ok.field-0 begins faults_are
+      (λ ws means.
+      subst (λ r. OnOk r (HasRecorded net names (made_of net ran.performer.performer items ws) c.record_items.new.runner.taker)) c.in-Ok.is
+      (c.record_items.ensures.records refl text refl reading names begun ws means))
+      c.in_ok-finish-in-Ok.ensures.wanting c.in_ok-finish-in-Ok.ensures.film;
+}
+
+pub returns-in-Err : goal.returns-in-Err
+returns-in-Err c = record {
+  records = λ reading whole names fresh.
+      let file = file_of c.args.trace.now in
+      let text = c.args.text.now in
+      absurd (ends_whole file (items_left c.args.trace.now text).end c.in-Err.field-0
+      (subst (TellsFailures file (λ _. 0) (λ _. 0) 0 0) c.in-Err.is c.record_items.ensures.failures)
+      (λ refusal is. c.record_items.ensures.refuses refl text refl reading refusal (c.in-Err.is ∙ ap Err is)) whole);
+}

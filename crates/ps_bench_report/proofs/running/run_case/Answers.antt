@@ -1,0 +1,19 @@
+use Rattle.std.proofs.Common.{refl}
+use Rattle.ps_bench_test.specs.Outcome.{Ran}
+use Rattle.ps_bench_report.proofs.Shown.{one_shown}
+use Rattle.ps_bench_report.proofs.running.run_case.Goals as goal
+
+pub returns : goal.returns
+returns c =
+    let r : Ran = record {
+      net = c.args.bench.now.opened.now.app;
+      app = c.args.bench.now.name.now;
+      name = c.args.named.now.name.now;
+      file = c.args.named.now.file.now;
+      case = c.args.case.now;
+      outcome = c.in_ok-outcome.outcome;
+    } in (
+      r,
+      record { net_is = refl; app_is = refl; name_is = refl; file_is = refl; case_is = refl; outcome = c.in_ok-outcome.ensures },
+      one_shown r c.args.pages.now.rows c.add_case.new.page c.args.pages.now.sections c.add_section.new.page c.add_case.ensures c.in_ok-add_section.ensures,
+    )

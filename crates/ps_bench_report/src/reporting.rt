@@ -1,0 +1,251 @@
+// `report APP CASES..`: one page for the file on the safety of a machine.
+
+ghost use Rattle.std.specs.Prelude.{◌≡◌, ◌≤◌, [], ◌∷◌, ◌++◌, ℕ, List, Any, IfOk, IfErr, IsErrOf, IsTrue};
+ghost use Rattle.ps_bench_cover.specs.Leaving.{Leaves, LeavesOutput, sides};
+ghost use Rattle.ps_bench_frame.specs.Ending.{IsUnread};
+ghost use Rattle.ps_bench_frame.specs.Opening.{source};
+ghost use Rattle.ps_bench_words.specs.Seen.{seen};
+ghost use Rattle.ps_model.specs.Typing.{Accepted};
+ghost use Rattle.ps_outside.specs.Outside.{Rose};
+ghost use Rattle.ps_bench_report.specs.Asking.{AnswersReport, Ends, StopsReport};
+ghost use Rattle.ps_bench_report.specs.Running.{EndsPage, MakesPage, ReadsFile};
+ghost use Rattle.ps_bench_report.specs.Writing.{written};
+
+use crate::names::Tag;
+use crate::page::Page;
+use crate::running::{Bench, Pages, add_named, run_files, stop_by};
+use crate::tables::{add_foot, add_head, close_table, open_table};
+use crate::texts::{Shown, add_texts};
+use crate::writing::add_page;
+use ps_accepted::read_source;
+use ps_base::{Bytes, Memory};
+use ps_bench_frame::{Sourced, Status, Stop, open_sourced};
+use ps_cover::Cover;
+use ps_model::App;
+use ps_outside::{Files, Output, ReadFail, write_all};
+use std::alloc::Global;
+
+/// What `report` is asked.
+#[derive(Clone, Copy)]
+pub struct Asked<'a> {
+    /// The name of the application.
+    pub app: &'a str,
+    /// The names of the case files, in order.
+    pub cases: &'a [&'a str],
+    /// The title of the page, where one is given.
+    pub title: Option<&'a str>,
+}
+
+// The title of a page: the one that is given, or one by the name of the application.
+fn title_of(alloc: Global, asked: &Asked<'_>) -> Result<Bytes, Memory> {
+    match asked.title {
+        Some(title) => Bytes::from_slice(alloc, title.as_bytes()),
+        None => {
+            let mut title = Bytes::from_slice(alloc, b"Report on ")?;
+            title.extend_from_slice(asked.app.as_bytes())?;
+            Ok(title)
+        }
+    }
+}
+
+// The beginning of the page: the head, and what stands before the rows of the files.
+fn front_of(alloc: Global, asked: &Asked<'_>) -> Result<Page, Memory> {
+    let title = title_of(alloc, asked)?;
+    let mut page = Page::new(alloc);
+    add_head(&mut page, title.as_slice());
+    let columns: [&[u8]; 2] = [b"File", b"SHA-256"];
+    open_table(
+        &mut page,
+        b"Files",
+        b"The application, and the case files",
+        columns.as_slice(),
+    );
+    Ok(page)
+}
+
+// The pages of a report before any file is shown in them.
+fn first_pages<'a>(alloc: Global, app: &'a App, asked: &Asked<'_>) -> Result<Pages<'a>, Memory>
+    ensures { IfOk result (λ pages. (pages.rows.pieces ≡ []) × (pages.sections.pieces ≡ [])) }
+{
+    let cover = Cover::new(alloc, app)?;
+    let front = front_of(alloc, asked)?;
+    Ok(Pages {
+        front,
+        rows: Page::new(alloc),
+        sections: Page::new(alloc),
+        cover,
+    })
+}
+
+// What stands between the rows of the files and those of the results.
+fn open_results(page: &mut Page) {
+    close_table(page);
+    let columns: [&[u8]; 4] = [b"Case", b"Line", b"Result", b"Scans"];
+    open_table(page, b"Results", b"All cases", columns.as_slice());
+}
+
+// What stands between the rows of the results and the parts of the cases.
+fn between_of(alloc: Global) -> Page {
+    let mut page = Page::new(alloc);
+    close_table(&mut page);
+    page.open(Tag::Section);
+    page.element(Tag::H2, b"Cases");
+    page
+}
+
+// What stands after the parts of the cases: those that are texts, and the foot.
+fn back_of(alloc: Global, shown: &Shown<'_>) -> Page
+    requires { Accepted shown.now.app.now }
+{
+    let mut page = Page::new(alloc);
+    page.close(Tag::Section);
+    add_texts(&mut page, alloc, shown);
+    add_foot(&mut page);
+    page
+}
+
+// The text of the pages of a report.
+fn text_of(alloc: Global, pages: &Pages<'_>, between: &Page, back: &Page) -> Result<Bytes, Memory>
+    ensures { IfOk result (λ text. IsTrue pages.now.rows.whole × IsTrue pages.now.sections.whole × (text ≡ written
+        (pages.now.front.pieces ++ pages.now.rows.pieces ++ between.now.pieces ++ pages.now.sections.pieces
+        ++ back.now.pieces))) }
+{
+    let mut text = Bytes::new(alloc);
+    add_page(&mut text, &pages.front)?;
+    add_page(&mut text, &pages.rows)?;
+    add_page(&mut text, between)?;
+    add_page(&mut text, &pages.sections)?;
+    add_page(&mut text, back)?;
+    Ok(text)
+}
+
+// The text of a report.
+fn report_text(
+    alloc: Global,
+    sourced: &Sourced,
+    asked: &Asked<'_>,
+    source: &[u8],
+    pages: &mut Pages<'_>,
+) -> Result<Bytes, Memory>
+    requires { Accepted sourced.now.opened.app }
+    ensures { IfOk result (MakesPage pages.old.rows pages.old.sections) }
+{
+    open_results(&mut pages.front);
+    let between = between_of(alloc);
+    let shown = Shown {
+        name: asked.app,
+        text: source,
+        app: &sourced.opened.app,
+        source: &sourced.source,
+        cover: &pages.cover,
+    };
+    let back = back_of(alloc, &shown);
+    text_of(alloc, pages, &between, &back)
+}
+
+// Writes a report.
+fn write_report<O: Output>(
+    alloc: Global,
+    out: &mut O,
+    sourced: &Sourced,
+    asked: &Asked<'_>,
+    source: &[u8],
+    pages: &mut Pages<'_>,
+) -> Result<Status, Stop>
+    requires { Accepted sourced.now.opened.app }
+    ensures ends { EndsPage pages.old.rows pages.old.sections (O.tells out.old) (O.taken out.old) (O.taken out.new)
+        result }
+    ensures leaves { LeavesOutput (O.tells out.old) (O.tells out.new) (O.faults out.old) (O.faults out.new) result }
+{
+    match report_text(alloc, sourced, asked, source, pages) {
+        Ok(text) => match write_all(out, text.as_slice()) {
+            Ok(()) => Ok(Status::Done),
+            Err(_) => Err(Stop::Unwritten),
+        },
+        Err(Memory) => Err(Stop::NoMemory),
+    }
+}
+
+// The source of the application of this name, with its row among the files.
+fn read_app<F: Files>(
+    alloc: Global,
+    files: &mut F,
+    name: &str,
+    page: &mut Page,
+) -> Result<Bytes, ReadFail>
+    ensures { ReadsFile name.now (F.tells files.old) (F.tells files.new) (F.held files.old) (F.held files.new)
+        (F.faults files.old) (F.faults files.new) result }
+{
+    match add_named(alloc, files, name, page) {
+        Ok(()) => read_source(alloc, name, files),
+        Err(fail) => Err(fail),
+    }
+}
+
+// Runs the cases of an application, and writes the page.
+fn report_app<F: Files, O: Output>(
+    alloc: Global,
+    files: &mut F,
+    out: &mut O,
+    sourced: &Sourced,
+    asked: &Asked<'_>,
+) -> Result<Status, Stop>
+    requires { Accepted sourced.now.opened.app }
+    ensures ends { Ends (source sourced.now.opened.app sourced.now.opened.sizes (F.tells files.old) (F.held files.old))
+        asked.now.app.now (seen asked.now.cases.now) (O.tells out.old) (O.taken out.old) (O.taken out.new) result }
+    ensures leaves { Leaves (Any (λ (name : List ℕ). Rose (F.faults files.old name) (F.faults files.new name))
+        (asked.now.app.now ∷ seen asked.now.cases.now))
+        (sides (F.tells files.old) (F.held files.old) (F.faults files.old) (O.tells out.old) (O.faults out.old))
+        (sides (F.tells files.new) (F.held files.new) (F.faults files.new) (O.tells out.new) (O.faults out.new))
+        result }
+{
+    let mut pages = match first_pages(alloc, &sourced.opened.app, asked) {
+        Ok(pages) => pages,
+        Err(Memory) => return Err(Stop::NoMemory),
+    };
+    let text = match read_app(alloc, files, asked.app, &mut pages.front) {
+        Ok(text) => text,
+        Err(fail) => return Err(stop_by(Stop::UnreadApp, fail)),
+    };
+    let bench = Bench {
+        alloc,
+        opened: &sourced.opened,
+        name: asked.app,
+    };
+    match run_files(files, out, &bench, asked.cases, &mut pages) {
+        Ok(()) => write_report(alloc, out, sourced, asked, text.as_slice(), &mut pages),
+        Err(stop) => Err(stop),
+    }
+}
+
+/// `report APP CASES..`: writes one page in HTML that needs nothing else: title, application and case files by their
+/// SHA-256, the results of all cases, each run in a world of its own, a timing diagram of each, the source with the
+/// numbers of its lines, notes, demands, coverage, and what is claimed. The status is Done, whether cases pass or fail.
+///
+/// Where the application is refused, or a case file, the line of the refusal is written in the place of all else. The
+/// page is whole in memory before its first byte is written.
+///
+/// A file that cannot be read is one of those whose count of the files rose in this call; `Unwritten` comes only where
+/// the output's count rose.
+pub fn report<F: Files, O: Output>(
+    alloc: Global,
+    files: &mut F,
+    out: &mut O,
+    asked: &Asked<'_>,
+) -> Result<Status, Stop>
+    ensures answers { IfOk result (AnswersReport asked.now.app.now (seen asked.now.cases.now)
+        (F.tells files.old) (F.held files.old) (O.tells out.old) (O.taken out.old) (O.taken out.new)) }
+    ensures stops { IfErr result (StopsReport asked.now.app.now (seen asked.now.cases.now)
+        (F.tells files.old) (F.held files.old) (O.tells out.old) (O.taken out.old) (O.taken out.new)) }
+    ensures unread { IfErr result (λ stop. IsUnread stop →
+        Any (λ (name : List ℕ). Rose (F.faults files.old name) (F.faults files.new name))
+        (asked.now.app.now ∷ seen asked.now.cases.now)) }
+    ensures unwritten { IsErrOf result Stop.Unwritten → Rose (O.faults out.old) (O.faults out.new) }
+    ensures writes { O.faults out.old ≤ O.faults out.new }
+    ensures telling { O.tells out.new ≡ O.tells out.old }
+{
+    match open_sourced(alloc, files, out, asked.app) {
+        Ok(sourced) => report_app(alloc, files, out, &sourced, asked),
+        Err(stop) => Err(stop),
+    }
+}

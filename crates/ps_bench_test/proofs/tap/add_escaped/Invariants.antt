@@ -1,0 +1,6 @@
+use Rattle.std.proofs.Common.{◌≡◌, ◌++◌, take}
+use Rattle.ps_bench_test.specs.Tap.{tap_escaped}
+use Rattle.ps_bench_test.proofs.tap.add_escaped.Given as goal
+
+abbrev pub invariant-loop-byte : goal.invariant-loop-byte
+invariant-loop-byte l = l.text ≡ l.initial.text ++ tap_escaped (take l.byte-index l.description)

@@ -1,0 +1,26 @@
+-- What names a text that is held, and pieces of a text.
+use Rattle.std.proofs.Common.{◌≡◌, ◌∙◌, ◌++◌, append_assoc, ℕ, List, Option, Some, None, IsSome, Result, Ok, Err, take, refl, ap}
+use Rattle.std.specs.Prelude.{IfOk, OnOk}
+use Rattle.hex.specs.Hex.{encode_lower}
+use Rattle.ps_base.specs.declared.limits.TheConstants.{LARGEST_TRACE}
+use Rattle.ps_outside.specs.declared.reading.ReadFail.{ReadFail}
+use Rattle.ps_bench_trials.specs.Naming.{Names}
+use Rattle.sha2.specs.Sha256.{sha256}
+
+-- the digits of what was read of it
+names_held : (held : Option (List ℕ)) (bytes digits : List ℕ) → IsSome held →
+    ((text : List ℕ) → held ≡ Some text → bytes ≡ take LARGEST_TRACE text) → digits ≡ encode_lower (sha256 bytes) → Names held digits
+names_held (Some text) bytes digits some read is = (text, refl, is ∙ ap (λ (bs : List ℕ). encode_lower (sha256 bs)) (read text refl))
+names_held None bytes digits some read is = let no : ⊥ = cc in absurd no
+
+pub named_held : (held : Option (List ℕ)) (bytes : List ℕ) (named : Result (List ℕ) ReadFail) → IsSome held →
+    ((text : List ℕ) → held ≡ Some text → bytes ≡ take LARGEST_TRACE text) → IfOk named (λ digits. digits ≡ encode_lower (sha256 bytes)) →
+    IfOk named (Names held)
+named_held held bytes (Ok digits) some read is = names_held held bytes digits some read is
+named_held held bytes (Err fail) some read is = tt
+
+-- two pieces, one after another
+pub two_pieces : {E : Type 0} (before mid after first second : List ℕ) (ended : Result (Unit {0}) E) → mid ≡ before ++ first →
+    OnOk ended (after ≡ mid ++ second) → OnOk ended (after ≡ before ++ (first ++ second))
+two_pieces before mid after first second (Ok done) is more = more ∙ ap (λ ms. ms ++ second) is ∙ append_assoc before first second
+two_pieces before mid after first second (Err error) is more = tt

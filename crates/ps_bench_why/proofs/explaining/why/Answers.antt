@@ -1,0 +1,39 @@
+use Rattle.std.proofs.Common.{ℕ, IsTrue, List, Option, sym, subst}
+use Rattle.ps_bench_frame.specs.Meant.{file_meant}
+use Rattle.ps_bench_frame.specs.Sourcing.{IsSourceOf}
+use Rattle.ps_bench_why.specs.Asking.{wanted_by}
+use Rattle.ps_bench_why.proofs.Coming.{answered, moved, stops, unread_since}
+use Rattle.ps_bench_why.proofs.explaining.why.Goals as goal
+
+pub returns-in-Ok-clause-answers : goal.returns-in-Ok-clause-answers
+returns-in-Ok-clause-answers g c =
+    let opened = c.in-Ok.sourced.opened in
+    let app = c.args.asked.now.app.now in
+    let wanted = wanted_by c.args.asked.now in
+    answered opened.app opened.sizes app wanted
+    (g.F.Files.tells c.args.files.now) (g.F.Files.held c.args.files.now) (g.O.Sink.tells c.args.out.now)
+    (g.O.Sink.taken c.args.out.now) (g.O.Sink.taken c.why_app.new.out) c.why_app.result c.in-Ok.ensures.app
+    (moved opened.app opened.sizes app wanted _ _ _ _ _ _ _ _ _ c.why_app.result
+    c.in-Ok.ensures.reading c.in-Ok.ensures.kept c.in-Ok.ensures.telling c.in-Ok.ensures.unsaid c.why_app.ensures.answers)
+
+pub returns-in-Ok-clause-stops : goal.returns-in-Ok-clause-stops
+returns-in-Ok-clause-stops g c =
+    let opened = c.in-Ok.sourced.opened in
+    let app = c.args.asked.now.app.now in
+    let wanted = wanted_by c.args.asked.now in
+    stops opened.app opened.sizes app wanted
+    (g.F.Files.tells c.args.files.now) (g.F.Files.held c.args.files.now) (g.O.Sink.tells c.args.out.now)
+    (g.O.Sink.taken c.args.out.now) (g.O.Sink.taken c.why_app.new.out) c.why_app.result c.in-Ok.ensures.app
+    (moved opened.app opened.sizes app wanted _ _ _ _ _ _ _ _ _ c.why_app.result
+    c.in-Ok.ensures.reading c.in-Ok.ensures.kept c.in-Ok.ensures.telling c.in-Ok.ensures.unsaid c.why_app.ensures.answers)
+
+pub returns-in-Ok-clause-unread : goal.returns-in-Ok-clause-unread
+returns-in-Ok-clause-unread g c =
+    let trace = file_meant c.args.asked.now.trace.now in
+    unread_since (g.F.Files.faults c.args.files.now) (g.F.Files.faults c.open_sourced.new.files) (g.F.Files.faults c.why_app.new.files)
+    c.args.asked.now.app.now trace c.why_app.result (c.in-Ok.ensures.reads trace) c.why_app.ensures.unread
+
+pub why_app-requires : goal.why_app-requires
+why_app-requires g c = λ tells.
+    let there = c.in-Ok.ensures.source (subst IsTrue c.in-Ok.ensures.reading tells) in
+    subst (λ (held : List ℕ → Option (List ℕ)). IsSourceOf held c.args.asked.now.app.now c.in-Ok.sourced.source) (sym c.in-Ok.ensures.kept) there

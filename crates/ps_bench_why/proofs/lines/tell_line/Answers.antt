@@ -1,0 +1,36 @@
+use Rattle.std.proofs.Common.{◌∙◌, Some, ap, refl, false}
+use Rattle.std.proofs.lemmas.Option.{slice_get-get_or}
+use Rattle.ps_cover.proofs.Chains.{carry}
+use Rattle.ps_bench_why.proofs.Tellings.{keeps_noted, now_noted, telling_less, telling_line, within_notes}
+use Rattle.ps_bench_why.proofs.lines.tell_line.Goals as goal
+
+pub bounds-told-place : goal.bounds-told-place
+bounds-told-place c =
+    within_notes c.args.explanation.now c.args.told.now c.args.lines.now.items c.args.pending.now.items c.args.line c.requires.telling
+
+pub bounds-told-place-2 : goal.bounds-told-place-2
+bounds-told-place-2 c =
+    within_notes c.args.explanation.now c.args.told.now c.args.lines.now.items c.args.pending.now.items c.args.line c.requires.telling
+
+pub returns-then-told-place-clause-telling : goal.returns-then-told-place-clause-telling
+returns-then-told-place-clause-telling c =
+    telling_less c.args.explanation.now c.args.told.now c.args.lines.now.items c.args.pending.now.items c.args.line c.requires.telling
+
+pub returns-then-told-place-clause-tells : goal.returns-then-told-place-clause-tells
+returns-then-told-place-clause-tells c =
+    let within = within_notes c.args.explanation.now c.args.told.now c.args.lines.now.items c.args.pending.now.items c.args.line c.requires.telling in
+    slice_get-get_or c.args.told.now c.args.line.fact false within ∙ ap Some c.if-told-place.true
+
+pub returns-clause-telling : goal.returns-clause-telling
+returns-clause-telling c =
+    carry c.push_reasons.result
+    (λ added. telling_line c.args.explanation.now c.args.told.now _ c.args.lines.now.items _ c.args.pending.now.items _ c.args.line
+    c.requires.telling c.if-told-place.false refl c.in_ok-push.ensures.items added) c.push_reasons.ensures
+
+pub returns-clause-keeps : goal.returns-clause-keeps
+returns-clause-keeps c = carry c.push_reasons.result (λ added. keeps_noted c.args.told.now c.args.line.fact) c.push_reasons.ensures
+
+pub returns-clause-tells : goal.returns-clause-tells
+returns-clause-tells c =
+    let within = within_notes c.args.explanation.now c.args.told.now c.args.lines.now.items c.args.pending.now.items c.args.line c.requires.telling in
+    carry c.push_reasons.result (λ added. now_noted c.args.told.now c.args.line.fact within) c.push_reasons.ensures

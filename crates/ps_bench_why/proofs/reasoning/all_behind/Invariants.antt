@@ -1,0 +1,6 @@
+use Rattle.std.proofs.Common.{◌≡◌, map, take}
+use Rattle.ps_bench_why.specs.declared.walker.Since.{Since}
+use Rattle.ps_bench_why.proofs.reasoning.all_behind.Given as goal
+
+abbrev pub invariant-loop-noted : goal.invariant-loop-noted
+invariant-loop-noted l = l.times.items ≡ map (λ (s : Since). s.behind) (take l.noted-index l.since)

@@ -1,7 +1,0 @@
-use Rattle.std.proofs.Common.{take}
-use Rattle.std.specs.List.{All}
-use Rattle.ps_campaigning.specs.Marks.{IsShort}
-use Rattle.ps_campaigning.proofs.marks.are_timely.Given as goal
-
-abbrev pub invariant-loop-step : goal.invariant-loop-step
-invariant-loop-step l = All IsShort (take l.step-index l.steps)

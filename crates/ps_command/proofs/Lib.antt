@@ -1,4 +1,0 @@
--- what `clap` makes of the words of each command
-pub mod GivenBack
--- the subcommands, as they are added
-pub mod Adding

@@ -1,2 +1,0 @@
--- what `clap` is asked to read
-pub mod Parsing

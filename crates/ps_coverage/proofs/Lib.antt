@@ -1,6 +1,0 @@
--- what the text cites
-pub mod Capitals
-pub mod Chains
-pub mod Counts
-pub mod Made
-pub mod OfTraces

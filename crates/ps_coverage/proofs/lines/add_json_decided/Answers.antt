@@ -1,5 +1,0 @@
-use Rattle.std.proofs.Common.{append_assoc}
-use Rattle.ps_coverage.proofs.lines.add_json_decided.Goals as goal
-
-pub returns : goal.returns
-returns c = simp append_assoc c.add_said.ensures

@@ -1,9 +1,0 @@
-use Rattle.ps_coverage.specs.Text.{decisions_at, place_of}
-use Rattle.ps_coverage.specs.Telling.{known_of}
-use Rattle.ps_cover.proofs.Listings.{one_more}
-use Rattle.ps_coverage.proofs.text.add_decisions.Goals as goal
-
-pub loop-n-preserved : goal.loop-n-preserved
-loop-n-preserved c =
-    let x = known_of c.args.told.now in
-    one_more (λ n. decisions_at c.args.format (place_of x n) (x.at n)) c.loop-n.n c.args.text.now c.loop-n.text _ c.loop-n.invariant c.in_ok-add_decision_at.ensures

@@ -1,8 +1,0 @@
-use Rattle.std.proofs.Common.{◌≡◌, ◌++◌}
-use Rattle.std.specs.List.{flat_map, range_with_len}
-use Rattle.ps_coverage.specs.Text.{decisions_at, place_of}
-use Rattle.ps_coverage.specs.Telling.{known_of}
-use Rattle.ps_coverage.proofs.text.add_decisions.Given as goal
-
-abbrev pub invariant-loop-n : goal.invariant-loop-n
-invariant-loop-n l = let x = known_of l.told in l.text ≡ l.fn.text ++ flat_map (λ n. decisions_at l.format (place_of x n) (x.at n)) (range_with_len 0 l.n)

@@ -1,8 +1,0 @@
-//! What is told is so of the traces.
-
-ghost use Rattle.ps_coverage.specs.OfTraces.{TextIsOfTraces};
-
-/// Behind the scans of some traces, each begun anew, the text is that of what these traces show.
-pub fn text_is_of_traces()
-    ensures { TextIsOfTraces }
-{}

@@ -1,6 +1,0 @@
-use Rattle.std.proofs.Common.{map, take}
-use Rattle.ps_derived_rules.specs.Tallies.{Counts}
-use Rattle.ps_derived_rules.proofs.counts.declared_of.Given as goal
-
-abbrev pub invariant-loop-i : goal.invariant-loop-i
-invariant-loop-i l = Counts l.names (map (λ d. d.name) (take l.i l.declared))

@@ -1,5 +1,0 @@
-use Rattle.ps_derived_rules.proofs.Giving as proof
-use Rattle.ps_derived_rules.proofs.laws.each_call_gives.Goals as goal
-
-pub returns : goal.returns
-returns c = proof.each_call_gives

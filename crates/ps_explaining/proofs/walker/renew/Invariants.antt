@@ -1,6 +1,0 @@
-use Rattle.ps_cover.proofs.Listed.{Turned}
-use Rattle.ps_explaining.specs.Walking.{renewed}
-use Rattle.ps_explaining.proofs.walker.renew.Given as goal
-
-abbrev pub invariant-loop-i : goal.invariant-loop-i
-invariant-loop-i l = Turned renewed l.fn.kept l.kept l.i

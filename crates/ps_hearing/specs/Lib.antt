@@ -1,2 +1,0 @@
--- what a listener heard
-pub mod Hearing

@@ -1,2 +1,0 @@
-pub mod FewPins
-pub mod Bitwise

@@ -1,0 +1,36 @@
+// What the parameters of a request say.
+
+use ps_lsp_rpc::Request;
+use ps_text::Position;
+use serde_json::Value;
+
+// A number of a position; the largest one where it is larger.
+fn number_at(params: &Value, path: &str) -> Option<u32> {
+    let number = params.pointer(path)?.as_u64()?;
+    Some(number.min(u64::from(u32::MAX)) as u32)
+}
+
+/// A text that the parameters say at a path.
+pub(crate) fn text_at<'a>(request: &'a Request, path: &str) -> Option<&'a str> {
+    request.params()?.pointer(path)?.as_str()
+}
+
+/// The name of the text that a request is about.
+pub(crate) fn uri_of(request: &Request) -> Option<&str> {
+    text_at(request, "/textDocument/uri")
+}
+
+/// The position that a request is about.
+pub(crate) fn position_in(request: &Request) -> Option<Position> {
+    let params = request.params()?;
+    Some(Position {
+        line: number_at(params, "/position/line")?,
+        character: number_at(params, "/position/character")?,
+    })
+}
+
+/// The text that a change leaves: the last of the whole texts that it gives.
+pub(crate) fn changed_text(request: &Request) -> Option<&str> {
+    let changes = request.params()?.pointer("/contentChanges")?.as_array()?;
+    changes.last()?.pointer("/text")?.as_str()
+}

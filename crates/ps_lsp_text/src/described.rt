@@ -1,0 +1,84 @@
+// Kinds and pins in words.
+
+use ps_base::{Bytes, Memory};
+use ps_lexer::Word;
+use ps_model::{Kind, PinRow, Ty, input_count, kind_name, pin_count, pin_name, pin_row};
+use ps_ways::state_words;
+use std::alloc::Global;
+
+/// The name of a type.
+pub(crate) fn type_name(ty: Ty) -> &'static [u8] {
+    match ty {
+        Ty::Safe => b"SAFEBOOL",
+        Ty::Bool => b"BOOL",
+        Ty::Time => b"TIME",
+    }
+}
+
+// What a pin is, by its row.
+fn role(row: PinRow) -> &'static [u8] {
+    match (row.is_input, row.ty, row.free) {
+        (false, _, _) => b", output",
+        (true, Ty::Time, _) => b", input, 0 ms where it is free",
+        (true, _, true) => b", input, TRUE where it is free",
+        (true, _, false) => b", input, FALSE where it is free",
+    }
+}
+
+/// What is said of a pin of a kind, after a text.
+pub(crate) fn add_pin(text: &mut Bytes, kind: Kind, pin: u8) -> Result<(), Memory> {
+    if pin >= pin_count(kind) {
+        return Ok(());
+    }
+    let row = pin_row(kind, pin);
+    text.extend_from_slice(pin_name(kind, pin).as_bytes())?;
+    text.extend_from_slice(b" : ")?;
+    text.extend_from_slice(type_name(row.ty))?;
+    text.extend_from_slice(role(row))
+}
+
+// A state of a kind, in a line: its DiagCode, and what it is called. Nothing where the kind has no such code.
+fn add_state(alloc: Global, text: &mut Bytes, kind: Kind, code: u16) -> Result<(), Memory> {
+    match state_words(kind, code) {
+        Some(words) => {
+            let line = format!(in alloc; "\n{code:04X} {words}")?;
+            text.extend_from_slice(line.as_str().as_bytes())
+        }
+        None => Ok(()),
+    }
+}
+
+/// What is said of a kind: its name, its pins, and its states by their DiagCodes, each in a line.
+pub(crate) fn kind_told(alloc: Global, kind: Kind) -> Result<Bytes, Memory> {
+    let mut text = Bytes::from_slice(alloc, kind_name(kind).as_bytes())?;
+    text.extend_from_slice(b", a safety function block\n")?;
+    for pin in 0..pin_count(kind) {
+        text.push(b'\n')?;
+        add_pin(&mut text, kind, pin)?;
+    }
+    text.push(b'\n')?;
+    for code in 0..=u16::MAX {
+        add_state(alloc, &mut text, kind, code)?;
+    }
+    Ok(text)
+}
+
+/// The number of the pin of a kind that has a name, without letter case: of an input, or of an output.
+pub(crate) fn pin_named(kind: Kind, name: &[u8], is_input: bool) -> Option<u8> {
+    let inputs = input_count(kind);
+    for pin in 0..pin_count(kind) {
+        if (pin < inputs) == is_input && pin_name(kind, pin).as_bytes().eq_ignore_ascii_case(name) {
+            return Some(pin);
+        }
+    }
+    None
+}
+
+/// What a name is that a section declares.
+pub(crate) fn section_told(section: Option<Word>) -> &'static [u8] {
+    match section {
+        Some(Word::VarInput) => b", an input",
+        Some(Word::VarOutput) => b", an output",
+        _ => b", a local",
+    }
+}

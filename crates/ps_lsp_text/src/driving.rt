@@ -1,0 +1,76 @@
+// The statement that drives a name.
+
+use crate::looking::{form_at, name_at};
+use ps_base::{Bytes, Memory};
+use ps_lexer::{Form, Token, Word};
+use ps_text::{add_first, add_number, line_at};
+
+// The most bytes of a statement that are shown.
+const MOST_SHOWN: usize = 120;
+
+// Whether a statement may begin at a token: after the one before it, or after a section.
+fn may_begin(tokens: &[Token], at: usize) -> bool {
+    match at.checked_sub(1) {
+        Some(before) => matches!(
+            form_at(tokens, before),
+            Some(Form::Semicolon | Form::Word(Word::EndVar))
+        ),
+        None => true,
+    }
+}
+
+// Whether a token begins the statement that assigns a name, or the call of an instance.
+fn drives(tokens: &[Token], at: usize, name: &[u8]) -> bool {
+    let is_of = match name_at(tokens, at) {
+        Some(other) => other.eq_ignore_ascii_case(name),
+        None => false,
+    };
+    is_of
+        && may_begin(tokens, at)
+        && matches!(
+            form_at(tokens, at.saturating_add(1)),
+            Some(Form::Assign | Form::LeftBracket)
+        )
+}
+
+// The number of the token with which the statement begins that drives a name, from a token on.
+fn driver_from(tokens: &[Token], name: &[u8], from: usize) -> Option<usize> {
+    for at in from..tokens.len() {
+        if drives(tokens, at, name) {
+            return Some(at);
+        }
+    }
+    None
+}
+
+// Where the statement ends that begins at a token: before its semicolon, or with the text.
+fn end_from(tokens: &[Token], at: usize, length: usize) -> usize {
+    for i in at..tokens.len() {
+        if matches!(tokens[i].form, Form::Semicolon) {
+            return tokens[i].from as usize;
+        }
+    }
+    length
+}
+
+/// Tells in which line a name is driven, and by what, after other words: the assignment of a signal, or the call of an
+/// instance, from a token on. Nothing where there is none. A statement of several lines is shown by its first one.
+pub(crate) fn add_driver(
+    words: &mut Bytes,
+    text: &[u8],
+    tokens: &[Token],
+    name: &[u8],
+    from: usize,
+) -> Result<(), Memory> {
+    let Some(at) = driver_from(tokens, name, from) else {
+        return Ok(());
+    };
+    let Some(token) = tokens.get(at) else {
+        return Ok(());
+    };
+    let begin = (token.from as usize).min(text.len());
+    let end = end_from(tokens, at, text.len()).min(text.len()).max(begin);
+    add_number(words, b"\ndriven in line ", token.place.line)?;
+    words.extend_from_slice(b": ")?;
+    add_first(words, line_at(&text[begin..end], 1), MOST_SHOWN)
+}

@@ -1,0 +1,281 @@
+// The server: its open texts, and what it does for each method.
+
+ghost use Rattle.std.specs.Prelude.{◌≡◌, ℕ, List, IfOk};
+ghost use Rattle.serde_json.specs.View.{view};
+ghost use Rattle.ps_lsp_text.specs.Findings.{Diagnoses};
+ghost use Rattle.ps_accepted.specs.Answering.{IsFrontOf};
+ghost use Rattle.ps_lsp_text.specs.Texts.{held};
+ghost use Rattle.ps_lsp_text.specs.Published.{TellsOf};
+ghost use Rattle.ps_lsp_text.specs.Serving.{IsAnswered};
+
+use crate::asking::{changed_text, position_in, text_at, uri_of};
+use crate::fronts::front_of;
+use crate::published::{published, withdrawn};
+use crate::shown::{completion_value, definition_value, hover_value, symbols_value};
+use crate::{Asked, Findings, Texts, findings_in};
+use ps_base::Memory;
+use ps_lsp_rpc::{Code, Outcome, Reply, Request, answer};
+use ps_text::place_at;
+use serde_json::{Value, json};
+use std::alloc::{AllocError, Global};
+
+/// How far a server is.
+#[derive(Clone, Copy, PartialEq)]
+pub enum Stage {
+    /// It has not been asked to begin.
+    Fresh,
+    /// It answers.
+    Running,
+    /// It has been asked to shut down.
+    Shut,
+    /// It has been told to exit, after it was asked to shut down or without.
+    Ended { orderly: bool },
+}
+
+// What comes of a message: what its answer is to say, where it asks for one, and a notice.
+struct Done {
+    outcome: Outcome,
+    notice: Option<Value>,
+}
+
+impl Drop for Done {
+    fn drop(self) {
+        let Done {
+            outcome: _,
+            notice: _,
+        } = self;
+    }
+}
+
+impl Done {
+    // What the answer is to say, and the notice.
+    fn into_parts(self) -> (Outcome, Option<Value>) {
+        let Done { outcome, notice } = self;
+        (outcome, notice)
+    }
+}
+
+/// A server, with the texts that are open.
+pub struct Server {
+    stage: Stage,
+    texts: Texts,
+}
+
+impl Drop for Server {
+    fn drop(self) {
+        let Server { stage: _, texts: _ } = self;
+    }
+}
+
+// A result, and no notice.
+fn given(value: Value) -> Done {
+    Done {
+        outcome: Outcome::Given(value),
+        notice: None,
+    }
+}
+
+// Why there is no result.
+fn failed(code: Code, why: &'static str) -> Done {
+    Done {
+        outcome: Outcome::Failed(code, why),
+        notice: None,
+    }
+}
+
+// A notice, where a message is a notification.
+fn told(notice: Value) -> Done {
+    Done {
+        outcome: Outcome::Given(Value::Null),
+        notice: Some(notice),
+    }
+}
+
+// What the server can do.
+fn capabilities(alloc: Global) -> Result<Value, AllocError> {
+    let can = json!(in alloc; {
+        "positionEncoding": "utf-16",
+        "textDocumentSync": {"openClose": true, "change": 1u8},
+        "hoverProvider": true,
+        "definitionProvider": true,
+        "documentSymbolProvider": true,
+        "completionProvider": {"triggerCharacters": ["."]}
+    })?;
+    json!(in alloc; {"capabilities": can, "serverInfo": {"name": "plcsafe-lsp"}})
+}
+
+// A question about a place of a text.
+#[derive(Clone, Copy)]
+enum Asks {
+    Hover,
+    Completion,
+    Definition,
+}
+
+// The result of a question about a place of the text of a name.
+fn result_at(alloc: Global, asks: Asks, uri: &str, asked: Asked) -> Result<Value, Memory> {
+    match asks {
+        Asks::Hover => hover_value(alloc, asked),
+        Asks::Completion => completion_value(alloc, asked),
+        Asks::Definition => definition_value(alloc, uri, asked),
+    }
+}
+
+impl Server {
+    /// A server that has not been asked to begin. It takes no memory.
+    pub fn new(alloc: Global) -> Server {
+        Server {
+            stage: Stage::Fresh,
+            texts: Texts::new(alloc),
+        }
+    }
+
+    /// Whether it has been told to exit, and then whether it was asked to shut down before.
+    pub fn ended(&self) -> Option<bool> {
+        match self.stage {
+            Stage::Ended { orderly } => Some(orderly),
+            Stage::Fresh | Stage::Running | Stage::Shut => None,
+        }
+    }
+
+    // What is found in the text of a name as it is held; in an empty one, where it is not open.
+    fn found(&self, alloc: Global, uri: &str) -> Result<Findings, Memory>
+        ensures { IfOk result (λ findings. (text whole : List ℕ) → held self.now.texts uri.now ≡ Some text →
+            IsFrontOf text whole → Diagnoses text whole findings.first) }
+    {
+        match self.texts.text_of(uri) {
+            Some(text) => findings_in(alloc, text),
+            None => findings_in(alloc, &[]),
+        }
+    }
+
+    // Holds the text of a name, and tells what is found in it.
+    fn opened(&mut self, alloc: Global, uri: &str, text: &str) -> Result<Value, Memory>
+        ensures { IfOk result (λ notice. TellsOf uri.now text.now (view notice)) }
+    {
+        let front = front_of(text);
+        self.texts.hold(alloc, uri, front)?;
+        let findings = self.found(alloc, uri)?;
+        if findings.parses() {
+            self.texts.note_parsed(uri);
+        }
+        published(alloc, uri, &findings)
+    }
+
+    // A text is opened, or changed: its name, and what it is now.
+    fn open(
+        &mut self,
+        alloc: Global,
+        uri: Option<&str>,
+        text: Option<&str>,
+    ) -> Result<Done, Memory> {
+        match (uri, text) {
+            (Some(uri), Some(text)) => Ok(told(self.opened(alloc, uri, text)?)),
+            _ => Ok(failed(Code::NoParams, "a text has a name and a text")),
+        }
+    }
+
+    // A text is closed.
+    fn close(&mut self, alloc: Global, request: &Request) -> Result<Done, Memory> {
+        match uri_of(request) {
+            Some(uri) => {
+                self.texts.let_go(uri);
+                Ok(told(withdrawn(alloc, uri)?))
+            }
+            None => Ok(failed(Code::NoParams, "a text has a name")),
+        }
+    }
+
+    // What comes of a question about a place of a text.
+    fn ask(&self, alloc: Global, request: &Request, asks: Asks) -> Result<Done, Memory> {
+        let (Some(uri), Some(position)) = (uri_of(request), position_in(request)) else {
+            return Ok(failed(Code::NoParams, "a question has a text and a position"));
+        };
+        match self.texts.text_of(uri) {
+            Some(text) => {
+                let asked = Asked {
+                    text,
+                    parsed: self.texts.earlier_of(uri),
+                    place: place_at(text, position),
+                };
+                Ok(given(result_at(alloc, asks, uri, asked)?))
+            }
+            None => Ok(given(Value::Null)),
+        }
+    }
+
+    // What comes of a question about a whole text.
+    fn ask_symbols(&self, alloc: Global, request: &Request) -> Result<Done, Memory> {
+        let Some(uri) = uri_of(request) else {
+            return Ok(failed(Code::NoParams, "a question has a text"));
+        };
+        match self.texts.text_of(uri) {
+            Some(text) => Ok(given(symbols_value(alloc, text)?)),
+            None => Ok(given(Value::Null)),
+        }
+    }
+
+    // What comes of a method while the server answers.
+    fn run(&mut self, alloc: Global, request: &Request, method: &str) -> Result<Done, Memory> {
+        match method {
+            "textDocument/didOpen" => {
+                self.open(
+                    alloc,
+                    uri_of(request),
+                    text_at(request, "/textDocument/text"),
+                )
+            }
+            "textDocument/didChange" => self.open(alloc, uri_of(request), changed_text(request)),
+            "textDocument/didClose" => self.close(alloc, request),
+            "textDocument/hover" => self.ask(alloc, request, Asks::Hover),
+            "textDocument/completion" => self.ask(alloc, request, Asks::Completion),
+            "textDocument/definition" => self.ask(alloc, request, Asks::Definition),
+            "textDocument/documentSymbol" => self.ask_symbols(alloc, request),
+            _ => Ok(failed(Code::NoMethod, "there is no such method")),
+        }
+    }
+
+    // What comes of a method, by how far the server is.
+    fn perform(&mut self, alloc: Global, request: &Request) -> Result<Done, Memory> {
+        let Some(method) = request.method() else {
+            return Ok(failed(Code::NoRequest, "a request has a method"));
+        };
+        match (self.stage, method) {
+            (Stage::Fresh, "initialize") => {
+                self.stage = Stage::Running;
+                Ok(given(capabilities(alloc)?))
+            }
+            (stage, "exit") => {
+                self.stage = Stage::Ended {
+                    orderly: stage == Stage::Shut,
+                };
+                Ok(given(Value::Null))
+            }
+            (Stage::Running, "shutdown") => {
+                self.stage = Stage::Shut;
+                Ok(given(Value::Null))
+            }
+            (Stage::Running, "initialized") => Ok(given(Value::Null)),
+            (Stage::Running, _) => self.run(alloc, request, method),
+            (Stage::Fresh, _) => Ok(failed(
+                Code::NotReady,
+                "the server has not been asked to begin",
+            )),
+            (Stage::Shut | Stage::Ended { .. }, _) => Ok(failed(
+                Code::NoRequest,
+                "the server is shut down",
+            )),
+        }
+    }
+
+    /// What is sent for the message with this body: the answer, where it asks for one, and a notice, where it opens,
+    /// changes or closes a text. It returns for any bytes. An error means out of memory.
+    pub fn reply(&mut self, alloc: Global, body: &[u8]) -> Result<Reply, Memory>
+        ensures answered { IfOk result (IsAnswered body.now) }
+    {
+        let request = Request::read(alloc, body)?;
+        let (outcome, notice) = self.perform(alloc, &request)?.into_parts();
+        let answer = answer(alloc, &request, outcome)?;
+        Ok(Reply { answer, notice })
+    }
+}

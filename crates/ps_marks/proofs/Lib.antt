@@ -1,2 +1,0 @@
--- What the fixed pins cite.
-pub mod Allowing

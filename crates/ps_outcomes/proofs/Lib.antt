@@ -1,2 +1,0 @@
--- two lists together, place by place
-pub mod Upto

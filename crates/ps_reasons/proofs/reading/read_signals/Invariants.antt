@@ -1,8 +1,0 @@
-use Rattle.std.proofs.Common.{◌≡◌, map}
-use Rattle.std.specs.List.{range_with_len}
-use Rattle.ps_reasons.specs.Scenes.{read_in}
-use Rattle.ps_reasons.proofs.reading.read_signals.Given as goal
-
--- the signals so far
-abbrev pub invariant-loop-s : goal.invariant-loop-s
-invariant-loop-s l = l.read.items ≡ map (read_in l.app l.scene l.k) (range_with_len 0 l.s)

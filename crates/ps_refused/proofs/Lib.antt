@@ -1,2 +1,0 @@
--- what is told of a refusal
-pub mod Refused

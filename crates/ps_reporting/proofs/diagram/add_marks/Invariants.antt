@@ -1,7 +1,0 @@
-use Rattle.std.proofs.Common.{◌≡◌, ◌++◌, take}
-use Rattle.std.specs.List.{flat_map}
-use Rattle.ps_reporting.specs.Diagram.{further_text}
-use Rattle.ps_reporting.proofs.diagram.add_marks.Given as goal
-
-abbrev pub invariant-loop-mark : goal.invariant-loop-mark
-invariant-loop-mark l = l.words ≡ l.initial.words ++ flat_map further_text (take l.mark-index l.marks)

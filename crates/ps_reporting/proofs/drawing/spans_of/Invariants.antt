@@ -1,6 +1,0 @@
-use Rattle.std.proofs.Common.{◌≡◌, map, take}
-use Rattle.ps_reporting.specs.Diagram.{span_of}
-use Rattle.ps_reporting.proofs.drawing.spans_of.Given as goal
-
-abbrev pub invariant-loop-scan : goal.invariant-loop-scan
-invariant-loop-scan l = l.spans.items ≡ map (span_of l.number) (take l.scan-index l.scans)

@@ -1,6 +1,0 @@
-use Rattle.std.proofs.Common.{◌≡◌, ◌++◌, take}
-use Rattle.ps_reporting.specs.Writing.{written}
-use Rattle.ps_reporting.proofs.writing.add_page.Given as goal
-
-abbrev pub invariant-loop-piece : goal.invariant-loop-piece
-invariant-loop-piece l = l.text ≡ l.initial.text ++ written (take l.piece-index l.piece-items)

@@ -1,6 +1,0 @@
-use Rattle.std.proofs.Common.{◌≡◌, map, take}
-use Rattle.ps_required.specs.Views.{requirement}
-use Rattle.ps_required.proofs.demand.+copy.Given as goal
-
-abbrev pub invariant-copy_parts-loop-part : goal.invariant-copy_parts-loop-part
-invariant-copy_parts-loop-part l = map requirement l.items.items ≡ map requirement (take l.part-index l.part-items)

@@ -1,2 +1,0 @@
--- texts that are written one behind the other
-pub mod Joining

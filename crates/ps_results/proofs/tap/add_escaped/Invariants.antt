@@ -1,6 +1,0 @@
-use Rattle.std.proofs.Common.{◌≡◌, ◌++◌, take}
-use Rattle.ps_results.specs.Tap.{tap_escaped}
-use Rattle.ps_results.proofs.tap.add_escaped.Given as goal
-
-abbrev pub invariant-loop-byte : goal.invariant-loop-byte
-invariant-loop-byte l = l.text ≡ l.initial.text ++ tap_escaped (take l.byte-index l.description)

@@ -1,5 +1,0 @@
-use Rattle.ps_rpc.proofs.Lengths.{given}
-use Rattle.ps_rpc.proofs.laws.a_message_is_given.Goals as goal
-
-pub returns : goal.returns
-returns c = given

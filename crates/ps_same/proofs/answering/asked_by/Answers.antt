@@ -1,9 +1,0 @@
-use Rattle.std.proofs.Common.{◌∙◌}
-use Rattle.ps_same.proofs.answering.asked_by.Goals as goal
-
-pub returns : goal.returns
-returns c = record {
-  pace = c.in_ok-asked.ensures.every;
-  inputs = c.in_ok-asked.ensures.inputs ∙ c.in_ok-inputs.ensures;
-  outputs = c.in_ok-asked.ensures.outputs;
-}

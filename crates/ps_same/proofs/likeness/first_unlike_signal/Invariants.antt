@@ -1,6 +1,0 @@
-use Rattle.std.proofs.Common.{◌≡◌, ◌<◌, ℕ, true}
-use Rattle.ps_same.specs.Likeness.{is_same_signal}
-use Rattle.ps_same.proofs.likeness.first_unlike_signal.Given as goal
-
-abbrev pub invariant-loop-s : goal.invariant-loop-s
-invariant-loop-s l = (k : ℕ) → k < l.s → is_same_signal l.app l.other k ≡ true

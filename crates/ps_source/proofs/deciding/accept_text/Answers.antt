@@ -1,9 +1,0 @@
-use Rattle.ps_source.proofs.Decided.{accepted_whole, accepted_given, sourced_checked}
-use Rattle.ps_source.proofs.deciding.accept_text.Goals as goal
-
-pub returns : goal.returns
-returns c = record {
-  decides = λ whole is.
-      accepted_whole c.args.text.now whole c.accept_source.result is (accepted_given c.args.text.now c.accept_source.result c.accept_source.ensures);
-  checked = sourced_checked c.args.text.now c.accept_source.result c.accept_source.ensures;
-}

@@ -1,5 +1,0 @@
-use Rattle.ps_tally.specs.Plain.{ArePlain}
-use Rattle.ps_tally.proofs.reading.seeming_tally.Given as goal
-
-abbrev pub invariant-loop-place : goal.invariant-loop-place
-invariant-loop-place l = ArePlain l.tally

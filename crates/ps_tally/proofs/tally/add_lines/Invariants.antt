@@ -1,7 +1,0 @@
-use Rattle.std.proofs.Common.{◌≡◌}
-use Rattle.ps_outcomes.specs.Lines.{added_line}
-use Rattle.ps_outcomes.proofs.Upto.{upto}
-use Rattle.ps_tally.proofs.tally.add_lines.Given as goal
-
-abbrev pub invariant-loop-place : goal.invariant-loop-place
-invariant-loop-place l = l.lines ≡ upto added_line l.place l.fn.lines l.others

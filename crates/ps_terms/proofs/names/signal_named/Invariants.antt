@@ -1,8 +1,0 @@
-use Rattle.std.proofs.Common.{◌≡◌, drop}
-use Rattle.std.specs.List.{position_from}
-use Rattle.ps_base.specs.LetterCase.{is_same_name}
-use Rattle.ps_terms.specs.Names.{number_named, signal_names}
-use Rattle.ps_terms.proofs.names.signal_named.Given as goal
-
-abbrev pub invariant-loop-s : goal.invariant-loop-s
-invariant-loop-s l = number_named (signal_names l.app) l.word ≡ position_from (is_same_name l.word) l.s (drop l.s (signal_names l.app))

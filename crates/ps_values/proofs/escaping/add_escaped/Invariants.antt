@@ -1,6 +1,0 @@
-use Rattle.std.proofs.Common.{◌≡◌, ◌++◌, take}
-use Rattle.ps_values.specs.Escaping.{escaped}
-use Rattle.ps_values.proofs.escaping.add_escaped.Given as goal
-
-abbrev pub invariant-loop-byte : goal.invariant-loop-byte
-invariant-loop-byte l = l.text ≡ l.initial.text ++ escaped (take l.byte-index l.value)

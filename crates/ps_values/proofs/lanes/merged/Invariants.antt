@@ -1,6 +1,0 @@
-use Rattle.std.proofs.Common.{◌≡◌, ◌++◌, drop}
-use Rattle.ps_values.specs.Lanes.{merged, merged_from}
-use Rattle.ps_values.proofs.lanes.merged.Given as goal
-
-abbrev pub invariant-loop-span : goal.invariant-loop-span
-invariant-loop-span l = l.list.items ++ merged_from l.last (drop l.span-index l.spans) ≡ merged l.spans

@@ -1,5 +1,0 @@
-use Rattle.ps_values.proofs.Bytewise.{value_quiet}
-use Rattle.ps_values.proofs.laws.no_value_breaks_out.Goals as goal
-
-pub returns : goal.returns
-returns c = λ value bytes. value_quiet value bytes

@@ -1,4 +1,0 @@
-use Rattle.ps_vcd.proofs.change.+put_bits.Given as goal
-
-abbrev pub decreases-put_bits : goal.decreases-put_bits
-decreases-put_bits l = l.octets

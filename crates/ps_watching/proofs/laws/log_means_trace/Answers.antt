@@ -1,5 +1,0 @@
-use Rattle.ps_watching.proofs.Back.{log_means}
-use Rattle.ps_watching.proofs.laws.log_means_trace.Goals as goal
-
-pub returns : goal.returns
-returns c = λ net setup faults trace ws is. log_means net setup faults trace ws is (c.scans_in_order.ensures trace net)

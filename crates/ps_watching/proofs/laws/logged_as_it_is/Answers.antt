@@ -1,5 +1,0 @@
-use Rattle.ps_watching.proofs.Back.{as_it_is}
-use Rattle.ps_watching.proofs.laws.logged_as_it_is.Goals as goal
-
-pub returns : goal.returns
-returns c = as_it_is

@@ -1,6 +1,0 @@
-use Rattle.ps_watcher.specs.Watching.{at_first}
-use Rattle.ps_watching.proofs.Objecting.{objects_back}
-use Rattle.ps_watching.proofs.laws.objects_are_read.Goals as goal
-
-pub returns : goal.returns
-returns c = λ net names items ms bits. objects_back net names at_first items ms bits

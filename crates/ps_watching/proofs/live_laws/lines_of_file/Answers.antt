@@ -1,5 +1,0 @@
-use Rattle.ps_watching.proofs.LiveSizes as sizes
-use Rattle.ps_watching.proofs.live_laws.lines_of_file.Goals as goal
-
-pub returns : goal.returns
-returns c = sizes.lines_of_file

@@ -1,5 +1,0 @@
-use Rattle.ps_runs.proofs.ToCome.{first_fits}
-use Rattle.ps_watching.proofs.player.lines_of.Goals as goal
-
-pub new-requires-2 : goal.new-requires-2
-new-requires-2 c = first_fits c.args.app.now c.args.world c.requires

@@ -1,6 +1,0 @@
-use Rattle.std.proofs.Common.{◌∙◌}
-use Rattle.ps_watching.proofs.Playing.{head_of}
-use Rattle.ps_watching.proofs.watching.prepare_lines.Goals as goal
-
-pub returns-clause-head : goal.returns-clause-head
-returns-clause-head c = c.in_ok-head.ensures ∙ head_of c.args.app.now c.args.format c.args.names.now

@@ -1,4 +1,0 @@
-use Rattle.ps_watching.proofs.watching.struck_world.Goals as goal
-
-pub returns-clause-begins : goal.returns-clause-begins
-returns-clause-begins g c = c.new.ensures.begins c.args.app.now c.in_ok-world.ensures

@@ -55,8 +55,8 @@ MUTANTS = [
     ("vote-of-a", "where seat A is outvoted, its report is released", VOTES, [
         ("let _read = report_into(&self.b, into);", "let _read = report_into(&self.a, into);")]),
     ("odd-store", "a STORE of channel A takes any byte", "crates/ps_stackvm/src/stack.rt", [
-        ("    let byte = cells[STACK_AT + (height as usize - 1)];\n    if byte > 1 {",
-         "    let byte = cells[STACK_AT + (height as usize - 1)];\n    if byte > 254 {")]),
+        ("    let byte = cells[STACK_AT + (height - 1)];\n    if byte > 1 {",
+         "    let byte = cells[STACK_AT + (height - 1)];\n    if byte > 254 {")]),
     ("no-begin", "both channels begin no scan whose time ends in 7", SEATS, [
         ("        self.channel.begin(scan);\n        self.turns = 0;",
          "        if scan.now % 10 != 7 {\n            self.channel.begin(scan);\n        }\n        self.turns = 0;")]),
@@ -78,7 +78,7 @@ MUTANTS = [
 def copied(folder):
     """A copy of what a program is compiled from."""
     place = os.path.join(folder, "copy")
-    shutil.copytree(ROOT, place, ignore=shutil.ignore_patterns("out", "built", ".git", "must-fail", "examples", "docs"))
+    shutil.copytree(ROOT, place, ignore=shutil.ignore_patterns("out", "built", ".git", "must-fail", "wrong", "examples", "docs"))
     return pathlib.Path(place)
 
 

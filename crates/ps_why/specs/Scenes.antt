@@ -44,7 +44,7 @@ pub record IsSceneFor (net : Network) (x : Scene) : Type 0 where
   pub each : length x.calls.now ≡ instance_count net
   pub calls : (i : ℕ) (c : CallScene) → slice_get x.calls.now i ≡ Some c → IsCallFor net i c
 
--- a scan, as in ps_why: the state before it, the ms that passed since the scan before, and the state after it
+-- a scan: the state before it, the ms that passed since the scan before, and the state after it
 module _ (net : Network) (old : State) (since : ℕ) (new : State) where
   -- An instance is so in the scan. Whether a limit has elapsed is so of a state other than Idle.
   pub record IsCallOf (i : ℕ) (c : CallScene) : Type 0 where

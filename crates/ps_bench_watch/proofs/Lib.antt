@@ -1,5 +1,5 @@
 -- what a run writes, and how a call for it ends
-mod Ending
+mod WatchEnding
 mod Dumping
 mod Playing
 mod Called

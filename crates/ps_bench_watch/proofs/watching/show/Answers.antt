@@ -3,7 +3,7 @@ use Rattle.ps_top.specs.Program.{end_line}
 use Rattle.ps_bench_waves.proofs.Seeing.{lines_behind, part_begins}
 use Rattle.ps_bench_watch.specs.Asking.{body_in, head_in, seen_of_run}
 use Rattle.ps_trace.specs.Reading.{items_left}
-use Rattle.ps_bench_watch.proofs.Ending.{three_pieces}
+use Rattle.ps_bench_watch.proofs.WatchEnding.{three_pieces}
 use Rattle.ps_bench_watch.proofs.watching.show.Goals as goal
 
 pub returns-in-Err-clause-shows : goal.returns-in-Err-clause-shows

@@ -1,4 +1,4 @@
-use Rattle.ps_bench_watch.proofs.Ending.{ends_refused, ends_unwritten}
+use Rattle.ps_bench_watch.proofs.WatchEnding.{ends_refused, ends_unwritten}
 use Rattle.ps_bench_watch.proofs.watching.stop_behind.Goals as goal
 
 pub returns-in-Refused-clause-ends : goal.returns-in-Refused-clause-ends

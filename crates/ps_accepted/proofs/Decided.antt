@@ -8,9 +8,10 @@ use Rattle.ps_outside.specs.Failing.{of_rules}
 use Rattle.ps_outside.specs.declared.reading.ReadFail.{ReadFail}
 use Rattle.ps_model.specs.Network.{Network}
 use Rattle.ps_parser.specs.Tree.{SourceTree}
-use Rattle.ps_accepted.specs.Source.{Reading, IsResolvedAs, IsAcceptedAs}
+use Rattle.ps_names.specs.Stands.{Stands}
+use Rattle.ps_accepted.specs.Source.{Reading, IsProgram, IsResolvedAs, IsAcceptedAs}
 use Rattle.ps_accepted.specs.Source.Reading.{stands_for, is_refused}
-use Rattle.ps_accepted.specs.Answering.{Decides, IsChecked, GivesApp, GivesAccepted, Reads, IsFrontOf, IsFrontHeld, IsResolution, IsResolved, IsSourcedAcceptance, IsAcceptance}
+use Rattle.ps_accepted.specs.Answering.{Decides, IsChecked, GivesApp, GivesAccepted, Reads, IsFrontOf, IsFrontHeld, IsResolution, IsResolved, IsSourcedAcceptance, IsAcceptance, app_of, source_of}
 use Rattle.ps_accepted.specs.Demanding.{AreDemands, GivesDemanded, GivesLines, IsDemandableAs, IsDemanding, app_demanded, lines_demanded}
 use Rattle.ps_accepted.specs.declared.accepting.Accepted.{Accepted}
 use Rattle.ps_accepted.specs.declared.demanding.Demanded.{Demanded}
@@ -71,6 +72,11 @@ accepted_given front (Err (IsRefused r)) h = h
 pub sourced_checked : (front : List ℕ) (result : Result Accepted Fail) → IsSourcedAcceptance front result → IfOk result IsChecked
 sourced_checked front (Ok a) h = h.2
 sourced_checked front (Err why) h = tt
+
+-- its source is the flat source of the text, for which its application stands
+pub sourced_stands : (front : List ℕ) (result : Result Accepted Fail) → IsSourcedAcceptance front result → IfOk result (λ a. IsProgram front (source_of a) × Stands (source_of a) (app_of a))
+sourced_stands front (Ok a) h = (h.0, h.1)
+sourced_stands front (Err why) h = tt
 
 -- what the outputs of an application demand
 demands_whole : (front whole : List ℕ) (net : Network) (lines : Result (List ℕ) Fail) → IsFrontOf front whole → AreDemands front net lines → AreDemands whole net lines

@@ -1,7 +1,9 @@
 // What the text of a source gives, from the bytes that decide of it.
 
 ghost use Rattle.std.specs.Prelude.{◌≡◌, List, ℕ, IfOk};
-ghost use Rattle.ps_accepted.specs.Answering.{IsFrontOf, IsResolved, IsAcceptance, IsChecked};
+ghost use Rattle.ps_names.specs.Stands.{Stands};
+ghost use Rattle.ps_accepted.specs.Source.{IsProgram};
+ghost use Rattle.ps_accepted.specs.Answering.{IsFrontOf, IsResolved, IsAcceptance, IsChecked, app_of, source_of};
 ghost use Rattle.ps_accepted.specs.Demanding.{IsCheckedOf, IsDemanding};
 
 use crate::accepting::{Accepted, accept_source, resolve_source};
@@ -26,6 +28,7 @@ pub fn resolve_text(alloc: Global, text: &[u8]) -> Result<App, Fail>
 pub fn accept_text(alloc: Global, text: &[u8]) -> Result<Accepted, Fail>
     ensures decides { (whole : List ℕ) → IsFrontOf text.now whole → IsAcceptance whole result }
     ensures checked { IfOk result IsChecked }
+    ensures sourced { IfOk result (λ a. IsProgram text.now (source_of a) × Stands (source_of a) (app_of a)) }
 {
     accept_source(alloc, text)
 }

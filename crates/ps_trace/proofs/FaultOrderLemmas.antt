@@ -1,7 +1,6 @@
 -- What the tests of a fault line say of the faults before it.
 use Rattle.std.proofs.Common.{◌≡◌, ◌≤◌, ◌++◌, ◌∙◌, ℕ, List, [], ◌∷◌, Bool, true, false, Option, Some, None, get_or, refl, sym, ap, subst, arith}
 use Rattle.std.specs.Prelude.{not, ◌&&◌}
-use Rattle.std.specs.List.{All}
 use Rattle.std.proofs.lemmas.Grind.{common_steps}
 use Rattle.std.proofs.lemmas.List.Elements.{All-push}
 use Rattle.std.proofs.lemmas.List.Quantifiers.{all_pairs_push}
@@ -10,15 +9,10 @@ use Rattle.ps_trace.specs.declared.fault_file.Before.{Before}
 use Rattle.ps_trace.specs.declared.target.FaultLine.{FaultLine}
 use Rattle.ps_trace.specs.Faults.{Targets, falls, is_other, fault_judged, form_judged, fault_said, words_struck, before_next, first_struck}
 use Rattle.ps_trace.specs.Faults.Struck.{strikes}
+use Rattle.ps_trace.specs.Found.{IsUpTo, AreUpTo}
 use Rattle.ps_trace.specs.FaultOrder.{StrikesNoLater, StrikeInOrder, StrikeOne}
 
 module _ {Who Fault : Type 0} (t : Targets Who Fault) where
-  -- a fault line strikes no later than the line before, and the first one where a file may strike one alone
-  pub record IsUpTo (before : Before Who) (line : FaultLine Who) : Type 0 where
-    pub scan : line.scan ≤ before.scan
-    pub turn : line.scan ≡ before.scan → line.turn ≤ before.turn
-    pub first : t.one_alone ≡ true → before.first ≡ Some line.who
-
   -- a fault line strikes no earlier than the line before, and the first one, if there is one, where a file may strike one alone
   pub record IsFrom (before : Before Who) (line : FaultLine Who) : Type 0 where
     pub scan : before.scan ≤ line.scan
@@ -57,7 +51,7 @@ module _ {Who Fault : Type 0} (t : Targets Who Fault) where
   struck_from equal before (word ∷ words) line is = formed_from equal before (fault_said t.named (word ∷ words)) line is
 
   -- a fault line after those up to the line before strikes no earlier than they
-  no_earlier : (before : Before Who) (first line : FaultLine Who) → IsUpTo before first → IsFrom before line → StrikesNoLater first line
+  no_earlier : (before : Before Who) (first line : FaultLine Who) → IsUpTo t before first → IsFrom before line → StrikesNoLater first line
   no_earlier before first line upto from = (
     omega (arith, upto.scan, from.scan),
     λ same. omega (arith, upto.turn (omega (arith, upto.scan, from.scan)), from.turn (omega (arith, upto.scan, from.scan))),
@@ -69,27 +63,23 @@ module _ {Who Fault : Type 0} (t : Targets Who Fault) where
   first_is (Some other) who same = same other refl
 
   module _ (parts : Fault → FaultLine Who) where
-    -- the lines of all these faults are up to the line before
-    abbrev pub AreUpTo : Before Who → List Fault → Type 0
-    AreUpTo before faults = All (λ fault. IsUpTo before (parts fault)) faults
-
     -- one fault more keeps the order
-    pub in_order-push : (before : Before Who) (faults : List Fault) (fault : Fault) → AreUpTo before faults → IsFrom before (parts fault) → StrikeInOrder parts faults →
+    pub in_order-push : (before : Before Who) (faults : List Fault) (fault : Fault) → AreUpTo t parts before faults → IsFrom before (parts fault) → StrikeInOrder parts faults →
         StrikeInOrder parts (faults ++ fault ∷ [])
     in_order-push before faults fault upto from ordered =
         all_pairs_push (λ a b. StrikesNoLater (parts a) (parts b)) faults fault ordered (λ k d within. no_earlier before (parts (get_or faults k d)) (parts fault) (upto k d within) from)
 
     -- one fault more strikes the same one
-    pub one-push : t.one_alone ≡ true → (before : Before Who) (faults : List Fault) (fault : Fault) → AreUpTo before faults → IsFrom before (parts fault) → StrikeOne parts faults →
+    pub one-push : t.one_alone ≡ true → (before : Before Who) (faults : List Fault) (fault : Fault) → AreUpTo t parts before faults → IsFrom before (parts fault) → StrikeOne parts faults →
         StrikeOne parts (faults ++ fault ∷ [])
     one-push alone before faults fault upto from one =
         all_pairs_push (λ a b. (parts a).who ≡ (parts b).who) faults fault one (λ k d within. from.first alone (parts (get_or faults k d)).who ((upto k d within).first alone))
 
     -- all faults are up to the line that came last
-    pub up_to-push : (before : Before Who) (faults : List Fault) (fault : Fault) → AreUpTo before faults → IsFrom before (parts fault) →
-        AreUpTo (before_next (strikes (parts fault)) before) (faults ++ fault ∷ [])
+    pub up_to-push : (before : Before Who) (faults : List Fault) (fault : Fault) → AreUpTo t parts before faults → IsFrom before (parts fault) →
+        AreUpTo t parts (before_next (strikes (parts fault)) before) (faults ++ fault ∷ [])
     up_to-push before faults fault upto from =
-        All-push (λ f. IsUpTo (before_next (strikes (parts fault)) before) (parts f)) faults fault
+        All-push (λ f. IsUpTo t (before_next (strikes (parts fault)) before) (parts f)) faults fault
         (λ k d within.
         let first = get_or faults k d in
         let no_later = no_earlier before (parts first) (parts fault) (upto k d within) from in

@@ -8,4 +8,7 @@ pub mod CopyLemmas
 pub mod FaultLemmas
 pub mod FaultOrderLemmas
 pub mod WholeFile
+pub mod LeavingLemmas
+pub mod FoundLemmas
+pub mod HeadingLemmas
 mod GoingOn

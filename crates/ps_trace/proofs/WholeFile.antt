@@ -69,7 +69,7 @@ module _ {Who Fault : Type 0} (t : Targets Who Fault) where
       refused_here before number line rest rule is ∙ sym (refused_here before number other others rule that)
 
   -- line 1,001 is refused, whatever it is
-  struck_many : (before : Before Who) (number : ℕ) (line : Line) → MOST_FAULT_LINES < number → struck_of t before number line ≡ broken F5
+  pub struck_many : (before : Before Who) (number : ℕ) (line : Line) → MOST_FAULT_LINES < number → struck_of t before number line ≡ broken F5
   struck_many before number line many =
       ap (λ (b : Bool). if b then broken F5 else line_struck t before line) (lt-ltb MOST_FAULT_LINES number many)
 

@@ -12,3 +12,6 @@ pub mod LineSays
 pub mod HeaderSays
 pub mod FaultSays
 pub mod Channels
+pub mod Leaving
+pub mod Found
+pub mod Heading

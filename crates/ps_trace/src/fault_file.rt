@@ -1,24 +1,29 @@
 // Fault files, whoever their faults strike.
 
-ghost use Rattle.std.specs.Prelude.{◌≡◌, ◌≤◌, ℕ, List, IsTrue, Some, None, IsSome, Err, IfOk, IsErrOf, true};
+ghost use Rattle.std.specs.Prelude.{◌≡◌, ◌≢◌, ◌≤◌, ◌+◌, ◌++◌, [], ◌∷◌, ℕ, List, IsTrue, Some, None, IsSome, Err, IfOk, OnOk, IsErrOf, true};
 ghost use Rattle.ps_outside.specs.Outside.{Rose, CountsStay};
 ghost use Rattle.ps_base.specs.declared.failing.Refusal.{Refusal};
+ghost use Rattle.ps_base.specs.declared.limits.TheConstants.{MOST_FAULT_LINES};
+ghost use Rattle.ps_lines.specs.Lines.{Line};
+ghost use Rattle.ps_lines.specs.Reader.{Gives, left, name_of};
 ghost use Rattle.ps_trace.specs.Words.{fields};
-ghost use Rattle.ps_trace.specs.Faults.{before_next, fault_judged, falls, faults_in, is_other, words_struck};
+ghost use Rattle.ps_trace.specs.Faults.{before_next, fault_judged, falls, faults_in, is_other, struck_of, words_struck};
 ghost use Rattle.ps_trace.specs.Faults.Struck.{strikes};
 ghost use Rattle.ps_trace.specs.FaultOrder.{StrikeInOrder, StrikeOne};
 ghost use Rattle.ps_trace.specs.FaultSays.{judged_by, struck_by, targets_by};
 ghost use Rattle.ps_trace.specs.Reading.{IsRead};
+ghost use Rattle.ps_trace.specs.Leaving.{Came, IsFurther, IsUnderWay, Leaves, shelf};
+ghost use Rattle.ps_trace.specs.Found.{AreFound, EndsBy, GoesOnBy, IsMore, line_got, number_behind};
 
 use crate::TraceFail;
 use crate::fault_line::read_fault;
 use crate::target::{FaultLine, Target};
-use crate::trace::{at_line, feeds};
+use crate::trace::at_line;
 use crate::words::first_field;
 use ps_base::limits::{LONGEST_FAULT_LINE, MOST_FAULT_LINES};
 use ps_base::{Memory, Rule};
 use ps_lines::{Got, Limits, LineReader};
-use ps_outside::Files;
+use ps_outside::{Failed, Files};
 use std::alloc::Global;
 
 // The bytes of as many lines as a fault file may have, of the longest length and with their line feeds. The line that
@@ -36,6 +41,21 @@ pub(crate) struct Before<W> {
     pub(crate) scan: u32,
     pub(crate) turn: u32,
     pub(crate) first: Option<W>,
+}
+
+// What was found so far: the number of the next line, what stands before it, and the faults.
+#[derive(Drop)]
+pub(crate) struct Found<W, T> {
+    pub(crate) number: u32,
+    pub(crate) before: Before<W>,
+    pub(crate) faults: Vec<T>,
+}
+
+// Whether a line was taken and more may come, or all were taken.
+#[derive(Clone, Copy)]
+pub(crate) enum Taken {
+    More,
+    All,
 }
 
 // What a line says.
@@ -79,34 +99,173 @@ pub fn read_faults_of<W: Target, F: Files>(
     ensures telling { F.tells files.new ≡ F.tells files.old }
 {
     let mut lines = LineReader::start(alloc, name, LIMITS)?;
-    let mut faults = Vec::new(alloc);
-    let mut before = Before {
-        scan: 0,
-        turn: 0,
-        first: None,
+    let faults = Vec::new(alloc);
+    let mut found = Found {
+        number: 1,
+        before: Before {
+            scan: 0,
+            turn: 0,
+            first: None,
+        },
+        faults,
     };
-    let mut number = 1;
+    match read_all::<W, F>(alloc, files, &mut lines, sizes, one_alone, &mut found) {
+        Ok(_) => Ok(found.faults),
+        Err(why) => Err(why),
+    }
+}
+
+// Reads all lines that are left.
+fn read_all<W: Target, F: Files>(
+    alloc: Global,
+    files: &mut F,
+    lines: &mut LineReader,
+    sizes: &W::Sizes,
+    one_alone: bool,
+    found: &mut Found<W, W::Fault>,
+) -> Result<(), TraceFail>
+    requires way { IsUnderWay (shelf (F.tells files.old) (F.held files.old) (F.faults files.old)) lines.old }
+    requires are { AreFound (targets_by W.named_by W.is_same W.length_of W.made sizes.now one_alone) W.parts found.old }
+    ensures says { IsTrue (F.tells files.old) → (text : List ℕ) → F.held files.old (name_of lines.old) ≡ Some text →
+        EndsBy (targets_by W.named_by W.is_same W.length_of W.made sizes.now one_alone) result found.old found.new (left lines.old text) }
+    ensures are { OnOk result (AreFound (targets_by W.named_by W.is_same W.length_of W.made sizes.now one_alone) W.parts found.new) }
+    ensures leaves { Leaves (name_of lines.old) (shelf (F.tells files.old) (F.held files.old) (F.faults files.old)) (shelf (F.tells files.new) (F.held files.new) (F.faults files.new)) result }
+{
     'lines: loop {
-        let got = lines.next_line(files)?;
-        if got == Got::End {
-            return Ok(faults);
+        match read_next::<W, F>(alloc, files, lines, sizes, one_alone, found) {
+            Ok(taken) => match taken {
+                Taken::More => {}
+                Taken::All => return Ok(()),
+            },
+            Err(why) => return Err(why),
         }
-        if number > MOST_FAULT_LINES {
-            return Err(TraceFail::Refused(at_line(Rule::F5, number)));
-        }
-        let feeds = match feeds(got) {
-            Ok(feeds) => feeds,
-            Err(_) => return Err(TraceFail::Refused(at_line(Rule::F1, number))),
-        };
-        match read_line::<W>(alloc, lines.line(), sizes, one_alone, before)? {
-            FaultSays::Nothing => number += feeds,
-            FaultSays::Strikes(line) => {
-                before = behind(before, &line);
-                faults.push(W::fault(number, line))?;
-                number += feeds;
+    }
+}
+
+// Reads the next line.
+fn read_next<W: Target, F: Files>(
+    alloc: Global,
+    files: &mut F,
+    lines: &mut LineReader,
+    sizes: &W::Sizes,
+    one_alone: bool,
+    found: &mut Found<W, W::Fault>,
+) -> Result<Taken, TraceFail>
+    requires way { IsUnderWay (shelf (F.tells files.old) (F.held files.old) (F.faults files.old)) lines.old }
+    requires are { AreFound (targets_by W.named_by W.is_same W.length_of W.made sizes.now one_alone) W.parts found.old }
+    ensures says { IsTrue (F.tells files.old) → (text : List ℕ) → F.held files.old (name_of lines.old) ≡ Some text →
+        GoesOnBy (targets_by W.named_by W.is_same W.length_of W.made sizes.now one_alone) result found.old found.new (left lines.old text) (left lines.new text) }
+    ensures are { OnOk result (AreFound (targets_by W.named_by W.is_same W.length_of W.made sizes.now one_alone) W.parts found.new) }
+    ensures further { IfOk result (λ taken. taken ≡ Taken.More → IsFurther (shelf (F.tells files.old) (F.held files.old) (F.faults files.old)) lines.old lines.new) }
+    ensures leaves { Leaves (name_of lines.old) (shelf (F.tells files.old) (F.held files.old) (F.faults files.old)) (shelf (F.tells files.new) (F.held files.new) (F.faults files.new)) result }
+{
+    match lines.next_line(files) {
+        Ok(got) => take::<W>(alloc, got, lines.line(), sizes, one_alone, found),
+        Err(Failed) => Err(TraceFail::Fault),
+    }
+}
+
+// Takes what came so, a line or the text's end.
+fn take<W: Target>(
+    alloc: Global,
+    got: Got,
+    line: &[u8],
+    sizes: &W::Sizes,
+    one_alone: bool,
+    found: &mut Found<W, W::Fault>,
+) -> Result<Taken, TraceFail>
+    requires are { AreFound (targets_by W.named_by W.is_same W.length_of W.made sizes.now one_alone) W.parts found.old }
+    ensures says { (lines rest : List Line) → Gives lines got line.now rest → GoesOnBy (targets_by W.named_by W.is_same W.length_of W.made sizes.now one_alone) result found.old found.new lines rest }
+    ensures are { OnOk result (AreFound (targets_by W.named_by W.is_same W.length_of W.made sizes.now one_alone) W.parts found.new) }
+    ensures came { IfOk result (λ taken. taken ≡ Taken.More → Came got) }
+    ensures no_fault { ¬ IsErrOf result TraceFail.Fault }
+{
+    match got {
+        Got::End => Ok(Taken::All),
+        _ => take_line::<W>(alloc, got, line, sizes, one_alone, found),
+    }
+}
+
+// Takes a line that came so.
+fn take_line<W: Target>(
+    alloc: Global,
+    got: Got,
+    line: &[u8],
+    sizes: &W::Sizes,
+    one_alone: bool,
+    found: &mut Found<W, W::Fault>,
+) -> Result<Taken, TraceFail>
+    requires more { got ≢ Got.End }
+    requires are { AreFound (targets_by W.named_by W.is_same W.length_of W.made sizes.now one_alone) W.parts found.old }
+    ensures says { (lines rest : List Line) → Gives lines got line.now rest → GoesOnBy (targets_by W.named_by W.is_same W.length_of W.made sizes.now one_alone) result found.old found.new lines rest }
+    ensures are { OnOk result (AreFound (targets_by W.named_by W.is_same W.length_of W.made sizes.now one_alone) W.parts found.new) }
+    ensures came { OnOk result (Came got) }
+    ensures no_fault { ¬ IsErrOf result TraceFail.Fault }
+{
+    match judge_line::<W>(alloc, got, line, sizes, one_alone, found) {
+        Ok(says) => match says {
+            FaultSays::Nothing => {
+                found.number = number_behind(got, found.number);
+                Ok(Taken::More)
             }
-            FaultSays::Broken(rule) => return Err(TraceFail::Refused(at_line(rule, number))),
+            FaultSays::Strikes(line) => strike(got, line, found),
+            FaultSays::Broken(rule) => Err(TraceFail::Refused(at_line(rule, found.number))),
+        },
+        Err(_) => Err(TraceFail::Memory),
+    }
+}
+
+// What the next line says, which came so.
+fn judge_line<W: Target>(
+    alloc: Global,
+    got: Got,
+    line: &[u8],
+    sizes: &W::Sizes,
+    one_alone: bool,
+    found: &Found<W, W::Fault>,
+) -> Result<FaultSays<W>, Memory>
+    ensures { IfOk result (λ says.
+        struck_of (targets_by W.named_by W.is_same W.length_of W.made sizes.now one_alone) found.now.before found.now.number (line_got got line.now) ≡ struck_by says) }
+{
+    if found.number > MOST_FAULT_LINES {
+        return Ok(FaultSays::Broken(Rule::F5));
+    }
+    match got {
+        Got::Line | Got::LastLine => read_line::<W>(alloc, line, sizes, one_alone, found.before),
+        Got::TooLong | Got::TooLarge | Got::End => Ok(FaultSays::Broken(Rule::F1)),
+    }
+}
+
+// One fault more was found, in a line that came so.
+fn strike<W: Target>(
+    got: Got,
+    line: FaultLine<W>,
+    found: &mut Found<W, W::Fault>,
+) -> Result<Taken, TraceFail>
+    requires { found.old.number ≤ MOST_FAULT_LINES + 1 }
+    ensures answer { IsMore result }
+    ensures number { OnOk result (found.new.number ≡ number_behind got found.old.number) }
+    ensures before { OnOk result (found.new.before ≡ before_next (strikes line) found.old.before) }
+    ensures faults { OnOk result (found.new.faults.items ≡ found.old.faults.items ++ W.made found.old.number line ∷ []) }
+{
+    found.before = behind(found.before, &line);
+    match found.faults.push(W::fault(found.number, line)) {
+        Ok(()) => {
+            found.number = number_behind(got, found.number);
+            Ok(Taken::More)
         }
+        Err(_) => Err(TraceFail::Memory),
+    }
+}
+
+// The number of the line after one that came so.
+fn number_behind(got: Got, number: u32) -> u32
+    requires { number ≤ MOST_FAULT_LINES + 1 }
+    ensures { result ≡ number_behind got number }
+{
+    match got {
+        Got::Line => number + 1,
+        Got::LastLine | Got::TooLong | Got::TooLarge | Got::End => number,
     }
 }
 

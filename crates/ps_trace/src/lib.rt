@@ -7,6 +7,7 @@ mod fault_file;
 mod fault_line;
 mod faults;
 mod header;
+mod heading;
 mod plain_line;
 mod scan_line;
 mod target;

@@ -18,7 +18,7 @@ ghost use Rattle.ps_base.specs.declared.failing.Rule.{Rule};
 
 use crate::TraceFail;
 use crate::copying::{are_in_order, copy};
-use crate::header::{HeaderSays, read_header};
+use crate::heading::{Heading, find_header};
 use crate::scan_line::{LineSays, read_line};
 use ps_base::limits::{LARGEST_TRACE, LONGEST_TRACE_LINE};
 use ps_base::{Place, Refusal, Rule};
@@ -121,32 +121,33 @@ impl TraceReader {
         ensures telling { F.tells files.new ≡ F.tells files.old }
     {
         let mut lines = LineReader::start(alloc, name, LIMITS)?;
-        let mut number = 1;
-        'lines: loop {
-            let got = lines.next_line(files)?;
-            let feeds = match feeds(got) {
-                Ok(feeds) => feeds,
-                Err(rule) => return Err(TraceFail::Refused(at_line(rule, number))),
-            };
-            match read_header(alloc, lines.line(), app)? {
-                HeaderSays::Nothing => number += feeds,
-                HeaderSays::Broken(rule) => {
-                    return Err(TraceFail::Refused(at_line(rule, number)));
-                }
-                HeaderSays::Places(places) => {
-                    let values = vec![in alloc; false; places.len()]?;
-                    let in_order = are_in_order(&places);
-                    return Ok(TraceReader {
-                        lines,
-                        places,
-                        values,
-                        in_order,
-                        number: number + feeds,
-                        last: 0,
-                        refusal: None,
-                    });
-                }
-            }
+        match find_header(alloc, files, &mut lines, app) {
+            Ok(heading) => Ok(TraceReader::behind(lines, heading)),
+            Err(why) => Err(why),
+        }
+    }
+
+    // A reader that is behind a header.
+    fn behind(lines: LineReader, heading: Heading) -> TraceReader
+        requires one_each { vec_len heading.values ≡ vec_len heading.places }
+        requires counted { heading.number ≤ begin_of lines + 1 }
+        requires limited { (limits_of lines).largest ≡ LARGEST_TRACE }
+        requires near { begin_of lines ≤ LARGEST_TRACE }
+        ensures lines { result.lines ≡ lines }
+        ensures places { result.places ≡ heading.places }
+        ensures number { result.number ≡ heading.number }
+        ensures last { result.last ≡ 0 }
+        ensures refusal { result.refusal ≡ None }
+    {
+        let in_order = are_in_order(&heading.places);
+        TraceReader {
+            lines,
+            places: heading.places,
+            values: heading.values,
+            in_order,
+            number: heading.number,
+            last: 0,
+            refusal: None,
         }
     }
 

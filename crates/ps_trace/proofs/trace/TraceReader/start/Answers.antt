@@ -1,63 +1,122 @@
-use Rattle.std.proofs.Common.{◌≡◌, ◌<◌, ◌≤◌, ◌∙◌, ℕ, List, Ok, IsTrue, subst, sym, ap, arith}
-use Rattle.std.proofs.lemmas.Grind.{common_steps}
-use Rattle.ps_lines.specs.Reader.{line_of, begin_of}
-use Rattle.ps_trace.specs.Words.{fields}
-use Rattle.ps_trace.specs.Header.{input_names, header_said}
-use Rattle.ps_trace.specs.Header.Header.{no_header, places}
-use Rattle.ps_trace.specs.HeaderSays.{header_by}
-use Rattle.ps_trace.specs.Feeds.{feeds_of}
-use Rattle.ps_trace.specs.Scans.{scans_behind, IsInOrder}
-use Rattle.ps_trace.specs.Reading.{IsHeaded}
-use Rattle.ps_trace.proofs.ScanLemmas.{begins_later, headed_skip, headed_begins}
+use Rattle.std.proofs.Common.{◌≡◌, ◌≤◌, ◌+◌, ◌∙◌, ℕ, List, IsTrue, Option, Some, None, Result, Ok, Err, vec_len, subst, sym, ap}
+use Rattle.ps_base.specs.declared.failing.Refusal.{Refusal}
+use Rattle.ps_base.specs.declared.limits.TheConstants.{LARGEST_TRACE, LONGEST_TRACE_LINE}
+use Rattle.ps_outside.specs.declared.text_fail.TextFail.{TextFail}
+use Rattle.ps_outside.specs.declared.text_fail.TextFail.TheVariants.{Refused as IsRefused}
+use Rattle.ps_lines.specs.Reader.{IsFresh, IsReading, begin_of, left, name_of}
+use Rattle.ps_lines.specs.declared.reader.Limits.{Limits}
+use Rattle.ps_lines.specs.declared.reader.LineReader.{LineReader}
+use Rattle.ps_model.specs.Network.{input_count}
+use Rattle.ps_trace.specs.Header.{input_names}
+use Rattle.ps_trace.specs.Heading.{HeadsBy, IsHeading}
+use Rattle.ps_trace.specs.Leaving.{IsFurther, Leaves, shelf}
+use Rattle.ps_trace.specs.Reading.{IsHeaded, items_left, unless_refused}
+use Rattle.ps_trace.specs.Scans.{header_from, scans_behind, scans_from}
+use Rattle.ps_trace.specs.declared.heading.Heading.{Heading}
+use Rattle.ps_trace.specs.declared.trace.TraceReader.{TraceReader}
+use Rattle.ps_trace.proofs.LeavingLemmas.{clause_counts, clause_exact, clause_fault, clause_found, failing, fresh_way, given, given_no_failing, leaves_failing, leaves_giving, same_failing}
 use Rattle.ps_trace.proofs.trace.TraceReader.start.Goals as goal
 
-pub lines-preserved : goal.lines-preserved
-lines-preserved g c =
-    let feeds : feeds_of c.in_ok-got.got ≡ Ok c.in-Ok.feeds = sym c.feeds.ensures.value ∙ c.in-Ok.is in
-    let on : begin_of c.lines.lines < begin_of c.next_line.new.self = begins_later c.in_ok-got.got _ _ c.in-Ok.feeds c.in_ok-got.ensures.goes_on feeds in
-    let few : c.in-Ok.feeds ≤ 1 = c.in-Ok.ensures.few in
-    let says : header_said (input_names c.args.app.now) (fields (line_of c.next_line.new.self)) ≡ no_header =
-    ap (λ (b : List ℕ). header_said (input_names c.args.app.now) (fields b)) (sym c.line.ensures) ∙ c.in_ok-read_header.ensures.says ∙ ap header_by c.in-Nothing.is in
+-- the limits of a trace
+abbrev limits : Limits
+limits = record { longest = LONGEST_TRACE_LINE; largest = LARGEST_TRACE }
+
+-- what is left behind a header
+left_behind : (reader : TraceReader) (lines : LineReader) (heading : Heading) (text : List ℕ) → reader.refusal ≡ None → reader.lines ≡ lines → reader.places ≡ heading.places →
+    reader.number ≡ heading.number → reader.last ≡ 0 → items_left reader text ≡ scans_from heading.places.items heading.number 0 (left lines text)
+left_behind reader lines heading text unrefused on places number last =
+    ap (λ (r : Option Refusal). unless_refused r (scans_from reader.places.items reader.number reader.last (left reader.lines text))) unrefused ∙ cc
+
+pub find_header-requires : goal.find_header-requires
+find_header-requires g c =
+    let fresh : IsFresh limits c.in_ok-lines.lines = c.in_ok-lines.ensures.fresh in
     record {
-      reads = λ tells text is. c.next_line.ensures.reads (subst IsTrue (sym c.lines.invariant.telling) tells) text (grind (arith, common_steps)) (c.lines.invariant.reads tells text is);
-      headed = λ tells text is. c.lines.invariant.headed tells text is
-          ∙ headed_skip c.in_ok-got.got (input_names c.args.app.now) c.lines.number c.in-Ok.feeds _ _ (line_of c.next_line.new.self)
-          (c.in_ok-got.ensures.gives (subst IsTrue (sym c.lines.invariant.telling) tells) text (grind (arith, common_steps)) (c.lines.invariant.reads tells text is)) feeds says;
-      found = λ tells some.
-          let before = c.lines.invariant.found tells in
-          let now = c.in_ok-got.ensures.found (subst IsTrue (sym c.lines.invariant.telling) tells) in
-          grind (arith, common_steps);
-      fresh = λ none. absurd (omega arith);
-      counted = omega arith;
-      near = grind (arith, common_steps);
-      limited = grind (arith, common_steps);
-      named = cc;
-      exact = λ other. c.in_ok-got.ensures.exact other ∙ c.lines.invariant.exact other;
-      kept = cc;
-      telling = cc;
+      way = fresh_way (shelf (g.F.Files.tells c.args.files.now) (g.F.Files.held c.args.files.now) (g.F.Files.faults c.args.files.now)) limits c.in_ok-lines.lines fresh;
+      limited = ap (λ (l : Limits). l.largest) fresh.limits;
     }
 
-pub returns-in-Places-clause-reads : goal.returns-in-Places-clause-reads
-returns-in-Places-clause-reads g c = λ tells text is.
-    c.next_line.ensures.reads (subst IsTrue (sym c.lines.invariant.telling) tells) text (grind (arith, common_steps)) (c.lines.invariant.reads tells text is)
+pub behind-requires : goal.behind-requires
+behind-requires g c =
+    let fresh : IsFresh limits c.in_ok-lines.lines = c.in_ok-lines.ensures.fresh in
+    let new = c.find_header.new.lines in
+    let heads : IsHeading (input_count c.args.app.now) (begin_of new + 1) c.in-Ok.heading = c.in-Ok.ensures.heads in
+    let further : IsFurther (shelf (g.F.Files.tells c.args.files.now) (g.F.Files.held c.args.files.now) (g.F.Files.faults c.args.files.now)) c.in_ok-lines.lines new = c.in-Ok.ensures.further in
+    let limited = ap (λ (l : Limits). l.largest) (further.limits ∙ fresh.limits) in
+    record {
+      one_each = heads.values ∙ sym heads.places;
+      counted = heads.number;
+      limited = limited;
+      near = subst (λ (n : ℕ). begin_of new ≤ n) limited further.way.near;
+    }
 
-pub returns-in-Places-clause-begins : goal.returns-in-Places-clause-begins
-returns-in-Places-clause-begins g c = λ tells text is.
-    let feeds : feeds_of c.in_ok-got.got ≡ Ok c.in-Ok.feeds = sym c.feeds.ensures.value ∙ c.in-Ok.is in
-    let says : header_said (input_names c.args.app.now) (fields (line_of c.next_line.new.self)) ≡ places c.in-Places.places.items =
-    ap (λ (b : List ℕ). header_said (input_names c.args.app.now) (fields b)) (sym c.line.ensures) ∙ c.in_ok-read_header.ensures.says ∙ ap header_by c.in-Places.is in
-    sym (ap scans_behind (c.lines.invariant.headed tells text is
-    ∙ headed_begins c.in_ok-got.got (input_names c.args.app.now) c.lines.number c.in-Ok.feeds c.in-Places.places.items _ _ (line_of c.next_line.new.self)
-    (c.in_ok-got.ensures.gives (subst IsTrue (sym c.lines.invariant.telling) tells) text (grind (arith, common_steps)) (c.lines.invariant.reads tells text is)) feeds says))
+pub returns-in-Ok : goal.returns-in-Ok
+returns-in-Ok g c =
+    let first = shelf (g.F.Files.tells c.args.files.now) (g.F.Files.held c.args.files.now) (g.F.Files.faults c.args.files.now) in
+    let last = shelf (g.F.Files.tells c.find_header.new.files) (g.F.Files.held c.find_header.new.files) (g.F.Files.faults c.find_header.new.files) in
+    let name = c.args.name.now in
+    let lines = c.in_ok-lines.lines in
+    let new = c.find_header.new.lines in
+    let heading = c.in-Ok.heading in
+    let reader = c.behind.result in
+    let named : name_of lines ≡ name = c.in_ok-lines.ensures.name in
+    let fresh : IsFresh limits lines = c.in_ok-lines.ensures.fresh in
+    let heads : IsHeading (input_count c.args.app.now) (begin_of new + 1) heading = c.in-Ok.ensures.heads in
+    let further : IsFurther first lines new = c.in-Ok.ensures.further in
+    let is : c.find_header.result ≡ Ok heading = c.in-Ok.is in
+    let here : Leaves (name_of lines) first last (given heading) = subst (λ (r : Result Heading TextFail). Leaves (name_of lines) first last r) is c.find_header.ensures.leaves in
+    let leaves : Leaves name first last (given reader) = leaves_giving heading reader name first last (subst (λ (n : List ℕ). Leaves n first last (given heading)) named here) in
+    let headed = λ (text : List ℕ). λ (says : HeadsBy (given heading) (header_from (input_names c.args.app.now) 1 (left lines text)) (left new text)).
+    ap (header_from (input_names c.args.app.now) 1) (sym (fresh.all_left text)) ∙ says in
+    let says = λ (tells : IsTrue first.tells) (text : List ℕ) (held : first.held name ≡ Some text). headed text (subst (λ (r : Result Heading TextFail). HeadsBy r (header_from (input_names c.args.app.now) 1 (left lines text)) (left new text)) is
+    (c.find_header.ensures.says tells text (ap first.held named ∙ held))) in
+    record {
+      reads = λ tells text held. subst (λ (l : LineReader). IsReading l text) (sym c.behind.ensures.lines) (further.way.reads tells text (ap first.held (further.name ∙ named) ∙ held));
+      begins = λ tells text held. left_behind reader new heading text c.behind.ensures.refusal c.behind.ensures.lines c.behind.ensures.places c.behind.ensures.number c.behind.ensures.last
+          ∙ sym (ap scans_behind (says tells text held));
+      headed = λ tells text held. subst IsHeaded (sym (says tells text held)) tt;
+      refuses = λ tells text held refusal same. absurd (given_no_failing reader (IsRefused refusal) same);
+      found = clause_found (given reader) name first last leaves;
+      name = ap name_of c.behind.ensures.lines ∙ further.name ∙ named;
+      sizes = sym reader.places.ok.0 ∙ ap vec_len c.behind.ensures.places ∙ heads.places;
+      fresh = c.behind.ensures.last;
+      «open» = c.behind.ensures.refusal;
+      fault = clause_fault (given reader) name first last leaves;
+      exact = clause_exact (given reader) name first last leaves;
+      counts = clause_counts (given reader) name first last leaves;
+      kept = leaves.kept;
+      telling = leaves.telling;
+    }
 
-pub returns-in-Places-clause-headed : goal.returns-in-Places-clause-headed
-returns-in-Places-clause-headed g c = λ tells text is.
-    let feeds : feeds_of c.in_ok-got.got ≡ Ok c.in-Ok.feeds = sym c.feeds.ensures.value ∙ c.in-Ok.is in
-    let says : header_said (input_names c.args.app.now) (fields (line_of c.next_line.new.self)) ≡ places c.in-Places.places.items =
-    ap (λ (b : List ℕ). header_said (input_names c.args.app.now) (fields b)) (sym c.line.ensures) ∙ c.in_ok-read_header.ensures.says ∙ ap header_by c.in-Places.is in
-    subst IsHeaded (sym (c.lines.invariant.headed tells text is
-    ∙ headed_begins c.in_ok-got.got (input_names c.args.app.now) c.lines.number c.in-Ok.feeds c.in-Places.places.items _ _ (line_of c.next_line.new.self)
-    (c.in_ok-got.ensures.gives (subst IsTrue (sym c.lines.invariant.telling) tells) text (grind (arith, common_steps)) (c.lines.invariant.reads tells text is)) feeds says)) tt
-
-pub invariant_of-result-clause-straight : goal.invariant_of-result-clause-straight
-invariant_of-result-clause-straight g c = λ yes. subst IsInOrder c.deref.ensures.value (c.are_in_order-in_order.ensures yes)
+pub returns-in-Err : goal.returns-in-Err
+returns-in-Err g c =
+    let first = shelf (g.F.Files.tells c.args.files.now) (g.F.Files.held c.args.files.now) (g.F.Files.faults c.args.files.now) in
+    let last = shelf (g.F.Files.tells c.find_header.new.files) (g.F.Files.held c.find_header.new.files) (g.F.Files.faults c.find_header.new.files) in
+    let name = c.args.name.now in
+    let lines = c.in_ok-lines.lines in
+    let new = c.find_header.new.lines in
+    let why = c.in-Err.why in
+    let ended = failing TraceReader why in
+    let named : name_of lines ≡ name = c.in_ok-lines.ensures.name in
+    let fresh : IsFresh limits lines = c.in_ok-lines.ensures.fresh in
+    let is : c.find_header.result ≡ Err why = c.in-Err.is in
+    let here : Leaves (name_of lines) first last (failing Heading why) = subst (λ (r : Result Heading TextFail). Leaves (name_of lines) first last r) is c.find_header.ensures.leaves in
+    let leaves : Leaves name first last ended = leaves_failing Heading TraceReader why name first last (subst (λ (n : List ℕ). Leaves n first last (failing Heading why)) named here) in
+    record {
+      reads = λ tells text held. tt;
+      begins = λ tells text held. tt;
+      headed = λ tells text held. tt;
+      refuses = λ tells text held refusal same. ap (header_from (input_names c.args.app.now) 1) (sym (fresh.all_left text))
+          ∙ subst (λ (w : TextFail). HeadsBy (failing Heading w) (header_from (input_names c.args.app.now) 1 (left lines text)) (left new text)) (same_failing TraceReader why (IsRefused refusal) same)
+          (subst (λ (r : Result Heading TextFail). HeadsBy r (header_from (input_names c.args.app.now) 1 (left lines text)) (left new text)) is
+          (c.find_header.ensures.says tells text (ap first.held named ∙ held)));
+      found = clause_found ended name first last leaves;
+      name = tt;
+      sizes = tt;
+      fresh = tt;
+      «open» = tt;
+      fault = clause_fault ended name first last leaves;
+      exact = clause_exact ended name first last leaves;
+      counts = clause_counts ended name first last leaves;
+      kept = leaves.kept;
+      telling = leaves.telling;
+    }

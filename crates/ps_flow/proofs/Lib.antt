@@ -6,3 +6,4 @@ pub mod Walk
 pub mod Refused
 pub mod Motor
 pub mod OneAnswer
+pub mod Groups

@@ -1,19 +1,20 @@
 // The certificate of an accepted application.
 
-ghost use Rattle.std.specs.Prelude.{◌≡◌, ◌++◌, ◌∷◌, ◌+◌, ◌<◌, ◌≤◌, [], cond, All, IfOk, OnOk, IfErr, length};
+ghost use Rattle.std.specs.Prelude.{◌≡◌, ◌++◌, ◌∷◌, ◌+◌, ◌<◌, ◌≤◌, [], true, cond, All, IfOk, OnOk, IfErr, length, map, take};
 ghost use Rattle.std.specs.List.{flat_map};
 ghost use Rattle.ps_model.specs.Action.{calls};
 ghost use Rattle.ps_model.specs.Args.{actual};
 ghost use Rattle.ps_model.specs.Blocks.{block};
-ghost use Rattle.ps_model.specs.Exprs.{formula};
+ghost use Rattle.ps_model.specs.Exprs.{formula, operands};
 ghost use Rattle.ps_model.specs.Network.{instance_count, kind_at, signal_count};
-ghost use Rattle.ps_model.specs.Nodes.{nodes, nodes_at_pin, nodes_of_step};
+ghost use Rattle.ps_model.specs.Nodes.{nodes, nodes_below, nodes_at_pin, nodes_of_step};
 ghost use Rattle.ps_model.specs.Obligations.{obligation_at, obligations_at_pins, obligations_of_step};
 ghost use Rattle.ps_model.specs.StepOf.{IsStepOf};
 ghost use Rattle.ps_model.specs.Steps.{action};
-ghost use Rattle.ps_model.specs.Typing.{safe, MayStand};
-ghost use Rattle.ps_model.specs.Values.{IsBelow, values_at_pin, values_of_step};
-ghost use Rattle.ps_flow.specs.Derivation.{derivation, derivations};
+ghost use Rattle.ps_model.specs.Typing.{safe, some_safe, each_safe, is_safe_signal, MayStand};
+ghost use Rattle.ps_model.specs.Values.{IsBelow, AreBelow, values_at_pin, values_of_step};
+ghost use Rattle.ps_flow.specs.Derivation.{derivation, derivations, of_first_safe, of_each, last_lines};
+ghost use Rattle.ps_flow.specs.declared.certificate.LineRule.TheVariants.{Src, And as AndRule, Or as OrRule};
 ghost use Rattle.ps_flow.specs.Certifies.{Certifies};
 ghost use Rattle.ps_flow.specs.Refusals.{FitsUpTo, FitsStep, PinFails, StepFails};
 
@@ -51,8 +52,70 @@ fn one_premise(alloc: Global, number: u32) -> Result<Premises, Memory>
     Ok(premises)
 }
 
+// Writes the line of a signal that is SAFEBOOL, and nothing for one that is not.
+fn derive_signal(
+    alloc: Global,
+    app: &App,
+    s: u16,
+    node: u32,
+    cert: &mut Certificate,
+) -> Result<Derived, Memory>
+    requires below { s < signal_count app.now }
+    requires nodes { node < MOST_NODES }
+    requires lines { length cert.old < MOST_NODES }
+    ensures safe { IfOk result (λ d. d.safe ≡ is_safe_signal app.now s) }
+    ensures after { IfOk result (λ d. d.after ≡ node + 1) }
+    ensures lines { OnOk result (cert.new ≡ cert.old
+        ++ cond (is_safe_signal app.now s) (record { node = node; rule = Src; premises = [] } ∷ []) []) }
+{
+    let safe = is_safe(app, s);
+    if safe {
+        cert.push(line(node, LineRule::Src, Premises::new(alloc)))?;
+    }
+    Ok(Derived {
+        safe,
+        after: node + 1,
+    })
+}
+
+// Writes the line of an AND after those of its first SAFEBOOL operand, and nothing where no operand is.
+fn end_and(alloc: Global, d: Derived, node: u32, cert: &mut Certificate) -> Result<Derived, Memory>
+    requires { length cert.old < MOST_NODES }
+    ensures derived { IfOk result (λ r. r ≡ d) }
+    ensures lines { OnOk result (cert.new ≡ cert.old
+        ++ cond d.safe (record { node = node; rule = AndRule; premises = length cert.old ∷ [] } ∷ []) []) }
+{
+    if d.safe {
+        let premises = one_premise(alloc, cert.len())?;
+        cert.push(line(node, LineRule::And, premises))?;
+    }
+    Ok(d)
+}
+
+// Writes the line of an OR after those of its operands; where one is not SAFEBOOL it takes back what was written.
+fn end_or(
+    d: Derived,
+    node: u32,
+    before: u32,
+    premises: Premises,
+    cert: &mut Certificate,
+) -> Result<Derived, Memory>
+    requires { length cert.old < MOST_NODES }
+    ensures derived { IfOk result (λ r. r ≡ d) }
+    ensures lines { OnOk result (cert.new ≡ cond d.safe
+        (cert.old ++ record { node = node; rule = OrRule; premises = premises } ∷ []) (take before cert.old)) }
+{
+    if d.safe {
+        cert.push(line(node, LineRule::Or, premises))?;
+        return Ok(d);
+    }
+    cert.truncate(before);
+    Ok(d)
+}
+
 // Writes the derivation of a value, or nothing where it is not SAFEBOOL. Each node is visited once: an AND goes on
 // until an operand is SAFEBOOL and counts the others, and an OR that meets one that is not takes back its lines.
+#[cycle(value)]
 fn derive_value(
     alloc: Global,
     app: &App,
@@ -69,57 +132,92 @@ fn derive_value(
         ++ cond (safe app.now (formula e.now)) (derivation app.now (length cert.old) node (formula e.now)) []) }
 {
     match e {
-        Expr::Signal(s) => {
-            let safe = is_safe(app, *s);
-            if safe {
-                cert.push(line(node, LineRule::Src, Premises::new(alloc)))?;
-            }
-            Ok(Derived {
-                safe,
-                after: node + 1,
-            })
-        }
+        Expr::Signal(s) => derive_signal(alloc, app, *s, node, cert),
         Expr::And(es) => {
-            let mut after = node + 1;
-            let mut safe = false;
-            for x in &es.items {
-                if safe {
-                    after += node_count(x);
-                } else {
-                    let d = derive_value(alloc, app, x, after, cert)?;
-                    after = d.after;
-                    safe = d.safe;
-                }
-            }
-            if safe {
-                let premises = one_premise(alloc, cert.len())?;
-                cert.push(line(node, LineRule::And, premises))?;
-            }
-            Ok(Derived { safe, after })
+            let d = derive_first(alloc, app, &es.items, node + 1, cert)?;
+            end_and(alloc, d, node, cert)
         }
         Expr::Or(es) => {
             let before = cert.len();
             let mut premises = Premises::new(alloc);
-            let mut after = node + 1;
-            let mut safe = true;
-            for x in &es.items {
-                if safe {
-                    let d = derive_value(alloc, app, x, after, cert)?;
-                    after = d.after;
-                    safe = d.safe;
-                    premises.push(cert.len())?;
-                } else {
-                    after += node_count(x);
-                }
-            }
-            if !safe {
-                cert.truncate(before);
-                return Ok(Derived { safe: false, after });
-            }
-            cert.push(line(node, LineRule::Or, premises))?;
-            Ok(Derived { safe: true, after })
+            let d = derive_each(alloc, app, &es.items, node + 1, cert, &mut premises)?;
+            end_or(d, node, before, premises, cert)
         }
     }
+}
+
+// Writes the derivation of the first of these operands that is SAFEBOOL, and counts the nodes of the others. The first
+// operand has this node.
+#[cycle(value)]
+fn derive_first(
+    alloc: Global,
+    app: &App,
+    all: &[Expr],
+    node: u32,
+    cert: &mut Certificate,
+) -> Result<Derived, Memory>
+    requires below { AreBelow (signal_count app.now) (operands (map formula all.now)) }
+    requires nodes { node + length (nodes_below (operands (map formula all.now))) ≤ MOST_NODES }
+    requires lines { length cert.old + length (nodes_below (operands (map formula all.now))) < MOST_NODES }
+    ensures safe { IfOk result (λ d. d.safe ≡ some_safe app.now (operands (map formula all.now))) }
+    ensures after { IfOk result (λ d. d.after ≡ node + length (nodes_below (operands (map formula all.now)))) }
+    ensures room { OnOk result (length cert.new < MOST_NODES) }
+    ensures lines { OnOk result (cert.new ≡ cert.old ++ cond (some_safe app.now (operands (map formula all.now)))
+        (of_first_safe app.now (length cert.old) node (operands (map formula all.now))) []) }
+{
+    let mut after = node;
+    let mut safe = false;
+    for x in all {
+        if safe {
+            after += node_count(x);
+        } else {
+            let d = derive_value(alloc, app, x, after, cert)?;
+            after = d.after;
+            safe = d.safe;
+        }
+    }
+    Ok(Derived { safe, after })
+}
+
+// Writes the derivations of these operands up to the first that is not SAFEBOOL, adds the last line of each to the
+// premises, and counts the nodes of the others. The first operand has this node.
+#[cycle(value)]
+fn derive_each(
+    alloc: Global,
+    app: &App,
+    all: &[Expr],
+    node: u32,
+    cert: &mut Certificate,
+    premises: &mut Premises,
+) -> Result<Derived, Memory>
+    requires below { AreBelow (signal_count app.now) (operands (map formula all.now)) }
+    requires nodes { node + length (nodes_below (operands (map formula all.now))) ≤ MOST_NODES }
+    requires lines { length cert.old + length (nodes_below (operands (map formula all.now))) < MOST_NODES }
+    ensures safe { IfOk result (λ d. d.safe ≡ each_safe app.now (operands (map formula all.now))) }
+    ensures after { IfOk result (λ d. d.after ≡ node + length (nodes_below (operands (map formula all.now)))) }
+    ensures room { OnOk result (length cert.new < MOST_NODES) }
+    ensures kept { OnOk result (take (length cert.old) cert.new ≡ cert.old) }
+    ensures lines { OnOk result (each_safe app.now (operands (map formula all.now)) ≡ true →
+        cert.new ≡ cert.old ++ of_each app.now (length cert.old) node (operands (map formula all.now))) }
+    ensures premises { OnOk result (each_safe app.now (operands (map formula all.now)) ≡ true →
+        premises.new ≡ premises.old ++ last_lines app.now (length cert.old) node (operands (map formula all.now))) }
+{
+    let mut after = node;
+    let mut all_safe = true;
+    for x in all {
+        if all_safe {
+            let d = derive_value(alloc, app, x, after, cert)?;
+            after = d.after;
+            all_safe = d.safe;
+            premises.push(cert.len())?;
+        } else {
+            after += node_count(x);
+        }
+    }
+    Ok(Derived {
+        safe: all_safe,
+        after,
+    })
 }
 
 // Writes the lines of what stands at a pin, and answers the node after it.

@@ -2,6 +2,7 @@
 
 ghost use Rattle.std.specs.Prelude.{◌≡◌, true, false, IfSome, IfNone};
 ghost use Rattle.ps_model.specs.Blocks.{next};
+ghost use Rattle.ps_model.specs.PinBits.{pin_of};
 ghost use Rattle.ps_model.specs.Stored.{is_state};
 ghost use Rattle.ps_model.specs.declared.kind.Kind.TheVariants.{GuardLocking as GuardLockingKind};
 ghost use Rattle.ps_block.specs.Seeing.{conditions_of};
@@ -88,36 +89,19 @@ impl Phase {
     fn next(self, seen: Seen) -> Phase
         ensures { code_of result ≡ next GuardLockingKind (code_of self) (conditions_of seen 0) }
     {
-        let activate = seen.pin(0);
-        let closed = seen.pin(1);
-        let safe = seen.pin(2);
-        let lock = seen.pin(3);
-        let request = seen.pin(4);
-        let start = seen.pin(5);
-        let auto = seen.pin(6);
+        if !seen.pin(0) {
+            return Phase::Idle;
+        }
         let reset = seen.pin(7);
         match self {
-            _ if !activate => Phase::Idle,
             Phase::Idle => Phase::Init,
-            Phase::Init if closed && lock && start => Phase::Locked,
-            Phase::Init if closed && lock => Phase::WaitForReset,
-            Phase::Init => Phase::SafetyReturn,
-            Phase::Locked | Phase::WaitForReset if !closed || !lock => Phase::SafetyLost,
-            Phase::Locked | Phase::WaitForReset if request && safe => Phase::ClosedUnlocked,
-            Phase::WaitForReset if seen.edge => Phase::Locked,
-            Phase::WaitForReset if seen.static_reset => Phase::ResetError2,
-            Phase::ClosedUnlocked | Phase::OpenUnlocked if !safe => Phase::SafetyReturn,
-            Phase::ClosedUnlocked if !closed => Phase::OpenUnlocked,
-            Phase::ClosedUnlocked if !request => Phase::WaitForOperator,
-            Phase::OpenUnlocked if closed => Phase::ClosedUnlocked,
-            Phase::WaitForOperator if !closed => Phase::SafetyReturn,
-            Phase::WaitForOperator if request && safe => Phase::ClosedUnlocked,
-            Phase::WaitForOperator if lock && (auto || seen.edge) => Phase::Locked,
-            Phase::WaitForOperator if seen.static_reset => Phase::ResetError3,
-            Phase::SafetyReturn if closed && lock => Phase::WaitForReset,
-            Phase::SafetyReturn if safe && seen.edge && closed => Phase::ClosedUnlocked,
-            Phase::SafetyReturn if safe && seen.edge => Phase::OpenUnlocked,
-            Phase::SafetyReturn if seen.static_reset => Phase::ResetError1,
+            Phase::Init => after_init(seen),
+            Phase::Locked => after_locked(seen),
+            Phase::WaitForReset => after_wait_for_reset(seen),
+            Phase::ClosedUnlocked => after_closed_unlocked(seen),
+            Phase::OpenUnlocked => after_open_unlocked(seen),
+            Phase::WaitForOperator => after_wait_for_operator(seen),
+            Phase::SafetyReturn => after_safety_return(seen),
             Phase::ResetError1 if !reset => Phase::SafetyReturn,
             Phase::ResetError2 if !reset => Phase::WaitForReset,
             Phase::ResetError3 if !reset => Phase::WaitForOperator,
@@ -125,6 +109,156 @@ impl Phase {
             _ => self,
         }
     }
+}
+
+// The next state after Init, where Activate is TRUE.
+#[tactic(auto, unfolding(ps_model::specs::Blocks::next, ps_model::specs::Blocks::block))]
+fn after_init(seen: Seen) -> Phase
+    requires { pin_of seen.bits 0 ≡ true }
+    ensures { code_of result ≡ next GuardLockingKind (code_of Phase.Init) (conditions_of seen 0) }
+{
+    let closed = seen.pin(1);
+    let lock = seen.pin(3);
+    let start = seen.pin(5);
+    if closed && lock && start {
+        return Phase::Locked;
+    }
+    if closed && lock {
+        return Phase::WaitForReset;
+    }
+    Phase::SafetyReturn
+}
+
+// The next state after Locked, where Activate is TRUE.
+#[tactic(auto, unfolding(ps_model::specs::Blocks::next, ps_model::specs::Blocks::block))]
+fn after_locked(seen: Seen) -> Phase
+    requires { pin_of seen.bits 0 ≡ true }
+    ensures { code_of result ≡ next GuardLockingKind (code_of Phase.Locked) (conditions_of seen 0) }
+{
+    let closed = seen.pin(1);
+    let safe = seen.pin(2);
+    let lock = seen.pin(3);
+    let request = seen.pin(4);
+    if !(closed && lock) {
+        return Phase::SafetyLost;
+    }
+    if request && safe {
+        return Phase::ClosedUnlocked;
+    }
+    Phase::Locked
+}
+
+// The next state after WaitForReset, where Activate is TRUE.
+#[tactic(auto, unfolding(ps_model::specs::Blocks::next, ps_model::specs::Blocks::block))]
+fn after_wait_for_reset(seen: Seen) -> Phase
+    requires { pin_of seen.bits 0 ≡ true }
+    ensures { code_of result ≡ next GuardLockingKind (code_of Phase.WaitForReset) (conditions_of seen 0) }
+{
+    let closed = seen.pin(1);
+    let safe = seen.pin(2);
+    let lock = seen.pin(3);
+    let request = seen.pin(4);
+    if !closed || !lock {
+        return Phase::SafetyLost;
+    }
+    if request && safe {
+        return Phase::ClosedUnlocked;
+    }
+    if seen.edge {
+        return Phase::Locked;
+    }
+    if seen.static_reset {
+        return Phase::ResetError2;
+    }
+    Phase::WaitForReset
+}
+
+// The next state after ClosedUnlocked, where Activate is TRUE.
+#[tactic(auto, unfolding(ps_model::specs::Blocks::next, ps_model::specs::Blocks::block))]
+fn after_closed_unlocked(seen: Seen) -> Phase
+    requires { pin_of seen.bits 0 ≡ true }
+    ensures { code_of result ≡ next GuardLockingKind (code_of Phase.ClosedUnlocked) (conditions_of seen 0) }
+{
+    let closed = seen.pin(1);
+    let safe = seen.pin(2);
+    let request = seen.pin(4);
+    if !safe {
+        return Phase::SafetyReturn;
+    }
+    if !closed {
+        return Phase::OpenUnlocked;
+    }
+    if !request {
+        return Phase::WaitForOperator;
+    }
+    Phase::ClosedUnlocked
+}
+
+// The next state after OpenUnlocked, where Activate is TRUE.
+#[tactic(auto, unfolding(ps_model::specs::Blocks::next, ps_model::specs::Blocks::block))]
+fn after_open_unlocked(seen: Seen) -> Phase
+    requires { pin_of seen.bits 0 ≡ true }
+    ensures { code_of result ≡ next GuardLockingKind (code_of Phase.OpenUnlocked) (conditions_of seen 0) }
+{
+    let closed = seen.pin(1);
+    let safe = seen.pin(2);
+    if !safe {
+        return Phase::SafetyReturn;
+    }
+    if closed {
+        return Phase::ClosedUnlocked;
+    }
+    Phase::OpenUnlocked
+}
+
+// The next state after WaitForOperator, where Activate is TRUE.
+#[tactic(auto, unfolding(ps_model::specs::Blocks::next, ps_model::specs::Blocks::block))]
+fn after_wait_for_operator(seen: Seen) -> Phase
+    requires { pin_of seen.bits 0 ≡ true }
+    ensures { code_of result ≡ next GuardLockingKind (code_of Phase.WaitForOperator) (conditions_of seen 0) }
+{
+    let closed = seen.pin(1);
+    let safe = seen.pin(2);
+    let lock = seen.pin(3);
+    let request = seen.pin(4);
+    let auto = seen.pin(6);
+    if !closed {
+        return Phase::SafetyReturn;
+    }
+    if request && safe {
+        return Phase::ClosedUnlocked;
+    }
+    if lock && (auto || seen.edge) {
+        return Phase::Locked;
+    }
+    if seen.static_reset {
+        return Phase::ResetError3;
+    }
+    Phase::WaitForOperator
+}
+
+// The next state after SafetyReturn, where Activate is TRUE.
+#[tactic(auto, unfolding(ps_model::specs::Blocks::next, ps_model::specs::Blocks::block))]
+fn after_safety_return(seen: Seen) -> Phase
+    requires { pin_of seen.bits 0 ≡ true }
+    ensures { code_of result ≡ next GuardLockingKind (code_of Phase.SafetyReturn) (conditions_of seen 0) }
+{
+    let closed = seen.pin(1);
+    let safe = seen.pin(2);
+    let lock = seen.pin(3);
+    if closed && lock {
+        return Phase::WaitForReset;
+    }
+    if safe && seen.edge && closed {
+        return Phase::ClosedUnlocked;
+    }
+    if safe && seen.edge {
+        return Phase::OpenUnlocked;
+    }
+    if seen.static_reset {
+        return Phase::ResetError1;
+    }
+    Phase::SafetyReturn
 }
 
 /// SF_GuardLocking (PLCopen TC5, in the profile of this project).

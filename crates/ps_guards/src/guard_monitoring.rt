@@ -2,6 +2,7 @@
 
 ghost use Rattle.std.specs.Prelude.{◌≡◌, true, false, IfSome, IfNone};
 ghost use Rattle.ps_model.specs.Blocks.{next};
+ghost use Rattle.ps_model.specs.PinBits.{pin_of};
 ghost use Rattle.ps_model.specs.Stored.{is_state};
 ghost use Rattle.ps_model.specs.declared.kind.Kind.TheVariants.{GuardMonitoring as GuardMonitoringKind};
 ghost use Rattle.ps_block.specs.Seeing.{conditions_of};
@@ -88,42 +89,151 @@ impl Phase {
     fn next(self, seen: Seen) -> Phase
         ensures { code_of result ≡ next GuardMonitoringKind (code_of self) (conditions_of seen 0) }
     {
-        let activate = seen.pin(0);
+        if !seen.pin(0) {
+            return Phase::Idle;
+        }
         let switch1 = seen.pin(1);
         let switch2 = seen.pin(2);
-        let start = seen.pin(3);
-        let auto = seen.pin(4);
         let reset = seen.pin(5);
-        let both = switch1 && switch2;
-        let none = !switch1 && !switch2;
         match self {
-            _ if !activate => Phase::Idle,
             Phase::Idle => Phase::Init,
-            Phase::Init if both && start => Phase::Enabled,
-            Phase::Init if both => Phase::WaitForReset,
-            Phase::Init => Phase::OpenGuardRequest,
-            Phase::OpenGuardRequest if none => Phase::GuardOpened,
-            Phase::GuardOpened if both => Phase::GuardClosed,
-            Phase::GuardOpened if switch1 => Phase::WaitForSwitch2,
-            Phase::GuardOpened if switch2 => Phase::WaitForSwitch1,
-            Phase::WaitForSwitch2 if seen.elapsed => Phase::DiscrepancyError1,
-            Phase::WaitForSwitch1 if seen.elapsed => Phase::DiscrepancyError2,
-            Phase::WaitForSwitch2 | Phase::WaitForSwitch1 if both => Phase::GuardClosed,
-            Phase::WaitForSwitch2 | Phase::WaitForSwitch1 if none => Phase::GuardOpened,
-            Phase::WaitForSwitch2 if !switch1 => Phase::OpenGuardRequest,
-            Phase::WaitForSwitch1 if !switch2 => Phase::OpenGuardRequest,
-            Phase::GuardClosed if !both => Phase::OpenGuardRequest,
-            Phase::GuardClosed if auto => Phase::Enabled,
-            Phase::GuardClosed => Phase::WaitForReset,
-            Phase::WaitForReset if !both => Phase::OpenGuardRequest,
-            Phase::WaitForReset if seen.edge => Phase::Enabled,
-            Phase::WaitForReset if seen.static_reset => Phase::ResetError,
-            Phase::Enabled if !both => Phase::OpenGuardRequest,
+            Phase::Init => after_init(seen),
+            Phase::GuardOpened => after_guard_opened(seen),
+            Phase::WaitForSwitch2 => after_wait_for_switch2(seen),
+            Phase::WaitForSwitch1 => after_wait_for_switch1(seen),
+            Phase::GuardClosed => after_guard_closed(seen),
+            Phase::WaitForReset => after_wait_for_reset(seen),
+            Phase::OpenGuardRequest if !switch1 && !switch2 => Phase::GuardOpened,
+            Phase::Enabled if !(switch1 && switch2) => Phase::OpenGuardRequest,
             Phase::ResetError if !reset => Phase::WaitForReset,
-            Phase::DiscrepancyError1 | Phase::DiscrepancyError2 if none => Phase::GuardOpened,
+            Phase::DiscrepancyError1 | Phase::DiscrepancyError2 if !switch1 && !switch2 => {
+                Phase::GuardOpened
+            }
             _ => self,
         }
     }
+}
+
+// The next state after Init, where Activate is TRUE.
+#[tactic(auto, unfolding(ps_model::specs::Blocks::next, ps_model::specs::Blocks::block))]
+fn after_init(seen: Seen) -> Phase
+    requires { pin_of seen.bits 0 ≡ true }
+    ensures { code_of result ≡ next GuardMonitoringKind (code_of Phase.Init) (conditions_of seen 0) }
+{
+    let switch1 = seen.pin(1);
+    let switch2 = seen.pin(2);
+    let start = seen.pin(3);
+    if switch1 && switch2 && start {
+        return Phase::Enabled;
+    }
+    if switch1 && switch2 {
+        return Phase::WaitForReset;
+    }
+    Phase::OpenGuardRequest
+}
+
+// The next state after GuardOpened, where Activate is TRUE.
+#[tactic(auto, unfolding(ps_model::specs::Blocks::next, ps_model::specs::Blocks::block))]
+fn after_guard_opened(seen: Seen) -> Phase
+    requires { pin_of seen.bits 0 ≡ true }
+    ensures { code_of result ≡ next GuardMonitoringKind (code_of Phase.GuardOpened) (conditions_of seen 0) }
+{
+    let switch1 = seen.pin(1);
+    let switch2 = seen.pin(2);
+    if switch1 && switch2 {
+        return Phase::GuardClosed;
+    }
+    if switch1 {
+        return Phase::WaitForSwitch2;
+    }
+    if switch2 {
+        return Phase::WaitForSwitch1;
+    }
+    Phase::GuardOpened
+}
+
+// The next state after WaitForSwitch2, where Activate is TRUE.
+#[tactic(auto, unfolding(ps_model::specs::Blocks::next, ps_model::specs::Blocks::block))]
+fn after_wait_for_switch2(seen: Seen) -> Phase
+    requires { pin_of seen.bits 0 ≡ true }
+    ensures { code_of result ≡ next GuardMonitoringKind (code_of Phase.WaitForSwitch2) (conditions_of seen 0) }
+{
+    let switch1 = seen.pin(1);
+    let switch2 = seen.pin(2);
+    if seen.elapsed {
+        return Phase::DiscrepancyError1;
+    }
+    if switch1 && switch2 {
+        return Phase::GuardClosed;
+    }
+    if !switch1 && !switch2 {
+        return Phase::GuardOpened;
+    }
+    if !switch1 {
+        return Phase::OpenGuardRequest;
+    }
+    Phase::WaitForSwitch2
+}
+
+// The next state after WaitForSwitch1, where Activate is TRUE.
+#[tactic(auto, unfolding(ps_model::specs::Blocks::next, ps_model::specs::Blocks::block))]
+fn after_wait_for_switch1(seen: Seen) -> Phase
+    requires { pin_of seen.bits 0 ≡ true }
+    ensures { code_of result ≡ next GuardMonitoringKind (code_of Phase.WaitForSwitch1) (conditions_of seen 0) }
+{
+    let switch1 = seen.pin(1);
+    let switch2 = seen.pin(2);
+    if seen.elapsed {
+        return Phase::DiscrepancyError2;
+    }
+    if switch1 && switch2 {
+        return Phase::GuardClosed;
+    }
+    if !switch1 && !switch2 {
+        return Phase::GuardOpened;
+    }
+    if !switch2 {
+        return Phase::OpenGuardRequest;
+    }
+    Phase::WaitForSwitch1
+}
+
+// The next state after GuardClosed, where Activate is TRUE.
+#[tactic(auto, unfolding(ps_model::specs::Blocks::next, ps_model::specs::Blocks::block))]
+fn after_guard_closed(seen: Seen) -> Phase
+    requires { pin_of seen.bits 0 ≡ true }
+    ensures { code_of result ≡ next GuardMonitoringKind (code_of Phase.GuardClosed) (conditions_of seen 0) }
+{
+    let switch1 = seen.pin(1);
+    let switch2 = seen.pin(2);
+    let auto = seen.pin(4);
+    if !(switch1 && switch2) {
+        return Phase::OpenGuardRequest;
+    }
+    if auto {
+        return Phase::Enabled;
+    }
+    Phase::WaitForReset
+}
+
+// The next state after WaitForReset, where Activate is TRUE.
+#[tactic(auto, unfolding(ps_model::specs::Blocks::next, ps_model::specs::Blocks::block))]
+fn after_wait_for_reset(seen: Seen) -> Phase
+    requires { pin_of seen.bits 0 ≡ true }
+    ensures { code_of result ≡ next GuardMonitoringKind (code_of Phase.WaitForReset) (conditions_of seen 0) }
+{
+    let switch1 = seen.pin(1);
+    let switch2 = seen.pin(2);
+    if !(switch1 && switch2) {
+        return Phase::OpenGuardRequest;
+    }
+    if seen.edge {
+        return Phase::Enabled;
+    }
+    if seen.static_reset {
+        return Phase::ResetError;
+    }
+    Phase::WaitForReset
 }
 
 /// SF_GuardMonitoring (PLCopen TC5, in the profile of this project).

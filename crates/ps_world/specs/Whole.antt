@@ -1,11 +1,12 @@
 -- A world as its callers see it.
-use Rattle.std.specs.Prelude.{◌≡◌, ℕ, List}
+use Rattle.std.specs.Prelude.{◌≡◌, ℕ, false, List}
 use Rattle.ps_model.specs.declared.channel.Channel.{Channel}
 use Rattle.ps_model.specs.declared.channel.Region.{Region}
 use Rattle.ps_model.specs.declared.sizes.Sizes.{Sizes}
 use Rattle.ps_model.specs.Network.{Network}
 use Rattle.ps_model.specs.Sized.{AreSizesOf}
 use Rattle.ps_model.specs.Budgets.{turns_a, turns_b}
+use Rattle.ps_machine.specs.Seats.{Seat_state}
 use Rattle.ps_machine.specs.StoredChannel.{region_of}
 use Rattle.ps_stackvm.specs.Channel.{machine_a}
 use Rattle.ps_stackvm.specs.Code.{code_a}
@@ -43,6 +44,13 @@ happened e w = record { setup = w.setup; state = world_step (machines_in w.setup
 -- the world after these events
 abbrev pub after_events : List Event → Whole → Whole
 after_events es w = record { setup = w.setup; state = after (machines_in w.setup) es w.state }
+
+-- the world of two seats, of which no scan is begun
+abbrev pub whole_of : (a b : Seat_state) → Whole
+whole_of a b = record {
+  setup = record { sizes = a.sizes; image_a = a.image; image_b = b.image; budget_a = a.budget; budget_b = b.budget };
+  state = record { a = a.channel; b = b.channel; last = 0; begun = false; tripped = false };
+}
 
 -- This never changes of an application's world: its sizes, its code as the two compilers make it, and the budgets of
 -- its channels.

@@ -1,19 +1,22 @@
 // The world of two channels, event by event.
 
 ghost use Rattle.std.specs.Prelude.{◌≡◌, ◌≤◌, ◌<◌, ◌^◌, ◌&&◌, ◌||◌, ◌+◌, false, true, is_err, length, nat_lt, None};
-ghost use Rattle.std.specs.Prelude.{IfSome, IfNone, IfOk, []};
+ghost use Rattle.std.specs.Prelude.{IfSome, IfNone, IfOk, [], ◌*◌};
 ghost use Rattle.ps_model.specs.Typing.{Accepted};
-ghost use Rattle.ps_model.specs.Budgets.{turns_b};
+ghost use Rattle.ps_model.specs.Budgets.{turns_a, turns_b};
+ghost use Rattle.ps_model.specs.Fields.{blank_report};
 ghost use Rattle.ps_model.specs.Sized.{AreSizesOf};
 ghost use Rattle.ps_machine.specs.Channels.{ended};
+ghost use Rattle.ps_stackvm.specs.Channel.{workings_a};
+ghost use Rattle.ps_stackvm.specs.Code.{code_a};
 ghost use Rattle.ps_eqvm.specs.Channel.{workings_b};
 ghost use Rattle.ps_eqvm.specs.Code.{code_b};
-ghost use Rattle.ps_machine.specs.Seats.{new_seat};
+ghost use Rattle.ps_machine.specs.Seats.{new_seat, machine_in};
 ghost use Rattle.ps_world.specs.Worlds.{machine, channel};
 ghost use Rattle.ps_world.specs.Worlds.Event.{Begin, Turn, Spoil, Compare, Restart};
 ghost use Rattle.ps_world.specs.Steps.{both_ended};
 ghost use Rattle.ps_world.specs.Verdicts.{verdict, report_given, judged, cause_of, field_in};
-ghost use Rattle.ps_world.specs.Whole.{machines_in, region_in, happened, after_events, IsWorldOf};
+ghost use Rattle.ps_world.specs.Whole.{machines_in, region_in, happened, after_events, whole_of, IsWorldOf};
 ghost use Rattle.ps_world.specs.Orders.{spoils_before, next_turn, turn_events, events_before_compare, at_compare};
 ghost use Rattle.ps_world.specs.Orders.{scan_events};
 ghost use Rattle.ps_machine.specs.Outcomes.{outcome};
@@ -84,6 +87,16 @@ fn cause_of_failing(channel: Channel, failing: Failing) -> Cause
     }
 }
 
+// The seat of channel A of an application of these sizes.
+fn stack_seat(alloc: Global, app: &App, sizes: &Sizes) -> Result<Seat<StackChannel>, Memory>
+    requires { Accepted app.now }
+    ensures { IfOk result (λ seat. seat ≡ new_seat workings_a sizes.now (code_a app.now) (turns_a app.now)) }
+{
+    let image = stack_image(alloc, app)?;
+    let budget = app.turns_a();
+    Seat::build(alloc, image, sizes, budget)
+}
+
 // The seat of channel B of an application of these sizes, which are counted for it anew: it does not take those of
 // channel A.
 fn equation_seat(alloc: Global, app: &App, sizes: &Sizes) -> Result<Seat<EquationChannel>, Memory>
@@ -97,6 +110,25 @@ fn equation_seat(alloc: Global, app: &App, sizes: &Sizes) -> Result<Seat<Equatio
     Seat::build(alloc, image, &own_sizes, budget)
 }
 
+// Compares the report of channel A with that of channel B, which is read into a blank one.
+fn judge_by(report: &Report, b: &Seat<EquationChannel>, other: &mut Report) -> Verdict
+    requires blank { other.old ≡ blank_report b.now.sizes.outputs b.now.sizes.instances }
+    requires outs { length report.now.outs ≡ b.now.sizes.outputs }
+    requires diags { length report.now.diags ≡ b.now.sizes.instances }
+    requires few { b.now.sizes.outputs + 3 * b.now.sizes.instances ≤ 2 ^ 16 }
+    ensures verdict { result ≡ judged (gives report.now) (outcome (machine_in workings_b b.now) b.now.channel.cells) }
+    ensures outs { length other.new.outs ≡ length other.old.outs }
+    ensures diags { length other.new.diags ≡ length other.old.diags }
+{
+    if let Err(failing) = b.outcome_into(other) {
+        return Verdict::Tripped(cause_of_failing(Channel::B, failing));
+    }
+    match report.first_difference(other) {
+        None => Verdict::Released,
+        Some(field) => Verdict::Tripped(Cause::Differ(field)),
+    }
+}
+
 impl World {
     /// The world of an application at the beginning: both compilers' code, which it keeps outside every region,
     /// blank cells, no scan begun and not tripped.
@@ -104,19 +136,30 @@ impl World {
         requires { Accepted app.now }
         ensures { IfOk result (λ world. IsWorldOf app.now world) }
     {
-        app.sound();
         let sizes = Sizes::of(alloc, app)?;
-        let a = Seat::build(alloc, stack_image(alloc, app)?, &sizes, app.turns_a())?;
+        let a = stack_seat(alloc, app, &sizes)?;
         let b = equation_seat(alloc, app, &sizes)?;
         let other = Report::for_app(alloc, app)?;
-        Ok(World {
+        app.sound();
+        Ok(World::from_seats(a, b, other))
+    }
+
+    // The world of two seats of one application, of which no scan is begun.
+    fn from_seats(a: Seat<StackChannel>, b: Seat<EquationChannel>, other: Report) -> World
+        requires sizes { b.sizes ≡ a.sizes }
+        requires few { a.sizes.outputs + 3 * a.sizes.instances ≤ 2 ^ 16 }
+        requires outs { length other.outs ≡ a.sizes.outputs }
+        requires diags { length other.diags ≡ a.sizes.instances }
+        ensures { result ≡ whole_of a b }
+    {
+        World {
             a,
             b,
             last: 0,
             begun: false,
             tripped: false,
             other,
-        })
+        }
     }
 
     /// The lengths of the code and the cells of both channels, in bytes.
@@ -240,13 +283,7 @@ impl World {
         if let Err(failing) = self.a.outcome_into(into) {
             return Verdict::Tripped(cause_of_failing(Channel::A, failing));
         }
-        if let Err(failing) = self.b.outcome_into(&mut self.other) {
-            return Verdict::Tripped(cause_of_failing(Channel::B, failing));
-        }
-        match into.first_difference(&self.other) {
-            None => Verdict::Released,
-            Some(field) => Verdict::Tripped(Cause::Differ(field)),
-        }
+        judge_by(into, &self.b, &mut self.other)
     }
 
     /// The value of a field in the report that the cells of a channel hold: 0 or 1 of a Boolean, or a code. Fields are

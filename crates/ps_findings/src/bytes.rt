@@ -1,8 +1,8 @@
 // What a byte is that begins no token.
 
-use crate::lines::line_at;
-use ps_base::{Bytes, Memory, Place};
-use std::alloc::Global;
+use crate::telling::Telling;
+use ps_base::Place;
+use ps_text::{cut_at, line_at};
 
 // Whether three bytes are a character of no width, or one that turns the direction of a line: U+200B to U+200F, U+202A
 // to U+202E, U+2060 to U+2069, U+FEFF.
@@ -14,22 +14,13 @@ fn is_unseen(first: u8, second: u8, third: u8) -> bool {
     }
 }
 
-/// That a character which is not seen stands at a place; empty where none does.
-pub(crate) fn byte_told(alloc: Global, text: &[u8], place: &Place) -> Result<Bytes, Memory> {
-    let line = line_at(text, place.line);
-    let at = (place.column as usize).saturating_sub(1);
-    let mut list = Bytes::new(alloc);
-    match (
-        line.get(at),
-        line.get(at.saturating_add(1)),
-        line.get(at.saturating_add(2)),
-    ) {
-        (Some(first), Some(second), Some(third)) if is_unseen(*first, *second, *third) => {
-            list.extend_from_slice(
-                b"a character that is not seen: it has no width, or turns the direction of what is shown; delete it",
-            )?;
-        }
+/// That a character which is not seen stands at a place; nothing where none does.
+pub(crate) fn tell_byte(telling: &mut Telling, text: &[u8], place: &Place) {
+    let (_, rest) = cut_at(line_at(text, place.line), place.column);
+    match rest {
+        [first, second, third, ..] if is_unseen(*first, *second, *third) => telling.add(
+            b"a character that is not seen: it has no width, or turns the direction of what is shown; delete it",
+        ),
         _ => (),
     }
-    Ok(list)
 }

@@ -1,11 +1,50 @@
 // Comments that an editor shows otherwise than they are read.
 
+use crate::lines::is_feed;
 use ps_base::{Memory, Place};
 use ps_notes::{OddComment, Oddity};
 use std::alloc::Global;
 
 // The most odd comments that are told.
 const MOST_ODD: usize = 20;
+
+// The odd comments that were found, at most one of a line, and whether memory sufficed for them.
+#[derive(Drop)]
+struct Odd {
+    list: Vec<OddComment>,
+    last: u32,
+    is_whole: bool,
+}
+
+impl Odd {
+    // None. It takes no memory.
+    fn new(alloc: Global) -> Odd {
+        Odd {
+            list: Vec::new(alloc),
+            last: 0,
+            is_whole: true,
+        }
+    }
+
+    // One more, unless its line has one or there are enough.
+    fn add(&mut self, what: Oddity, place: Place) {
+        if self.last < place.line && self.list.len() < MOST_ODD {
+            self.last = place.line;
+            if self.list.push(OddComment { what, place }).is_err() {
+                self.is_whole = false;
+            }
+        }
+    }
+
+    // All of them. An error means out of memory.
+    fn finish(self) -> Result<Vec<OddComment>, Memory> {
+        if self.is_whole {
+            Ok(self.list)
+        } else {
+            Err(Memory)
+        }
+    }
+}
 
 // Where among code and comments a byte of an application stands.
 #[derive(Clone, Copy, PartialEq)]
@@ -46,6 +85,30 @@ fn spot_at(before: Spot, bytes: &[u8]) -> Spot {
     }
 }
 
+// A walk over the bytes of an application: where it is, and whether the next byte ends a sign of two.
+#[derive(Clone, Copy)]
+struct Walk {
+    spot: Spot,
+    is_skipped: bool,
+    place: Place,
+}
+
+// The walk at the first of these bytes, by the walk at the byte before it.
+fn walk_at(walk: Walk, bytes: &[u8], byte: u8) -> Walk {
+    if walk.is_skipped {
+        return Walk {
+            is_skipped: false,
+            ..walk
+        };
+    }
+    let spot = spot_at(walk.spot, bytes);
+    Walk {
+        spot,
+        is_skipped: spot != walk.spot && byte != b'\n',
+        place: walk.place,
+    }
+}
+
 // What is odd in a comment at the first of these bytes.
 fn oddity(spot: Spot, bytes: &[u8]) -> Option<Oddity> {
     match spot {
@@ -82,37 +145,30 @@ fn may_have_odd(text: &[u8]) -> bool {
     false
 }
 
+// Adds the odd comments of an application's text.
+fn add_odd(odd: &mut Odd, text: &[u8]) {
+    let mut walk = Walk {
+        spot: Spot::Code,
+        is_skipped: false,
+        place: Place { line: 1, column: 1 },
+    };
+    for (i, byte) in text.iter().enumerate() {
+        walk = walk_at(walk, &text[i..], *byte);
+        if let Some(what) = oddity(walk.spot, &text[i..]) {
+            odd.add(what, walk.place);
+        }
+        walk.place = behind(walk.place, *byte);
+    }
+}
+
 /// The odd comments of an application's text, at most 20: in a `//` comment a carriage return that does not end its
 /// line, and in any comment a character that turns the direction of what is shown. Of a line the first is told.
 pub fn odd_comments(alloc: Global, text: &[u8]) -> Result<Vec<OddComment>, Memory> {
-    let mut list = Vec::new(alloc);
-    if !may_have_odd(text) {
-        return Ok(list);
+    let mut odd = Odd::new(alloc);
+    if may_have_odd(text) {
+        add_odd(&mut odd, text);
     }
-    let mut spot = Spot::Code;
-    let mut told = 0u32;
-    let mut skipped = 0u8;
-    let mut place = Place { line: 1, column: 1 };
-    for (i, byte) in text.iter().enumerate() {
-        let rest = &text[i..];
-        if skipped > 0 {
-            skipped = skipped.saturating_sub(1);
-        } else {
-            let next = spot_at(spot, rest);
-            if next != spot && *byte != b'\n' {
-                skipped = 1;
-            }
-            spot = next;
-        }
-        if let Some(what) = oddity(spot, rest) {
-            if told < place.line && list.len() < MOST_ODD {
-                list.push(OddComment { what, place })?;
-                told = place.line;
-            }
-        }
-        place = behind(place, *byte);
-    }
-    Ok(list)
+    odd.finish()
 }
 
 // Whether a carriage return stands in a line before its end.
@@ -128,19 +184,13 @@ fn has_return(line: &[u8]) -> bool {
 /// The comment lines of a trace or fault file that have a carriage return before their end, at most 20, each told by
 /// its line alone.
 pub fn odd_lines(alloc: Global, text: &[u8]) -> Result<Vec<OddComment>, Memory> {
-    let mut list = Vec::new(alloc);
-    let mut number = 0u32;
-    for line in text.split(|byte| *byte == b'\n') {
-        number = number.saturating_add(1);
-        if line.starts_with(b"#") && has_return(line) && list.len() < MOST_ODD {
-            list.push(OddComment {
-                what: Oddity::Return,
-                place: Place {
-                    line: number,
-                    column: 0,
-                },
-            })?;
+    let mut odd = Odd::new(alloc);
+    let mut line = 0u32;
+    for bytes in text.split(is_feed) {
+        line = line.saturating_add(1);
+        if bytes.starts_with(b"#") && has_return(bytes) {
+            odd.add(Oddity::Return, Place { line, column: 0 });
         }
     }
-    Ok(list)
+    odd.finish()
 }

@@ -1,83 +1,74 @@
 // What is told of a refusal besides its rule.
 
-use crate::blocks::{literal_told, outputs_told, pins_told};
-use crate::bytes::byte_told;
-use crate::faults::{fault_before, fault_told};
-use crate::grammar::grammar_told;
-use crate::inputs::{inputs_of, missing_in};
-use crate::limits::{blocks_told, limits_told};
-use crate::lines::line_at;
+use crate::blocks::{literal_told, tell_outputs, tell_pins};
+use crate::bytes::tell_byte;
+use crate::faults::{tell_before, tell_fault};
+use crate::grammar::tell_grammar;
+use crate::inputs::{tell_inputs, tell_twice};
+use crate::limits::{tell_blocks, tell_limits};
 use crate::naming::{declared_told, signal_told, types_told};
-use crate::pins::pins_at;
+use crate::pins::tell_kind;
 use crate::reading::token_at;
-use crate::times::time_told;
-use crate::traces::{header_of, time_before, wrong_count, wrong_time, wrong_value};
-use crate::values::bools_behind;
-use ps_base::{Bytes, Fail, Memory, Refusal, Rule};
+use crate::telling::Telling;
+use crate::times::tell_literal;
+use crate::traces::{header_of, tell_count, tell_time, tell_time_before, tell_value};
+use crate::values::tell_bools;
+use ps_base::{Bytes, Memory, Refusal, Rule};
 use ps_lexer::{Token, lex};
+use ps_text::line_at;
 use std::alloc::Global;
 
 // The pins at a token: those of a kind of the profile, or else those of a function block of the text; of a signal,
 // that it has none.
-fn any_pins(alloc: Global, tokens: &[Token], at: usize) -> Result<Bytes, Memory> {
-    let pins = pins_at(alloc, tokens, at)?;
-    if pins.len() > 0 {
-        return Ok(pins);
+fn tell_any_pins(telling: &mut Telling, tokens: &[Token], at: usize) {
+    tell_kind(telling, tokens, at);
+    if telling.is_empty() {
+        tell_pins(telling, tokens, at);
     }
-    let pins = pins_told(alloc, tokens, at)?;
-    if pins.len() > 0 {
-        return Ok(pins);
+    if telling.is_empty() {
+        telling.add(signal_told(tokens, at));
     }
-    signal_told(alloc, tokens, at)
 }
 
 // What is told of a name that is not declared: the outputs of an instance of a function block of the text, or else
 // where the name would be declared.
-fn undeclared(alloc: Global, tokens: &[Token], at: usize) -> Result<Bytes, Memory> {
-    let outputs = outputs_told(alloc, tokens, at)?;
-    if outputs.len() > 0 {
-        return Ok(outputs);
+fn tell_undeclared(telling: &mut Telling, tokens: &[Token], at: usize) {
+    tell_outputs(telling, tokens, at);
+    if telling.is_empty() {
+        telling.add(declared_told(tokens, at));
     }
-    declared_told(alloc, tokens, at)
 }
 
 // What the tokens of an application tell of its refusal.
-fn detail_in(
-    alloc: Global,
-    text: &[u8],
-    tokens: &[Token],
-    refusal: &Refusal,
-) -> Result<Bytes, Memory> {
-    match token_at(tokens, refusal.place) {
-        Some(at) => match refusal.rule {
-            Rule::P1 => grammar_told(alloc, text, tokens, at),
-            Rule::N4 | Rule::B3 => any_pins(alloc, tokens, at),
-            Rule::N2 => undeclared(alloc, tokens, at),
-            Rule::N3 => types_told(alloc, tokens, at),
-            Rule::N12 => literal_told(alloc, tokens, at),
-            Rule::S1 | Rule::S2 => bools_behind(alloc, tokens, at),
-            _ => Ok(Bytes::new(alloc)),
-        },
-        None if refusal.rule == Rule::P1 => grammar_told(alloc, text, tokens, tokens.len()),
-        None => Ok(Bytes::new(alloc)),
+fn tell_of_tokens(telling: &mut Telling, text: &[u8], tokens: &[Token], refusal: &Refusal) {
+    let at = token_at(tokens, refusal.place);
+    match refusal.rule {
+        Rule::P1 => tell_grammar(telling, text, tokens, at),
+        _ if at >= tokens.len() => (),
+        Rule::N4 | Rule::B3 => tell_any_pins(telling, tokens, at),
+        Rule::N2 => tell_undeclared(telling, tokens, at),
+        Rule::N3 => telling.add(types_told(tokens, at)),
+        Rule::N12 => telling.add(literal_told(tokens, at)),
+        Rule::S1 | Rule::S2 => tell_bools(telling, tokens, at),
+        _ => (),
     }
 }
 
 // What the bytes of a text tell of its refusal: of a byte, a TIME literal, or a line of a trace or fault file.
-fn detail_of_line(alloc: Global, text: &[u8], refusal: &Refusal) -> Result<Bytes, Memory> {
+fn tell_of_line(telling: &mut Telling, text: &[u8], refusal: &Refusal) {
     let line = refusal.place.line;
     match refusal.rule {
-        Rule::L1 => byte_told(alloc, text, &refusal.place),
-        Rule::L3 => time_told(alloc, text, &refusal.place),
-        Rule::T4 => wrong_count(alloc, text, line),
-        Rule::T5 => wrong_value(alloc, text, line),
-        Rule::T6 => wrong_time(alloc, text, line),
-        Rule::T7 => time_before(alloc, text, line),
-        Rule::F1 => fault_told(alloc, line_at(text, line)),
-        Rule::F2 | Rule::F4 => fault_before(alloc, text, line),
-        Rule::N11 => limits_told(alloc, text),
-        Rule::B4 => blocks_told(alloc, text),
-        _ => Ok(Bytes::new(alloc)),
+        Rule::L1 => tell_byte(telling, text, &refusal.place),
+        Rule::L3 => tell_literal(telling, text, &refusal.place),
+        Rule::T4 => tell_count(telling, text, line),
+        Rule::T5 => tell_value(telling, text, line),
+        Rule::T6 => tell_time(telling, text, line),
+        Rule::T7 => tell_time_before(telling, text, line),
+        Rule::F1 => tell_fault(telling, line_at(text, line)),
+        Rule::F2 | Rule::F4 => tell_before(telling, text, line),
+        Rule::N11 => tell_limits(telling, text),
+        Rule::B4 => tell_blocks(telling, text),
+        _ => (),
     }
 }
 
@@ -88,32 +79,38 @@ fn detail_of_line(alloc: Global, text: &[u8], refusal: &Refusal) -> Result<Bytes
 /// literal what it is. Of a line of a trace or fault file the word that is wrong, or the line before it that it is
 /// wrong beside. It is empty where it tells nothing.
 pub fn detail_on(alloc: Global, text: &[u8], refusal: &Refusal) -> Result<Bytes, Memory> {
+    let mut telling = Telling::new(alloc);
     match refusal.rule {
         Rule::P1 | Rule::B3 | Rule::N2 | Rule::N3 | Rule::N4 | Rule::N12 | Rule::S1 | Rule::S2 =>
-            match lex(alloc, text) {
-                Ok(tokens) => detail_in(alloc, text, tokens.list.as_slice(), refusal),
-                Err(Fail::Memory) => Err(Memory),
-                Err(Fail::Refused(_)) => Ok(Bytes::new(alloc)),
+            if let Some(tokens) = telling.found(lex(alloc, text)) {
+                tell_of_tokens(&mut telling, text, tokens.list.as_slice(), refusal);
             },
-        _ => detail_of_line(alloc, text, refusal),
+        _ => tell_of_line(&mut telling, text, refusal),
     }
+    telling.finish()
 }
 
 /// The inputs of the program of this text, in words; empty where it has none, or the text has no tokens.
 pub fn inputs_told(alloc: Global, text: &[u8]) -> Result<Bytes, Memory> {
-    match lex(alloc, text) {
-        Ok(tokens) => inputs_of(alloc, tokens.list.as_slice()),
-        Err(Fail::Memory) => Err(Memory),
-        Err(Fail::Refused(_)) => Ok(Bytes::new(alloc)),
+    let mut telling = Telling::new(alloc);
+    if let Some(tokens) = telling.found(lex(alloc, text)) {
+        let tokens = tokens.list.as_slice();
+        tell_inputs(&mut telling, tokens, b"", b"the inputs are: ");
     }
+    telling.finish()
 }
 
 /// The inputs of the program of this text that the header of a trace has not, or else the names that it has twice;
 /// empty where there is none, or the text has no tokens.
 pub fn header_told(alloc: Global, text: &[u8], trace: &[u8]) -> Result<Bytes, Memory> {
-    match lex(alloc, text) {
-        Ok(tokens) => missing_in(alloc, tokens.list.as_slice(), header_of(trace)),
-        Err(Fail::Memory) => Err(Memory),
-        Err(Fail::Refused(_)) => Ok(Bytes::new(alloc)),
+    let mut telling = Telling::new(alloc);
+    if let Some(tokens) = telling.found(lex(alloc, text)) {
+        let header = header_of(trace);
+        let tokens = tokens.list.as_slice();
+        tell_inputs(&mut telling, tokens, header, b"missing in the header: ");
+        if telling.is_empty() {
+            tell_twice(&mut telling, header);
+        }
     }
+    telling.finish()
 }

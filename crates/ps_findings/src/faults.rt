@@ -1,8 +1,8 @@
 // What is wrong in a line of a fault file.
 
-use crate::lines::{add_word, is_number, is_passed_over, word_at};
-use ps_base::{Bytes, Memory};
-use std::alloc::Global;
+use crate::lines::{Sought, has_only, is_number, last_before, word_at, word_from};
+use crate::telling::Telling;
+use ps_text::line_at;
 
 // A word of a fault line.
 #[derive(Clone, Copy)]
@@ -24,8 +24,8 @@ impl Part {
     fn fits(self, word: &[u8]) -> bool {
         match self {
             Part::Before => word == b"before".as_slice(),
-            Part::Scan | Part::Turn => is_number(word) && !is_zero(word),
-            Part::Channel => is_channel(word) || word == b"C".as_slice(),
+            Part::Scan | Part::Turn => is_number(word) && !has_only(word, b"0"),
+            Part::Channel => matches!(word, [b'A' | b'B' | b'C']),
             Part::Region => word == b"code".as_slice() || word == b"memory".as_slice(),
             Part::Offset => is_number(word),
             Part::Bytes => are_bytes(word),
@@ -44,19 +44,6 @@ impl Part {
             Part::Offset => b"the offset of a byte, in decimal digits",
             Part::Bytes => b"an even number of hexadecimal digits, 2 to 512, without 0x",
         }
-    }
-}
-
-// Whether a word is a channel.
-fn is_channel(word: &[u8]) -> bool {
-    word == b"A".as_slice() || word == b"B".as_slice()
-}
-
-// Whether the channel of a line is C.
-fn names_third(line: &[u8], has_turn: bool) -> bool {
-    match word_at(line, if has_turn { 4 } else { 2 }) {
-        Some(word) => word == b"C".as_slice(),
-        None => false,
     }
 }
 
@@ -81,16 +68,6 @@ const TURNED: [Part; 8] = [
     Part::Bytes,
 ];
 
-// Whether a number in digits is 0.
-fn is_zero(word: &[u8]) -> bool {
-    for byte in word {
-        if *byte != b'0' {
-            return false;
-        }
-    }
-    true
-}
-
 // Whether a word is bytes in hexadecimal digits.
 fn are_bytes(word: &[u8]) -> bool {
     for byte in word {
@@ -102,17 +79,12 @@ fn are_bytes(word: &[u8]) -> bool {
 }
 
 // What is wrong with the word of a part, or that it is missing.
-fn wrong(alloc: Global, word: Option<&[u8]>, part: Part) -> Result<Bytes, Memory> {
-    let mut list = Bytes::new(alloc);
+fn tell_wrong(telling: &mut Telling, word: Option<&[u8]>, part: Part) {
     match word {
-        Some(word) => {
-            add_word(&mut list, word)?;
-            list.extend_from_slice(b" stands where this is wanted: ")?;
-        }
-        None => list.extend_from_slice(b"the line ends where this is wanted: ")?,
+        Some(word) => telling.say(b"", word, b" stands where this is wanted: "),
+        None => telling.add(b"the line ends where this is wanted: "),
     }
-    list.extend_from_slice(part.wanted())?;
-    Ok(list)
+    telling.add(part.wanted());
 }
 
 // Whether the word of this number is right: it is of the form of its part, or the word turn in its place.
@@ -123,59 +95,50 @@ fn is_right(line: &[u8], number: usize, part: Part, has_turn: bool) -> bool {
     }
 }
 
-// What is wrong with a line of these parts; empty where each word is of its form.
-fn wrong_of(alloc: Global, line: &[u8], parts: &[Part], has_turn: bool) -> Result<Bytes, Memory> {
+// What is wrong with a line of these parts; nothing where each word is of its form.
+fn tell_of(telling: &mut Telling, line: &[u8], parts: &[Part], has_turn: bool) {
     for (number, part) in parts.iter().enumerate() {
-        if !is_right(line, number, *part, has_turn) {
-            return wrong(alloc, word_at(line, number), *part);
+        if telling.is_empty() && !is_right(line, number, *part, has_turn) {
+            tell_wrong(telling, word_at(line, number), *part);
         }
     }
-    let mut list = Bytes::new(alloc);
-    if let Some(word) = word_at(line, parts.len()) {
-        add_word(&mut list, word)?;
-        list.extend_from_slice(
+    if telling.is_empty() {
+        tell_end(telling, line, word_at(line, parts.len()));
+    }
+}
+
+// What is wrong with the word behind a line, if there is one, or with its seat.
+fn tell_end(telling: &mut Telling, line: &[u8], word: Option<&[u8]>) {
+    match word {
+        Some(word) => telling.say(
+            b"",
+            word,
             b" stands where the line is to end; a comment has # as the first byte of its line",
-        )?;
-    } else if names_third(line, has_turn) {
-        list.extend_from_slice(b"C is a seat of vote and heal alone; A or B is wanted")?;
+        ),
+        None if matches!(word_from(line, 0), Some([b'C'])) => {
+            telling.add(b"C is a seat of vote and heal alone; A or B is wanted")
+        }
+        None => (),
     }
-    Ok(list)
 }
 
-/// The first word of a fault line that is not of the form, and what is wanted in its place; empty where each word is of
-/// its form.
-pub(crate) fn fault_told(alloc: Global, line: &[u8]) -> Result<Bytes, Memory> {
+/// The first word of a fault line that is not of the form, and what is wanted in its place; nothing where each word is
+/// of its form.
+pub(crate) fn tell_fault(telling: &mut Telling, line: &[u8]) {
     match word_at(line, 2) {
+        Some(word) if word == b"turn".as_slice() => tell_of(telling, line, &TURNED, true),
         Some(word) if word.eq_ignore_ascii_case(b"turn") => {
-            if word == b"turn".as_slice() {
-                wrong_of(alloc, line, &TURNED, true)
-            } else {
-                let mut list = Bytes::new(alloc);
-                add_word(&mut list, word)?;
-                list.extend_from_slice(b" is spelt turn, in small letters")?;
-                Ok(list)
-            }
+            telling.say(b"", word, b" is spelt turn, in small letters")
         }
-        _ => wrong_of(alloc, line, &PLAIN, false),
+        _ => tell_of(telling, line, &PLAIN, false),
     }
 }
 
-/// The fault before the line of this number, with its words; empty where there is none.
-pub(crate) fn fault_before(alloc: Global, text: &[u8], number: u32) -> Result<Bytes, Memory> {
-    let mut last: &[u8] = &[];
-    for (index, line) in text.split(|byte| *byte == b'\n').enumerate() {
-        if index + 1 < number as usize && !is_passed_over(line) {
-            last = line;
-        }
+/// The fault before the line of this number, with its words; nothing where there is none.
+pub(crate) fn tell_before(telling: &mut Telling, text: &[u8], number: u32) {
+    let last = last_before(text, number, Sought::Any);
+    if last > 0 {
+        telling.add(b"the fault before it: ");
+        telling.add_without_returns(line_at(text, last));
     }
-    let mut list = Bytes::new(alloc);
-    if !last.is_empty() {
-        list.extend_from_slice(b"the fault before it: ")?;
-        for byte in last {
-            if *byte != b'\r' {
-                list.push(*byte)?;
-            }
-        }
-    }
-    Ok(list)
 }

@@ -1,6 +1,7 @@
 // The names and the values of the fields of a report.
 
-use crate::sources::{app_of, source_of};
+use crate::sources::app_of;
+use crate::telling::Telling;
 use ps_base::{Bytes, Memory};
 use ps_model::{App, Cause};
 use std::alloc::Global;
@@ -12,77 +13,69 @@ static DIGITS: &[u8; 16] = b"0123456789ABCDEF";
 const MOST_OF_NAME: usize = 160;
 
 // Adds a name, or the end of a long one.
-fn add_name(list: &mut Bytes, name: &str) -> Result<(), Memory> {
+fn add_name(telling: &mut Telling, name: &str) {
     let bytes = name.as_bytes();
-    if bytes.len() <= MOST_OF_NAME {
-        return list.extend_from_slice(bytes);
+    let left_out = bytes.len().saturating_sub(MOST_OF_NAME);
+    if left_out > 0 {
+        telling.add(b"...");
     }
-    list.extend_from_slice(b"...")?;
-    list.extend_from_slice(&bytes[bytes.len() - MOST_OF_NAME..])
+    telling.add(&bytes[left_out..]);
 }
 
 // Adds the name of an output by its number.
-fn add_output(list: &mut Bytes, app: &App, output: u16) -> Result<(), Memory> {
+fn add_output(telling: &mut Telling, app: &App, output: u16) {
     let signal = app.input_count().saturating_add(output);
     if signal < app.declared_count() {
-        add_name(list, app.signal_name(signal))?;
+        add_name(telling, app.signal_name(signal));
     }
-    Ok(())
 }
 
 // Adds Ready, Error or DiagCode of an instance, by the number of the field after the outputs.
-fn add_diagnosis(list: &mut Bytes, app: &App, number: u16) -> Result<(), Memory> {
+fn add_diagnosis(telling: &mut Telling, app: &App, number: u16) {
     let instance = number / 3;
     if instance < app.instance_count() {
-        add_name(list, app.instance_name(instance))?;
-        list.extend_from_slice(match number % 3 {
+        add_name(telling, app.instance_name(instance));
+        telling.add(match number % 3 {
             0 => b".Ready",
             1 => b".Error",
             _ => b".DiagCode",
-        })?;
+        });
     }
-    Ok(())
 }
 
 // Adds a value: a code in four hexadecimal digits, or a Boolean as 0 or 1.
-fn add_value(list: &mut Bytes, value: u16, is_code: bool) -> Result<(), Memory> {
-    if is_code {
-        list.push(DIGITS[usize::from(value / 4096)])?;
-        list.push(DIGITS[usize::from(value / 256 % 16)])?;
-        list.push(DIGITS[usize::from(value / 16 % 16)])?;
-    }
-    list.push(DIGITS[usize::from(value % 16)])
+fn add_value(telling: &mut Telling, value: u16, is_code: bool) {
+    let digits = [
+        DIGITS[usize::from(value / 4096)],
+        DIGITS[usize::from(value / 256 % 16)],
+        DIGITS[usize::from(value / 16 % 16)],
+        DIGITS[usize::from(value % 16)],
+    ];
+    telling.add(if is_code { &digits } else { &digits[3..] });
 }
 
 // Adds the values of the channels, as ` (A 8000, B C002)`.
-fn add_values(list: &mut Bytes, values: (u16, u16), is_code: bool) -> Result<(), Memory> {
+fn add_values(telling: &mut Telling, values: (u16, u16), is_code: bool) {
     let (a, b) = values;
-    list.extend_from_slice(b" (A ")?;
-    add_value(list, a, is_code)?;
-    list.extend_from_slice(b", B ")?;
-    add_value(list, b, is_code)?;
-    list.push(b')')
+    telling.add(b" (A ");
+    add_value(telling, a, is_code);
+    telling.add(b", B ");
+    add_value(telling, b, is_code);
+    telling.add(b")");
 }
 
 // The name of a field of the reports of an application, and the values of the channels in it.
-fn field_in(
-    alloc: Global,
-    app: &App,
-    field: u16,
-    values: Option<(u16, u16)>,
-) -> Result<Bytes, Memory> {
-    let mut list = Bytes::new(alloc);
+fn tell_field(telling: &mut Telling, app: &App, field: u16, values: Option<(u16, u16)>) {
     let outputs = app.output_count();
     let is_code = field >= outputs && (field - outputs) % 3 == 2;
     if field < outputs {
-        add_output(&mut list, app, field)?;
+        add_output(telling, app, field);
     } else {
-        add_diagnosis(&mut list, app, field - outputs)?;
+        add_diagnosis(telling, app, field - outputs);
     }
     if let Some(values) = values {
-        add_values(&mut list, values, is_code)?;
+        add_values(telling, values, is_code);
     }
-    Ok(list)
 }
 
 /// The name of the first field in which the reports differ, by the application of a text, with the values of channel A
@@ -94,14 +87,11 @@ pub fn field_told(
     cause: Cause,
     values: Option<(u16, u16)>,
 ) -> Result<Bytes, Memory> {
-    let Cause::Differ(field) = cause else {
-        return Ok(Bytes::new(alloc));
-    };
-    match source_of(alloc, text)? {
-        Some(source) => match app_of(alloc, &source)? {
-            Some(app) => field_in(alloc, &app, field, values),
-            None => Ok(Bytes::new(alloc)),
-        },
-        None => Ok(Bytes::new(alloc)),
+    let mut telling = Telling::new(alloc);
+    if let Cause::Differ(field) = cause {
+        if let Some(app) = telling.found(app_of(alloc, text)) {
+            tell_field(&mut telling, &app, field, values);
+        }
     }
+    telling.finish()
 }

@@ -1,11 +1,9 @@
 // What stands at a token, and what may stand there.
 
-use crate::lines::add_word;
 use crate::reading::{form_at, name_at};
-use ps_base::{Bytes, Memory};
+use crate::telling::Telling;
 use ps_lexer::{Form, Token, Word};
 use ps_model::kind_named;
-use std::alloc::Global;
 
 // Where among the declarations and statements of a text a token stands.
 #[derive(Clone, Copy, PartialEq)]
@@ -207,31 +205,21 @@ fn may_stand(walk: Walk) -> &'static [u8] {
 
 // The bytes of a text that are a token.
 fn spelt<'a>(text: &'a [u8], token: &Token) -> &'a [u8] {
-    let from = token.from as usize;
-    let upto = token.upto as usize;
-    if from <= upto && upto <= text.len() {
-        &text[from..upto]
-    } else {
-        &[]
-    }
+    text.get(token.from as usize..token.upto as usize)
+        .unwrap_or(&[])
 }
 
-// Adds the token of this number as it is spelt, or that the text ends.
-fn add_found(list: &mut Bytes, text: &[u8], tokens: &[Token], at: usize) -> Result<(), Memory> {
+// Adds the token of this number as it is spelt, or that the text ends, and the token before it.
+fn tell_found(telling: &mut Telling, text: &[u8], tokens: &[Token], at: usize) {
     match tokens.get(at) {
-        Some(token) => {
-            list.extend_from_slice(b"found ")?;
-            add_word(list, spelt(text, token))?;
-        }
-        None => list.extend_from_slice(b"the text ends")?,
+        Some(token) => telling.say(b"found ", spelt(text, token), b""),
+        None => telling.add(b"the text ends"),
     }
     if at > 0 {
         if let Some(token) = tokens.get(at - 1) {
-            list.extend_from_slice(b" behind ")?;
-            add_word(list, spelt(text, token))?;
+            telling.say(b" behind ", spelt(text, token), b"");
         }
     }
-    Ok(())
 }
 
 // Whether a program or function block begins at a token.
@@ -245,13 +233,10 @@ fn is_head(tokens: &[Token], at: usize) -> bool {
 
 // Whether a word begins so, in any letter case.
 fn begins(word: &[u8], front: &[u8]) -> bool {
-    for (i, byte) in front.iter().enumerate() {
-        match word.get(i) {
-            Some(other) if other.eq_ignore_ascii_case(byte) => (),
-            _ => return false,
-        }
+    match word.get(..front.len()) {
+        Some(bytes) => bytes.eq_ignore_ascii_case(front),
+        None => false,
     }
-    true
 }
 
 // Whether the name of a kind stands before the colon of a declaration whose type stands before a token.
@@ -324,38 +309,35 @@ fn remedy(text: &[u8], tokens: &[Token], at: usize, walk: Walk) -> &'static [u8]
     }
 }
 
-/// What stands at the token of this number, or that the text ends there, and what may stand there in its place.
-pub(crate) fn grammar_told(
-    alloc: Global,
-    text: &[u8],
-    tokens: &[Token],
-    at: usize,
-) -> Result<Bytes, Memory> {
-    let mut list = Bytes::new(alloc);
-    if tokens.is_empty() {
-        list.extend_from_slice(
-            b"the file has no more than blanks and comments; an application begins with PROGRAM or FUNCTION_BLOCK and a name",
-        )?;
-        return Ok(list);
-    }
+// The walk through these tokens.
+fn walk_through(tokens: &[Token]) -> Walk {
     let mut walk = Walk {
         spot: Spot::Outside,
         is_call: false,
         depth: 0,
     };
-    for (i, token) in tokens.iter().enumerate() {
-        if i < at {
-            walk = after(walk, &token.form);
-        }
+    for token in tokens {
+        walk = after(walk, &token.form);
     }
-    add_found(&mut list, text, tokens, at)?;
+    walk
+}
+
+/// What stands at the token of this number, or that the text ends there, and what may stand there in its place.
+pub(crate) fn tell_grammar(telling: &mut Telling, text: &[u8], tokens: &[Token], at: usize) {
+    if tokens.is_empty() {
+        telling.add(
+            b"the file has no more than blanks and comments; an application begins with PROGRAM or FUNCTION_BLOCK and a name",
+        );
+        return;
+    }
+    let walk = walk_through(&tokens[..at.min(tokens.len())]);
+    tell_found(telling, text, tokens, at);
     let said = remedy(text, tokens, at, walk);
     if said.is_empty() {
-        list.extend_from_slice(b"; here may stand: ")?;
-        list.extend_from_slice(may_stand(walk))?;
+        telling.add(b"; here may stand: ");
+        telling.add(may_stand(walk));
     } else {
-        list.extend_from_slice(b"; ")?;
-        list.extend_from_slice(said)?;
+        telling.add(b"; ");
+        telling.add(said);
     }
-    Ok(list)
 }

@@ -1,10 +1,8 @@
 // The names of a program's inputs.
 
-use crate::lines::word_at;
-use crate::listing::add_name;
-use ps_base::{Bytes, Memory};
+use crate::lines::{is_blank, word_at};
+use crate::telling::Telling;
 use ps_lexer::{Form, Token, Word};
-use std::alloc::Global;
 
 // As many words of a header as are looked at.
 const MOST_WORDS: usize = 600;
@@ -61,23 +59,24 @@ fn input_in(walk: Walk, form: &Form) -> Option<&[u8]> {
     }
 }
 
-/// The inputs that the program of a text declares, as a list; empty where it declares none.
-pub(crate) fn inputs_of(alloc: Global, tokens: &[Token]) -> Result<Bytes, Memory> {
-    let mut list = Bytes::new(alloc);
+/// The inputs that the program of a text declares and a header has not, as a list that begins so; nothing where there is
+/// none.
+pub(crate) fn tell_inputs(telling: &mut Telling, tokens: &[Token], header: &[u8], head: &[u8]) {
     let mut walk = BEFORE;
     for token in tokens {
         walk = after(walk, &token.form);
         if let Some(name) = input_in(walk, &token.form) {
-            add_name(&mut list, b"the inputs are: ", name)?;
+            if !has_name(header, name, 1) {
+                telling.add_name(head, name);
+            }
         }
     }
-    Ok(list)
 }
 
 // Whether a word of a line from a number on is this name, without letter case.
 fn has_name(line: &[u8], name: &[u8], from: usize) -> bool {
     let mut number = 0usize;
-    for word in line.split(|byte| *byte == b' ' || *byte == b'\t' || *byte == b'\r') {
+    for word in line.split(is_blank) {
         if !word.is_empty() {
             if number >= from && word.eq_ignore_ascii_case(name) {
                 return true;
@@ -88,36 +87,15 @@ fn has_name(line: &[u8], name: &[u8], from: usize) -> bool {
     false
 }
 
-// The names of a header that stand in it twice, as a list.
-fn twice_in(alloc: Global, header: &[u8]) -> Result<Bytes, Memory> {
-    let mut list = Bytes::new(alloc);
+/// The names of a header that stand in it twice, as a list; nothing where there is none.
+pub(crate) fn tell_twice(telling: &mut Telling, header: &[u8]) {
     for i in 1..MOST_WORDS {
         match word_at(header, i) {
             Some(word) if has_name(header, word, i.saturating_add(1)) => {
-                add_name(&mut list, b"twice in the header: ", word)?;
+                telling.add_name(b"twice in the header: ", word)
             }
             Some(_) => (),
-            None => return Ok(list),
+            None => return,
         }
     }
-    Ok(list)
-}
-
-/// The inputs of the program of a text that a header has not, or else the names that it has twice, as a list; empty
-/// where there is none.
-pub(crate) fn missing_in(alloc: Global, tokens: &[Token], header: &[u8]) -> Result<Bytes, Memory> {
-    let mut list = Bytes::new(alloc);
-    let mut walk = BEFORE;
-    for token in tokens {
-        walk = after(walk, &token.form);
-        if let Some(name) = input_in(walk, &token.form) {
-            if !has_name(header, name, 1) {
-                add_name(&mut list, b"missing in the header: ", name)?;
-            }
-        }
-    }
-    if list.len() > 0 {
-        return Ok(list);
-    }
-    twice_in(alloc, header)
 }

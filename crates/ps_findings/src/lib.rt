@@ -14,12 +14,13 @@
 //!
 //! - `reading`: looks at tokens. `values`: the BOOL values of a value. `pins`: the pins of a kind. `blocks`: the pins
 //!   of function blocks of the text. `inputs`: the names of inputs. `naming`: where a name would be declared, and which
-//!   types there are. `listing`: names one after another.
+//!   types there are.
 //! - `sources`: the flat source of a text and its application. `limits`: which limit it passes, and `sizes` how large
 //!   it is. `flows`: all that SAFEBOOL flow refuses.
 //!
 //! Together:
 //!
+//! - `telling`: what is told, while it is written.
 //! - `detail`: what is said of a refusal. `further`: what is refused after the first refusal.
 //! - `refusing`: the message of an application that is refused, with the lines of further refusals.
 //! - `places`: where notes belong. `comments`: comments that are shown otherwise than they are read.
@@ -37,7 +38,6 @@ mod grammar;
 mod inputs;
 mod limits;
 mod lines;
-mod listing;
 mod naming;
 mod pins;
 mod places;
@@ -47,6 +47,7 @@ mod regions;
 mod seats;
 mod sizes;
 mod sources;
+mod telling;
 mod times;
 mod traces;
 mod usage;

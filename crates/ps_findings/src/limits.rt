@@ -1,13 +1,14 @@
 // Which limit a text passes, and how many were counted.
 
-use crate::lines::{add_digits, narrow};
+use crate::lines::narrow;
 use crate::sizes::{TextSize, size_of};
 use crate::sources::{library_of, source_of};
+use crate::telling::Telling;
+use ps_base::Memory;
 use ps_base::limits::{MOST_INPUTS, MOST_INSTANCES, MOST_NODES, MOST_OUTPUTS, MOST_SIGNALS};
-use ps_base::{Bytes, Memory};
+use ps_derived::Library;
 use ps_model::{kind_named, output_count};
 use ps_parser::{Declaration, Factor, Part, Product, Source, Statement, Sum};
-use std::alloc::Global;
 
 // The most function blocks of a text, and the most names and statements of a text that is written out.
 const MOST_BLOCKS: u32 = 64;
@@ -24,14 +25,6 @@ struct Counts {
     signals: u32,
     instances: u32,
     nodes: u32,
-}
-
-// A limit: what it is of, how many were counted, and how many may be.
-#[derive(Clone, Copy)]
-struct Limit {
-    name: &'static [u8],
-    count: u32,
-    most: u32,
 }
 
 // Counts the names of a declaration.
@@ -126,94 +119,67 @@ fn counts_of(source: &Source) -> Counts {
     counts
 }
 
-// Adds a limit to a list where it is passed.
-fn add_limit(list: &mut Bytes, limit: Limit) -> Result<(), Memory> {
-    if limit.count <= limit.most {
-        return Ok(());
+// A limit where it is passed: what it is of, how many were counted, and how many may be.
+fn tell_limit(telling: &mut Telling, name: &[u8], count: u32, most: u32) {
+    if count > most {
+        if !telling.is_empty() {
+            telling.add(b"; ");
+        }
+        telling.add(name);
+        telling.add(b": ");
+        telling.add_digits(count);
+        telling.add(b", and at most ");
+        telling.add_digits(most);
     }
-    if list.len() > 0 {
-        list.extend_from_slice(b"; ")?;
-    }
-    list.extend_from_slice(limit.name)?;
-    list.extend_from_slice(b": ")?;
-    add_digits(list, limit.count)?;
-    list.extend_from_slice(b", and at most ")?;
-    add_digits(list, limit.most)
 }
 
-// The limits of an application, with what was counted.
-fn limits_of(counts: Counts) -> [Limit; 5] {
-    [
-        Limit {
-            name: b"inputs",
-            count: counts.inputs,
-            most: u32::from(MOST_INPUTS),
-        },
-        Limit {
-            name: b"outputs",
-            count: counts.outputs,
-            most: u32::from(MOST_OUTPUTS),
-        },
-        Limit {
-            name: b"signals with the outputs of instances",
-            count: counts.signals,
-            most: u32::from(MOST_SIGNALS),
-        },
-        Limit {
-            name: b"instances",
-            count: counts.instances,
-            most: u32::from(MOST_INSTANCES),
-        },
-        Limit {
-            name: b"nodes of expressions",
-            count: counts.nodes,
-            most: MOST_NODES,
-        },
-    ]
+// The limits of an application that are passed.
+fn tell_counts(telling: &mut Telling, counts: Counts) {
+    let most_inputs = u32::from(MOST_INPUTS);
+    let most_outputs = u32::from(MOST_OUTPUTS);
+    let most_signals = u32::from(MOST_SIGNALS);
+    let most_instances = u32::from(MOST_INSTANCES);
+    tell_limit(telling, b"inputs", counts.inputs, most_inputs);
+    tell_limit(telling, b"outputs", counts.outputs, most_outputs);
+    let signals = b"signals with the outputs of instances";
+    tell_limit(telling, signals, counts.signals, most_signals);
+    tell_limit(telling, b"instances", counts.instances, most_instances);
+    tell_limit(telling, b"nodes of expressions", counts.nodes, MOST_NODES);
 }
 
 /// Which of the five limits of rule N11 the application of a text passes, and how many were counted, with function
-/// blocks written out; empty where it has no flat source.
-pub(crate) fn limits_told(alloc: Global, text: &[u8]) -> Result<Bytes, Memory> {
-    let mut list = Bytes::new(alloc);
-    if let Some(source) = source_of(alloc, text)? {
-        for limit in limits_of(counts_of(&source)) {
-            add_limit(&mut list, limit)?;
-        }
+/// blocks written out; nothing where it has no flat source.
+pub(crate) fn tell_limits(telling: &mut Telling, text: &[u8]) {
+    if let Some(source) = telling.found(source_of(telling.alloc(), text)) {
+        tell_counts(telling, counts_of(&source));
     }
-    Ok(list)
 }
 
-// Adds the limits on a text that is written out to a list where they are passed.
-fn add_sizes(list: &mut Bytes, size: TextSize) -> Result<(), Memory> {
-    let names = Limit {
-        name: b"names with function blocks written out",
-        count: size.names,
-        most: MOST_NAMES,
-    };
-    let statements = Limit {
-        name: b"statements with function blocks written out",
-        count: size.statements,
-        most: MOST_STATEMENTS,
-    };
-    add_limit(list, names)?;
-    add_limit(list, statements)
+// The limits on a text that is written out where they are passed.
+fn tell_sizes(telling: &mut Telling, size: TextSize) {
+    let names = b"names with function blocks written out";
+    tell_limit(telling, names, size.names, MOST_NAMES);
+    let statements = b"statements with function blocks written out";
+    tell_limit(telling, statements, size.statements, MOST_STATEMENTS);
+}
+
+// The limits of rule B4 that these function blocks and this program pass.
+fn tell_library(telling: &mut Telling, library: &Library) {
+    let count = narrow(library.blocks.len());
+    if count > MOST_BLOCKS {
+        tell_limit(telling, b"function blocks", count, MOST_BLOCKS);
+    } else {
+        match size_of(telling.alloc(), library) {
+            Ok(size) => tell_sizes(telling, size),
+            Err(Memory) => telling.spoil(),
+        }
+    }
 }
 
 /// Which of the limits of rule B4 a text passes, and how many were counted: function blocks; and where these are not
-/// too many, names and statements with function blocks written out. Empty where a rule L or P refuses the text.
-pub(crate) fn blocks_told(alloc: Global, text: &[u8]) -> Result<Bytes, Memory> {
-    let mut list = Bytes::new(alloc);
-    if let Some(library) = library_of(alloc, text)? {
-        let limit = Limit {
-            name: b"function blocks",
-            count: narrow(library.blocks.len()),
-            most: MOST_BLOCKS,
-        };
-        add_limit(&mut list, limit)?;
-        if limit.count <= limit.most {
-            add_sizes(&mut list, size_of(alloc, &library)?)?;
-        }
+/// too many, names and statements with function blocks written out. Nothing where a rule L or P refuses the text.
+pub(crate) fn tell_blocks(telling: &mut Telling, text: &[u8]) {
+    if let Some(library) = telling.found(library_of(telling.alloc(), text)) {
+        tell_library(telling, &library);
     }
-    Ok(list)
 }

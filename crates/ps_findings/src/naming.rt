@@ -1,10 +1,8 @@
 // Where a name would be declared, and which types there are.
 
 use crate::pins::bracket_before;
-use crate::reading::{form_at, is_dot, name_at, type_of};
-use ps_base::{Bytes, Memory};
+use crate::reading::{form_at, is_dot, typed_at};
 use ps_lexer::{Form, Token, Word};
-use std::alloc::Global;
 
 // What is told of a name that is not declared, by what stands beside it.
 fn wanted_at(tokens: &[Token], at: usize) -> &'static [u8] {
@@ -27,33 +25,25 @@ fn wanted_at(tokens: &[Token], at: usize) -> &'static [u8] {
 
 /// Where the name that is a token would be declared, by how it is used; empty where the token is the name of a pin
 /// after a dot.
-pub(crate) fn declared_told(alloc: Global, tokens: &[Token], at: usize) -> Result<Bytes, Memory> {
+pub(crate) fn declared_told(tokens: &[Token], at: usize) -> &'static [u8] {
     if at >= 1 && is_dot(tokens, at - 1) {
-        return Ok(Bytes::new(alloc));
+        return b"";
     }
-    match name_at(tokens, at) {
-        Some(name) if type_of(tokens, name).is_some() => Bytes::from_slice(
-            alloc,
-            b"it is declared elsewhere in this text: each function block and the program see their own names alone",
-        ),
-        _ => Bytes::from_slice(alloc, wanted_at(tokens, at)),
+    match typed_at(tokens, at) {
+        Some(_) => {
+            b"it is declared elsewhere in this text: each function block and the program see their own names alone"
+        }
+        None => wanted_at(tokens, at),
     }
 }
 
 /// That a name which is called or stands before a dot is a signal; empty where the token is none.
-pub(crate) fn signal_told(alloc: Global, tokens: &[Token], at: usize) -> Result<Bytes, Memory> {
-    match name_at(tokens, at) {
-        Some(name) => match type_of(tokens, name) {
-            Some(ty) if ty.eq_ignore_ascii_case(b"BOOL") || ty.eq_ignore_ascii_case(b"SAFEBOOL") =>
-                {
-                    Bytes::from_slice(
-                        alloc,
-                        b"it is a signal: instances alone are called and have outputs behind a dot",
-                    )
-                }
-            _ => Ok(Bytes::new(alloc)),
-        },
-        None => Ok(Bytes::new(alloc)),
+pub(crate) fn signal_told(tokens: &[Token], at: usize) -> &'static [u8] {
+    match typed_at(tokens, at) {
+        Some(ty) if ty.eq_ignore_ascii_case(b"BOOL") || ty.eq_ignore_ascii_case(b"SAFEBOOL") => {
+            b"it is a signal: instances alone are called and have outputs behind a dot"
+        }
+        _ => b"",
     }
 }
 
@@ -72,15 +62,11 @@ fn section_at(tokens: &[Token], at: usize) -> Option<Word> {
 }
 
 /// Which types there are in the section in which a token stands.
-pub(crate) fn types_told(alloc: Global, tokens: &[Token], at: usize) -> Result<Bytes, Memory> {
+pub(crate) fn types_told(tokens: &[Token], at: usize) -> &'static [u8] {
     match section_at(tokens, at) {
-        Some(Word::Var) => Bytes::from_slice(
-            alloc,
-            b"SAFEBOOL, BOOL, or SF_ with Antivalent, EDM, EmergencyStop, EnableSwitch, Equivalent, ESPE, GuardLocking, GuardMonitoring, ModeSelector, OutControl, SafetyRequest, TwoHandControlTypeII or ..III",
-        ),
-        _ => Bytes::from_slice(
-            alloc,
-            b"inputs and outputs are SAFEBOOL or BOOL; an instance of a block is declared in VAR",
-        ),
+        Some(Word::Var) => {
+            b"SAFEBOOL, BOOL, or SF_ with Antivalent, EDM, EmergencyStop, EnableSwitch, Equivalent, ESPE, GuardLocking, GuardMonitoring, ModeSelector, OutControl, SafetyRequest, TwoHandControlTypeII or ..III"
+        }
+        _ => b"inputs and outputs are SAFEBOOL or BOOL; an instance of a block is declared in VAR",
     }
 }

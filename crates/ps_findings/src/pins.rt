@@ -1,11 +1,9 @@
 // The pins of the kind of an instance.
 
-use crate::listing::add_name;
-use crate::reading::{form_at, is_dot, name_at, type_of};
-use ps_base::{Bytes, Memory};
+use crate::reading::{form_at, is_dot, name_at, typed_at};
+use crate::telling::Telling;
 use ps_lexer::{Form, Token};
 use ps_model::{Kind, input_count, kind_named, pin_count, pin_name};
-use std::alloc::Global;
 
 /// The bracket that is open at a token.
 pub(crate) fn bracket_before(tokens: &[Token], at: usize) -> Option<usize> {
@@ -22,63 +20,61 @@ pub(crate) fn bracket_before(tokens: &[Token], at: usize) -> Option<usize> {
     None
 }
 
+/// The token before the bracket that is open at a token.
+pub(crate) fn called_at(tokens: &[Token], at: usize) -> Option<usize> {
+    match bracket_before(tokens, at) {
+        Some(bracket) if bracket >= 1 => Some(bracket - 1),
+        _ => None,
+    }
+}
+
 // The kind of the instance whose name is a token.
 fn kind_at(tokens: &[Token], i: usize) -> Option<Kind> {
-    match name_at(tokens, i) {
-        Some(instance) => match type_of(tokens, instance) {
-            Some(ty) => kind_named(ty),
-            None => None,
-        },
+    match typed_at(tokens, i) {
+        Some(ty) => kind_named(ty),
         None => None,
     }
 }
 
 // The pins of a kind from a number up to another.
-fn pins_of(alloc: Global, head: &[u8], kind: Kind, from: u8, upto: u8) -> Result<Bytes, Memory> {
-    let mut list = Bytes::new(alloc);
+fn tell_pins(telling: &mut Telling, head: &[u8], kind: Kind, from: u8, upto: u8) {
     for j in from..upto {
         if j < pin_count(kind) {
-            add_name(&mut list, head, pin_name(kind, j).as_bytes())?;
+            telling.add_name(head, pin_name(kind, j).as_bytes());
         }
     }
-    Ok(list)
 }
 
-// The outputs of an instance of this kind whose name is a token, as they are read: `E.S_EStopOut`.
-fn outputs_of(alloc: Global, tokens: &[Token], i: usize, kind: Kind) -> Result<Bytes, Memory> {
-    let mut list = Bytes::new(alloc);
-    if let Some(instance) = name_at(tokens, i) {
-        for j in input_count(kind)..pin_count(kind) {
-            add_name(
-                &mut list,
-                b"an instance is no value; its outputs are: ",
-                instance,
-            )?;
-            list.push(b'.')?;
-            list.extend_from_slice(pin_name(kind, j).as_bytes())?;
+// The outputs of an instance of this name and kind, as they are read: `E.S_EStopOut`.
+fn tell_outputs(telling: &mut Telling, instance: &[u8], kind: Kind) {
+    for j in input_count(kind)..pin_count(kind) {
+        telling.add_name(b"an instance is no value; its outputs are: ", instance);
+        telling.add(b".");
+        telling.add(pin_name(kind, j).as_bytes());
+    }
+}
+
+// The inputs of the instance whose call is open at a token.
+fn tell_inputs(telling: &mut Telling, tokens: &[Token], at: usize) {
+    if let Some(instance) = called_at(tokens, at) {
+        if let Some(kind) = kind_at(tokens, instance) {
+            tell_pins(telling, b"its inputs are: ", kind, 0, input_count(kind));
         }
     }
-    Ok(list)
 }
 
 /// The pins that could stand at a token: the outputs of an instance after its dot or at its name, and its inputs in
-/// its call. Empty where the token stands at none.
-pub(crate) fn pins_at(alloc: Global, tokens: &[Token], at: usize) -> Result<Bytes, Memory> {
+/// its call. Nothing where the token stands at none.
+pub(crate) fn tell_kind(telling: &mut Telling, tokens: &[Token], at: usize) {
     if at >= 2 && is_dot(tokens, at - 1) {
         if let Some(kind) = kind_at(tokens, at - 2) {
             let inputs = input_count(kind);
-            return pins_of(alloc, b"its outputs are: ", kind, inputs, pin_count(kind));
+            tell_pins(telling, b"its outputs are: ", kind, inputs, pin_count(kind));
         }
-        return Ok(Bytes::new(alloc));
+        return;
     }
-    if let Some(kind) = kind_at(tokens, at) {
-        return outputs_of(alloc, tokens, at, kind);
-    }
-    match bracket_before(tokens, at) {
-        Some(bracket) if bracket >= 1 => match kind_at(tokens, bracket - 1) {
-            Some(kind) => pins_of(alloc, b"its inputs are: ", kind, 0, input_count(kind)),
-            None => Ok(Bytes::new(alloc)),
-        },
-        _ => Ok(Bytes::new(alloc)),
+    match (kind_at(tokens, at), name_at(tokens, at)) {
+        (Some(kind), Some(instance)) => tell_outputs(telling, instance, kind),
+        _ => tell_inputs(telling, tokens, at),
     }
 }

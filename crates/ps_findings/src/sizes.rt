@@ -14,6 +14,13 @@ pub(crate) struct TextSize {
     pub(crate) statements: u32,
 }
 
+// The size of nothing.
+const NOTHING: TextSize = TextSize {
+    inputs: 0,
+    names: 0,
+    statements: 0,
+};
+
 // The place of the first of these function blocks that has this name.
 fn block_named(blocks: &[Source], name: &Name) -> Option<usize> {
     for (k, block) in blocks.iter().enumerate() {
@@ -27,6 +34,23 @@ fn block_named(blocks: &[Source], name: &Name) -> Option<usize> {
         }
     }
     None
+}
+
+// The sizes of the function blocks before a body, and whether memory sufficed.
+#[derive(Drop)]
+struct Sizes {
+    alloc: Global,
+    list: Vec<TextSize>,
+    is_whole: bool,
+}
+
+impl Sizes {
+    // The size of one more function block.
+    fn add(&mut self, size: TextSize) {
+        if self.list.push(size).is_err() {
+            self.is_whole = false;
+        }
+    }
 }
 
 // The size of the function block of which a declaration makes an instance, among these with their sizes.
@@ -73,52 +97,68 @@ fn with_statement(size: TextSize, made: Option<TextSize>) -> TextSize {
 
 // The size of the function block that a statement calls, among these with their sizes.
 fn size_called(
-    alloc: Global,
+    sizes: &mut Sizes,
     before: &[Source],
-    sizes: &[TextSize],
     scope: &Scope,
     statement: &Statement,
-) -> Result<Option<TextSize>, Memory> {
+) -> Option<TextSize> {
     match statement {
-        Statement::Assign(_, _) => Ok(None),
-        Statement::Call(name, _) => match scope.first(alloc, name)? {
-            Some(declared) => Ok(size_made(before, sizes, declared)),
-            None => Ok(None),
+        Statement::Assign(_, _) => None,
+        Statement::Call(name, _) => match scope.first(sizes.alloc, name) {
+            Ok(Some(declared)) => size_made(before, &sizes.list, declared),
+            Ok(None) => None,
+            Err(Memory) => {
+                sizes.is_whole = false;
+                None
+            }
         },
     }
 }
 
-// The size of a body, where these function blocks with their sizes stand before it.
-fn size_of_body(
-    alloc: Global,
-    before: &[Source],
-    sizes: &[TextSize],
-    source: &Source,
-) -> Result<TextSize, Memory> {
-    let scope = Scope::of(alloc, source.sections.as_slice())?;
-    let mut size = TextSize {
-        inputs: 0,
-        names: 0,
-        statements: 0,
-    };
+// The size of a body in which these names are declared, where these function blocks with their sizes stand before it.
+fn size_in(sizes: &mut Sizes, before: &[Source], scope: &Scope, source: &Source) -> TextSize {
+    let mut size = NOTHING;
     for declared in scope.as_slice() {
-        size = with_declared(size, declared.part, size_made(before, sizes, declared));
+        size = with_declared(
+            size,
+            declared.part,
+            size_made(before, &sizes.list, declared),
+        );
     }
     for statement in source.statements.as_slice() {
-        let made = size_called(alloc, before, sizes, &scope, statement)?;
-        size = with_statement(size, made);
+        size = with_statement(size, size_called(sizes, before, scope, statement));
     }
-    Ok(size)
+    size
+}
+
+// The size of a body, where these function blocks with their sizes stand before it.
+fn size_of_body(sizes: &mut Sizes, before: &[Source], source: &Source) -> TextSize {
+    match Scope::of(sizes.alloc, source.sections.as_slice()) {
+        Ok(scope) => size_in(sizes, before, &scope, source),
+        Err(Memory) => {
+            sizes.is_whole = false;
+            NOTHING
+        }
+    }
 }
 
 /// The size of a text. Each function block is counted once, however often it is used; it takes time in proportion to
 /// the text, and to the number of its function blocks, which is to be small.
 pub(crate) fn size_of(alloc: Global, library: &Library) -> Result<TextSize, Memory> {
     let blocks = library.blocks.as_slice();
-    let mut sizes = Vec::new(alloc);
+    let mut sizes = Sizes {
+        alloc,
+        list: Vec::new(alloc),
+        is_whole: true,
+    };
     for i in 0..blocks.len() {
-        let size = size_of_body(alloc, &blocks[..i], &sizes, &blocks[i])?;
-        sizes.push(size)?;
+        let size = size_of_body(&mut sizes, &blocks[..i], &blocks[i]);
+        sizes.add(size);
     }
-    size_of_body(alloc, blocks, &sizes, &library.program)
+    let size = size_of_body(&mut sizes, blocks, &library.program);
+    if sizes.is_whole {
+        Ok(size)
+    } else {
+        Err(Memory)
+    }
 }

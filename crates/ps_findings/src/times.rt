@@ -1,8 +1,8 @@
 // What is wrong in a TIME literal.
 
-use crate::lines::{line_at, told};
-use ps_base::{Bytes, Memory, Place};
-use std::alloc::Global;
+use crate::telling::Telling;
+use ps_base::Place;
+use ps_text::line_at;
 
 // The letters, digits and signs of a literal around a column of a line, from 1; empty where there are none.
 fn literal_at(line: &[u8], column: u32) -> &[u8] {
@@ -30,65 +30,65 @@ fn behind_sign(literal: &[u8]) -> &[u8] {
     last
 }
 
-// The place of a unit in the order of the units, or None.
-fn rank(unit: &[u8]) -> Option<u8> {
-    let units: [&[u8]; 5] = [b"d", b"h", b"m", b"s", b"ms"];
-    let mut place = 0u8;
-    for other in units.iter() {
-        if unit.eq_ignore_ascii_case(*other) {
-            return Some(place);
-        }
-        place = place.saturating_add(1);
+// The place of a unit in the order of the units, from 1; 0 where it is none.
+fn rank(unit: &[u8]) -> u8 {
+    match unit {
+        [b'd' | b'D'] => 1,
+        [b'h' | b'H'] => 2,
+        [b'm' | b'M'] => 3,
+        [b's' | b'S'] => 4,
+        [b'm' | b'M', b's' | b'S'] => 5,
+        _ => 0,
     }
-    None
+}
+
+// The first of the units of these parts that is none or is out of order; empty where each is right.
+fn wrong_unit(parts: &[u8]) -> &[u8] {
+    let mut last = 0u8;
+    for unit in parts.split(|b| b.is_ascii_digit() || *b == b'_') {
+        if !unit.is_empty() {
+            let place = rank(unit);
+            if place <= last {
+                return unit;
+            }
+            last = place;
+        }
+    }
+    &[]
 }
 
 // What is wrong with the units of these parts.
-fn wrong_units(alloc: Global, parts: &[u8]) -> Result<Bytes, Memory> {
-    let mut least = 0u8;
-    for unit in parts.split(|b| b.is_ascii_digit() || *b == b'_') {
-        if !unit.is_empty() {
-            match rank(unit) {
-                None => return told(
-                    alloc,
-                    b"no unit: ",
-                    unit,
-                    b"; the units are d, h, m, s and ms",
-                ),
-                Some(place) if place < least => return told(
-                    alloc,
-                    b"out of order: ",
-                    unit,
-                    b"; each unit stands once, the larger before the smaller",
-                ),
-                Some(place) => least = place.saturating_add(1),
-            }
-        }
+fn tell_units(telling: &mut Telling, parts: &[u8]) {
+    let unit = wrong_unit(parts);
+    if unit.is_empty() {
+        telling.say(
+            b"too long: ",
+            parts,
+            b"; a time has at most 4294967295 ms, which is 49 days and 17 hours",
+        );
+    } else if rank(unit) == 0 {
+        telling.say(b"no unit: ", unit, b"; the units are d, h, m, s and ms");
+    } else {
+        telling.say(
+            b"out of order: ",
+            unit,
+            b"; each unit stands once, the larger before the smaller",
+        );
     }
-    told(
-        alloc,
-        b"too long: ",
-        parts,
-        b"; a time has at most 4294967295 ms, which is 49 days and 17 hours",
-    )
 }
 
 /// What is wrong with the TIME literal at a place of a text: a fraction, a unit that is missing, unknown or out of
 /// order, or a time that is too long.
-pub(crate) fn time_told(alloc: Global, text: &[u8], place: &Place) -> Result<Bytes, Memory> {
+pub(crate) fn tell_literal(telling: &mut Telling, text: &[u8], place: &Place) {
     let parts = behind_sign(literal_at(line_at(text, place.line), place.column));
-    if parts.contains(&b'.') {
-        return told(
-            alloc,
+    match parts.last() {
+        _ if parts.contains(&b'.') => telling.say(
             b"a fraction: ",
             parts,
             b"; write the next smaller unit, as T#1s500ms for 1.5 s",
-        );
-    }
-    match parts.last() {
-        Some(byte) if !byte.is_ascii_digit() => wrong_units(alloc, parts),
-        _ => told(
-            alloc,
+        ),
+        Some(byte) if !byte.is_ascii_digit() => tell_units(telling, parts),
+        _ => telling.say(
             b"a unit is missing at the end: ",
             parts,
             b"; the units are d, h, m, s and ms",

@@ -1,15 +1,15 @@
 // What is wrong in a line of a trace.
 
-use crate::lines::{is_number, is_passed_over, line_at, told, word_at};
-use ps_base::{Bytes, Memory};
-use std::alloc::Global;
+use crate::lines::{Sought, is_feed, is_number, is_passed_over, last_before, word_at};
+use crate::telling::Telling;
+use ps_text::line_at;
 
 // As many words of a line as are looked at.
 const MOST_WORDS: usize = 600;
 
 /// The header of a trace: its first line that is not passed over.
 pub(crate) fn header_of(text: &[u8]) -> &[u8] {
-    for line in text.split(|byte| *byte == b'\n') {
+    for line in text.split(is_feed) {
         if !is_passed_over(line) {
             return line;
         }
@@ -17,65 +17,70 @@ pub(crate) fn header_of(text: &[u8]) -> &[u8] {
     &[]
 }
 
-// A name of the header with its value in a line, as `"x" stands at Ack`.
-fn value_told(alloc: Global, value: &[u8], name: &[u8]) -> Result<Bytes, Memory> {
-    let mut list = told(alloc, b"", value, b" stands at ")?;
-    list.extend_from_slice(name)?;
-    list.extend_from_slice(b"; 0 or 1 is wanted")?;
-    Ok(list)
-}
-
-/// At which input a value of a line is neither 0 nor 1; empty where it is at none.
-pub(crate) fn wrong_value(alloc: Global, text: &[u8], number: u32) -> Result<Bytes, Memory> {
-    let line = line_at(text, number);
-    let header = header_of(text);
+// The number of the first word after the time that is not in both lines, or that differs from 0 and 1 where such words
+// are looked for.
+fn first_wrong(line: &[u8], header: &[u8], is_of_values: bool) -> Option<usize> {
     for i in 1..MOST_WORDS {
-        match (word_at(line, i), word_at(header, i)) {
-            (Some(value), Some(name)) => {
-                if value != b"0".as_slice() && value != b"1".as_slice() {
-                    return value_told(alloc, value, name);
-                }
-            }
-            _ => return Ok(Bytes::new(alloc)),
+        let is_right = match word_at(line, i) {
+            Some([b'0' | b'1']) => true,
+            Some(_) => !is_of_values,
+            None => false,
+        };
+        if !is_right || word_at(header, i).is_none() {
+            return Some(i);
         }
     }
-    Ok(Bytes::new(alloc))
+    None
+}
+
+// The words of this number in both lines.
+fn both_at<'a>(
+    line: &'a [u8],
+    header: &'a [u8],
+    i: Option<usize>,
+) -> (Option<&'a [u8]>, Option<&'a [u8]>) {
+    match i {
+        Some(i) => (word_at(line, i), word_at(header, i)),
+        None => (None, None),
+    }
+}
+
+/// At which input a value of a line is neither 0 nor 1; nothing where it is at none.
+pub(crate) fn tell_value(telling: &mut Telling, text: &[u8], number: u32) {
+    let line = line_at(text, number);
+    let header = header_of(text);
+    let i = first_wrong(line, header, true);
+    if let (Some(value), Some(name)) = both_at(line, header, i) {
+        telling.say(b"", value, b" stands at ");
+        telling.add(name);
+        telling.add(b"; 0 or 1 is wanted");
+    }
 }
 
 // The first name without a value, or the first value without a name.
-fn unpaired(alloc: Global, line: &[u8], header: &[u8]) -> Result<Bytes, Memory> {
-    for i in 1..MOST_WORDS {
-        match (word_at(line, i), word_at(header, i)) {
-            (Some(_), Some(_)) => (),
-            (None, Some(name)) => return told(
-                alloc,
-                b"the first input without a value is ",
-                name,
-                b"",
-            ),
-            (Some(value), None) => return told(
-                alloc,
-                b"the first value without an input is ",
-                value,
-                b"; a comment has # as the first byte of its line",
-            ),
-            (None, None) => return Ok(Bytes::new(alloc)),
-        }
+fn tell_unpaired(telling: &mut Telling, line: &[u8], header: &[u8]) {
+    let i = first_wrong(line, header, false);
+    match both_at(line, header, i) {
+        (None, Some(name)) => telling.say(b"the first input without a value is ", name, b""),
+        (Some(value), None) => telling.say(
+            b"the first value without an input is ",
+            value,
+            b"; a comment has # as the first byte of its line",
+        ),
+        _ => (),
     }
-    Ok(Bytes::new(alloc))
 }
 
 /// Which input of the header has no value in a line, or which value has no input.
-pub(crate) fn wrong_count(alloc: Global, text: &[u8], number: u32) -> Result<Bytes, Memory> {
+pub(crate) fn tell_count(telling: &mut Telling, text: &[u8], number: u32) {
     let line = line_at(text, number);
     match word_at(line, 0) {
-        Some(word) if word.eq_ignore_ascii_case(b"restart") => told(
-            alloc,
+        Some(word) if word.eq_ignore_ascii_case(b"restart") => telling.say(
             b"",
             word,
             b" is spelt restart, in small letters, and stands alone in its line",
         ),
-        _ => unpaired(alloc, line, header_of(text)),
+        _ => tell_unpaired(telling, line, header_of(text)),
     }
 }
 
@@ -96,33 +101,19 @@ fn time_wrong(word: &[u8]) -> &'static [u8] {
     }
 }
 
-/// What is wrong with the time of a line; empty where it has no word.
-pub(crate) fn wrong_time(alloc: Global, text: &[u8], number: u32) -> Result<Bytes, Memory> {
-    match word_at(line_at(text, number), 0) {
-        Some(word) => told(alloc, b"", word, time_wrong(word)),
-        None => Ok(Bytes::new(alloc)),
+/// What is wrong with the time of a line; nothing where it has no word.
+pub(crate) fn tell_time(telling: &mut Telling, text: &[u8], number: u32) {
+    if let Some(word) = word_at(line_at(text, number), 0) {
+        telling.say(b"", word, time_wrong(word));
     }
 }
 
-// The time of the last scan before a line of this number; empty where there is none.
-fn last_time(text: &[u8], number: u32) -> &[u8] {
-    let mut last: &[u8] = &[];
-    for (index, line) in text.split(|byte| *byte == b'\n').enumerate() {
-        if index + 1 < number as usize && !is_passed_over(line) {
-            match word_at(line, 0) {
-                Some(word) if is_number(word) => last = word,
-                _ => (),
-            }
+/// The time of the scan before a line of this number, in words; nothing where there is none.
+pub(crate) fn tell_time_before(telling: &mut Telling, text: &[u8], number: u32) {
+    let last = last_before(text, number, Sought::Scan);
+    if last > 0 {
+        if let Some(time) = word_at(line_at(text, last), 0) {
+            telling.say(b"the time of the scan before is ", time, b"");
         }
     }
-    last
-}
-
-/// The time of the scan before a line of this number, in words; empty where there is none.
-pub(crate) fn time_before(alloc: Global, text: &[u8], number: u32) -> Result<Bytes, Memory> {
-    let time = last_time(text, number);
-    if time.is_empty() {
-        return Ok(Bytes::new(alloc));
-    }
-    told(alloc, b"the time of the scan before is ", time, b"")
 }

@@ -1,7 +1,9 @@
 // What is told where the words of a call have none of the forms.
 
-use crate::lines::{add_word, word_at};
+use crate::lines::{is_number, word_at};
+use crate::telling::Telling;
 use ps_base::{Bytes, Memory};
+use ps_text::line_at;
 use std::alloc::Global;
 
 /// What help tells: the commands and options, each with what it takes and an example.
@@ -34,6 +36,9 @@ the networks' equations have, until the first scan in which the two channels dif
 // The most bytes in a row in which a word with a slip differs from a command or option.
 const MOST_SLIPS: usize = 2;
 
+// One more than the rows of the table.
+const MOST_ROWS: u32 = 20;
+
 // The first word of a row of the table; empty where the row has none.
 fn name_in(row: &[u8]) -> &[u8] {
     match word_at(row, 0) {
@@ -44,7 +49,8 @@ fn name_in(row: &[u8]) -> &[u8] {
 
 // The row of the table for this command or option; empty where there is none.
 fn row_of(word: &[u8]) -> &'static [u8] {
-    for row in HELP.as_bytes().split(|byte| *byte == b'\n') {
+    for number in 1..MOST_ROWS {
+        let row = line_at(HELP.as_bytes(), number);
         if !word.is_empty() && name_in(row) == word {
             return row;
         }
@@ -52,33 +58,30 @@ fn row_of(word: &[u8]) -> &'static [u8] {
     &[]
 }
 
-// How many bytes two words have in common at their beginning, without letter case.
-fn common_front(word: &[u8], other: &[u8]) -> usize {
-    let mut count = 0usize;
-    for (a, b) in word.iter().zip(other.iter()) {
-        if !a.eq_ignore_ascii_case(b) {
-            return count;
-        }
-        count = count.saturating_add(1);
+// The byte of this number of a word in small letters, from its beginning or from its end.
+fn byte_at(word: &[u8], number: usize, is_from_end: bool) -> Option<u8> {
+    if number >= word.len() {
+        None
+    } else if is_from_end {
+        Some(word[word.len() - 1 - number].to_ascii_lowercase())
+    } else {
+        Some(word[number].to_ascii_lowercase())
     }
-    count
 }
 
-// How many bytes two words have in common at their end, without letter case.
-fn common_back(word: &[u8], other: &[u8]) -> usize {
-    let mut count = 0usize;
-    for (a, b) in word.iter().rev().zip(other.iter().rev()) {
-        if !a.eq_ignore_ascii_case(b) {
+// How many bytes two words have in common at their beginning or at their end, without letter case.
+fn common(word: &[u8], other: &[u8], is_from_end: bool) -> usize {
+    for count in 0..word.len() {
+        if byte_at(word, count, is_from_end) != byte_at(other, count, is_from_end) {
             return count;
         }
-        count = count.saturating_add(1);
     }
-    count
+    word.len()
 }
 
 // How many bytes of the longer of two words stand in neither common end.
 fn slips(word: &[u8], other: &[u8]) -> usize {
-    let same = common_front(word, other).saturating_add(common_back(word, other));
+    let same = common(word, other, false).saturating_add(common(word, other, true));
     word.len().max(other.len()).saturating_sub(same)
 }
 
@@ -86,7 +89,8 @@ fn slips(word: &[u8], other: &[u8]) -> usize {
 fn row_near(word: &[u8]) -> &'static [u8] {
     let mut nearest: &'static [u8] = &[];
     let mut least = MOST_SLIPS.saturating_add(1);
-    for row in HELP.as_bytes().split(|byte| *byte == b'\n') {
+    for number in 1..MOST_ROWS {
+        let row = line_at(HELP.as_bytes(), number);
         let name = name_in(row);
         let count = slips(word, name);
         if !name.is_empty() && count < least {
@@ -117,116 +121,103 @@ fn count_taken(row: &[u8]) -> usize {
 
 // Whether a word is a number that `load` takes.
 fn is_load(word: &[u8]) -> bool {
-    for byte in word {
-        if !byte.is_ascii_digit() {
-            return false;
-        }
-    }
-    match word {
-        [] | [b'0', ..] => false,
-        [_] | [_, _] | [_, _, _] => true,
-        _ => word == b"1000".as_slice(),
-    }
-}
-
-// A word in quotation marks with what is said of it.
-fn said_of(alloc: Global, word: &[u8], said: &[u8]) -> Result<Bytes, Memory> {
-    let mut list = Bytes::new(alloc);
-    add_word(&mut list, word)?;
-    list.extend_from_slice(said)?;
-    Ok(list)
+    let is_short = word.len() <= 3 || word == b"1000".as_slice();
+    is_short && is_number(word) && !word.starts_with(b"0")
 }
 
 // What is wrong with a first word that is no command.
-fn unknown(alloc: Global, word: &[u8]) -> Result<Bytes, Memory> {
-    let mut list = said_of(alloc, word, b" is no command")?;
+fn tell_unknown(telling: &mut Telling, word: &[u8]) {
+    telling.say(b"", word, b" is no command");
     let name = name_in(row_near(word));
     if !name.is_empty() {
-        list.extend_from_slice(b"; the nearest is ")?;
-        list.extend_from_slice(name)?;
+        telling.add(b"; the nearest is ");
+        telling.add(name);
     }
-    Ok(list)
 }
 
-// What is wrong with a word that is empty or looks like an option; empty where it is neither.
-fn no_file(alloc: Global, word: &[u8]) -> Result<Bytes, Memory> {
+// What is wrong with a word that is empty or looks like an option; nothing where it is neither.
+fn tell_no_file(telling: &mut Telling, word: &[u8]) {
     match word {
-        [] => Bytes::from_slice(alloc, b"a word is empty, and no name of a file is"),
-        [b'-', ..] => said_of(
-            alloc,
+        [] => telling.add(b"a word is empty, and no name of a file is"),
+        [b'-', ..] => telling.say(
+            b"",
             word,
             b" begins with a hyphen: no name of a file does, and no command has options",
         ),
-        _ => Ok(Bytes::new(alloc)),
+        _ => (),
     }
 }
 
 // What is wrong with how many words stand after a command, or with the number of `load`.
-fn wrong_count(alloc: Global, row: &[u8], words: &[&[u8]]) -> Result<Bytes, Memory> {
+fn tell_count(telling: &mut Telling, row: &[u8], words: &[&[u8]]) {
     let wanted = count_taken(row);
-    if words.len() <= wanted {
-        let mut list = Bytes::new(alloc);
-        list.extend_from_slice(taken_at(row, words.len()))?;
-        list.extend_from_slice(b" is missing")?;
-        return Ok(list);
+    let count = words.len();
+    if count <= wanted {
+        telling.add(taken_at(row, count));
+        telling.add(b" is missing");
+    } else if count - 1 > wanted {
+        telling.say(b"", words[wanted + 1], b" is one word too many");
+    } else if count == 2 && !is_load(words[1]) {
+        telling.say(
+            b"",
+            words[1],
+            b" is no number from 1 to 1000, in digits without a zero in front",
+        );
     }
-    match words.get(wanted.saturating_add(1)) {
-        Some(word) => said_of(alloc, word, b" is one word too many"),
-        None => match words {
-            [_, number] if !is_load(number) => said_of(
-                alloc,
-                number,
-                b" is no number from 1 to 1000, in digits without a zero in front",
-            ),
-            _ => Ok(Bytes::new(alloc)),
-        },
+}
+
+// What is wrong with the words after a command of this row.
+fn tell_words(telling: &mut Telling, row: &[u8], words: &[&[u8]]) {
+    for i in 1..words.len() {
+        if telling.is_empty() {
+            tell_no_file(telling, words[i]);
+        }
+    }
+    if telling.is_empty() {
+        tell_count(telling, row, words);
     }
 }
 
 /// What is wrong with the first words of a call that are not taken, of which there are at most five: which word, or
 /// which one is missing, and the nearest command or option where the first is none.
 pub fn wrong_words(alloc: Global, words: &[&[u8]]) -> Result<Bytes, Memory> {
-    let Some(first) = words.get(0) else {
-        return Ok(Bytes::new(alloc));
-    };
-    let row = row_of(first);
-    if row.is_empty() {
-        return unknown(alloc, first);
-    }
-    for i in 1..words.len() {
-        let wrong = no_file(alloc, words[i])?;
-        if wrong.len() > 0 {
-            return Ok(wrong);
+    let mut telling = Telling::new(alloc);
+    if let Some(first) = words.get(0) {
+        let row = row_of(first);
+        if row.is_empty() {
+            tell_unknown(&mut telling, first);
+        } else {
+            tell_words(&mut telling, row, words);
         }
     }
-    wrong_count(alloc, row, words)
+    telling.finish()
 }
 
 // What a row takes, and its example.
-fn add_row(list: &mut Bytes, row: &[u8]) -> Result<(), Memory> {
+fn tell_row(telling: &mut Telling, row: &[u8]) {
     let wanted = count_taken(row);
-    list.extend_from_slice(name_in(row))?;
-    list.extend_from_slice(if wanted == 0 {
+    telling.add(name_in(row));
+    telling.add(if wanted == 0 {
         b" takes no word"
     } else {
         b" takes"
-    })?;
+    });
     for place in 1..10 {
         if let Some(word) = word_at(row, place) {
-            if place == wanted.saturating_add(1) {
-                list.extend_from_slice(b", as:")?;
-            }
-            list.push(b' ')?;
-            list.extend_from_slice(word)?;
+            telling.add(if place == wanted.saturating_add(1) {
+                b", as: "
+            } else {
+                b" "
+            });
+            telling.add(word);
         }
     }
-    Ok(())
 }
 
 /// What helps against words that are not taken: what the command that was meant takes, with an example, or where all
 /// commands stand.
 pub fn right_words(alloc: Global, words: &[&[u8]]) -> Result<Bytes, Memory> {
-    let mut list = Bytes::new(alloc);
+    let mut telling = Telling::new(alloc);
     let first = match words.get(0) {
         Some(first) => *first,
         None => &[],
@@ -234,9 +225,9 @@ pub fn right_words(alloc: Global, words: &[&[u8]]) -> Result<Bytes, Memory> {
     let row = row_of(first);
     let row = if row.is_empty() { row_near(first) } else { row };
     if row.is_empty() {
-        list.extend_from_slice(b"plcsafe --help has the commands, with an example each")?;
+        telling.add(b"plcsafe --help has the commands, with an example each");
     } else {
-        add_row(&mut list, row)?;
+        tell_row(&mut telling, row);
     }
-    Ok(list)
+    telling.finish()
 }

@@ -1,10 +1,8 @@
 // The BOOL values of a value.
 
-use crate::listing::add_name;
-use crate::reading::{form_at, is_dot, name_at, type_of};
-use ps_base::{Bytes, Memory};
+use crate::reading::{depth_after, form_at, is_dot, name_at, type_of};
+use crate::telling::Telling;
 use ps_lexer::{Form, Token};
-use std::alloc::Global;
 
 // As many tokens of a value as are looked at.
 const MOST_TOKENS: usize = 200;
@@ -22,51 +20,51 @@ fn is_declared_bool(tokens: &[Token], name: &[u8]) -> bool {
     }
 }
 
-// Adds the name of a token to a list where its value is BOOL, with the name of its instance after a dot.
-fn add_bool(list: &mut Bytes, tokens: &[Token], i: usize) -> Result<(), Memory> {
-    let head = b"of BOOL here: ";
-    let name = match name_at(tokens, i) {
-        Some(name) => name,
-        None => return Ok(()),
-    };
+// The name of a token that is a value or, where it stands after a dot, of an output.
+fn value_at(tokens: &[Token], i: usize) -> Option<&[u8]> {
     if is_dot(tokens, i.saturating_add(1)) {
-        return Ok(());
+        return None;
     }
-    if i >= 2 && is_dot(tokens, i - 1) {
-        if is_plain_output(name) || is_declared_bool(tokens, name) {
-            if let Some(instance) = name_at(tokens, i - 2) {
-                add_name(list, head, instance)?;
-                list.push(b'.')?;
-                list.extend_from_slice(name)?;
-            }
-        }
-        return Ok(());
-    }
-    if is_declared_bool(tokens, name) {
-        add_name(list, head, name)?;
-    }
-    Ok(())
+    name_at(tokens, i)
 }
 
-/// The BOOL values in the value after a target or a pin, as a list; empty where there is none.
-pub(crate) fn bools_behind(
-    alloc: Global,
-    tokens: &[Token],
-    target: usize,
-) -> Result<Bytes, Memory> {
-    let mut list = Bytes::new(alloc);
-    let mut depth = 0usize;
-    let from = target.saturating_add(1);
-    for i in from..from.saturating_add(MOST_TOKENS) {
-        match form_at(tokens, i) {
-            None | Some(Form::Semicolon) => return Ok(list),
-            Some(Form::Comma) if depth == 0 => return Ok(list),
-            Some(Form::RightBracket) if depth == 0 => return Ok(list),
-            Some(Form::RightBracket) => depth = depth.saturating_sub(1),
-            Some(Form::LeftBracket) => depth = depth.saturating_add(1),
-            Some(Form::Name(_)) => add_bool(&mut list, tokens, i)?,
-            Some(_) => (),
+// Adds the name of a token to a list where its value is BOOL, with the name of its instance after a dot.
+fn add_bool(telling: &mut Telling, tokens: &[Token], i: usize) {
+    let head = b"of BOOL here: ";
+    let Some(name) = value_at(tokens, i) else {
+        return;
+    };
+    if i < 2 || !is_dot(tokens, i - 1) {
+        if is_declared_bool(tokens, name) {
+            telling.add_name(head, name);
+        }
+    } else if is_plain_output(name) || is_declared_bool(tokens, name) {
+        if let Some(instance) = name_at(tokens, i - 2) {
+            telling.add_name(head, instance);
+            telling.add(b".");
+            telling.add(name);
         }
     }
-    Ok(list)
+}
+
+// The first token behind the value that begins at a token, or behind the tokens that are looked at.
+fn end_of(tokens: &[Token], from: usize) -> usize {
+    let end = from.saturating_add(MOST_TOKENS);
+    let mut depth = 1usize;
+    for i in from..end {
+        let form = form_at(tokens, i);
+        depth = depth_after(depth, form);
+        if depth == 0 || (depth == 1 && matches!(form, Some(Form::Comma))) {
+            return i;
+        }
+    }
+    end
+}
+
+/// The BOOL values in the value after a target or a pin, as a list; nothing where there is none.
+pub(crate) fn tell_bools(telling: &mut Telling, tokens: &[Token], target: usize) {
+    let from = target.saturating_add(1);
+    for i in from..end_of(tokens, from) {
+        add_bool(telling, tokens, i);
+    }
 }

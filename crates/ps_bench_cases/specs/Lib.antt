@@ -15,5 +15,7 @@ pub mod Alone
 pub mod LineSays
 pub mod DraftSays
 pub mod Rooms
+pub mod HeldBytes
+pub mod LaterDeeds
 -- what a call leaves that writes
 pub mod Writing

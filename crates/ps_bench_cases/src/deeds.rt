@@ -3,11 +3,12 @@
 ghost use Rattle.std.specs.Prelude.{◌≡◌, ◌≤◌, length, drop, IfOk};
 ghost use Rattle.ps_trace.specs.Words.{words};
 ghost use Rattle.ps_bench_names.specs.Words.{counted};
-ghost use Rattle.ps_bench_cases.specs.Words.{number_said};
+ghost use Rattle.ps_bench_cases.specs.Words.{number_said, above_zero};
 ghost use Rattle.ps_bench_cases.specs.Parts.{both};
-ghost use Rattle.ps_bench_cases.specs.Line.{alone, set_said, behind_every, restart_said, deed_with, every_said, expect_of};
+ghost use Rattle.ps_bench_cases.specs.Line.{alone, set_said, behind_every, restart_said, deed_with, deed_of_two, every_said, expect_of};
 ghost use Rattle.ps_bench_cases.specs.Line.{expect_now, expect_said, with_settings, deed_said};
-ghost use Rattle.ps_bench_cases.specs.declared.deed.Deed.TheVariants.{At, After};
+ghost use Rattle.ps_bench_cases.specs.LaterDeeds.{other_said};
+ghost use Rattle.ps_bench_cases.specs.declared.deed.Deed.TheVariants.{At, After, Times, For, Until};
 ghost use Rattle.ps_bench_cases.specs.declared.case.Window.TheVariants.{Within, For as Throughout};
 
 use crate::case::Window;
@@ -46,7 +47,23 @@ pub(crate) fn deed_said(
         Ok(alone(alloc, every_said(line, at)))
     } else if word == b"restart".as_slice() {
         Ok(alone(alloc, restart_said(line, at)))
-    } else if word == b"fault".as_slice() {
+    } else {
+        other_said(alloc, app, line, word, at)
+    }
+}
+
+// What the words of a line ask for whose first is none of `set`, `at`, `every` and `restart`.
+fn other_said(
+    alloc: Global,
+    app: &App,
+    line: &[u8],
+    word: &[u8],
+    at: usize,
+) -> Result<Asked, Memory>
+    requires { at ≤ length line.now }
+    ensures { IfOk result (λ asked. asked ≡ other_said app.now word.now (counted (words (drop at line.now)))) }
+{
+    if word == b"fault".as_slice() {
         Ok(alone(alloc, fault_said(alloc, line, at)?))
     } else if word == b"expect".as_slice() {
         Ok(alone(alloc, expect_said(alloc, app, line, at)?))
@@ -144,18 +161,44 @@ fn every_said(line: &[u8], at: usize) -> Result<Deed, CaseRule>
 fn scans_said(step: &[u8], key: &[u8], number: &[u8]) -> Result<Deed, CaseRule>
     ensures { result ≡ every_said step.now key.now number.now }
 {
-    let number = number_said(number);
     if key == b"times".as_slice() {
-        let (step, count) = both(number_said(step), number)?;
-        Ok(Deed::Times(step, count))
+        times_said(step, number)
     } else if key == b"for".as_slice() {
-        let (step, span) = both(count_said(step), number)?;
-        Ok(Deed::For(step, span))
+        for_said(step, number)
     } else if key == b"until".as_slice() {
-        let (step, time) = both(count_said(step), number)?;
-        Ok(Deed::Until(step, time))
+        until_said(step, number)
     } else {
         Err(CaseRule::K1)
+    }
+}
+
+// A step, and how many scans there are.
+fn times_said(step: &[u8], number: &[u8]) -> Result<Deed, CaseRule>
+    ensures { result ≡ deed_of_two Times (both (number_said step.now) (number_said number.now)) }
+{
+    match both(number_said(step), number_said(number)) {
+        Ok((step, count)) => Ok(Deed::Times(step, count)),
+        Err(rule) => Err(rule),
+    }
+}
+
+// A step, and how long after the scan before the last scan is.
+fn for_said(step: &[u8], number: &[u8]) -> Result<Deed, CaseRule>
+    ensures { result ≡ deed_of_two For (both (above_zero (number_said step.now)) (number_said number.now)) }
+{
+    match both(count_said(step), number_said(number)) {
+        Ok((step, span)) => Ok(Deed::For(step, span)),
+        Err(rule) => Err(rule),
+    }
+}
+
+// A step, and when the last scan is.
+fn until_said(step: &[u8], number: &[u8]) -> Result<Deed, CaseRule>
+    ensures { result ≡ deed_of_two Until (both (above_zero (number_said step.now)) (number_said number.now)) }
+{
+    match both(count_said(step), number_said(number)) {
+        Ok((step, time)) => Ok(Deed::Until(step, time)),
+        Err(rule) => Err(rule),
     }
 }
 
@@ -191,8 +234,10 @@ fn expect_within(
 ) -> Result<Deed, CaseRule>
     ensures { result ≡ expect_of Within (both time checks) }
 {
-    let (time, checks) = both(time, checks)?;
-    Ok(Deed::Expect(Window::Within(time), checks))
+    match both(time, checks) {
+        Ok((time, checks)) => Ok(Deed::Expect(Window::Within(time), checks)),
+        Err(rule) => Err(rule),
+    }
 }
 
 // Checks in each scan of a window.
@@ -202,8 +247,10 @@ fn expect_for(
 ) -> Result<Deed, CaseRule>
     ensures { result ≡ expect_of Throughout (both time checks) }
 {
-    let (time, checks) = both(time, checks)?;
-    Ok(Deed::Expect(Window::For(time), checks))
+    match both(time, checks) {
+        Ok((time, checks)) => Ok(Deed::Expect(Window::For(time), checks)),
+        Err(rule) => Err(rule),
+    }
 }
 
 // Checks of the scan before.

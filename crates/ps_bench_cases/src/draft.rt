@@ -94,8 +94,7 @@ impl Draft {
             line: number,
             settings,
             act,
-        })?;
-        Ok(())
+        })
     }
 
     // A case begins by this name. None: it is not refused.
@@ -116,8 +115,8 @@ impl Draft {
         if let Some(rule) = judge_case(name, &coming) {
             return Ok(Some(at(rule, number)));
         }
-        let name = label(alloc, name)?;
         self.close(alloc)?;
+        let name = label(alloc, name)?;
         self.head = Some(Head { line: number, name });
         self.start = coming.start;
         self.stand = opened(number, &coming);

@@ -103,12 +103,22 @@ fn put_act<S: Sink>(out: &mut S, point: &Point, act: &Act) -> Result<(), ExpandF
             if pace.count == 0 {
                 return Ok(());
             }
-            put(out, point.held.as_slice())?;
-            put_pace(out, point.base, &point.ins, pace)
+            put_scans(out, point, pace)
         }
         Act::Restart => put(out, b"restart\n"),
         Act::Set | Act::Fault(_) | Act::Expect(_) => Ok(()),
     }
+}
+
+// The lines of the faults that wait, and the scans of a pace.
+fn put_scans<S: Sink>(out: &mut S, point: &Point, pace: &Pace) -> Result<(), ExpandFail>
+    requires { point.now.base < 2 ^ 63 }
+    ensures { Wrote S.tells S.taken S.faults
+        (point.now.held ++ flat_map (λ now. scan_line (point.now.base + now) point.now.ins) (times_of pace.now))
+        out.old out.new result }
+{
+    put(out, point.held.as_slice())?;
+    put_pace(out, point.base, &point.ins, pace)
 }
 
 // The scans of a pace, of a case that begins at this time.

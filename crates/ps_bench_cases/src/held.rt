@@ -1,6 +1,7 @@
 // Bytes for which memory is taken beforehand.
 
-ghost use Rattle.std.specs.Prelude.{◌≡◌, ◌++◌, [], IfOk, OnOk, length};
+ghost use Rattle.std.specs.Prelude.{◌≡◌, [], IfOk, length};
+ghost use Rattle.ps_bench_cases.specs.HeldBytes.{IsAdded};
 
 use ps_base::Memory;
 use std::alloc::Global;
@@ -36,12 +37,18 @@ impl Held {
         self.items.clear();
     }
 
-    // These bytes at the end. It takes no memory where there is room for them.
-    pub(crate) fn extend_from_slice(&mut self, bytes: &[u8]) -> Result<(), Memory>
-        ensures { OnOk result (self.new ≡ self.old ++ bytes.now) }
+    // These bytes at the end, if all before them are there. It takes no memory where there is room for them. False:
+    // not all are there, since memory ran out.
+    pub(crate) fn add(&mut self, whole: bool, bytes: &[u8]) -> bool
+        ensures { IsAdded whole self.old bytes.now self.new result }
     {
-        self.items.extend_from_slice(bytes)?;
-        Ok(())
+        if !whole {
+            return false;
+        }
+        match self.items.extend_from_slice(bytes) {
+            Ok(()) => true,
+            Err(_) => false,
+        }
     }
 
     // How many bytes there are.

@@ -6,6 +6,7 @@ ghost use Rattle.hex.specs.Hex.{encode_lower, lower_digits};
 ghost use Rattle.ps_bench_names.specs.declared.name.Setting.{Setting};
 ghost use Rattle.ps_bench_cases.specs.Meant.{set_by, time_at};
 ghost use Rattle.ps_bench_cases.specs.Expanded.{turn_text, region_text, fault_line, begin_point, point_set, point_after};
+ghost use Rattle.ps_bench_cases.specs.HeldBytes.{IsAdded};
 
 use crate::case::{Act, Pace};
 use crate::held::Held;
@@ -16,7 +17,6 @@ use ps_model::{Bits, Channel, Fault, Region};
 use std::alloc::Global;
 
 /// How the trace stands between two lines of a case.
-#[derive(Drop)]
 pub struct Point {
     /// When the case begins, in ms.
     pub base: u64,
@@ -26,6 +26,18 @@ pub struct Point {
     pub ins: Bits,
     /// The lines of the faults of its next scan.
     pub held: Held,
+}
+
+impl Drop for Point {
+    // One call for whoever owns one, in place of a walk through all that it holds.
+    fn drop(self) {
+        let Point {
+            base: _,
+            time: _,
+            ins: _,
+            held: _,
+        } = self;
+    }
 }
 
 impl Point {
@@ -72,11 +84,11 @@ impl Point {
                     self.time = last_time(pace);
                     self.held.clear();
                 }
+                Ok(())
             }
-            Act::Fault(fault) => hold(&mut self.held, fault)?,
-            Act::Set | Act::Restart | Act::Expect(_) => {}
+            Act::Fault(fault) => hold(&mut self.held, fault),
+            Act::Set | Act::Restart | Act::Expect(_) => Ok(()),
         }
-        Ok(())
     }
 }
 
@@ -103,57 +115,59 @@ pub fn room_of(fault: &Fault) -> usize {
 pub(crate) fn hold(lines: &mut Held, fault: &Fault) -> Result<(), Memory>
     ensures { OnOk result (lines.new ≡ lines.old ++ fault_line fault.now) }
 {
-    lines.extend_from_slice(b"# fault ")?;
-    hold_turn(lines, fault.turn)?;
-    lines.extend_from_slice(region_text(fault.channel, fault.region))?;
-    hold_number(lines, fault.at)?;
-    lines.extend_from_slice(b" ")?;
-    hold_bytes(lines, fault.bytes.as_slice())?;
-    lines.extend_from_slice(b"\n")
+    let whole = lines.add(true, b"# fault ");
+    let whole = hold_turn(lines, whole, fault.turn);
+    let whole = lines.add(whole, region_text(fault.channel, fault.region));
+    let whole = hold_number(lines, whole, fault.at);
+    let whole = lines.add(whole, b" ");
+    let whole = hold_bytes(lines, whole, fault.bytes.as_slice());
+    if lines.add(whole, b"\n") {
+        Ok(())
+    } else {
+        Err(Memory)
+    }
 }
 
-// Bytes by two small hexadecimal digits each.
-fn hold_bytes(lines: &mut Held, bytes: &[u8]) -> Result<(), Memory>
-    ensures { OnOk result (lines.new ≡ lines.old ++ encode_lower bytes.now) }
+// Bytes by two small hexadecimal digits each, if all before them are there.
+fn hold_bytes(lines: &mut Held, whole: bool, bytes: &[u8]) -> bool
+    ensures { IsAdded whole lines.old (encode_lower bytes.now) lines.new result }
 {
+    let mut done = whole;
     for byte in bytes {
-        lines.extend_from_slice(&hex_digits(*byte))?;
+        done = lines.add(done, &hex_digits(*byte));
     }
-    Ok(())
+    done
 }
 
 // The two small hexadecimal digits of a byte.
 fn hex_digits(byte: u8) -> [u8; 2]
     ensures { result ≡ slice_index lower_digits (byte / 16) ∷ slice_index lower_digits (byte % 16) ∷ [] }
 {
-    [hex_digit(byte / 16), hex_digit(byte % 16)]
+    let digits = b"0123456789abcdef";
+    [
+        digits[usize::from(byte / 16)],
+        digits[usize::from(byte % 16)],
+    ]
 }
 
-// The small hexadecimal digit of a number up to 15.
-fn hex_digit(n: u8) -> u8
-    requires { n < 16 }
-    ensures { result ≡ slice_index lower_digits n }
-{
-    b"0123456789abcdef"[usize::from(n)]
-}
-
-// The turn of a fault, where it strikes before one.
-fn hold_turn(lines: &mut Held, turn: u32) -> Result<(), Memory>
-    ensures { OnOk result (lines.new ≡ lines.old ++ turn_text turn) }
+// The turn of a fault, where it strikes before one, if all before it is there.
+fn hold_turn(lines: &mut Held, whole: bool, turn: u32) -> bool
+    ensures { IsAdded whole lines.old (turn_text turn) lines.new result }
 {
     if turn == 0 {
-        return Ok(());
+        return whole;
     }
-    lines.extend_from_slice(b"turn ")?;
-    hold_number(lines, turn)?;
-    lines.extend_from_slice(b" ")
+    let whole = lines.add(whole, b"turn ");
+    let whole = hold_number(lines, whole, turn);
+    lines.add(whole, b" ")
 }
 
-fn hold_number(lines: &mut Held, number: u32) -> Result<(), Memory>
-    ensures { OnOk result (lines.new ≡ lines.old ++ decimal number) }
+// A number, if all before it is there.
+fn hold_number(lines: &mut Held, whole: bool, number: u32) -> bool
+    ensures { IsAdded whole lines.old (decimal number) lines.new result }
 {
     let mut digits = Buffer::new();
-    lines.extend_from_slice(digits.format(number).as_bytes())
+    lines.add(whole, digits.format(number).as_bytes())
 }
 
 // The words of a channel and a region.

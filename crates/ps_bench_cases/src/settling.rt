@@ -21,11 +21,16 @@ pub(crate) fn settle(sizes: &ImageSizes, stand: &Stand, deed: Deed) -> Result<Ac
     ensures settled { result ≡ unless_over stand.now (deed_settled sizes.now stand.now deed) }
     ensures within { IfOk result (λ act. is_over stand.now act ≡ false) }
 {
-    let act = settle_deed(sizes, stand, deed)?;
-    if is_over(stand, &act) {
-        return Err(CaseRule::K7);
+    match settle_deed(sizes, stand, deed) {
+        Ok(act) => {
+            if is_over(stand, &act) {
+                Err(CaseRule::K7)
+            } else {
+                Ok(act)
+            }
+        }
+        Err(rule) => Err(rule),
     }
-    Ok(act)
 }
 
 // What a line does that asks for something, after what stands before it.
@@ -127,10 +132,9 @@ fn settle_fault(sizes: &ImageSizes, stand: &Stand, fault: Fault) -> Result<Act, 
     if fault.turn < stand.turn || is_other(stand.struck, fault.channel) || end > u64::from(size) {
         return Err(CaseRule::K6);
     }
-    Ok(Act::Fault(Fault {
-        scan: stand.scans + 1,
-        ..fault
-    }))
+    let mut fault = fault;
+    fault.scan = stand.scans + 1;
+    Ok(Act::Fault(fault))
 }
 
 // Whether a channel is another one than the first fault strikes.

@@ -83,15 +83,17 @@ type Parts = (u32, (Channel, (Region, (u32, Bytes))));
 fn strike_of(parts: Result<Parts, CaseRule>) -> Result<Deed, CaseRule>
     ensures { result ≡ strike_of parts }
 {
-    let (turn, (channel, (region, (at, bytes)))) = parts?;
-    Ok(Deed::Fault(Fault {
-        scan: 0,
-        turn,
-        channel,
-        region,
-        at,
-        bytes,
-    }))
+    match parts {
+        Ok((turn, (channel, (region, (at, bytes))))) => Ok(Deed::Fault(Fault {
+            scan: 0,
+            turn,
+            channel,
+            region,
+            at,
+            bytes,
+        })),
+        Err(rule) => Err(rule),
+    }
 }
 
 // The channel that a word names.

@@ -9,26 +9,19 @@ use ps_model::Fault;
 use ps_trace::Faults;
 use std::alloc::Global;
 
-// A copy of a fault.
-fn copied(alloc: Global, fault: &Fault) -> Result<Fault, Memory>
-    ensures { IfOk result (λ copy. copy ≡ fault.now) }
-{
-    Ok(Fault {
-        scan: fault.scan,
-        turn: fault.turn,
-        channel: fault.channel,
-        region: fault.region,
-        at: fault.at,
-        bytes: Bytes::from_slice(alloc, fault.bytes.as_slice())?,
-    })
-}
-
 // Puts the fault that a line is, if it is one, after those before.
 fn put_fault(alloc: Global, statement: &Statement, faults: &mut Faults) -> Result<(), Memory>
     ensures { OnOk result (faults.new ≡ faults.old ++ faults_in (statement.now ∷ [])) }
 {
     match &statement.act {
-        Act::Fault(fault) => faults.push(copied(alloc, fault)?),
+        Act::Fault(fault) => faults.push(Fault {
+            scan: fault.scan,
+            turn: fault.turn,
+            channel: fault.channel,
+            region: fault.region,
+            at: fault.at,
+            bytes: Bytes::from_slice(alloc, fault.bytes.as_slice())?,
+        }),
         Act::Set | Act::Scans(_) | Act::Restart | Act::Expect(_) => Ok(()),
     }
 }

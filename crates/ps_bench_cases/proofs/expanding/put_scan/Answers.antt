@@ -24,3 +24,10 @@ returns g c =
     subst (λ (values : List Bool). WroteAll g.S.Sink.tells g.S.Sink.taken g.S.Sink.faults (flat_map value_text values) c.put_number.new.out c.put_values.new.out) c.as_slice.ensures c.in_ok-put_values.ensures in
     let second = left_next g.S.Sink.tells g.S.Sink.taken g.S.Sink.faults (flat_map value_text ins) (codes "\n") c.put_values.new.out first values in
     left_last g.S.Sink.tells g.S.Sink.taken g.S.Sink.faults (scan_line c.args.now ins) (codes "\n") c.args.out.now c.put_values.new.out c.put.new.out c.put.result second c.put.ensures
+
+pub returns-in_err-put_number : goal.returns-in_err-put_number
+returns-in_err-put_number g c =
+    let p = err_from_is_err_and c.from_residual.result c.from_residual.ensures.1 in
+    let ins = c.args.ins.now in
+    let some : Wrote g.S.Sink.tells g.S.Sink.taken g.S.Sink.faults (decimal c.args.now) c.args.out.now c.put_number.new.out (Err c.in_err-put_number.field-0.0) = c.in_err-put_number.ensures in
+    left_exit g.S.Sink.tells g.S.Sink.taken g.S.Sink.faults (decimal c.args.now) (flat_map value_text ins ++ codes "\n") c.put_number.new.out c.in_err-put_number.field-0.0 c.from_residual.result (p.1 ∙ ap Err p.2) (left_all g.S.Sink.tells g.S.Sink.taken g.S.Sink.faults (scan_line c.args.now ins) c.args.out.now) some

@@ -1,6 +1,6 @@
 use Rattle.std.proofs.Common.{length, ◌≡◌, ◌≢◌, ◌≤◌, ◌<◌, ◌∙◌, ℕ, List, [], Option, None, Result, Ok, Err, IfOk, IfNone, IsTrue, IsSome, refl, subst, sym, ap, arith}
 use Rattle.std.proofs.lemmas.Grind.{common_steps}
-use Rattle.ps_lines.specs.Reader.{Gives, IsFresh, left, line_of, begin_of, read_of, name_of}
+use Rattle.ps_lines.specs.Reader.{Gives, IsFresh, left, line_of, begin_of, read_of, name_of, limits_of}
 use Rattle.ps_lines.specs.declared.reader.Limits.{Limits}
 use Rattle.ps_lines.specs.declared.reader.Got.{Got}
 use Rattle.ps_lines.specs.declared.reader.Got.TheVariants.{TooLong, TooLarge, End}
@@ -43,9 +43,10 @@ lines-init g c =
 
 pub returns-then-eq-clause-gives : goal.returns-then-eq-clause-gives
 returns-then-eq-clause-gives g c = λ tells text is.
+    let here = ap (λ (held : List ℕ → Option (List ℕ)). held (name_of c.lines.lines)) c.lines.invariant.kept ∙ ap (g.F.Files.held c.args.files.now) c.lines.invariant.named in
     let ends : c.in_ok-got.got ≡ End = grind (arith, common_steps) in
     let gives : Gives (left c.lines.lines text) c.in_ok-got.got (line_of c.next_line.new.self) (left c.next_line.new.self text) =
-    c.in_ok-got.ensures.gives (subst IsTrue (sym c.lines.invariant.telling) tells) text (grind (arith, common_steps)) (c.lines.invariant.reads tells text is) in
+    c.in_ok-got.ensures.gives (subst IsTrue (sym c.lines.invariant.telling) tells) text (here ∙ is) (c.lines.invariant.reads tells text is) in
     let none : left c.lines.lines text ≡ [] = (subst (λ (got : Got). Gives (left c.lines.lines text) got (line_of c.next_line.new.self) (left c.next_line.new.self text)) ends gives).0 in
     let whole : cases_of c.args.app.now c.args.sizes.now text ≡ file_ended c.lines.measured.draft c.lines.number =
     c.lines.invariant.says tells text is ∙ lines_ended c.args.app.now c.args.sizes.now c.lines.measured.draft c.lines.number (left c.lines.lines text) none in
@@ -75,6 +76,7 @@ returns-then-eq-clause-few g c =
 
 pub returns-in-Some-clause-refuses : goal.returns-in-Some-clause-refuses
 returns-in-Some-clause-refuses g c = λ tells text is refusal same.
+    let here = ap (λ (held : List ℕ → Option (List ℕ)). held (name_of c.lines.lines)) c.lines.invariant.kept ∙ ap (g.F.Files.held c.args.files.now) c.lines.invariant.named in
     let more : c.in_ok-got.got ≢ End = grind (arith, common_steps) in
     let short : c.in_ok-got.got ≢ TooLong = grind (arith, common_steps) in
     let small : c.in_ok-got.got ≢ TooLarge = grind (arith, common_steps) in
@@ -84,13 +86,14 @@ returns-in-Some-clause-refuses g c = λ tells text is refusal same.
     ∙ ap (λ (r : Option CaseRefusal). after_by r c.take.new.self.draft) c.in-Some.is in
     let which : c.in-Some.refusal ≡ refusal = cc in
     c.lines.invariant.says tells text is
-    ∙ line_refused c.args.app.now c.args.sizes.now c.in_ok-got.got c.lines.measured.draft c.in-Some.refusal c.lines.number _ _ (line_of c.next_line.new.self) (c.in_ok-got.ensures.gives (subst IsTrue (sym c.lines.invariant.telling) tells) text (grind (arith, common_steps)) (c.lines.invariant.reads tells text is)) more short small few says
+    ∙ line_refused c.args.app.now c.args.sizes.now c.in_ok-got.got c.lines.measured.draft c.in-Some.refusal c.lines.number _ _ (line_of c.next_line.new.self) (c.in_ok-got.ensures.gives (subst IsTrue (sym c.lines.invariant.telling) tells) text (here ∙ is) (c.lines.invariant.reads tells text is)) more short small few says
     ∙ ap Err which
 
 pub returns-in-Some-clause-found : goal.returns-in-Some-clause-found
 returns-in-Some-clause-found g c = λ tells read.
+    let here = ap (λ (held : List ℕ → Option (List ℕ)). held (name_of c.lines.lines)) c.lines.invariant.kept ∙ ap (g.F.Files.held c.args.files.now) c.lines.invariant.named in
     found_either (begin_of c.lines.lines) (read_of c.lines.lines) (c.lines.invariant.found tells)
-    (λ none. subst IsSome (ap (λ (held : List ℕ → Option (List ℕ)). held (name_of c.lines.lines)) c.lines.invariant.kept ∙ ap (g.F.Files.held c.args.files.now) c.lines.invariant.named) (c.in_ok-got.ensures.found (subst IsTrue (sym c.lines.invariant.telling) tells) none))
+    (λ none. subst IsSome here (c.in_ok-got.ensures.found (subst IsTrue (sym c.lines.invariant.telling) tells) none))
     c.lines.invariant.fresh
 
 pub take-requires-clause-placed : goal.take-requires-clause-placed
@@ -98,33 +101,130 @@ take-requires-clause-placed g c = placed c.args.app.now c.lines.measured.draft c
 
 pub lines-preserved : goal.lines-preserved
 lines-preserved g c =
+    let here = ap (λ (held : List ℕ → Option (List ℕ)). held (name_of c.lines.lines)) c.lines.invariant.kept ∙ ap (g.F.Files.held c.args.files.now) c.lines.invariant.named in
     let more : c.in_ok-got.got ≢ End = grind (arith, common_steps) in
     let short : c.in_ok-got.got ≢ TooLong = grind (arith, common_steps) in
     let small : c.in_ok-got.got ≢ TooLarge = grind (arith, common_steps) in
     let few : c.lines.number ≤ MOST_CASE_LINES = omega arith in
     let none : c.in_ok-refusal.field-0 ≡ None = grind (arith, common_steps) in
+    let limited : (limits_of c.next_line.new.self).largest ≡ LARGEST_CASE_FILE = ap (λ (limits : Limits). limits.largest) c.next_line.ensures.limits ∙ c.lines.invariant.limited in
     let on : begin_of c.lines.lines < begin_of c.next_line.new.self = goes_past c.in_ok-got.got c.lines.lines c.next_line.new.self c.in_ok-got.ensures.goes_on more small in
     let says : unless_large c.args.app.now c.lines.number (said_after c.args.sizes.now c.lines.measured.draft c.lines.number (line_said c.args.app.now (line_of c.next_line.new.self))) ≡ Ok c.take.new.self.draft =
     ap (λ (said : Said). unless_large c.args.app.now c.lines.number (said_after c.args.sizes.now c.lines.measured.draft c.lines.number said)) (ap (line_said c.args.app.now) (sym c.line.ensures) ∙ c.in_ok-says.ensures ∙ ap (said_by c.in_ok-says.says) (c.line.ensures ∙ sym c.line-line.ensures)) ∙ c.in_ok-refusal.ensures.after
     ∙ ap (λ (r : Option CaseRefusal). after_by r c.take.new.self.draft) none in
     record {
-      reads = λ tells text is. c.next_line.ensures.reads (subst IsTrue (sym c.lines.invariant.telling) tells) text (grind (arith, common_steps)) (c.lines.invariant.reads tells text is);
+      reads = λ tells text is. c.next_line.ensures.reads (subst IsTrue (sym c.lines.invariant.telling) tells) text (here ∙ is) (c.lines.invariant.reads tells text is);
       says = λ tells text is. c.lines.invariant.says tells text is
-          ∙ line_taken c.args.app.now c.args.sizes.now c.in_ok-got.got c.lines.measured.draft c.take.new.self.draft c.lines.number _ _ (line_of c.next_line.new.self) (c.in_ok-got.ensures.gives (subst IsTrue (sym c.lines.invariant.telling) tells) text (grind (arith, common_steps)) (c.lines.invariant.reads tells text is)) more short small few says;
+          ∙ line_taken c.args.app.now c.args.sizes.now c.in_ok-got.got c.lines.measured.draft c.take.new.self.draft c.lines.number _ _ (line_of c.next_line.new.self) (c.in_ok-got.ensures.gives (subst IsTrue (sym c.lines.invariant.telling) tells) text (here ∙ is) (c.lines.invariant.reads tells text is)) more short small few says;
       small = c.in_ok-refusal.ensures.small;
       run = subst (λ (r : Result Draft CaseRefusal). IfOk r (CanRun c.args.app.now)) says
           (unless_large_runs c.args.app.now c.lines.number _
           (said_runs c.args.app.now c.args.sizes.now c.lines.measured.draft c.lines.number (line_said c.args.app.now (line_of c.next_line.new.self)) c.lines.invariant.run (line_has c.args.app.now (line_of c.next_line.new.self))));
       room = subst (λ (r : Option CaseRefusal). IfNone r (HasRoom c.args.app.now c.take.new.self.draft c.take.new.self.room)) none c.in_ok-refusal.ensures.room;
       found = λ tells some. found_either (begin_of c.lines.lines) (read_of c.lines.lines) (c.lines.invariant.found tells)
-          (λ none. subst IsSome (ap (λ (held : List ℕ → Option (List ℕ)). held (name_of c.lines.lines)) c.lines.invariant.kept ∙ ap (g.F.Files.held c.args.files.now) c.lines.invariant.named) (c.in_ok-got.ensures.found (subst IsTrue (sym c.lines.invariant.telling) tells) none))
+          (λ none. subst IsSome here (c.in_ok-got.ensures.found (subst IsTrue (sym c.lines.invariant.telling) tells) none))
           c.lines.invariant.fresh;
       fresh = λ none. absurd (omega (arith, none, on));
       few = omega (arith, few);
-      near = grind (arith, common_steps);
-      limited = grind (arith, common_steps);
+      near = subst (λ (most : ℕ). begin_of c.next_line.new.self ≤ most) limited c.next_line.ensures.within;
+      limited = limited;
       named = cc;
       exact = λ other. c.in_ok-got.ensures.exact other ∙ c.lines.invariant.exact other;
       kept = cc;
       telling = cc;
     }
+
+pub returns-in_err-file-clause-exact : goal.returns-in_err-file-clause-exact
+returns-in_err-file-clause-exact g c = λ whole other. c.in_ok-got.ensures.exact other ∙ c.lines.invariant.exact other
+
+pub returns-then-eq-clause-exact : goal.returns-then-eq-clause-exact
+returns-then-eq-clause-exact g c = λ whole other. c.in_ok-got.ensures.exact other ∙ c.lines.invariant.exact other
+
+pub returns-then-number-gt-MOST_CASE_LINES-clause-exact : goal.returns-then-number-gt-MOST_CASE_LINES-clause-exact
+returns-then-number-gt-MOST_CASE_LINES-clause-exact g c = λ whole other. c.in_ok-got.ensures.exact other ∙ c.lines.invariant.exact other
+
+pub returns-in_err-says-clause-exact : goal.returns-in_err-says-clause-exact
+returns-in_err-says-clause-exact g c = λ whole other. c.in_ok-got.ensures.exact other ∙ c.lines.invariant.exact other
+
+pub returns-in_err-refusal-clause-exact : goal.returns-in_err-refusal-clause-exact
+returns-in_err-refusal-clause-exact g c = λ whole other. c.in_ok-got.ensures.exact other ∙ c.lines.invariant.exact other
+
+pub returns-in-Some-clause-exact : goal.returns-in-Some-clause-exact
+returns-in-Some-clause-exact g c = λ whole other. c.in_ok-got.ensures.exact other ∙ c.lines.invariant.exact other
+
+pub returns-in_err-file-clause-counts : goal.returns-in_err-file-clause-counts
+returns-in_err-file-clause-counts g c = λ other. omega (arith, c.next_line.ensures.counts other, c.lines.invariant.exact other)
+
+pub returns-in_err-file-clause-kept : goal.returns-in_err-file-clause-kept
+returns-in_err-file-clause-kept g c = c.next_line.ensures.kept ∙ c.lines.invariant.kept
+
+pub returns-in_err-file-clause-telling : goal.returns-in_err-file-clause-telling
+returns-in_err-file-clause-telling g c = c.next_line.ensures.telling ∙ c.lines.invariant.telling
+
+pub returns-then-eq-clause-counts : goal.returns-then-eq-clause-counts
+returns-then-eq-clause-counts g c = λ other. omega (arith, c.next_line.ensures.counts other, c.lines.invariant.exact other)
+
+pub returns-then-eq-clause-kept : goal.returns-then-eq-clause-kept
+returns-then-eq-clause-kept g c = c.next_line.ensures.kept ∙ c.lines.invariant.kept
+
+pub returns-then-eq-clause-telling : goal.returns-then-eq-clause-telling
+returns-then-eq-clause-telling g c = c.next_line.ensures.telling ∙ c.lines.invariant.telling
+
+pub returns-then-number-gt-MOST_CASE_LINES-clause-counts : goal.returns-then-number-gt-MOST_CASE_LINES-clause-counts
+returns-then-number-gt-MOST_CASE_LINES-clause-counts g c = λ other. omega (arith, c.next_line.ensures.counts other, c.lines.invariant.exact other)
+
+pub returns-then-number-gt-MOST_CASE_LINES-clause-kept : goal.returns-then-number-gt-MOST_CASE_LINES-clause-kept
+returns-then-number-gt-MOST_CASE_LINES-clause-kept g c = c.next_line.ensures.kept ∙ c.lines.invariant.kept
+
+pub returns-then-number-gt-MOST_CASE_LINES-clause-telling : goal.returns-then-number-gt-MOST_CASE_LINES-clause-telling
+returns-then-number-gt-MOST_CASE_LINES-clause-telling g c = c.next_line.ensures.telling ∙ c.lines.invariant.telling
+
+pub returns-in_err-says-clause-counts : goal.returns-in_err-says-clause-counts
+returns-in_err-says-clause-counts g c = λ other. omega (arith, c.next_line.ensures.counts other, c.lines.invariant.exact other)
+
+pub returns-in_err-says-clause-kept : goal.returns-in_err-says-clause-kept
+returns-in_err-says-clause-kept g c = c.next_line.ensures.kept ∙ c.lines.invariant.kept
+
+pub returns-in_err-says-clause-telling : goal.returns-in_err-says-clause-telling
+returns-in_err-says-clause-telling g c = c.next_line.ensures.telling ∙ c.lines.invariant.telling
+
+pub returns-in_err-refusal-clause-counts : goal.returns-in_err-refusal-clause-counts
+returns-in_err-refusal-clause-counts g c = λ other. omega (arith, c.next_line.ensures.counts other, c.lines.invariant.exact other)
+
+pub returns-in_err-refusal-clause-kept : goal.returns-in_err-refusal-clause-kept
+returns-in_err-refusal-clause-kept g c = c.next_line.ensures.kept ∙ c.lines.invariant.kept
+
+pub returns-in_err-refusal-clause-telling : goal.returns-in_err-refusal-clause-telling
+returns-in_err-refusal-clause-telling g c = c.next_line.ensures.telling ∙ c.lines.invariant.telling
+
+pub returns-in-Some-clause-counts : goal.returns-in-Some-clause-counts
+returns-in-Some-clause-counts g c = λ other. omega (arith, c.next_line.ensures.counts other, c.lines.invariant.exact other)
+
+pub returns-in-Some-clause-kept : goal.returns-in-Some-clause-kept
+returns-in-Some-clause-kept g c = c.next_line.ensures.kept ∙ c.lines.invariant.kept
+
+pub returns-in-Some-clause-telling : goal.returns-in-Some-clause-telling
+returns-in-Some-clause-telling g c = c.next_line.ensures.telling ∙ c.lines.invariant.telling
+
+pub returns-in_err-got-clause-counts : goal.returns-in_err-got-clause-counts
+returns-in_err-got-clause-counts g c = λ other. omega (arith, c.next_line.ensures.counts other, c.lines.invariant.exact other)
+
+pub returns-in_err-got-clause-kept : goal.returns-in_err-got-clause-kept
+returns-in_err-got-clause-kept g c = c.next_line.ensures.kept ∙ c.lines.invariant.kept
+
+pub returns-in_err-got-clause-telling : goal.returns-in_err-got-clause-telling
+returns-in_err-got-clause-telling g c = c.next_line.ensures.telling ∙ c.lines.invariant.telling
+
+pub returns-then-eq-clause-found : goal.returns-then-eq-clause-found
+returns-then-eq-clause-found g c = λ tells read.
+    let here = ap (λ (held : List ℕ → Option (List ℕ)). held (name_of c.lines.lines)) c.lines.invariant.kept ∙ ap (g.F.Files.held c.args.files.now) c.lines.invariant.named in
+    found_either (begin_of c.lines.lines) (read_of c.lines.lines) (c.lines.invariant.found tells)
+    (λ none. subst IsSome here (c.in_ok-got.ensures.found (subst IsTrue (sym c.lines.invariant.telling) tells) none))
+    c.lines.invariant.fresh
+
+pub returns-then-number-gt-MOST_CASE_LINES-clause-found : goal.returns-then-number-gt-MOST_CASE_LINES-clause-found
+returns-then-number-gt-MOST_CASE_LINES-clause-found g c = λ tells read.
+    let here = ap (λ (held : List ℕ → Option (List ℕ)). held (name_of c.lines.lines)) c.lines.invariant.kept ∙ ap (g.F.Files.held c.args.files.now) c.lines.invariant.named in
+    found_either (begin_of c.lines.lines) (read_of c.lines.lines) (c.lines.invariant.found tells)
+    (λ none. subst IsSome here (c.in_ok-got.ensures.found (subst IsTrue (sym c.lines.invariant.telling) tells) none))
+    c.lines.invariant.fresh

@@ -4,3 +4,5 @@ pub mod Published
 -- the texts that are open, and what is found in one: what a reader of the clauses has to believe
 pub mod Texts
 pub mod Findings
+-- an object of JSON that is being made
+pub mod Made

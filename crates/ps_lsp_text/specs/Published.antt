@@ -7,7 +7,6 @@ use Rattle.ps_text.specs.declared.positions.Position.{Position}
 use Rattle.ps_text.specs.declared.positions.Range.{Range}
 use Rattle.ps_lsp_text.specs.Findings.{Diagnoses}
 use Rattle.ps_lsp_text.specs.declared.finding.Finding.{Finding}
-use Rattle.ps_accepted.specs.Answering.{IsFrontOf}
 
 -- a position
 abbrev pub position_data : Position → Data

@@ -1,5 +1,5 @@
 -- What the server sends for a message.
-use Rattle.std.specs.Prelude.{◌≡◌, ℕ, List, Option, option_map}
+use Rattle.std.specs.Prelude.{ℕ, List, Option, option_map}
 use Rattle.serde_json.specs.Data.{Data}
 use Rattle.serde_json.specs.View.{view}
 use Rattle.ps_lsp_rpc.specs.Rpc.{Answers, IsReadAs, asked}

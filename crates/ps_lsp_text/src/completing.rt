@@ -3,6 +3,7 @@
 use crate::declared::{declared_type, is_in_section};
 use crate::described::add_pin;
 use crate::looking::{form_at, is_dot, name_at, tokens_before, width};
+use crate::made::{MadeList, MadeText};
 use crate::sight::{Asked, Sight};
 use ps_base::{Bytes, Memory, Place};
 use ps_lexer::{Form, Token};
@@ -53,49 +54,59 @@ const KEYWORDS: [&str; 10] = [
     "FALSE",
 ];
 
-// One more item.
-fn add_item(
+// The item with this label and this detail.
+fn item_of(
     alloc: Global,
-    list: &mut Vec<Item>,
     sort: Sort,
     label: &[u8],
-    detail: Bytes,
-) -> Result<(), Memory> {
-    if list.len() >= MOST_ITEMS {
-        return Ok(());
-    }
+    detail: Result<Bytes, Memory>,
+) -> Result<Item, Memory> {
+    let detail = detail?;
     let label = Bytes::from_slice(alloc, label)?;
-    list.push(Item {
+    Ok(Item {
         sort,
         label,
         detail,
-    })?;
-    Ok(())
+    })
+}
+
+// One more item.
+fn add_item(
+    alloc: Global,
+    list: &mut MadeList<Item>,
+    sort: Sort,
+    label: &[u8],
+    detail: Result<Bytes, Memory>,
+) {
+    if list.as_slice().len() < MOST_ITEMS {
+        list.add(item_of(alloc, sort, label, detail));
+    }
+}
+
+// Items of these keywords.
+fn add_keywords(alloc: Global, list: &mut MadeList<Item>, words: &[&str]) {
+    for word in words {
+        let detail = Ok(Bytes::new(alloc));
+        add_item(alloc, list, Sort::Keyword, word.as_bytes(), detail);
+    }
 }
 
 // The item of a pin of a kind.
-fn add_pin_item(alloc: Global, list: &mut Vec<Item>, kind: Kind, pin: u8) -> Result<(), Memory> {
+fn add_pin_item(alloc: Global, list: &mut MadeList<Item>, kind: Kind, pin: u8) {
     if pin >= pin_count(kind) {
-        return Ok(());
+        return;
     }
-    let mut detail = Bytes::new(alloc);
-    add_pin(&mut detail, kind, pin)?;
-    add_item(
-        alloc,
-        list,
-        Sort::Pin,
-        pin_name(kind, pin).as_bytes(),
-        detail,
-    )
+    let mut detail = MadeText::of(Bytes::new(alloc));
+    add_pin(&mut detail, kind, pin);
+    let label = pin_name(kind, pin).as_bytes();
+    add_item(alloc, list, Sort::Pin, label, detail.finish());
 }
 
 // The outputs of a kind.
-fn outputs(alloc: Global, kind: Kind) -> Result<Vec<Item>, Memory> {
-    let mut list = Vec::new(alloc);
+fn add_outputs(alloc: Global, list: &mut MadeList<Item>, kind: Kind) {
     for pin in input_count(kind)..pin_count(kind) {
-        add_pin_item(alloc, &mut list, kind, pin)?;
+        add_pin_item(alloc, list, kind, pin);
     }
-    Ok(list)
 }
 
 // Whether a pin of this name is given between a bracket and a token.
@@ -112,48 +123,33 @@ fn is_given(tokens: &[Token], bracket: usize, upto: usize, name: &[u8]) -> bool 
     false
 }
 
-// The inputs of a kind that a call does not give yet.
-fn inputs_left(
+// The inputs of a kind that a call does not give yet, which goes from a bracket up to a token.
+fn add_inputs_left(
     alloc: Global,
+    list: &mut MadeList<Item>,
     tokens: &[Token],
     bracket: usize,
     upto: usize,
     kind: Kind,
-) -> Result<Vec<Item>, Memory> {
-    let mut list = Vec::new(alloc);
+) {
     for pin in 0..input_count(kind) {
         if pin < pin_count(kind)
             && !is_given(tokens, bracket, upto, pin_name(kind, pin).as_bytes())
         {
-            add_pin_item(alloc, &mut list, kind, pin)?;
+            add_pin_item(alloc, list, kind, pin);
         }
     }
-    Ok(list)
 }
 
 // The types that may stand after a colon.
-fn types(alloc: Global) -> Result<Vec<Item>, Memory> {
-    let mut list = Vec::new(alloc);
-    add_item(
-        alloc,
-        &mut list,
-        Sort::Keyword,
-        b"SAFEBOOL",
-        Bytes::new(alloc),
-    )?;
-    add_item(alloc, &mut list, Sort::Keyword, b"BOOL", Bytes::new(alloc))?;
+fn add_types(alloc: Global, list: &mut MadeList<Item>) {
+    add_keywords(alloc, list, &["SAFEBOOL", "BOOL"]);
     for number in 1..14 {
         if let Some(kind) = kind_numbered(number) {
-            add_item(
-                alloc,
-                &mut list,
-                Sort::Kind,
-                kind_name(kind).as_bytes(),
-                Bytes::new(alloc),
-            )?;
+            let label = kind_name(kind).as_bytes();
+            add_item(alloc, list, Sort::Kind, label, Ok(Bytes::new(alloc)));
         }
     }
-    Ok(list)
 }
 
 // Whether a name is among the first items, without letter case.
@@ -169,51 +165,36 @@ fn is_among(list: &[Item], count: usize, name: &[u8]) -> bool {
 // The item of the name that a token of a section declares, if it declares one that is not among the first items.
 fn add_name_item(
     alloc: Global,
-    list: &mut Vec<Item>,
+    list: &mut MadeList<Item>,
     count: usize,
     tokens: &[Token],
     at: usize,
-) -> Result<(), Memory> {
-    match (name_at(tokens, at), declared_type(tokens, at)) {
-        (Some(name), Some(ty)) => {
-            if is_among(list.as_slice(), count, name) {
-                return Ok(());
-            }
-            let detail = Bytes::from_slice(alloc, ty)?;
-            add_item(alloc, list, Sort::Name, name, detail)
+) {
+    if let (Some(name), Some(ty)) = (name_at(tokens, at), declared_type(tokens, at)) {
+        if !is_among(list.as_slice(), count, name) {
+            let detail = Bytes::from_slice(alloc, ty);
+            add_item(alloc, list, Sort::Name, name, detail);
         }
-        _ => Ok(()),
     }
 }
 
 // The names that these tokens declare, each with its type, after items that have other names.
-fn add_names(alloc: Global, list: &mut Vec<Item>, tokens: &[Token]) -> Result<(), Memory> {
-    let count = list.len();
+fn add_names(alloc: Global, list: &mut MadeList<Item>, tokens: &[Token]) {
+    let count = list.as_slice().len();
     let mut within = false;
     for i in 0..tokens.len() {
         within = is_in_section(tokens, i, within);
-        if within && list.len() < MOST_ITEMS {
-            add_name_item(alloc, list, count, tokens, i)?;
+        if within && list.as_slice().len() < MOST_ITEMS {
+            add_name_item(alloc, list, count, tokens, i);
         }
     }
-    Ok(())
 }
 
 // The declared names, those that the text declares before those that the last one that parsed does, and the keywords.
-fn names(alloc: Global, sight: &Sight) -> Result<Vec<Item>, Memory> {
-    let mut list = Vec::new(alloc);
-    add_names(alloc, &mut list, sight.today())?;
-    add_names(alloc, &mut list, sight.earlier())?;
-    for word in KEYWORDS {
-        add_item(
-            alloc,
-            &mut list,
-            Sort::Keyword,
-            word.as_bytes(),
-            Bytes::new(alloc),
-        )?;
-    }
-    Ok(list)
+fn add_all_names(alloc: Global, list: &mut MadeList<Item>, sight: &Sight) {
+    add_names(alloc, list, sight.today());
+    add_names(alloc, list, sight.earlier());
+    add_keywords(alloc, list, &KEYWORDS);
 }
 
 // How many tokens stand whole before a place; a name that is being written there is none of them.
@@ -235,21 +216,21 @@ fn whole_before(tokens: &[Token], place: Place) -> usize {
 }
 
 // What may be written after so many of today's tokens.
-fn items_at(alloc: Global, sight: &Sight, upto: usize) -> Result<Vec<Item>, Memory> {
+fn add_items_at(alloc: Global, list: &mut MadeList<Item>, sight: &Sight, upto: usize) {
     let tokens = sight.today();
     if upto >= 2 && is_dot(tokens, upto - 1) {
-        return match sight.kind_at(upto - 2) {
-            Some(kind) => outputs(alloc, kind),
-            None => Ok(Vec::new(alloc)),
-        };
+        if let Some(kind) = sight.kind_at(upto - 2) {
+            add_outputs(alloc, list, kind);
+        }
+        return;
     }
     match form_at(tokens, upto.saturating_sub(1)) {
-        Some(Form::Colon) => types(alloc),
-        Some(Form::LeftBracket) | Some(Form::Comma) => match sight.call_before(upto) {
-            Some((bracket, kind)) => inputs_left(alloc, tokens, bracket, upto, kind),
-            None => names(alloc, sight),
+        Some(Form::Colon) => add_types(alloc, list),
+        Some(Form::LeftBracket | Form::Comma) => match sight.call_before(upto) {
+            Some((bracket, kind)) => add_inputs_left(alloc, list, tokens, bracket, upto, kind),
+            None => add_all_names(alloc, list, sight),
         },
-        _ => names(alloc, sight),
+        _ => add_all_names(alloc, list, sight),
     }
 }
 
@@ -258,5 +239,8 @@ fn items_at(alloc: Global, sight: &Sight, upto: usize) -> Result<Vec<Item>, Memo
 /// Names that the text does not declare are those of the last one that parsed.
 pub fn completions(alloc: Global, asked: Asked) -> Result<Vec<Item>, Memory> {
     let sight = Sight::of(alloc, asked.text, asked.parsed)?;
-    items_at(alloc, &sight, whole_before(sight.today(), asked.place))
+    let mut list = MadeList::new(alloc);
+    let upto = whole_before(sight.today(), asked.place);
+    add_items_at(alloc, &mut list, &sight, upto);
+    list.finish()
 }

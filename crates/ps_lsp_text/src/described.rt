@@ -1,6 +1,6 @@
 // Kinds and pins in words.
 
-use ps_base::{Bytes, Memory};
+use crate::made::MadeText;
 use ps_lexer::Word;
 use ps_model::{Kind, PinRow, Ty, input_count, kind_name, pin_count, pin_name, pin_row};
 use ps_ways::state_words;
@@ -26,41 +26,39 @@ fn role(row: PinRow) -> &'static [u8] {
 }
 
 /// What is said of a pin of a kind, after a text.
-pub(crate) fn add_pin(text: &mut Bytes, kind: Kind, pin: u8) -> Result<(), Memory> {
+pub(crate) fn add_pin(text: &mut MadeText, kind: Kind, pin: u8) {
     if pin >= pin_count(kind) {
-        return Ok(());
+        return;
     }
     let row = pin_row(kind, pin);
-    text.extend_from_slice(pin_name(kind, pin).as_bytes())?;
-    text.extend_from_slice(b" : ")?;
-    text.extend_from_slice(type_name(row.ty))?;
-    text.extend_from_slice(role(row))
+    text.add(pin_name(kind, pin).as_bytes());
+    text.add(b" : ");
+    text.add(type_name(row.ty));
+    text.add(role(row));
 }
 
 // A state of a kind, in a line: its DiagCode, and what it is called. Nothing where the kind has no such code.
-fn add_state(alloc: Global, text: &mut Bytes, kind: Kind, code: u16) -> Result<(), Memory> {
-    match state_words(kind, code) {
-        Some(words) => {
-            let line = format!(in alloc; "\n{code:04X} {words}")?;
-            text.extend_from_slice(line.as_str().as_bytes())
+fn add_state(alloc: Global, text: &mut MadeText, kind: Kind, code: u16) {
+    if let Some(words) = state_words(kind, code) {
+        match format!(in alloc; "\n{code:04X} {words}") {
+            Ok(line) => text.add(line.as_str().as_bytes()),
+            Err(_) => text.spoil(),
         }
-        None => Ok(()),
     }
 }
 
-/// What is said of a kind: its name, its pins, and its states by their DiagCodes, each in a line.
-pub(crate) fn kind_told(alloc: Global, kind: Kind) -> Result<Bytes, Memory> {
-    let mut text = Bytes::from_slice(alloc, kind_name(kind).as_bytes())?;
-    text.extend_from_slice(b", a safety function block\n")?;
+/// What is said of a kind, after a text: its name, its pins, and its states by their DiagCodes, each in a line.
+pub(crate) fn add_kind(alloc: Global, text: &mut MadeText, kind: Kind) {
+    text.add(kind_name(kind).as_bytes());
+    text.add(b", a safety function block\n");
     for pin in 0..pin_count(kind) {
-        text.push(b'\n')?;
-        add_pin(&mut text, kind, pin)?;
+        text.add(b"\n");
+        add_pin(text, kind, pin);
     }
-    text.push(b'\n')?;
+    text.add(b"\n");
     for code in 0..=u16::MAX {
-        add_state(alloc, &mut text, kind, code)?;
+        add_state(alloc, text, kind, code);
     }
-    Ok(text)
 }
 
 /// The number of the pin of a kind that has a name, without letter case: of an input, or of an output.

@@ -1,22 +1,20 @@
 // The statement that drives a name.
 
 use crate::looking::{form_at, name_at};
-use ps_base::{Bytes, Memory};
+use crate::made::MadeText;
 use ps_lexer::{Form, Token, Word};
-use ps_text::{add_first, add_number, line_at};
+use ps_text::line_at;
 
 // The most bytes of a statement that are shown.
 const MOST_SHOWN: usize = 120;
 
 // Whether a statement may begin at a token: after the one before it, or after a section.
 fn may_begin(tokens: &[Token], at: usize) -> bool {
-    match at.checked_sub(1) {
-        Some(before) => matches!(
-            form_at(tokens, before),
+    at == 0
+        || matches!(
+            form_at(tokens, at.saturating_sub(1)),
             Some(Form::Semicolon | Form::Word(Word::EndVar))
-        ),
-        None => true,
-    }
+        )
 }
 
 // Whether a token begins the statement that assigns a name, or the call of an instance.
@@ -56,21 +54,21 @@ fn end_from(tokens: &[Token], at: usize, length: usize) -> usize {
 /// Tells in which line a name is driven, and by what, after other words: the assignment of a signal, or the call of an
 /// instance, from a token on. Nothing where there is none. A statement of several lines is shown by its first one.
 pub(crate) fn add_driver(
-    words: &mut Bytes,
+    words: &mut MadeText,
     text: &[u8],
     tokens: &[Token],
     name: &[u8],
     from: usize,
-) -> Result<(), Memory> {
+) {
     let Some(at) = driver_from(tokens, name, from) else {
-        return Ok(());
+        return;
     };
     let Some(token) = tokens.get(at) else {
-        return Ok(());
+        return;
     };
     let begin = (token.from as usize).min(text.len());
     let end = end_from(tokens, at, text.len()).min(text.len()).max(begin);
-    add_number(words, b"\ndriven in line ", token.place.line)?;
-    words.extend_from_slice(b": ")?;
-    add_first(words, line_at(&text[begin..end], 1), MOST_SHOWN)
+    words.add_number(b"\ndriven in line ", token.place.line);
+    words.add(b": ");
+    words.add_first(line_at(&text[begin..end], 1), MOST_SHOWN);
 }

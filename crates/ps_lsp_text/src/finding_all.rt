@@ -5,17 +5,19 @@ ghost use Rattle.ps_accepted.specs.Answering.{IsFrontOf};
 ghost use Rattle.ps_lsp_text.specs.Findings.{Diagnoses, IsFirst, Tells};
 
 use crate::finding::{Finding, Findings, What};
+use crate::looking::tokens_or_none;
+use crate::made::{MadeList, MadeText};
 use crate::spans::range_at;
 use crate::wording::words_of;
 use ps_accepted::accept_text;
 use ps_base::{Bytes, Fail, Memory, Place, Refusal, Rule};
 use ps_findings::{detail_on, further_refusals, odd_comments, placed_notes};
-use ps_lexer::{Token, TokenList, Tokens, lex};
+use ps_lexer::{Token, TokenList};
 use ps_message::{message, note_line, odd_line};
 use ps_model::App;
 use ps_notes::{OddComment, Placed};
 use ps_parser::Source;
-use ps_text::{add_number, range_from};
+use ps_text::{Range, range_from};
 use std::alloc::Global;
 
 /// The most findings of a sort after the first one, but for the one that says how many more there are.
@@ -29,46 +31,45 @@ const LONGEST_TOLD: usize = 65_536;
 // what is too many: each takes one more reading of it.
 const LONGEST_SEARCHED: usize = 262_144;
 
-// The finding of a refusal, with what the text tells of it besides.
+// The finding with this message.
+fn finding_of(
+    alloc: Global,
+    what: What,
+    range: Range,
+    message: Result<Bytes, Memory>,
+) -> Result<Finding, Memory>
+    ensures sort { IfOk result (λ finding. finding.what ≡ what) }
+    ensures place { IfOk result (λ finding. finding.range ≡ range) }
+{
+    let message = message?;
+    let words = words_of(alloc, message.as_slice())?;
+    Ok(Finding { what, range, words })
+}
+
+// The finding of a refusal, with what the text tells of it besides, if that is to be told.
 fn refused(
     alloc: Global,
     text: &[u8],
     tokens: &[Token],
     refusal: &Refusal,
-    given: &[u8],
+    is_detailed: bool,
 ) -> Result<Finding, Memory>
     ensures { IfOk result (Tells text.now refusal.now) }
 {
-    let message = message(alloc, b"", text, refusal, given)?;
-    let words = words_of(alloc, message.as_slice())?;
-    Ok(Finding {
-        what: What::Refused(refusal.rule),
-        range: range_at(text, tokens, refusal.place),
-        words,
-    })
-}
-
-// Whether what a text tells of a refusal is how many there are of what has a limit, for which all of it is parsed.
-fn is_counted(rule: Rule) -> bool {
-    matches!(rule, Rule::N11 | Rule::B4)
-}
-
-// What a text tells of its first refusal: not how many there are of what is too many, where the text is long.
-fn detail_first(alloc: Global, text: &[u8], refusal: &Refusal) -> Result<Bytes, Memory> {
-    if text.len() > LONGEST_SEARCHED && is_counted(refusal.rule) {
-        Ok(Bytes::new(alloc))
+    let given = if is_detailed {
+        detail_on(alloc, text, refusal)?
     } else {
-        detail_on(alloc, text, refusal)
-    }
+        Bytes::new(alloc)
+    };
+    let message = message(alloc, b"", text, refusal, given.as_slice());
+    let range = range_at(text, tokens, refusal.place);
+    finding_of(alloc, What::Refused(refusal.rule), range, message)
 }
 
-// What a text tells of a refusal after its first one: nothing, where the text is long.
-fn detail_behind(alloc: Global, text: &[u8], refusal: &Refusal) -> Result<Bytes, Memory> {
-    if text.len() <= LONGEST_TOLD {
-        detail_on(alloc, text, refusal)
-    } else {
-        Ok(Bytes::new(alloc))
-    }
+// Whether it is told of the first refusal of a text what the text tells of it: not how many there are of what has a
+// limit, for which all of it is parsed, where the text is long.
+fn is_first_detailed(text: &[u8], rule: Rule) -> bool {
+    text.len() <= LONGEST_SEARCHED || !matches!(rule, Rule::N11 | Rule::B4)
 }
 
 // The finding that so many more are not shown, from a place on.
@@ -79,34 +80,37 @@ fn left_out(
     place: Place,
     count: usize,
 ) -> Result<Finding, Memory> {
-    let mut words = Bytes::new(alloc);
-    add_number(&mut words, b"", count.min(u32::MAX as usize) as u32)?;
-    words.extend_from_slice(b" more from here on, not shown")?;
-    Ok(Finding {
-        what,
-        range: range_from(text, place, 1),
-        words,
-    })
+    let mut words = MadeText::of(Bytes::new(alloc));
+    words.add_number(b"", count.min(u32::MAX as usize) as u32);
+    words.add(b" more from here on, not shown");
+    let range = range_from(text, place, 1);
+    let words = words.finish()?;
+    Ok(Finding { what, range, words })
 }
 
-// The findings of refusals: of at most so many, and then how many are left.
-fn all_refused(
+// The findings of the refusals of a text after its first one: of at most so many, and then how many are left; none where
+// the text is long.
+fn findings_after(
     alloc: Global,
     text: &[u8],
     tokens: &[Token],
-    refusals: &[Refusal],
+    first: &Refusal,
 ) -> Result<Vec<Finding>, Memory> {
-    let mut list = Vec::new(alloc);
+    if text.len() > LONGEST_SEARCHED {
+        return Ok(Vec::new(alloc));
+    }
+    let is_detailed = text.len() <= LONGEST_TOLD;
+    let refusals = further_refusals(alloc, text, first)?;
+    let mut list = MadeList::new(alloc);
     for refusal in &refusals[..refusals.len().min(MOST_FINDINGS)] {
-        let given = detail_behind(alloc, text, refusal)?;
-        list.push(refused(alloc, text, tokens, refusal, given.as_slice())?)?;
+        list.add(refused(alloc, text, tokens, refusal, is_detailed));
     }
     if let Some(next) = refusals.get(MOST_FINDINGS) {
         let count = refusals.len().saturating_sub(MOST_FINDINGS);
         let what = What::Refused(next.rule);
-        list.push(left_out(alloc, text, what, next.place, count)?)?;
+        list.add(left_out(alloc, text, what, next.place, count));
     }
-    Ok(list)
+    list.finish()
 }
 
 // The tokens by which pieces of a text are told, each by a whole one: none where a rule L refuses the text, or it is
@@ -115,99 +119,87 @@ fn tokens_shown(alloc: Global, text: &[u8]) -> Result<TokenList, Memory> {
     if text.len() > LONGEST_TOLD {
         return Ok(TokenList::new(alloc));
     }
-    match lex(alloc, text) {
-        Ok(Tokens { list, end: _ }) => Ok(list),
-        Err(Fail::Memory) => Err(Memory),
-        Err(Fail::Refused(_)) => Ok(TokenList::new(alloc)),
-    }
-}
-
-// The refusals of a text after its first one: none where it is long.
-fn refusals_behind(alloc: Global, text: &[u8], first: &Refusal) -> Result<Vec<Refusal>, Memory> {
-    if text.len() <= LONGEST_SEARCHED {
-        further_refusals(alloc, text, first)
-    } else {
-        Ok(Vec::new(alloc))
-    }
+    tokens_or_none(alloc, text)
 }
 
 // What is found in a text that this refusal refuses.
 fn findings_behind(alloc: Global, text: &[u8], refusal: &Refusal) -> Result<Findings, Memory>
     ensures { IfOk result (λ findings. IsFirst text.now (Err (Fail.Refused refusal.now)) findings.first) }
 {
-    let given = detail_first(alloc, text, refusal)?;
-    let further = refusals_behind(alloc, text, refusal)?;
     let tokens = tokens_shown(alloc, text)?;
-    let first = refused(alloc, text, tokens.as_slice(), refusal, given.as_slice())?;
-    let more = all_refused(alloc, text, tokens.as_slice(), further.as_slice())?;
+    let more = findings_after(alloc, text, tokens.as_slice(), refusal)?;
+    let is_detailed = is_first_detailed(text, refusal.rule);
+    let first = refused(alloc, text, tokens.as_slice(), refusal, is_detailed)?;
     Ok(Findings {
         first: Some(first),
         more,
     })
 }
 
-// The finding of a note.
-fn noted(
+// The findings of notes: of at most so many, and then how many are left.
+fn add_notes(
     alloc: Global,
+    list: &mut MadeList<Finding>,
     text: &[u8],
     tokens: &[Token],
     app: &App,
-    placed: &Placed,
-) -> Result<Finding, Memory> {
-    let line = note_line(alloc, b"", app, placed)?;
-    let words = words_of(alloc, line.as_slice())?;
-    Ok(Finding {
-        what: What::Noted,
-        range: range_at(text, tokens, placed.place),
-        words,
-    })
-}
-
-// The finding of an odd comment.
-fn odd(alloc: Global, text: &[u8], tokens: &[Token], odd: &OddComment) -> Result<Finding, Memory> {
-    let line = odd_line(alloc, b"", odd)?;
-    let words = words_of(alloc, line.as_slice())?;
-    Ok(Finding {
-        what: What::Noted,
-        range: range_at(text, tokens, odd.place),
-        words,
-    })
-}
-
-// The notes on an accepted application of this flat source, and its odd comments.
-fn notes_in(
-    alloc: Global,
-    text: &[u8],
-    tokens: &[Token],
-    source: &Source,
-    app: &App,
-) -> Result<Vec<Finding>, Memory> {
-    let mut list = Vec::new(alloc);
-    let notes = placed_notes(alloc, source, app)?;
+    notes: &[Placed],
+) {
     for placed in &notes[..notes.len().min(MOST_FINDINGS)] {
-        list.push(noted(alloc, text, tokens, app, placed)?)?;
+        let range = range_at(text, tokens, placed.place);
+        let line = note_line(alloc, b"", app, placed);
+        list.add(finding_of(alloc, What::Noted, range, line));
     }
     if let Some(next) = notes.get(MOST_FINDINGS) {
         let count = notes.len().saturating_sub(MOST_FINDINGS);
-        list.push(left_out(alloc, text, What::Noted, next.place, count)?)?;
+        list.add(left_out(alloc, text, What::Noted, next.place, count));
     }
-    let comments = odd_comments(alloc, text)?;
+}
+
+// The findings of odd comments: of at most so many, and then how many are left.
+fn add_odd(
+    alloc: Global,
+    list: &mut MadeList<Finding>,
+    text: &[u8],
+    tokens: &[Token],
+    comments: &[OddComment],
+) {
     for comment in &comments[..comments.len().min(MOST_FINDINGS)] {
-        list.push(odd(alloc, text, tokens, comment)?)?;
+        let range = range_at(text, tokens, comment.place);
+        let line = odd_line(alloc, b"", comment);
+        list.add(finding_of(alloc, What::Noted, range, line));
     }
     if let Some(next) = comments.get(MOST_FINDINGS) {
         let count = comments.len().saturating_sub(MOST_FINDINGS);
-        list.push(left_out(alloc, text, What::Noted, next.place, count)?)?;
+        list.add(left_out(alloc, text, What::Noted, next.place, count));
     }
-    Ok(list)
 }
 
-// What is found in a text that is accepted.
+// What is found in a text that is accepted, as this application of this flat source: the notes on it, and its odd
+// comments.
 fn findings_on(alloc: Global, text: &[u8], source: &Source, app: &App) -> Result<Findings, Memory>
     ensures { IfOk result (λ findings. findings.first ≡ None) }
 {
     let tokens = tokens_shown(alloc, text)?;
-    let more = notes_in(alloc, text, tokens.as_slice(), source, app)?;
+    let notes = placed_notes(alloc, source, app)?;
+    let comments = odd_comments(alloc, text)?;
+    let mut list = MadeList::new(alloc);
+    add_notes(
+        alloc,
+        &mut list,
+        text,
+        tokens.as_slice(),
+        app,
+        notes.as_slice(),
+    );
+    add_odd(
+        alloc,
+        &mut list,
+        text,
+        tokens.as_slice(),
+        comments.as_slice(),
+    );
+    let more = list.finish()?;
     Ok(Findings { first: None, more })
 }
 

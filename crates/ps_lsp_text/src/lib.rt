@@ -17,6 +17,8 @@
 //! - `looking`: looks at tokens. `declared`: at declarations and calls. `sight`: at both texts.
 //! - `hovering`, `completing`, `defining`, `listing`: the answers.
 //! - `described`: describes kinds and pins. `driving`: what drives a name.
+//!
+//! `made`: texts, lists and objects of JSON that are being made, and note if memory ran out.
 #![tactic(auto)]
 
 mod asking;
@@ -32,6 +34,7 @@ mod fronts;
 mod hovering;
 mod listing;
 mod looking;
+mod made;
 mod published;
 mod server;
 mod shown;

@@ -2,6 +2,7 @@
 
 use crate::declared::{declared_type, is_in_section};
 use crate::looking::{name_at, tokens_of, width};
+use crate::made::MadeList;
 use ps_base::{Bytes, Memory};
 use ps_lexer::Token;
 use ps_text::{Position, Range, utf16_length};
@@ -80,26 +81,16 @@ fn range_of(token: &Token, spot: Spot) -> Range {
     }
 }
 
-// The symbol that a token of a section declares, if it declares one.
-fn symbol_at(
-    alloc: Global,
-    tokens: &[Token],
-    at: usize,
-    range: Range,
-) -> Result<Option<Symbol>, Memory> {
-    match (name_at(tokens, at), declared_type(tokens, at)) {
-        (Some(name), Some(ty)) => Ok(Some(Symbol {
-            name: Bytes::from_slice(alloc, name)?,
-            ty: Bytes::from_slice(alloc, ty)?,
-            range,
-        })),
-        _ => Ok(None),
-    }
+// The symbol of a name.
+fn symbol_of(alloc: Global, name: &[u8], ty: &[u8], range: Range) -> Result<Symbol, Memory> {
+    let name = Bytes::from_slice(alloc, name)?;
+    let ty = Bytes::from_slice(alloc, ty)?;
+    Ok(Symbol { name, ty, range })
 }
 
 // The symbols of these tokens of a text.
 fn symbols_in(alloc: Global, text: &[u8], tokens: &[Token]) -> Result<Vec<Symbol>, Memory> {
-    let mut list = Vec::new(alloc);
+    let mut list = MadeList::new(alloc);
     let mut within = false;
     let mut spot = Spot {
         line: 0,
@@ -108,14 +99,14 @@ fn symbols_in(alloc: Global, text: &[u8], tokens: &[Token]) -> Result<Vec<Symbol
     };
     for at in 0..tokens.len() {
         within = is_in_section(tokens, at, within);
-        if within && list.len() < MOST_SYMBOLS {
+        if within && list.as_slice().len() < MOST_SYMBOLS {
             spot = spot_of(text, &tokens[at], spot);
-            if let Some(symbol) = symbol_at(alloc, tokens, at, range_of(&tokens[at], spot))? {
-                list.push(symbol)?;
+            if let (Some(name), Some(ty)) = (name_at(tokens, at), declared_type(tokens, at)) {
+                list.add(symbol_of(alloc, name, ty, range_of(&tokens[at], spot)));
             }
         }
     }
-    Ok(list)
+    list.finish()
 }
 
 /// The names that a text declares, in its order, at most 10,000.

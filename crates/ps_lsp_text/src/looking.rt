@@ -23,8 +23,8 @@ fn bytes_before(text: &[u8], place: Place) -> usize
     text.len()
 }
 
-// The tokens of a piece of a text; none where a rule L refuses it.
-fn tokens_or_none(alloc: Global, piece: &[u8]) -> Result<TokenList, Memory> {
+/// The tokens of a piece of a text; none where a rule L refuses it.
+pub(crate) fn tokens_or_none(alloc: Global, piece: &[u8]) -> Result<TokenList, Memory> {
     match lex(alloc, piece) {
         Ok(Tokens { list, end: _ }) => Ok(list),
         Err(Fail::Memory) => Err(Memory),

@@ -16,8 +16,8 @@ use crate::{Asked, Findings, Texts, findings_in};
 use ps_base::Memory;
 use ps_lsp_rpc::{Code, Outcome, Reply, Request, answer};
 use ps_text::place_at;
-use serde_json::{Value, json};
-use std::alloc::{AllocError, Global};
+use serde_json::Value;
+use std::alloc::Global;
 
 /// How far a server is.
 #[derive(Clone, Copy, PartialEq)]
@@ -36,23 +36,6 @@ pub enum Stage {
 struct Done {
     outcome: Outcome,
     notice: Option<Value>,
-}
-
-impl Drop for Done {
-    fn drop(self) {
-        let Done {
-            outcome: _,
-            notice: _,
-        } = self;
-    }
-}
-
-impl Done {
-    // What the answer is to say, and the notice.
-    fn into_parts(self) -> (Outcome, Option<Value>) {
-        let Done { outcome, notice } = self;
-        (outcome, notice)
-    }
 }
 
 /// A server, with the texts that are open.
@@ -92,16 +75,24 @@ fn told(notice: Value) -> Done {
 }
 
 // What the server can do.
-fn capabilities(alloc: Global) -> Result<Value, AllocError> {
-    let can = json!(in alloc; {
+const CAPABILITIES: &str = r#"{
+    "capabilities": {
         "positionEncoding": "utf-16",
-        "textDocumentSync": {"openClose": true, "change": 1u8},
+        "textDocumentSync": {"openClose": true, "change": 1},
         "hoverProvider": true,
         "definitionProvider": true,
         "documentSymbolProvider": true,
         "completionProvider": {"triggerCharacters": ["."]}
-    })?;
-    json!(in alloc; {"capabilities": can, "serverInfo": {"name": "plcsafe-lsp"}})
+    },
+    "serverInfo": {"name": "plcsafe-lsp"}
+}"#;
+
+// What the server can do, as JSON.
+fn capabilities(alloc: Global) -> Result<Value, Memory> {
+    match Value::from_str(alloc, CAPABILITIES) {
+        Ok(value) => Ok(value),
+        Err(_) => Err(Memory),
+    }
 }
 
 // A question about a place of a text.
@@ -274,7 +265,7 @@ impl Server {
         ensures answered { IfOk result (IsAnswered body.now) }
     {
         let request = Request::read(alloc, body)?;
-        let (outcome, notice) = self.perform(alloc, &request)?.into_parts();
+        let Done { outcome, notice } = self.perform(alloc, &request)?;
         let answer = answer(alloc, &request, outcome)?;
         Ok(Reply { answer, notice })
     }

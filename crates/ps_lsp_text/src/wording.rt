@@ -1,5 +1,6 @@
 // What is told of a finding: a message without the place, which the editor shows itself.
 
+use crate::made::MadeText;
 use ps_base::{Bytes, Memory};
 use ps_text::line_at;
 use std::alloc::Global;
@@ -19,14 +20,14 @@ fn behind_colon(line: &[u8]) -> &[u8] {
 
 /// The words of a message: without the place and the rule at its beginning, and without the line that it quotes.
 pub(crate) fn words_of(alloc: Global, message: &[u8]) -> Result<Bytes, Memory> {
-    let heading = line_at(message, 1);
-    let mut words = Bytes::from_slice(alloc, behind_colon(behind_colon(heading)))?;
+    let heading = behind_colon(behind_colon(line_at(message, 1)));
+    let mut words = MadeText::of(Bytes::from_slice(alloc, heading)?);
     for number in 2..=MOST_LINES {
         let line = line_at(message, number);
         if !line.is_empty() && !line.starts_with(b"    ") {
-            words.push(b'\n')?;
-            words.extend_from_slice(line)?;
+            words.add(b"\n");
+            words.add(line);
         }
     }
-    Ok(words)
+    words.finish()
 }

@@ -5,3 +5,11 @@ pub mod Capitals
 -- what an output took of a text whose writing stopped
 pub mod Stopped
 pub mod Dots
+-- a text that was read whole
+pub mod Holding
+-- what a command leaves of a call, put together from its parts
+pub mod Leaving
+-- a trace that was followed
+pub mod Followed
+-- what a call gets of an application or of a case file
+mod Coming

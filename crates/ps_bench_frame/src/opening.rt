@@ -1,27 +1,26 @@
-// How a command comes to an application, and to the cases of a file.
+// The application that a command works on, how a call ends that gets none, and how a command comes to the cases of a
+// file.
 
 ghost use Rattle.std.specs.Prelude.{◌≡◌, ◌≤◌, ◌++◌, ℕ, List, Bool, Option, All, IsTrue, IsSome, Err, IfOk, IfErr};
 ghost use Rattle.std.specs.Prelude.{IsErrOf};
 ghost use Rattle.std.specs.Prelude.{OnOk, length};
 ghost use Rattle.ps_bench_frame.specs.Ending.{IsUnread};
-ghost use Rattle.ps_bench_frame.specs.Opening.{GivesNet, IsOfApp, IsOfText, Source, source};
+ghost use Rattle.ps_bench_frame.specs.Opening.{GivesNet, IsOfText, Source, source};
 ghost use Rattle.ps_bench_frame.specs.Stopping.{AreRefused, IsWhyNoCases, StopsAtApp, StopsAtCases};
 ghost use Rattle.ps_bench_frame.specs.Refusing.{refused_line};
 ghost use Rattle.ps_bench_cases.specs.Meant.{whole_case};
 ghost use Rattle.ps_bench_cases.specs.Runnable.{IsRunnable};
 ghost use Rattle.ps_bench_cases.specs.declared.case.Case.{Case as CaseOf};
 ghost use Rattle.ps_bench_cases.specs.declared.limits.TheConstants.{MOST_CASES};
-ghost use Rattle.ps_model.specs.Network.{Network};
 ghost use Rattle.ps_model.specs.Typing.{Accepted};
 ghost use Rattle.ps_outside.specs.Outside.{Rose};
 ghost use Rattle.ps_outside.specs.declared.text_fail.TextFail.TheVariants.{Fault as IsFaultOf};
-ghost use Rattle.ps_accepted.specs.Answering.{IsFault, Reads};
+ghost use Rattle.ps_accepted.specs.Answering.{Reads};
 ghost use Rattle.ps_accepted.specs.Source.{IsAcceptedAs};
 
 use crate::ending::Stop;
 use crate::refusing::refused_line;
-use ps_accepted::read_accepted;
-use ps_base::Memory;
+use ps_base::{Bytes, Memory};
 use ps_bench_cases::{CaseFile, CaseRefusal, CasesFail, read_cases};
 use ps_model::{App, ImageSizes};
 use ps_outside::{Files, Output, TextFail, write_all};
@@ -29,33 +28,31 @@ use ps_report::refusal_line;
 use ps_world::World;
 use std::alloc::Global;
 
-/// An application that is accepted, and the sizes of the regions of its channels.
-#[derive(Drop)]
+/// An application that is accepted, the sizes of the regions of its channels, and its text: the bytes that were read.
 pub struct Opened {
     pub app: App,
     pub sizes: ImageSizes,
+    pub text: Bytes,
 }
 
-// The accepted application of this name.
-fn accepted_app<F: Files>(alloc: Global, files: &mut F, name: &str) -> Result<App, TextFail>
-    ensures accepted { IfOk result Accepted }
-    ensures read { IsTrue (F.tells files.old) → Reads GivesNet IsAcceptedAs (F.held files.old name.now) result }
-    ensures fault { IsFault result → Rose (F.faults files.old name.now) (F.faults files.new name.now) }
-    ensures counts { (other : List ℕ) → F.faults files.old other ≤ F.faults files.new other }
-    ensures kept { F.held files.new ≡ F.held files.old }
-    ensures reading { F.tells files.new ≡ F.tells files.old }
-{
-    let (app, _checked) = read_accepted(alloc, name, files)?.into_parts();
-    Ok(app)
+impl Drop for Opened {
+    // One call for whoever owns one, in place of a walk through all that it holds.
+    fn drop(self) {
+        let Opened {
+            app: _,
+            sizes: _,
+            text: _,
+        } = self;
+    }
 }
 
-/// An application with the sizes of the regions of its channels.
-pub fn sized(alloc: Global, app: App) -> Result<Opened, Memory>
+/// An application with the sizes of the regions of its channels, and with its text.
+pub(crate) fn sized(alloc: Global, app: App, text: Bytes) -> Result<Opened, Memory>
     requires { Accepted app }
-    ensures { IfOk result (λ opened. opened.app ≡ app) }
+    ensures { IfOk result (λ opened. (opened.app ≡ app) × (opened.text ≡ text)) }
 {
     let sizes = World::build(alloc, &app)?.sizes();
-    Ok(Opened { app, sizes })
+    Ok(Opened { app, sizes, text })
 }
 
 /// Ends a call that gets no application: its refusal is written.
@@ -77,37 +74,6 @@ pub fn refuse_app<O: Output>(out: &mut O, why: TextFail) -> Stop
         },
         TextFail::Fault => Stop::UnreadApp,
         TextFail::Memory => Stop::NoMemory,
-    }
-}
-
-/// The accepted application of this name. Where it is refused the line of the refusal is written.
-///
-/// `UnreadApp` comes only where the files' count of the name rose in this call, `Unwritten` only where the output's
-/// did.
-pub fn open_app<F: Files, O: Output>(
-    alloc: Global,
-    files: &mut F,
-    out: &mut O,
-    name: &str,
-) -> Result<Opened, Stop>
-    ensures accepted { IfOk result (λ opened. Accepted opened.app) }
-    ensures app { IfOk result (λ opened. IsOfApp
-        (source opened.app opened.sizes (F.tells files.old) (F.held files.old)) name.now) }
-    ensures stops { IfErr result (λ stop. StopsAtApp (F.tells files.old) (F.held files.old) name.now stop
-        (O.tells out.old) (O.taken out.old) (O.taken out.new)) }
-    ensures unread { IfErr result (λ stop. IsUnread stop →
-        Rose (F.faults files.old name.now) (F.faults files.new name.now)) }
-    ensures unwritten { IsErrOf result Stop.Unwritten → Rose (O.faults out.old) (O.faults out.new) }
-    ensures unsaid { OnOk result (O.taken out.new ≡ O.taken out.old) }
-    ensures reads { (other : List ℕ) → F.faults files.old other ≤ F.faults files.new other }
-    ensures writes { O.faults out.old ≤ O.faults out.new }
-    ensures kept { F.held files.new ≡ F.held files.old }
-    ensures reading { F.tells files.new ≡ F.tells files.old }
-    ensures telling { O.tells out.new ≡ O.tells out.old }
-{
-    match accepted_app(alloc, files, name) {
-        Ok(app) => Ok(sized(alloc, app)?),
-        Err(why) => Err(refuse_app(out, why)),
     }
 }
 

@@ -1,15 +1,24 @@
--- The faults that strike in a run, and how a call ends that is refused what a run is made of.
+-- A trace that is opened, the faults that strike in a run, and how a call ends that is refused what a run is made of.
 use Rattle.std.specs.Prelude.{◌≡◌, ◌⊎◌, ℕ, Bool, IsTrue, List, ◌++◌, take, Option, Some, None}
 use Rattle.ps_base.specs.declared.failing.Refusal.{Refusal}
 use Rattle.ps_model.specs.declared.channel.Fault.{Fault}
 use Rattle.ps_model.specs.declared.channel.ImageSizes.{ImageSizes}
+use Rattle.ps_model.specs.Network.{Network, input_count}
 use Rattle.ps_outside.specs.Outside.{Rose}
 use Rattle.ps_report.specs.Short.{refusal_text}
 use Rattle.ps_trace.specs.Faults.{faults_of}
+use Rattle.ps_trace.specs.Reading.{file_of, input_count_of, last_of}
+use Rattle.ps_trace.specs.declared.trace.TraceReader.{TraceReader}
 use Rattle.ps_bench_frame.specs.declared.ending.Input.{Input}
 use Rattle.ps_bench_frame.specs.declared.ending.InputStop.TheVariants.{Refused}
 use Rattle.ps_bench_frame.specs.declared.ending.Stop.{Stop}
 use Rattle.ps_bench_frame.specs.declared.ending.Stop.TheVariants.{Input as StopsAt, Unwritten}
+
+-- a reader stands after the header of this file
+pub record IsOpened (net : Network) (name : List ℕ) (reader : TraceReader) : Type 0 where
+  pub file : file_of reader ≡ name
+  pub inputs : input_count_of reader ≡ input_count net
+  pub fresh : last_of reader ≡ 0
 
 -- the faults that strike: those of the file, where one is named, and else those that are brought
 abbrev pub AreFaults : (held : List ℕ → Option (List ℕ)) → ImageSizes → (file : Option (List ℕ)) →

@@ -7,11 +7,10 @@ ghost use Rattle.ps_bench_frame.specs.Ending.{IsOfRun, IsUnread};
 ghost use Rattle.ps_bench_frame.specs.declared.ending.Input.{Input as InputOf};
 ghost use Rattle.ps_outside.specs.Outside.{Rose};
 ghost use Rattle.ps_report.specs.Short.{refusal_text};
-ghost use Rattle.ps_top.specs.Opening.{IsOpened};
 ghost use Rattle.ps_trace.specs.FaultOrder.{AreInOrder, AreOfOneChannel};
 ghost use Rattle.ps_trace.specs.Reading.{IsReadingTrace, items_left, only_refused};
 ghost use Rattle.ps_trace.specs.Scans.{scans_of};
-ghost use Rattle.ps_bench_trace.specs.Opening.{AreFaults, RosesIn, SaysRefusal};
+ghost use Rattle.ps_bench_trace.specs.Opening.{AreFaults, IsOpened, RosesIn, SaysRefusal};
 
 use ps_base::Refusal;
 use ps_bench_frame::{Input, InputStop, Stop};

@@ -1,10 +1,11 @@
 // What a word means in the place of a trace, made ready to be run.
 
-ghost use Rattle.std.specs.Prelude.{◌≡◌, ◌≤◌, ℕ, List, Some, None, IfOk, IfErr};
+ghost use Rattle.std.specs.Prelude.{◌≡◌, ◌≤◌, ◌∷◌, ℕ, List, Some, None, IfOk, IfErr};
 ghost use Rattle.std.specs.Prelude.{IfSome, IfNone, IsErrOf, OnOk, All, length, []};
 ghost use Rattle.ps_bench_frame.specs.Ending.{IsUnread};
+ghost use Rattle.ps_bench_frame.specs.Leaving.{OnlyReads};
 ghost use Rattle.ps_bench_frame.specs.Meant.{file_meant};
-ghost use Rattle.ps_bench_frame.specs.Opening.{source};
+ghost use Rattle.ps_bench_frame.specs.Opening.{source, source_of_call};
 ghost use Rattle.ps_bench_frame.specs.Refusing.{refused_line};
 ghost use Rattle.ps_bench_frame.specs.Stopping.{StopsAtCases};
 ghost use Rattle.ps_bench_cases.specs.Alone.{alone, case_with};
@@ -15,13 +16,14 @@ ghost use Rattle.ps_bench_cases.specs.declared.case.Case.{Case as CaseOf};
 ghost use Rattle.ps_bench_cases.specs.declared.limits.TheConstants.{MOST_CASES};
 ghost use Rattle.ps_outside.specs.Outside.{Rose};
 ghost use Rattle.ps_trace.specs.FaultOrder.{AreInOrder, AreOfOneChannel};
+ghost use Rattle.ps_bench_trace.specs.Coming.{ComesToPart, ComesToPlay};
 ghost use Rattle.ps_bench_trace.specs.Playing.{LacksCase, LacksCaseOf, MeansPart, MeansPlay};
 
 use crate::expansion::Expansion;
 use ps_base::{Bytes, Memory};
 use ps_bench_cases::{Case, CaseFile, case_with_line, faults_of};
 use ps_bench_frame::pieces::{add_short, add_shown};
-use ps_bench_frame::{Opened, Part, Stop, Word, open_written_cases, word_of};
+use ps_bench_frame::{Call, Opened, Part, Stop, Word, open_written_cases, word_of};
 use ps_message::{Listener, NO_MEMORY, hear_bytes};
 use ps_model::App;
 use ps_outside::{Files, Output};
@@ -251,5 +253,75 @@ pub fn open_play<F: Files, O: Output, L: Listener>(
             Err(stop) => Err(stop),
         },
         Part::Case(line) => open_one(alloc, files, out, listener, opened, word, file, line),
+    }
+}
+
+// Tells who listens that the line of a word is in no case of its file.
+fn hear_no_case<C: Call>(call: &mut C, word: &str, file: &CaseFile)
+    ensures { C.seen call.new ≡ C.seen call.old }
+{
+    if call.is_quiet() {
+        return;
+    }
+    match no_case(call.alloc(), word, file) {
+        Ok(text) => call.hear(text.as_slice()),
+        Err(Memory) => call.hear(NO_MEMORY.as_bytes()),
+    }
+}
+
+// All cases of the file of this name. Nothing is written.
+fn read_all<C: Call>(call: &mut C, opened: &Opened, name: &str) -> Result<Option<Play>, Stop>
+    ensures comes { ComesToPart (source_of_call opened.now.app opened.now.sizes (C.seen call.old)) name.now Part.Cases
+        result }
+    ensures reads { OnlyReads (name.now ∷ []) (C.seen call.old) (C.seen call.new) result }
+{
+    let file = match call.open_cases(opened, 0, name) {
+        Ok(file) => file,
+        Err(stop) => return Err(stop),
+    };
+    match play_all(call.alloc(), &opened.app, &file) {
+        Ok(play) => Ok(Some(play)),
+        Err(Memory) => Err(Stop::NoMemory),
+    }
+}
+
+// The case of the file of this name that has this line; or tells that none has it. Nothing is written.
+fn read_one<C: Call>(
+    call: &mut C,
+    opened: &Opened,
+    word: &str,
+    name: &str,
+    line: u32,
+) -> Result<Option<Play>, Stop>
+    ensures comes { ComesToPart (source_of_call opened.now.app opened.now.sizes (C.seen call.old)) name.now
+        (Part.Case line) result }
+    ensures reads { OnlyReads (name.now ∷ []) (C.seen call.old) (C.seen call.new) result }
+{
+    let file = match call.open_cases(opened, 0, name) {
+        Ok(file) => file,
+        Err(stop) => return Err(stop),
+    };
+    match play_with(call.alloc(), &opened.app, &file, line) {
+        Ok(Some(play)) => Ok(Some(play)),
+        Ok(None) => {
+            hear_no_case(call, word, &file);
+            Ok(None)
+        }
+        Err(Memory) => Err(Stop::NoMemory),
+    }
+}
+
+/// What a word means in the place of a trace, made ready to be run: the trace of its name is read later, cases are
+/// expanded. Nothing is written. None: no case of the file has the line of the word, and who listens was told so; such
+/// a call ends with the status `Usage`.
+pub fn read_play<C: Call>(call: &mut C, opened: &Opened, word: &str) -> Result<Option<Play>, Stop>
+    ensures comes { ComesToPlay (source_of_call opened.now.app opened.now.sizes (C.seen call.old)) word.now result }
+    ensures reads { OnlyReads (file_meant word.now ∷ []) (C.seen call.old) (C.seen call.new) result }
+{
+    let Word { file, part } = word_of(word);
+    match part {
+        Part::Trace => Ok(Some(play_file(call.alloc()))),
+        Part::Cases => read_all(call, opened, file),
+        Part::Case(line) => read_one(call, opened, word, file, line),
     }
 }

@@ -18,7 +18,7 @@
 //!
 //! Totals:
 //!
-//! - `naming`: names a file by the SHA-256 of what it holds. `total_telling`: writes a head, which names the
+//! - `naming`: names a text, and what a file holds, by its SHA-256. `total_telling`: writes a head, which names the
 //!   application and the trace so, and the lines of a tally.
 //! - `summing`: reads them again, and adds those of several campaigns. `adding`: adds those of several files.
 //!   `refusal`: why one is not added.
@@ -50,7 +50,7 @@ pub use drawing::{Room, Trial, draw_trial};
 pub use fault::fault_of;
 pub use line::{FLOORS, Line};
 pub use mark::Mark;
-pub use naming::name_of_file;
+pub use naming::{digest_of_text, name_of_file};
 pub use outcome::{Outcome, ended_by, latency_in, place_of};
 pub use reading::{read_tally, seeming_tally};
 pub use refusal::{SumRefusal, SumRule};

@@ -3,7 +3,7 @@
 ghost use Rattle.std.specs.Prelude.{◌≡◌, ◌≤◌, ℕ, List, IsTrue, IfOk, IsErrOf};
 ghost use Rattle.hex.specs.Hex.{encode_lower};
 ghost use Rattle.ps_outside.specs.Outside.{Rose};
-ghost use Rattle.ps_bench_trials.specs.Naming.{Names};
+ghost use Rattle.ps_bench_trials.specs.Naming.{Names, digest_text};
 ghost use Rattle.sha2.specs.Sha256.{sha256};
 
 use ps_base::limits::LARGEST_TRACE;
@@ -27,7 +27,16 @@ fn digits_of(alloc: Global, bytes: &[u8]) -> Result<Bytes, Memory>
     Bytes::from_slice(alloc, digits.as_bytes())
 }
 
-// The same, where memory that is wanting is why a file has no name.
+/// The SHA-256 of a text, in 64 small hexadecimal digits; of one that is larger than the largest trace, that of its
+/// beginning of this size.
+pub fn digest_of_text(alloc: Global, text: &[u8]) -> Result<Bytes, Memory>
+    ensures { IfOk result (λ name. name ≡ digest_text text.now) }
+{
+    let size = (LARGEST_TRACE as usize).min(text.len());
+    digits_of(alloc, &text[..size])
+}
+
+// The same of some bytes, where memory that is wanting is why a file has no name.
 fn name_of(alloc: Global, bytes: &[u8]) -> Result<Bytes, ReadFail>
     ensures name { IfOk result (λ digits. digits ≡ encode_lower (sha256 bytes.now)) }
     ensures memory { ¬ IsErrOf result ReadFail.Fault }

@@ -1,6 +1,3 @@
-use Rattle.std.proofs.Common.{subst, sym}
-use Rattle.ps_accepted.specs.Source.{IsAcceptedAs}
-use Rattle.ps_accepted.specs.Source.Reading.{stands_for}
 use Rattle.ps_bench_frame.proofs.Giving.{reads_err}
 use Rattle.ps_bench_frame.proofs.sourcing.open_sourced.Goals as goal
 

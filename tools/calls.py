@@ -232,6 +232,14 @@ def statuses(calls):
         calls.judge(title, (USAGE, usage.encode()), (run.returncode, run.stdout))
 
 
+def odd_bytes(calls):
+    """Bytes that are no characters: in a comment any may stand, and elsewhere none."""
+    calls.write("odd", b"(*\0\xff*)")
+    calls.row("odd bytes in a comment", ["check", "odd"], REFUSED, refused("P1", 1, 7))
+    calls.write("odd", b"\n\xff")
+    calls.row("an odd byte", ["check", "odd"], REFUSED, refused("L1", 2, 1))
+
+
 COMMANDS = (
     (["run", "wire", "trace"], DONE), (["fault", "wire", "trace", "faults"], TRIPPED), (["check", "wire"], DONE), (["cert", "wire"], DONE),
     (["verify", "wire", "certificate"], DONE), (["image", "wire"], DONE), (["load", "1"], DONE), (["demand", "wire"], DONE),
@@ -421,7 +429,7 @@ def each_under(calls, title, words, whole, reads=True):
             calls.wrong.append(f"{name}, {key}: none of these calls failed, so the shim is not in their way")
 
 
-PARTS = (statuses, pieces, outputs, writes, limits, memory, shims)
+PARTS = (statuses, odd_bytes, pieces, outputs, writes, limits, memory, shims)
 
 
 def main(words):

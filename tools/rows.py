@@ -335,6 +335,11 @@ def wide(rows, texts):
         for region, size in (("code", 11 * 512 + 2 * 8 + 1), ("memory", 22 + 513)):
             for at, wanted in ((size - 1, (0, f"0 S_O={value}\n")), (size, (3, "refused F3 line 1\n"))):
                 rows.gives(f"wide: {region} of C at {at}, {title}", ["vote", "A", "T", "F"], {**files, "F": f"before 2 C {region} {at} 00\n"}, wanted)
+    # C goes round in its last row until its 512 + 2 + 1 turns are spent, and is Done by a fault before the vote, or one turn too late.
+    files = {"A": texts["images", "WIDE"], "T": head + "0" + " 0" * 512 + "\n"}
+    for turn, line in ((1_025 + 514 + 515 + 1, ""), (1_025 + 514 + 515 + 2, "0 OUTVOTED C\n")):
+        faults = f"before 1 C code 5644 00001608\nbefore 1 turn {turn} C memory 4 01\n"
+        rows.gives(f"wide: the turns of C, {turn}", ["vote", "A", "T", "F"], {**files, "F": faults}, (0, "0 S_O=0\n" + line))
 
 
 def long_lines(rows, texts):

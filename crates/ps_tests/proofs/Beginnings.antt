@@ -10,4 +10,5 @@ is_beginning net w h = record {
   outputs = h.setup.sizes.outputs;
   instances = h.setup.sizes.instances;
   last = ap (λ s. s.last) h.beginning;
+  rest = ap (λ s. s.begun) h.beginning;
 }

@@ -1,16 +1,8 @@
-// Codes of channel C that are worked out by hand, and the figures of all three channels.
+// Codes of channel C that are worked out by hand. Those of A and B are in `tests/calls/`, as `image` writes them, with
+// their turns, and so are the lengths of all regions.
 
-ghost use Rattle.ps_model.specs.Typing.{Accepted};
-
-use crate::application::{MOTOR, application, repeated};
-use crate::worked::DEEP;
-use ps_base::Memory;
-use ps_decision::{DecisionChannel, decision_image, turns_c};
-use ps_eqgen::equation_image;
-use ps_eqvm::EquationChannel;
-use ps_model::{App, Region, Sizes};
-use ps_stackgen::stack_image;
-use ps_stackvm::StackChannel;
+use crate::application::{MOTOR, application};
+use ps_decision::decision_image;
 use std::alloc::Global;
 use std::test::Fail;
 
@@ -62,100 +54,17 @@ const TIMES_CODE: [u8; 126] = [
 // A text, with the bytes of its code.
 const CODES: &[(&str, &[u8])] = &[(MOTOR, &MOTOR_CODE), (TIMES, &TIMES_CODE)];
 
-// Whether the code of an accepted application in channel C has these bytes.
-fn is_code(alloc: Global, app: &App, code: &[u8]) -> Result<bool, Memory>
-    requires { Accepted app.now }
-{
-    Ok(decision_image(alloc, app)?.as_slice() == code)
-}
-
-// The lengths of a channel's code and cells in bytes, and its budget of turns.
-type Figures = [u32; 3];
-
-// The figures of channel A for an accepted application.
-fn figures_a(alloc: Global, app: &App, sizes: &Sizes) -> Result<Figures, Memory>
-    requires { Accepted app.now }
-{
-    let code = stack_image(alloc, app)?;
-    let channel = StackChannel::new(alloc, &code, sizes)?;
-    Ok([
-        channel.region_len(Region::Code),
-        channel.region_len(Region::Cells),
-        app.turns_a(),
-    ])
-}
-
-// The figures of channel B for an accepted application.
-fn figures_b(alloc: Global, app: &App, sizes: &Sizes) -> Result<Figures, Memory>
-    requires { Accepted app.now }
-{
-    let code = equation_image(alloc, app)?;
-    let channel = EquationChannel::new(alloc, &code, sizes)?;
-    Ok([
-        channel.region_len(Region::Code),
-        channel.region_len(Region::Cells),
-        app.turns_b(),
-    ])
-}
-
-// The figures of channel C for an accepted application.
-fn figures_c(alloc: Global, app: &App, sizes: &Sizes) -> Result<Figures, Memory>
-    requires { Accepted app.now }
-{
-    let code = decision_image(alloc, app)?;
-    let channel = DecisionChannel::new(alloc, &code, sizes)?;
-    Ok([
-        channel.region_len(Region::Code),
-        channel.region_len(Region::Cells),
-        turns_c(app),
-    ])
-}
-
-// Whether these are the figures of the channels of a text.
-fn has_figures(alloc: Global, text: &str, wanted: &[Figures; 3]) -> Result<bool, Fail> {
+// Whether the code of the application of a text in channel C has these bytes.
+fn is_code(alloc: Global, text: &str, code: &[u8]) -> Result<bool, Fail> {
     let app = application(alloc, text)?;
-    let sizes = Sizes::of(alloc, &app)?;
-    Ok(
-        figures_a(alloc, &app, &sizes)? == wanted[0]
-            && figures_b(alloc, &app, &sizes)? == wanted[1]
-            && figures_c(alloc, &app, &sizes)? == wanted[2],
-    )
+    Ok(decision_image(alloc, &app)?.as_slice() == code)
 }
-
-// The figures of M.
-const OF_MOTOR: [Figures; 3] = [[33, 97, 11], [37, 84, 5], [127, 45, 15]];
-
-// The figures of the deepest expression. In channel A 35 signals are loaded and 34 ANDs and ORs join them; then STORE and
-// END. In channel B each of the 34 has two operands; then SET and LAST. In channel C 35 signals are decided; then two rows
-// set the target, and END.
-const OF_DEEP: [Figures; 3] = [
-    [3 * 35 + 34 + 3 + 1, 74 + 4, 71],
-    [5 * 69 + 1, 61 + 4, 70],
-    [11 * 35 + 2 * 8 + 1, 22 + 4, 35 + 2 + 1],
-];
-
-// The figures of an AND of 512 operands.
-const OF_WIDE: [Figures; 3] = [
-    [2051, 74 + 2, 1025],
-    [2566, 61 + 2, 514],
-    [11 * 512 + 2 * 8 + 1, 22 + 2, 512 + 2 + 1],
-];
-
-/// What stands before the first operand of that AND, and after the last.
-pub const BEFORE_WIDE: &str =
-    "PROGRAM W VAR_INPUT a : BOOL; END_VAR VAR_OUTPUT o : BOOL; END_VAR o := a";
-
-pub const AFTER_WIDE: &str = "; END_PROGRAM";
 
 #[test]
-fn codes_and_figures(rt: HostRuntime) -> Result<(), Fail> {
+fn codes(rt: HostRuntime) -> Result<(), Fail> {
     for (text, code) in CODES {
-        let app = application(rt.alloc(), text)?;
-        assert!(rt; is_code(rt.alloc(), &app, code)?, "{text}");
+        let is_code = is_code(rt.alloc(), text, code)?;
+        assert!(rt; is_code, "{text}");
     }
-    let wide = repeated(rt.alloc(), BEFORE_WIDE, " AND a", 511, AFTER_WIDE)?;
-    assert!(rt; has_figures(rt.alloc(), MOTOR, &OF_MOTOR)?, "M");
-    assert!(rt; has_figures(rt.alloc(), DEEP, &OF_DEEP)?, "D");
-    assert!(rt; has_figures(rt.alloc(), wide.as_str(), &OF_WIDE)?, "W");
     Ok(())
 }

@@ -5,35 +5,13 @@ ghost use Rattle.ps_model.specs.Network.{instance_count};
 ghost use Rattle.ps_scan.specs.Cells.{IsFor};
 
 use crate::application::{application, repeated};
-use crate::codes::{AFTER_WIDE, BEFORE_WIDE};
+use crate::fixtures::{bits_of, shows};
 use crate::worked::TABLES;
 use ps_base::Memory;
-use ps_model::{App, Bits, Diags, Report};
+use ps_model::{App, Report};
 use ps_scan::Scanner;
 use std::alloc::Global;
 use std::test::Fail;
-
-// The bits of digits: TRUE for 1, and FALSE for all else.
-fn bits_of(alloc: Global, digits: &str) -> Result<Bits, Memory> {
-    let mut bits = Bits::new(alloc);
-    for digit in digits.as_bytes() {
-        bits.push(*digit == b'1')?;
-    }
-    Ok(bits)
-}
-
-// Whether the instances are in these states, in hexadecimal with a space between.
-fn shows_codes(diags: &Diags, codes: &str) -> bool {
-    let mut count: usize = 0;
-    for word in codes.split_whitespace() {
-        let code = u16::from_str_radix(word, 16).ok();
-        if count >= diags.len() || code != Some(diags.at(count).code) {
-            return false;
-        }
-        count = count.saturating_add(1);
-    }
-    count == diags.len()
-}
 
 // The time of a row in ms, its inputs and its outputs, a digit each, and its codes, with a space between each of them.
 fn parts(row: &str) -> Option<(u32, &str, &str, &str)> {
@@ -62,12 +40,11 @@ fn row_met(
         return Ok(false);
     };
     let ins = bits_of(alloc, ins)?;
-    let outs = bits_of(alloc, outs)?;
     if ins.len() != app.input_count() as usize {
         return Ok(false);
     }
     scanner.scan(app, now, ins.as_slice(), report);
-    Ok(report.outs.as_slice() == outs.as_slice() && shows_codes(&report.diags, codes))
+    Ok(shows(report, outs, codes))
 }
 
 // Whether an application meets all rows of a table, one after the other from the start.
@@ -88,15 +65,20 @@ fn met(alloc: Global, text: &str, rows: &str) -> Result<bool, Fail> {
     Ok(rows_met(alloc, &app, rows)?)
 }
 
+// What stands before the first operand of an AND of 512 operands, and after the last.
+const BEFORE_WIDE: &str =
+    "PROGRAM W VAR_INPUT a : BOOL; END_VAR VAR_OUTPUT o : BOOL; END_VAR o := a";
+
+const AFTER_WIDE: &str = "; END_PROGRAM";
+
 #[test]
 fn evaluator(rt: HostRuntime) -> Result<(), Fail> {
     for (name, text, rows) in TABLES {
-        assert!(rt; met(rt.alloc(), text, rows)?, "{name}");
+        let is_met = met(rt.alloc(), text, rows)?;
+        assert!(rt; is_met, "{name}");
     }
     let wide = repeated(rt.alloc(), BEFORE_WIDE, " AND a", 511, AFTER_WIDE)?;
-    assert!(rt;
-        met(rt.alloc(), wide.as_str(), "0 0 0\n10 1 1\n")?,
-        "512 operands"
-    );
+    let is_met = met(rt.alloc(), wide.as_str(), "0 0 0\n10 1 1\n")?;
+    assert!(rt; is_met, "512 operands");
     Ok(())
 }

@@ -1,16 +1,11 @@
-// Channels of one instance of a kind, and scans and reports. M has three inputs, one output and one SF_EmergencyStop, so
-// seven signals.
+// Channels of one instance of a kind, their codes, and values of scans. M has three inputs, one output and one
+// SF_EmergencyStop, so seven signals.
 
 ghost use Rattle.std.specs.Prelude.{◌≡◌, ◌+◌, ◌<◌, ◌^◌, IfOk, length};
 
 use ps_base::Memory;
-use ps_decision::DecisionChannel;
-use ps_eqvm::EquationChannel;
 use ps_machine::{CodeImage, ScanMachine};
-use ps_model::{
-    Bits, Diags, FirstPins, Kind, Kinds, Progress, Region, Report, Scan, Sizes, output_count,
-};
-use ps_stackvm::StackChannel;
+use ps_model::{Bits, FirstPins, Kind, Kinds, Progress, Region, Report, Sizes, output_count};
 use std::alloc::Global;
 
 /// What `number_of` says of a scan that runs, and of one that is done.
@@ -27,51 +22,10 @@ pub fn number_of(progress: Progress) -> u8 {
     }
 }
 
-/// A channel whose bytes can be replaced.
-pub trait Struck: ScanMachine {
-    /// The byte of the cells that stands for a plain one.
-    fn stored(plain: u8) -> u8;
-
-    /// Replaces bytes. Whether they lie in the region.
-    fn replace(&mut self, region: Region, at: u32, bytes: &[u8]) -> bool;
-}
-
-impl Struck for StackChannel {
-    fn stored(plain: u8) -> u8 {
-        plain
-    }
-
-    fn replace(&mut self, region: Region, at: u32, bytes: &[u8]) -> bool {
-        self.spoil(region, at, bytes).is_ok()
-    }
-}
-
-impl Struck for EquationChannel {
-    fn stored(plain: u8) -> u8 {
-        255 - plain
-    }
-
-    fn replace(&mut self, region: Region, at: u32, bytes: &[u8]) -> bool {
-        self.spoil(region, at, bytes).is_ok()
-    }
-}
-
-impl Struck for DecisionChannel {
-    fn stored(plain: u8) -> u8 {
-        plain
-    }
-
-    fn replace(&mut self, region: Region, at: u32, bytes: &[u8]) -> bool {
-        self.spoil(region, at, bytes).is_ok()
-    }
-}
-
 /// The sizes of one instance of a kind, whose outputs stand after so many inputs and outputs.
 pub fn sizes(alloc: Global, kind: Kind, inputs: u16, outputs: u8) -> Result<Sizes, Memory>
     requires { inputs < 2 ^ 15 }
-    ensures inputs { IfOk result (λ s. s.inputs ≡ inputs) }
-    ensures outputs { IfOk result (λ s. s.outputs ≡ outputs) }
-    ensures instances { IfOk result (λ s. s.instances ≡ 1) }
+    ensures { IfOk result (λ s. s.inputs ≡ inputs) }
 {
     let first = inputs + u16::from(outputs);
     let mut first_pins = FirstPins::new(alloc);
@@ -91,40 +45,56 @@ pub fn sizes(alloc: Global, kind: Kind, inputs: u16, outputs: u8) -> Result<Size
 /// These bytes as an image.
 pub fn image(alloc: Global, code: &[u8]) -> Result<CodeImage, Memory>
     requires { length code.now < 2 ^ 32 }
-    ensures { IfOk result (λ image. image ≡ code.now) }
 {
     let mut image = CodeImage::new(alloc);
     image.extend_from_slice(code)?;
     Ok(image)
 }
 
-/// A scan with these inputs.
-pub fn scan(alloc: Global, now: u32, inputs: &[bool]) -> Result<Scan, Memory>
-    ensures { IfOk result (λ s. length s.ins ≡ length inputs.now) }
-{
-    let mut ins = Bits::new(alloc);
-    for input in inputs {
-        ins.push(*input)?;
+/// The bits of digits: TRUE for 1, and FALSE for all else.
+pub fn bits_of(alloc: Global, digits: &str) -> Result<Bits, Memory> {
+    let mut bits = Bits::new(alloc);
+    for digit in digits.as_bytes() {
+        bits.push(*digit == b'1')?;
     }
-    Ok(Scan { now, ins })
+    Ok(bits)
 }
 
-/// A report of M's sizes.
-pub fn report(alloc: Global) -> Result<Report, Memory>
-    ensures outs { IfOk result (λ r. length r.outs ≡ 1) }
-    ensures diags { IfOk result (λ r. length r.diags ≡ 1) }
-{
-    let outs = Bits::all_false(alloc, 1)?;
-    let diags = Diags::all_idle(alloc, 1)?;
-    Ok(Report { outs, diags })
+/// Whether a report has these outputs, a digit each, and instances in these states, in hexadecimal with a space between.
+pub fn shows(report: &Report, outs: &str, codes: &str) -> bool {
+    let mut is_so = report.outs.len() == outs.len();
+    for (output, digit) in report.outs.as_slice().iter().zip(outs.as_bytes()) {
+        is_so = is_so && *output == (*digit == b'1');
+    }
+    let mut count: usize = 0;
+    for word in codes.split_whitespace() {
+        let code = u16::from_str_radix(word, 16).ok();
+        is_so = is_so && count < report.diags.len() && code == Some(report.diags.at(count).code);
+        count = count.saturating_add(1);
+    }
+    is_so && count == report.diags.len()
 }
 
-/// Whether so many bytes from a place on lie in a region of a channel or not, as told. There are at most 34 of them.
-pub fn is_end<M: Struck>(channel: &mut M, end: &End) -> bool {
-    let (region, at, count, inside) = *end;
-    let bytes = [0xF5; 34];
-    count <= bytes.len() && channel.replace(region, at, &bytes[..count]) == inside
-}
+// Places around the end of a region, from its length on: how far above it the first byte stands, how far below it, how
+// many bytes are replaced, and whether they lie in the region.
+const ENDS: [(u32, u32, usize, bool); 7] = [
+    (0, 0, 0, true),
+    (0, 0, 1, false),
+    (0, 1, 1, true),
+    (0, 1, 2, false),
+    (1, 0, 0, false),
+    (u32::MAX, 0, 0, false),
+    (u32::MAX, 0, 1, false),
+];
 
-/// A region, the place of a spoil, how many bytes it has, and whether they lie in the region.
-pub type End = (Region, u32, usize, bool);
+/// Whether a region of a channel has this length, and bytes can be replaced up to its end and not past it.
+pub fn ends_at<M: ScanMachine>(channel: &mut M, region: Region, length: u32) -> bool {
+    let bytes = [0xF5; 2];
+    let mut is_so = channel.region_len(region) == length;
+    for (above, below, count, inside) in ENDS {
+        let at = length.saturating_add(above).saturating_sub(below);
+        let is_done = count <= bytes.len() && channel.spoil(region, at, &bytes[..count]).is_ok();
+        is_so = is_so && is_done == inside;
+    }
+    is_so
+}

@@ -36,14 +36,14 @@ const FIELDS: [(u16, u16); 4] = [(0, 0), (1, 1), (2, 0), (3, 0x8004)];
 fn is_after(world: &mut World) -> bool {
     let mut is_so = !world.is_tripped() && !world.scan_begun();
     for (field, value) in FIELDS {
-        let a = world.field_value(Channel::A, field);
-        let b = world.field_value(Channel::B, field);
-        is_so = is_so && a == Some(value) && b == Some(value);
+        let a = world.field_value(Channel::A, field).unwrap_or(0xFFFF);
+        let b = world.field_value(Channel::B, field).unwrap_or(0xFFFF);
+        is_so = is_so && a == value && b == value;
     }
     is_so
 }
 
-// Whether a run of M ends well, takes this many bytes of output, and leaves that world.
+// Whether a run of M ends well, and leaves that world.
 fn is_left(alloc: Global) -> Result<bool, Memory> {
     let mut files = MemFiles::new(alloc);
     files.put("A", MOTOR.as_bytes())?;
@@ -52,14 +52,16 @@ fn is_left(alloc: Global) -> Result<bool, Memory> {
     let words = words_of(alloc, "run A T")?;
     let mut left = Left::new();
     let status = top(alloc, &words, &mut files, &mut out, &mut left);
-    match &mut left.world {
-        Some(world) => Ok(matches!(status, Status::Done) && is_after(world)),
-        None => Ok(false),
-    }
+    let is_done = matches!(status, Status::Done);
+    Ok(match &mut left.world {
+        Some(world) => is_done && is_after(world),
+        None => false,
+    })
 }
 
 #[test]
 fn world_that_is_left(rt: HostRuntime) -> Result<(), Fail> {
-    assert!(rt; is_left(rt.alloc())?);
+    let is_left = is_left(rt.alloc())?;
+    assert!(rt; is_left);
     Ok(())
 }

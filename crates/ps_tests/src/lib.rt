@@ -3,12 +3,12 @@
 //! program shows is tested by `tests/calls/`.
 //!
 //! - `application`: from a text to its accepted application, and texts that several tests take. `fixtures`: channels of
-//!   one instance, scans and reports.
+//!   one instance, and values of scans.
 //! - `machines`: turns of each channel over given bytes, by the rows of `turns_a`, `turns_b` and `turns_c`. `channel_a`,
-//!   `channel_b`: scans, regions and spoiled bytes. `codes`: the codes of channel C, and the figures of all three.
+//!   `channel_b`: scans, regions and spoiled bytes. `codes`: the codes of channel C.
 //! - `evaluator`: the plain evaluator over the tables of `worked`. `rows`: channel B's rows.
-//! - `events`: single events of a world of two channels, by `scripts`, over the world of a `stage`; and with `watched` a
-//!   run with the plain evaluator beside the world, and alone. `left`: the world that a call of the program leaves.
+//! - `world`: scans of a world of two channels in several orders of turns. `left`: the world that a call of the program
+//!   leaves.
 //! - `sources`, `readers`, `outside`: tokens and sources, texts that are read in pieces, files and outputs.
 #![tactic(auto)]
 
@@ -23,8 +23,6 @@ mod codes;
 #[cfg(test)]
 mod evaluator;
 #[cfg(test)]
-mod events;
-#[cfg(test)]
 mod fixtures;
 #[cfg(test)]
 mod left;
@@ -37,11 +35,7 @@ mod readers;
 #[cfg(test)]
 mod rows;
 #[cfg(test)]
-mod scripts;
-#[cfg(test)]
 mod sources;
-#[cfg(test)]
-mod stage;
 #[cfg(test)]
 mod turns_a;
 #[cfg(test)]
@@ -49,6 +43,6 @@ mod turns_b;
 #[cfg(test)]
 mod turns_c;
 #[cfg(test)]
-mod watched;
-#[cfg(test)]
 mod worked;
+#[cfg(test)]
+mod world;

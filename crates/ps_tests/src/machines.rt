@@ -4,11 +4,11 @@
 // cells, whose plain bytes are 0 elsewhere, as PLACE=BYTE; and after ` => ` what comes of the turns: `runs`, `done`, or
 // `trap` and its number.
 
-use crate::fixtures::{DONE, RUNS, Struck, number_of, sizes};
+use crate::fixtures::{DONE, RUNS, number_of, sizes};
 use crate::{turns_a, turns_b, turns_c};
 use ps_decision::DecisionChannel;
 use ps_eqvm::EquationChannel;
-use ps_machine::CodeImage;
+use ps_machine::{CodeImage, ScanMachine};
 use ps_model::{Kind, Region, Sizes};
 use ps_stackvm::StackChannel;
 use std::alloc::Global;
@@ -27,24 +27,14 @@ fn code_of(alloc: Global, words: &str) -> Option<CodeImage> {
     Some(code)
 }
 
-// A place of the cells and a byte in hexadecimal, with `=` between.
-fn place_of(word: &str) -> Option<(u32, u8)> {
-    let (at, byte) = word.split_once('=')?;
-    Some((at.parse().ok()?, u8::from_str_radix(byte, 16).ok()?))
-}
-
-// Gives plain bytes to places of the cells, with a space between each of them. Whether all of them are places.
-fn put<M: Struck>(machine: &mut M, places: &str) -> bool {
-    for word in places.split_whitespace() {
-        let is_put = match place_of(word) {
-            Some((at, plain)) => machine.replace(Region::Cells, at, &[M::stored(plain)]),
-            None => false,
-        };
-        if !is_put {
-            return false;
-        }
+// Gives a byte to a place of the cells: both stand in a word, and the byte is stored by `stored`, which is 255 where a
+// channel stores 255 less each. Whether the word is such a word, and the place lies in the cells.
+fn is_put<M: ScanMachine>(machine: &mut M, stored: u8, word: &str) -> bool {
+    let (at, byte) = word.split_once('=').unwrap_or((word, ""));
+    match (u32::from_str_radix(at, 10), u8::from_str_radix(byte, 16)) {
+        (Ok(at), Ok(plain)) => machine.spoil(Region::Cells, at, &[plain ^ stored]).is_ok(),
+        _ => false,
     }
-    true
 }
 
 // What a word says of a scan, as a number.
@@ -57,37 +47,39 @@ fn number_named(word: &str) -> Option<u8> {
 }
 
 // What comes of so many turns of a code over cells in which these places have these plain bytes. None: these are none.
-fn after<M: Struck>(
+fn after<M: ScanMachine>(
     alloc: Global,
     sizes: &Sizes,
+    stored: u8,
     turns: u32,
-    code: &str,
-    places: &str,
+    before: &str,
 ) -> Option<u8> {
+    let (code, places) = before.split_once(" | ").unwrap_or((before, ""));
     let code = code_of(alloc, code)?;
     let mut machine = M::new(alloc, &code, sizes).ok()?;
-    if !put(&mut machine, places) {
-        return None;
+    let mut are_put = true;
+    for word in places.split_whitespace() {
+        are_put = is_put(&mut machine, stored, word) && are_put;
     }
     machine.turns(turns);
-    Some(number_of(machine.progress()))
-}
-
-// Whether a row of a table is met in so many turns.
-fn is_met<M: Struck>(alloc: Global, sizes: &Sizes, turns: u32, row: &str) -> bool {
-    let Some((before, word)) = row.split_once(" => ") else {
-        return false;
-    };
-    let (code, places) = before.split_once(" | ").unwrap_or((before, ""));
-    let found = after::<M>(alloc, sizes, turns, code, places);
-    found.is_some() && found == number_named(word)
+    let number = number_of(machine.progress());
+    if are_put { Some(number) } else { None }
 }
 
 // Asserts that each row of some tables is met in so many turns.
-fn hold<M: Struck>(rt: &impl Abort, alloc: Global, sizes: &Sizes, turns: u32, tables: &[&str]) {
+fn hold<M: ScanMachine>(
+    rt: &impl Abort,
+    alloc: Global,
+    sizes: &Sizes,
+    stored: u8,
+    turns: u32,
+    tables: &[&str],
+) {
     for table in tables {
         for row in table.lines() {
-            assert!(rt; is_met::<M>(alloc, sizes, turns, row), "{row}");
+            let (before, word) = row.split_once(" => ").unwrap_or((row, ""));
+            let found = after::<M>(alloc, sizes, stored, turns, before);
+            assert!(rt; found.is_some() && found == number_named(word), "{row}");
         }
     }
 }
@@ -104,13 +96,13 @@ f1 0f a0 ff ff => trap 5
 #[test]
 fn turns(rt: HostRuntime) -> Result<(), Fail> {
     let stop = sizes(rt.alloc(), Kind::EmergencyStop, 3, 1)?;
-    hold::<StackChannel>(&rt, rt.alloc(), &stop, 1, turns_a::TABLES);
-    hold::<EquationChannel>(&rt, rt.alloc(), &stop, 1, turns_b::TABLES);
-    hold::<DecisionChannel>(&rt, rt.alloc(), &stop, 1, turns_c::TABLES);
-    hold::<DecisionChannel>(&rt, rt.alloc(), &stop, 2, turns_c::TWICE);
+    hold::<StackChannel>(&rt, rt.alloc(), &stop, 0, 1, turns_a::TABLES);
+    hold::<EquationChannel>(&rt, rt.alloc(), &stop, 255, 1, turns_b::TABLES);
+    hold::<DecisionChannel>(&rt, rt.alloc(), &stop, 0, 1, turns_c::TABLES);
+    hold::<DecisionChannel>(&rt, rt.alloc(), &stop, 0, 2, turns_c::TWICE);
     let modes = sizes(rt.alloc(), Kind::ModeSelector, 4, 1)?;
-    hold::<DecisionChannel>(&rt, rt.alloc(), &modes, 1, turns_c::MODES);
+    hold::<DecisionChannel>(&rt, rt.alloc(), &modes, 0, 1, turns_c::MODES);
     let many = sizes(rt.alloc(), Kind::EmergencyStop, 3998, 0)?;
-    hold::<EquationChannel>(&rt, rt.alloc(), &many, 1, LAST_SIGNALS);
+    hold::<EquationChannel>(&rt, rt.alloc(), &many, 255, 1, LAST_SIGNALS);
     Ok(())
 }

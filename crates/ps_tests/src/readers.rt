@@ -24,83 +24,28 @@ fn files_of(alloc: Global, text: &str, most: u32, failing: u32) -> Result<MemFil
     Ok(files)
 }
 
-// What a read of a line comes to.
-#[derive(Clone, Copy)]
-enum Read {
-    Line,
-    LastLine,
-    TooLong,
-    TooLarge,
-    End,
-    Fault,
-}
-
-// Whether a read of a line came to that.
-fn is_read(got: Result<Got, Failed>, read: Read) -> bool {
-    match (got, read) {
-        (Ok(Got::Line), Read::Line) => true,
-        (Ok(Got::LastLine), Read::LastLine) => true,
-        (Ok(Got::TooLong), Read::TooLong) => true,
-        (Ok(Got::TooLarge), Read::TooLarge) => true,
-        (Ok(Got::End), Read::End) => true,
-        (Err(Failed), Read::Fault) => true,
-        _ => false,
+// What a read of a line comes to, as a word.
+fn word_of(got: Result<Got, Failed>) -> &'static str {
+    match got {
+        Ok(Got::Line) => "line",
+        Ok(Got::LastLine) => "last",
+        Ok(Got::TooLong) => "long",
+        Ok(Got::TooLarge) => "large",
+        Ok(Got::End) => "end",
+        Err(Failed) => "fault",
     }
 }
 
 // A text, the most bytes of a piece, the read that fails, and what each read of a line comes to, with the line that is
-// there then. A line has at most 4 bytes, and a text 12.
-static LINES: &[(&str, u32, u32, &[(Read, &str)])] = &[
-    ("", 0, 0, &[(Read::End, "")]),
-    (
-        "a\r\n\nb\r",
-        0,
-        0,
-        &[
-            (Read::Line, "a"),
-            (Read::Line, ""),
-            (Read::LastLine, "b\r"),
-            (Read::End, "b\r"),
-        ],
-    ),
-    (
-        "abcd\nabc\r\n",
-        0,
-        0,
-        &[
-            (Read::Line, "abcd"),
-            (Read::Line, "abc"),
-            (Read::End, "abc"),
-        ],
-    ),
-    (
-        "abcd\r\n12345\n",
-        0,
-        0,
-        &[(Read::TooLong, ""), (Read::TooLong, ""), (Read::End, "")],
-    ),
-    (
-        "abcd\nabcd\nab\na",
-        0,
-        0,
-        &[
-            (Read::Line, "abcd"),
-            (Read::Line, "abcd"),
-            (Read::TooLarge, "abcd"),
-        ],
-    ),
-    // After a read that fails the next call goes on with the same line.
-    (
-        "ab\ncd",
-        4,
-        2,
-        &[
-            (Read::Line, "ab"),
-            (Read::Fault, "ab"),
-            (Read::LastLine, "cd"),
-            (Read::End, "cd"),
-        ],
-    ),
+// there then and a semicolon after it. A line has at most 4 bytes, and a text 12. After a read that fails the next call
+// goes on with the same line.
+static LINES: &[(&str, u32, u32, &str)] = &[
+    ("", 0, 0, "end "),
+    ("a\r\n\nb\r", 0, 0, "line a;line ;last b\r;end b\r"),
+    ("abcd\nabc\r\n", 0, 0, "line abcd;line abc;end abc"),
+    ("abcd\r\n12345\n", 0, 0, "long ;long ;end "),
+    ("abcd\nabcd\nab\na", 0, 0, "line abcd;line abcd;large abcd"),
+    ("ab\ncd", 4, 2, "line ab;fault ab;last cd;end cd"),
 ];
 
 // Whether the reads of a text come to that.
@@ -109,7 +54,7 @@ fn are_read(
     text: &str,
     most: u32,
     failing: u32,
-    reads: &[(Read, &str)],
+    reads: &str,
 ) -> Result<bool, Memory> {
     let limits = Limits {
         longest: 4,
@@ -117,13 +62,13 @@ fn are_read(
     };
     let mut files = files_of(alloc, text, most, failing)?;
     let mut reader = LineReader::start(alloc, "T", limits)?;
-    for (read, line) in reads {
-        let got = reader.next_line(&mut files);
-        if !is_read(got, *read) || reader.line() != line.as_bytes() {
-            return Ok(false);
-        }
+    let mut is_so = true;
+    for read in reads.split(';') {
+        let (word, line) = read.split_once(' ').unwrap_or((read, ""));
+        let is_word = word_of(reader.next_line(&mut files)) == word;
+        is_so = is_so && is_word && reader.line() == line.as_bytes();
     }
-    Ok(true)
+    Ok(is_so)
 }
 
 // What comes after the scans of a trace.
@@ -226,42 +171,37 @@ const SIZES: ImageSizes = ImageSizes {
     b_cells: 4_294_967_295,
 };
 
-// Fault files: a text, and how many faults it has. None: the rule F3 refuses its first line.
-static FAULTS: &[(&str, Option<usize>)] = &[
-    (" before\t2 turn 3 B code 0 fFA0 \r\n#\n\n \t\n", Some(1)),
-    ("before 4294967295 turn 4294967295 A memory 96 00", Some(1)),
+// Fault files: a text, and how many faults it has; 0 where the rule F3 refuses its first line.
+static FAULTS: &[(&str, usize)] = &[
+    (" before\t2 turn 3 B code 0 fFA0 \r\n#\n\n \t\n", 1),
+    ("before 4294967295 turn 4294967295 A memory 96 00", 1),
     (
         "before 1 B memory 4294967294 00\nbefore 1 B memory 0 0001",
-        Some(2),
+        2,
     ),
-    ("before 1 B memory 4294967295 00", None),
-    ("before 1 B memory 4294967294 0000", None),
-    ("before 1 A memory 97 00", None),
-    ("before 1 A memory 96 0000", None),
-    ("before 1 A code 40 00", None),
+    ("before 1 B memory 4294967295 00", 0),
+    ("before 1 B memory 4294967294 0000", 0),
+    ("before 1 A memory 97 00", 0),
+    ("before 1 A memory 96 0000", 0),
+    ("before 1 A code 40 00", 0),
 ];
 
-// Whether a fault file has so many faults, or is refused, read in pieces of at most so many bytes.
-fn are_faults(alloc: Global, text: &str, most: u32, wanted: Option<usize>) -> Result<bool, Memory> {
+// How many faults a fault file has that is read in pieces of at most so many bytes; 0 where it is refused so.
+fn faults_in(alloc: Global, text: &str, most: u32) -> Result<usize, TraceFail> {
     let mut files = files_of(alloc, text, most, 0)?;
-    Ok(
-        match (read_faults(alloc, &mut files, "T", &SIZES), wanted) {
-            (Ok(faults), Some(count)) => faults.len() == count,
-            (Err(TraceFail::Refused(refusal)), None) => {
-                matches!(refusal.rule, Rule::F3) && refusal.place.line == 1
-            }
-            _ => false,
-        },
-    )
+    match read_faults(alloc, &mut files, "T", &SIZES) {
+        Ok(faults) => Ok(faults.len()),
+        Err(TraceFail::Refused(refusal))
+            if matches!(refusal.rule, Rule::F3) && refusal.place.line == 1 => { Ok(0) }
+        Err(fail) => Err(fail),
+    }
 }
 
 #[test]
 fn readers(rt: HostRuntime) -> Result<(), Fail> {
     for (text, most, failing, reads) in LINES {
-        assert!(rt;
-            are_read(rt.alloc(), text, *most, *failing, reads)?,
-            "{text:?}"
-        );
+        let are_read = are_read(rt.alloc(), text, *most, *failing, reads)?;
+        assert!(rt; are_read, "{text:?}");
     }
     let app = application(rt.alloc(), MOTOR)?;
     for (part, times, end, most, failing, wanted) in TRACES {
@@ -271,10 +211,8 @@ fn readers(rt: HostRuntime) -> Result<(), Fail> {
     }
     for (text, wanted) in FAULTS {
         for most in [0, 1, 3] {
-            assert!(rt;
-                are_faults(rt.alloc(), text, most, *wanted)?,
-                "{text:?} by {most}"
-            );
+            let count = faults_in(rt.alloc(), text, most)?;
+            assert!(rt; count == *wanted, "{text:?} by {most}");
         }
     }
     Ok(())

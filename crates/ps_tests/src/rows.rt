@@ -1,16 +1,38 @@
 // Channel B's rows and their places, and a step by rows of what may be nothing that the kind keeps.
 
-use ps_model::Kind;
+use ps_model::{Kind, kind_numbered};
 use ps_rows::{CountedBlock, MaskRow, RowRange, next_of, row, row_count, state_rows};
 
-// The DiagCode after a step with Activate alone, and None where the step is refused.
-fn code_after(
-    kind: Kind,
-    code: u16,
-    last_reset: bool,
-    last_auxiliary: bool,
-    mode: u8,
-) -> Option<u16> {
+// What `code_after` gives where the step is refused.
+const NONE: u16 = 0xFFFF;
+
+// Each row is the number of a kind, a DiagCode, the last Reset, the last auxiliary input, the mode, and what is wanted. They
+// ask first of states, then of last inputs, and then of modes. The kinds are 1 SF_Equivalent, 3 SF_EmergencyStop,
+// 4 SF_ESPE, 5 SF_ModeSelector, 6 SF_TwoHandControlTypeII, 12 SF_OutControl and 13 SF_EDM.
+const STEPS: [(u8, u16, bool, bool, u8, u16); 19] = [
+    (3, 0x8001, false, false, 0, 0x8002),
+    (3, 0x8006, false, false, 0, NONE),
+    (4, 0x0000, false, false, 0, 0x8001),
+    (4, 0x0001, false, false, 0, NONE),
+    (13, 0xC091, true, false, 0, 0xC090),
+    (13, 0xC092, true, false, 0, NONE),
+    (3, 0xC001, true, false, 0, 0x8002),
+    (3, 0xC001, true, true, 0, NONE),
+    (1, 0xC001, false, false, 0, 0x8001),
+    (1, 0xC001, true, false, 0, NONE),
+    (6, 0xC001, false, true, 0, NONE),
+    (12, 0xC010, true, true, 0, 0x8002),
+    (5, 0x8000, true, true, 7, 0x8005),
+    (5, 0x8000, true, true, 8, NONE),
+    (5, 0x8004, true, true, 7, 0x8004),
+    (5, 0x8004, true, true, 255, NONE),
+    (5, 0x8005, false, false, 0, 0xC002),
+    (5, 0x8005, false, false, 1, NONE),
+    (12, 0x8000, false, false, 1, NONE),
+];
+
+// The DiagCode after a step of a kind with Activate alone.
+fn code_after(number: u8, code: u16, last_reset: bool, last_auxiliary: bool, mode: u8) -> u16 {
     let block = CountedBlock {
         code,
         last_reset,
@@ -18,32 +40,14 @@ fn code_after(
         mode,
         remains: 0,
     };
-    Some(block.stepped_if_kept(kind, 1, 0, 0)?.code)
+    match kind_numbered(number) {
+        Some(kind) => match block.stepped_if_kept(kind, 1, 0, 0) {
+            Some(after) => after.code,
+            None => NONE,
+        },
+        None => 0,
+    }
 }
-
-// Each row is a kind, a DiagCode, the last Reset, the last auxiliary input, the mode, and what is wanted. They ask
-// first of states, then of last inputs, and then of modes.
-const STEPS: &[(Kind, u16, bool, bool, u8, Option<u16>)] = &[
-    (Kind::EmergencyStop, 0x8001, false, false, 0, Some(0x8002)),
-    (Kind::EmergencyStop, 0x8006, false, false, 0, None),
-    (Kind::Espe, 0x0000, false, false, 0, Some(0x8001)),
-    (Kind::Espe, 0x0001, false, false, 0, None),
-    (Kind::Edm, 0xC091, true, false, 0, Some(0xC090)),
-    (Kind::Edm, 0xC092, true, false, 0, None),
-    (Kind::EmergencyStop, 0xC001, true, false, 0, Some(0x8002)),
-    (Kind::EmergencyStop, 0xC001, true, true, 0, None),
-    (Kind::Equivalent, 0xC001, false, false, 0, Some(0x8001)),
-    (Kind::Equivalent, 0xC001, true, false, 0, None),
-    (Kind::TwoHandTwo, 0xC001, false, true, 0, None),
-    (Kind::OutControl, 0xC010, true, true, 0, Some(0x8002)),
-    (Kind::ModeSelector, 0x8000, true, true, 7, Some(0x8005)),
-    (Kind::ModeSelector, 0x8000, true, true, 8, None),
-    (Kind::ModeSelector, 0x8004, true, true, 7, Some(0x8004)),
-    (Kind::ModeSelector, 0x8004, true, true, 255, None),
-    (Kind::ModeSelector, 0x8005, false, false, 0, Some(0xC002)),
-    (Kind::ModeSelector, 0x8005, false, false, 1, None),
-    (Kind::OutControl, 0x8000, false, false, 1, None),
-];
 
 // Whether the fourth row of SF_Antivalent and the rows of two states of SF_Equivalent are these, of which the second is no
 // state of it.
@@ -71,9 +75,9 @@ fn are_rows() -> bool {
 
 #[test]
 fn rows(rt: HostRuntime) {
-    for (kind, code, last_reset, last_auxiliary, mode, wanted) in STEPS {
-        let after = code_after(*kind, *code, *last_reset, *last_auxiliary, *mode);
-        assert!(rt; after == *wanted, "in {code:x}, mode {mode}");
+    for (number, code, last_reset, last_auxiliary, mode, wanted) in STEPS {
+        let after = code_after(number, code, last_reset, last_auxiliary, mode);
+        assert!(rt; after == wanted, "in {code:x}, mode {mode}");
     }
     assert!(rt; row_count(Kind::Edm) == 89 && are_rows());
 }

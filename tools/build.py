@@ -9,12 +9,13 @@ build.py --programs                     writes for each program its crate and it
 build.py --fingerprints                 writes for each program its crate and the fingerprint of its sources
 build.py --take FINGERPRINTS            takes the programs that `rt ci` has built in this repository, where their sources have these
                                         fingerprints now: those that they had before `rt ci` began
+build.py --jobs                         writes how many proofs should run side by side here
 
 What `rt ci` leaves in crates/CRATE/out says nothing of the sources that it was made from, and anybody can write there. So it is taken
 by `--take` alone, from somebody who noted the fingerprints before the run, as .ci/run does.
 
 The crates that the program stands on are laid into a folder of their own, without tests and wrong bodies, and `rt ci` proves them
-there side by side, as many as there are processors and memory allows; what this machine has proved before of the same files it takes
+there side by side, as many as `--jobs` says (or RT_JOBS, if it is set); what this machine has proved before of the same files it takes
 as it is kept. On a terminal one line tells how far it is; elsewhere it is a plain line now and then. What `rt ci` says of a crate goes
 to built/CRATE/build.log. The program and its record stand in built/CRATE (`sources.py`). The status is 0 where the program is built,
 and 9 where it could not be.
@@ -39,6 +40,12 @@ from sources import BUILT, FOLDERS, NotComparable, Store, below, crates, fingerp
 ROOT = pathlib.Path(__file__).resolve().parent.parent
 PROGRAM = "ps_main"
 NOT_BUILT = 9
+MOST_MEMORY = 2_500_000_000  # bytes that the largest proof of a crate takes, and some to spare
+FREE_MEMORY = re.compile(r"^MemAvailable:\s+(\d+) kB", re.M)
+LIMITS = (  # of the control group: the file that has its limit, and the file and line that have what it holds
+    ("/sys/fs/cgroup/memory.max", "/sys/fs/cgroup/memory.stat", re.compile(r"^anon (\d+)$", re.M)),
+    ("/sys/fs/cgroup/memory/memory.limit_in_bytes", "/sys/fs/cgroup/memory/memory.stat", re.compile(r"^total_rss (\d+)$", re.M)),
+)
 STORED_RUN = ("args", "stdin", "stdout", "status", "data")  # what `rt ci` runs the program on, and what it has to write
 CRATE_ENDED = re.compile(r"^rt: (\w+) (proved|NOT PROVED|is kept)\b")
 FUNCTIONS = re.compile(r"^logic=proved functions=(\d+)")
@@ -53,6 +60,33 @@ def measured_costs(table=ROOT / "tools" / "costs.txt"):
             if len(words) == 3:
                 costs[words[0]] = (int(words[1]), float(words[2]))
     return costs
+
+
+def text_of(path):
+    """The text of a file, which is empty if there is none that can be read."""
+    try:
+        return pathlib.Path(path).read_text()
+    except OSError:
+        return ""
+
+
+def free_memory():
+    """The bytes of memory that are free, under the limit of the control group too, and 0 if the system does not say."""
+    found = FREE_MEMORY.search(text_of("/proc/meminfo"))
+    free = 1024 * int(found[1]) if found else 0
+    for limit, holder, line in LIMITS:
+        limit, held = text_of(limit).strip(), line.search(text_of(holder))
+        if limit.isdecimal() and held:
+            free = min(free, int(limit) - int(held[1]))
+    return free
+
+
+def jobs():
+    """How many proofs run side by side: one a processor, and no more than memory holds.
+
+    `rt ci` by itself reckons with up to eight times what a proof takes, and then leaves processors idle.
+    """
+    return max(1, min(len(os.sched_getaffinity(0)), free_memory() // MOST_MEMORY))
 
 
 def guessed_cost(name):
@@ -178,8 +212,8 @@ class Build:
 
     def run_in(self, stage):
         """Proves and builds all in this folder, and says what is wrong where it cannot. Whether that went well."""
-        run = subprocess.Popen(["rt", "ci"], cwd=stage, stdin=subprocess.DEVNULL, stdout=subprocess.PIPE,
-                               stderr=subprocess.STDOUT, text=True, errors="replace", process_group=0)
+        run = subprocess.Popen(["rt", "ci"], cwd=stage, stdin=subprocess.DEVNULL, stdout=subprocess.PIPE, stderr=subprocess.STDOUT,
+                               env={"RT_JOBS": str(jobs()), **os.environ}, text=True, errors="replace", process_group=0)
         reader = threading.Thread(target=self.read, args=(run.stdout,), daemon=True)
         reader.start()
         try:
@@ -274,6 +308,9 @@ def answer(flag, words):
     if flag == "--fingerprints" and not words:
         print(fingerprints(), end="")
         return 0
+    if flag == "--jobs" and not words:
+        print(jobs())
+        return 0
     if flag == "--take" and len(words) == 1:
         return 0 if take(words[0]) else 1
     crate = words[0] if words else PROGRAM
@@ -289,4 +326,4 @@ def main(words):
 
 
 if __name__ == "__main__":
-    plainly(main, "build.py [--check] [CRATE] | --programs | --fingerprints | --take FINGERPRINTS")
+    plainly(main, "build.py [--check] [CRATE] | --programs | --fingerprints | --take FINGERPRINTS | --jobs")

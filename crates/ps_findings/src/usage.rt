@@ -26,11 +26,12 @@ plcsafe runs safety applications in two channels, and writes what both agree on 
 APP, TRACE, FAULTS and CERT are names of files, and N is a number from 1 to 1000\n\
 ";
 
-/// What the version tells: the version, the kit that it is proved with, and the first words of the claim.
+/// The version, and where the record stands that says of a file whether, with which kit and of which sources it is
+/// proved.
 pub const VERSION: &str = "\
-plcsafe 0.9.0, proved with rattle-kit-13f\n\
-for every accepted application, valid trace and valid fault list of one channel, fault writes, scan by scan, the report that\n\
-the networks' equations have, until the first scan in which the two channels differ (docs/proofs.md)\n\
+plcsafe 0.9.0\n\
+its record has the SHA-256 of the program that was proved, the kit and the sources: share/doc/plcsafe/record where it is\n\
+installed, built/ps_main/record in the repository; what is proved is in docs/proofs.md\n\
 ";
 
 // The most bytes in a row in which a word with a slip differs from a command or option.

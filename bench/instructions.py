@@ -5,17 +5,17 @@ instructions.py program [FOLDER [PROGRAM]]   the program on the files of generat
                                              of them; a scan of the motor with its line, whole and function by function, by the difference
                                              of two and four thousand scans; `load 10`, and `run` over 20,000 scans. FOLDER is
                                              /tmp/plcsafe-bench, and PROGRAM the one that ./plcsafe builds, where they are left out
-instructions.py reader                       the reader of traces alone, for each line of three values
-instructions.py channels [SCANS]             channels A, B and C: of SCANS scans (100,000) of a motor behind an emergency stop the turns in
-                                             a scan, the instructions of a scan with its Begin and its report, and the same for each turn
+instructions.py channels [PROGRAM]           channels A, B and C in a vote of PROGRAM, or of the one that ./plcsafe builds, of the same motor:
+                                             the instructions of a scan's turns, by the difference of two and four thousand scans, and of
+                                             C also how many times those of A. B's have its outcome with them
 instructions.py stack [PROGRAM]              each turn of channel A in runs of PROGRAM, or of the one that ./plcsafe builds. First six scans
                                              of an application with one SF_EmergencyStop: a line is a scan, whose turns are CONST, LOAD, CONST,
                                              CONST, LOAD, CALL, LOAD, LOAD, AND, STORE and END. Then three CALLs of each kind, whose pins are
                                              inputs: from Idle on, in its first state, and with Activate FALSE
-instructions.py equation [PROGRAM]           each turn of channel B in the same six scans: BLOCK, SET, ALL, SET and LAST
+instructions.py equation [PROGRAM]           each turn of channel B in the same six scans, with what its seat counts: BLOCK, SET, ALL, SET and
+                                             LAST
 
-The reader and the channels are measured by the program crates/ps_measure. What `rt ci` left of it is taken as it is; where there is
-nothing, `rt run` proves and builds it first. Where a count is not to be had, the status is 1.
+Where a count is not to be had, the status is 1.
 """
 import os
 import pathlib
@@ -38,14 +38,11 @@ KINDS = ("SF_Equivalent", "SF_Antivalent", "SF_EmergencyStop", "SF_ESPE", "SF_Mo
          "SF_GuardMonitoring", "SF_GuardLocking", "SF_EnableSwitch", "SF_SafetyRequest", "SF_OutControl", "SF_EDM")
 
 
-def made(crate, ending, *words):
-    """What the kit makes of a crate; where it is not there, the kit proves and builds it."""
-    path = ROOT / "crates" / crate / "out" / (crate + ending)
-    if not path.is_file():
-        run = subprocess.run(["rt", *words], cwd=ROOT / "crates" / crate, stdin=subprocess.DEVNULL, stdout=sys.stderr)
-        if run.returncode or not path.is_file():
-            raise Stop(f"rt {' '.join(words)} in crates/{crate} made no {path.name}")
-    print(f"of {path.relative_to(ROOT)} as it is there", file=sys.stderr)
+def executable(program):
+    """The path of a program that can be started."""
+    path = pathlib.Path(program).resolve()
+    if not os.access(path, os.X_OK) or not path.is_file():
+        raise Stop(f"{path} is no program" + ("" if program != BUILT else ": run ./plcsafe once"))
     return path
 
 
@@ -100,37 +97,35 @@ def scans(program, folder):
 
 
 def of_program(folder=FOLDER, program=BUILT):
-    folder, program = pathlib.Path(folder).resolve(), pathlib.Path(program).resolve()
-    if not os.access(program, os.X_OK) or not program.is_file():
-        raise Stop(f"{program} is no program" + ("" if program != BUILT else ": run ./plcsafe once"))
+    folder, program = pathlib.Path(folder).resolve(), executable(program)
     if not (folder / "limits-half.st").is_file():
         generate.main(folder)
     sources(program, folder)
     scans(program, folder)
 
 
-# ---- the reader of traces, and the channels
+# ---- the channels
 
 
-def of_reader():
-    program, counts = made("ps_measure", "", "run"), []
+# What makes the turns of a scan in each channel: of A all of them; of B all of them, and its outcome; of C each turn, and the loop
+# over them is a part of the vote.
+TURNS = {"A": "ps_stackvm::turn::turns", "B": "ps_machine::seat::Seat::finish::*", "C": "ps_decision::turn::turn"}
+
+
+def of_channels(program=BUILT):
+    program, numbers, scan = executable(program), (2_000, 4_000), {}
     with tempfile.TemporaryDirectory(prefix="plcsafe-bench-") as folder:
-        for scans in (1_000, 11_000):
-            lines = [f"{10 * k} {k % 2} {k // 2 % 2} {k // 4 % 2}\n" for k in range(scans)]
-            (pathlib.Path(folder) / "T").write_text("time S_In Ack Run\n" + "".join(lines))
-            counts.append(counted(program, [], folder))
-    print(f"a line of a trace: {(counts[1] - counts[0]) // 10_000} instructions")
-
-
-def of_channels(scans="100000"):
-    if not scans.isdecimal() or not 0 < int(scans) < 1 << 32:
-        raise Stop(f"{scans} is no number of scans")
-    program = made("ps_measure", "", "run", "--", "1")
-    said = subprocess.run([program, scans], stdin=subprocess.DEVNULL, stdout=subprocess.PIPE, text=True, cwd="/").stdout
-    turns = {letter: int(count) for letter, count in re.findall(r"(?m)^([ABC]) scans \d+ turns (\d+)", said)}
-    for letter, function in (("A", "run_stack"), ("B", "run_equation"), ("C", "run_decision")):
-        count = counted(program, [scans], "/", within=f"ps_measure::channels::{function}")
-        print(f"{letter}: {turns[letter] // int(scans)} turns a scan, {count // int(scans)} instructions a scan, {count / turns[letter]:.1f} for each turn", flush=True)
+        files = {"A": generate.MOTOR, "F": "before 4294967295 A memory 0 00\n"}  # a fault that strikes none of the scans
+        for name, text in files.items():
+            (pathlib.Path(folder) / name).write_text(text)
+        for number in numbers:
+            generate.write_trace(f"{folder}/{number}", count=number)
+        for channel, function in TURNS.items():
+            less, more = (counted(program, ["vote", "A", str(number), "F"], folder, within=function) for number in numbers)
+            scan[channel] = (more - less) / (numbers[1] - numbers[0])
+    for channel, count in scan.items():
+        times = f", {count / scan['A']:.2f} times those of A" if channel == "C" else ""
+        print(f"{channel}: {count:.0f} instructions for the turns of a scan{times}", flush=True)
 
 
 # ---- turn by turn
@@ -138,23 +133,25 @@ def of_channels(scans="100000"):
 
 # Six scans of the motor: the stop is reset, and pressed.
 SIX = "time S_In Ack Run\n0 1 0 1\n10 1 0 1\n20 1 0 1\n30 1 1 1\n40 1 0 0\n50 0 0 1\n"
-STACK, EQUATION = "ps_stackvm::turn::turns", "ps_eqvm::channel::EquationChannel::turn"
+# What makes a turn alone: of a function of types callgrind writes these after its name.
+STACK, EQUATION = "ps_stackvm::turn::turns", "ps_machine::seat::Seat::turn::<"
 
 
 def turns_of(program, function, app, trace, count):
-    """The instructions of each call of a function in a run, which is made turn by turn, since a fault waits behind the turns of each scan.
-    callgrind writes a file for each call, and a last one for what is behind them."""
-    program = pathlib.Path(program).resolve()
-    if not program.is_file() or not os.access(program, os.X_OK):
-        raise Stop(f"{program} is no program" + ("" if program != BUILT else ": run ./plcsafe once"))
+    """The instructions of each call of a function, whose name begins so, in a run, which is made turn by turn, since a fault waits behind the
+    turns of each scan. callgrind writes a file for each call, and a last one for what is behind them."""
+    program = executable(program)
     with tempfile.TemporaryDirectory(prefix="plcsafe-bench-") as folder:
         scans = trace.count("\n") - 1
         texts = {"A": app, "T": trace, "F": "".join(f"before {scan} turn 1000 A memory 0 00\n" for scan in range(1, scans + 1))}
         for name, text in texts.items():
             (pathlib.Path(folder) / name).write_text(text)
         words = ["fault", "A", "T", "F"]
-        counted(program, words, folder, within=function, out=f"{folder}/whole")
-        command = ["valgrind", "--quiet", "--tool=callgrind", f"--callgrind-out-file={folder}/turn", f"--toggle-collect={function}", f"--dump-after={function}"]
+        counted(program, words, folder, out=f"{folder}/whole")
+        found = [name for name in of_functions(f"{folder}/whole") if name.startswith(function)]
+        if len(found) != 1:
+            raise Stop(f"{program.name} calls {len(found)} functions whose name begins with {function}")
+        command = ["valgrind", "--quiet", "--tool=callgrind", f"--callgrind-out-file={folder}/turn", f"--toggle-collect={found[0]}", f"--dump-after={found[0]}"]
         subprocess.run([*command, program, *words], cwd=folder, stdin=subprocess.DEVNULL, stdout=subprocess.DEVNULL, stderr=subprocess.DEVNULL, check=True)
         files = [pathlib.Path(folder) / f"turn.{number}" for number in range(1, count + 1)]
         if not all(file.is_file() for file in files):
@@ -185,7 +182,7 @@ def of_equation(program=BUILT):
     in_lines(turns_of(program, EQUATION, sections()[1]["motor", "MOTOR"], SIX, 30), 5)
 
 
-WHAT = {"program": (of_program, 2), "reader": (of_reader, 0), "channels": (of_channels, 1), "stack": (of_stack, 1), "equation": (of_equation, 1)}
+WHAT = {"program": (of_program, 2), "channels": (of_channels, 1), "stack": (of_stack, 1), "equation": (of_equation, 1)}
 
 
 def main(words):
@@ -199,4 +196,4 @@ def main(words):
 
 
 if __name__ == "__main__":
-    plainly(main, "bench/instructions.py program [FOLDER [PROGRAM]] | reader | channels [SCANS] | stack [PROGRAM] | equation [PROGRAM]")
+    plainly(main, "bench/instructions.py program [FOLDER [PROGRAM]] | channels [PROGRAM] | stack [PROGRAM] | equation [PROGRAM]")

@@ -55,7 +55,7 @@ CANNOT = {
                       ["--from", "RECORDS/RECORD.json"], ["--kept", "--from", "EMPTY"]],
     "bench/generate.py": [[], MANY, ["EMPTY"], ["EMPTY/below"]],
     "bench/hostile.py": [MANY, ["GONE"], ["FOLDER"], ["BYTES", "a"]],
-    "bench/instructions.py": [[], ["nothing"], ["program", "FOLDER", "GONE"], ["program", "FOLDER", "FOLDER"], ["channels", "0"], ["channels", "a"], ["reader", "1"], MANY],
+    "bench/instructions.py": [[], ["nothing"], ["program", "FOLDER", "GONE"], ["program", "FOLDER", "FOLDER"], ["channels", "GONE"], ["channels", "FOLDER"], MANY],
     "bench/mutants.py": [["nothing"], MANY],
     "bench/measure.py": [MANY, ["FOLDER", "GONE"], ["FOLDER", "FOLDER"]],
     "bench/trials.py": [[], ["1"], ["a", "1"], ["1", "-1"], ["1", "²"], MANY, ["1", "1", "0", "GONE"], ["--few", "FOLDER"], ["--few", "BYTES"]],

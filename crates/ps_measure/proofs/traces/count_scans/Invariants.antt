@@ -1,6 +1,0 @@
-use Rattle.std.proofs.Common.{◌≡◌, length}
-use Rattle.ps_trace.specs.Reading.{input_count_of}
-use Rattle.ps_measure.proofs.traces.count_scans.Given as goal
-
-abbrev pub invariant-scans : goal.invariant-scans
-invariant-scans g l = length l.scan.ins ≡ input_count_of l.reader

@@ -4,12 +4,7 @@ use Rattle.std.specs.Prelude.{fold}
 use Rattle.std.proofs.lemmas.Grind.{fold-append}
 use Rattle.std.proofs.lemmas.List.{map-append, take_more}
 
--- one item more
-pub one_more : {A B : Type 0} (f : B → A → B) (b : B) (xs : List A) (i : ℕ) (d : A) → i < length xs →
-    fold f b (take (i + 1) xs) ≡ f (fold f b (take i xs)) (get_or xs i d)
-one_more f b xs i d within = ap (fold f b) (take_more xs i d within) ∙ fold-append f b (take i xs) (get_or xs i d ∷ [])
-
--- the same of what each item is
+-- one item more, of what each item is
 pub one_mapped_more : {X A B : Type 0} (f : B → A → B) (b : B) (h : X → A) (xs : List X) (i : ℕ) (d : X) → i < length xs →
     fold f b (map h (take (i + 1) xs)) ≡ f (fold f b (map h (take i xs))) (h (get_or xs i d))
 one_mapped_more f b h xs i d within =

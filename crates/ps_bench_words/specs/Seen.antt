@@ -1,14 +1,15 @@
 -- How the code has words, forms of commands, and what words ask.
-use Rattle.std.specs.Prelude.{◌≡◌, ℕ, List, Option, Some, None, Result, Ok, Err, fold, map, option_map}
+use Rattle.std.specs.Prelude.{◌≡◌, ◌∷◌, [], ℕ, List, Option, Some, None, Result, Ok, Err, fold, map, option_map}
 use Rattle.std.specs.Borrow.{Bor}
-use Rattle.clap.specs.Simple.{App, new_app, with_rule, with_subcommand}
+use Rattle.clap.specs.Simple.{App, Shape, new_app, with_rule, with_subcommand}
 use Rattle.clap.specs.Walk.{Rule}
 use Rattle.ps_bench_words.specs.Asking as asking
 use Rattle.ps_bench_words.specs.Asking.Asked.{Test as TestOf, Expand as ExpandOf, Watch as WatchOf, Trace as TraceOf}
 use Rattle.ps_bench_words.specs.Asking.Asked.{Why as WhyOf, Cover as CoverOf, Never as NeverOf, Same as SameOf, Live as LiveOf}
 use Rattle.ps_bench_words.specs.Asking.Asked.{Campaign as CampaignOf, Sum as SumOf, Report as ReportOf}
 use Rattle.ps_bench_words.specs.Asking.Asked.{Page as PageOf, NotTaken as NotTakenOf}
-use Rattle.ps_bench_words.specs.Commands.{flag, option, word, words}
+use Rattle.ps_bench_words.specs.Commands.{flag, option, word, words, test, expand, watch, trace, why, cover, never, same}
+use Rattle.ps_bench_words.specs.Commands.{campaign, sum, report, live, help}
 use Rattle.ps_bench_words.specs.declared.asking.Asked.{Asked}
 use Rattle.ps_bench_words.specs.declared.asking.Asked.TheVariants.{Test, Expand, Watch, Trace, Why, Cover, Never, Same}
 use Rattle.ps_bench_words.specs.declared.asking.Asked.TheVariants.{Campaign, Sum, Report, Live, Page, NotTaken}
@@ -57,9 +58,29 @@ rule_seen argument = record (given_as argument.given argument.id.now) { required
 abbrev pub command_seen : Form → App
 command_seen form = fold with_rule (new_app form.name.now) (map rule_seen form.arguments.now)
 
+-- the same as a command of the program
+abbrev pub shape_seen : Form → Shape
+shape_seen form = (command_seen form).top
+
+-- the commands of the program in groups, in the order of its page
+unfoldable pub of_cases : List Shape
+of_cases = test ∷ expand ∷ watch ∷ []
+
+unfoldable pub of_traces : List Shape
+of_traces = trace ∷ why ∷ cover ∷ []
+
+unfoldable pub of_searches : List Shape
+of_searches = never ∷ same ∷ []
+
+unfoldable pub of_campaigns : List Shape
+of_campaigns = campaign ∷ sum ∷ []
+
+unfoldable pub of_pages : List Shape
+of_pages = report ∷ live ∷ help ∷ []
+
 -- a program with one more command
 abbrev pub with_form : App → Form → App
-with_form program form = with_subcommand program (command_seen form).top
+with_form program form = with_subcommand program (shape_seen form)
 
 -- a value was read that was given, and one that cannot be read is none
 abbrev pub IsRead : {X : Type 0} → Result X Unread → Option X → Type 0

@@ -13,8 +13,8 @@ ghost use Rattle.ps_bench_words.specs.Commands as commands;
 ghost use Rattle.ps_bench_words.specs.Seen.{IsAsked, asked_seen, seen};
 ghost use Rattle.ps_bench_words.specs.declared.forms.Form.{Form as FormOf};
 
-use crate::command::{command_of, program};
-use crate::forms::{Form, all_forms};
+use crate::command::{command_of, let_go, program};
+use crate::forms::{Form, of_campaigns, of_cases, of_pages, of_searches, of_traces};
 use crate::pages;
 use crate::reading::{
     Unread, campaign_in, cover_in, expand_in, given_in, live_in, never_in, report_in, same_in,
@@ -167,21 +167,39 @@ fn text_of(alloc: Global, error: &Error) -> Result<String, Memory> {
     Ok(format!(in alloc; "{error}")?)
 }
 
-// The command of this name as a program of its own, or the program where there is none.
-fn command_named<'a>(alloc: Global, name: &str) -> Result<Command<'a>, AllocError> {
-    for form in all_forms() {
+// The form of this name among these.
+fn form_among(forms: &'static [Form], name: &str) -> Option<&'static Form> {
+    for form in forms {
         if form.name == name {
-            return command_of(alloc, form)?.bin_name(form.call);
+            return Some(form);
         }
     }
-    program(alloc)
+    None
+}
+
+// The form of this name.
+fn form_named(name: &str) -> Option<&'static Form> {
+    form_among(of_cases(), name)
+        .or(form_among(of_traces(), name))
+        .or(form_among(of_searches(), name))
+        .or(form_among(of_campaigns(), name))
+        .or(form_among(of_pages(), name))
+}
+
+// The command of this name as a program of its own, or the program where there is none.
+fn command_named<'a>(alloc: Global, name: &str) -> Result<Command<'a>, AllocError> {
+    match form_named(name) {
+        Some(form) => command_of(alloc, form)?.bin_name(form.call),
+        None => program(alloc),
+    }
 }
 
 // What is wrong with a value that was given to a command, with the usage of the command.
 fn wrong_value(alloc: Global, name: &str, why: &str) -> Result<String, Memory> {
     let mut command = command_named(alloc, name)?;
-    let error = command.error(ErrorKind::InvalidValue, why)?;
-    text_of(alloc, &error)
+    let error = command.error(ErrorKind::InvalidValue, why);
+    let_go(command);
+    text_of(alloc, &error?)
 }
 
 // The page that `--help` shows after these words.
@@ -203,7 +221,11 @@ fn is_among(forms: &[Form], name: &str) -> bool
 fn is_command(name: &str) -> bool
     ensures { result ≡ asking.is_command name.now }
 {
-    is_among(all_forms(), name)
+    is_among(of_cases(), name)
+        | is_among(of_traces(), name)
+        | is_among(of_searches(), name)
+        | is_among(of_campaigns(), name)
+        | is_among(of_pages(), name)
 }
 
 // What `help` asks about a command, or about the program.

@@ -1,26 +1,43 @@
 // The commands of the program, as `clap` reads them.
 
-ghost use Rattle.std.specs.Prelude.{◌≡◌, IfOk, false, fold};
+ghost use Rattle.std.specs.Prelude.{◌≡◌, IfOk, false, fold, map};
 ghost use Rattle.clap.specs.Words.{app_of, rule_of};
-ghost use Rattle.clap.specs.Simple.{new_app, with_rule};
+ghost use Rattle.clap.specs.Simple.{App, new_app, with_rule, with_subcommand};
 ghost use Rattle.clap.specs.declared.builder.command.Command.TheViews.{out-Command as fields_of};
 ghost use Rattle.ps_bench_words.specs.Commands as commands;
+ghost use Rattle.ps_bench_words.specs.Commands.{word};
 ghost use Rattle.ps_bench_words.specs.Seen as seen;
-ghost use Rattle.ps_bench_words.specs.Seen.{command_seen, rule_seen};
+ghost use Rattle.ps_bench_words.specs.Seen.{command_seen, rule_seen, shape_seen};
 
-use crate::forms::{Argument, Form, Given, all_forms};
+use crate::forms::{
+    Argument, Form, Given, of_campaigns, of_cases, of_pages, of_searches, of_traces,
+};
 use crate::pages;
 use clap::{Arg, ArgAction, Command};
 use std::alloc::{AllocError, Global};
+
+/// Lets go of a command. The walk through all that one owns is proved here alone, for whoever calls this in place of
+/// dropping it.
+pub(crate) fn let_go(command: Command<'_>) {
+    let _gone = command;
+}
+
+// An argument as a word, or one as it is before it is told how it is given.
+fn word_of<'a>(alloc: Global, argument: &Argument) -> Arg<'a>
+    ensures rule { rule_of result ≡ record (word argument.now.id.now) { required = argument.now.required } }
+    ensures local { result.global ≡ false }
+{
+    Arg::new(alloc, argument.id)
+        .help(argument.help)
+        .required(argument.required)
+}
 
 // An argument.
 fn arg_of<'a>(alloc: Global, argument: &Argument) -> Arg<'a>
     ensures rule { rule_of result ≡ rule_seen argument.now }
     ensures local { result.global ≡ false }
 {
-    let arg = Arg::new(alloc, argument.id)
-        .help(argument.help)
-        .required(argument.required);
+    let arg = word_of(alloc, argument);
     match argument.given {
         Given::Word => arg,
         Given::Words => arg.num_args(1..),
@@ -56,11 +73,14 @@ pub(crate) fn command_of<'a>(alloc: Global, form: &Form) -> Result<Command<'a>, 
     ensures app { IfOk result (λ c. app_of c ≡ command_seen form.now) }
     ensures local { IfOk result (λ c. (fields_of c).has_globals ≡ false) }
 {
-    let mut command = bare_command(alloc, form);
+    let mut grown = bare_command(alloc, form);
     for argument in form.arguments {
-        command = with_argument(alloc, command, argument)?;
+        match with_argument(alloc, grown, argument) {
+            Ok(command) => grown = command,
+            Err(error) => return Err(error),
+        }
     }
-    Ok(command)
+    Ok(grown)
 }
 
 // The program without its commands.
@@ -84,23 +104,54 @@ fn with_form<'a>(
 ) -> Result<Command<'a>, AllocError>
     ensures { IfOk result (λ c. app_of c ≡ seen.with_form (app_of program.entry) form.now) }
 {
-    program.subcommand(command_of(alloc, form)?)
+    match command_of(alloc, form) {
+        Ok(command) => program.subcommand(command),
+        Err(error) => {
+            let_go(program);
+            Err(error)
+        }
+    }
 }
 
-// The program with commands of these forms.
-fn program_of<'a>(alloc: Global, forms: &[Form]) -> Result<Command<'a>, AllocError>
-    ensures { IfOk result (λ c. app_of c ≡ fold seen.with_form commands.bare forms.now) }
+// A program with commands of these forms more.
+fn with_forms<'a>(
+    alloc: Global,
+    program: Command<'a>,
+    forms: &[Form],
+) -> Result<Command<'a>, AllocError>
+    ensures { IfOk result (λ c. app_of c ≡ fold with_subcommand (app_of program.entry) (map shape_seen forms.now)) }
 {
-    let mut program = bare_program(alloc);
+    let mut grown = program;
     for form in forms {
-        program = with_form(alloc, program, form)?;
+        match with_form(alloc, grown, form) {
+            Ok(program) => grown = program,
+            Err(error) => return Err(error),
+        }
     }
-    Ok(program)
+    Ok(grown)
+}
+
+// A program with commands of these forms more, if there is one.
+fn with_group<'a>(
+    alloc: Global,
+    program: Result<Command<'a>, AllocError>,
+    forms: &[Form],
+) -> Result<Command<'a>, AllocError>
+    ensures { (app : App) → IfOk program.entry (λ c. app_of c ≡ app) → IfOk result (λ c. app_of c ≡ fold with_subcommand app (map shape_seen forms.now)) }
+{
+    match program {
+        Ok(program) => with_forms(alloc, program, forms),
+        Err(error) => Err(error),
+    }
 }
 
 /// The program with its commands, as `clap` reads them. An error means out of memory.
 pub(crate) fn program<'a>(alloc: Global) -> Result<Command<'a>, AllocError>
     ensures { IfOk result (λ c. app_of c ≡ commands.workbench) }
 {
-    program_of(alloc, all_forms())
+    let cases = with_group(alloc, Ok(bare_program(alloc)), of_cases());
+    let traces = with_group(alloc, cases, of_traces());
+    let searches = with_group(alloc, traces, of_searches());
+    let campaigns = with_group(alloc, searches, of_campaigns());
+    with_group(alloc, campaigns, of_pages())
 }

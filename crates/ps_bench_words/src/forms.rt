@@ -1,12 +1,9 @@
-// The forms of the commands: which words and options each has, and what its page says.
+// The forms of the commands, in groups in the order of the program's page: which words and options each has, and what its
+// page says. A table of all of them at once would be dear to prove.
 
-ghost use Rattle.std.specs.Prelude.{◌≡◌, fold, List, ℕ};
-ghost use Rattle.std.specs.List.{list_any};
-ghost use Rattle.std.specs.Str.{bytes_eq};
-ghost use Rattle.ps_bench_words.specs.Asking.{is_command};
-ghost use Rattle.ps_bench_words.specs.Commands.{bare, workbench};
-ghost use Rattle.ps_bench_words.specs.Seen.{with_form};
-ghost use Rattle.ps_bench_words.specs.declared.forms.Form.{Form as FormOf};
+ghost use Rattle.std.specs.Prelude.{◌≡◌, map};
+ghost use Rattle.ps_bench_words.specs.Seen as seen;
+ghost use Rattle.ps_bench_words.specs.Seen.{shape_seen};
 
 /// How an argument is given.
 #[derive(Clone, Copy)]
@@ -243,17 +240,16 @@ const TITLE: Argument = argument!(
 // The command that help is asked for.
 const TOPIC: Argument = argument!("COMMAND", Given::Word, "The command whose page is written");
 
-/// The forms of the commands, in the order of the program's page.
-#[tactic(auto, unfolding(crate::specs::Commands::workbench, crate::specs::Commands::commands))]
-pub(crate) fn all_forms() -> &'static [Form]
-    ensures program { fold with_form bare result.now ≡ workbench }
-    ensures names { (name : List ℕ) → list_any (λ (f : FormOf). bytes_eq f.name.now name) result.now ≡ is_command name }
+/// The forms of `test`, `expand` and `watch`.
+#[tactic(auto, unfolding(crate::specs::Seen::of_cases))]
+pub(crate) fn of_cases() -> &'static [Form]
+    ensures { map shape_seen result.now ≡ seen.of_cases }
 {
-    &FORMS
+    &FORMS_OF_CASES
 }
 
 // The same as a table.
-static FORMS: [Form; 13] = [
+static FORMS_OF_CASES: [Form; 3] = [
     Form {
         name: "test",
         call: "plcsafe-bench test",
@@ -275,6 +271,18 @@ static FORMS: [Form; 13] = [
         example: "Example: plcsafe-bench watch press.st press.trace S_Ram Guard --faults press.faults",
         arguments: &[APP, TRACE, NAMES, FAULTS, LAYOUT],
     },
+];
+
+/// The forms of `trace`, `why` and `cover`.
+#[tactic(auto, unfolding(crate::specs::Seen::of_traces))]
+pub(crate) fn of_traces() -> &'static [Form]
+    ensures { map shape_seen result.now ≡ seen.of_traces }
+{
+    &FORMS_OF_TRACES
+}
+
+// The same as a table.
+static FORMS_OF_TRACES: [Form; 3] = [
     Form {
         name: "trace",
         call: "plcsafe-bench trace",
@@ -296,6 +304,18 @@ static FORMS: [Form; 13] = [
         example: "Example: plcsafe-bench cover press.st press.cases --least 80",
         arguments: &[APP, TRACES, OUTPUT, LEAST, IDEAS],
     },
+];
+
+/// The forms of `never` and `same`.
+#[tactic(auto, unfolding(crate::specs::Seen::of_searches))]
+pub(crate) fn of_searches() -> &'static [Form]
+    ensures { map shape_seen result.now ≡ seen.of_searches }
+{
+    &FORMS_OF_SEARCHES
+}
+
+// The same as a table.
+static FORMS_OF_SEARCHES: [Form; 2] = [
     Form {
         name: "never",
         call: "plcsafe-bench never",
@@ -310,6 +330,18 @@ static FORMS: [Form; 13] = [
         example: "Example: plcsafe-bench same press.st mended.st",
         arguments: &[APP, OTHER, SETTINGS, STATES],
     },
+];
+
+/// The forms of `campaign` and `sum`.
+#[tactic(auto, unfolding(crate::specs::Seen::of_campaigns))]
+pub(crate) fn of_campaigns() -> &'static [Form]
+    ensures { map shape_seen result.now ≡ seen.of_campaigns }
+{
+    &FORMS_OF_CAMPAIGNS
+}
+
+// The same as a table.
+static FORMS_OF_CAMPAIGNS: [Form; 2] = [
     Form {
         name: "campaign",
         call: "plcsafe-bench campaign",
@@ -324,6 +356,18 @@ static FORMS: [Form; 13] = [
         example: "Example: plcsafe-bench sum first.counts second.counts",
         arguments: &[COUNTS],
     },
+];
+
+/// The forms of `report`, `live` and `help`.
+#[tactic(auto, unfolding(crate::specs::Seen::of_pages))]
+pub(crate) fn of_pages() -> &'static [Form]
+    ensures { map shape_seen result.now ≡ seen.of_pages }
+{
+    &FORMS_OF_PAGES
+}
+
+// The same as a table.
+static FORMS_OF_PAGES: [Form; 3] = [
     Form {
         name: "report",
         call: "plcsafe-bench report",

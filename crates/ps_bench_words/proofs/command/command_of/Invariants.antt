@@ -8,6 +8,6 @@ use Rattle.ps_bench_words.proofs.command.command_of.Given as goal
 
 abbrev pub invariant-loop-argument : goal.invariant-loop-argument
 invariant-loop-argument l = record {
-  app : app_of l.command ≡ fold with_rule (new_app l.form.name.now) (map rule_seen (take l.argument-index l.form.arguments.now));
-  local : (fields_of l.command).has_globals ≡ false;
+  app : app_of l.grown ≡ fold with_rule (new_app l.form.name.now) (map rule_seen (take l.argument-index l.form.arguments.now));
+  local : (fields_of l.grown).has_globals ≡ false;
 }

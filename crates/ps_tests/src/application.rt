@@ -1,16 +1,11 @@
 // From the text of an application to the accepted application, and texts that several tests take.
 
-ghost use Rattle.std.specs.Prelude.{IfOk};
+ghost use Rattle.std.specs.Prelude.{IfSome};
 ghost use Rattle.ps_model.specs.Typing.{Accepted};
 
-use ps_base::Memory;
-use ps_flow::derive;
-use ps_lexer::lex;
+use ps_accepted::accept_text;
 use ps_model::App;
-use ps_parser::parse;
-use ps_resolve::resolve;
 use std::alloc::Global;
-use std::test::Fail;
 
 /// An emergency stop, and a motor after it. Its codes have 33 bytes in channel A, 37 in B and 127 in C, its cells 97, 84
 /// and 45; a scan without faults has 11 turns of A and 5 of B.
@@ -36,29 +31,25 @@ S_B := F.S_EStopOut;
 END_PROGRAM
 ";
 
-/// The accepted application of a text.
-pub fn application(alloc: Global, text: &str) -> Result<App, Fail>
-    ensures { IfOk result Accepted }
+/// The accepted application of a text. None: a rule refuses the text, or out of memory.
+pub fn application(alloc: Global, text: &str) -> Option<App>
+    ensures { IfSome result Accepted }
 {
-    let tokens = lex(alloc, text.as_bytes())?;
-    let source = parse(alloc, &tokens)?;
-    let app = resolve(alloc, &source)?;
-    let _certificate = derive(alloc, &app)?;
-    Ok(app)
+    match accept_text(alloc, text.as_bytes()) {
+        Ok(accepted) => Some(accepted.into_parts().0),
+        Err(_) => None,
+    }
 }
 
-/// A text with a part that stands many times.
-pub fn repeated(
-    alloc: Global,
-    begin: &str,
-    part: &str,
-    count: u32,
-    end: &str,
-) -> Result<String, Memory> {
-    let mut text = String::from_str(alloc, begin)?;
+/// A text with a part that stands many times. None: out of memory.
+pub fn repeated(alloc: Global, begin: &str, part: &str, count: u32, end: &str) -> Option<String> {
+    let Ok(mut text) = String::from_str(alloc, begin) else {
+        return None;
+    };
+    let mut is_whole = true;
     for _ in 0..count {
-        text.push_str(part)?;
+        is_whole = text.push_str(part).is_ok() && is_whole;
     }
-    text.push_str(end)?;
-    Ok(text)
+    is_whole = text.push_str(end).is_ok() && is_whole;
+    if is_whole { Some(text) } else { None }
 }

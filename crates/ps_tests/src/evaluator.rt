@@ -4,31 +4,15 @@ ghost use Rattle.std.specs.Prelude.{◌≡◌, length};
 ghost use Rattle.ps_model.specs.Network.{instance_count};
 ghost use Rattle.ps_scan.specs.Cells.{IsFor};
 
-use crate::application::{application, repeated};
-use crate::fixtures::{bits_of, shows};
-use crate::worked::TABLES;
-use ps_base::Memory;
+use crate::application::{MOTOR, application, repeated};
+use crate::fixtures::{bits_of, nothing, parts, shows};
+use crate::worked::{OF_MOTOR, OTHERS};
 use ps_model::{App, Report};
 use ps_scan::Scanner;
 use std::alloc::Global;
-use std::test::Fail;
-
-// The time of a row in ms, its inputs and its outputs, a digit each, and its codes, with a space between each of them.
-fn parts(row: &str) -> Option<(u32, &str, &str, &str)> {
-    let (now, rest) = row.split_once(' ')?;
-    let (ins, rest) = rest.split_once(' ')?;
-    let (outs, codes) = rest.split_once(' ').unwrap_or((rest, ""));
-    Some((now.parse().ok()?, ins, outs, codes))
-}
 
 // Makes the scan of a row. Whether it shows what the row is to show.
-fn row_met(
-    alloc: Global,
-    app: &App,
-    scanner: &mut Scanner,
-    report: &mut Report,
-    row: &str,
-) -> Result<bool, Memory>
+fn row_met(alloc: Global, app: &App, scanner: &mut Scanner, report: &mut Report, row: &str) -> bool
     requires sizes { IsFor app.now scanner.old }
     requires outs { length report.old.outs ≡ length app.now.outputs }
     requires diags { length report.old.diags ≡ instance_count app.now }
@@ -36,33 +20,67 @@ fn row_met(
     ensures outs { length report.new.outs ≡ length app.now.outputs }
     ensures diags { length report.new.diags ≡ instance_count app.now }
 {
-    let Some((now, ins, outs, codes)) = parts(row) else {
-        return Ok(false);
+    let (now, ins, outs, codes) = parts(row);
+    let Ok(now) = now.parse::<u32>() else {
+        return false;
     };
-    let ins = bits_of(alloc, ins)?;
+    let Ok(ins) = bits_of(alloc, ins) else {
+        return false;
+    };
     if ins.len() != app.input_count() as usize {
-        return Ok(false);
+        return false;
     }
     scanner.scan(app, now, ins.as_slice(), report);
-    Ok(shows(report, outs, codes))
+    shows(report, outs, codes)
 }
 
-// Whether an application meets all rows of a table, one after the other from the start.
-fn rows_met(alloc: Global, app: &App, rows: &str) -> Result<bool, Memory> {
-    let mut scanner = Scanner::new(alloc, app)?;
-    let mut report = Report::for_app(alloc, app)?;
+// Whether an application meets all rows of a table, one after the other from the start. The first line of a table is its
+// name.
+fn table_met(alloc: Global, app: &App, table: &str) -> bool {
+    let Ok(mut scanner) = Scanner::new(alloc, app) else {
+        return false;
+    };
+    let Ok(mut report) = Report::for_app(alloc, app) else {
+        return false;
+    };
+    let Some((_, rows)) = table.split_once('\n') else {
+        return false;
+    };
+    let mut are_met = true;
     for row in rows.lines() {
-        if !row_met(alloc, app, &mut scanner, &mut report, row)? {
-            return Ok(false);
+        are_met = row_met(alloc, app, &mut scanner, &mut report, row) && are_met;
+    }
+    are_met
+}
+
+// The first of some tables that an application does not meet; empty: it meets all. Between two tables is an empty line.
+fn wrong_table<'a>(alloc: Global, app: &App, tables: &'a str) -> &'a str {
+    for table in tables.split("\n\n") {
+        if !table_met(alloc, app, table) {
+            return table;
         }
     }
-    Ok(true)
+    ""
 }
 
-// Whether the application of a text meets a table.
-fn met(alloc: Global, text: &str, rows: &str) -> Result<bool, Fail> {
-    let app = application(alloc, text)?;
-    Ok(rows_met(alloc, &app, rows)?)
+// The first of some tables that the application of a text does not meet; empty: it meets all.
+fn wrong_of<'a>(alloc: Global, text: &str, tables: &'a str) -> &'a str {
+    match application(alloc, text) {
+        Some(app) => wrong_table(alloc, &app, tables),
+        None => tables,
+    }
+}
+
+// The first of the tables after some texts that is not met; empty: all are met.
+fn wrong_other(alloc: Global, others: &'static str) -> &'static str {
+    for other in others.split("====\n") {
+        let (text, tables) = other.split_once("\n\n").unwrap_or((other, other));
+        let wrong = wrong_of(alloc, text, tables);
+        if !wrong.is_empty() {
+            return wrong;
+        }
+    }
+    ""
 }
 
 // What stands before the first operand of an AND of 512 operands, and after the last.
@@ -71,14 +89,23 @@ const BEFORE_WIDE: &str =
 
 const AFTER_WIDE: &str = "; END_PROGRAM";
 
-#[test]
-fn evaluator(rt: HostRuntime) -> Result<(), Fail> {
-    for (name, text, rows) in TABLES {
-        let is_met = met(rt.alloc(), text, rows)?;
-        assert!(rt; is_met, "{name}");
+const WIDE: &str = "\
+512 operands
+0 0 0
+10 1 1
+";
+
+// The same of the AND of 512 operands.
+fn wrong_of_wide(alloc: Global) -> &'static str {
+    match repeated(alloc, BEFORE_WIDE, " AND a", 511, AFTER_WIDE) {
+        Some(text) => wrong_of(alloc, text.as_str(), WIDE),
+        None => WIDE,
     }
-    let wide = repeated(rt.alloc(), BEFORE_WIDE, " AND a", 511, AFTER_WIDE)?;
-    let is_met = met(rt.alloc(), wide.as_str(), "0 0 0\n10 1 1\n")?;
-    assert!(rt; is_met, "512 operands");
-    Ok(())
+}
+
+#[test]
+fn evaluator(rt: HostRuntime) {
+    nothing(&rt, wrong_of(rt.alloc(), MOTOR, OF_MOTOR));
+    nothing(&rt, wrong_other(rt.alloc(), OTHERS));
+    nothing(&rt, wrong_of_wide(rt.alloc()));
 }

@@ -7,6 +7,17 @@ use ps_base::Memory;
 use ps_machine::{CodeImage, ScanMachine};
 use ps_model::{Bits, FirstPins, Kind, Kinds, Progress, Region, Report, Sizes, output_count};
 use std::alloc::Global;
+use std::process::Abort;
+
+/// Asserts that no row of a table is wrong: `row` is the number of the first that is, counted from 1, or 0.
+pub fn no_row(rt: &impl Abort, row: usize) {
+    assert!(rt; row == 0, "row {row}");
+}
+
+/// Asserts that nothing of a table is wrong: `text` is the first part of it that is, or empty.
+pub fn nothing(rt: &impl Abort, text: &str) {
+    assert!(rt; text.is_empty(), "{text}");
+}
 
 /// What `number_of` says of a scan that runs, and of one that is done.
 pub const RUNS: u8 = 254;
@@ -60,16 +71,40 @@ pub fn bits_of(alloc: Global, digits: &str) -> Result<Bits, Memory> {
     Ok(bits)
 }
 
+/// The parts of a row with spaces between: a time, the inputs, the outputs, and the codes, which may be several or none.
+pub fn parts(row: &str) -> (&str, &str, &str, &str) {
+    let (now, rest) = row.split_once(' ').unwrap_or((row, ""));
+    let (ins, rest) = rest.split_once(' ').unwrap_or((rest, ""));
+    let (outs, codes) = rest.split_once(' ').unwrap_or((rest, ""));
+    (now, ins, outs, codes)
+}
+
+// Whether the outputs of a report are these, a digit each.
+fn has_outputs(report: &Report, digits: &[u8]) -> bool {
+    if report.outs.len() != digits.len() {
+        return false;
+    }
+    let mut is_so = true;
+    for i in 0..digits.len() {
+        is_so = report.outs.at(i) == (digits[i] == b'1') && is_so;
+    }
+    is_so
+}
+
+// Whether an instance of a report is in this state, in hexadecimal.
+fn has_code(report: &Report, i: usize, code: &str) -> bool {
+    match u16::from_str_radix(code, 16) {
+        Ok(code) => i < report.diags.len() && report.diags.at(i).code == code,
+        Err(_) => false,
+    }
+}
+
 /// Whether a report has these outputs, a digit each, and instances in these states, in hexadecimal with a space between.
 pub fn shows(report: &Report, outs: &str, codes: &str) -> bool {
-    let mut is_so = report.outs.len() == outs.len();
-    for (output, digit) in report.outs.as_slice().iter().zip(outs.as_bytes()) {
-        is_so = is_so && *output == (*digit == b'1');
-    }
+    let mut is_so = has_outputs(report, outs.as_bytes());
     let mut count: usize = 0;
-    for word in codes.split_whitespace() {
-        let code = u16::from_str_radix(word, 16).ok();
-        is_so = is_so && count < report.diags.len() && code == Some(report.diags.at(count).code);
+    for code in codes.split_whitespace() {
+        is_so = has_code(report, count, code) && is_so;
         count = count.saturating_add(1);
     }
     is_so && count == report.diags.len()

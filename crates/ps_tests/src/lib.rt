@@ -3,7 +3,7 @@
 //! program shows is tested by `tests/calls/`.
 //!
 //! - `application`: from a text to its accepted application, and texts that several tests take. `fixtures`: channels of
-//!   one instance, and values of scans.
+//!   one instance, values of scans, and what asserts that no row of a table is wrong.
 //! - `machines`: turns of each channel over given bytes, by the rows of `turns_a`, `turns_b` and `turns_c`. `channel_a`,
 //!   `channel_b`: scans, regions and spoiled bytes. `codes`: the codes of channel C.
 //! - `evaluator`: the plain evaluator over the tables of `worked`. `rows`: channel B's rows.

@@ -4,7 +4,7 @@
 // cells, whose plain bytes are 0 elsewhere, as PLACE=BYTE; and after ` => ` what comes of the turns: `runs`, `done`, or
 // `trap` and its number.
 
-use crate::fixtures::{DONE, RUNS, number_of, sizes};
+use crate::fixtures::{DONE, RUNS, nothing, number_of, sizes};
 use crate::{turns_a, turns_b, turns_c};
 use ps_decision::DecisionChannel;
 use ps_eqvm::EquationChannel;
@@ -12,8 +12,6 @@ use ps_machine::{CodeImage, ScanMachine};
 use ps_model::{Kind, Region, Sizes};
 use ps_stackvm::StackChannel;
 use std::alloc::Global;
-use std::process::Abort;
-use std::test::Fail;
 
 // Bytes in hexadecimal, with a space between each of them. None: some are none, there are too many, or out of memory.
 fn code_of(alloc: Global, words: &str) -> Option<CodeImage> {
@@ -66,43 +64,64 @@ fn after<M: ScanMachine>(
     if are_put { Some(number) } else { None }
 }
 
-// Asserts that each row of some tables is met in so many turns.
-fn hold<M: ScanMachine>(
-    rt: &impl Abort,
+// Whether a row is met in so many turns.
+fn is_met<M: ScanMachine>(alloc: Global, sizes: &Sizes, stored: u8, turns: u32, row: &str) -> bool {
+    let (before, word) = row.split_once(" => ").unwrap_or((row, ""));
+    let found = after::<M>(alloc, sizes, stored, turns, before);
+    found.is_some() && found == number_named(word)
+}
+
+// The first row of a table that is not met in so many turns; empty: all are met.
+fn wrong_row<'a, M: ScanMachine>(
     alloc: Global,
     sizes: &Sizes,
     stored: u8,
     turns: u32,
-    tables: &[&str],
-) {
-    for table in tables {
-        for row in table.lines() {
-            let (before, word) = row.split_once(" => ").unwrap_or((row, ""));
-            let found = after::<M>(alloc, sizes, stored, turns, before);
-            assert!(rt; found.is_some() && found == number_named(word), "{row}");
+    table: &'a str,
+) -> &'a str {
+    for row in table.lines() {
+        if !is_met::<M>(alloc, sizes, stored, turns, row) {
+            return row;
         }
     }
+    ""
 }
 
 // Signal 3,999 is the last that an operand of channel B can name, however many there are: here 4,001.
-const LAST_SIGNALS: &[&str] = &[
-    "\
+const LAST_SIGNALS: &str = "\
 f1 0f 9e ff ff => runs
 f1 0f 9f ff ff => runs
 f1 0f a0 ff ff => trap 5
-",
-];
+";
 
 #[test]
-fn turns(rt: HostRuntime) -> Result<(), Fail> {
-    let stop = sizes(rt.alloc(), Kind::EmergencyStop, 3, 1)?;
-    hold::<StackChannel>(&rt, rt.alloc(), &stop, 0, 1, turns_a::TABLES);
-    hold::<EquationChannel>(&rt, rt.alloc(), &stop, 255, 1, turns_b::TABLES);
-    hold::<DecisionChannel>(&rt, rt.alloc(), &stop, 0, 1, turns_c::TABLES);
-    hold::<DecisionChannel>(&rt, rt.alloc(), &stop, 0, 2, turns_c::TWICE);
-    let modes = sizes(rt.alloc(), Kind::ModeSelector, 4, 1)?;
-    hold::<DecisionChannel>(&rt, rt.alloc(), &modes, 0, 1, turns_c::MODES);
-    let many = sizes(rt.alloc(), Kind::EmergencyStop, 3998, 0)?;
-    hold::<EquationChannel>(&rt, rt.alloc(), &many, 255, 1, LAST_SIGNALS);
-    Ok(())
+fn turns(rt: HostRuntime) {
+    let alloc = rt.alloc();
+    let stop = sizes(alloc, Kind::EmergencyStop, 3, 1).expect(&rt, "memory");
+    nothing(
+        &rt,
+        wrong_row::<StackChannel>(alloc, &stop, 0, 1, turns_a::TURNS),
+    );
+    nothing(
+        &rt,
+        wrong_row::<EquationChannel>(alloc, &stop, 255, 1, turns_b::TURNS),
+    );
+    nothing(
+        &rt,
+        wrong_row::<DecisionChannel>(alloc, &stop, 0, 1, turns_c::TURNS),
+    );
+    nothing(
+        &rt,
+        wrong_row::<DecisionChannel>(alloc, &stop, 0, 2, turns_c::TWICE),
+    );
+    let modes = sizes(alloc, Kind::ModeSelector, 4, 1).expect(&rt, "memory");
+    nothing(
+        &rt,
+        wrong_row::<DecisionChannel>(alloc, &modes, 0, 1, turns_c::MODES),
+    );
+    let many = sizes(alloc, Kind::EmergencyStop, 3998, 0).expect(&rt, "memory");
+    nothing(
+        &rt,
+        wrong_row::<EquationChannel>(alloc, &many, 255, 1, LAST_SIGNALS),
+    );
 }

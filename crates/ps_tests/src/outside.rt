@@ -1,12 +1,10 @@
 // Files and outputs, in memory and of the system, with failures.
 
-use ps_base::Memory;
 use ps_outside::{
     DiskFiles, Files, MemFiles, MemSink, ReadFail, Sink, StdSink, Stopped, read_upto, write_all,
 };
 use std::alloc::Global;
 use std::fs;
-use std::test::Fail;
 
 // Whether a read of at most so many bytes of a file gives this text, or fails where the text is `a fault`.
 fn is_read<F: Files>(alloc: Global, files: &mut F, name: &str, most: u32, text: &str) -> bool {
@@ -38,37 +36,34 @@ fn are_held(alloc: Global, files: &mut MemFiles) -> bool {
 }
 
 // Whether files in memory are read whole and in pieces.
-fn are_in_memory(alloc: Global) -> Result<bool, Memory> {
+fn are_in_memory(alloc: Global) -> bool {
     let mut files = MemFiles::new(alloc);
-    files.put("fish", b"red")?;
-    files.put("fish", b"one fish")?;
-    let are_whole = are_held(alloc, &mut files);
+    let are_put = files.put("fish", b"red").is_ok() && files.put("fish", b"one fish").is_ok();
+    let are_whole = are_put && are_held(alloc, &mut files);
     files.cut_to(3);
-    Ok(are_whole && are_held(alloc, &mut files))
+    are_whole && are_held(alloc, &mut files)
 }
 
 // Whether the second call fails, which would find the end, and the next one goes on.
-fn is_failing(alloc: Global) -> Result<bool, Memory> {
+fn is_failing(alloc: Global) -> bool {
     let mut files = MemFiles::new(alloc);
-    files.put("fish", b"one fish")?;
-    files.fail_at(2)?;
-    Ok(
-        is_read(alloc, &mut files, "fish", 100, "a fault")
-            && is_read(alloc, &mut files, "fish", 3, "one"),
-    )
+    files.put("fish", b"one fish").is_ok()
+        && files.fail_at(2).is_ok()
+        && is_read(alloc, &mut files, "fish", 100, "a fault")
+        && is_read(alloc, &mut files, "fish", 3, "one")
 }
 
 // Whether six bytes of room take pieces of which the second write fails, and then what fits into the two that are left.
-fn is_kept(alloc: Global) -> Result<bool, Memory> {
-    let mut sink = MemSink::new(alloc, 6)?;
-    sink.fail_at(2)?;
-    Ok(
-        written(&mut sink, "one ") == 4
-            && written(&mut sink, "f") == 0
-            && written(&mut sink, "fish") == 0
-            && written(&mut sink, "is") == 2
-            && sink.taken() == b"one is".as_slice(),
-    )
+fn is_kept(alloc: Global) -> bool {
+    let Ok(mut sink) = MemSink::new(alloc, 6) else {
+        return false;
+    };
+    sink.fail_at(2).is_ok()
+        && written(&mut sink, "one ") == 4
+        && written(&mut sink, "f") == 0
+        && written(&mut sink, "fish") == 0
+        && written(&mut sink, "is") == 2
+        && sink.taken() == b"one is".as_slice()
 }
 
 // Whether four bytes of room take a piece, and of one that is too large what fits.
@@ -79,12 +74,10 @@ fn is_taken() -> bool {
 }
 
 #[test]
-fn files_and_outputs(rt: HostRuntime) -> Result<(), Fail> {
-    fs::write(&rt, "fish.txt", "one fish two fish")?;
+fn files_and_outputs(rt: HostRuntime) {
+    assert!(rt; fs::write(&rt, "fish.txt", "one fish two fish").is_ok());
     assert!(rt; are_of_the_system(rt.alloc(), &mut DiskFiles::new(&rt)));
-    fs::remove_file(&rt, "fish.txt")?;
-    let are_in_memory = are_in_memory(rt.alloc())? && is_failing(rt.alloc())?;
-    let are_written = is_kept(rt.alloc())? && is_taken();
-    assert!(rt; are_in_memory && are_written);
-    Ok(())
+    assert!(rt; fs::remove_file(&rt, "fish.txt").is_ok());
+    assert!(rt; are_in_memory(rt.alloc()) && is_failing(rt.alloc()));
+    assert!(rt; is_kept(rt.alloc()) && is_taken());
 }

@@ -1,5 +1,6 @@
 // Channel B's rows and their places, and a step by rows of what may be nothing that the kind keeps.
 
+use crate::fixtures::no_row;
 use ps_model::{Kind, kind_numbered};
 use ps_rows::{CountedBlock, MaskRow, RowRange, next_of, row, row_count, state_rows};
 
@@ -9,7 +10,7 @@ const NONE: u16 = 0xFFFF;
 // Each row is the number of a kind, a DiagCode, the last Reset, the last auxiliary input, the mode, and what is wanted. They
 // ask first of states, then of last inputs, and then of modes. The kinds are 1 SF_Equivalent, 3 SF_EmergencyStop,
 // 4 SF_ESPE, 5 SF_ModeSelector, 6 SF_TwoHandControlTypeII, 12 SF_OutControl and 13 SF_EDM.
-const STEPS: [(u8, u16, bool, bool, u8, u16); 19] = [
+static STEPS: [(u8, u16, bool, bool, u8, u16); 19] = [
     (3, 0x8001, false, false, 0, 0x8002),
     (3, 0x8006, false, false, 0, NONE),
     (4, 0x0000, false, false, 0, 0x8001),
@@ -73,11 +74,19 @@ fn are_rows() -> bool {
         && next_of(Kind::Equivalent, 0x8002, 0).is_none()
 }
 
+// The number of the first row of `STEPS` that is not met, counted from 1; 0: there is none.
+fn wrong_step() -> usize {
+    for row in 0..STEPS.len() {
+        let (number, code, last_reset, last_auxiliary, mode, wanted) = STEPS[row];
+        if code_after(number, code, last_reset, last_auxiliary, mode) != wanted {
+            return row + 1;
+        }
+    }
+    0
+}
+
 #[test]
 fn rows(rt: HostRuntime) {
-    for (number, code, last_reset, last_auxiliary, mode, wanted) in STEPS {
-        let after = code_after(number, code, last_reset, last_auxiliary, mode);
-        assert!(rt; after == wanted, "in {code:x}, mode {mode}");
-    }
+    no_row(&rt, wrong_step());
     assert!(rt; row_count(Kind::Edm) == 89 && are_rows());
 }

@@ -2,9 +2,11 @@
 // both sides of every bound, and which comes where two causes meet. There are seven signals, of which signal 1 stands at
 // 62, and one SF_EmergencyStop, from byte 68 on.
 
-// The rows at the ends of code: the first bytes of LAST and SET, as many as are told, from an offset whose lowest byte
-// stands at 3.
-const END_OF_CODE: &str = "\
+/// The rows of single turns.
+pub const TURNS: &str = concat!(
+    // The rows at the ends of code: the first bytes of LAST and SET, as many as are told, from an offset whose lowest byte
+    // stands at 3.
+    "\
 f0 | 3=00 => done
  | 3=00 => trap 2
 f0 | 3=01 => trap 2
@@ -14,10 +16,9 @@ f0 f1 00 00 00 01 | 3=01 => runs
 f0 f1 00 00 00 01 | 3=05 => trap 1
 f0 f1 00 00 00 01 | 3=06 => trap 2
 f0 f1 00 00 00 01 | 3=ff => trap 2
-";
-
-// One byte alone is the code.
-const FIRST_BYTES: &str = "\
+",
+    // One byte alone is the code.
+    "\
 00 => trap 1
 ef => trap 1
 f0 => done
@@ -27,9 +28,9 @@ f3 => trap 2
 f4 => trap 2
 f5 => trap 1
 ff => trap 1
-";
-
-const OPERANDS: &str = "\
+",
+    // Operands.
+    "\
 f1 00 00 00 00 | 62=07 => runs
 f1 00 00 00 06 | 62=07 => runs
 f1 00 00 00 07 | 62=07 => trap 5
@@ -66,9 +67,9 @@ f3 00 00 f0 30 | 62=07 => trap 5
 f3 00 00 ff fd | 62=07 => trap 5
 f3 00 00 ff fe | 62=07 => runs
 f3 00 00 ff ff | 62=07 => runs
-";
-
-const TARGETS: &str = "\
+",
+    // Targets.
+    "\
 f1 00 06 00 00 | 62=07 => runs
 f1 00 07 00 00 | 62=07 => trap 5
 f1 0f 9f 00 00 | 62=07 => trap 5
@@ -102,10 +103,9 @@ f3 f0 30 00 00 | 62=07 => trap 5
 f3 ff fd 00 00 | 62=07 => trap 5
 f3 ff fe 00 00 | 62=07 => trap 5
 f3 ff ff 00 00 | 62=07 => trap 5
-";
-
-// Signal 1 has a byte that is neither 0 nor 1. SET does not read its target; a bad target or operand comes first.
-const ODD_BYTES: &str = "\
+",
+    // Signal 1 has a byte that is neither 0 nor 1. SET does not read its target; a bad target or operand comes first.
+    "\
 f1 00 00 00 01 | 62=07 => trap 4
 f1 00 01 00 00 | 62=07 => runs
 f1 00 01 00 01 | 62=07 => trap 4
@@ -128,18 +128,16 @@ f3 00 00 00 02 | 62=07 => runs
 f3 00 07 00 01 | 62=07 => trap 5
 f3 ff fe 00 01 | 62=07 => trap 5
 f3 00 01 00 07 | 62=07 => trap 5
-";
-
-// A byte of signal 1, and what ALL of it leaves.
-const BYTES_OF_A_TARGET: &str = "\
+",
+    // A byte of signal 1, and what ALL of it leaves.
+    "\
 f2 00 01 00 00 | 62=00 => runs
 f2 00 01 00 00 | 62=01 => runs
 f2 00 01 00 00 | 62=02 => trap 4
 f2 00 01 00 00 | 62=ff => trap 4
-";
-
-// The row of M's SF_EmergencyStop cut short, where so many operands are told.
-const END_OF_A_ROW: &str = "\
+",
+    // The row of M's SF_EmergencyStop cut short, where so many operands are told.
+    "\
 f4 00 00 03 00 04 00 00 00 00 => trap 2
 f4 00 00 03 00 04 00 00 00 00 00 => trap 3
 f4 00 00 03 00 04 00 00 00 00 01 => trap 2
@@ -150,10 +148,9 @@ f4 00 00 03 00 04 00 00 00 00 05 ff fe ff fe ff fe ff fe ff fe => runs
 f4 00 00 03 00 04 00 00 00 00 06 ff fe ff fe ff fe ff fe ff fe ff => trap 2
 f4 00 00 03 00 04 00 00 00 00 06 ff fe ff fe ff fe ff fe ff fe ff fe => trap 3
 f4 00 00 03 00 04 00 00 00 00 ff ff fe ff fe ff fe ff fe ff fe ff fe => trap 2
-";
-
-// Instance, kind, first output signal and number of operands. There is one instance, and there are seven signals.
-const INSTANCES_KINDS_AND_OUTPUTS: &str = "\
+",
+    // Instance, kind, first output signal and number of operands. There is one instance, and there are seven signals.
+    "\
 f4 00 00 03 00 04 00 00 00 00 05 ff fe ff fe ff fe ff fe ff fe ff fe => runs
 f4 00 00 04 00 04 00 00 00 00 05 ff fe ff fe ff fe ff fe ff fe ff fe => runs
 f4 00 00 0d 00 04 00 00 00 00 06 ff fe ff fe ff fe ff fe ff fe ff fe => runs
@@ -170,10 +167,9 @@ f4 00 00 03 00 04 00 00 00 00 04 ff fe ff fe ff fe ff fe ff fe ff fe => trap 3
 f4 00 00 03 00 04 00 00 00 00 06 ff fe ff fe ff fe ff fe ff fe ff fe => trap 3
 f4 00 01 0e 00 05 00 00 00 00 04 ff fe ff fe ff fe ff fe ff fe ff fe => trap 6
 f4 00 00 03 00 05 00 00 00 00 04 ff fe ff fe ff fe ff fe ff fe ff fe => trap 5
-";
-
-// Operand 3 of the row. The operands are judged before their number, and their number before their bytes.
-const BLOCK_OPERANDS: &str = "\
+",
+    // Operand 3 of the row. The operands are judged before their number, and their number before their bytes.
+    "\
 f4 00 00 03 00 04 00 00 00 00 05 ff fe ff fe ff fe 00 06 ff fe ff fe | 0=00 => runs
 f4 00 00 03 00 04 00 00 00 00 05 ff fe ff fe ff fe 00 07 ff fe ff fe | 0=00 => trap 5
 f4 00 00 03 00 04 00 00 00 00 05 ff fe ff fe ff fe 0f 9f ff fe ff fe | 0=00 => trap 5
@@ -192,11 +188,10 @@ f4 00 00 03 00 04 00 00 00 00 05 ff fe ff fe ff fe 00 01 ff fe ff fe | 62=ff => 
 f4 00 00 03 00 04 00 00 00 00 05 ff fe ff fe ff fe 00 02 ff fe ff fe | 62=ff => runs
 f4 00 00 03 00 04 00 00 00 00 05 ff fe ff fe ff fe f0 2f ff fe ff fe | 60=02 => trap 4
 f4 00 00 03 00 04 00 00 00 00 04 ff fe ff fe ff fe 00 01 ff fe ff fe | 62=02 => trap 3
-";
-
-// A byte of the instance, from 68 on: DiagCode, last Reset, last auxiliary input, mode, the time that remains, and
-// seven bytes that are 0.
-const LOADING: &str = "\
+",
+    // A byte of the instance, from 68 on: DiagCode, last Reset, last auxiliary input, mode, the time that remains, and
+    // seven bytes that are 0.
+    "\
 f4 00 00 03 00 04 00 00 00 00 05 ff fe ff fe ff fe 00 00 ff fe ff fe | 68=80 => runs
 f4 00 00 03 00 04 00 00 00 00 05 ff fe ff fe ff fe 00 00 ff fe ff fe | 68=81 => trap 7
 f4 00 00 03 00 04 00 00 00 00 05 ff fe ff fe ff fe 00 00 ff fe ff fe | 69=01 => trap 7
@@ -211,34 +206,17 @@ f4 00 00 03 00 04 00 00 00 00 05 ff fe ff fe ff fe 00 00 ff fe ff fe | 80=80 => 
 f4 00 00 03 00 04 00 00 00 00 05 ff fe ff fe ff fe 00 00 ff fe ff fe | 83=01 => trap 7
 f4 00 00 03 00 04 00 00 00 00 04 ff fe ff fe ff fe 00 00 ff fe ff fe | 68=81 => trap 3
 f4 00 00 03 00 04 00 00 00 00 05 ff fe ff fe ff fe 00 07 ff fe ff fe | 68=81 => trap 5
-";
-
-// States of SF_EmergencyStop, by the lower byte of a DiagCode whose higher byte is 80.
-const STATES: &str = "\
+",
+    // States of SF_EmergencyStop, by the lower byte of a DiagCode whose higher byte is 80.
+    "\
 f4 00 00 03 00 04 00 00 00 00 05 ff fe ff fe ff fe ff fe ff fe ff fe | 68=80 69=00 => runs
 f4 00 00 03 00 04 00 00 00 00 05 ff fe ff fe ff fe ff fe ff fe ff fe | 68=80 69=01 => runs
 f4 00 00 03 00 04 00 00 00 00 05 ff fe ff fe ff fe ff fe ff fe ff fe | 68=80 69=05 => runs
 f4 00 00 03 00 04 00 00 00 00 05 ff fe ff fe ff fe ff fe ff fe ff fe | 68=80 69=06 => trap 7
 f4 00 00 03 00 04 00 00 00 00 05 ff fe ff fe ff fe ff fe ff fe ff fe | 68=80 69=14 => trap 7
-";
-
-// An odd operand comes before bytes that do not load.
-const ODD_BEFORE_UNLOADABLE: &str = "\
+",
+    // An odd operand comes before bytes that do not load.
+    "\
 f4 00 00 03 00 04 00 00 00 00 05 00 01 ff fe ff fe ff fe ff fe ff fe | 62=02 68=81 => trap 4
-";
-
-/// The tables of single turns.
-pub const TABLES: &[&str] = &[
-    END_OF_CODE,
-    FIRST_BYTES,
-    OPERANDS,
-    TARGETS,
-    ODD_BYTES,
-    BYTES_OF_A_TARGET,
-    END_OF_A_ROW,
-    INSTANCES_KINDS_AND_OUTPUTS,
-    BLOCK_OPERANDS,
-    LOADING,
-    STATES,
-    ODD_BEFORE_UNLOADABLE,
-];
+",
+);

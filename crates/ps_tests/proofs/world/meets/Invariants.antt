@@ -1,5 +1,5 @@
 use Rattle.std.proofs.Common.{◌≡◌, length}
-use Rattle.ps_tests.proofs.world.are_met.Given as goal
+use Rattle.ps_tests.proofs.world.meets.Given as goal
 
 -- the world and the report have the application's sizes, and every scan is at 0 ms
 abbrev pub invariant-loop-row : goal.invariant-loop-row

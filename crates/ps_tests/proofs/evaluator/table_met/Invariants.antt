@@ -1,7 +1,7 @@
 use Rattle.std.proofs.Common.{◌≡◌, length}
 use Rattle.ps_model.specs.Network.{instance_count}
 use Rattle.ps_scan.specs.Cells.{IsFor}
-use Rattle.ps_tests.proofs.evaluator.rows_met.Given as goal
+use Rattle.ps_tests.proofs.evaluator.table_met.Given as goal
 
 -- the evaluator and the report have the application's sizes
 abbrev pub invariant-loop-row : goal.invariant-loop-row

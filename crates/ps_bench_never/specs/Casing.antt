@@ -1,6 +1,8 @@
 -- The case of a rule that is met.
-use Rattle.std.specs.Prelude.{ℕ, ◌-◌, ◌==◌, Bool, true, false, not, List, [], ◌++◌, codes, decimal, length, if◌then◌else◌, slice_index_or}
+use Rattle.std.specs.Prelude.{ℕ, ◌-◌, ◌*◌, ◌==◌, Bool, true, false, not, List, [], ◌++◌, codes, decimal, length, nat_le, if◌then◌else◌, slice_index_or}
 use Rattle.std.specs.List.{filter, flat_map, list_any, range_with_len}
+use Rattle.ps_base.specs.declared.limits.TheConstants.{LARGEST_TIME}
+use Rattle.ps_bench_frame.specs.Pieces.{count_text}
 use Rattle.ps_model.specs.Network.{Network}
 use Rattle.ps_bench_never.specs.Pieces.{condition_text, signal_text}
 use Rattle.ps_bench_rules.specs.declared.rules.Condition.{Condition}
@@ -60,3 +62,12 @@ line_text net every cs scans i =
 abbrev pub case_text : Network → (name : List ℕ) → (every : ℕ) → List Condition → List (List Bool) → List ℕ
 case_text net name every cs scans =
     codes "case " ++ name ++ codes "\n" ++ flat_map (line_text net every cs scans) (range_with_len 0 (length scans))
+
+-- the times of so many scans that come so many ms apart are those of a trace: the last one is not past the largest time
+abbrev pub has_times : (every scans : ℕ) → Bool
+has_times every scans = nat_le (every * (scans - 1)) LARGEST_TIME
+
+-- what is told of so many scans whose times are none of a trace
+abbrev pub late_text : (scans : ℕ) → List ℕ
+late_text scans =
+    codes ": a shortest case has " ++ count_text scans (codes "scan") ++ codes ", whose times would pass 4294967295 ms\n"

@@ -11,7 +11,7 @@ use Rattle.ps_bench_rules.specs.declared.rules.RulesFile.{RulesFile}
 use Rattle.ps_search.specs.declared.answer.Path.{Path}
 use Rattle.ps_bench_never.specs.SameAnswering.{IsToldBy}
 use Rattle.ps_reach.specs.Comparing.{Two}
-use Rattle.ps_bench_never.specs.SameTelling.{met_text}
+use Rattle.ps_bench_never.specs.SameTelling.{apart_text}
 use Rattle.ps_bench_never.specs.declared.same_answering.Told.{Told}
 
 -- The scans of a run are told with one output, which after them is TRUE in one application and FALSE in the other.
@@ -23,7 +23,7 @@ pub record IsNamed (t : Two) (q : Asked) (path text : List ℕ) : Type 0 where
   pub second : (vs : List State) → Meaning t.other (items_of t.net q path) vs → others ≡ outputs_left t.other vs
   pub within : place < length t.net.outputs
   pub differs : unlike (slice_index_or values place false) (slice_index_or others place false) ≡ true
-  pub tells : text ≡ met_text t q path values others place
+  pub tells : text ≡ apart_text t q path values others place
 
 -- What is told of a difference names an output that differs after the scans that are told.
 abbrev pub NamedDiffers : Type 0

@@ -5,11 +5,12 @@ ghost use Rattle.std.specs.List.{filter, flat_map, list_any, range_with_len};
 ghost use Rattle.ps_reach.specs.Tracing.{inputs_in};
 ghost use Rattle.ps_bench_never.specs.Pieces.{condition_text};
 ghost use Rattle.ps_bench_never.specs.Casing.{case_text, change_text, changes_text, expect_text, expected, gap_before};
-ghost use Rattle.ps_bench_never.specs.Casing.{inputs_at, inputs_before, is_of_before, line_text, scan_text, set_text};
+ghost use Rattle.ps_bench_never.specs.Casing.{has_times, inputs_at, inputs_before, is_of_before, late_text, line_text, scan_text, set_text};
 
 use crate::pieces::{add_condition, signal_text};
+use ps_base::limits::LARGEST_TIME;
 use ps_base::{Bytes, Memory};
-use ps_bench_frame::pieces::add_short;
+use ps_bench_frame::pieces::{add_count, add_short};
 use ps_bench_rules::Condition;
 use ps_model::App;
 use ps_reach::ScanInputs;
@@ -219,4 +220,24 @@ pub fn add_case(
     text.extend_from_slice(name)?;
     text.extend_from_slice(b"\n")?;
     add_lines(text, app, every, conditions, scans)
+}
+
+/// Whether the times of so many scans that come so many ms apart are those of a trace: the last one is not past the
+/// largest time.
+pub(crate) fn has_times(every: u32, scans: usize) -> bool
+    ensures { result ≡ has_times every scans }
+{
+    match u64::from(every).checked_mul(scans.saturating_sub(1) as u64) {
+        Some(last) => last <= u64::from(LARGEST_TIME),
+        None => false,
+    }
+}
+
+/// What is told of so many scans whose times are none of a trace.
+pub(crate) fn add_late(text: &mut Bytes, scans: usize) -> Result<(), Memory>
+    ensures { OnOk result (text.new ≡ text.old ++ late_text scans) }
+{
+    text.extend_from_slice(b": a shortest case has ")?;
+    add_count(text, scans as u64, b"scan")?;
+    text.extend_from_slice(b", whose times would pass 4294967295 ms\n")
 }

@@ -63,9 +63,9 @@ fn add_signals(text: &mut Bytes, app: &App, other: &App, signal: u16) -> Result<
 fn unlike_message(alloc: Global, compared: &Compared<'_>, unlike: Unlike) -> Result<Bytes, Memory> {
     let (app, other) = (compared.app, compared.other);
     let mut text = Bytes::new(alloc);
-    add_shown(&mut text, compared.name.as_bytes())?;
+    add_shown(&mut text, compared.name)?;
     text.extend_from_slice(b" and ")?;
-    add_shown(&mut text, compared.other_name.as_bytes())?;
+    add_shown(&mut text, compared.other_name)?;
     text.extend_from_slice(b": ")?;
     match unlike {
         Unlike::Inputs => {

@@ -14,11 +14,12 @@ ghost use Rattle.ps_reach.specs.Telling.{inputs_from};
 ghost use Rattle.ps_reach.specs.Tracing.{inputs_in};
 ghost use Rattle.ps_search.specs.declared.answer.Found.{Found as FoundOf};
 ghost use Rattle.ps_search.specs.declared.answer.Path.{Path as PathOf};
-ghost use Rattle.ps_bench_never.specs.SameTelling.{IsSaid, alike, counts_text, difference_case, expects_text, failing_text, fails_text};
+ghost use Rattle.ps_bench_never.specs.SameTelling.{IsSaid, alike, apart_text, counts_text, difference_case, expects_text, failing_text, fails_text};
 ghost use Rattle.ps_bench_never.specs.SameTelling.{first_place, first_text, met_text, named_case, names_text, other_text, output_text, outputs_text};
-ghost use Rattle.ps_bench_never.specs.SameTelling.{pairs_text, place_text, remark_text, scans_text, shortage_text, unmet_text, value_text};
+ghost use Rattle.ps_bench_never.specs.SameTelling.{pairs_text, passing_text, place_text, remark_text, scans_text, shortage_text, unmet_text, value_text};
 ghost use Rattle.ps_reach.specs.Comparing.{two_of};
 
+use crate::casing::{add_late, has_times};
 use crate::{add_case, add_set, signal_text};
 use ps_base::{Bytes, Memory};
 use ps_bench_frame::pieces::{add_count, add_shown};
@@ -32,9 +33,9 @@ use std::alloc::Global;
 fn add_names(text: &mut Bytes, compared: &Compared<'_>) -> Result<(), Memory>
     ensures { OnOk result (text.new ≡ text.old ++ names_text (two_of compared.now)) }
 {
-    add_shown(text, compared.name.as_bytes())?;
+    add_shown(text, compared.name)?;
     text.extend_from_slice(b" and ")?;
-    add_shown(text, compared.other_name.as_bytes())
+    add_shown(text, compared.other_name)
 }
 
 // So many pairs of states.
@@ -198,7 +199,7 @@ fn add_fails(text: &mut Bytes, compared: &Compared<'_>) -> Result<(), Memory>
     ensures { OnOk result (text.new ≡ text.old ++ fails_text (two_of compared.now)) }
 {
     text.extend_from_slice(b": it passes there and fails on ")?;
-    add_shown(text, compared.other_name.as_bytes())?;
+    add_shown(text, compared.other_name)?;
     text.extend_from_slice(b"\n")
 }
 
@@ -207,7 +208,7 @@ fn add_expects(text: &mut Bytes, compared: &Compared<'_>) -> Result<(), Memory>
     ensures { OnOk result (text.new ≡ text.old ++ expects_text (two_of compared.now)) }
 {
     text.extend_from_slice(b"# it expects the outputs of ")?;
-    add_shown(text, compared.name.as_bytes())
+    add_shown(text, compared.name)
 }
 
 // For which of both the case is made.
@@ -317,7 +318,7 @@ fn add_failing(text: &mut Bytes, compared: &Compared<'_>, scans: u64) -> Result<
     text.extend_from_slice(b": ")
 }
 
-// What is told where an output differs after the scans of a run, after which both have these outputs.
+// An output differs after the scans of a run, after which both have these outputs.
 fn add_met(
     text: &mut Bytes,
     alloc: Global,
@@ -347,6 +348,38 @@ fn add_met(
     )
 }
 
+// An output differs first after so many scans, whose times are none of a trace.
+fn add_passing(text: &mut Bytes, compared: &Compared<'_>, scans: usize) -> Result<(), Memory>
+    ensures { OnOk result (text.new ≡ text.old ++ passing_text (two_of compared.now) scans) }
+{
+    text.extend_from_slice(b"OPEN ")?;
+    add_names(text, compared)?;
+    add_late(text, scans)
+}
+
+// What is told where an output differs after the scans of a run, after which both have these outputs.
+fn add_apart(
+    text: &mut Bytes,
+    alloc: Global,
+    compared: &Compared<'_>,
+    asked: &Asked,
+    path: &Path,
+    behind: &Behind<'_>,
+) -> Result<(), Memory>
+    requires says { SaysOfEach compared.now.app.now asked.now }
+    requires values { length behind.now.first.now ≡ length compared.now.app.now.outputs }
+    requires others { length behind.now.other.now ≡ length behind.now.first.now }
+    ensures { OnOk result (text.new ≡ text.old ++ apart_text (two_of compared.now) asked.now path.now.inputs.items
+        behind.now.first.now behind.now.other.now (first_place behind.now.first.now behind.now.other.now)) }
+{
+    let scans = path.inputs.len();
+    if has_times(asked.every, scans) {
+        add_met(text, alloc, compared, asked, path, behind)
+    } else {
+        add_passing(text, compared, scans)
+    }
+}
+
 // What is told where the search found scans after which an output differs.
 fn met(alloc: Global, compared: &Compared<'_>, asked: &Asked, path: &Path) -> Result<Bytes, Memory>
     requires says { SaysOfEach compared.now.app.now asked.now }
@@ -363,7 +396,7 @@ fn met(alloc: Global, compared: &Compared<'_>, asked: &Asked, path: &Path) -> Re
         other: others.as_slice(),
     };
     let mut text = Bytes::new(alloc);
-    add_met(&mut text, alloc, compared, asked, path, &behind)?;
+    add_apart(&mut text, alloc, compared, asked, path, &behind)?;
     Ok(text)
 }
 
@@ -377,8 +410,8 @@ fn unmet(alloc: Global, compared: &Compared<'_>, found: &Found) -> Result<Bytes,
 }
 
 /// What is told of two applications by what a search found of what is asked of both: `HOLDS` where no output differs in
-/// any scan, `FAILS` with the first output that does and a shortest case, `OPEN` where there were too many pairs of
-/// states. An error means out of memory.
+/// any scan, `FAILS` with the first output that does and a shortest case, `OPEN` where its times would not fit into 32
+/// bits and where there were too many pairs of states. An error means out of memory.
 pub(crate) fn told(
     alloc: Global,
     compared: &Compared<'_>,

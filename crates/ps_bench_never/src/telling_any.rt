@@ -2,13 +2,15 @@
 
 ghost use Rattle.std.specs.Prelude.{◌≡◌, ◌++◌, IfOk, OnOk};
 ghost use Rattle.std.specs.List.{All};
+ghost use Rattle.std.specs.Option.{option_copied};
 ghost use Rattle.ps_bench_never.specs.Telling.{met_text};
 ghost use Rattle.ps_reach.specs.Promised.{SaysOfEach};
 ghost use Rattle.ps_reach.specs.Holding.{path_at};
 ghost use Rattle.ps_bench_never.specs.AnsweringAny.{SaysIn};
-ghost use Rattle.ps_bench_never.specs.TellingAny.{left_text, rule_text, sought_of, told_text, uncased_text};
+ghost use Rattle.ps_bench_never.specs.TellingAny.{case_at, left_text, rule_text, sought_of, told_text, uncased_text};
 ghost use Rattle.ps_bench_never.specs.TellingAny.{untimed_text, whole_text, wide_text};
 
+use crate::casing::has_times;
 use crate::searching::Attempt;
 use crate::telling::{Asking, add_head, add_met, add_unmet};
 use ps_base::{Bytes, Memory};
@@ -93,6 +95,16 @@ fn add_left(text: &mut Bytes, searched: &Searched<'_>, rule: &Rule, r: usize) ->
     }
 }
 
+// The run that an attempt found of a rule, where its times are those of a trace.
+fn case_at(attempt: &Attempt, r: usize) -> Option<&Path>
+    ensures { option_copied result ≡ case_at attempt.now r }
+{
+    match path_at(&attempt.found, r) {
+        Some(path) if has_times(attempt.asked.every, path.inputs.len()) => Some(path),
+        _ => None,
+    }
+}
+
 // The case of a rule that an attempt found.
 fn add_case_of(
     text: &mut Bytes,
@@ -128,7 +140,7 @@ fn add_rule(
     ensures { OnOk result (text.new ≡ text.old ++ rule_text (sought_of searched.now) rule.now r) }
 {
     for attempt in searched.attempts {
-        if let Some(path) = path_at(&attempt.found, r) {
+        if let Some(path) = case_at(attempt, r) {
             return add_case_of(text, alloc, searched, attempt, rule, path);
         }
     }

@@ -12,6 +12,7 @@ use Rattle.ps_bench_names.specs.declared.name.Setting.{Setting}
 use Rattle.ps_bench_rules.specs.Words.{conditions_said, settings_said}
 use Rattle.ps_bench_rules.specs.declared.flaw.Flaw.{Flaw}
 use Rattle.ps_bench_rules.specs.declared.flaw.Flaw.TheVariants.{R1, R2, R5}
+use Rattle.ps_bench_rules.specs.declared.limits.TheConstants.{LONGEST_PACE}
 use Rattle.ps_bench_rules.specs.declared.rules.Condition.{Condition}
 use Rattle.ps_bench_rules.specs.declared.rules.Follow.{Follow}
 use Rattle.ps_bench_rules.specs.declared.rules.Pace.{Pace}
@@ -33,10 +34,10 @@ pub data Said : Type 0 where
 
 -- ---- Settings.
 
--- so many ms: from 1 on
+-- so many ms: from 1 on, up to the most that scans are apart
 abbrev pub pace_of_number : Option ℕ → Result Pace Flaw
 pace_of_number None = Err R5
-pace_of_number (Some n) = if n == 0 then Err R1 else Ok (Every n)
+pace_of_number (Some n) = if n == 0 then Err R1 else if nat_lt LONGEST_PACE n then Err R5 else Ok (Every n)
 
 -- how scans come: a number of ms, or at any times
 abbrev pub pace_of_word : List ℕ → Result Pace Flaw

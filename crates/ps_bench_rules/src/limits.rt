@@ -10,5 +10,7 @@ pub const MOST_RULES_LINES: u32 = 100_000;
 pub const MOST_RULES: u32 = 1_000;
 /// The longest name of a rule, in bytes.
 pub const LONGEST_RULE_NAME: u32 = 200;
+/// How far apart scans come at most, in ms.
+pub const LONGEST_PACE: u32 = 60_000;
 /// How far apart scans come where a file does not say it, in ms.
 pub const USUAL_PACE: u32 = 10;

@@ -9,6 +9,7 @@ ghost use Rattle.ps_bench_rules.specs.Line.{rule_name, some_settings};
 ghost use Rattle.ps_bench_rules.specs.Saying.{leader_of};
 
 use crate::flaw::Flaw;
+use crate::limits::LONGEST_PACE;
 use crate::rules::{Follow, Pace, Purpose};
 use crate::words::settings_said;
 use ps_base::Memory;
@@ -74,6 +75,7 @@ fn pace_of_word(word: &[u8]) -> Result<Pace, Flaw>
     match number(word) {
         None => Err(Flaw::R5),
         Some(0) => Err(Flaw::R1),
+        Some(step) if step > LONGEST_PACE => Err(Flaw::R5),
         Some(step) => Ok(Pace::Every(step)),
     }
 }

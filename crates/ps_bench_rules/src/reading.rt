@@ -50,7 +50,7 @@ fn take_line(
 /// line has not its form, a setting stands after a rule or how scans come is said twice, a rule has no condition (at its
 /// `never` line), or at the line after the last one: there is no rule. R2: a NAME that there is not, or of another
 /// sort. R3: a value. R4: an input that stands twice after `fixed`, `follows` and `first`. R5: over 65,536 bytes in a
-/// line, 200 in a name of a rule, 100,000 lines, 1,000 rules, or 4,294,967,295 in the file or as a number of ms. For a
+/// line, 200 in a name of a rule, 100,000 lines, 1,000 rules, 4,294,967,295 bytes, or 60,000 ms from scan to scan. For a
 /// comparison a rule is R1, and what an input follows is an input or an output.
 ///
 /// All that an accepted file names is of the application: inputs, signals that are followed, and names of conditions.

@@ -20,7 +20,7 @@ pub enum Purpose {
 /// How scans come.
 #[derive(Clone, Copy)]
 pub enum Pace {
-    /// So many ms apart, from 1 on.
+    /// So many ms apart, from 1 to 60,000.
     Every(u32),
     /// At any times.
     Any,

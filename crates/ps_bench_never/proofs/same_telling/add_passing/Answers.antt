@@ -1,0 +1,12 @@
+use Rattle.std.proofs.Common.{codes}
+use Rattle.ps_reach.specs.Comparing.{two_of}
+use Rattle.ps_bench_never.specs.Casing.{late_text}
+use Rattle.ps_bench_never.specs.SameTelling.{names_text}
+use Rattle.ps_bench_never.proofs.JoiningAny.{three_more}
+use Rattle.ps_bench_never.proofs.same_telling.add_passing.Goals as goal
+
+pub returns : goal.returns
+returns c =
+    three_more c.add_late.result c.args.text.now (codes "OPEN ") (names_text (two_of c.args.compared.now)) (late_text c.args.scans)
+    c.extend_from_slice.new.self c.add_names.new.text c.add_late.new.text c.in_ok-extend_from_slice.ensures c.in_ok-add_names.ensures
+    c.add_late.ensures

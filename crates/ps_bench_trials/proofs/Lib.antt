@@ -4,7 +4,11 @@ pub mod Upto
 pub mod Growing
 -- lists that are added, and what is counted of trials in parts
 pub mod TallyAdding
--- counts, all of which their text says
+-- numbers together, the columns of latencies, and lines whose latencies some trips have
+mod Weighing
+mod Columns
+mod Fitting
+-- counts that trials have, all of which their text says
 pub mod Plain
 -- what names a text that is held
 mod Held

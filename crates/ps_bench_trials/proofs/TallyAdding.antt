@@ -56,7 +56,7 @@ largest_grouped a b c = omega arith
 
 -- ---- two lines together
 
-abbrev line_of : (count sum largest : ℕ) (table : List ℕ) → Line
+abbrev pub line_of : (count sum largest : ℕ) (table : List ℕ) → Line
 line_of count sum largest table = record { count = count; sum = sum; largest = largest; table = table }
 
 same_line : {a b c a' b' c' : ℕ} {t t' : List ℕ} → a ≡ a' → b ≡ b' → c ≡ c' → t ≡ t' → line_of a b c t ≡ line_of a' b' c' t'
@@ -69,7 +69,7 @@ trial_more (Some latency) x y =
     same_line (more_swap x.count y.count 1) (more_swap x.sum y.sum latency) (largest_swap x.largest y.largest latency)
     (changed more (λ n. more n 1) (λ a b. more_swap a b 1) x.table y.table (column_of latency) 0)
 
-line_turned : (x y : Line) → added_line x y ≡ added_line y x
+pub line_turned : (x y : Line) → added_line x y ≡ added_line y x
 line_turned x y =
     same_line (more_turned x.count y.count) (more_turned x.sum y.sum) (largest_turned x.largest y.largest)
     (turned more more_turned x.table y.table)

@@ -15,6 +15,7 @@ pub mod Adding
 pub mod Laws
 -- the counts as text
 pub mod Telling
+pub mod Possible
 pub mod Plain
 -- how a text is named
 pub mod Naming

@@ -13,7 +13,8 @@
 //! - `outcome`: what a trial comes to. `line`: the counts of a line, which take one trial more, or those of another
 //!   line.
 //! - `tally`: the counts of all lines, which take one trial more, or those of another tally.
-//! - `telling`: the lines as text. `reading`: the lines that a text says.
+//! - `telling`: the lines as text. `possible`: whether some trips have the latencies of a line. `reading`: the lines that
+//!   a text says.
 //! - `laws`: trials are counted in parts and in any order.
 //!
 //! Totals:
@@ -34,6 +35,7 @@ mod line;
 mod mark;
 mod naming;
 mod outcome;
+mod possible;
 mod reading;
 mod refusal;
 mod step;

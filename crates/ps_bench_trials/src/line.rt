@@ -63,7 +63,7 @@ fn floors_upto(floors: &[u32], latency: u32) -> usize
 
 // The column of a latency.
 #[tactic(auto, unfolding(crate::specs::Lines::column_of))]
-fn column_of(latency: u32) -> usize
+pub(crate) fn column_of(latency: u32) -> usize
     ensures column { result ≡ column_of latency }
     ensures few { result < 33 }
 {

@@ -1,9 +1,11 @@
 // The counts of trials, read from the lines that tell them.
 
-ghost use Rattle.std.specs.Prelude.{◌≡◌, ◌≤◌, ◌<◌, IfOk, IfSome, false, length};
+ghost use Rattle.std.specs.Prelude.{◌≡◌, ◌≤◌, ◌<◌, IfOk, IfSome, IsTrue, false, length, true};
 ghost use Rattle.ps_bench_trials.specs.Plain.{ArePlain, IsPlain, of_count};
+ghost use Rattle.ps_bench_trials.specs.Possible.{is_possible};
 ghost use Rattle.ps_bench_trials.specs.Telling.{is_of_trips, tally_text};
 
+use crate::possible::is_possible;
 use crate::tally::Tally;
 use crate::telling::{add_tally, channel_text, is_of_trips, outcome_text, region_text};
 use crate::{FLOORS, Line};
@@ -120,12 +122,19 @@ fn read_counts(text: &[u8], place: usize) -> Option<Read<'_, Line>>
     })
 }
 
-// The line of a place, which has a trial; none where no such line stands there.
+// Whether a line of a place is one that trials can have: of trips some have its latencies.
+fn can_be(line: &Line, place: usize) -> bool
+    ensures { IsTrue result → is_of_trips place ≡ true → is_possible line.now ≡ true }
+{
+    !is_of_trips(place) || is_possible(line)
+}
+
+// The line of a place, which has a trial; none where no such line stands there, or none that trials can have.
 fn read_line(text: &[u8], place: usize) -> Option<Read<'_, Line>>
     ensures { IfSome result (λ read. IsPlain read.what place) }
 {
     let counts = read_counts(text, place)?;
-    if counts.what.count == 0 {
+    if counts.what.count == 0 || !can_be(&counts.what, place) {
         return None;
     }
     let rest = counts.rest.strip_prefix(b"\n")?;

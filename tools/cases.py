@@ -7,8 +7,9 @@ Rows: case files that break a rule K, each with its refusal line, and some that 
 large as a trace may be, or larger by a scan or a letter, of an application with many inputs. Drawn: cases of the applications of
 examples/, with expectations that hold and others that do not. This script lays a case out as a trace and a fault file of its own, has
 `plcsafe fault` run them, reads the expectations against the lines that it writes, and compares what passes and which lines fail with
-what `plcsafe-bench test` tells. It shares nothing with the program that is tried but the two channels. The status is 0 where nothing
-differs.
+what `plcsafe-bench test` tells. It shares nothing with the program that is tried but the two channels. Names: files with drawn names of
+characters that break lines, TAP or XML, which readers of these find again in what `test`, `never` and `same` write. The status is 0
+where nothing differs.
 """
 import pathlib
 import random
@@ -16,6 +17,7 @@ import re
 import subprocess
 import sys
 import tempfile
+import xml.etree.ElementTree
 
 from plainly import Stop, plainly
 
@@ -59,6 +61,12 @@ ROWS = [
     ("case a\n" + "\n" * 99999 + "+1", "K7 100001"), ("time S_Stop Ack Run\n0 1 0 0\n", "K1 1"), ("PROGRAM Motor\n", "K1 1"),
 ]
 
+
+# What drawn names are made of, and the application and the cases of the files that have them.
+SIGNS = ["\n", "\r", "\t", "\x0b", "\x1b", "\x7f", "\x85", "\u2028", "\u2029", "\ufffe", "\uffff", "\\", "x0a", "#", " ", "'", '"', "<", "&", ">", "]]>",
+         ":", "a", "ok 1 - ", "# SKIP", "\u00e9", "\u20ac", "\U0001f600"]
+SOURCE_OF_NAMES = "PROGRAM P\nVAR_INPUT S_A : SAFEBOOL; END_VAR\nVAR_OUTPUT S_Run : SAFEBOOL; END_VAR\nS_Run := S_A;\nEND_PROGRAM\n"
+CASES_OF_NAMES = "case it runs\n+10 S_A=1\nexpect S_Run=1\ncase # it \\ stops\n+10 S_A=1\nexpect S_Run=0\n"
 
 MANY, LARGEST = 512, 67_108_864  # the inputs of the application of the sizes, and the bytes of the largest trace
 
@@ -343,6 +351,55 @@ def wrong_draws(programs, folder, count, seed):
             yield f"{app}, drawn {seed} {number}: {wanted} is wanted, and status {status} comes: {told(lines)}\n{text}"
 
 
+def lines_of(programs, *words):
+    """The lines of what plcsafe-bench writes, which ends with a line feed. They end at line feeds alone."""
+    run = subprocess.run([programs.bench, *map(str, words)], stdin=subprocess.DEVNULL, stdout=subprocess.PIPE, stderr=subprocess.DEVNULL)
+    return run.stdout.decode().split("\n")[:-1]
+
+
+def name_read(text):
+    """A name of what stands for it in a line."""
+    return re.sub(rb"\\(?:x([0-9a-f]{2})|(\\))", lambda found: bytes([int(found[1], 16)]) if found[1] else found[2], text.encode()).decode()
+
+
+def description_read(text):
+    """The description of a row of TAP; nothing where a directive begins in it."""
+    return re.sub(r"\\(.)", r"\1", text) if re.fullmatch(r"(?:[^\\#]|\\.)*", text) else None
+
+
+def wrong_name(programs, app, other, cases, rules):
+    """What the readers find in the place of what stands in the files of these names; nothing where they find that."""
+    call = f"plcsafe-bench watch {app} {cases}:4"
+    lines = lines_of(programs, "test", app, cases, "--format", "tap")
+    found = [description_read(line.split(" - ", 1)[1]) for line in lines if re.match(r"(not )?ok ", line)]
+    found += [line[len("# "):] for line in lines if line.startswith("# plcsafe-bench")]
+    wanted = [f"{cases}:1 it runs", f"{cases}:4 # it \\ stops", call]
+    suite = xml.etree.ElementTree.fromstring("\n".join(lines_of(programs, "test", app, cases, "--format", "junit")))[0]
+    found += [suite.get("name"), *(case.get("classname") for case in suite), suite[1][0].text.split("\n")[-2]]
+    wanted += [cases, cases, cases, call]
+    found += lines_of(programs, "test", app, cases)
+    wanted += [f"PASS {cases}:1 it runs (1 scan)", f"FAIL {cases}:4 # it \\ stops (1 scan)", "  line 6: S_Run is 1, expected 0 (at 10 ms)", "  " + call,
+               "2 cases, 1 passed, 1 failed"]
+    found += [line.rpartition(" (")[0] for line in lines_of(programs, "never", app, rules) + lines_of(programs, "same", app, other)]
+    wanted += [f"HOLDS {rules}:1 a", f"HOLDS {rules}:3 b", f"HOLDS {app} and {other} have the same outputs"]
+    found = [text and name_read(text) for text in found]
+    return None if found == wanted else found
+
+
+def wrong_names(programs, folder, count, seed):
+    """The drawn names that readers do not find again."""
+    rules = "never a\n  S_Run=1 S_A=0\nnever b\n  S_Run=0 S_A=1\n"
+    for number in range(count):
+        draw = random.Random(f"{seed} {number}")
+        texts = {".st": SOURCE_OF_NAMES, "2.st": SOURCE_OF_NAMES.replace(":= S_A", ":= S_A AND S_A"), ".cases": CASES_OF_NAMES, ".rules": rules}
+        names = [str(folder / ("".join(draw.choice(SIGNS) for _ in range(draw.randint(1, 12))) + end)) for end in texts]
+        for name, text in zip(names, texts.values()):
+            pathlib.Path(name).write_text(text)
+        found = wrong_name(programs, *names)
+        if found is not None:
+            yield f"names drawn {seed} {number}: of {names!r} readers find {found!r}"
+
+
 def main(words):
     options = {"--count": 40, "--seed": 1}
     while words[:1] and words[0] in options and len(words) > 1 and words[1].isdigit():
@@ -354,9 +411,10 @@ def main(words):
     programs = Programs(plain[0], named[0])
     with tempfile.TemporaryDirectory(prefix="plcsafe-cases-") as place:
         folder = pathlib.Path(place)
-        wrong = [*wrong_rows(programs, folder), *wrong_sizes(programs, folder), *wrong_draws(programs, folder, options["--count"], options["--seed"])]
+        wrong = [*wrong_rows(programs, folder), *wrong_sizes(programs, folder), *wrong_draws(programs, folder, options["--count"], options["--seed"]),
+                 *wrong_names(programs, folder, options["--count"], options["--seed"])]
     print("\n".join(wrong[:5]) + "\n" if wrong else "", end="")
-    print(f"{len(ROWS)} rows, sizes and {options['--count']} drawn case files, {len(wrong)} of them told otherwise")
+    print(f"{len(ROWS)} rows, sizes, {options['--count']} drawn case files and names, {len(wrong)} of them told otherwise")
     return 1 if wrong else 0
 
 

@@ -1,7 +1,7 @@
 #!/usr/bin/env python3
 """Makes the calls of tests/calls/ with a program, and compares what each writes, and how it ends.
 
-rows.py PROGRAM [WORD]      the rows whose file or title has WORD, else all
+rows.py PROGRAM [NAME=FILE..] [WORD]    the rows whose file or title has WORD, else all; `bench` rows where plcsafe-bench=FILE is given
 
 A file of tests/calls/ has sections, each of a line that begins with `@ ` and what stands below it:
 
@@ -12,11 +12,12 @@ A file of tests/calls/ has sections, each of a line that begins with `@ ` and wh
 @ each FILE of WORDS ; PART ; ..  a call for each line, which is the text of FILE: a bar stands for a line feed. Behind ` => ` stands the
                                   line that it has to write; with `gives TEXT` it writes this text, and the line's words stand for its `%`
 @ told WORDS ; PART ; ..          a call, and what it has to say on standard error
+@ bench WORDS ; PART ; ..         a call of plcsafe-bench, in whose words escapes stand for characters, and the text that it has to write
 @ usage                           the words of a call in each line, which has to write the usage line
 @ # WORDS                         a comment
 
-A part is a file with its text, as `A=motor.MOTOR`, `F="before 1 A code 0 ff\\n"` or `A=HEAD..END` around the line of an `each`, a
-`status N`, `gives TEXT`, or a title. Where no status is said it is that of the line: 3 for a refusal C, O, T or F, 1 for any other, else 0.
+A part is a file with its text, as `A=motor.MOTOR`, `F="before 1 A code 0 ff\\n"` or `A=HEAD..END` around the line of an `each`, or `file NAME=TEXT`,
+whose name may have escapes; a `status N`, `gives TEXT`, or a title. Where no status is said it is that of the line: 3 for a refusal C, O, T or F, 1 for any other, else 0.
 \\r, \\t, \\n, \\\\ and \\u{HEX} stand for these characters; one \\ at the end of the last line: no line feed stands behind it. The status is 0
 where all calls were answered so.
 """
@@ -72,7 +73,7 @@ class Section:
 
     def title(self):
         """The title, or the words."""
-        known = ("A=", "T=", "F=", "status ", "gives ")
+        known = ("A=", "T=", "F=", "file ", "status ", "gives ")
         return next((part for part in self.parts if not part.startswith(known)), self.words)
 
 
@@ -111,8 +112,8 @@ def status_behind(line):
 class Rows:
     """The calls of one program in a folder of their own, and which of them were answered otherwise."""
 
-    def __init__(self, program, folder, word):
-        self.program, self.folder, self.word = program, pathlib.Path(folder), word
+    def __init__(self, program, beside, folder, word):
+        self.program, self.beside, self.folder, self.word = program, beside, pathlib.Path(folder), word
         self.held, self.count, self.wrong = {}, 0, []
 
     def hold(self, files):
@@ -122,12 +123,12 @@ class Rows:
                 (self.folder / name).write_bytes(text.encode())
                 self.held[name] = text
 
-    def gives(self, title, words, files, wanted, is_told=False):
+    def gives(self, title, words, files, wanted, is_told=False, program=None):
         """A call, and the status and the text that it has to write: on standard output, or on standard error."""
         if self.word not in title:
             return
         self.hold(files)
-        run = subprocess.run([self.program, *words], cwd=self.folder, env=HEARD if is_told else QUIET, stdin=subprocess.DEVNULL,
+        run = subprocess.run([program or self.program, *words], cwd=self.folder, env=HEARD if is_told else QUIET, stdin=subprocess.DEVNULL,
                              stdout=subprocess.PIPE, stderr=subprocess.PIPE, timeout=300)
         self.count += 1
         status, text = wanted
@@ -148,6 +149,16 @@ def do_call(rows, section, texts):
     wanted = (int(section.part("status ")), body(section.lines))
     title = f"{section.file}: {section.title()}"
     rows.gives(title, section.words.split(" "), files_of(section, texts), wanted, section.kind == "told")
+
+
+def do_bench(rows, section, texts):
+    if "plcsafe-bench" not in rows.beside:
+        return
+    named = (part[len("file "):].partition("=") for part in section.parts if part.startswith("file "))
+    files = {meant(name): text_of(value, section.file, texts) for name, _, value in named}
+    words = [meant(word) for word in section.words.split(" ")]
+    wanted = (int(section.part("status ")), body(section.lines))
+    rows.gives(f"{section.file}: {section.title()}", words, files, wanted, program=rows.beside["plcsafe-bench"])
 
 
 def do_walk(rows, section, texts):
@@ -182,7 +193,7 @@ def do_usage(rows, section, _texts):
         rows.gives(f"{section.file}: a word that is no UTF-8", words, {}, (8, ""))
 
 
-KINDS = {"call": do_call, "told": do_call, "walk": do_walk, "each": do_each, "usage": do_usage}
+KINDS = {"call": do_call, "told": do_call, "bench": do_bench, "walk": do_walk, "each": do_each, "usage": do_usage}
 
 
 # ---- texts at the limits and one past them, which are too long to be written down
@@ -362,15 +373,24 @@ def long_lines(rows, texts):
         rows.gives(f"long: a line of {count} bytes behind a sign", ["run", "A", "T"], {"A": motor, "T": trace}, wanted)
 
 
+def program_at(word):
+    """The file of a program."""
+    program = str(pathlib.Path(word).resolve())
+    if not os.path.isfile(program) or not os.access(program, os.X_OK):
+        raise Stop(f"{word} is no program")
+    return program
+
+
 def main(words):
+    named = [word for word in words[1:] if word.startswith("plcsafe-") and "=" in word]
+    words = [word for word in words if word not in named]
     if len(words) not in (1, 2) or words[0].startswith("-"):
         return None
-    program = str(pathlib.Path(words[0]).resolve())
-    if not os.path.isfile(program) or not os.access(program, os.X_OK):
-        raise Stop(f"{words[0]} is no program")
+    program = program_at(words[0])
+    beside = {name: program_at(file) for name, _, file in (word.partition("=") for word in named)}
     found, texts = sections()
     with tempfile.TemporaryDirectory(prefix="plcsafe-rows-") as folder:
-        rows = Rows(program, folder, words[1] if len(words) > 1 else "")
+        rows = Rows(program, beside, folder, words[1] if len(words) > 1 else "")
         for section in found:
             KINDS[section.kind](rows, section, texts)
         unwritten(rows, texts)
@@ -386,4 +406,4 @@ def main(words):
 
 
 if __name__ == "__main__":
-    plainly(main, "tools/rows.py PROGRAM [WORD]")
+    plainly(main, "tools/rows.py PROGRAM [NAME=FILE..] [WORD]")

@@ -2,6 +2,9 @@
 pub mod Giving
 -- the capital hexadecimal digits
 pub mod Capitals
+-- texts and their characters, and names as they stand in a line
+pub mod Characters
+pub mod Shown
 -- what an output took of a text whose writing stopped
 pub mod Stopped
 pub mod Dots

@@ -1,6 +1,8 @@
 -- pieces of what the commands write, and the line of a refusal: what a reader of the clauses has to believe
 pub mod Pieces
 pub mod Refusing
+-- a reader of names as they stand in a line
+pub mod Reading
 -- what a word means in the place of a trace
 pub mod Meant
 -- a call as the commands see it: its files and its output

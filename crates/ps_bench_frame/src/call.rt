@@ -82,19 +82,19 @@ pub trait Call {
         ensures { seen self.new ≡ seen self.old };
 }
 
-/// A call over files, an output and whoever listens.
-pub struct CallOver<'a, F: Files, O: Output, L: Listener> {
+/// A call over files, an output and whoever listens, each lent for a time of its own.
+pub struct CallOver<'f, 'o, 'l, F: Files, O: Output, L: Listener> {
     /// What takes memory for it.
     pub alloc: Global,
     /// The files that it reads.
-    pub files: &'a mut F,
+    pub files: &'f mut F,
     /// The output that it writes.
-    pub out: &'a mut O,
+    pub out: &'o mut O,
     /// Who hears its messages.
-    pub listener: &'a mut L,
+    pub listener: &'l mut L,
 }
 
-impl<'a, F: Files, O: Output, L: Listener> Call for CallOver<'a, F, O, L> {
+impl<'f, 'o, 'l, F: Files, O: Output, L: Listener> Call for CallOver<'f, 'o, 'l, F, O, L> {
     ghost seen = { λ c. record {
       files = files_seen F.tells F.held F.faults c.files.now;
       out = output_seen O.tells O.taken O.faults c.out.now;

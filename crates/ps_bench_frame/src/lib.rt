@@ -8,7 +8,8 @@
 //! - `ending` has the exit statuses of the program, and why a call stops.
 //! - `refusing` is the line of a case file, a rules file, a log or a file of counts that is refused, and how a call
 //!   ends that refuses a log.
-//! - `pieces` has pieces of what the commands write.
+//! - `pieces` has pieces of what the commands write, and how a name from outside stands in a line; `shown_laws` has what
+//!   holds of every such name.
 //! - `call` is the call as one value: files, output and whoever listens. `answering` is how it ends: a command gives an
 //!   answer, or why it stops, and `finish` writes the last text, or the line of the refusal.
 //! - `following` does the items of a trace of which only is kept what comes of them: nothing is written.
@@ -24,6 +25,7 @@ mod opening;
 pub mod pieces;
 mod program;
 mod refusing;
+pub mod shown_laws;
 mod sourcing;
 
 pub use answering::{Answer, finish};

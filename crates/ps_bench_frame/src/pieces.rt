@@ -2,9 +2,12 @@
 
 ghost use Rattle.std.specs.Prelude.{◌≡◌, ◌<◌, ◌++◌, OnOk, decimal, slice_index};
 ghost use Rattle.std.specs.Char.{to_ascii_uppercase};
+ghost use Rattle.std.specs.List.{flat_map};
 ghost use Rattle.hex.specs.Hex.{lower_digits};
 ghost use Rattle.ps_report.specs.Lines.{code_text};
-ghost use Rattle.ps_bench_frame.specs.Pieces.{count_text, place_text, plural, shown, shown_byte};
+ghost use Rattle.ps_bench_frame.specs.Pieces.{coded, count_text, ends_line, is_no_character, is_of_line, place_text};
+ghost use Rattle.ps_bench_frame.specs.Pieces.{plural, shown, shown_char};
+ghost use Rattle.ps_text.specs.Escaping.{hex_digit};
 
 use itoa::Buffer;
 use ps_base::{Bytes, Memory};
@@ -71,29 +74,87 @@ pub fn add_code(text: &mut Bytes, code: u16) -> Result<(), Memory>
     text.extend_from_slice(&code_digits(code))
 }
 
-// A byte of a name; one below 32, which is no character that is seen, is shown as `?`.
-fn add_shown_byte(text: &mut Bytes, byte: u8) -> Result<(), Memory>
-    ensures { OnOk result (text.new ≡ text.old ++ shown_byte byte) }
+// Whether a reader of lines may end a line at a character that is no control character.
+fn ends_line(c: char) -> bool
+    ensures { result ≡ ends_line c }
 {
-    if byte < 32 {
-        text.extend_from_slice(b"?")
+    c == '\u{2028}' || c == '\u{2029}'
+}
+
+// Whether a code is no character, and XML cannot hold it.
+fn is_no_character(c: char) -> bool
+    ensures { result ≡ is_no_character c }
+{
+    c == '\u{FFFE}' || c == '\u{FFFF}'
+}
+
+// Whether a character may stand in a line that is told.
+fn is_of_line(c: char) -> bool
+    ensures { result ≡ is_of_line c }
+{
+    !c.is_control() && !ends_line(c) && !is_no_character(c)
+}
+
+// The small hexadecimal digit of a number up to 15.
+fn small_digit(number: u8) -> u8
+    requires { number < 16 }
+    ensures { result ≡ hex_digit number }
+{
+    if number < 10 {
+        number + 48
     } else {
-        text.push(byte)
+        number + 87
     }
 }
 
-/// The name of a file.
-pub fn add_shown(text: &mut Bytes, name: &[u8]) -> Result<(), Memory>
+// A byte by its two hexadecimal digits.
+fn add_coded(text: &mut Bytes, byte: u8) -> Result<(), Memory>
+    ensures { OnOk result (text.new ≡ text.old ++ coded byte) }
+{
+    let digits = [b'\\', b'x', small_digit(byte / 16), small_digit(byte % 16)];
+    text.extend_from_slice(&digits)
+}
+
+// Bytes by their digits.
+fn add_all_coded(text: &mut Bytes, bytes: &[u8]) -> Result<(), Memory>
+    ensures { OnOk result (text.new ≡ text.old ++ flat_map coded bytes.now) }
+{
+    for byte in bytes {
+        add_coded(text, *byte)?;
+    }
+    Ok(())
+}
+
+// A character of a name.
+fn add_shown_char(text: &mut Bytes, c: char) -> Result<(), Memory>
+    ensures { OnOk result (text.new ≡ text.old ++ shown_char c) }
+{
+    if c == '\\' {
+        return text.extend_from_slice(b"\\\\");
+    }
+    let mut buffer = [0; 4];
+    let bytes = c.encode_utf8(&mut buffer).as_bytes();
+    if is_of_line(c) {
+        text.extend_from_slice(bytes)
+    } else {
+        add_all_coded(text, bytes)
+    }
+}
+
+/// A name from outside, as that of a file or a word of the call: a backslash stands twice, and a character that may not
+/// stand in a line (a control character, U+2028, U+2029, and U+FFFE and U+FFFF, which XML cannot hold) stands as its
+/// bytes, as `\x0a`. All else stands as it is.
+pub fn add_shown(text: &mut Bytes, name: &str) -> Result<(), Memory>
     ensures { OnOk result (text.new ≡ text.old ++ shown name.now) }
 {
-    for byte in name {
-        add_shown_byte(text, *byte)?;
+    for c in name.chars() {
+        add_shown_char(text, c)?;
     }
     Ok(())
 }
 
 /// A file and a line of it, as `press.cases:7`.
-pub fn add_place(text: &mut Bytes, file: &[u8], line: u32) -> Result<(), Memory>
+pub fn add_place(text: &mut Bytes, file: &str, line: u32) -> Result<(), Memory>
     ensures { OnOk result (text.new ≡ text.old ++ place_text file.now line) }
 {
     add_shown(text, file)?;

@@ -47,7 +47,7 @@ fn add_input(alloc: Global, source: &[u8], input: u16, words: &mut Bytes) -> Res
         Ok(accepted) => {
             let (app, _) = accepted.into_parts();
             if input < app.input_count() {
-                add_shown(words, app.signal_name(input).as_bytes())?;
+                add_shown(words, app.signal_name(input))?;
             }
             Ok(())
         }

@@ -40,7 +40,7 @@ fn said_of(flaw: Flaw) -> Said {
         Flaw::R5 => Said {
             rule: "R5",
             sentence: "the file is over a limit",
-            remedy: "keep to 1,000 rules, 20 free inputs, 65,536 bytes a line and 200 bytes a name; fix inputs that need not change",
+            remedy: "keep to 1,000 rules, 20 free inputs, 60,000 ms behind every, 65,536 bytes a line and 200 bytes a name; fix inputs that need not change",
         },
     }
 }

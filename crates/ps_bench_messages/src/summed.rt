@@ -87,7 +87,7 @@ fn told_on(alloc: Global, first: &str, rule: SumRule) -> Result<Bytes, Memory> {
     let mut words = Bytes::new(alloc);
     if matches!(rule, SumRule::U2 | SumRule::U3) {
         words.extend_from_slice(b"the first file is ")?;
-        add_shown(&mut words, first.as_bytes())?;
+        add_shown(&mut words, first)?;
     }
     Ok(words)
 }

@@ -324,9 +324,9 @@ pub fn tell<L: Listener>(alloc: Global, listener: &mut L, names: &Names<'_>, sto
 // What is told of a word that names nothing in the application of this name.
 fn no_name(alloc: Global, app: &str, word: &str) -> Result<Bytes, Memory> {
     let mut text = Bytes::new(alloc);
-    add_shown(&mut text, app.as_bytes())?;
+    add_shown(&mut text, app)?;
     text.extend_from_slice(b": nothing there is called ")?;
-    add_shown(&mut text, word.as_bytes())?;
+    add_shown(&mut text, word)?;
     text.extend_from_slice(
         b"\nname an input, an output, a local, an instance, or INSTANCE.PIN for a BOOL or SAFEBOOL pin (docs/watch.md)\n",
     )?;

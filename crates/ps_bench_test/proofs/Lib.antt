@@ -6,3 +6,6 @@ pub mod Ordering
 pub mod Stopped
 -- texts that are written one after another
 pub mod Joining
+-- what readers of TAP and of XML make of what is reported
+pub mod Descriptions
+pub mod Values

@@ -5,9 +5,10 @@ use Rattle.ps_bench_cases.specs.declared.rule.CaseRefusal.{CaseRefusal}
 use Rattle.ps_bench_frame.specs.Refusing.{refused_line}
 use Rattle.ps_bench_test.specs.Lines.{all_failures}
 use Rattle.ps_bench_test.specs.Outcome.{Ran, passes}
-use Rattle.ps_bench_frame.specs.Pieces.{count_text}
+use Rattle.ps_bench_frame.specs.Pieces.{count_text, shown}
 
--- a byte of a text or an attribute: what has a meaning of its own is escaped, and what XML cannot hold is `?`
+-- a byte of a text or an attribute: what has a meaning of its own is escaped, and a control byte that is no line feed is
+-- `?`
 abbrev pub xml_byte : ℕ → List ℕ
 xml_byte b =
     if b == 38 then codes "&amp;"
@@ -31,18 +32,18 @@ attribute key value = codes " " ++ key ++ codes "=\"" ++ xml_escaped value ++ co
 abbrev pub junit_head : List ℕ
 junit_head = codes "<?xml version=\"1.0\" encoding=\"UTF-8\"?>\n<testsuites>\n"
 
--- the beginning of the results of a file of this name that has so many cases
+-- the beginning of the results of a file of this name, as it stands in a line, that has so many cases
 abbrev pub suite_head : (name : List ℕ) → (cases : ℕ) → List ℕ
 suite_head name cases =
-    codes "<testsuite" ++ attribute (codes "name") name ++ codes " tests=\"" ++ decimal cases ++ codes "\">\n"
+    codes "<testsuite" ++ attribute (codes "name") (shown name) ++ codes " tests=\"" ++ decimal cases ++ codes "\">\n"
 
 -- the beginning of a case of this name
 abbrev pub case_name : (name : List ℕ) → List ℕ
 case_name name = codes "<testcase" ++ attribute (codes "name") name
 
--- the beginning of a case of a file
+-- the beginning of a case of a file, whose name is as it stands in a line
 abbrev pub case_head : (name file : List ℕ) → List ℕ
-case_head name file = case_name name ++ attribute (codes "classname") file
+case_head name file = case_name name ++ attribute (codes "classname") (shown file)
 
 -- the beginning of so many failures of a case
 abbrev pub failed_head : (count : ℕ) → List ℕ
@@ -75,5 +76,5 @@ junit_foot = codes "</testsuites>\n"
 -- in a line of its own.
 abbrev pub junit_refused : (name : List ℕ) → CaseRefusal → List ℕ
 junit_refused name r =
-    suite_head name 1 ++ case_head name name ++ codes ">\n<error message=\"the case file is refused\">\n"
+    suite_head name 1 ++ case_head (shown name) name ++ codes ">\n<error message=\"the case file is refused\">\n"
     ++ refused_line r ++ codes "</error>\n</testcase>\n</testsuite>\n</testsuites>\n"

@@ -8,6 +8,8 @@ pub mod Lines
 pub mod Tap
 pub mod Junit
 pub mod Report
+-- what readers of TAP and of XML make of it
+pub mod Reading
 -- names and values in words, statements by their lines, and a case that was run
 pub mod Naming
 pub mod Placing

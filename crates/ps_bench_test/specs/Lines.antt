@@ -1,7 +1,7 @@
 -- Results in lines for a person.
 use Rattle.std.specs.Prelude.{ℕ, ◌-◌, List, [], ◌++◌, codes, decimal, if◌then◌else◌}
 use Rattle.ps_bench_test.specs.Failing.{failures_text}
-use Rattle.ps_bench_frame.specs.Pieces.{count_text, place_text}
+use Rattle.ps_bench_frame.specs.Pieces.{count_text, place_text, shown}
 use Rattle.ps_bench_test.specs.Outcome.{Ran, passes}
 use Rattle.ps_bench_test.specs.declared.outcome.Tally.{Tally}
 
@@ -13,7 +13,7 @@ case_line r =
 
 -- the command that shows a run of an application of this name, after a mark
 abbrev pub command_text : (mark app : List ℕ) → List ℕ
-command_text mark app = mark ++ codes "plcsafe-bench watch " ++ app
+command_text mark app = mark ++ codes "plcsafe-bench watch " ++ shown app
 
 -- the call that shows the run of a case, in a line after a mark, as `plcsafe-bench watch press.st press.cases:7`
 abbrev pub call_text : (mark : List ℕ) → Ran → List ℕ

@@ -9,7 +9,7 @@ ghost use Rattle.ps_bench_test.specs.Outcome.{passes, ran_of};
 use crate::failing::add_failures;
 use crate::{CaseRun, Tally};
 use ps_base::{Bytes, Memory};
-use ps_bench_frame::pieces::{add_count, add_number, add_place, add_short};
+use ps_bench_frame::pieces::{add_count, add_number, add_place, add_short, add_shown};
 use std::alloc::Global;
 
 // Whether a case passed or failed.
@@ -33,7 +33,7 @@ fn add_case(text: &mut Bytes, run: &CaseRun<'_>) -> Result<(), Memory>
     ensures { OnOk result (text.new ≡ text.old ++ case_line (ran_of run.now)) }
 {
     text.extend_from_slice(verdict(run.passed()))?;
-    add_place(text, run.name.as_bytes(), run.case.line)?;
+    add_place(text, run.name, run.case.line)?;
     text.extend_from_slice(b" ")?;
     text.extend_from_slice(run.case.name.as_str().as_bytes())?;
     add_scans(text, run.outcome.scans)
@@ -45,7 +45,7 @@ fn add_command(text: &mut Bytes, mark: &[u8], app: &str) -> Result<(), Memory>
 {
     text.extend_from_slice(mark)?;
     text.extend_from_slice(b"plcsafe-bench watch ")?;
-    text.extend_from_slice(app.as_bytes())
+    add_shown(text, app)
 }
 
 // The call that shows the run of a case, in a line after a mark.
@@ -54,12 +54,12 @@ fn add_call(text: &mut Bytes, mark: &[u8], run: &CaseRun<'_>) -> Result<(), Memo
 {
     add_command(text, mark, run.app_name)?;
     text.extend_from_slice(b" ")?;
-    add_place(text, run.name.as_bytes(), run.case.line)?;
+    add_place(text, run.name, run.case.line)?;
     text.extend_from_slice(b"\n")
 }
 
 // The same of a case that failed; nothing of one that passed.
-fn add_shown(text: &mut Bytes, mark: &[u8], run: &CaseRun<'_>) -> Result<(), Memory>
+fn add_call_if_failed(text: &mut Bytes, mark: &[u8], run: &CaseRun<'_>) -> Result<(), Memory>
     ensures { OnOk result (text.new ≡ text.old ++ shown_text mark.now (ran_of run.now)) }
 {
     if run.passed() {
@@ -86,7 +86,7 @@ pub(crate) fn add_failures_of(
         run.case.statements.as_slice(),
         failures,
     )?;
-    add_shown(text, mark, run)
+    add_call_if_failed(text, mark, run)
 }
 
 // A case in a line, and below it its failures.

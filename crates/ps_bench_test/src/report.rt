@@ -30,7 +30,7 @@ pub fn file_head(alloc: Global, format: Format, name: &str, cases: usize) -> Res
     match format {
         Format::Text => Ok(Bytes::new(alloc)),
         Format::Tap => Ok(Bytes::new(alloc)),
-        Format::Junit => junit::suite_head(alloc, name.as_bytes(), cases),
+        Format::Junit => junit::suite_head(alloc, name, cases),
     }
 }
 
@@ -84,6 +84,6 @@ pub fn refused(
     match format {
         Format::Text => refused_line(alloc, refusal),
         Format::Tap => tap::refused(alloc, refusal),
-        Format::Junit => junit::refused(alloc, name.as_bytes(), refusal),
+        Format::Junit => junit::refused(alloc, name, refusal),
     }
 }

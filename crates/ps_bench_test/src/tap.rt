@@ -43,7 +43,7 @@ fn description(alloc: Global, run: &CaseRun<'_>) -> Result<Bytes, Memory>
         place_text (ran_of run.now).name (ran_of run.now).case.line ++ codes " " ++ (ran_of run.now).case.name) }
 {
     let mut text = Bytes::new(alloc);
-    add_place(&mut text, run.name.as_bytes(), run.case.line)?;
+    add_place(&mut text, run.name, run.case.line)?;
     text.extend_from_slice(b" ")?;
     text.extend_from_slice(run.case.name.as_str().as_bytes())?;
     Ok(text)

@@ -17,7 +17,7 @@ fn expects(statements: &[Statement]) -> bool {
 // That a case expects nothing.
 fn nothing_expected(alloc: Global, run: &CaseRun<'_>) -> Result<Bytes, Memory> {
     let mut text = Bytes::new(alloc);
-    add_place(&mut text, run.name.as_bytes(), run.case.line)?;
+    add_place(&mut text, run.name, run.case.line)?;
     text.extend_from_slice(b": the case expects nothing, so it passes unless a scan trips\n")?;
     text.extend_from_slice(b"give it a line expect behind a scan (docs/cases.md)\n")?;
     Ok(text)

@@ -82,7 +82,7 @@ fn play_with(alloc: Global, app: &App, file: &CaseFile, line: u32) -> Result<Opt
 // What is told of a word whose line is in no case of its file.
 fn no_case(alloc: Global, word: &str, file: &CaseFile) -> Result<Bytes, Memory> {
     let mut text = Bytes::new(alloc);
-    add_shown(&mut text, word.as_bytes())?;
+    add_shown(&mut text, word)?;
     text.extend_from_slice(
         b": no case has this line\nname a line of a case; the cases begin at the lines ",
     )?;

@@ -9,7 +9,7 @@ use std::alloc::Global;
 // The message, with the time of the first scan where there is one.
 fn no_scan(alloc: Global, trace: &str, time: u32, met: Met) -> Result<Bytes, Memory> {
     let mut text = Bytes::new(alloc);
-    add_shown(&mut text, trace.as_bytes())?;
+    add_shown(&mut text, trace)?;
     text.extend_from_slice(b": no scan is at or before ")?;
     add_short(&mut text, time)?;
     match met {

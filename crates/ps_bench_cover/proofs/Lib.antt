@@ -7,7 +7,7 @@ pub mod Joined
 pub mod Fitting
 -- places of points, one after another
 pub mod Placing
--- what a call leaves after another
+-- what a call leaves after another, for `report`
 pub mod Leaving
 -- a trace that is added, or refused
 pub mod Held
@@ -15,5 +15,5 @@ pub mod Held
 pub mod Words
 -- what is reported, by what is kept
 pub mod Kept
--- what comes of a call with an application
+-- what is written of what a call comes to
 pub mod Coming

@@ -1,17 +1,20 @@
 -- Words, one after another.
-use Rattle.std.proofs.Common.{◌≡◌, ◌<◌, ◌+◌, ◌∙◌, ◌++◌, ℕ, Bool, IsTrue, List, [], ◌∷◌, Any, Bor, Option, Some, length, map, take, get_or, slice_get, refl, sym, ap, subst, arith}
+use Rattle.std.proofs.Common.{◌≡◌, ◌<◌, ◌+◌, ◌∙◌, ◌++◌, ℕ, IsTrue, List, [], ◌∷◌, Any, Bor, Some, length, map, take, get_or, slice_get, refl, sym, ap, subst, arith}
 use Rattle.std.proofs.lemmas.List.{get_or-map, length-map, map-append, take-map, take_more}
 use Rattle.std.proofs.lemmas.Option.{slice_get-get_or}
 use Rattle.ps_cover.specs.Applying.{ScanStep}
 use Rattle.ps_bench_frame.specs.Ending.{IsUnread, stop_at, stop_status}
-use Rattle.ps_bench_frame.specs.Opening.{Source, source}
-use Rattle.ps_model.specs.Network.{Network}
-use Rattle.ps_model.specs.declared.channel.ImageSizes.{ImageSizes}
+use Rattle.ps_bench_frame.specs.Opening.{Source}
 use Rattle.ps_bench_frame.specs.declared.ending.InputStop.TheVariants.{Refused, RulesRefused, LogRefused, SumRefused, OtherRefused, Unlike, Unread}
 use Rattle.ps_bench_frame.specs.declared.ending.Stop.{Stop}
 use Rattle.ps_bench_frame.specs.declared.ending.Stop.TheVariants.{App, Cases, UnreadApp, UnreadCases, Input, Unwritten, NoMemory}
-use Rattle.ps_bench_cover.specs.Adding.{AreScansAll, AreScansAt, StopsAmong}
-use Rattle.ps_bench_trace.specs.Refusing.{StopsAtWord}
+use Rattle.ps_bench_cover.specs.Adding.{AreScansAll, AreScansAt}
+use Rattle.ps_bench_cover.specs.Coming.{IsWhyAmong}
+use Rattle.ps_bench_trace.specs.Coming.{IsWhyAtWord}
+use Rattle.ps_bench_frame.proofs.Leaving.{first_of, stops_behind}
+use Rattle.ps_bench_frame.specs.Leaving.{StopsReading}
+use Rattle.ps_bench_frame.specs.Meant.{file_meant}
+use Rattle.ps_bench_frame.specs.Seen.{CallSeen, NameRose, Quiet}
 
 -- the bytes of words that are borrowed
 abbrev pub words_in : List (Bor (List ℕ)) → List (List ℕ)
@@ -78,11 +81,10 @@ unwritten_at place Unwritten is = refl
 unwritten_at place NoMemory is = cc
 
 -- a call stops at a word, after others
-pub among : (from : Source) (ns : List (Bor (List ℕ))) (i : ℕ) (d : Bor (List ℕ)) → i < length ns → (place : ℕ) (why stop : Stop)
-    (tells : Bool) (before after : List ℕ) → place ≡ i →
+pub among : (from : Source) (ns : List (Bor (List ℕ))) (i : ℕ) (d : Bor (List ℕ)) → i < length ns → (place : ℕ) (why stop : Stop) → place ≡ i →
     (IsTrue from.tells → (traces : List (List ScanStep)) × AreScansAll from (words_in (take i ns)) traces) → stop ≡ stop_at place why →
-    StopsAtWord from (get_or ns i d).now why tells before after → StopsAmong from (words_in ns) stop tells before after
-among from ns i d below place why stop tells before after here done is stops = record {
+    IsWhyAtWord from (get_or ns i d).now why → IsWhyAmong from (words_in ns) stop
+among from ns i d below place why stop here done is at = record {
   place = place;
   word = (get_or ns i d).now;
   named = ap (slice_get (words_in ns)) here ∙ word_at ns i d below;
@@ -90,16 +92,19 @@ among from ns i d below place why stop tells before after here done is stops = r
       let all = done reading in
       (all.0, subst (λ (ws : List (List ℕ)). AreScansAll from ws all.0) (words_before ns i ∙ ap (λ n. take n (words_in ns)) (sym here)) all.1);
   why = why;
-  stops = stops;
+  at = at;
   is = is;
 }
 
--- the same from what stands before a call that changes none of it
-pub stop_moved : (net : Network) (sizes : ImageSizes) (word : List ℕ) (why : Stop) (r' r : Bool) (h' h : List ℕ → Option (List ℕ))
-    (t' t : Bool) (b' b after : List ℕ) → r' ≡ r → h' ≡ h → t' ≡ t → b' ≡ b →
-    StopsAtWord (source net sizes r' h') word why t' b' after → StopsAtWord (source net sizes r h) word why t b after
-stop_moved net sizes word why r' r h' h t' t b' b after r_is h_is t_is b_is stops =
-    subst (λ (x : Bool). StopsAtWord (source net sizes x h) word why t b after) r_is
-    (subst (λ (x : List ℕ → Option (List ℕ)). StopsAtWord (source net sizes r' x) word why t b after) h_is
-    (subst (λ (x : Bool). StopsAtWord (source net sizes r' h') word why x b after) t_is
-    (subst (λ (x : List ℕ). StopsAtWord (source net sizes r' h') word why t' x after) b_is stops)))
+-- why a call stops at a word, of several files
+pub stops_at : (ns : List (Bor (List ℕ))) (i : ℕ) (d : Bor (List ℕ)) → i < length ns → (place : ℕ) (why stop : Stop) (a b c : CallSeen) →
+    Quiet a b → stop ≡ stop_at place why → StopsReading (file_meant (get_or ns i d).now ∷ []) b c why →
+    StopsReading (map (λ (w : Bor (List ℕ)). file_meant w.now) ns) a c stop
+stops_at ns i d below place why stop a b c quiet is stops =
+    let behind = stops_behind (file_meant (get_or ns i d).now ∷ []) a b c why quiet stops in
+    subst (λ (s : Stop). StopsReading (map (λ (w : Bor (List ℕ)). file_meant w.now) ns) a c s) (sym is) (record {
+      unread = λ unread.
+          word_any file_meant (NameRose a c) ns i d below
+          (first_of (file_meant (get_or ns i d).now) [] (behind.unread (unread_at place why unread)));
+      no_write = λ unwritten. behind.no_write (unwritten_at place why unwritten);
+    })

@@ -1,6 +1,6 @@
 -- What `cover` is asked, what it writes by that, and how it stops.
 use Rattle.std.specs.Prelude.{◌≡◌, ◌⊎◌, ℕ, Bool, true, false, IsTrue, List, [], ◌∷◌, ◌++◌, Option, Some, None}
-use Rattle.std.specs.Prelude.{Any, map, nat_lt, if◌then◌else◌, Result, Ok, Err}
+use Rattle.std.specs.Prelude.{Any, map, nat_lt, if◌then◌else◌}
 use Rattle.std.specs.List.{list_any}
 use Rattle.ps_cover.specs.Applying.{ScanStep}
 use Rattle.ps_base.specs.declared.failing.Place.{Place}
@@ -93,12 +93,6 @@ StopsIn from app wanted tells before after stop =
     ⊎ ((known : Known) × IsKnown from app wanted.traces known × (stop ≡ Unwritten)
     × TookSome (cover_text wanted known) tells before after)
     ⊎ ((stop ≡ NoMemory) × TookNothing tells before after)
-
--- what `cover` answers of an application, or how it stops
-abbrev pub AnswersIn : Source → (app : List ℕ) → Wanted → (tells : Bool) → (before after : List ℕ) →
-    Result Status Stop → Type 0
-AnswersIn from app wanted tells before after (Ok status) = Answered from app wanted tells before after status
-AnswersIn from app wanted tells before after (Err stop) = StopsIn from app wanted tells before after stop
 
 -- What `cover` answers of the application of this name.
 abbrev pub AnswersCover : (app : List ℕ) → Wanted → (reading : Bool) (held : List ℕ → Option (List ℕ)) →

@@ -12,5 +12,7 @@ pub mod Taking
 -- apparatus: what is reported, by what is kept, and the parts of an idea
 pub mod Telling
 pub mod Shares
--- what a call leaves of files and of an output
+-- what a call leaves of files and of an output, for `report`
 pub mod Leaving
+-- what it comes to of its traces, whatever is written of that
+pub mod Coming

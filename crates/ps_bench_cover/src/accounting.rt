@@ -1,27 +1,31 @@
 // `cover APP TRACE..`: what traces show of an application, and what they do not.
 
-ghost use Rattle.std.specs.Prelude.{◌≡◌, ◌≤◌, ◌∷◌, ◌++◌, ℕ, List, Any, IsTrue, IfOk, IfErr, IsErrOf, OnOk, map, nat_lt};
+ghost use Rattle.std.specs.Prelude.{◌≡◌, ◌≤◌, ◌∷◌, ◌++◌, [], ℕ, List, Any, IsTrue, IfOk, IfErr, IsErrOf, OnOk, map, nat_lt};
+ghost use Rattle.ps_bench_frame.specs.Answering.{EndsBy};
+ghost use Rattle.ps_bench_frame.specs.Coming.{OfApp};
 ghost use Rattle.ps_bench_frame.specs.Ending.{IsUnread};
+ghost use Rattle.ps_bench_frame.specs.Leaving.{Leaves, OnlyReads};
 ghost use Rattle.ps_bench_frame.specs.Meant.{file_meant};
-ghost use Rattle.ps_bench_frame.specs.Opening.{source};
+ghost use Rattle.ps_bench_frame.specs.Opening.{source_of_call};
+ghost use Rattle.ps_bench_frame.specs.Seen.{texts_of};
 ghost use Rattle.ps_cover.specs.Seen.{part_of};
 ghost use Rattle.ps_cover.specs.Telling.{known_of};
 ghost use Rattle.ps_model.specs.Typing.{Accepted};
 ghost use Rattle.ps_outside.specs.Outside.{Rose};
 ghost use Rattle.ps_bench_frame.specs.Sourcing.{IsSourceOf};
-ghost use Rattle.ps_bench_cover.specs.Asking.{AnswersCover, AnswersIn, StopsCover, cover_text, ideas_asked};
+ghost use Rattle.ps_bench_cover.specs.Asking.{AnswersCover, StopsCover, cover_text, ideas_asked};
 ghost use Rattle.ps_bench_cover.specs.Asking.{is_less, status_of, wanted_by};
-ghost use Rattle.ps_bench_cover.specs.Leaving.{Leaves, LeavesOutput, sides};
-ghost use Rattle.ps_bench_cover.specs.Telling.{Tells, TellsKept};
+ghost use Rattle.ps_bench_cover.specs.Coming.{CoverOf};
+ghost use Rattle.ps_bench_cover.specs.Telling.{TellsKept};
 
 use crate::adding::add_words;
 use crate::ideas::add_ideas;
 use crate::places::operand_places;
 use ps_base::{Bytes, Memory};
-use ps_bench_frame::{Sourced, Status, Stop, open_sourced};
+use ps_bench_frame::{Answer, Call, CallOver, Sourced, Status, Stop, finish};
 use ps_cover::{Cover, Exclusions, Format, Sort, Told, coverage_text, percent_of};
 use ps_message::Listener;
-use ps_outside::{Files, Output, write_all};
+use ps_outside::{Files, Output};
 use std::alloc::Global;
 
 /// What `cover` is asked.
@@ -93,38 +97,15 @@ fn cover_text(alloc: Global, told: &Told<'_>, asked: &Asked<'_>) -> Result<Bytes
     Ok(text)
 }
 
-// Tells what was shown.
-fn write_told<O: Output>(
+// What is told of what traces have shown of an application, with what is excluded and the places of its source.
+fn answer_of(
     alloc: Global,
-    out: &mut O,
-    told: &Told<'_>,
-    asked: &Asked<'_>,
-) -> Result<Status, Stop>
-    ensures tells { Tells (known_of told.entry.now) (wanted_by asked.now)
-        (O.tells out.old) (O.taken out.old) (O.taken out.new) result }
-    ensures leaves { LeavesOutput (O.tells out.old) (O.tells out.new) (O.faults out.old) (O.faults out.new) result }
-{
-    match cover_text(alloc, told, asked) {
-        Ok(text) => match write_all(out, text.as_slice()) {
-            Ok(()) => Ok(status_of(told, asked.least)),
-            Err(_) => Err(Stop::Unwritten),
-        },
-        Err(Memory) => Err(Stop::NoMemory),
-    }
-}
-
-// Tells what traces have shown of an application, with what is excluded and the places of its source.
-fn tell_total<O: Output>(
-    alloc: Global,
-    out: &mut O,
     sourced: &Sourced,
     asked: &Asked<'_>,
     cover: &Cover<'_>,
-) -> Result<Status, Stop>
+) -> Result<Answer, Memory>
     requires { Accepted sourced.now.opened.app }
-    ensures tells { TellsKept sourced.now.opened.app sourced.now.source cover.entry.now (wanted_by asked.now)
-        (O.tells out.old) (O.taken out.old) (O.taken out.new) result }
-    ensures leaves { LeavesOutput (O.tells out.old) (O.tells out.new) (O.faults out.old) (O.faults out.new) result }
+    ensures { IfOk result (TellsKept sourced.now.opened.app sourced.now.source cover.entry.now (wanted_by asked.now)) }
 {
     let app = &sourced.opened.app;
     let exclusions = Exclusions::new(alloc, app)?;
@@ -135,47 +116,74 @@ fn tell_total<O: Output>(
         places: places.as_slice(),
         cover,
     };
-    write_told(alloc, out, &told, asked)
+    let text = cover_text(alloc, &told, asked)?;
+    Ok(Answer {
+        text,
+        status: status_of(&told, asked.least),
+    })
+}
+
+// What is answered where a word means no case: nothing is written.
+fn usage(alloc: Global) -> Answer
+    ensures text { result.text ≡ [] }
+    ensures status { result.status ≡ Status.Usage }
+{
+    Answer {
+        text: Bytes::new(alloc),
+        status: Status::Usage,
+    }
 }
 
 // Takes the traces, and tells what they have shown of an application.
-fn cover_app<F: Files, O: Output, L: Listener>(
-    alloc: Global,
-    files: &mut F,
-    out: &mut O,
-    listener: &mut L,
-    sourced: &Sourced,
-    asked: &Asked<'_>,
-) -> Result<Status, Stop>
+fn cover_app<C: Call>(call: &mut C, sourced: &Sourced, asked: &Asked<'_>) -> Result<Answer, Stop>
     requires accepted { Accepted sourced.now.opened.app }
-    requires source { IsTrue (F.tells files.old) →
-        IsSourceOf (F.held files.old) asked.now.app.now sourced.now.source }
-    ensures answers { AnswersIn
-        (source sourced.now.opened.app sourced.now.opened.sizes (F.tells files.old) (F.held files.old))
-        asked.now.app.now (wanted_by asked.now) (O.tells out.old) (O.taken out.old) (O.taken out.new) result }
-    ensures leaves { Leaves (Any (λ (name : List ℕ). Rose (F.faults files.old name) (F.faults files.new name))
-        (map (λ word. file_meant word.now) asked.now.traces.now))
-        (sides (F.tells files.old) (F.held files.old) (F.faults files.old) (O.tells out.old) (O.faults out.old))
-        (sides (F.tells files.new) (F.held files.new) (F.faults files.new) (O.tells out.new) (O.faults out.new)) result }
+    requires source { IsTrue (texts_of (C.seen call.old)).tells →
+        IsSourceOf (texts_of (C.seen call.old)).held asked.now.app.now sourced.now.source }
+    ensures comes { CoverOf (source_of_call sourced.now.opened.app sourced.now.opened.sizes (C.seen call.old))
+        asked.now.app.now (wanted_by asked.now) result }
+    ensures reads { OnlyReads (map (λ word. file_meant word.now) asked.now.traces.now)
+        (C.seen call.old) (C.seen call.new) result }
 {
     let opened = &sourced.opened;
-    let mut total = match Cover::new(alloc, &opened.app) {
+    let mut total = match Cover::new(call.alloc(), &opened.app) {
         Ok(total) => total,
         Err(Memory) => return Err(Stop::NoMemory),
     };
-    match add_words(
-        alloc,
-        files,
-        out,
-        listener,
-        opened,
-        asked.traces,
-        &mut total,
-    ) {
-        Ok(true) => tell_total(alloc, out, sourced, asked, &total),
-        Ok(false) => Ok(Status::Usage),
+    match add_words(call, opened, asked.traces, &mut total) {
+        Ok(true) => match answer_of(call.alloc(), sourced, asked, &total) {
+            Ok(answer) => Ok(answer),
+            Err(Memory) => Err(Stop::NoMemory),
+        },
+        Ok(false) => Ok(usage(call.alloc())),
         Err(stop) => Err(stop),
     }
+}
+
+// What traces show of the application of a name.
+fn cover_in<C: Call>(call: &mut C, asked: &Asked<'_>) -> Result<Answer, Stop>
+    ensures comes { OfApp (λ from. CoverOf from asked.now.app.now (wanted_by asked.now)) (texts_of (C.seen call.old))
+        asked.now.app.now result }
+    ensures reads { OnlyReads (asked.now.app.now ∷ map (λ word. file_meant word.now) asked.now.traces.now)
+        (C.seen call.old) (C.seen call.new) result }
+{
+    match call.open_sourced(asked.app) {
+        Ok(sourced) => cover_app(call, &sourced, asked),
+        Err(stop) => Err(stop),
+    }
+}
+
+// The same, and how the call ends by that.
+fn cover_to_end<C: Call>(call: &mut C, asked: &Asked<'_>) -> Result<Status, Stop>
+    ensures ends { EndsBy (OfApp (λ from. CoverOf from asked.now.app.now (wanted_by asked.now))
+        (texts_of (C.seen call.old)) asked.now.app.now)
+        (C.seen call.old).out.tells (C.seen call.old).out.taken (C.seen call.new).out.taken result }
+    ensures leaves { Leaves (asked.now.app.now ∷ map (λ word. file_meant word.now) asked.now.traces.now)
+        (C.seen call.old) (C.seen call.new) result }
+    ensures files { (C.seen call.new).loans.files ≡ (C.seen call.old).loans.files }
+    ensures out { (C.seen call.new).loans.out ≡ (C.seen call.old).loans.out }
+{
+    let came = cover_in(call, asked);
+    finish(call, came)
 }
 
 /// `cover APP TRACE..`: writes of each instance of the application the states and ways, and of all the values and
@@ -208,8 +216,18 @@ pub fn cover<F: Files, O: Output, L: Listener>(
     ensures writes { O.faults out.old ≤ O.faults out.new }
     ensures telling { O.tells out.new ≡ O.tells out.old }
 {
-    match open_sourced(alloc, files, out, asked.app) {
-        Ok(sourced) => cover_app(alloc, files, out, listener, &sourced, asked),
-        Err(stop) => Err(stop),
-    }
+    let mut call = CallOver {
+        alloc,
+        files,
+        out,
+        listener,
+    };
+    let ended = cover_to_end(&mut call, asked);
+    let CallOver {
+        alloc: _,
+        files: _,
+        out: _,
+        listener: _,
+    } = call;
+    ended
 }

@@ -1,8 +1,8 @@
 //! `cover` of the program `plcsafe-bench`, over any files, any output, and whoever listens.
 //!
 //! - `accounting` is `cover APP TRACE..`. `adding` takes the traces, one after another, each begun anew.
-//! - What a trace shows: `covering` is the loop over its scans. `running`: one more trace, begun anew. `nothing`: an
-//!   output that takes nothing.
+//! - What a trace shows: `covering` keeps it as its scans are taken. `running`: a trace that is begun anew, and one more
+//!   of a reader. `nothing`: an output that takes nothing.
 //! - Where the operands stand that decide: `operand`: where an operand is written. `statement`: all operands of a
 //!   statement, in order. `listing`: those of a source. `places`: the place of each point of an application. `laws`:
 //!   each place is that of the operand that decides.

@@ -1,49 +1,37 @@
-use Rattle.std.proofs.Common.{◌∙◌, ℕ, IsTrue, List, Option, sym, subst, arith}
-use Rattle.ps_bench_frame.proofs.Stopped.{rose_since}
-use Rattle.ps_bench_frame.specs.Sourcing.{IsSourceOf}
-use Rattle.ps_bench_cover.specs.Asking.{wanted_by}
-use Rattle.ps_bench_cover.proofs.Coming.{answered, moved, stops, unread_since}
+use Rattle.std.proofs.Common.{◌≡◌, ◌≤◌, ◌∷◌, ℕ, List, Any, Bor, map, rules, sym, subst}
+use Rattle.std.specs.Prelude.{IfErr, IfOk, IsErrOf}
+use Rattle.ps_bench_frame.specs.Ending.{IsUnread}
+use Rattle.ps_bench_frame.specs.Meant.{file_meant}
+use Rattle.ps_bench_frame.specs.Seen.{Texts}
+use Rattle.ps_bench_frame.specs.declared.ending.Stop.TheVariants.{Unwritten}
+use Rattle.ps_outside.specs.Outside.{Rose}
+use Rattle.ps_bench_cover.specs.Asking.{AnswersCover, StopsCover, wanted_by}
+use Rattle.ps_bench_cover.proofs.Coming.{answers, stops}
 use Rattle.ps_bench_cover.proofs.accounting.cover.Goals as goal
 
-pub returns-in-Ok-clause-answers : goal.returns-in-Ok-clause-answers
-returns-in-Ok-clause-answers g c =
-    let opened = c.in-Ok.sourced.opened in
+-- what holds of what the call held at its end holds of what it is given back as
+back : {A : Type 0} {x y : A} → x ≡ y → (P : A → Type 0) → P y → P x
+back is P p = subst P (sym is) p
+
+pub returns : goal.returns
+returns g c =
     let app = c.args.asked.now.app.now in
     let wanted = wanted_by c.args.asked.now in
-    answered opened.app opened.sizes app wanted
-    (g.F.Files.tells c.args.files.now) (g.F.Files.held c.args.files.now) (g.O.Sink.tells c.args.out.now)
-    (g.O.Sink.taken c.args.out.now) (g.O.Sink.taken c.cover_app.new.out) c.cover_app.result c.in-Ok.ensures.app
-    (moved opened.app opened.sizes app wanted _ _ _ _ _ _ _ _ _ c.cover_app.result
-    c.in-Ok.ensures.reading c.in-Ok.ensures.kept c.in-Ok.ensures.telling c.in-Ok.ensures.unsaid c.cover_app.ensures.answers)
-
-pub returns-in-Ok-clause-stops : goal.returns-in-Ok-clause-stops
-returns-in-Ok-clause-stops g c =
-    let opened = c.in-Ok.sourced.opened in
-    let app = c.args.asked.now.app.now in
-    let wanted = wanted_by c.args.asked.now in
-    stops opened.app opened.sizes app wanted
-    (g.F.Files.tells c.args.files.now) (g.F.Files.held c.args.files.now) (g.O.Sink.tells c.args.out.now)
-    (g.O.Sink.taken c.args.out.now) (g.O.Sink.taken c.cover_app.new.out) c.cover_app.result c.in-Ok.ensures.app
-    (moved opened.app opened.sizes app wanted _ _ _ _ _ _ _ _ _ c.cover_app.result
-    c.in-Ok.ensures.reading c.in-Ok.ensures.kept c.in-Ok.ensures.telling c.in-Ok.ensures.unsaid c.cover_app.ensures.answers)
-
-pub returns-in-Ok-clause-unread : goal.returns-in-Ok-clause-unread
-returns-in-Ok-clause-unread g c =
-    unread_since (g.F.Files.faults c.args.files.now) (g.F.Files.faults c.open_sourced.new.files) (g.F.Files.faults c.cover_app.new.files)
-    c.args.asked.now.app.now _ c.cover_app.result c.in-Ok.ensures.reads c.cover_app.ensures.leaves.unread
-
-pub cover_app-requires-clause-source : goal.cover_app-requires-clause-source
-cover_app-requires-clause-source g c = λ tells.
-    let there = c.in-Ok.ensures.source (subst IsTrue c.in-Ok.ensures.reading tells) in
-    subst (λ (held : List ℕ → Option (List ℕ)). IsSourceOf held c.args.asked.now.app.now c.in-Ok.sourced.source) (sym c.in-Ok.ensures.kept) there
-
-pub returns-in-Ok-clause-unwritten : goal.returns-in-Ok-clause-unwritten
-returns-in-Ok-clause-unwritten g c = λ is.
-    rose_since (g.O.Sink.faults c.args.out.now) (g.O.Sink.faults c.open_sourced.new.out) (g.O.Sink.faults c.cover_app.new.out)
-    c.in-Ok.ensures.writes (c.cover_app.ensures.leaves.unwritten is)
-
-pub returns-in-Ok-clause-writes : goal.returns-in-Ok-clause-writes
-returns-in-Ok-clause-writes g c = omega (arith, c.in-Ok.ensures.writes, c.cover_app.ensures.leaves.stays.writes)
-
-pub returns-in-Ok-clause-telling : goal.returns-in-Ok-clause-telling
-returns-in-Ok-clause-telling g c = c.cover_app.ensures.leaves.stays.telling ∙ c.in-Ok.ensures.telling
+    let reading = g.F.Files.tells c.args.files.now in
+    let held = g.F.Files.held c.args.files.now in
+    let tells = g.O.Sink.tells c.args.out.now in
+    let before = g.O.Sink.taken c.args.out.now in
+    let texts : Texts = record { tells = reading; held = held } in
+    let ended = c.cover_to_end-ended.result in
+    let does = c.cover_to_end-ended.ensures in
+    record {
+      answers = back (search rules) (λ (s : g.row.O.Denot). IfOk ended (AnswersCover app wanted reading held tells before (g.O.Sink.taken s)))
+          (answers app wanted texts tells before _ ended does.ends);
+      stops = back (search rules) (λ (s : g.row.O.Denot). IfErr ended (StopsCover app wanted reading held tells before (g.O.Sink.taken s)))
+          (stops app wanted texts tells before _ ended does.ends);
+      unread = back (search rules) (λ (f : g.row.F.Denot). IfErr ended (λ stop. IsUnread stop → Any (λ (name : List ℕ). Rose (g.F.Files.faults c.args.files.now name) (g.F.Files.faults f name)) (app ∷ map (λ (word : Bor (List ℕ)). file_meant word.now) c.args.asked.now.traces.now)))
+          does.leaves.unread;
+      unwritten = back (search rules) (λ (s : g.row.O.Denot). IsErrOf ended Unwritten → Rose (g.O.Sink.faults c.args.out.now) (g.O.Sink.faults s)) does.leaves.unwritten;
+      writes = back (search rules) (λ (s : g.row.O.Denot). g.O.Sink.faults c.args.out.now ≤ g.O.Sink.faults s) does.leaves.keeps.out.counts;
+      telling = back (search rules) (λ (s : g.row.O.Denot). g.O.Sink.tells s ≡ tells) does.leaves.keeps.out.telling;
+    }

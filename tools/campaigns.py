@@ -9,7 +9,8 @@ and how long after the scan that was struck, is counted here and compared with t
 of both together; with `--channel` no other channel is struck; nothing is told to be wrong. Words: calls whose words are not taken, whose
 case there is not, or whose files are refused or gone, each with its status. Sums: the parts of a campaign are added by `sum` in every
 order, and sums of them, and each sum is byte for byte what one call writes; files of another application or trace, cut off at each byte,
-mixed, empty, too large or no counts at all are refused at the line that is known beforehand. The status is 0 where nothing differs.
+mixed, empty, too large or no counts at all are refused at the line that is known beforehand. Read once: an application and a trace that get
+other bytes while they are read are named by those that were run. The status is 0 where nothing differs.
 """
 import collections
 import csv
@@ -21,6 +22,7 @@ import subprocess
 import sys
 import tempfile
 
+import swapping
 from plainly import Stop, plainly
 
 ROOT = pathlib.Path(__file__).resolve().parent.parent
@@ -62,6 +64,22 @@ FORMLESS = [
     ("columns in another order", HEAD + "A code trap 4 sum 2 largest 1 table 1:2 0:2\n", 3), ("a count that is too large", HEAD + f"A code silent {LARGEST + 1}\n", 3),
     ("a latency that is too large", HEAD + f"A code trap 1 sum 0 largest {2**32} table 0:1\n", 3), ("two campaigns", HEAD + "A code silent 4\n" + HEAD, 4),
     ("a fault", "before 1 A code 0 00\n" + HEAD, 1),
+]
+
+# Lines of trips that none have, and beside each one that some have: the count is that of the table; the largest latency is of its last
+# column; the sum is not less than that of the least latencies with one largest, nor more than that of the largest ones.
+IMPOSSIBLE = [
+    ("2 sum 1 largest 5 table 4:1", "1 sum 5 largest 5 table 4:1"), ("2 sum 4 largest 4 table 4:1", "1 sum 4 largest 4 table 4:1"),
+    ("1 sum 8 largest 4 table 4:2", "2 sum 8 largest 4 table 4:2"), ("1 sum 4 largest 4 table", "1 sum 4 largest 4 table 4:1"),
+    ("1 sum 3 largest 3 table 4:1", "1 sum 7 largest 7 table 4:1"), ("1 sum 8 largest 8 table 4:1", "1 sum 8 largest 8 table 8:1"),
+    ("2 sum 9 largest 4 table 4:1 8:1", "2 sum 15 largest 8 table 4:1 8:1"), ("1 sum 4 largest 5 table 4:1", "1 sum 5 largest 5 table 4:1"),
+    ("2 sum 8 largest 5 table 4:2", "2 sum 9 largest 5 table 4:2"), ("2 sum 11 largest 5 table 4:2", "2 sum 10 largest 5 table 4:2"),
+    ("2 sum 6 largest 5 table 2:1 4:1", "2 sum 7 largest 5 table 2:1 4:1"), ("2 sum 9 largest 5 table 2:1 4:1", "2 sum 8 largest 5 table 2:1 4:1"),
+    ("2 sum 1 largest 1 table 0:2", "2 sum 1 largest 1 table 0:1 1:1"), ("1 sum 1 largest 0 table 0:1", "1 sum 0 largest 0 table 0:1"),
+    (f"1 sum 1 largest {2**32 - 1} table 2147483648:1", f"1 sum {2**32 - 1} largest {2**32 - 1} table 2147483648:1"),
+    (f"{LARGEST} sum {LARGEST - 1} largest 1 table 1:{LARGEST}", f"{LARGEST} sum {LARGEST} largest 1 table 1:{LARGEST}"),
+    (f"{LARGEST - 1} sum 0 largest 0 table 0:{LARGEST}", f"{LARGEST} sum 0 largest 0 table 0:{LARGEST}"),
+    (f"{LARGEST} sum {LARGEST} largest 0 table 0:{LARGEST}", f"{LARGEST} sum 1 largest 1 table 0:{LARGEST} 1:1"),
 ]
 
 
@@ -223,6 +241,11 @@ def by_formless(bench, folder, good, piece):
         file = written(folder, "formless", text)
         refuses(bench, [file], f"U1 line {line}", 0, what)
         refuses(bench, [good, file], f"U1 line {line}", 1, f"{what}, behind counts")
+    for wrong, right in IMPOSSIBLE:
+        head = HEAD + "A code silent 4\nA code trap "
+        refuses(bench, [written(folder, "impossible", head + wrong + "\n")], "U1 line 4", 0, f"latencies that no trips have: {wrong}")
+        told, status, _ = sum_of(bench, [written(folder, "possible", head + right + "\n")])
+        expect((told, status) == (head + right + "\n", 0), f"latencies that some trips have are taken: {right}\n{told}")
     for end in range(len(piece)):
         file, lines = written(folder, "cut", piece[:end]), piece[:end].count(b"\n")
         if lines < 2 or not piece[:end].endswith(b"\n"):
@@ -236,17 +259,37 @@ def by_formless(bench, folder, good, piece):
         expect((told, status) == ("", 5) and message, f"sum of {what} ends with status 5: {status}\n{told}")
     told, status, message = sum_of(bench, [])
     expect((told, status) == ("", 2) and "Usage: " in message, f"sum of no file ends with status 2: {status}\n{told}")
-    return 2 * len(FORMLESS) + len(piece) + 6
+    return 2 * (len(FORMLESS) + len(IMPOSSIBLE)) + len(piece) + 6
 
 
 def by_largest(bench, folder):
     """Counts stay at the largest value."""
     line = "A code trap {0} sum {0} largest 4294967295 table 0:{0} 2147483648:{1}\n"
-    full, some = (written(folder, f"{name}.counts", HEAD + line.format(*values)) for name, values in (("full", (LARGEST, LARGEST - 1)), ("some", (2, 1))))
+    few = HEAD + "A code trap 3 sum 4294967295 largest 4294967295 table 0:2 2147483648:1\n"
+    full, some = written(folder, "full.counts", HEAD + line.format(LARGEST, LARGEST - 1)), written(folder, "some.counts", few)
     for files in ([full, some], [some, full], [full, full], [some, full, some]):
         told, status, _ = sum_of(bench, files)
         expect((told, status) == (HEAD + line.format(LARGEST, LARGEST), 0), f"counts stay at the largest value:\n{told}")
     return 4
+
+
+def by_changes(bench, folder):
+    """An application and a trace that get other bytes while they are read."""
+    app, trace = folder / "swapped.st", folder / "swapped.trace"
+    source = (EXAMPLES / "stop" / "motor.st").read_bytes()
+    scans = b"time S_Stop Ack Run\n" + b"".join(b"%08d 1 0 1\n" % (10 * number) for number in range(600))
+    commented = b"// a comment\n" * 700 + source
+    for path, text, later in ((app, commented, commented.replace(b"a comment", b"A COMMENT")), (trace, scans, scans.replace(b" 1 0 1", b" 0 1 1"))):
+        app.write_bytes(source)
+        trace.write_bytes(scans)
+        path.write_bytes(swapping.read_once(text, later))
+        words = [bench, "campaign", app, trace, "0", "20"]
+        wanted = subprocess.run(words, stdout=subprocess.PIPE, stderr=subprocess.DEVNULL).stdout
+        got = swapping.written(words, path, text, later)
+        if got is None:
+            print("files that change while they are read: left out, the system gives no leases here")
+            return
+        expect(wanted and got == (wanted, 0), f"what is counted is of the bytes that were read, of {path.name}:\n{got}\n{wanted}")
 
 
 def by_words(bench):
@@ -272,6 +315,7 @@ def main(words):
     by_words(bench)
     with tempfile.TemporaryDirectory() as folder:
         trials, sums = by_trials(bench, count, pathlib.Path(folder)), by_sums(bench, pathlib.Path(folder))
+        by_changes(bench, pathlib.Path(folder))
     print(f"{trials} trials made once more, {sums} sums, and {len(CALLS)} calls by their words")
     return 0
 

@@ -7,8 +7,9 @@ Form: every element is closed in its turn; no script, no link, no picture file, 
 once, and what names a picture is there; each picture has a title, each table a caption and heads. Told: the SHA-256 of the files, the
 results and what is told of each case, the source with its lines, demands and coverage, as the other commands have them; the values of
 the tables of changes, and the lines and bands of the pictures, as `watch` has them. Hostile: a case named as an element, comments that end
-one, a title, a name of a file, control bytes, a text of 1 MiB. Refused: an application and a case file. Limits: 100 cases of 100 scans in
-two seconds and 5 MB. The status is 0 where all is as it should be.
+one, a title, a name of a file, control bytes, a text of 1 MiB. Refused: an application and a case file. Read once: a file that gets other
+bytes while it is read is named by those that were run. Limits: 100 cases of 100 scans in two seconds and 5 MB. The status is 0 where all is
+as it should be.
 """
 import csv
 import hashlib
@@ -22,6 +23,7 @@ import sys
 import tempfile
 import time
 
+import swapping
 from plainly import Stop, plainly
 
 ROOT = pathlib.Path(__file__).resolve().parent.parent
@@ -220,6 +222,24 @@ def hostile(tries, folder):
     tries.same("a refused case file", tries.call(tries.bench, "report", app, app, status=3)[:9], b"refused K")
 
 
+def read_once(tries, folder):
+    """An application and a case file that get other bytes while they are read."""
+    app, cases = folder / "swapped.st", folder / "swapped.cases"
+    source, given = (PRESS / "press.st").read_bytes(), (PRESS / "press.cases").read_bytes()
+    for path, text in ((app, b"(* a comment *)\n" * 600 + source), (cases, b"# a comment\n" * 800 + given)):
+        later = text.replace(b"a comment", b"A COMMENT")
+        app.write_bytes(source)
+        cases.write_bytes(given)
+        path.write_bytes(swapping.read_once(text, later))
+        wanted = tries.call(tries.bench, "report", app, cases)
+        got = swapping.written([tries.bench, "report", app, cases], path, text, later)
+        if got is None:
+            print("files that change while they are read: left out, the system gives no leases here")
+            return
+        tries.same(f"a file that changes while it is read, {path.name}: the status", [got[1]], [0])
+        tries.same(f"a file that changes while it is read, {path.name}", got[0], wanted)
+
+
 def limits(tries, folder):
     """100 cases of 100 scans."""
     cases = folder / "hundred.cases"
@@ -252,6 +272,7 @@ def main(words):
             tries.told(app, cases)
     with tempfile.TemporaryDirectory() as folder:
         hostile(tries, pathlib.Path(folder))
+        read_once(tries, pathlib.Path(folder))
         limits(tries, pathlib.Path(folder))
     print(f"report: {tries.made} comparisons, {tries.wrong} wrong")
     return 1 if tries.wrong else 0

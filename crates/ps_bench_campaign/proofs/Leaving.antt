@@ -8,7 +8,7 @@ use Rattle.ps_bench_frame.specs.declared.ending.Stop.{Stop}
 use Rattle.ps_bench_frame.specs.declared.ending.Input.{Input as InputOf}
 use Rattle.ps_bench_frame.specs.declared.ending.Input.TheVariants.{Trace}
 use Rattle.ps_bench_frame.specs.declared.ending.InputStop.TheVariants.{Refused, Unread}
-use Rattle.ps_bench_frame.specs.declared.ending.Stop.TheVariants.{Input, NoMemory, UnreadApp, Unwritten}
+use Rattle.ps_bench_frame.specs.declared.ending.Stop.TheVariants.{Input, NoMemory, Unwritten}
 use Rattle.ps_outside.specs.Outside.{Rose}
 use Rattle.ps_bench_campaign.specs.Leaving.{Leaves, LeavesOutput, Sides, Stays, sides}
 
@@ -151,13 +151,3 @@ trace_rose reads mid reads' app trace on rose = (1, trace, omega arith, refl, ro
 pub app_rose : (reads reads' : List ℕ → ℕ) (app trace : List ℕ) → Rose (reads app) (reads' app) →
     Any (λ (name : List ℕ). Rose (reads name) (reads' name)) (app ∷ trace ∷ [])
 app_rose reads reads' app trace rose = (0, app, omega arith, refl, rose)
-
--- a call stops at its application, which cannot be read
-pub app_unread : {X : Type 0} (reads reads' : List ℕ → ℕ) (app trace : List ℕ) (t t' : Bool) (w w' : ℕ) →
-    Stays (sides reads t w) (sides reads' t' w') → Rose (reads app) (reads' app) →
-    Leaves {X = X} (Any (λ (name : List ℕ). Rose (reads name) (reads' name)) (app ∷ trace ∷ [])) (sides reads t w) (sides reads' t' w') (Err UnreadApp)
-app_unread reads reads' app trace t t' w w' stays rose = record {
-  stays = stays;
-  unread = λ is. app_rose reads reads' app trace rose;
-  unwritten = λ is. cc;
-}

@@ -10,9 +10,8 @@ use Rattle.ps_bench_frame.specs.declared.ending.Stop.{Stop}
 use Rattle.ps_bench_frame.specs.declared.ending.Stop.TheVariants.{Unwritten}
 use Rattle.ps_model.specs.Meaning.{Item}
 use Rattle.ps_model.specs.Network.{Network}
-use Rattle.ps_bench_trials.proofs.Plain.{all_plain, none_plain}
+use Rattle.ps_bench_trials.proofs.Plain.{all_plain}
 use Rattle.ps_bench_trials.specs.Plain.{ArePlain}
-use Rattle.ps_bench_trials.specs.Tallies.{none_counted}
 use Rattle.ps_bench_trials.specs.Files.{AddsFiles, IsSum, Tells}
 use Rattle.ps_bench_trials.specs.Sums.{text_of}
 use Rattle.ps_bench_trials.specs.declared.summing.Totals.{Totals}
@@ -75,7 +74,7 @@ module _ (net : Network) (m : Machines) (items : List Item) (room : Room) (app t
   of_part from count = record { app = app; trace = trace; tally = campaign net m items room from count }
 
   part_plain : (from count : ℕ) → ArePlain (campaign net m items room from count)
-  part_plain from count = all_plain (map (result_of net m items room) (range_with_len from count)) none_counted none_plain
+  part_plain from count = all_plain (map (result_of net m items room) (range_with_len from count))
 
   part_told : (name : List ℕ) (from count : ℕ) → held name ≡ Some (part_text net m items room app trace from count) →
       Tells (held name) (of_part from count)

@@ -7,7 +7,7 @@ use Rattle.ps_bench_frame.specs.Stopping.{StopsAtApp, Took, TookNothing, TookSom
 use Rattle.ps_bench_frame.specs.declared.ending.Status.{Status}
 use Rattle.ps_bench_frame.specs.declared.ending.Status.TheVariants.{Done, Usage}
 use Rattle.ps_bench_frame.specs.declared.ending.Stop.{Stop}
-use Rattle.ps_bench_frame.specs.declared.ending.Stop.TheVariants.{UnreadApp, Unwritten, NoMemory}
+use Rattle.ps_bench_frame.specs.declared.ending.Stop.TheVariants.{Unwritten, NoMemory}
 use Rattle.ps_bench_campaign.specs.Courses.{scan_count}
 use Rattle.ps_eqvm.specs.Code.{code_b}
 use Rattle.ps_model.specs.Meaning.{Item}
@@ -92,13 +92,13 @@ Answered from app wanted tells before after status =
     ((text : List ℕ) × IsTold from app wanted text × (status ≡ Done) × Took text tells before after)
     ⊎ ((status ≡ Usage) × LacksCase from wanted.trace × TookNothing tells before after)
 
--- How it stops with its application: at its trace, before anything was written; in what is told; or where the
--- application cannot be read again or memory runs out, and nothing was written.
+-- How it stops with its application: at its trace, before anything was written; in what is told; or where memory runs
+-- out, and nothing was written.
 abbrev pub StopsIn : Source → (app : List ℕ) → Wanted → (tells : Bool) → (before after : List ℕ) → Stop → Type 0
 StopsIn from app wanted tells before after stop =
     StopsAtWord from wanted.trace stop tells before after
     ⊎ ((text : List ℕ) × IsTold from app wanted text × (stop ≡ Unwritten) × TookSome text tells before after)
-    ⊎ (((stop ≡ UnreadApp) ⊎ (stop ≡ NoMemory)) × TookNothing tells before after)
+    ⊎ ((stop ≡ NoMemory) × TookNothing tells before after)
 
 -- what `campaign` answers of an application, or how it stops
 abbrev pub AnswersIn : Source → (app : List ℕ) → Wanted → (tells : Bool) → (before after : List ℕ) →

@@ -1,6 +1,6 @@
 // `campaign APP TRACE FROM COUNT`: what the faults of trials come to.
 
-ghost use Rattle.std.specs.Prelude.{◌≡◌, ◌≤◌, ◌∷◌, [], ℕ, List, Any, IsTrue, IfOk, IfErr, IsErrOf};
+ghost use Rattle.std.specs.Prelude.{◌≡◌, ◌≤◌, ◌∷◌, [], ℕ, List, Any, Some, IsTrue, IfOk, IfErr, IsErrOf};
 ghost use Rattle.ps_bench_frame.specs.Ending.{IsUnread};
 ghost use Rattle.ps_bench_frame.specs.Meant.{file_meant};
 ghost use Rattle.ps_bench_frame.specs.Opening.{Source, source};
@@ -19,9 +19,9 @@ use crate::trials::Campaign;
 use ps_base::{Bytes, Memory};
 use ps_bench_frame::{Opened, Status, Stop, open_app};
 use ps_bench_trace::{Expansion, Play, open_play};
-use ps_bench_trials::name_of_file;
+use ps_bench_trials::digest_of_text;
 use ps_message::Listener;
-use ps_outside::{Files, Output, ReadFail, write_all};
+use ps_outside::{Files, Output, write_all};
 use std::alloc::Global;
 
 /// What `campaign` is asked.
@@ -93,7 +93,8 @@ fn campaign_app<F: Files, O: Output, L: Listener>(
     opened: &Opened,
     asked: &Asked<'_>,
 ) -> Result<Status, Stop>
-    requires { Accepted opened.now.app }
+    requires accepted { Accepted opened.now.app }
+    requires text { IsTrue (F.tells files.old) → F.held files.old asked.now.app.now ≡ Some opened.now.text }
     ensures answers { AnswersIn (source opened.now.app opened.now.sizes (F.tells files.old) (F.held files.old))
         asked.now.app.now (wanted_by asked.now) (O.tells out.old) (O.taken out.old) (O.taken out.new) result }
     ensures leaves { Leaves (Any (λ (name : List ℕ). Rose (F.faults files.old name) (F.faults files.new name))
@@ -101,10 +102,9 @@ fn campaign_app<F: Files, O: Output, L: Listener>(
         (sides (F.faults files.old) (O.tells out.old) (O.faults out.old))
         (sides (F.faults files.new) (O.tells out.new) (O.faults out.new)) result }
 {
-    let name = match name_of_file(alloc, files, asked.app) {
+    let name = match digest_of_text(alloc, opened.text.as_slice()) {
         Ok(name) => name,
-        Err(ReadFail::Fault) => return Err(Stop::UnreadApp),
-        Err(ReadFail::Memory) => return Err(Stop::NoMemory),
+        Err(Memory) => return Err(Stop::NoMemory),
     };
     match open_play(alloc, files, out, listener, opened, asked.trace) {
         Ok(Some(play)) => {

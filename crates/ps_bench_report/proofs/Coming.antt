@@ -8,17 +8,14 @@ use Rattle.ps_bench_frame.specs.Ending.{IsUnread}
 use Rattle.ps_bench_frame.specs.Opening.{IsOfApp, Source, source}
 use Rattle.ps_bench_frame.specs.declared.ending.Status.{Status}
 use Rattle.ps_bench_frame.specs.declared.ending.Stop.{Stop}
-use Rattle.ps_bench_frame.specs.declared.ending.Stop.TheVariants.{UnreadApp}
 use Rattle.ps_bench_report.specs.declared.page.Piece.{Piece}
 use Rattle.ps_model.specs.Network.{Network}
 use Rattle.ps_model.specs.declared.channel.ImageSizes.{ImageSizes}
 use Rattle.ps_outside.specs.Outside.{Rose}
-use Rattle.ps_outside.specs.declared.reading.ReadFail.{ReadFail}
-use Rattle.ps_outside.specs.declared.reading.ReadFail.TheVariants.{Fault, Memory}
 use Rattle.ps_bench_report.specs.Asking.{AnswersReport, Ends, IsPageOf, IsReport, StopsReport}
 use Rattle.ps_bench_report.specs.Results.{cases_rows, files_rows}
 use Rattle.ps_bench_report.specs.Paged.{Paged}
-use Rattle.ps_bench_report.specs.Running.{EndsPage, MakesPage, ShowsCases, stop_by}
+use Rattle.ps_bench_report.specs.Running.{EndsPage, MakesPage, ShowsCases}
 use Rattle.ps_bench_report.specs.Sections.{HaveSections, cases_of}
 use Rattle.ps_bench_test.proofs.Stopped.{any_behind}
 use Rattle.ps_bench_test.specs.Testing.{AreRanFiles, FileRan}
@@ -73,15 +70,9 @@ pub reported : (from : Source) (app : List ℕ) (names : List (List ℕ)) (rows 
 reported from app names rows none sections nothing fs tells before after (Ok status) ran shows empty first (done, text, has, took) =
     (done, text, report_is from app names rows none sections nothing text fs ran shows empty first has, took)
 reported from app names rows none sections nothing fs tells before after (Err stop) ran shows empty first (inl short) =
-    inl (inr short.0, short.1)
+    inl short
 reported from app names rows none sections nothing fs tells before after (Err stop) ran shows empty first (inr (text, has, stops)) =
     inr (inr (text, report_is from app names rows none sections nothing text fs ran shows empty first has, stops))
-
--- a call stops before any case, whose application cannot be read again
-pub unread_ends : (from : Source) (app : List ℕ) (names : List (List ℕ)) (fail : ReadFail) (stop : Stop) (tells : Bool) (before : List ℕ) →
-    stop ≡ stop_by UnreadApp fail → Ends from app names tells before before (Err stop)
-unread_ends from app names Fault stop tells before is = inl (inl is, λ told. refl)
-unread_ends from app names Memory stop tells before is = inl (inr is, λ told. refl)
 
 -- ---- What a call leaves.
 

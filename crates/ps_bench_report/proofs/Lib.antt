@@ -12,6 +12,8 @@ pub mod Picturing
 pub mod Shown
 -- what a read leaves, and why a call stops by it
 pub mod Reading
+-- a case file that was read once
+pub mod Once
 -- how a call stops at a case file
 pub mod Stopped
 -- what comes of a call with an application

@@ -1,11 +1,10 @@
 -- What a read of a file leaves, and why a call stops by it.
-use Rattle.std.proofs.Common.{◌≡◌, ◌≤◌, ◌∙◌, ℕ, Bool, List, Option, Result, Ok, Err, refl, sym, ap, subst, arith}
+use Rattle.std.proofs.Common.{◌≡◌, ◌≤◌, ◌∙◌, ℕ, Bool, List, Option, Result, Ok, Err, refl, sym, subst, arith}
 use Rattle.std.specs.Prelude.{IsErrOf}
 use Rattle.ps_bench_cover.specs.Leaving.{Leaves, LeavesOutput, Sides, Stays, sides}
-use Rattle.ps_bench_frame.proofs.Stopped.{rose_since}
 use Rattle.ps_bench_frame.specs.Ending.{IsUnread}
 use Rattle.ps_bench_frame.specs.declared.ending.Stop.{Stop}
-use Rattle.ps_bench_frame.specs.declared.ending.Stop.TheVariants.{NoMemory, UnreadApp, UnreadCases, Unwritten}
+use Rattle.ps_bench_frame.specs.declared.ending.Stop.TheVariants.{NoMemory, UnreadCases, Unwritten}
 use Rattle.ps_outside.specs.Outside.{Rose}
 use Rattle.ps_outside.specs.declared.reading.ReadFail.{ReadFail}
 use Rattle.ps_outside.specs.declared.reading.ReadFail.TheVariants.{Fault, Memory}
@@ -27,9 +26,6 @@ memory_read is = cc
 
 memory_written : {P : Type 0} → NoMemory ≡ Unwritten → P
 memory_written is = cc
-
-pub app_written : UnreadApp ≡ Unwritten → ⊥
-app_written is = cc
 
 pub cases_written : (place : ℕ) → UnreadCases place ≡ Unwritten → ⊥
 cases_written place is = cc
@@ -54,24 +50,6 @@ read_failed name t t' h h' f f' fail reading kept reads rose = record {
   kept = kept;
   reads = reads;
   fault = λ is. rose (of_err fail Fault is);
-}
-
--- it failed as another one did
-pub read_passed : {X Y : Type 0} (name : List ℕ) (t t' : Bool) (h h' : List ℕ → Option (List ℕ)) (f f' : List ℕ → ℕ) (fail : ReadFail) →
-    ReadsFile {X = X} name t t' h h' f f' (Err fail) → ReadsFile {X = Y} name t t' h h' f f' (Err fail)
-read_passed name t t' h h' f f' fail one =
-    read_failed name t t' h h' f f' fail one.reading one.kept one.reads (λ at. one.fault (ap Err at))
-
--- it is read again
-pub read_again : {X Y : Type 0} (name : List ℕ) (t t' t'' : Bool) (h h' h'' : List ℕ → Option (List ℕ)) (f f' f'' : List ℕ → ℕ)
-    (first : Result X ReadFail) (ended : Result Y ReadFail) → ReadsFile name t t' h h' f f' first →
-    t'' ≡ t' → h'' ≡ h' → ((other : List ℕ) → f' other ≤ f'' other) → (IsErrOf ended Fault → Rose (f' name) (f'' name)) →
-    ReadsFile name t t'' h h'' f f'' ended
-read_again name t t' t'' h h' h'' f f' f'' first ended one reading kept reads fault = record {
-  reading = reading ∙ one.reading;
-  kept = kept ∙ one.kept;
-  reads = λ other. le_two (f other) (f' other) (f'' other) (one.reads other) (reads other);
-  fault = λ is. rose_since (f name) (f' name) (f'' name) (one.reads name) (fault is);
 }
 
 -- beside an output to which nothing is written

@@ -6,7 +6,7 @@ use Rattle.ps_bench_frame.specs.Stopping.{StopsAtApp, StopsAtCases, StopsIn, Too
 use Rattle.ps_bench_frame.specs.declared.ending.Status.{Status}
 use Rattle.ps_bench_frame.specs.declared.ending.Status.TheVariants.{Done}
 use Rattle.ps_bench_frame.specs.declared.ending.Stop.{Stop}
-use Rattle.ps_bench_frame.specs.declared.ending.Stop.TheVariants.{NoMemory, UnreadApp}
+use Rattle.ps_bench_frame.specs.declared.ending.Stop.TheVariants.{NoMemory}
 use Rattle.ps_model.specs.Network.{Network}
 use Rattle.ps_model.specs.declared.channel.ImageSizes.{ImageSizes}
 use Rattle.ps_bench_report.specs.Results.{files_rows}
@@ -30,12 +30,12 @@ pub record IsReport (from : Source) (app : List ℕ) (names : List (List ℕ)) (
   pub drawn : HaveSections (cases_of files) [] sections
   pub is : IsPageOf (files_rows files) sections text
 
--- How a call stops with the application: its text cannot be read again, or memory runs out, and nothing was written;
--- without the cases of a file; or in the report that it writes.
+-- How a call stops with the application: memory runs out, and nothing was written; without the cases of a file; or in
+-- the report that it writes.
 abbrev pub StopsWith : Source → (app : List ℕ) → (names : List (List ℕ)) → (tells : Bool) →
     (before after : List ℕ) → Stop → Type 0
 StopsWith from app names tells before after stop =
-    (((stop ≡ UnreadApp) ⊎ (stop ≡ NoMemory)) × TookNothing tells before after)
+    ((stop ≡ NoMemory) × TookNothing tells before after)
     ⊎ Any (λ (name : List ℕ). StopsAtCases from name refused_line stop tells before after) names
     ⊎ ((text : List ℕ) × IsReport from app names text × StopsIn text stop tells before after)
 

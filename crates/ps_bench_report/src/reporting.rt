@@ -8,21 +8,20 @@ ghost use Rattle.ps_bench_words.specs.Seen.{seen};
 ghost use Rattle.ps_model.specs.Typing.{Accepted};
 ghost use Rattle.ps_outside.specs.Outside.{Rose};
 ghost use Rattle.ps_bench_report.specs.Asking.{AnswersReport, Ends, StopsReport};
-ghost use Rattle.ps_bench_report.specs.Running.{EndsPage, MakesPage, ReadsFile};
+ghost use Rattle.ps_bench_report.specs.Running.{EndsPage, MakesPage};
 ghost use Rattle.ps_bench_report.specs.Writing.{written};
 
 use crate::names::Tag;
 use crate::page::Page;
-use crate::running::{Bench, Pages, add_named, run_files, stop_by};
-use crate::tables::{add_foot, add_head, close_table, open_table};
+use crate::running::{Bench, Pages, run_files};
+use crate::tables::{add_file, add_foot, add_head, close_table, open_table};
 use crate::texts::{Shown, add_texts};
 use crate::writing::add_page;
-use ps_accepted::read_source;
 use ps_base::{Bytes, Memory};
-use ps_bench_frame::{Sourced, Status, Stop, open_sourced};
+use ps_bench_frame::{Opened, Sourced, Status, Stop, open_sourced};
+use ps_bench_trials::digest_of_text;
 use ps_cover::Cover;
-use ps_model::App;
-use ps_outside::{Files, Output, ReadFail, write_all};
+use ps_outside::{Files, Output, write_all};
 use std::alloc::Global;
 
 /// What `report` is asked.
@@ -48,8 +47,9 @@ fn title_of(alloc: Global, asked: &Asked<'_>) -> Result<Bytes, Memory> {
     }
 }
 
-// The beginning of the page: the head, and what stands before the rows of the files.
-fn front_of(alloc: Global, asked: &Asked<'_>) -> Result<Page, Memory> {
+// The beginning of the page: the head, and the first row of the files, which names the application by its text.
+fn front_of(alloc: Global, text: &[u8], asked: &Asked<'_>) -> Result<Page, Memory> {
+    let digest = digest_of_text(alloc, text)?;
     let title = title_of(alloc, asked)?;
     let mut page = Page::new(alloc);
     add_head(&mut page, title.as_slice());
@@ -60,15 +60,20 @@ fn front_of(alloc: Global, asked: &Asked<'_>) -> Result<Page, Memory> {
         b"The application, and the case files",
         columns.as_slice(),
     );
+    add_file(&mut page, asked.app.as_bytes(), digest.as_slice());
     Ok(page)
 }
 
-// The pages of a report before any file is shown in them.
-fn first_pages<'a>(alloc: Global, app: &'a App, asked: &Asked<'_>) -> Result<Pages<'a>, Memory>
+// The pages of a report before any case file is shown in them.
+fn first_pages<'a>(
+    alloc: Global,
+    opened: &'a Opened,
+    asked: &Asked<'_>,
+) -> Result<Pages<'a>, Memory>
     ensures { IfOk result (λ pages. (pages.rows.pieces ≡ []) × (pages.sections.pieces ≡ [])) }
 {
-    let cover = Cover::new(alloc, app)?;
-    let front = front_of(alloc, asked)?;
+    let cover = Cover::new(alloc, &opened.app)?;
+    let front = front_of(alloc, opened.text.as_slice(), asked)?;
     Ok(Pages {
         front,
         rows: Page::new(alloc),
@@ -124,7 +129,6 @@ fn report_text(
     alloc: Global,
     sourced: &Sourced,
     asked: &Asked<'_>,
-    source: &[u8],
     pages: &mut Pages<'_>,
 ) -> Result<Bytes, Memory>
     requires { Accepted sourced.now.opened.app }
@@ -134,7 +138,7 @@ fn report_text(
     let between = between_of(alloc);
     let shown = Shown {
         name: asked.app,
-        text: source,
+        text: sourced.opened.text.as_slice(),
         app: &sourced.opened.app,
         source: &sourced.source,
         cover: &pages.cover,
@@ -149,7 +153,6 @@ fn write_report<O: Output>(
     out: &mut O,
     sourced: &Sourced,
     asked: &Asked<'_>,
-    source: &[u8],
     pages: &mut Pages<'_>,
 ) -> Result<Status, Stop>
     requires { Accepted sourced.now.opened.app }
@@ -157,28 +160,12 @@ fn write_report<O: Output>(
         result }
     ensures leaves { LeavesOutput (O.tells out.old) (O.tells out.new) (O.faults out.old) (O.faults out.new) result }
 {
-    match report_text(alloc, sourced, asked, source, pages) {
+    match report_text(alloc, sourced, asked, pages) {
         Ok(text) => match write_all(out, text.as_slice()) {
             Ok(()) => Ok(Status::Done),
             Err(_) => Err(Stop::Unwritten),
         },
         Err(Memory) => Err(Stop::NoMemory),
-    }
-}
-
-// The source of the application of this name, with its row among the files.
-fn read_app<F: Files>(
-    alloc: Global,
-    files: &mut F,
-    name: &str,
-    page: &mut Page,
-) -> Result<Bytes, ReadFail>
-    ensures { ReadsFile name.now (F.tells files.old) (F.tells files.new) (F.held files.old) (F.held files.new)
-        (F.faults files.old) (F.faults files.new) result }
-{
-    match add_named(alloc, files, name, page) {
-        Ok(()) => read_source(alloc, name, files),
-        Err(fail) => Err(fail),
     }
 }
 
@@ -199,13 +186,9 @@ fn report_app<F: Files, O: Output>(
         (sides (F.tells files.new) (F.held files.new) (F.faults files.new) (O.tells out.new) (O.faults out.new))
         result }
 {
-    let mut pages = match first_pages(alloc, &sourced.opened.app, asked) {
+    let mut pages = match first_pages(alloc, &sourced.opened, asked) {
         Ok(pages) => pages,
         Err(Memory) => return Err(Stop::NoMemory),
-    };
-    let text = match read_app(alloc, files, asked.app, &mut pages.front) {
-        Ok(text) => text,
-        Err(fail) => return Err(stop_by(Stop::UnreadApp, fail)),
     };
     let bench = Bench {
         alloc,
@@ -213,7 +196,7 @@ fn report_app<F: Files, O: Output>(
         name: asked.app,
     };
     match run_files(files, out, &bench, asked.cases, &mut pages) {
-        Ok(()) => write_report(alloc, out, sourced, asked, text.as_slice(), &mut pages),
+        Ok(()) => write_report(alloc, out, sourced, asked, &mut pages),
         Err(stop) => Err(stop),
     }
 }

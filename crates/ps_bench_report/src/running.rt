@@ -17,8 +17,9 @@ use crate::page::Page;
 use crate::showing::{add_section, add_shown};
 use crate::tables::{add_case, add_file};
 use ps_base::Memory;
+use ps_base::limits::LARGEST_TRACE;
 use ps_bench_cases::{Case, CaseFile};
-use ps_bench_frame::{Opened, Stop, open_written_cases};
+use ps_bench_frame::{HeldText, Opened, Stop, open_written_cases};
 use ps_bench_test::{CaseRun, outcome_of};
 use ps_bench_trials::name_of_file;
 use ps_cover::Cover;
@@ -114,8 +115,8 @@ fn run_cases(
     Ok(())
 }
 
-/// Why a call stops whose read failed: this file cannot be read, or memory runs out.
-pub(crate) fn stop_by(unread: Stop, fail: ReadFail) -> Stop
+// Why a call stops whose read failed: this file cannot be read, or memory runs out.
+fn stop_by(unread: Stop, fail: ReadFail) -> Stop
     ensures { result ≡ stop_by unread fail }
 {
     match fail {
@@ -124,8 +125,8 @@ pub(crate) fn stop_by(unread: Stop, fail: ReadFail) -> Stop
     }
 }
 
-/// The row of the file of this name.
-pub(crate) fn add_named<F: Files>(
+// The row of the file of this name.
+fn add_named<F: Files>(
     alloc: Global,
     files: &mut F,
     name: &str,
@@ -143,9 +144,9 @@ pub(crate) fn add_named<F: Files>(
     }
 }
 
-// Runs the cases of the file of this name, at this place of the words, with a row for the result of each. Where the
-// file is refused the line of the refusal is written, and the stop has the place.
-fn run_file<F: Files, O: Output>(
+// Runs the cases of the file of this name, at this place of the words, with a row for the file and one for the result of
+// each. Where the file is refused the line of the refusal is written, and the stop has the place.
+fn run_read<F: Files, O: Output>(
     files: &mut F,
     out: &mut O,
     bench: &Bench<'_>,
@@ -179,6 +180,34 @@ fn run_file<F: Files, O: Output>(
     match run_cases(bench, &named, file.cases.as_slice(), pages) {
         Ok(()) => Ok(()),
         Err(Memory) => Err(Stop::NoMemory),
+    }
+}
+
+// The same by one reading of the file: what is run and what names it are of the bytes that were read. One that is larger
+// than the largest trace, of whose bytes only those up to this size name it, is not held in memory, but read for each
+// of both.
+fn run_file<F: Files, O: Output>(
+    files: &mut F,
+    out: &mut O,
+    bench: &Bench<'_>,
+    place: usize,
+    name: &str,
+    pages: &mut Pages<'_>,
+) -> Result<(), Stop>
+    requires { Accepted bench.now.opened.now.app }
+    ensures ends { EndsFile
+        (source bench.now.opened.now.app bench.now.opened.now.sizes (F.tells files.old) (F.held files.old))
+        bench.now.name.now name.now pages.old.rows pages.new.rows pages.old.sections pages.new.sections
+        (O.tells out.old) (O.taken out.old) (O.taken out.new) result }
+    ensures leaves { Leaves (Rose (F.faults files.old name.now) (F.faults files.new name.now))
+        (sides (F.tells files.old) (F.held files.old) (F.faults files.old) (O.tells out.old) (O.faults out.old))
+        (sides (F.tells files.new) (F.held files.new) (F.faults files.new) (O.tells out.new) (O.faults out.new))
+        result }
+{
+    match HeldText::of_file(bench.alloc, files, name, LARGEST_TRACE + 1) {
+        Ok(Some(mut text)) => run_read(&mut text, out, bench, place, name, pages),
+        Ok(None) => run_read(files, out, bench, place, name, pages),
+        Err(fail) => Err(stop_by(Stop::UnreadCases(place), fail)),
     }
 }
 

@@ -151,7 +151,7 @@ pub(crate) fn add_case(page: &mut Page, alloc: Global, run: &CaseRun<'_>)
     let scans = scans.format(run.outcome.scans).as_bytes();
     let name = run.case.name.as_str().as_bytes();
     let mut place = Bytes::new(alloc);
-    match add_place(&mut place, run.name.as_bytes(), run.case.line) {
+    match add_place(&mut place, run.name, run.case.line) {
         Ok(()) => add_result(page, name, place.as_slice(), run.passed(), scans),
         Err(Memory) => page.spoil(),
     }

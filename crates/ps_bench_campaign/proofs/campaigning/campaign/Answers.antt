@@ -1,4 +1,4 @@
-use Rattle.std.proofs.Common.{◌∙◌, [], ◌∷◌, Err, ap, inl, refl}
+use Rattle.std.proofs.Common.{◌≡◌, ◌∙◌, [], ◌∷◌, ℕ, IsTrue, List, Option, Some, Err, ap, inl, refl, subst, sym}
 use Rattle.ps_bench_frame.proofs.Stopped.{rose_since}
 use Rattle.ps_bench_frame.specs.Meant.{file_meant}
 use Rattle.ps_bench_frame.specs.declared.ending.Stop.TheVariants.{Unwritten}
@@ -6,6 +6,14 @@ use Rattle.ps_bench_campaign.specs.Asking.{wanted_by}
 use Rattle.ps_bench_campaign.proofs.Coming.{answered, any_since, moved, stops}
 use Rattle.ps_bench_campaign.proofs.Leaving.{app_rose, le_two, of_err}
 use Rattle.ps_bench_campaign.proofs.campaigning.campaign.Goals as goal
+
+pub campaign_app-requires : goal.campaign_app-requires
+campaign_app-requires g c = record {
+  accepted = c.in-Ok.ensures.accepted;
+  text = λ tells.
+      subst (λ (held : List ℕ → Option (List ℕ)). held c.args.asked.now.app.now ≡ Some c.in-Ok.opened.text) (sym c.in-Ok.ensures.kept)
+      (c.in-Ok.ensures.text (subst IsTrue c.in-Ok.ensures.reading tells));
+}
 
 pub returns-in-Ok : goal.returns-in-Ok
 returns-in-Ok g c = record {

@@ -52,7 +52,7 @@ returns-in-Ok-campaign_text g c = record {
 
 pub returns : goal.returns
 returns g c = record {
-  answers = inr (inr (inr refl, λ tells. c.in-Ok.ensures.unsaid));
+  answers = inr (inr (refl, λ tells. c.in-Ok.ensures.unsaid));
   leaves =
       let trace = file_meant c.args.asked.now.trace.now in
       let reads = g.F.Files.faults c.args.files.now in

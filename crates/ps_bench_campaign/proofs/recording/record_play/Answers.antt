@@ -40,28 +40,28 @@ returns-in-Some g c = record {
 
 pub returns-in-None : goal.returns-in-None
 returns-in-None g c = record {
-  course = c.record_named-in-None.ensures.course;
+  course = c.record_file.ensures.course;
   records =
       λ tells.
       let there : g.F.Files.held c.args.files.now c.word_of-word.result.file.now
       ≡ trace_held c.args.cases (g.F.Files.held c.args.files.now (file_meant c.args.word.now)) =
       λ i. trace_held (sym c.in-None.is i) (g.F.Files.held c.args.files.now (c.word_of-word.ensures.file i)) in
-      subst (λ (h : Option (List ℕ)). IfOk c.record_named-in-None.result (RecordsHeld c.args.app.now h)) there
-      (c.record_named-in-None.ensures.records tells);
+      subst (λ (h : Option (List ℕ)). IfOk c.record_file.result (RecordsHeld c.args.app.now h)) there
+      (c.record_file.ensures.records tells);
   stops =
       let there : g.F.Files.held c.args.files.now c.word_of-word.result.file.now
       ≡ trace_held c.args.cases (g.F.Files.held c.args.files.now (file_meant c.args.word.now)) =
       λ i. trace_held (sym c.in-None.is i) (g.F.Files.held c.args.files.now (c.word_of-word.ensures.file i)) in
-      subst (λ (h : Option (List ℕ)). IfErr c.record_named-in-None.result (λ stop. StopsAtTrace
+      subst (λ (h : Option (List ℕ)). IfErr c.record_file.result (λ stop. StopsAtTrace
       (λ refusal. IsTrue (g.F.Files.tells c.args.files.now) → RefusesHeld c.args.app.now h refusal) stop
       (g.O.Sink.tells c.args.out.now) (g.O.Sink.taken c.args.out.now)
-      (g.O.Sink.taken c.record_named-in-None.new.out))) there
-      c.record_named-in-None.ensures.stops;
-  unsaid = c.record_named-in-None.ensures.unsaid;
+      (g.O.Sink.taken c.record_file.new.out))) there
+      c.record_file.ensures.stops;
+  unsaid = c.record_file.ensures.unsaid;
   leaves =
-      subst (λ (name : List ℕ). Leaves (Rose (g.F.Files.faults c.args.files.now name) (g.F.Files.faults c.record_named-in-None.new.files name))
+      subst (λ (name : List ℕ). Leaves (Rose (g.F.Files.faults c.args.files.now name) (g.F.Files.faults c.record_file.new.files name))
       (sides (g.F.Files.faults c.args.files.now) (g.O.Sink.tells c.args.out.now) (g.O.Sink.faults c.args.out.now))
-      (sides (g.F.Files.faults c.record_named-in-None.new.files) (g.O.Sink.tells c.record_named-in-None.new.out)
-      (g.O.Sink.faults c.record_named-in-None.new.out)) c.record_named-in-None.result)
-      c.word_of-word.ensures.file c.record_named-in-None.ensures.leaves;
+      (sides (g.F.Files.faults c.record_file.new.files) (g.O.Sink.tells c.record_file.new.out)
+      (g.O.Sink.faults c.record_file.new.out)) c.record_file.result)
+      c.word_of-word.ensures.file c.record_file.ensures.leaves;
 }

@@ -1,10 +1,10 @@
 -- What a call of an application does in the scans of a run.
-use Rattle.std.specs.Prelude.{◌≡◌, ℕ, Bool, false, List, [], ◌∷◌, Option, Some, slice_get}
+use Rattle.std.specs.Prelude.{◌≡◌, ◌==◌, ℕ, Bool, false, List, [], ◌∷◌, Option, Some, slice_get}
 use Rattle.std.specs.List.{list_any}
 use Rattle.ps_model.specs.Action.{Actual, calls}
 use Rattle.ps_model.specs.Network.{Network, kind_at}
 use Rattle.ps_model.specs.Meaning.{Item, Meaning, Past, last, nothing, old_state, passed, restart, scan}
-use Rattle.ps_model.specs.Scanning.{State, block_in, pins_under}
+use Rattle.ps_model.specs.Scanning.{State, block_in, limit_of, pins_under}
 use Rattle.ps_model.specs.Table.{Conditions}
 use Rattle.ps_model.specs.declared.kind.Kind.{Kind}
 use Rattle.ps_ways.specs.Calling.{seen_by}
@@ -51,8 +51,13 @@ makes net call mark s = marked (kind_of net call) (block_in s.old call.instance)
 abbrev pub IsFixedBy : Kind → List Actual → List (Option Bool) → Type 0
 IsFixedBy kind args fixed = (v : ℕ → Bool) → Allows fixed (pins_under v kind args)
 
+-- the limit of a call is 0, so that it has elapsed in every scan
+abbrev pub is_at_once : Kind → List Actual → Bool
+is_at_once kind args = limit_of kind args == 0
+
 -- A mark that no run of the block alone makes, no scan of the application makes, whatever its items.
 abbrev pub NoneExcluded : Type 0
 NoneExcluded = (net : Network) (call : CallAt) (fixed : List (Option Bool)) (mark : ℕ) (items : List Item) (ws : List State) →
-    IsCallOf net call → IsFixedBy (kind_of net call) call.args fixed → IsExcluded (kind_of net call) fixed mark →
+    IsCallOf net call → IsFixedBy (kind_of net call) call.args fixed →
+    IsExcluded (kind_of net call) (is_at_once (kind_of net call) call.args) fixed mark →
     Meaning net items ws → list_any (makes net call mark) (scans_of net nothing items ws) ≡ false

@@ -1,6 +1,6 @@
 -- What a recording of a case shows.
-use Rattle.std.proofs.Common.{◌≡◌, ◌≢◌, ◌∙◌, ℕ, zero, suc, false, List, [], ◌∷◌, length, map, Option, Result, Ok, Err, inl, inr, refl, sym, ap, ap₂, subst, arith, append-nil}
-use Rattle.std.specs.Prelude.{All, IfOk, OnOk}
+use Rattle.std.proofs.Common.{◌≡◌, ◌≢◌, ◌∙◌, ℕ, zero, suc, false, List, [], ◌∷◌, length, map, Option, Some, None, Result, Ok, Err, inl, inr, refl, sym, ap, ap₂, subst, arith, append-nil}
+use Rattle.std.specs.Prelude.{All, IfOk, IsSomeAnd, OnOk}
 use Rattle.ps_base.specs.declared.failing.Memory.{Memory}
 use Rattle.ps_base.specs.declared.failing.Refusal.{Refusal}
 use Rattle.ps_bench_cases.specs.Joined.{items_of_file, later}
@@ -18,8 +18,9 @@ use Rattle.ps_outside.specs.Outside.{Rose}
 use Rattle.ps_outside.specs.declared.text_fail.TextFail.{TextFail}
 use Rattle.ps_outside.specs.declared.text_fail.TextFail.TheVariants.{Fault as IsFault, Memory as NoMemory, Refused as IsRefused}
 use Rattle.ps_bench_report.specs.Filmed.{HasRecorded, made_of}
-use Rattle.ps_bench_report.specs.Played.{RecordsItems, run_of}
+use Rattle.ps_bench_report.specs.Played.{KeepsItems, RecordsItems, run_of}
 use Rattle.ps_bench_report.specs.Recording.{Film, IsFilmOf, Made, Records, film_of, made_in, shot_of}
+use Rattle.ps_bench_report.specs.declared.filming.Kept.{Kept}
 use Rattle.ps_bench_report.specs.declared.recording.Recorder.{Recorder}
 use Rattle.ps_bench_report.specs.declared.recording.Recording.{Recording}
 use Rattle.ps_runs.specs.Cutting.{TellsFailures}
@@ -55,6 +56,16 @@ records_items net names items faults p w r begins faults_are has fine same = rec
       (has ws means fine few));
 }
 
+-- what is kept of a run that is done has what was recorded
+pub keeps_items : (net : Network) (names : List Name) (items : List Item) (faults : List Fault) (p : StruckWorld) (w : Recorder) (result : Result (Option Kept) Memory) →
+    IsBeginning net p → p.faults ≡ faults → ((ws : List State) → Meaning net items ws → HasRecorded net names (made_of net p items ws) w) →
+    OnOk result (w.is_wanting ≡ false) → IfOk result (λ got. IsSomeAnd got (λ kept. film_of kept.recording ≡ film_of w.recording)) →
+    IfOk result (λ got. IsSomeAnd got (KeepsItems net names items faults))
+keeps_items net names items faults p w (Ok (Some kept)) begins faults_are has fine same =
+    records_items net names items faults p w kept.recording begins faults_are has fine same
+keeps_items net names items faults p w (Ok None) begins faults_are has fine same = same
+keeps_items net names items faults p w (Err wanting) begins faults_are has fine same = tt
+
 -- a case alone in a file has the items that it means
 later_none : (items : List Item) → later 0 items ≡ items
 later_none [] = refl
@@ -84,7 +95,7 @@ begins_whole net text (IsRefused refusal) other fault refuses is =
     let no : whole ≡ refused refusal = sym is ∙ ap (λ headed. (scans_behind headed).end) (refuses refusal refl) in cc
 
 -- so there is no answer where it is not
-pub not_begun_whole : (P : Option Recording → Type 0) (net : Network) (text : List ℕ) (why : TextFail) (r : Result (Option Recording) Memory) →
+pub not_begun_whole : (P : Option Kept → Type 0) (net : Network) (text : List ℕ) (why : TextFail) (r : Result (Option Kept) Memory) →
     OnOk r (why ≢ NoMemory) → (why ≡ IsFault → Rose 0 0) →
     ((refusal : Refusal) → why ≡ IsRefused refusal → header_in text net ≡ fails refusal) → (scans_of text net).end ≡ whole → IfOk r P
 not_begun_whole P net text why (Ok got) other fault refuses is = absurd (begins_whole net text why other fault refuses is)

@@ -12,6 +12,7 @@ use Rattle.ps_bench_report.proofs.Seeing.{known}
 use Rattle.ps_bench_report.specs.Recorder.{TakesRestart, TakesScan, next_frame, recorder_takes, seen_behind}
 use Rattle.ps_bench_report.specs.Recording.{Film, IsFilmOf, Made, Shot, film_of, shot_of}
 use Rattle.ps_bench_report.specs.Filmed.{HasRecorded, IsBegun, made_of}
+use Rattle.ps_bench_report.specs.declared.filming.Both.{Both}
 use Rattle.ps_bench_report.specs.declared.recording.Recorder.{Recorder}
 use Rattle.ps_runs.proofs.ToCome.{first_stands}
 use Rattle.ps_runs.specs.Doing.{Did}
@@ -68,21 +69,25 @@ module _ (net : Network) (names : List Name) where
         film = subst (λ (film : Film). IsFilmOf names (map (shot_of net names) made) film) (sym takes.same) old.film;
       }
 
+  -- what a recorder makes of an outcome, beside another that takes it
+  abbrev Takes : Both → Watched StruckWorld → Outcome Verdict → Both → Type 0
+  Takes w p outcome w' = recorder_takes net w.recorder p outcome w'.recorder
+
   -- A run from its beginning was recorded.
-  pub recorded : IsSound net → (said : Recorder → Watched StruckWorld → Outcome Verdict → List ℕ) (time : ℕ) (p : Watched StruckWorld)
-      (w : Recorder) (scans : Scans) (bytes : List ℕ) (ended : Result (Unit {0}) Cut) (after : Watched StruckWorld) (w' : Recorder) →
-      IsBegun net names p w → Did (Watches Performs net) said (recorder_takes net) time p w scans bytes ended after w' →
-      (ws : List State) → Runs net nothing scans.items ws → OnOk ended (HasRecorded net names (made_of net p.performer scans.items ws) w')
+  pub recorded : IsSound net → (said : Both → Watched StruckWorld → Outcome Verdict → List ℕ) (time : ℕ) (p : Watched StruckWorld)
+      (w : Both) (scans : Scans) (bytes : List ℕ) (ended : Result (Unit {0}) Cut) (after : Watched StruckWorld) (w' : Both) →
+      IsBegun net names p w.recorder → Did (Watches Performs net) said Takes time p w scans bytes ended after w' →
+      (ws : List State) → Runs net nothing scans.items ws → OnOk ended (HasRecorded net names (made_of net p.performer scans.items ws) w'.recorder)
   recorded sound said time p w scans bytes ended after w' begun did ws means =
-      by ended (known net sound p.performer.faults said (recorder_takes net) Knows
-      (λ made r w p now v report w' knows takes. knows_scan made r w (seen_behind p now v report) w' knows takes)
-      (λ made r w p w' knows takes. knows_anew made r w w' knows takes)
+      by ended (known net sound p.performer.faults said Takes (λ made r w. Knows made r w.recorder)
+      (λ made r w p now v report w' knows takes. knows_scan made r w.recorder (seen_behind p now v report) w'.recorder knows takes)
+      (λ made r w p w' knows takes. knows_anew made r w.recorder w'.recorder knows takes)
       time 0 p w scans bytes ended after w' nothing [] false ws
       (first_stands net p.performer begun.world) begun.evaluator (omega arith) means
-      (λ fine few. record { scans = begun.fresh.none_made; restarted = begun.fresh.not_restarted; film = film_begins names (film_of w.recording) begun.fresh.film })
+      (λ fine few. record { scans = begun.fresh.none_made; restarted = begun.fresh.not_restarted; film = film_begins names (film_of w.recorder.recording) begun.fresh.film })
       did)
     where
-      by : (e : Result (Unit {0}) Cut) → OnOk e ((r : Bool) × Knows (made_of net p.performer scans.items ws) r w') →
-          OnOk e (HasRecorded net names (made_of net p.performer scans.items ws) w')
+      by : (e : Result (Unit {0}) Cut) → OnOk e ((r : Bool) × Knows (made_of net p.performer scans.items ws) r w'.recorder) →
+          OnOk e (HasRecorded net names (made_of net p.performer scans.items ws) w'.recorder)
       by (Ok done) all_ = λ fine few. (all_.1 fine few).film
       by (Err cut) all_ = tt

@@ -8,6 +8,7 @@ use Rattle.ps_model.specs.Scanning.{State}
 use Rattle.ps_model.specs.declared.channel.Fault.{Fault}
 use Rattle.ps_bench_report.specs.Marks.{names_shown}
 use Rattle.ps_bench_report.specs.Recording.{Made, Records, made_in}
+use Rattle.ps_bench_report.specs.declared.filming.Kept.{Kept}
 use Rattle.ps_bench_report.specs.declared.recording.Recording.{Recording}
 use Rattle.ps_bench_judge.specs.Runs.{moments_of}
 use Rattle.ps_bench_names.specs.declared.name.Name.{Name}
@@ -31,3 +32,11 @@ pub record RecordsItems (net : Network) (names : List Name) (items : List Item) 
 abbrev pub IsRecordingOf : Network → List Statement → Recording → Type 0
 IsRecordingOf net statements r =
     RecordsItems net (names_shown net statements) (items_of net statements) (faults_in statements) r
+
+-- What is kept of a run shows these names in it.
+abbrev pub KeepsItems : Network → List Name → List Item → List Fault → Kept → Type 0
+KeepsItems net names items faults kept = RecordsItems net names items faults kept.recording
+
+-- What is kept of the run of a case shows the case.
+abbrev pub IsKeptOf : Network → List Statement → Kept → Type 0
+IsKeptOf net statements kept = IsRecordingOf net statements kept.recording

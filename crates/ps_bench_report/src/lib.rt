@@ -11,8 +11,8 @@
 //! Recording:
 //!
 //! - `marks`: what a case expects, by its scans, and what is shown of it by name.
-//! - `recording`: the scans that are shown, and who takes them from a run. `filming`: the loop over the scans of a run.
-//! - `playing`: the run of a case of which it is kept what is shown.
+//! - `recording`: the scans that are shown, and who takes them. `filming`: who takes the scans of a run, and the loop over
+//!   them. `playing`: the run of a case of which it is kept what is shown of it, and what it shows of the application.
 //!
 //! Drawing:
 //!

@@ -1,7 +1,8 @@
-// The scans of a case that are shown, and who takes them from a run.
+// The scans of a case that are shown, and who takes them.
 
 ghost use Rattle.std.specs.Prelude.{◌≡◌, false, IfOk, OnOk, IsTrue, map, option_map};
-ghost use Rattle.ps_bench_report.specs.Recorder.{IsFresh, Shows, Stays, TakesScan, frame_now, last_frame, with_frame};
+ghost use Rattle.ps_bench_report.specs.Recorder.{IsFresh, Shows, Stays, TakesRestart, TakesScan, frame_now, last_frame};
+ghost use Rattle.ps_bench_report.specs.Recorder.{with_frame};
 ghost use Rattle.ps_bench_report.specs.Recording.{course_of, film_of, frame_of};
 ghost use Rattle.ps_bench_judge.specs.Moments.{moment_of};
 ghost use Rattle.ps_bench_judge.specs.Named.{value_in};
@@ -10,9 +11,7 @@ use crate::marks::Mark;
 use ps_base::Memory;
 use ps_bench_judge::{Seen, value_of};
 use ps_bench_names::Name;
-use ps_model::{App, Report, Verdict};
-use ps_outside::{Sink, Stopped};
-use ps_runs::{StruckWorld, Taker, Watched};
+use ps_model::{App, Verdict};
 use std::alloc::Global;
 
 /// As many scans of a case are shown, each of which shows a change, or is expected something of.
@@ -234,8 +233,8 @@ impl Recorder {
         self.recording.push(moment)
     }
 
-    // Takes a scan.
-    fn take(&mut self, app: &App, seen: &Seen<'_>)
+    /// Takes a scan.
+    pub(crate) fn take(&mut self, app: &App, seen: &Seen<'_>)
         ensures { TakesScan app.now self.old (moment_of seen.entry.now) self.new }
     {
         self.scans = self.scans.saturating_add(1);
@@ -245,6 +244,13 @@ impl Recorder {
             Err(Memory) => self.is_wanting = true,
         }
         self.restarted = false;
+    }
+
+    /// Takes a restart.
+    pub(crate) fn take_restart(&mut self)
+        ensures { TakesRestart self.old self.new }
+    {
+        self.restarted = true;
     }
 
     /// What was recorded. An error: memory ran out for a scan.
@@ -269,46 +275,5 @@ impl Recorder {
             recording.wait_until(end);
         }
         Ok(recording)
-    }
-}
-
-impl Taker<Watched<StruckWorld>> for Recorder {
-    ghost use Rattle.std.specs.Prelude.{[], ⊤};
-    ghost use Rattle.ps_bench_report.specs.Recorder.{recorder_takes};
-
-    ghost fits = { λ _ _. ⊤ };
-
-    ghost said = { λ _ _ _ _. [] };
-
-    ghost takes = { recorder_takes };
-
-    fn take_scan<S: Sink>(
-        &mut self,
-        app: &App,
-        now: u32,
-        verdict: Verdict,
-        report: &Report,
-        performer: &Watched<StruckWorld>,
-        _out: &mut S,
-    ) -> Result<(), Stopped> {
-        let seen = Seen {
-            now,
-            verdict,
-            report,
-            before: performer.evaluator.signals_before(),
-            signals: performer.evaluator.signals(),
-        };
-        self.take(app, &seen);
-        Ok(())
-    }
-
-    fn take_restart<S: Sink>(
-        &mut self,
-        _app: &App,
-        _performer: &Watched<StruckWorld>,
-        _out: &mut S,
-    ) -> Result<(), Stopped> {
-        self.restarted = true;
-        Ok(())
     }
 }

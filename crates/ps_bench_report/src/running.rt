@@ -14,7 +14,7 @@ ghost use Rattle.ps_bench_test.specs.Testing.{AreRan, IsRan};
 ghost use Rattle.ps_bench_test.specs.Outcome.{Ran};
 
 use crate::page::Page;
-use crate::showing::{add_section, add_shown};
+use crate::showing::add_section;
 use crate::tables::{add_case, add_file};
 use ps_base::Memory;
 use ps_base::limits::LARGEST_TRACE;
@@ -90,8 +90,8 @@ fn run_case(
         outcome: &outcome,
     };
     add_case(&mut pages.rows, bench.alloc, &run);
-    add_section(&mut pages.sections, bench.alloc, named.place, &run)?;
-    add_shown(bench.alloc, app, named.file, case, &mut pages.cover)?;
+    let total = &mut pages.cover;
+    add_section(&mut pages.sections, bench.alloc, named.place, &run, total)?;
     Ok(())
 }
 

@@ -14,17 +14,11 @@ use crate::page::Page;
 use crate::playing::record_case;
 use crate::tables::open_case;
 use ps_base::{Bytes, Memory};
-use ps_bench_cases::{Case, CaseFile};
-use ps_bench_cover::add_trace;
 use ps_bench_frame::pieces::add_short;
 use ps_bench_test::report::case_report;
 use ps_bench_test::{CaseRun, Tally};
-use ps_bench_trace::Expansion;
 use ps_bench_words::Format;
 use ps_cover::Cover;
-use ps_model::App;
-use ps_outside::TextFail;
-use ps_trace::TraceReader;
 use std::alloc::Global;
 
 // What the pictures of a case are called within the page: by the place of its file and its line.
@@ -36,16 +30,23 @@ fn id_of(alloc: Global, place: usize, line: u32) -> Result<Bytes, Memory> {
     Ok(id)
 }
 
-// The timing diagram of a case that was run.
-fn add_drawn(page: &mut Page, alloc: Global, place: usize, run: &CaseRun<'_>) -> Result<(), Memory>
+// The timing diagram of a case that was run. What its scans show of the application is added to what others have shown.
+fn add_drawn(
+    page: &mut Page,
+    alloc: Global,
+    place: usize,
+    run: &CaseRun<'_>,
+    total: &mut Cover<'_>,
+) -> Result<(), Memory>
     requires accepted { Accepted run.now.app.now }
     requires runnable { IsRunnable run.now.app.now (whole_case run.now.file.now run.now.case.now) }
     ensures { OnOk result (OnWhole page.old page.new (HasDiagram (ran_of run.now))) }
 {
     match record_case(alloc, run.app, run.file, run.case)? {
-        Some(recording) => {
+        Some(kept) => {
+            total.join(&kept.cover);
             let id = id_of(alloc, place, run.case.line)?;
-            add_diagram(page, alloc, run, &recording, id.as_slice())
+            add_diagram(page, alloc, run, &kept.recording, id.as_slice())
         }
         None => {
             page.element(Tag::P, b"There is no timing diagram of this case.");
@@ -55,12 +56,13 @@ fn add_drawn(page: &mut Page, alloc: Global, place: usize, run: &CaseRun<'_>) ->
 }
 
 /// The part of a case that was run, whose file stands at this place of the words: its name, what `test` tells of it,
-/// and its timing diagram.
+/// and its timing diagram. What its scans show of the application is added to what others have shown.
 pub(crate) fn add_section(
     page: &mut Page,
     alloc: Global,
     place: usize,
     run: &CaseRun<'_>,
+    total: &mut Cover<'_>,
 ) -> Result<(), Memory>
     requires accepted { Accepted run.now.app.now }
     requires runnable { IsRunnable run.now.app.now (whole_case run.now.file.now run.now.case.now) }
@@ -68,28 +70,7 @@ pub(crate) fn add_section(
 {
     let told = case_report(alloc, Format::Text, &Tally::none(), run)?;
     open_case(page, run.case.name.as_str().as_bytes(), told.as_slice());
-    add_drawn(page, alloc, place, run)?;
+    add_drawn(page, alloc, place, run, total)?;
     page.close(Tag::Section);
     Ok(())
-}
-
-/// Adds what the scans of a case show of the application to what others have shown.
-pub(crate) fn add_shown(
-    alloc: Global,
-    app: &App,
-    file: &CaseFile,
-    case: &Case,
-    total: &mut Cover<'_>,
-) -> Result<(), Memory>
-    requires { IsRunnable app.now (whole_case file.now case.now) }
-{
-    let mut text = Expansion::of_one(alloc, app, file, case)?;
-    match TraceReader::start(alloc, &mut text, "", app) {
-        Ok(mut trace) => {
-            let _ = add_trace(alloc, app, &mut trace, &mut text, total)?;
-            Ok(())
-        }
-        Err(TextFail::Memory) => Err(Memory),
-        Err(_) => Ok(()),
-    }
 }

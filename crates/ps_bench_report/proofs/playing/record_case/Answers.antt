@@ -8,7 +8,7 @@ use Rattle.ps_bench_cases.specs.Alone.{alone}
 use Rattle.ps_model.specs.Meaning.{Item}
 use Rattle.ps_model.specs.declared.channel.Fault.{Fault}
 use Rattle.ps_bench_report.proofs.Played.{items_alone, not_begun_whole, runs_alone}
-use Rattle.ps_bench_report.specs.Played.{IsRecordingOf, RecordsItems}
+use Rattle.ps_bench_report.specs.Played.{IsKeptOf, KeepsItems}
 use Rattle.ps_bench_report.specs.Marks.{names_shown}
 use Rattle.ps_bench_report.specs.Recorder.{IsFresh}
 use Rattle.ps_bench_names.specs.declared.name.Name.{Name}
@@ -51,10 +51,10 @@ returns-in-Ok c = record {
       let same : c.start.new.files ≡ text = let held = ap (λ (h : List ℕ → Option (List ℕ)). h []) c.start.ensures.kept in cc in
       let fresh : IsFresh (names_shown net statements) c.new-recorder.result =
       subst (λ (names : List Name). IsFresh names c.new-recorder.result) c.in_ok-names_shown.ensures c.new-recorder.ensures in
-      subst (λ (items : List Item). IfOk c.record_trace.result (λ got. IsSomeAnd got (RecordsItems net (names_shown net statements) items (faults_in statements)))) items_are
-      (subst (λ (faults : List Fault). IfOk c.record_trace.result (λ got. IsSomeAnd got (RecordsItems net (names_shown net statements) (items_left c.in-Ok.trace text).items faults))) faults_are
+      subst (λ (items : List Item). IfOk c.record_trace.result (λ got. IsSomeAnd got (KeepsItems net (names_shown net statements) items (faults_in statements)))) items_are
+      (subst (λ (faults : List Fault). IfOk c.record_trace.result (λ got. IsSomeAnd got (KeepsItems net (names_shown net statements) (items_left c.in-Ok.trace text).items faults))) faults_are
       (subst (λ (t : List ℕ). IsReadingTrace c.in-Ok.trace t → (items_left c.in-Ok.trace t).end ≡ whole → (names : List Name) → IsFresh names c.new-recorder.result →
-      IfOk c.record_trace.result (λ got. IsSomeAnd got (RecordsItems net names (items_left c.in-Ok.trace t).items c.in_ok-faults.faults))) same c.record_trace.ensures.records
+      IfOk c.record_trace.result (λ got. IsSomeAnd got (KeepsItems net names (items_left c.in-Ok.trace t).items c.in_ok-faults.faults))) same c.record_trace.ensures.records
       (c.in-Ok.ensures.reads refl text refl) (ap (λ (s : Scans). s.end) read) (names_shown net statements) fresh));
 }
 
@@ -67,6 +67,6 @@ returns c = record {
       let why = c.in-Err.why in
       let read = ap (λ (t : List ℕ). (scans_of t net).end) c.in_ok-text.ensures
       ∙ ap (λ (s : Scans). s.end) (c.expanded_trace_is_read.ensures.items net (alone file case) c.sound.ensures (runs_alone net file case c.requires.runnable) legible) in
-      not_begun_whole (λ got. IsSomeAnd got (IsRecordingOf net (whole_case file case))) net c.in_ok-text.text why c.not_begun.result c.not_begun.ensures
+      not_begun_whole (λ got. IsSomeAnd got (IsKeptOf net (whole_case file case))) net c.in_ok-text.text why c.not_begun.result c.not_begun.ensures
       (λ is. c.start.ensures.fault (c.in-Err.is ∙ ap Err is)) (λ refusal is. c.start.ensures.refuses refl c.in_ok-text.text refl refusal (c.in-Err.is ∙ ap Err is)) read;
 }

@@ -1,8 +1,9 @@
 use Rattle.std.proofs.Common.{◌≡◌, ◌∙◌, Err, refl, sym, ap, subst}
 use Rattle.std.specs.Prelude.{OnOk}
 use Rattle.ps_model.specs.Meaning.{nothing}
-use Rattle.ps_bench_report.proofs.Played.{ends_whole, records_items}
+use Rattle.ps_bench_report.proofs.Played.{ends_whole, keeps_items}
 use Rattle.ps_bench_report.specs.Recorder.{IsFresh}
+use Rattle.ps_bench_report.specs.declared.filming.Both.{Both}
 use Rattle.ps_bench_report.specs.Filmed.{HasRecorded, IsBegun, made_of}
 use Rattle.ps_runs.specs.Cutting.{TellsFailures}
 use Rattle.ps_runs.specs.Running.{IsBeginning}
@@ -15,8 +16,8 @@ use Rattle.ps_bench_report.proofs.playing.record_trace.Goals as goal
 pub new-requires : goal.new-requires
 new-requires c = c.new-world.ensures.fits c.args.app.now c.in_ok-build.ensures
 
-pub returns-in_ok-finish-in-Ok : goal.returns-in_ok-finish-in-Ok
-returns-in_ok-finish-in-Ok c = record {
+pub returns-in-Ok : goal.returns-in-Ok
+returns-in-Ok c = record {
   records = λ reading whole names fresh.
       let net = c.args.app.now in
       let text = c.args.text.now in
@@ -29,20 +30,20 @@ returns-in_ok-finish-in-Ok c = record {
       subst (IsBeginning net) (sym world_is) (c.new-world.ensures.begins net c.in_ok-build.ensures) in
       let faults_are : ran.performer.performer.faults ≡ c.args.faults =
       ap (λ (w : StruckWorld). w.faults) world_is ∙ c.new-world.ensures.faults in
-      let begun : IsBegun net names ran.performer ran.taker = record {
+      let begun : IsBegun net names ran.performer ran.taker.recorder = record {
         world = begins;
         evaluator = subst (λ (w : Watched StruckWorld). StandsAt net nothing w.evaluator) (sym performer_is) c.in_ok-performer.ensures.first;
-        fresh = subst (IsFresh names) (sym c.in_ok-runner.ensures.taker) fresh;
+        fresh = subst (IsFresh names) (sym (ap (λ (b : Both). b.recorder) c.in_ok-runner.ensures.taker)) fresh;
       } in
-      records_items net names items c.args.faults ran.performer.performer c.record_items.new.runner.taker c.in_ok-finish-in-Ok.field-0 begins faults_are
+      keeps_items net names items c.args.faults ran.performer.performer c.record_items.new.runner.taker.recorder c.finished.result begins faults_are
       (λ ws means.
-      subst (λ r. OnOk r (HasRecorded net names (made_of net ran.performer.performer items ws) c.record_items.new.runner.taker)) c.in-Ok.is
+      subst (λ r. OnOk r (HasRecorded net names (made_of net ran.performer.performer items ws) c.record_items.new.runner.taker.recorder)) c.in-Ok.is
       (c.record_items.ensures.records refl text refl reading names begun ws means))
-      c.in_ok-finish-in-Ok.ensures.wanting c.in_ok-finish-in-Ok.ensures.film;
+      c.finished.ensures.wanting c.finished.ensures.film;
 }
 
-pub returns-in-Err : goal.returns-in-Err
-returns-in-Err c = record {
+pub returns : goal.returns
+returns c = record {
   records = λ reading whole names fresh.
       let file = file_of c.args.trace.now in
       let text = c.args.text.now in

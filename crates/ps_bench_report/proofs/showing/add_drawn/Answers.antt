@@ -2,8 +2,8 @@ use Rattle.std.proofs.Common.{Option, inl, inr, subst}
 use Rattle.std.specs.Prelude.{IsSomeAnd}
 use Rattle.std.proofs.lemmas.Result.{on_ok_weaker}
 use Rattle.ps_bench_cases.specs.Meant.{whole_case}
-use Rattle.ps_bench_report.specs.Played.{IsRecordingOf}
-use Rattle.ps_bench_report.specs.declared.recording.Recording.{Recording}
+use Rattle.ps_bench_report.specs.Played.{IsKeptOf}
+use Rattle.ps_bench_report.specs.declared.filming.Kept.{Kept}
 use Rattle.ps_bench_report.proofs.showing.add_drawn.Goals as goal
 
 pub returns-in_ok-id-in-Some : goal.returns-in_ok-id-in-Some
@@ -14,8 +14,8 @@ returns-in_ok-id-in-Some c =
     let is = shown whole in (
       is.0,
       inl (record {
-        recording = c.in-Some.recording;
-        is_of = λ legible. subst (λ (o : Option Recording). IsSomeAnd o (IsRecordingOf run.app.now case)) c.in-Some.is (c.in_ok-recording.ensures.records legible);
+        recording = c.in-Some.kept.recording;
+        is_of = λ legible. subst (λ (o : Option Kept). IsSomeAnd o (IsKeptOf run.app.now case)) c.in-Some.is (c.in_ok-kept.ensures.records legible);
         shows = is.1;
       }),
     )) c.add_diagram.ensures
@@ -27,7 +27,7 @@ returns-in-None c = λ whole.
     let is = c.element.ensures whole in (
       is.0,
       inr (
-        λ legible. subst (λ (o : Option Recording). IsSomeAnd o (IsRecordingOf run.app.now case)) c.in-None.is (c.in_ok-recording.ensures.records legible),
+        λ legible. subst (λ (o : Option Kept). IsSomeAnd o (IsKeptOf run.app.now case)) c.in-None.is (c.in_ok-kept.ensures.records legible),
         is.1,
       ),
     )

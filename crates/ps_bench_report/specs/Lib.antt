@@ -2,6 +2,12 @@
 pub mod Results
 pub mod Sections
 pub mod Asking
+-- its contents, the sentences in it, the numbers of its lines, what names its files, and what is told of an application
+pub mod Contents
+pub mod Texts
+pub mod Numbered
+pub mod Digests
+pub mod Telling
 -- apparatus: how calls end that read files, run their cases, and write a page
 pub mod Running
 -- markup: the names of elements and attributes

@@ -26,6 +26,7 @@ use Rattle.ps_bench_report.specs.Sections.{HaveSections, cases_of}
 use Rattle.ps_bench_test.proofs.Stopped.{any_behind}
 use Rattle.ps_bench_test.specs.Testing.{AreRanFiles, FileRan}
 use Rattle.ps_bench_report.proofs.Reading.{le_two}
+use Rattle.ps_bench_report.proofs.Covering.{told_of}
 use Rattle.ps_bench_report.proofs.Shown.{rows_of_cases}
 
 -- what was answered of an application, and why the call stopped, by how it ended
@@ -55,7 +56,7 @@ moved P net sizes r r' h h' t t' b b' r_is h_is t_is b_is holds =
 
 module _ (from : Source) (wanted : Wanted) (tree : SourceTree) (text : List ℕ)
     (held : IsTrue from.tells → from.held wanted.app ≡ Some text) (of_source : IsTrue from.tells → IsSourceOf from.held wanted.app tree)
-    (begun pages : Pages) (begins : BeginsPages wanted.title wanted.app text begun)
+    (begun pages : Pages) (begins : BeginsPages from.net wanted.title wanted.app text begun)
     (fs : List FileRan) (ran : AreRanFiles from wanted.app wanted.names fs) (shows : ShowsFiles from wanted.names fs begun pages) where
   abbrev of_app : Subject
   of_app = record { net = from.net; tree = tree; name = wanted.app; source = text }
@@ -83,9 +84,9 @@ module _ (from : Source) (wanted : Wanted) (tree : SourceTree) (text : List ℕ)
         held = held;
         tree = tree;
         of_source = of_source;
-        known = pages.cover;
         told = makes.told;
         are = makes.are;
+        coverage = told_of from.net tree (cases_of fs) begun.cover pages.cover makes.told.coverage begins.whole begins.unseen shows.covers makes.coverage;
         is = makes.is ∙ (λ i. written (front_is i ++ rows_are i ++ cases_front ++ pages.sections.pieces ++ back_pieces makes.told));
       }
 

@@ -6,6 +6,8 @@ pub mod Recorded
 pub mod Lasting
 pub mod Stopping
 pub mod Played
+-- what the scans of runs show of an application
+pub mod Covering
 -- the scans that pictures show
 pub mod Picturing
 -- pieces that are added, cases and files that are shown, after others, and the text of their pages

@@ -5,7 +5,10 @@ use Rattle.std.proofs.lemmas.List.{append-nil}
 use Rattle.ps_bench_report.specs.CaseRows.{case_row}
 use Rattle.ps_bench_frame.specs.Opening.{Source}
 use Rattle.ps_cover.specs.declared.cover.Cover.{Cover}
+use Rattle.ps_model.specs.Network.{Network}
 use Rattle.ps_bench_report.proofs.Adding.{adds_behind}
+use Rattle.ps_bench_report.proofs.Covering.{covered_behind, none_covered}
+use Rattle.ps_bench_report.specs.Covered.{CoversCases}
 use Rattle.ps_bench_report.specs.Digests.{AreDigests, IsDigest, file_rows}
 use Rattle.ps_bench_report.specs.Files.{file_row}
 use Rattle.ps_bench_report.specs.Paged.{Adds, OnWhole, Paged}
@@ -27,18 +30,19 @@ sections_behind (r ∷ rs) ss before middle after first second =
     (first.0, first.1, sections_behind rs ss first.0 middle after first.2 second)
 
 -- no case
-pub none_shown : (pages : Pages) → ShowsCases [] pages pages
-none_shown pages = record {
+pub none_shown : (net : Network) (pages : Pages) → ShowsCases net [] pages pages
+none_shown net pages = record {
   in_front = refl;
   in_rows = λ whole. (whole, sym (append-nil pages.rows.pieces));
   in_parts = λ whole. (whole, refl);
+  covers = none_covered net pages.cover;
 }
 
 -- one case
 pub one_shown : (r : Ran) (old : Pages) (rows sections : Paged) (cover : Cover) → Adds old.rows rows (case_row r) →
-    OnWhole old.sections sections (HasSection r) →
-    ShowsCases (r ∷ []) old (record { front = old.front; rows = rows; sections = sections; cover = cover })
-one_shown r old rows sections cover row part = record {
+    OnWhole old.sections sections (HasSection r) → CoversCases r.net (r ∷ []) old.cover cover →
+    ShowsCases r.net (r ∷ []) old (record { front = old.front; rows = rows; sections = sections; cover = cover })
+one_shown r old rows sections cover row part covers = record {
   in_front = refl;
   in_rows = λ whole.
       let is = row whole in
@@ -46,6 +50,7 @@ one_shown r old rows sections cover row part = record {
   in_parts = λ whole.
       let is = part whole in
       (is.0, (sections.pieces, is.1, refl));
+  covers = covers;
 }
 
 -- rows and parts after others
@@ -63,11 +68,13 @@ parts_behind rs ss old mid new first second = λ whole.
     (one.0, sections_behind rs ss old.pieces mid.pieces new.pieces one.1 two.1)
 
 -- cases after others
-pub shown_behind : (rs ss : List Ran) (old mid new : Pages) → ShowsCases rs old mid → ShowsCases ss mid new → ShowsCases (rs ++ ss) old new
-shown_behind rs ss old mid new first second = record {
+pub shown_behind : (net : Network) (rs ss : List Ran) (old mid new : Pages) → ShowsCases net rs old mid → ShowsCases net ss mid new →
+    ShowsCases net (rs ++ ss) old new
+shown_behind net rs ss old mid new first second = record {
   in_front = second.in_front ∙ first.in_front;
   in_rows = rows_behind rs ss old.rows mid.rows new.rows first.in_rows second.in_rows;
   in_parts = parts_behind rs ss old.sections mid.sections new.sections first.in_parts second.in_parts;
+  covers = covered_behind net rs ss old.cover mid.cover new.cover first.covers second.covers;
 }
 
 -- what files are named by, after others
@@ -93,12 +100,13 @@ none_filed from pages = record {
   in_front = λ whole. (whole, sym (append-nil pages.front.pieces));
   in_rows = λ whole. (whole, sym (append-nil pages.rows.pieces));
   in_parts = λ whole. (whole, refl);
+  covers = none_covered from.net pages.cover;
 }
 
 -- one file, after whose row its cases are shown
 pub one_filed : (from : Source) (name : List ℕ) (f : FileRan) (digest : List ℕ) (old : Pages) (front : Paged) (new : Pages) →
     IsDigest from name digest → Adds old.front front (file_row name digest) →
-    ShowsCases f.ran (record { front = front; rows = old.rows; sections = old.sections; cover = old.cover }) new →
+    ShowsCases from.net f.ran (record { front = front; rows = old.rows; sections = old.sections; cover = old.cover }) new →
     ShowsFiles from (name ∷ []) (f ∷ []) old new
 one_filed from name f digest old front new named row shows = record {
   digests = digest ∷ [];
@@ -108,6 +116,7 @@ one_filed from name f digest old front new named row shows = record {
       (is.0, ap (λ (p : Paged). p.pieces) shows.in_front ∙ is.1 ∙ ap (λ (t : List Piece). old.front.pieces ++ t) (sym (append-nil (file_row name digest))));
   in_rows = subst (λ (rs : List Ran). Adds old.rows new.rows (cases_rows rs)) (sym (append-nil f.ran)) shows.in_rows;
   in_parts = subst (λ (rs : List Ran). OnWhole old.sections new.sections (HaveSections rs)) (sym (append-nil f.ran)) shows.in_parts;
+  covers = subst (λ (rs : List Ran). CoversCases from.net rs old.cover new.cover) (sym (append-nil f.ran)) shows.covers;
 }
 
 -- files after others
@@ -124,6 +133,8 @@ filed_behind from ns ms fs gs old mid new first second =
           (rows_behind (cases_of fs) (cases_of gs) old.rows mid.rows new.rows first.in_rows second.in_rows);
       in_parts = subst (λ (rs : List Ran). OnWhole old.sections new.sections (HaveSections rs)) (sym same)
           (parts_behind (cases_of fs) (cases_of gs) old.sections mid.sections new.sections first.in_parts second.in_parts);
+      covers = subst (λ (rs : List Ran). CoversCases from.net rs old.cover new.cover) (sym same)
+          (covered_behind from.net (cases_of fs) (cases_of gs) old.cover mid.cover new.cover first.covers second.covers);
     }
 
 -- the rows of files are those of their cases

@@ -11,6 +11,7 @@ use Rattle.ps_model.specs.Network.{Network}
 use Rattle.ps_model.specs.declared.channel.ImageSizes.{ImageSizes}
 use Rattle.ps_bench_words.specs.Seen.{seen}
 use Rattle.ps_bench_report.specs.Contents.{page_pieces, title_text}
+use Rattle.ps_bench_report.specs.Covered.{IsCoverageOf}
 use Rattle.ps_bench_report.specs.Digests.{AreDigests, file_rows}
 use Rattle.ps_bench_report.specs.Results.{files_rows}
 use Rattle.ps_bench_report.specs.Sections.{HaveSections, cases_of}
@@ -22,7 +23,6 @@ use Rattle.ps_bench_report.specs.declared.texts.Texts.{Texts}
 use Rattle.ps_bench_frame.specs.Sourcing.{IsSourceOf}
 use Rattle.ps_bench_test.specs.Testing.{AreRanFiles, FileRan}
 use Rattle.ps_bench_trials.specs.Naming.{digest_text}
-use Rattle.ps_cover.specs.declared.cover.Cover.{Cover}
 use Rattle.ps_parser.specs.Tree.{SourceTree}
 
 -- The text is that of these pieces, one after another, each of which is the program's own or a value that is escaped.
@@ -45,8 +45,8 @@ wanted_by asked = record {
 
 -- The text is the report of an application of this name and of the files of these names: all of their cases were run,
 -- the rows of its results are theirs, and so are the parts of the cases, each with its timing diagram. The title, the
--- SHA-256 of each file, the source, the notes, the demands and what is claimed stand around them. What was seen of the
--- application, by which its coverage is told, is left open.
+-- SHA-256 of each file, the source, the notes, the demands, the coverage and what is claimed stand around them. A case
+-- whose trace is not read as it was written is left open in the coverage.
 pub record IsReport (from : Source) (wanted : Wanted) (text : List ℕ) : Type 0 where
   pub files : List FileRan
   pub ran : AreRanFiles from wanted.app wanted.names files
@@ -58,9 +58,9 @@ pub record IsReport (from : Source) (wanted : Wanted) (text : List ℕ) : Type 0
   pub held : IsTrue from.tells → from.held wanted.app ≡ Some source
   pub tree : SourceTree
   pub of_source : IsTrue from.tells → IsSourceOf from.held wanted.app tree
-  pub known : Cover
   pub told : Texts
-  pub are : AreTexts from.net tree wanted.app source known told
+  pub are : AreTexts from.net wanted.app source told
+  pub coverage : IsCoverageOf from.net tree (cases_of files) told.coverage
   pub is : IsPageOf (page_pieces (title_text wanted.title wanted.app) wanted.app (digest_text source)
       (file_rows wanted.names digests) (files_rows files) sections told) text
 

@@ -12,6 +12,7 @@ use Rattle.ps_outside.specs.Outside.{Rose}
 use Rattle.ps_outside.specs.declared.reading.ReadFail.{ReadFail}
 use Rattle.ps_outside.specs.declared.reading.ReadFail.TheVariants.{Fault, Memory}
 use Rattle.ps_bench_report.specs.Contents.{back_pieces, cases_front, front_pieces, results_front, title_text}
+use Rattle.ps_bench_report.specs.Covered.{CoversCases, IsCoverage}
 use Rattle.ps_bench_report.specs.Digests.{AreDigests, file_rows}
 use Rattle.ps_bench_report.specs.Paged.{Adds, OnWhole, Paged}
 use Rattle.ps_bench_report.specs.Results.{cases_rows}
@@ -21,6 +22,7 @@ use Rattle.ps_bench_report.specs.Writing.{written}
 use Rattle.ps_bench_report.specs.declared.running.Pages.{Pages}
 use Rattle.ps_bench_report.specs.declared.texts.Texts.{Texts}
 use Rattle.ps_bench_trials.specs.Naming.{digest_text}
+use Rattle.ps_cover.specs.Tallied.{IsUnseen, IsWhole}
 use Rattle.ps_model.specs.Network.{Network}
 use Rattle.ps_parser.specs.Tree.{SourceTree}
 use Rattle.ps_bench_test.specs.Testing.{AreRanFiles, FileRan, IsRanFile}
@@ -40,17 +42,20 @@ pub record ReadsFile {X : Type 0} (name : List ℕ) (tells tells' : Bool) (held 
   pub fault : IsErrOf ended Fault → Rose (faults name) (faults' name)
 
 -- The pages of a report of an application of this name and this text, before any file is shown in them.
-pub record BeginsPages (title : Option (List ℕ)) (name source : List ℕ) (pages : Pages) : Type 0 where
+pub record BeginsPages (net : Network) (title : Option (List ℕ)) (name source : List ℕ) (pages : Pages) : Type 0 where
   pub front : IsTrue pages.front.whole →
       pages.front.pieces ≡ front_pieces (title_text title name) name (digest_text source)
   pub rows : pages.rows.pieces ≡ []
   pub sections : pages.sections.pieces ≡ []
+  pub whole : IsWhole net pages.cover
+  pub unseen : IsUnseen pages.cover
 
 -- After what pages show stands what is shown of these cases.
-pub record ShowsCases (rs : List Ran) (old new : Pages) : Type 0 where
+pub record ShowsCases (net : Network) (rs : List Ran) (old new : Pages) : Type 0 where
   pub in_front : new.front ≡ old.front
   pub in_rows : Adds old.rows new.rows (cases_rows rs)
   pub in_parts : OnWhole old.sections new.sections (HaveSections rs)
+  pub covers : CoversCases net rs old.cover new.cover
 
 -- After what pages show stands what is shown of the files of these names, and of their cases.
 pub record ShowsFiles (from : Source) (names : List (List ℕ)) (fs : List FileRan) (old new : Pages) : Type 0 where
@@ -59,6 +64,7 @@ pub record ShowsFiles (from : Source) (names : List (List ℕ)) (fs : List FileR
   pub in_front : Adds old.front new.front (file_rows names digests)
   pub in_rows : Adds old.rows new.rows (cases_rows (cases_of fs))
   pub in_parts : OnWhole old.sections new.sections (HaveSections (cases_of fs))
+  pub covers : CoversCases from.net (cases_of fs) old.cover new.cover
 
 -- How a call ends that runs the cases of the file of this name: all were run, and are shown, and nothing was written;
 -- or it stops without the cases.
@@ -110,7 +116,8 @@ pub record MakesPage (of : Subject) (pages : Pages) (text : List ℕ) : Type 0 w
   pub rows : IsTrue pages.rows.whole
   pub sections : IsTrue pages.sections.whole
   pub told : Texts
-  pub are : AreTexts of.net of.tree of.name of.source pages.cover told
+  pub are : AreTexts of.net of.name of.source told
+  pub coverage : IsCoverage of.net of.tree pages.cover told.coverage
   pub is : text ≡ written ((pages.front.pieces ++ results_front) ++ pages.rows.pieces ++ cases_front
       ++ pages.sections.pieces ++ back_pieces told)
 

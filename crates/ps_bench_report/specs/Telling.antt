@@ -1,21 +1,15 @@
--- The texts of a report: by what is told of an application, of its source, and of what was seen of it.
+-- The texts of a report: what is told of an application and of its source.
 use Rattle.std.specs.Prelude.{◌≡◌, ◌⊎◌, ℕ, List, map, Ok, Err}
 use Rattle.std.specs.List.{flat_map}
-use Rattle.ps_bench_cover.specs.Telling.{IsKept}
 use Rattle.ps_bench_report.specs.Numbered.{numbered}
 use Rattle.ps_bench_report.specs.Texts.{large_demand}
 use Rattle.ps_bench_report.specs.declared.texts.Texts.{Texts}
-use Rattle.ps_cover.specs.Seen.{Known}
-use Rattle.ps_cover.specs.Text.{coverage_text}
-use Rattle.ps_cover.specs.declared.cover.Cover.{Cover}
-use Rattle.ps_cover.specs.declared.format.Format.TheVariants.{Text}
 use Rattle.ps_demand.specs.Lines.{AreDemandLines}
 use Rattle.ps_demand.specs.declared.lines.NoLines.TheVariants.{Large}
 use Rattle.ps_message.specs.NoteLine.{note_text}
 use Rattle.ps_model.specs.Network.{Network}
 use Rattle.ps_notes.specs.Notes.{notes}
 use Rattle.ps_notes.specs.declared.note.Placed.{Placed}
-use Rattle.ps_parser.specs.Tree.{SourceTree}
 
 -- The notes on an application from a file of this name, in their order, each in a line. Where a note stands in the
 -- source is left open: no clause says so of the places of notes.
@@ -28,14 +22,8 @@ abbrev pub AreDemands : Network → (text : List ℕ) → Type 0
 AreDemands net text =
     AreDemandLines net (Ok text) ⊎ ((output : ℕ) × AreDemandLines net (Err (Large output)) × (text ≡ large_demand))
 
--- What `cover` tells where this was seen, with what is excluded, and with the places of operands in this source.
-abbrev pub IsCoverage : Network → SourceTree → Cover → (text : List ℕ) → Type 0
-IsCoverage net tree cover text = (known : Known) × IsKept net tree cover known × (text ≡ coverage_text known Text)
-
--- The texts of an application from a file of this name, which has this text and this flat source, and of which this was
--- seen.
-pub record AreTexts (net : Network) (tree : SourceTree) (name source : List ℕ) (cover : Cover) (t : Texts) : Type 0 where
+-- The texts of an application from a file of this name, which has this text.
+pub record AreTexts (net : Network) (name source : List ℕ) (t : Texts) : Type 0 where
   pub source : t.source ≡ numbered source
   pub notes : AreNotes net name t.notes
   pub demands : AreDemands net t.demands
-  pub coverage : IsCoverage net tree cover t.coverage

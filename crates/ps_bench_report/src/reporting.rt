@@ -70,8 +70,8 @@ fn first_pages<'a>(
     opened: &'a Opened,
     asked: &Asked<'_>,
 ) -> Result<Pages<'a>, Memory>
-    ensures { IfOk result (BeginsPages (option_map (λ text. text.now) asked.now.title) asked.now.app.now
-        opened.now.text) }
+    ensures { IfOk result (BeginsPages opened.now.app (option_map (λ text. text.now) asked.now.title)
+        asked.now.app.now opened.now.text) }
 {
     let cover = Cover::new(alloc, &opened.app)?;
     let front = front_of(alloc, opened.text.as_slice(), asked)?;

@@ -80,7 +80,7 @@ fn run_case(
     requires runnable { IsRunnable bench.now.opened.now.app (whole_case named.now.file.now case.now) }
     ensures { OnOk result ((r : Ran)
         × IsRan bench.now.opened.now.app bench.now.name.now named.now.name.now named.now.file.now case.now r
-        × ShowsCases (r ∷ []) pages.old pages.new) }
+        × ShowsCases bench.now.opened.now.app (r ∷ []) pages.old pages.new) }
 {
     let app = &bench.opened.app;
     let outcome = outcome_of(bench.alloc, app, named.file, case)?;
@@ -110,7 +110,7 @@ fn run_cases(
         IsRunnable bench.now.opened.now.app (whole_case named.now.file.now case)) cases.now }
     ensures { OnOk result ((rs : List Ran)
         × AreRan bench.now.opened.now.app bench.now.name.now named.now.name.now named.now.file.now cases.now rs
-        × ShowsCases rs pages.old pages.new) }
+        × ShowsCases bench.now.opened.now.app rs pages.old pages.new) }
 {
     for case in cases {
         run_case(bench, named, case, pages)?;

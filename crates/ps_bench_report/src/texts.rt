@@ -5,9 +5,10 @@ ghost use Rattle.std.specs.List.{flat_map};
 ghost use Rattle.ps_message.specs.NoteLine.{note_text};
 ghost use Rattle.ps_model.specs.Typing.{Accepted};
 ghost use Rattle.ps_bench_report.specs.Contents.{back_pieces, claims_part, texts_pieces};
+ghost use Rattle.ps_bench_report.specs.Covered.{IsCoverage};
 ghost use Rattle.ps_bench_report.specs.Numbered.{margin, numbered, numbered_line};
 ghost use Rattle.ps_bench_report.specs.Paged.{Adds};
-ghost use Rattle.ps_bench_report.specs.Telling.{AreDemands, AreNotes, AreTexts, IsCoverage};
+ghost use Rattle.ps_bench_report.specs.Telling.{AreDemands, AreNotes, AreTexts};
 
 use crate::names::Tag;
 use crate::page::Page;
@@ -158,14 +159,19 @@ pub(crate) struct Shown<'a> {
 /// The texts of a report on an application.
 pub(crate) fn texts_of(alloc: Global, shown: &Shown<'_>) -> Result<Texts, Memory>
     requires { Accepted shown.now.app.now }
-    ensures { IfOk result (AreTexts shown.now.app.now shown.now.source.now shown.now.name.now shown.now.text.now
-        shown.now.cover.now) }
+    ensures texts { IfOk result (AreTexts shown.now.app.now shown.now.name.now shown.now.text.now) }
+    ensures coverage { IfOk result (λ texts.
+        IsCoverage shown.now.app.now shown.now.source.now shown.now.cover.now texts.coverage) }
 {
+    let source = numbered(alloc, shown.text)?;
+    let notes = notes_of(alloc, shown.name.as_bytes(), shown.source, shown.app)?;
+    let demands = demands_of(alloc, shown.app)?;
+    let coverage = coverage_of(alloc, shown.app, shown.source, shown.cover)?;
     Ok(Texts {
-        source: numbered(alloc, shown.text)?,
-        notes: notes_of(alloc, shown.name.as_bytes(), shown.source, shown.app)?,
-        demands: demands_of(alloc, shown.app)?,
-        coverage: coverage_of(alloc, shown.app, shown.source, shown.cover)?,
+        source,
+        notes,
+        demands,
+        coverage,
     })
 }
 

@@ -24,10 +24,14 @@ use Rattle.ps_bench_report.specs.Writing.{written}
 use Rattle.ps_bench_report.specs.declared.running.Pages.{Pages}
 use Rattle.ps_bench_report.specs.Sections.{HaveSections, cases_of}
 use Rattle.ps_bench_test.proofs.Stopped.{any_behind}
-use Rattle.ps_bench_test.specs.Testing.{AreRanFiles, FileRan}
+use Rattle.ps_bench_test.specs.Testing.{AreRanFiles, FileRan, tally_of, tally_of_files}
+use Rattle.ps_bench_test.specs.Outcome.{none_told}
+use Rattle.ps_bench_test.specs.Report.{foot_text}
+use Rattle.ps_bench_test.specs.declared.outcome.Tally.{Tally}
+use Rattle.ps_bench_words.specs.declared.asking.Format.TheVariants.{Text}
 use Rattle.ps_bench_report.proofs.Reading.{le_two}
 use Rattle.ps_bench_report.proofs.Covering.{told_of}
-use Rattle.ps_bench_report.proofs.Shown.{rows_of_cases}
+use Rattle.ps_bench_report.proofs.Shown.{rows_of_cases, tally_of_cases}
 
 -- what was answered of an application, and why the call stopped, by how it ended
 pub answered : (net : Network) (sizes : ImageSizes) (wanted : Wanted) (reading : Bool)
@@ -73,6 +77,8 @@ module _ (from : Source) (wanted : Wanted) (tree : SourceTree) (text : List ℕ)
       ap (λ (t : List Piece). t ++ results_front) (in_front.1 ∙ ap (λ (t : List Piece). t ++ rows) (begins.front in_front.0)) in
       let rows_are : pages.rows.pieces ≡ files_rows fs =
       in_rows.1 ∙ ap (λ (t : List Piece). t ++ cases_rows (cases_of fs)) begins.rows ∙ rows_of_cases fs in
+      let total : foot_text Text pages.tally ≡ foot_text Text (tally_of_files none_told fs) =
+      ap (foot_text Text) (shows.tally ∙ ap (λ (t : Tally). tally_of t (cases_of fs)) begins.tally ∙ tally_of_cases none_told fs) in
       record {
         files = fs;
         ran = ran;
@@ -87,7 +93,7 @@ module _ (from : Source) (wanted : Wanted) (tree : SourceTree) (text : List ℕ)
         told = makes.told;
         are = makes.are;
         coverage = told_of from.net tree (cases_of fs) begun.cover pages.cover makes.told.coverage begins.whole begins.unseen shows.covers makes.coverage;
-        is = makes.is ∙ (λ i. written (front_is i ++ rows_are i ++ cases_front ++ pages.sections.pieces ++ back_pieces makes.told));
+        is = makes.is ∙ (λ i. written (front_is i ++ rows_are i ++ cases_front (total i) ++ pages.sections.pieces ++ back_pieces makes.told));
       }
 
   -- a call ends by the page in which they stand

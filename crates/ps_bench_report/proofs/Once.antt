@@ -59,6 +59,7 @@ module _ (net : Network) (sizes : ImageSizes) (tells : Bool) (held : List â„• â†
       in_front = ends.3.in_front;
       in_rows = ends.3.in_rows;
       in_parts = ends.3.in_parts;
+      tally = ends.3.tally;
       covers = ends.3.covers;
     },
   )

@@ -18,8 +18,9 @@ use Rattle.ps_bench_report.specs.Sections.{HasSection, HaveSections, cases_of}
 use Rattle.ps_bench_report.specs.Writing.{piece_text, written}
 use Rattle.ps_bench_report.specs.declared.page.Piece.{Piece}
 use Rattle.ps_bench_report.specs.declared.running.Pages.{Pages}
-use Rattle.ps_bench_test.specs.Testing.{FileRan}
-use Rattle.ps_bench_test.specs.Outcome.{Ran}
+use Rattle.ps_bench_test.specs.Testing.{FileRan, tally_of, tally_of_files}
+use Rattle.ps_bench_test.specs.Outcome.{Ran, counted, passes}
+use Rattle.ps_bench_test.specs.declared.outcome.Tally.{Tally}
 
 -- parts after others
 sections_behind : (rs ss : List Ran) (before middle after : List Piece) →
@@ -35,14 +36,16 @@ none_shown net pages = record {
   in_front = refl;
   in_rows = λ whole. (whole, sym (append-nil pages.rows.pieces));
   in_parts = λ whole. (whole, refl);
+  tally = refl;
   covers = none_covered net pages.cover;
 }
 
 -- one case
 pub one_shown : (r : Ran) (old : Pages) (rows sections : Paged) (cover : Cover) → Adds old.rows rows (case_row r) →
     OnWhole old.sections sections (HasSection r) → CoversCases r.net (r ∷ []) old.cover cover →
-    ShowsCases r.net (r ∷ []) old (record { front = old.front; rows = rows; sections = sections; cover = cover })
-one_shown r old rows sections cover row part covers = record {
+    (tally : Tally) → tally ≡ counted old.tally (passes r.outcome) →
+    ShowsCases r.net (r ∷ []) old (record { front = old.front; rows = rows; sections = sections; tally = tally; cover = cover })
+one_shown r old rows sections cover row part covers tally counts = record {
   in_front = refl;
   in_rows = λ whole.
       let is = row whole in
@@ -50,6 +53,7 @@ one_shown r old rows sections cover row part covers = record {
   in_parts = λ whole.
       let is = part whole in
       (is.0, (sections.pieces, is.1, refl));
+  tally = counts;
   covers = covers;
 }
 
@@ -67,6 +71,10 @@ parts_behind rs ss old mid new first second = λ whole.
     let one = first two.0 in
     (one.0, sections_behind rs ss old.pieces mid.pieces new.pieces one.1 two.1)
 
+tally_behind : (t : Tally) (rs ss : List Ran) → tally_of t (rs ++ ss) ≡ tally_of (tally_of t rs) ss
+tally_behind t [] ss = refl
+tally_behind t (r ∷ rs) ss = tally_behind (counted t (passes r.outcome)) rs ss
+
 -- cases after others
 pub shown_behind : (net : Network) (rs ss : List Ran) (old mid new : Pages) → ShowsCases net rs old mid → ShowsCases net ss mid new →
     ShowsCases net (rs ++ ss) old new
@@ -74,6 +82,7 @@ shown_behind net rs ss old mid new first second = record {
   in_front = second.in_front ∙ first.in_front;
   in_rows = rows_behind rs ss old.rows mid.rows new.rows first.in_rows second.in_rows;
   in_parts = parts_behind rs ss old.sections mid.sections new.sections first.in_parts second.in_parts;
+  tally = second.tally ∙ ap (λ (t : Tally). tally_of t ss) first.tally ∙ sym (tally_behind old.tally rs ss);
   covers = covered_behind net rs ss old.cover mid.cover new.cover first.covers second.covers;
 }
 
@@ -100,13 +109,14 @@ none_filed from pages = record {
   in_front = λ whole. (whole, sym (append-nil pages.front.pieces));
   in_rows = λ whole. (whole, sym (append-nil pages.rows.pieces));
   in_parts = λ whole. (whole, refl);
+  tally = refl;
   covers = none_covered from.net pages.cover;
 }
 
 -- one file, after whose row its cases are shown
 pub one_filed : (from : Source) (name : List ℕ) (f : FileRan) (digest : List ℕ) (old : Pages) (front : Paged) (new : Pages) →
     IsDigest from name digest → Adds old.front front (file_row name digest) →
-    ShowsCases from.net f.ran (record { front = front; rows = old.rows; sections = old.sections; cover = old.cover }) new →
+    ShowsCases from.net f.ran (record { front = front; rows = old.rows; sections = old.sections; tally = old.tally; cover = old.cover }) new →
     ShowsFiles from (name ∷ []) (f ∷ []) old new
 one_filed from name f digest old front new named row shows = record {
   digests = digest ∷ [];
@@ -116,6 +126,7 @@ one_filed from name f digest old front new named row shows = record {
       (is.0, ap (λ (p : Paged). p.pieces) shows.in_front ∙ is.1 ∙ ap (λ (t : List Piece). old.front.pieces ++ t) (sym (append-nil (file_row name digest))));
   in_rows = subst (λ (rs : List Ran). Adds old.rows new.rows (cases_rows rs)) (sym (append-nil f.ran)) shows.in_rows;
   in_parts = subst (λ (rs : List Ran). OnWhole old.sections new.sections (HaveSections rs)) (sym (append-nil f.ran)) shows.in_parts;
+  tally = subst (λ (rs : List Ran). new.tally ≡ tally_of old.tally rs) (sym (append-nil f.ran)) shows.tally;
   covers = subst (λ (rs : List Ran). CoversCases from.net rs old.cover new.cover) (sym (append-nil f.ran)) shows.covers;
 }
 
@@ -133,6 +144,8 @@ filed_behind from ns ms fs gs old mid new first second =
           (rows_behind (cases_of fs) (cases_of gs) old.rows mid.rows new.rows first.in_rows second.in_rows);
       in_parts = subst (λ (rs : List Ran). OnWhole old.sections new.sections (HaveSections rs)) (sym same)
           (parts_behind (cases_of fs) (cases_of gs) old.sections mid.sections new.sections first.in_parts second.in_parts);
+      tally = second.tally ∙ ap (λ (t : Tally). tally_of t (cases_of gs)) first.tally ∙ sym (tally_behind old.tally (cases_of fs) (cases_of gs))
+          ∙ ap (tally_of old.tally) (sym same);
       covers = subst (λ (rs : List Ran). CoversCases from.net rs old.cover new.cover) (sym same)
           (covered_behind from.net (cases_of fs) (cases_of gs) old.cover mid.cover new.cover first.covers second.covers);
     }
@@ -142,6 +155,11 @@ pub rows_of_cases : (fs : List FileRan) → cases_rows (cases_of fs) ≡ files_r
 rows_of_cases [] = refl
 rows_of_cases (f ∷ fs) =
     flat_map-append case_row f.ran (cases_of fs) ∙ ap (λ (t : List Piece). cases_rows f.ran ++ t) (rows_of_cases fs)
+
+-- the total of files is that of their cases
+pub tally_of_cases : (t : Tally) (fs : List FileRan) → tally_of t (cases_of fs) ≡ tally_of_files t fs
+tally_of_cases t [] = refl
+tally_of_cases t (f ∷ fs) = tally_behind t f.ran (cases_of fs) ∙ tally_of_cases (tally_of t f.ran) fs
 
 -- pieces after others, in a text
 pub text_behind : (ps qs : List Piece) (text text' : List ℕ) → text ≡ written ps → text' ≡ text ++ written qs →

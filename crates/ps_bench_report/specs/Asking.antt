@@ -10,6 +10,7 @@ use Rattle.ps_bench_frame.specs.declared.ending.Stop.TheVariants.{NoMemory}
 use Rattle.ps_model.specs.Network.{Network}
 use Rattle.ps_model.specs.declared.channel.ImageSizes.{ImageSizes}
 use Rattle.ps_bench_words.specs.Seen.{seen}
+use Rattle.ps_bench_words.specs.declared.asking.Format.TheVariants.{Text}
 use Rattle.ps_bench_report.specs.Contents.{page_pieces, title_text}
 use Rattle.ps_bench_report.specs.Covered.{IsCoverageOf}
 use Rattle.ps_bench_report.specs.Digests.{AreDigests, file_rows}
@@ -21,7 +22,9 @@ use Rattle.ps_bench_report.specs.declared.page.Piece.{Piece}
 use Rattle.ps_bench_report.specs.declared.reporting.Asked.{Asked}
 use Rattle.ps_bench_report.specs.declared.texts.Texts.{Texts}
 use Rattle.ps_bench_frame.specs.Sourcing.{IsSourceOf}
-use Rattle.ps_bench_test.specs.Testing.{AreRanFiles, FileRan}
+use Rattle.ps_bench_test.specs.Testing.{AreRanFiles, FileRan, tally_of_files}
+use Rattle.ps_bench_test.specs.Outcome.{none_told}
+use Rattle.ps_bench_test.specs.Report.{foot_text}
 use Rattle.ps_bench_trials.specs.Naming.{digest_text}
 use Rattle.ps_parser.specs.Tree.{SourceTree}
 
@@ -44,9 +47,9 @@ wanted_by asked = record {
 }
 
 -- The text is the report of an application of this name and of the files of these names: all of their cases were run,
--- the rows of its results are theirs, and so are the parts of the cases, each with its timing diagram. The title, the
--- SHA-256 of each file, the source, the notes, the demands, the coverage and what is claimed stand around them. A case
--- whose trace is not read as it was written is left open in the coverage.
+-- the rows of its results are theirs, with their total, and so are the parts of the cases, each with its timing diagram.
+-- Around them stand the title, the SHA-256 of each file, the source, the notes, the demands, the coverage and what is
+-- claimed. What a case whose trace is not read as it was written adds to the coverage is left open.
 pub record IsReport (from : Source) (wanted : Wanted) (text : List ℕ) : Type 0 where
   pub files : List FileRan
   pub ran : AreRanFiles from wanted.app wanted.names files
@@ -62,7 +65,7 @@ pub record IsReport (from : Source) (wanted : Wanted) (text : List ℕ) : Type 0
   pub are : AreTexts from.net wanted.app source told
   pub coverage : IsCoverageOf from.net tree (cases_of files) told.coverage
   pub is : IsPageOf (page_pieces (title_text wanted.title wanted.app) wanted.app (digest_text source)
-      (file_rows wanted.names digests) (files_rows files) sections told) text
+      (foot_text Text (tally_of_files none_told files)) (file_rows wanted.names digests) (files_rows files) sections told) text
 
 -- How a call stops with the application: memory runs out, and nothing was written; without the cases of a file; or in
 -- the report that it writes.

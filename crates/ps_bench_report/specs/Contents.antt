@@ -5,7 +5,7 @@ use Rattle.ps_bench_report.specs.Files.{file_row, text_part}
 use Rattle.ps_bench_report.specs.Pieces.{element, marked}
 use Rattle.ps_bench_report.specs.Texts.{claims, no_coverage, no_demands, no_notes, no_source}
 use Rattle.ps_bench_report.specs.declared.names.Key.TheVariants.{Scope}
-use Rattle.ps_bench_report.specs.declared.names.Tag.TheVariants.{Caption, H1, H2, Li, Main, Section, Table, Tbody, Th, Thead}
+use Rattle.ps_bench_report.specs.declared.names.Tag.TheVariants.{Caption, H1, H2, Li, Main, P, Section, Table, Tbody, Th, Thead}
 use Rattle.ps_bench_report.specs.declared.names.Tag.TheVariants.{Title, Tr, Ul}
 use Rattle.ps_bench_report.specs.declared.page.Piece.{Piece}
 use Rattle.ps_bench_report.specs.declared.page.Piece.TheVariants.{Begin, Body, End, Epilogue, Inside, Prologue}
@@ -52,9 +52,11 @@ results_front =
     ++ table_front (codes "Results") (codes "All cases")
     (flat_map column (codes "Case" ∷ codes "Line" ∷ codes "Result" ∷ codes "Scans" ∷ []))
 
--- what stands between the rows of the results and the parts of the cases
-abbrev pub cases_front : List Piece
-cases_front = table_back ++ (Begin Section ∷ Inside ∷ []) ++ element H2 (codes "Cases")
+-- what stands between the rows of the results and the parts of the cases: how many cases passed and failed
+abbrev pub cases_front : (total : List ℕ) → List Piece
+cases_front total =
+    (End Tbody ∷ End Table ∷ []) ++ element P total ++ (End Section ∷ Begin Section ∷ Inside ∷ [])
+    ++ element H2 (codes "Cases")
 
 -- what is claimed, and what is not
 abbrev pub claims_part : List Piece
@@ -75,6 +77,6 @@ back_pieces t = (End Section ∷ []) ++ texts_pieces t ++ End Main ∷ Epilogue 
 
 -- a page: the rows of case files, the rows of results and the parts of cases, with what stands before, between and after
 -- them
-abbrev pub page_pieces : (title name digest : List ℕ) → (files rows sections : List Piece) → Texts → List Piece
-page_pieces title name digest files rows sections t =
-    (front_pieces title name digest ++ files ++ results_front) ++ rows ++ cases_front ++ sections ++ back_pieces t
+abbrev pub page_pieces : (title name digest total : List ℕ) → (files rows sections : List Piece) → Texts → List Piece
+page_pieces title name digest total files rows sections t =
+    (front_pieces title name digest ++ files ++ results_front) ++ rows ++ cases_front total ++ sections ++ back_pieces t

@@ -25,8 +25,10 @@ use Rattle.ps_bench_trials.specs.Naming.{digest_text}
 use Rattle.ps_cover.specs.Tallied.{IsUnseen, IsWhole}
 use Rattle.ps_model.specs.Network.{Network}
 use Rattle.ps_parser.specs.Tree.{SourceTree}
-use Rattle.ps_bench_test.specs.Testing.{AreRanFiles, FileRan, IsRanFile}
-use Rattle.ps_bench_test.specs.Outcome.{Ran}
+use Rattle.ps_bench_test.specs.Testing.{AreRanFiles, FileRan, IsRanFile, tally_of}
+use Rattle.ps_bench_test.specs.Outcome.{Ran, none_told}
+use Rattle.ps_bench_test.specs.Report.{foot_text}
+use Rattle.ps_bench_words.specs.declared.asking.Format.TheVariants.{Text}
 
 -- why a call stops whose read failed: this file cannot be read, or memory runs out
 abbrev pub stop_by : (unread : Stop) → ReadFail → Stop
@@ -47,6 +49,7 @@ pub record BeginsPages (net : Network) (title : Option (List ℕ)) (name source 
       pages.front.pieces ≡ front_pieces (title_text title name) name (digest_text source)
   pub rows : pages.rows.pieces ≡ []
   pub sections : pages.sections.pieces ≡ []
+  pub tally : pages.tally ≡ none_told
   pub whole : IsWhole net pages.cover
   pub unseen : IsUnseen pages.cover
 
@@ -55,6 +58,7 @@ pub record ShowsCases (net : Network) (rs : List Ran) (old new : Pages) : Type 0
   pub in_front : new.front ≡ old.front
   pub in_rows : Adds old.rows new.rows (cases_rows rs)
   pub in_parts : OnWhole old.sections new.sections (HaveSections rs)
+  pub tally : new.tally ≡ tally_of old.tally rs
   pub covers : CoversCases net rs old.cover new.cover
 
 -- After what pages show stands what is shown of the files of these names, and of their cases.
@@ -64,6 +68,7 @@ pub record ShowsFiles (from : Source) (names : List (List ℕ)) (fs : List FileR
   pub in_front : Adds old.front new.front (file_rows names digests)
   pub in_rows : Adds old.rows new.rows (cases_rows (cases_of fs))
   pub in_parts : OnWhole old.sections new.sections (HaveSections (cases_of fs))
+  pub tally : new.tally ≡ tally_of old.tally (cases_of fs)
   pub covers : CoversCases from.net (cases_of fs) old.cover new.cover
 
 -- How a call ends that runs the cases of the file of this name: all were run, and are shown, and nothing was written;
@@ -118,8 +123,8 @@ pub record MakesPage (of : Subject) (pages : Pages) (text : List ℕ) : Type 0 w
   pub told : Texts
   pub are : AreTexts of.net of.name of.source told
   pub coverage : IsCoverage of.net of.tree pages.cover told.coverage
-  pub is : text ≡ written ((pages.front.pieces ++ results_front) ++ pages.rows.pieces ++ cases_front
-      ++ pages.sections.pieces ++ back_pieces told)
+  pub is : text ≡ written ((pages.front.pieces ++ results_front) ++ pages.rows.pieces
+      ++ cases_front (foot_text Text pages.tally) ++ pages.sections.pieces ++ back_pieces told)
 
 -- How a call ends that writes such a page: all of it was written; or nothing was, for running out of memory, or a
 -- beginning of it.

@@ -20,7 +20,10 @@ use crate::texts::{Shown, Texts, add_back, texts_of};
 use crate::writing::add_page;
 use ps_base::{Bytes, Memory};
 use ps_bench_frame::{Opened, Sourced, Status, Stop, open_sourced};
+use ps_bench_test::Tally;
+use ps_bench_test::report::foot;
 use ps_bench_trials::digest_of_text;
+use ps_bench_words::Format;
 use ps_cover::Cover;
 use ps_outside::{Files, Output, write_all};
 use std::alloc::Global;
@@ -79,16 +82,17 @@ fn first_pages<'a>(
         front,
         rows: Page::new(alloc),
         sections: Page::new(alloc),
+        tally: Tally::none(),
         cover,
     })
 }
 
-// What stands between the rows of the results and the parts of the cases.
-fn between_of(alloc: Global) -> Page
-    ensures { IsTrue result.whole → result.pieces ≡ cases_front }
+// What stands between the rows of the results and the parts of the cases, with this total.
+fn between_of(alloc: Global, total: &[u8]) -> Page
+    ensures { IsTrue result.whole → result.pieces ≡ cases_front total.now }
 {
     let mut page = Page::new(alloc);
-    open_sections(&mut page);
+    open_sections(&mut page, total);
     page
 }
 
@@ -125,7 +129,8 @@ fn report_text(
     ensures { IfOk result (MakesPage (subject_of sourced.now asked.now.app.now) pages.old) }
 {
     open_results(&mut pages.front);
-    let between = between_of(alloc);
+    let total = foot(alloc, Format::Text, &pages.tally)?;
+    let between = between_of(alloc, total.as_slice());
     let shown = Shown {
         name: asked.app,
         text: sourced.opened.text.as_slice(),

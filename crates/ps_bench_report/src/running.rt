@@ -23,7 +23,7 @@ use ps_base::Memory;
 use ps_base::limits::LARGEST_TRACE;
 use ps_bench_cases::{Case, CaseFile};
 use ps_bench_frame::{HeldText, Opened, Stop, open_written_cases};
-use ps_bench_test::{CaseRun, outcome_of};
+use ps_bench_test::{CaseRun, Tally, outcome_of};
 use ps_bench_trials::name_of_file;
 use ps_cover::Cover;
 use ps_outside::{Files, Output, ReadFail};
@@ -45,6 +45,8 @@ pub(crate) struct Pages<'a> {
     pub(crate) rows: Page,
     /// The parts of the cases.
     pub(crate) sections: Page,
+    /// How many cases were run, and failed.
+    pub(crate) tally: Tally,
     /// What their scans have shown of the application.
     pub(crate) cover: Cover<'a>,
 }
@@ -56,6 +58,7 @@ impl<'a> Drop for Pages<'a> {
             front: _,
             rows: _,
             sections: _,
+            tally: _,
             cover: _,
         } = self;
     }
@@ -69,7 +72,7 @@ struct Named<'a> {
     file: &'a CaseFile,
 }
 
-// Runs a case, with a row for its result.
+// Runs a case, with a row for its result, and counts it.
 fn run_case(
     bench: &Bench<'_>,
     named: &Named<'_>,
@@ -93,6 +96,7 @@ fn run_case(
         outcome: &outcome,
     };
     add_case(&mut pages.rows, bench.alloc, &run);
+    pages.tally = pages.tally.and(run.passed());
     let total = &mut pages.cover;
     add_section(&mut pages.sections, bench.alloc, named.place, &run, total)?;
     Ok(())

@@ -131,14 +131,20 @@ pub(crate) fn open_results(page: &mut Page)
     );
 }
 
-/// What stands between the rows of the results and the parts of the cases.
-pub(crate) fn open_sections(page: &mut Page)
-    ensures { Adds page.old page.new cases_front }
+/// What stands between the rows of the results and the parts of the cases, with this total of the results.
+pub(crate) fn open_sections(page: &mut Page, total: &[u8])
+    ensures { Adds page.old page.new (cases_front total.now) }
 {
-    close_table(page);
     add_parts(
         page,
-        &[Part::Open(Tag::Section), Part::Element(Tag::H2, b"Cases")],
+        &[
+            Part::End(Tag::Tbody),
+            Part::End(Tag::Table),
+            Part::Element(Tag::P, total),
+            Part::End(Tag::Section),
+            Part::Open(Tag::Section),
+            Part::Element(Tag::H2, b"Cases"),
+        ],
     );
 }
 

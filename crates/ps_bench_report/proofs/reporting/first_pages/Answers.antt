@@ -18,6 +18,7 @@ returns c =
           ∙ (λ i. front_pieces (title_text (option_map (λ text. text.now) asked.title) asked.app.now) asked.app.now (digest_text (c.as_slice.ensures i)));
       rows = ap (λ (p : Paged). p.pieces) c.new.ensures;
       sections = ap (λ (p : Paged). p.pieces) c.new-2.ensures;
+      tally = c.none.ensures;
       whole = begun_whole net cover is.points is.none_off is.none_on;
       unseen = begun_unseen net cover is.points is.none_off is.none_on;
     }

@@ -1,6 +1,0 @@
-use Rattle.ps_bench_report.proofs.Adding.{adds_behind}
-use Rattle.ps_bench_report.specs.Contents.{table_back}
-use Rattle.ps_bench_report.proofs.tables.open_sections.Goals as goal
-
-pub returns : goal.returns
-returns c = adds_behind c.args.page.now c.close_table.new.page c.add_parts.new.page table_back _ c.close_table.ensures c.add_parts.ensures

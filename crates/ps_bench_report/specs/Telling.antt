@@ -23,7 +23,7 @@ AreDemands net text =
     AreDemandLines net (Ok text) ⊎ ((output : ℕ) × AreDemandLines net (Err (Large output)) × (text ≡ large_demand))
 
 -- The texts of an application from a file of this name, which has this text.
-pub record AreTexts (net : Network) (name source : List ℕ) (t : Texts) : Type 0 where
-  pub source : t.source ≡ numbered source
+pub record AreTexts (net : Network) (name text : List ℕ) (t : Texts) : Type 0 where
+  pub source : t.source ≡ numbered text
   pub notes : AreNotes net name t.notes
   pub demands : AreDemands net t.demands

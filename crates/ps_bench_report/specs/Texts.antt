@@ -34,9 +34,9 @@ of_page =
 -- what is claimed of texts
 abbrev pub of_texts : List ℕ
 of_texts =
-    codes "It is proved that the title, the SHA-256 of the files, the source with the numbers of its lines, the notes "
-    ++ codes "and the demands are those of the application and of its files. Where a note stands in the source is what "
-    ++ codes "the program computed: that is tried, and not proved."
+    codes "It is proved that the title, the SHA-256 of the files, the total of the results, the source with the numbers "
+    ++ codes "of its lines, the notes and the demands are those of the application and of its files. Where a note stands "
+    ++ codes "in the source is what the program computed: that is tried, and not proved."
 
 -- what is claimed of diagrams
 abbrev pub of_diagrams : List ℕ
@@ -50,7 +50,8 @@ of_diagrams =
 abbrev pub of_coverage : List ℕ
 of_coverage =
     codes "A case that passes says nothing of other inputs, other times or other faults. Coverage counts what "
-    ++ codes "the cases have shown, and 100 % says no more than that."
+    ++ codes "the cases have shown, and 100 % says no more than that. It is proved to be that of their runs, if the "
+    ++ codes "trace of each case is read as it was written."
 
 -- the limits of what is claimed
 abbrev pub of_times : List ℕ

@@ -186,9 +186,9 @@ const OF_PAGE: &[u8] =
     the page.";
 
 const OF_TEXTS: &[u8] =
-    b"It is proved that the title, the SHA-256 of the files, the source with the numbers of its \
-    lines, the notes and the demands are those of the application and of its files. Where a note stands in the source \
-    is what the program computed: that is tried, and not proved.";
+    b"It is proved that the title, the SHA-256 of the files, the total of the results, the \
+    source with the numbers of its lines, the notes and the demands are those of the application and of its files. \
+    Where a note stands in the source is what the program computed: that is tried, and not proved.";
 
 // What is claimed of diagrams, and of coverage.
 const OF_DIAGRAMS: &[u8] =
@@ -199,7 +199,8 @@ const OF_DIAGRAMS: &[u8] =
 
 const OF_COVERAGE: &[u8] =
     b"A case that passes says nothing of other inputs, other times or other faults. Coverage \
-    counts what the cases have shown, and 100 % says no more than that.";
+    counts what the cases have shown, and 100 % says no more than that. It is proved to be that of their runs, if the \
+    trace of each case is read as it was written.";
 
 // The limits of what is claimed.
 const OF_TIMES: &[u8] =

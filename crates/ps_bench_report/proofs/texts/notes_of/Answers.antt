@@ -8,6 +8,6 @@ pub returns : goal.returns
 returns c = IfOk-weaker c.lines_of.result _ _
     (λ lines is. (
       c.in_ok-placed.placed.items,
-      c.in_ok-placed.ensures,
+      c.in_ok-placed.ensures.notes,
       is ∙ ap (flat_map (note_text c.args.name.now c.args.app.now)) c.as_slice.ensures.value,
     )) c.lines_of.ensures

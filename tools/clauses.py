@@ -9,6 +9,10 @@ import re
 from typing import NamedTuple
 
 LAWS = re.compile(r"(?:.*/)?(?:\w+_)?laws\.rt")  # the files of laws within a crate's src/
+# How pages cite clauses: `CRATE: NAME, NAME` of `CALL`, with any further `NAME` before the call.
+CALLS = r"(?: of ((?:`[\w:]+`(?:, | and )?)+))?"
+CITED = re.compile(r"`(ps_\w+): ([^`]+)`((?:(?:,| and|, and) `[.\w]+`)*)" + CALLS)
+QUOTED = re.compile(r"`([^`]+)`")
 # Calls of traits that the language makes by itself.
 BY_ITSELF = ("Drop", "From", "Iterator", "Display", "Debug", "Default", "Clone", "Copy", "PartialEq", "Eq", "PartialOrd", "Ord", "Deref", "Index", "Write",
              "Read", "Error", "IntoIterator", "Model")
@@ -135,6 +139,14 @@ def definitions_named(text):
             for name in [alias + "."] if alias else [one.split()[-1].strip() for one in names.split(",") if one.strip()]:
                 found[name] = f"crates/{crate}/specs/{module}.antt"
     return found
+
+
+def cited_of_calls(text):
+    """The clauses that a page cites of calls: the crate, the call and the name of each."""
+    for crate, names, more, calls in CITED.findall(text):
+        for call in QUOTED.findall(calls):
+            for name in [*(name.strip() for name in names.split(",")), *QUOTED.findall(more)]:
+                yield crate, call, name
 
 
 class Sources:

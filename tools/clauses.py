@@ -43,6 +43,22 @@ def group_end(text, start):
     return len(text)
 
 
+def parts(text):
+    """A clause at its own arrows: what stands before each, and what is said in the end."""
+    text, depth, start, found = " ".join(text.split()), 0, 0, []
+    for at, mark in enumerate(text):
+        depth += (mark in "({[") - (mark in ")}]")
+        if mark == "→" and depth == 0:
+            found.append(text[start:at].strip())
+            start = at + 1
+    return found, text[start:].strip()
+
+
+def said(text):
+    """What a clause says in the end, after its arrows."""
+    return parts(text)[1]
+
+
 class Function:
     """A function of a crate: whether others can call it, its head, what it requires, its clauses, and the calls that its body makes."""
 
@@ -161,10 +177,28 @@ class Sources:
         for crate in self.stands_on:
             for path in sorted((root / "crates" / crate / "src").glob("**/*.rt")):
                 file = str(path.relative_to(root / "crates" / crate / "src"))
-                text = self.changed.get(str(path.relative_to(root))) or path.read_text()
+                text = self.text(str(path.relative_to(root)))
                 self.functions += read_functions(crate, file, text)
                 self.imports[crate, file] = set(re.findall(r"\w+", " ".join(re.findall(r"(?m)^(?:pub(?:\([^)]*\))? )?use ([^;]*);", text))))
                 self.defined[crate, file] = definitions_named(text)
+
+    def text(self, short):
+        """The text of a file."""
+        return self.changed.get(short) or (self.root / short).read_text()
+
+    def definition(self, file, name):
+        """A definition of a file of specs/ with the sentence before it, in lines; none if the file has it from elsewhere."""
+        lines = self.text(file).splitlines()
+        head = re.compile(rf"( *)(?:(?:abbrev|unfoldable|pub|record|data) )*{re.escape(name)}(?= |$)")
+        at = next((at for at, line in enumerate(lines) if head.match(line)), None)
+        if at is None:
+            return []
+        indent, first = len(head.match(lines[at])[1]), at
+        while first > 0 and lines[first - 1][indent:].startswith("--"):
+            first -= 1
+        while at < len(lines) and (lines[at] or (at + 1 < len(lines) and lines[at + 1].startswith(" " * (indent + 2)))):
+            at += 1
+        return [line[indent:] for line in lines[first:at]]
 
     def below(self, top):
         found = [top]

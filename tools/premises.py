@@ -6,7 +6,7 @@ within (that the files report their bytes, that the code is intact), and that a 
 import re
 from typing import NamedTuple
 
-from clauses import blanked, group_end
+from clauses import blanked, group_end, parts
 
 
 class Premise(NamedTuple):
@@ -43,13 +43,7 @@ SUBJECTS = r"\bAreSizesOf\b|\bIsSetupOf\b|^Meaning net items ws$|\bIsFrontOf\b"
 
 def before_arrows(text):
     """What stands before the arrows of a clause, without what it is said of: `A` and `B` of `(x : X) → A → B → C`."""
-    text, depth, start, pieces = " ".join(text.split()), 0, 0, []
-    for at, mark in enumerate(text):
-        depth += (mark in "({[") - (mark in ")}]")
-        if mark == "→" and depth == 0:
-            pieces.append(text[start:at].strip())
-            start = at + 1
-    for piece in pieces:
+    for piece in parts(text)[0]:
         while re.match(r"\([\w' ]+ : ", piece):
             piece = piece[group_end(piece, 0) :].strip()
         if piece:

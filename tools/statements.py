@@ -2,11 +2,13 @@
 import re
 from typing import NamedTuple
 
+from clauses import said
+
 PAGE = "docs/statements.md"
 PAGES = ("README.md", "docs/proofs.md")
 HEAD = """# Claims beside their clauses
 
-Each claim of README.md and docs/proofs.md, and below it what the prover was asked to show: the clauses that the claim cites, copied from the sources by `tools/claims --write`, with the head of the call and what it requires. Below a clause are the definitions that it names, each with its file. `tools/claims`, and so the gate, compares this page with the sources: if a clause changes under a claim, it fails until somebody has read both again. [audit.md](audit.md) says in which ways a claim is refused, and CONTRIBUTING.md how a clause is read.
+Each claim of README.md and docs/proofs.md, and below it what the prover was asked to show: the clauses that the claim cites, copied from the sources by `tools/claims --write`, with the head of the call and what it requires, and the definitions in which a clause ends. Below are the names of all definitions that the clause names, each with its file. `tools/claims`, and so the gate, compares this page with the sources: if a clause changes under a claim, it fails until somebody has read both again. [audit.md](audit.md) says in which ways a claim is refused, and CONTRIBUTING.md how a clause is read.
 """
 
 
@@ -38,6 +40,17 @@ class Citation(NamedTuple):
         """The clauses as the source has them, with the head of the function and what it requires."""
         one = self.function
         return "\n".join([one.head, *(clause.statement for clause in (*one.requires, *self.clauses))])
+
+
+def ends_in(sources, citation):
+    """What the clauses of a citation say in the end: the relations of specs/ that stand after their last arrows, as the sources have them."""
+    one, found = citation.function, {}
+    named = sources.defined[one.crate, one.file]
+    for clause in citation.clauses:
+        for word in re.findall(r"[A-Z][\w']*", said(clause.text)):
+            if word in named and word not in found and (lines := sources.definition(named[word], word)):
+                found[word] = lines
+    return ["\n".join(lines) for lines in found.values()]
 
 
 def definitions(sources, citation):
@@ -75,8 +88,8 @@ def blocks(sources, citations):
     for claim in sorted(found, key=lambda claim: (PAGES.index(claim.page), int(claim.place.rpartition(":")[2]))):
         cited = {}
         for one in found[claim]:
-            named = definitions(sources, one)
-            cited[one.title()] = f"```\n{one.statement()}\n```\n" + (f"\nNamed there: {'; '.join(named)}\n" if named else "")
+            named, ends = definitions(sources, one), ends_in(sources, one)
+            cited[one.title()] = "\n\n".join([f"```\n{one.statement()}", *ends]) + "\n```\n" + (f"\nNamed there: {'; '.join(named)}\n" if named else "")
         yield claim, cited
 
 

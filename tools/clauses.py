@@ -186,6 +186,11 @@ class Sources:
         """The text of a file."""
         return self.changed.get(short) or (self.root / short).read_text()
 
+    def has_word(self, crates, word):
+        """Whether the sources or definitions of these crates have a word."""
+        paths = [path for crate in crates for form in ("src/**/*.rt", "specs/**/*.antt", "proofs/**/*.antt") for path in (self.root / "crates" / crate).glob(form)]
+        return any(path.stem == word or re.search(rf"\b{word}\b", path.read_text()) for path in paths)
+
     def definition(self, file, name):
         """A definition of a file of specs/ with the sentence before it, in lines; none if the file has it from elsewhere."""
         lines = self.text(file).splitlines()

@@ -8,17 +8,18 @@ PAGE = "docs/statements.md"
 PAGES = ("README.md", "docs/proofs.md")
 HEAD = """# Claims beside their clauses
 
-Each claim of README.md and docs/proofs.md, and below it what the prover was asked to show: the clauses that the claim cites, copied from the sources by `tools/claims --write`, with the head of the call and what it requires, and the definitions in which a clause ends. Below are the names of all definitions that the clause names, each with its file. `tools/claims`, and so the gate, compares this page with the sources: if a clause changes under a claim, it fails until somebody has read both again. [audit.md](audit.md) says in which ways a claim is refused, and CONTRIBUTING.md how a clause is read.
+Each claim of README.md and docs/proofs.md, and below it what the prover was asked to show: the clauses that the claim cites, copied from the sources by `tools/claims --write`, with the head of the call and what it requires, and the definitions in which a clause ends (not for the tables of crates). Below are the names of all definitions that the clause names, each with its file. `tools/claims`, and so the gate, compares this page with the sources: if a clause changes under a claim, it fails until somebody has read both again. [audit.md](audit.md) says in which ways a claim is refused, and CONTRIBUTING.md how a clause is read.
 """
 
 
 class Claim(NamedTuple):
-    """A claim of a page: where it stands, what it says, and its premises."""
+    """A claim of a page: where it stands, what it says, its premises, and whether the clauses alone stand beside it, without definitions."""
 
     page: str
     place: str
     text: str
     premises: str | None = None
+    in_brief: bool = False
 
 
 class Citation(NamedTuple):
@@ -88,7 +89,7 @@ def blocks(sources, citations):
     for claim in sorted(found, key=lambda claim: (PAGES.index(claim.page), int(claim.place.rpartition(":")[2]))):
         cited = {}
         for one in found[claim]:
-            named, ends = definitions(sources, one), ends_in(sources, one)
+            named, ends = definitions(sources, one), [] if claim.in_brief else ends_in(sources, one)
             cited[one.title()] = "\n\n".join([f"```\n{one.statement()}", *ends]) + "\n```\n" + (f"\nNamed there: {'; '.join(named)}\n" if named else "")
         yield claim, cited
 

@@ -166,10 +166,12 @@ def cited_of_calls(text):
 
 
 class Sources:
-    """The crates of a repository and their functions; `changed` has files that are to be read with another text, by their paths."""
+    """The crates of a repository and their functions; `changed` has files that are to be read with another text, by their paths. Of each
+    source file they have the names of its `use` lines, those that these take from its own crate, and the definitions that it names."""
 
     def __init__(self, root, changed=None):
-        self.root, self.changed, self.stands_on, self.functions, self.imports, self.defined = root, changed or {}, {}, [], {}, {}
+        self.root, self.changed, self.stands_on, self.functions = root, changed or {}, {}, []
+        self.imports, self.own, self.defined = {}, {}, {}
         for line in (root / "crates.txt").read_text().splitlines():
             head, colon, rest = line.partition("#")[0].partition(":")
             if colon:
@@ -179,7 +181,9 @@ class Sources:
                 file = str(path.relative_to(root / "crates" / crate / "src"))
                 text = self.text(str(path.relative_to(root)))
                 self.functions += read_functions(crate, file, text)
-                self.imports[crate, file] = set(re.findall(r"\w+", " ".join(re.findall(r"(?m)^(?:pub(?:\([^)]*\))? )?use ([^;]*);", text))))
+                uses = re.findall(r"(?m)^(?:pub(?:\([^)]*\))? )?use ([^;]*);", text)
+                self.imports[crate, file] = set(re.findall(r"\w+", " ".join(uses)))
+                self.own[crate, file] = set(re.findall(r"\w+", " ".join(use for use in uses if not re.match(r"ps_|std\b", use))))
                 self.defined[crate, file] = definitions_named(text)
 
     def text(self, short):
@@ -217,6 +221,11 @@ class Sources:
         return [crate for text in launchers for crate in re.findall(r'tools/launch\.py" (\w+) ', text) if crate in self.stands_on]
 
     @functools.cached_property
+    def names(self):
+        """The functions by crate and name."""
+        return {(one.crate, one.name) for one in self.functions}
+
+    @functools.cached_property
     def reached(self):
         """The functions that the programs reach, by the names of calls."""
         return set().union(*map(self.reached_by, self.programs()))
@@ -248,4 +257,18 @@ class Sources:
             return bool(of) and (of == "." or of in (there.owner, there.trait, "Self") or len(of) <= 2)
         if of == ".":
             return False
-        return there.crate == this.crate or there.name in self.imports[this.crate, this.file] or of == there.crate
+        if there.crate == this.crate or of == there.crate:
+            return True
+        is_own = there.name in self.own[this.crate, this.file] and (this.crate, there.name) in self.names
+        return there.name in self.imports[this.crate, this.file] and not is_own
+
+
+@functools.lru_cache(maxsize=2)
+def read_once(root, changed):
+    """The sources with these files changed."""
+    return Sources(root, dict(changed))
+
+
+def sources_of(root, changed=()):
+    """The sources with these files changed, pages apart; what was read of a folder before is kept."""
+    return read_once(root, tuple((file, text) for file, text in dict(changed).items() if not file.endswith(".md")))

@@ -4,7 +4,6 @@ their text as the source has it, and which functions the programs reach.
 Calls are found by their names, so a call counts as reached wherever one of its name is made.
 """
 import functools
-import pathlib
 import re
 from typing import NamedTuple
 

@@ -1,6 +1,6 @@
 -- The first of what there is.
 use Rattle.std.proofs.Common.{◌≡◌, Option, Some, None, refl}
-use Rattle.core.specs.Option.{option_or}
+use Rattle.std.specs.Option.{option_or}
 
 pub or_none : {T : Type 0} (a : Option T) → option_or a None ≡ a
 or_none None = refl

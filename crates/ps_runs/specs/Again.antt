@@ -1,6 +1,6 @@
 -- Which seat is outvoted again in the scan after its healing.
 use Rattle.std.specs.Prelude.{ℕ, Bool, true, false, List, [], ◌∷◌, Option, Some, None, if◌then◌else◌}
-use Rattle.core.specs.Option.{option_or}
+use Rattle.std.specs.Option.{option_or}
 use Rattle.ps_model.specs.Meaning.{Item, scan, restart}
 use Rattle.ps_vote.specs.declared.seat.Seat.{Seat}
 use Rattle.ps_vote.specs.declared.seat.Vote.{Vote}

@@ -1,7 +1,7 @@
 -- What a world of two channels that faults strike makes of the items of a trace.
 use Rattle.std.specs.Prelude.{◌≡◌, ◌⊎◌, ◌≤◌, ◌<◌, ℕ, suc, Bool, false, true, ◌||◌, List, [], ◌++◌, All, drop, length}
 use Rattle.std.specs.List.Sorted.{IsNonDecreasingBy}
-use Rattle.core.specs.Option.{option_or}
+use Rattle.std.specs.Option.{option_or}
 use Rattle.ps_model.specs.declared.channel.Fault.{Fault}
 use Rattle.ps_model.specs.declared.channel.Verdict.{Verdict}
 use Rattle.ps_model.specs.declared.channel.Verdict.TheVariants.{Released, Tripped, Down}

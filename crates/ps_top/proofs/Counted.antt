@@ -4,6 +4,7 @@ use Rattle.std.specs.Prelude.{fold, flat_map, sum_by, Option, Some, None, is_som
 use Rattle.std.proofs.lemmas.Option.{same_Some}
 use Rattle.std.proofs.lemmas.List.Sums.{sum_by-cons, count_by-le-length}
 use Rattle.std.proofs.lemmas.List.FromFn.{length-map-range_with_len}
+use Rattle.std.specs.Option.{option_or}
 use Rattle.ps_base.specs.declared.failing.Fail.{Fail}
 use Rattle.ps_base.specs.declared.failing.Fail.TheVariants.{Memory as NoneForRules, Refused as RefusedByRules}
 use Rattle.ps_model.specs.declared.channel.Verdict.{Verdict}
@@ -54,7 +55,6 @@ use Rattle.ps_runs.specs.declared.striking.StruckWorld.{StruckWorld}
 use Rattle.ps_top.proofs.Calling.{answers_behind, found_of_all, leaves_on, memory_answers, passes_left, said_answers, says_at}
 use Rattle.ps_top.proofs.Meant.{ran_is}
 use Rattle.ps_top.proofs.Applied.{with_counts}
-use Rattle.core.specs.Option.{option_or}
 use Rattle.ps_runs.specs.Tripping.{first_trip}
 use Rattle.ps_runs.specs.declared.striking.Trip.{Trip}
 use Rattle.ps_runs.proofs.Standing.{TakesAll, Came, CameTo, came_to, first_of}

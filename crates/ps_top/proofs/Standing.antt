@@ -1,6 +1,7 @@
 -- What is answered where a run of two channels wrote so of the items of a trace.
 use Rattle.std.proofs.Common.{◌≡◌, ◌∙◌, ◌++◌, ℕ, Bool, true, false, IsTrue, List, [], Option, None, Result, Ok, Err, refl, sym, ap, subst, append_assoc, append-nil, ◌⊎◌, arith}
 use Rattle.std.specs.Prelude.{◌||◌}
+use Rattle.std.specs.Option.{option_or}
 use Rattle.ps_base.specs.declared.failing.Refusal.{Refusal}
 use Rattle.ps_model.specs.declared.channel.Fault.{Fault}
 use Rattle.ps_model.specs.declared.channel.Verdict.{Verdict}
@@ -15,7 +16,6 @@ use Rattle.ps_runs.specs.declared.items.Cut.TheVariants.{Refused, Unread, Unwrit
 use Rattle.ps_runs.specs.Tripping.{first_trip}
 use Rattle.ps_runs.specs.declared.striking.StruckWorld.{StruckWorld}
 use Rattle.ps_runs.specs.declared.striking.Trip.{Trip}
-use Rattle.core.specs.Option.{option_or}
 use Rattle.ps_world.specs.Whole.{machines_in}
 use Rattle.ps_runs.proofs.Standing.{any_of, first_of, Came, Begun, CameTo, came_to}
 use Rattle.ps_runs.proofs.ToCome.{Stands}

@@ -48,4 +48,4 @@ returns-in-Err-clause-answers g c =
     let same : c.sizes-sizes.result ≡ seat_sizes w.setup = c.sizes-sizes.ensures ∙ seat_sizes_at_first w c.requires.first in
     no_faults_answer (λ text. seat_faults_of heals text (seat_sizes w.setup)) name (λ list. vote_named heals net w.setup list trace) (trace ∷ []) {old = old} {mid = mid} {new = new} c.in-Err.why
     (λ tells. subst (λ (s : VoteSizes). GivesFaults (λ text. seat_faults_of heals text s) (old.files.held name) (Err c.in-Err.why)) same (c.in-Err.ensures.gives tells))
-    c.in-Err.ensures.reads c.fail.ensures.fails c.fail.ensures.refuses
+    c.in-Err.ensures.reads c.fail.ensures.fails c.fail.ensures.refuses c.fail.ensures.worked

@@ -18,5 +18,7 @@ pub mod Asking
 pub mod SameFinding
 -- the output that is named differs
 pub mod Naming
+-- what is told is so
+pub mod Verdicts
 -- how a call of `same` ends, by what stood before its parts
 pub mod SameComing

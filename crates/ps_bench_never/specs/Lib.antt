@@ -7,6 +7,7 @@ pub mod Asking
 pub mod Pieces
 pub mod Casing
 pub mod Telling
+pub mod Stopping
 pub mod Answering
 -- what it says if scans come at any times: what a reader of the promise has to believe
 pub mod TellingAny
@@ -19,5 +20,6 @@ pub mod SameAsking
 pub mod Likeness
 pub mod SameTelling
 pub mod SameAnswering
--- the law: the output that is named differs
+-- the laws: the output that is named differs; what is told of rules and of applications is so
 pub mod Naming
+pub mod Verdicts

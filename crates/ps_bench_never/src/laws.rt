@@ -1,9 +1,20 @@
-//! What a search at a number of ms says of scans at any times.
+//! What holds of all that is told of rules.
 
+ghost use Rattle.ps_bench_never.specs.Verdicts.{EachIsSo, EachIsSoAtAnyTimes};
 ghost use Rattle.ps_bench_never.specs.Whenever.{PacedEndsMeeting};
 
 /// A list of items whose scans come some ms apart, and which ends by meeting a rule, is one whose scans come at any times
 /// and which does.
 pub fn a_case_is_of_any_times()
     ensures { PacedEndsMeeting }
+{}
+
+/// What is told of each rule is so: it holds in every scan of every list; or fails by a shortest list, with times of 32
+/// bits; or is open for a cause that is so, which is told.
+pub fn each_rule_is_as_told()
+    // Scans some ms apart: as many states were held as may be, or the times of a shortest list pass 32 bits.
+    ensures paced { EachIsSo }
+    // Scans at any times: as many states were held as may be, or a run was found that no times meet, or too many inputs
+    // and timers are free.
+    ensures any { EachIsSoAtAnyTimes }
 {}

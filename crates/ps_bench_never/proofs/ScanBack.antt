@@ -12,13 +12,16 @@ use Rattle.ps_base.specs.LetterCase.{SameName, is_same_name}
 use Rattle.ps_model.specs.declared.named.Signal.{Signal}
 use Rattle.ps_model.specs.Network.{Network, declared_count, declared_signals, input_count, names, no_signal, signal_name}
 use Rattle.ps_model.specs.Sound.{IsSound}
+use Rattle.ps_model.specs.declared.channel.ImageSizes.{ImageSizes}
 use Rattle.ps_trace.specs.Words.{before_words, is_blank, number_of, onto_word, words}
 use Rattle.ps_trace.proofs.HeaderLemmas.{same_name}
 use Rattle.ps_bench_names.specs.Names.{has_equals, input_in, is_equals, name_part, number_named, signal_names, value_part}
 use Rattle.ps_bench_names.specs.Words.{counted, is_comment, is_digits, words_in}
 use Rattle.ps_bench_names.specs.declared.name.Setting.{Setting}
 use Rattle.ps_bench_cases.proofs.ReadBack.{both_hold, digits_of_traces, number_back}
-use Rattle.ps_bench_cases.specs.Line.{asked, line_said, said_by_words, settings_said, with_settings}
+use Rattle.ps_bench_cases.specs.File.{act_after, said_after}
+use Rattle.ps_bench_cases.specs.Stands.{one_scan, unless_over}
+use Rattle.ps_bench_cases.specs.Line.{line_said, said_by_words, settings_said}
 use Rattle.ps_bench_cases.specs.Meant.{set_by, with_setting}
 use Rattle.ps_bench_cases.specs.Parts.{and_then, both}
 use Rattle.ps_bench_cases.specs.Words.{number_said, setting_said}
@@ -266,24 +269,24 @@ module _ (net : Network) (sound : IsSound net) (plain_names : HasPlainNames net)
   -- ---- The settings of a line.
   module _ (before values : List Bool) where
     -- the words and settings of an input, and then of others, where it was that and is this
-    abbrev words_onto : ℕ → (was is : Bool) → List (List ℕ) → List (List ℕ)
+    abbrev pub words_onto : ℕ → (was is : Bool) → List (List ℕ) → List (List ℕ)
     words_onto i true true rest = rest
     words_onto i true false rest = word_of i false ∷ rest
     words_onto i false true rest = word_of i true ∷ rest
     words_onto i false false rest = rest
 
-    abbrev settings_onto : ℕ → (was is : Bool) → List Setting → List Setting
+    abbrev pub settings_onto : ℕ → (was is : Bool) → List Setting → List Setting
     settings_onto i true true rest = rest
     settings_onto i true false rest = setting_of i false ∷ rest
     settings_onto i false true rest = setting_of i true ∷ rest
     settings_onto i false false rest = rest
 
     -- those of the inputs from one on
-    abbrev words_from : (a n : ℕ) → List (List ℕ)
+    abbrev pub words_from : (a n : ℕ) → List (List ℕ)
     words_from a zero = []
     words_from a (suc n) = words_onto a (get_or before a false) (get_or values a false) (words_from (a + 1) n)
 
-    abbrev settings_from : (a n : ℕ) → List Setting
+    abbrev pub settings_from : (a n : ℕ) → List Setting
     settings_from a zero = []
     settings_from a (suc n) = settings_onto a (get_or before a false) (get_or values a false) (settings_from (a + 1) n)
 
@@ -294,7 +297,7 @@ module _ (net : Network) (sound : IsSound net) (plain_names : HasPlainNames net)
     piece i false false rest = refl
 
     -- what is written of them
-    pieces : (a n : ℕ) → flat_map (λ i. change_text net i (get_or before i false) (get_or values i false)) (range_with_len a n) ≡ spaced (words_from a n)
+    pub pieces : (a n : ℕ) → flat_map (λ i. change_text net i (get_or before i false) (get_or values i false)) (range_with_len a n) ≡ spaced (words_from a n)
     pieces a zero = refl
     pieces a (suc n) =
         ap (λ (t : List ℕ). change_text net a (get_or before a false) (get_or values a false) ++ t) (pieces (a + 1) n)
@@ -337,10 +340,10 @@ module _ (net : Network) (sound : IsSound net) (plain_names : HasPlainNames net)
     -- ---- What they set.
 
     -- the inputs before one have the new values, and the others the old ones
-    record IsHalf (a : ℕ) (ins : List Bool) : Type 0 where
-      new : (j : ℕ) → j < a → get_or ins j false ≡ get_or values j false
-      old : (j : ℕ) → a ≤ j → get_or ins j false ≡ get_or before j false
-      size : length ins ≡ length values
+    pub record IsHalf (a : ℕ) (ins : List Bool) : Type 0 where
+      pub new : (j : ℕ) → j < a → get_or ins j false ≡ get_or values j false
+      pub old : (j : ℕ) → a ≤ j → get_or ins j false ≡ get_or before j false
+      pub size : length ins ≡ length values
 
     kept_half : (a : ℕ) (ins : List Bool) → get_or before a false ≡ get_or values a false → IsHalf a ins → IsHalf (a + 1) ins
     kept_half a ins same half = record {
@@ -361,7 +364,7 @@ module _ (net : Network) (sound : IsSound net) (plain_names : HasPlainNames net)
         }
 
     -- settings make the new values of those before an input
-    abbrev Sets : (a : ℕ) → List Setting → Type 0
+    abbrev pub Sets : (a : ℕ) → List Setting → Type 0
     Sets a ss = (ins : List Bool) → IsHalf a ins → set_by ins ss ≡ values
 
     sets_onto : (a : ℕ) (was is : Bool) (ss : List Setting) → a < length values → get_or before a false ≡ was → get_or values a false ≡ is → Sets (a + 1) ss → Sets a (settings_onto a was is ss)
@@ -370,7 +373,7 @@ module _ (net : Network) (sound : IsSound net) (plain_names : HasPlainNames net)
     sets_onto a false true ss inside was is rest ins half = rest (slice_set ins a true) (set_half a true ins inside (sym is) half)
     sets_onto a false false ss inside was is rest ins half = rest ins (kept_half a ins (was ∙ sym is) half)
 
-    all_set : (a n : ℕ) → a + n ≡ length values → Sets a (settings_from a n)
+    pub all_set : (a n : ℕ) → a + n ≡ length values → Sets a (settings_from a n)
     all_set a zero all = λ ins half.
         ext_get_or false ins values half.size (λ j below. half.new j (omega (arith, below, all, half.size)))
     all_set a (suc n) all =
@@ -383,6 +386,12 @@ module _ (net : Network) (sound : IsSound net) (plain_names : HasPlainNames net)
       said_by_words net line ((43 ∷ decimal gap) ∷ ws) ≡ with_these settings (said_by_words net alone ((43 ∷ decimal gap) ∷ []))
   said_with gap small line alone ws settings read =
       let number : number_said (decimal gap) ≡ Ok gap = number_is_said gap small in rw (number, read) refl
+
+  done_by : (sizes : ImageSizes) (d : _) (number gap : ℕ) → gap ≤ 4294967295 → (line : List ℕ) (ws : List (List ℕ)) (settings : List Setting) →
+      settings_said net ws ≡ Ok settings → said_after sizes d number (said_by_words net line ((43 ∷ decimal gap) ∷ ws))
+      ≡ act_after d number settings (unless_over d.stand (one_scan d.stand (d.stand.time + gap)))
+  done_by sizes d number gap small line ws settings read =
+      let known : number_said (decimal gap) ≡ Ok gap = number_is_said gap small in rw (known, read) refl
 
   pub scan_back : (gap : ℕ) → gap ≤ 4294967295 → (before values : List Bool) → length before ≡ input_count net → length values ≡ input_count net →
       IsReadAsScan net (scan_line net gap before values) gap before values
@@ -405,6 +414,22 @@ module _ (net : Network) (sound : IsSound net) (plain_names : HasPlainNames net)
         sets = all_set before values 0 n (omega arith) before
             record { new = λ j below. absurd (omega (arith, below)); old = λ j above. refl; size = size ∙ sym size' };
       }
+
+  -- what such a line does
+  pub scan_done : (sizes : ImageSizes) (d : _) (number gap : ℕ) → gap ≤ 4294967295 → (before values : List Bool) →
+      length before ≡ input_count net → length values ≡ input_count net →
+      said_after sizes d number (line_said net (scan_line net gap before values))
+      ≡ act_after d number (settings_from before values 0 (length values)) (unless_over d.stand (one_scan d.stand (d.stand.time + gap)))
+  scan_done sizes d number gap small before values size size' =
+      let n = length values in
+      let ws = words_from before values 0 n in
+      let line = scan_line net gap before values in
+      let few : 0 + n ≤ input_count net = omega (arith, size') in
+      let all_words : words_in line ≡ (43 ∷ decimal gap) ∷ ws =
+      ap (λ (changes : List ℕ). words_in (32 ∷ 32 ∷ 43 ∷ (decimal gap ++ changes))) (pieces before values 0 n)
+      ∙ all_count ((43 ∷ decimal gap) ∷ ws) (gap_plain gap small, all_plain before values 0 n few) in
+      ap (λ (found : List (List ℕ)). said_after sizes d number (said_by_words net line found)) all_words
+      ∙ done_by sizes d number gap small line ws (settings_from before values 0 n) (all_read before values 0 n few [])
 
 pub scan_is_read : ScanIsRead
 scan_is_read net sound plain_names gap small before values size size' = scan_back net sound plain_names gap small before values size size'

@@ -1,14 +1,22 @@
 -- The case that is told is read as the scans that were found.
-use Rattle.std.specs.Prelude.{◌≡◌, ◌≤◌, ◌==◌, ◌++◌, ◌&&◌, ◌||◌, ℕ, Bool, false, true, not, List, codes, decimal, length, nat_lt, replicate}
+use Rattle.std.specs.Prelude.{◌≡◌, ◌≤◌, ◌==◌, ◌++◌, ◌&&◌, ◌||◌, ◌∷◌, [], ℕ, Bool, IfOk, true, not, List, codes, decimal, length, nat_le, nat_lt}
 use Rattle.std.specs.List.{All, list_all}
 use Rattle.ps_base.specs.declared.limits.TheConstants.{LARGEST_TIME}
+use Rattle.ps_model.specs.Meaning.{Item}
 use Rattle.ps_model.specs.Network.{Network, input_count, names}
 use Rattle.ps_model.specs.Sound.{IsSound}
+use Rattle.ps_model.specs.declared.channel.ImageSizes.{ImageSizes}
+use Rattle.ps_reach.specs.Telling.{scans_at}
 use Rattle.ps_bench_names.specs.declared.name.Setting.{Setting}
+use Rattle.ps_bench_cases.specs.File.{cases_of}
 use Rattle.ps_bench_cases.specs.Line.{Said, line_said}
 use Rattle.ps_bench_cases.specs.Line.Said.{asks, begins, breaks, nothing}
-use Rattle.ps_bench_cases.specs.Meant.{set_by}
-use Rattle.ps_bench_never.specs.Casing.{scan_line}
+use Rattle.ps_bench_cases.specs.Meant.{items_of, set_by}
+use Rattle.ps_bench_cases.specs.declared.case.Case.{Case}
+use Rattle.ps_bench_cases.specs.declared.case.CaseFile.{CaseFile}
+use Rattle.ps_bench_rules.specs.declared.rules.Condition.{Condition}
+use Rattle.ps_bench_never.specs.Casing.{case_text, scan_line}
+use Rattle.ps_bench_never.specs.Pieces.{condition_text}
 
 -- a byte of a name: no blank or control byte, and none of `#` and `=`
 abbrev pub is_of_name : ℕ → Bool
@@ -38,3 +46,22 @@ abbrev pub ScanIsRead : Type 0
 ScanIsRead = (net : Network) → IsSound net → HasPlainNames net → (gap : ℕ) → gap ≤ LARGEST_TIME → (before values : List Bool) →
     length before ≡ input_count net → length values ≡ input_count net →
     IsReadAsScan net (scan_line net gap before values) gap before values
+
+-- bytes end no line: none is below a space
+abbrev pub is_one_line : List ℕ → Bool
+is_one_line bytes = list_all (λ b. nat_le 32 b) bytes
+
+-- A case file is one case, which makes these scans and restarts.
+pub record IsOneCaseOf (net : Network) (items : List Item) (file : CaseFile) : Type 0 where
+  pub case : Case
+  pub begin : file.begin ≡ []
+  pub only : file.cases ≡ case ∷ []
+  pub makes : items_of net case.statements ≡ items
+
+-- The case that is written of scans some ms apart is read as these scans, from time 0 on, where the case file is not
+-- refused (a case that is told may have more lines or scans than a case file may).
+abbrev pub CaseIsRead : Type 0
+CaseIsRead = (net : Network) (sizes : ImageSizes) → IsSound net → HasPlainNames net → (name : List ℕ) → is_one_line name ≡ true →
+    (every : ℕ) → every ≤ LARGEST_TIME → (cs : List Condition) → All (λ c. is_one_line (condition_text net c) ≡ true) cs →
+    (scans : List (List Bool)) → All (λ ins. length ins ≡ input_count net) scans →
+    IfOk (cases_of net sizes (case_text net name every cs scans)) (IsOneCaseOf net (scans_at 0 every scans))

@@ -19,7 +19,12 @@ use Rattle.ps_model.specs.Meaning.Item.{scan}
 use Rattle.ps_model.specs.Network.{Network, declared_count, input_count, signal_name}
 use Rattle.ps_model.specs.Sound.{IsSound}
 use Rattle.ps_model.specs.declared.channel.ImageSizes.{ImageSizes}
-use Rattle.ps_reach.specs.Telling.{scans_at}
+use Rattle.ps_reach.specs.Asking.{Point, at_first}
+use Rattle.ps_reach.specs.Promised.{SaysOfEach}
+use Rattle.ps_reach.specs.Reaching.{behind, next_point, numbered}
+use Rattle.ps_reach.specs.Telling.{inputs_from, scans_at}
+use Rattle.ps_reach.specs.declared.asked.Asked.{Asked}
+use Rattle.ps_reach.specs.declared.asked.InputRule.{InputRule}
 use Rattle.ps_bench_names.specs.Words.{counted, words_in}
 use Rattle.ps_bench_names.specs.declared.name.Setting.{Setting}
 use Rattle.ps_bench_rules.specs.declared.rules.Condition.{Condition}
@@ -48,7 +53,7 @@ use Rattle.ps_trace.specs.Faults.{first_of, others_of}
 use Rattle.ps_trace.specs.Words.{words}
 use Rattle.ps_bench_never.specs.Casing.{case_text, change_text, set_text, changes_text, expect_text, expected, gap_before, inputs_at, inputs_before, is_of_before, line_text, scan_line, scan_text}
 use Rattle.ps_bench_never.specs.Pieces.{condition_text, signal_text}
-use Rattle.ps_bench_never.specs.ReadBack.{CaseIsRead, HasPlainNames, IsOneCaseOf, is_of_name, is_one_line}
+use Rattle.ps_bench_never.specs.ReadBack.{CaseIsRead, FoundIsRead, HasPlainNames, IsOneCaseOf, is_of_name, is_one_line}
 use Rattle.ps_bench_never.proofs.ScanBack.{all_set, scan_done, settings_from, text_plain}
 
 -- ---- Bytes of a line.
@@ -464,3 +469,18 @@ case_is_read net sizes sound plain_names name one every small cs plain_cs scans 
     (line_step net sizes total no_lines 1 0 head rest (one_both (codes "case ") name refl one)
     (λ behind is. lines_are_read net sizes total sound plain_names every small cs plain_cs scans sizes_are (length scans) 0 (omega arith) behind 2 _ 0 0 []
     (replicate (input_count net) false) (case_past net sizes total name behind is) refl (length-replicate (input_count net) false) (all_false (input_count net)) refl))
+
+-- the inputs of each scan that was found are as many as there are
+numbered_size : (rules : List InputRule) (p : Point) (a : ℕ) → length (numbered rules p a) ≡ length rules
+numbered_size [] p a = refl
+numbered_size (rule ∷ rules) p a = ap suc (numbered_size rules p (behind rule a))
+
+found_sizes : (net : Network) (q : Asked) (p : Point) (path : List ℕ) → SaysOfEach net q → All (λ ins. length ins ≡ input_count net) (inputs_from net q p path)
+found_sizes net q p [] says k d inside = absurd (omega (arith, inside))
+found_sizes net q p (a ∷ path) says zero d inside = numbered_size q.inputs.items p a ∙ says
+found_sizes net q p (a ∷ path) says (suc k) d inside = found_sizes net q (next_point net q p a) path says k d (omega (arith, inside))
+
+pub found_is_read : FoundIsRead
+found_is_read net sizes sound plain_names q says small rule one plain_cs path =
+    case_is_read net sizes sound plain_names rule.name one q.every small rule.conditions plain_cs (inputs_from net q (at_first net) path)
+    (found_sizes net q (at_first net) path says)

@@ -12,8 +12,9 @@ pub mod Answering
 -- what it says if scans come at any times: what a reader of the promise has to believe
 pub mod TellingAny
 pub mod AnsweringAny
--- the law: cases some ms apart among those at any times
+-- the laws: cases some ms apart among those at any times; a case that is told is read as its scans
 pub mod Whenever
+pub mod ReadBack
 -- what `same` is asked, what it writes by that, and how it stops
 pub mod SameAsking
 -- what `same` says: what a reader of the promise has to believe

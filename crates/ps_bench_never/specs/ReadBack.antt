@@ -6,7 +6,11 @@ use Rattle.ps_model.specs.Meaning.{Item}
 use Rattle.ps_model.specs.Network.{Network, input_count, names}
 use Rattle.ps_model.specs.Sound.{IsSound}
 use Rattle.ps_model.specs.declared.channel.ImageSizes.{ImageSizes}
-use Rattle.ps_reach.specs.Telling.{scans_at}
+use Rattle.ps_reach.specs.Asking.{at_first}
+use Rattle.ps_reach.specs.Promised.{SaysOfEach}
+use Rattle.ps_reach.specs.Telling.{inputs_from, scans_at}
+use Rattle.ps_reach.specs.Telling as paced
+use Rattle.ps_reach.specs.declared.asked.Asked.{Asked}
 use Rattle.ps_bench_names.specs.declared.name.Setting.{Setting}
 use Rattle.ps_bench_cases.specs.File.{cases_of}
 use Rattle.ps_bench_cases.specs.Line.{Said, line_said}
@@ -15,6 +19,7 @@ use Rattle.ps_bench_cases.specs.Meant.{items_of, set_by}
 use Rattle.ps_bench_cases.specs.declared.case.Case.{Case}
 use Rattle.ps_bench_cases.specs.declared.case.CaseFile.{CaseFile}
 use Rattle.ps_bench_rules.specs.declared.rules.Condition.{Condition}
+use Rattle.ps_bench_rules.specs.declared.rules.Rule.{Rule}
 use Rattle.ps_bench_never.specs.Casing.{case_text, scan_line}
 use Rattle.ps_bench_never.specs.Pieces.{condition_text}
 
@@ -65,3 +70,10 @@ CaseIsRead = (net : Network) (sizes : ImageSizes) → IsSound net → HasPlainNa
     (every : ℕ) → every ≤ LARGEST_TIME → (cs : List Condition) → All (λ c. is_one_line (condition_text net c) ≡ true) cs →
     (scans : List (List Bool)) → All (λ ins. length ins ≡ input_count net) scans →
     IfOk (cases_of net sizes (case_text net name every cs scans)) (IsOneCaseOf net (scans_at 0 every scans))
+
+-- So is the case that is told of a rule that fails: it is the list of scans that was found.
+abbrev pub FoundIsRead : Type 0
+FoundIsRead = (net : Network) (sizes : ImageSizes) → IsSound net → HasPlainNames net → (q : Asked) → SaysOfEach net q → q.every ≤ LARGEST_TIME →
+    (rule : Rule) → is_one_line rule.name ≡ true → All (λ c. is_one_line (condition_text net c) ≡ true) rule.conditions → (path : List ℕ) →
+    IfOk (cases_of net sizes (case_text net rule.name q.every rule.conditions (inputs_from net q (at_first net) path)))
+    (IsOneCaseOf net (paced.items_of net q path))

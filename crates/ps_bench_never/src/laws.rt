@@ -1,5 +1,6 @@
 //! What holds of all that is told of rules.
 
+ghost use Rattle.ps_bench_never.specs.ReadBack.{CaseIsRead, FoundIsRead, ScanIsRead};
 ghost use Rattle.ps_bench_never.specs.Verdicts.{EachIsSo, EachIsSoAtAnyTimes};
 ghost use Rattle.ps_bench_never.specs.Whenever.{PacedEndsMeeting};
 
@@ -17,4 +18,15 @@ pub fn each_rule_is_as_told()
     // Scans at any times: as many states were held as may be, or a run was found that no times meet, or too many inputs
     // and timers are free.
     ensures any { EachIsSoAtAnyTimes }
+{}
+
+/// What is told is read back, by the definitions by which case files are read: of applications whose names have no blanks,
+/// control bytes, `#` and `=`.
+pub fn a_told_case_is_read()
+    // A scan line asks for a scan so many ms later, with settings that make the inputs of this scan of those before.
+    ensures scans { ScanIsRead }
+    // A case that is told, where it keeps within the limits of a case file, is one case of its scans.
+    ensures cases { CaseIsRead }
+    // So the case of a rule that fails is the list of scans that was found.
+    ensures found { FoundIsRead }
 {}

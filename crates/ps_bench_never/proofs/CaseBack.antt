@@ -29,7 +29,7 @@ use Rattle.ps_bench_names.specs.Words.{counted, words_in}
 use Rattle.ps_bench_names.specs.declared.name.Setting.{Setting}
 use Rattle.ps_bench_rules.specs.declared.rules.Condition.{Condition}
 use Rattle.ps_bench_cases.proofs.ReadBack.{both_hold, digits_of_traces}
-use Rattle.ps_bench_cases.specs.File.{act_after, bytes_after, case_after, case_begun, case_judged, closed, closed_by, coming, ended_by, fault_left, file_ended, lines_read, no_lines, said_after, stated, unless_large, unless_refused}
+use Rattle.ps_bench_cases.specs.File.{act_after, bytes_after, case_after, case_begun, case_judged, cases_of, closed_by, coming, ended_by, fault_left, file_ended, lines_read, no_lines, said_after, stated, unless_large, unless_refused}
 use Rattle.ps_bench_cases.specs.Line.{alone, asked, case_name, checks_said, expect_of, expect_now, expect_said, line_said, said_by_words}
 use Rattle.ps_bench_cases.specs.Line.Said.{begins}
 use Rattle.ps_bench_cases.specs.Parts.{both}
@@ -52,8 +52,9 @@ use Rattle.ps_bench_cases.specs.declared.rule.CaseRule.TheVariants.{K5}
 use Rattle.ps_trace.specs.Faults.{first_of, others_of}
 use Rattle.ps_trace.specs.Words.{words}
 use Rattle.ps_bench_never.specs.Casing.{case_text, change_text, set_text, changes_text, expect_text, expected, gap_before, inputs_at, inputs_before, is_of_before, line_text, scan_line, scan_text}
-use Rattle.ps_bench_never.specs.Pieces.{condition_text, signal_text}
-use Rattle.ps_bench_never.specs.ReadBack.{CaseIsRead, FoundIsRead, HasPlainNames, IsOneCaseOf, is_of_name, is_one_line}
+use Rattle.ps_bench_never.specs.Pieces.{condition_text, name_text, sign, signal_text, values_text}
+use Rattle.ps_bench_never.specs.SameTelling.{outputs_text}
+use Rattle.ps_bench_never.specs.ReadBack.{CaseIsRead, DifferenceIsRead, FoundIsRead, HasPlainNames, IsOneCaseOf, is_of_name, is_one_line}
 use Rattle.ps_bench_never.proofs.ScanBack.{all_set, scan_done, settings_from, text_plain}
 
 -- ---- Bytes of a line.
@@ -341,22 +342,31 @@ module _ (net : Network) (sizes : ImageSizes) (total : List Item) where
   windows_past d number false true r s t behind time items ins stands is = expected_past d number Throughout s behind time items ins stands is
   windows_past d number false false r s t behind time items ins stands is = now_past d number t behind time items ins stands is
 
-  -- the bytes after `expect`
-  abbrev pub conditions_text : List Condition → List ℕ
+  -- words behind `expect`, each after a space
+  module _ {X : Type 0} (text : X → List ℕ) where
+    abbrev words_text : List X → List ℕ
+    words_text xs = flat_map (λ x. 32 ∷ text x) xs
+
+    expect_words : (xs : List X) → words_in (codes "  expect" ++ words_text xs) ≡ codes "expect" ∷ counted (words (words_text xs))
+    expect_words [] = refl
+    expect_words (x ∷ xs) = refl
+
+    expect_past : (d : Draft) (number : ℕ) (xs : List X) (behind : Draft) (time : ℕ) (items : List Item) (ins : List Bool) → Stands d time items ins →
+        said_after sizes d number (line_said net (codes "  expect" ++ words_text xs)) ≡ Ok behind → Stands behind time items ins
+    expect_past d number xs behind time items ins stands is =
+        let line = codes "  expect" ++ words_text xs in
+        let ws = counted (words (words_text xs)) in
+        let checks = both (number_said (first_of (others_of ws))) (checks_said net (others_of (others_of ws))) in
+        windows_past d number (bytes_eq (first_of ws) (codes "within")) (bytes_eq (first_of ws) (codes "for")) checks checks (checks_said net ws)
+        behind time items ins stands (sym (ap (λ (found : List (List ℕ)). said_after sizes d number (said_by_words net line found)) (expect_words xs)) ∙ is)
+
+  -- conditions
+  abbrev conditions_text : List Condition → List ℕ
   conditions_text cs = flat_map (condition_text net) cs
 
-  expect_words : (cs : List Condition) → words_in (codes "  expect" ++ conditions_text cs) ≡ codes "expect" ∷ counted (words (conditions_text cs))
-  expect_words [] = refl
-  expect_words (c ∷ cs) = refl
-
-  expect_past : (d : Draft) (number : ℕ) (cs : List Condition) (behind : Draft) (time : ℕ) (items : List Item) (ins : List Bool) → Stands d time items ins →
-      said_after sizes d number (line_said net (codes "  expect" ++ conditions_text cs)) ≡ Ok behind → Stands behind time items ins
-  expect_past d number cs behind time items ins stands is =
-      let line = codes "  expect" ++ conditions_text cs in
-      let ws = counted (words (conditions_text cs)) in
-      let checks = both (number_said (first_of (others_of ws))) (checks_said net (others_of (others_of ws))) in
-      windows_past d number (bytes_eq (first_of ws) (codes "within")) (bytes_eq (first_of ws) (codes "for")) checks checks (checks_said net ws)
-      behind time items ins stands (sym (ap (λ (found : List (List ℕ)). said_after sizes d number (said_by_words net line found)) (expect_words cs)) ∙ is)
+  -- the bytes of a condition after its space
+  abbrev after_space : Condition → List ℕ
+  after_space c = name_text net c.name ++ sign c.denied ++ values_text c.name c.values
 
   -- ---- The `case` line.
 
@@ -376,7 +386,9 @@ module _ (net : Network) (sizes : ImageSizes) (total : List Item) where
   -- ---- All lines.
 
   module _ (sound : IsSound net) (plain_names : HasPlainNames net) (every : ℕ) (small : every ≤ 4294967295) (cs : List Condition)
-      (plain_cs : All (λ c. is_one_line (condition_text net c) ≡ true) cs) (scans : List (List Bool)) (sizes_are : All (λ ins. length ins ≡ input_count net) scans) where
+      (plain_cs : All (λ c. is_one_line (condition_text net c) ≡ true) cs) (scans : List (List Bool)) (sizes_are : All (λ ins. length ins ≡ input_count net) scans)
+      (tail : List ℕ)
+      (ends : (d : Draft) (number at time : ℕ) (ins : List Bool) → Stands d time total ins → Read (lines_read net sizes d number (lines at tail))) where
     -- the conditions that are kept are one line
     kept_one : (c : Condition) (rest : List Condition) (b : Bool) → is_one_line (condition_text net c) ≡ true → is_one_line (conditions_text rest) ≡ true →
         is_one_line (conditions_text (if b then c ∷ rest else rest)) ≡ true
@@ -398,7 +410,7 @@ module _ (net : Network) (sizes : ImageSizes) (total : List Item) where
         let line = codes "  expect" ++ conditions_text kept in
         subst (λ (t : List ℕ). Read (lines_read net sizes d number (lines at t))) (sym (append_assoc line (10 ∷ []) rest))
         (line_step d number at line rest (one_both (codes "  expect") (conditions_text kept) refl (filtered_one (is_of_before before) cs plain_cs))
-        (λ behind is. next behind (number + 1) (at + (length line + 1)) (expect_past d number kept behind time items ins stands is)))
+        (λ behind is. next behind (number + 1) (at + (length line + 1)) (expect_past after_space d number kept behind time items ins stands is)))
     expect_step before false d number at rest time items ins stands next = next d number at stands
 
     expected_step : (last one : Bool) (d : Draft) (number at : ℕ) (rest : List ℕ) (time : ℕ) (items : List Item) (ins : List Bool) → Stands d time items ins →
@@ -423,11 +435,12 @@ module _ (net : Network) (sizes : ImageSizes) (total : List Item) where
     lines_are_read : (n i : ℕ) → i + n ≡ length scans → (d : Draft) (number at time now : ℕ) (items : List Item) (ins : List Bool) → Stands d time items ins →
         time + gap_before every i ≡ now → length ins ≡ input_count net → ((j : ℕ) → slice_index_or (inputs_before scans i) j false ≡ slice_index_or ins j false) →
         items ++ scans_at now every (drop i scans) ≡ total →
-        Read (lines_read net sizes d number (lines at (flat_map (line_text net every cs scans) (range_with_len i n))))
+        Read (lines_read net sizes d number (lines at (flat_map (line_text net every cs scans) (range_with_len i n) ++ tail)))
     lines_are_read zero i all d number at time now items ins stands when size same left =
         let none : drop i scans ≡ [] = drop_all i scans (omega (arith, all)) in
-        ended_past d.file d.head d.statements number (fault_left d.head d.stand.waiting) stands.file
-        (stands.made ∙ sym (append-nil items) ∙ ap (λ (more : List (List Bool)). items ++ scans_at now every more) (sym none) ∙ left)
+        ends d number at time ins
+        (subst (λ (all_items : List Item). Stands d time all_items ins)
+        (sym (append-nil items) ∙ ap (λ (more : List (List Bool)). items ++ scans_at now every more) (sym none) ∙ left) stands)
     lines_are_read (suc n) i all d number at time now items ins stands when size same left =
         let inside : i < length scans = omega (arith, all) in
         let values = inputs_at scans i in
@@ -435,10 +448,11 @@ module _ (net : Network) (sizes : ImageSizes) (total : List Item) where
         let line = scan_line net gap (inputs_before scans i) values in
         let own = scan_line net gap ins values in
         let after = expected net cs (length scans - 1 - i) in
-        let rest = flat_map (line_text net every cs scans) (range_with_len (i + 1) n) in
+        let others = flat_map (line_text net every cs scans) (range_with_len (i + 1) n) in
+        let rest = others ++ tail in
         let is_line : line ≡ own = same_line gap (inputs_before scans i) ins values same in
-        let text : (line ++ codes "\n" ++ after) ++ rest ≡ own ++ 10 ∷ (after ++ rest) =
-        append_assoc (line ++ codes "\n") after rest ∙ append_assoc line (10 ∷ []) (after ++ rest) ∙ ap (λ (l : List ℕ). l ++ 10 ∷ (after ++ rest)) is_line in
+        let text : ((line ++ codes "\n" ++ after) ++ others) ++ tail ≡ own ++ 10 ∷ (after ++ rest) =
+        append_assoc (line ++ codes "\n" ++ after) others tail ∙ append_assoc (line ++ codes "\n") after rest ∙ append_assoc line (10 ∷ []) (after ++ rest) ∙ ap (λ (l : List ℕ). l ++ 10 ∷ (after ++ rest)) is_line in
         let few : gap ≤ 4294967295 = gap_small (i == 0) in
         let size' : length values ≡ input_count net = sizes_are i [] inside in
         let next_before : inputs_before scans (i + 1) ≡ values = before_next scans i in
@@ -460,15 +474,55 @@ all_false zero j = refl
 all_false (suc n) zero = refl
 all_false (suc n) (suc j) = all_false n j
 
+module _ (net : Network) (sizes : ImageSizes) (sound : IsSound net) (plain_names : HasPlainNames net) (every : ℕ) (small : every ≤ 4294967295)
+    (scans : List (List Bool)) (sizes_are : All (λ ins. length ins ≡ input_count net) scans) where
+  abbrev all_items : List Item
+  all_items = scans_at 0 every scans
+
+  -- the end of the file
+  at_end : (d : Draft net sizes all_items) (number at time : ℕ) (ins : List Bool) → Stands net sizes all_items d time all_items ins →
+      Read net sizes all_items (lines_read net sizes d number (lines net sizes all_items at []))
+  at_end d number at time ins stands =
+      ended_past net sizes all_items d.file d.head d.statements number (fault_left d.head d.stand.waiting) stands.file stands.made
+
+  -- a case, and after its scans bytes that are read as no scan
+  case_before : (name : List ℕ) → is_one_line name ≡ true → (cs : List Condition) → All (λ c. is_one_line (condition_text net c) ≡ true) cs → (tail : List ℕ) →
+      ((d : Draft net sizes all_items) (number at time : ℕ) (ins : List Bool) → Stands net sizes all_items d time all_items ins →
+      Read net sizes all_items (lines_read net sizes d number (lines net sizes all_items at tail))) →
+      Read net sizes all_items (cases_of net sizes (case_text net name every cs scans ++ tail))
+  case_before name one cs plain_cs tail ends =
+      let head = codes "case " ++ name in
+      let others = flat_map (line_text net every cs scans) (range_with_len 0 (length scans)) in
+      let text : ((head ++ codes "\n") ++ others) ++ tail ≡ head ++ 10 ∷ (others ++ tail) =
+      append_assoc (head ++ codes "\n") others tail ∙ append_assoc head (10 ∷ []) (others ++ tail) in
+      subst (λ (t : List ℕ). Read net sizes all_items (lines_read net sizes no_lines 1 (lines net sizes all_items 0 t))) (sym text)
+      (line_step net sizes all_items no_lines 1 0 head (others ++ tail) (one_both (codes "case ") name refl one)
+      (λ behind is. lines_are_read net sizes all_items sound plain_names every small cs plain_cs scans sizes_are tail ends (length scans) 0 (omega arith) behind 2 _ 0 0 []
+      (replicate (input_count net) false) (case_past net sizes all_items name behind is) refl (length-replicate (input_count net) false) (all_false (input_count net)) refl))
+
+  -- an output with its value, after a space
+  abbrev output_word : (values : List Bool) → ℕ → List ℕ
+  output_word values o =
+      signal_text net (input_count net + o) ++ (if slice_index_or values o false then codes "=1" else codes "=0")
+
+  -- the outputs that are expected
+  at_outputs : (values : List Bool) (d : Draft net sizes all_items) (number at time : ℕ) (ins : List Bool) → Stands net sizes all_items d time all_items ins →
+      Read net sizes all_items (lines_read net sizes d number (lines net sizes all_items at (outputs_text net values)))
+  at_outputs values d number at time ins stands =
+      let places = range_with_len 0 (length net.outputs) in
+      let words = flat_map (λ o. set_text net (input_count net + o) (slice_index_or values o false)) places in
+      line_step net sizes all_items d number at (codes "  expect" ++ words) []
+      (one_both (codes "  expect") words refl
+      (one_each (λ o. set_text net (input_count net + o) (slice_index_or values o false))
+      (λ o. one_set net sizes all_items sound plain_names (input_count net + o) (slice_index_or values o false)) places))
+      (λ behind is. at_end behind (number + 1) 0 time ins
+      (expect_past net sizes all_items (output_word values) d number places behind time all_items ins stands is))
+
 pub case_is_read : CaseIsRead
 case_is_read net sizes sound plain_names name one every small cs plain_cs scans sizes_are =
-    let total = scans_at 0 every scans in
-    let head = codes "case " ++ name in
-    let rest = flat_map (line_text net every cs scans) (range_with_len 0 (length scans)) in
-    subst (λ (t : List ℕ). Read net sizes total (lines_read net sizes no_lines 1 (lines net sizes total 0 t))) (sym (append_assoc head (10 ∷ []) rest))
-    (line_step net sizes total no_lines 1 0 head rest (one_both (codes "case ") name refl one)
-    (λ behind is. lines_are_read net sizes total sound plain_names every small cs plain_cs scans sizes_are (length scans) 0 (omega arith) behind 2 _ 0 0 []
-    (replicate (input_count net) false) (case_past net sizes total name behind is) refl (length-replicate (input_count net) false) (all_false (input_count net)) refl))
+    subst (λ (t : List ℕ). Read net sizes (scans_at 0 every scans) (cases_of net sizes t)) (append-nil (case_text net name every cs scans))
+    (case_before net sizes sound plain_names every small scans sizes_are name one cs plain_cs []
+    (at_end net sizes sound plain_names every small scans sizes_are))
 
 -- the inputs of each scan that was found are as many as there are
 numbered_size : (rules : List InputRule) (p : Point) (a : ℕ) → length (numbered rules p a) ≡ length rules
@@ -484,3 +538,14 @@ pub found_is_read : FoundIsRead
 found_is_read net sizes sound plain_names q says small rule one plain_cs path =
     case_is_read net sizes sound plain_names rule.name one q.every small rule.conditions plain_cs (inputs_from net q (at_first net) path)
     (found_sizes net q (at_first net) path says)
+
+pub difference_is_read : DifferenceIsRead
+difference_is_read net sizes sound plain_names q says small path values place =
+    let scans = inputs_from net q (at_first net) path in
+    let sizes_are = found_sizes net q (at_first net) path says in
+    let every = q.every in
+    let output = input_count net + place in
+    case_before net sizes sound plain_names every small scans sizes_are (signal_text net output ++ codes " is as it was")
+    (one_both (signal_text net output) (codes " is as it was")
+    (text_named net sizes (scans_at 0 every scans) sound plain_names output (nat_lt output (declared_count net)) refl) refl)
+    [] (λ k d inside. absurd (omega (arith, inside))) (outputs_text net values) (at_outputs net sizes sound plain_names every small scans sizes_are values)

@@ -12,15 +12,16 @@ pub mod Answering
 -- what it says if scans come at any times: what a reader of the promise has to believe
 pub mod TellingAny
 pub mod AnsweringAny
--- the laws: cases some ms apart among those at any times; a case that is told is read as its scans
+-- the law: cases some ms apart among those at any times
 pub mod Whenever
-pub mod ReadBack
 -- what `same` is asked, what it writes by that, and how it stops
 pub mod SameAsking
 -- what `same` says: what a reader of the promise has to believe
 pub mod Likeness
 pub mod SameTelling
 pub mod SameAnswering
--- the laws: the output that is named differs; what is told of rules and of applications is so
+-- the law: the output that is named differs
 pub mod Naming
+-- the laws of both: what is told is so, and an open rule is told with its cause; a case that is told is read as its scans
 pub mod Verdicts
+pub mod ReadBack

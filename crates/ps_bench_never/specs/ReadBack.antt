@@ -22,6 +22,7 @@ use Rattle.ps_bench_rules.specs.declared.rules.Condition.{Condition}
 use Rattle.ps_bench_rules.specs.declared.rules.Rule.{Rule}
 use Rattle.ps_bench_never.specs.Casing.{case_text, scan_line}
 use Rattle.ps_bench_never.specs.Pieces.{condition_text}
+use Rattle.ps_bench_never.specs.SameTelling.{difference_case}
 
 -- a byte of a name: no blank or control byte, and none of `#` and `=`
 abbrev pub is_of_name : ℕ → Bool
@@ -77,3 +78,9 @@ FoundIsRead = (net : Network) (sizes : ImageSizes) → IsSound net → HasPlainN
     (rule : Rule) → is_one_line rule.name ≡ true → All (λ c. is_one_line (condition_text net c) ≡ true) rule.conditions → (path : List ℕ) →
     IfOk (cases_of net sizes (case_text net rule.name q.every rule.conditions (inputs_from net q (at_first net) path)))
     (IsOneCaseOf net (paced.items_of net q path))
+
+-- So is the case that is told of two applications: it is the list of scans after which an output differs.
+abbrev pub DifferenceIsRead : Type 0
+DifferenceIsRead = (net : Network) (sizes : ImageSizes) → IsSound net → HasPlainNames net → (q : Asked) → SaysOfEach net q → q.every ≤ LARGEST_TIME →
+    (path : List ℕ) (values : List Bool) (place : ℕ) →
+    IfOk (cases_of net sizes (difference_case net q path values place)) (IsOneCaseOf net (paced.items_of net q path))

@@ -1,6 +1,6 @@
 //! What holds of all that is told of rules.
 
-ghost use Rattle.ps_bench_never.specs.ReadBack.{CaseIsRead, FoundIsRead, ScanIsRead};
+ghost use Rattle.ps_bench_never.specs.ReadBack.{CaseIsRead, DifferenceIsRead, FoundIsRead, ScanIsRead};
 ghost use Rattle.ps_bench_never.specs.Verdicts.{EachIsSo, EachIsSoAtAnyTimes};
 ghost use Rattle.ps_bench_never.specs.Whenever.{PacedEndsMeeting};
 
@@ -29,4 +29,6 @@ pub fn a_told_case_is_read()
     ensures cases { CaseIsRead }
     // So the case of a rule that fails is the list of scans that was found.
     ensures found { FoundIsRead }
+    // The case of two applications is the list of scans after which an output differs.
+    ensures differs { DifferenceIsRead }
 {}

@@ -1,14 +1,16 @@
 -- A case that is told is read as its scans.
-use Rattle.std.proofs.Common.{◌≡◌, ◌≤◌, ◌<◌, ◌+◌, ◌-◌, ◌*◌, ◌^◌, ◌++◌, ◌∙◌, ◌==◌, ◌&&◌, ◌||◌, ℕ, zero, suc, List, [], ◌∷◌, Bool, true, false, not, Option, Some, None, Result, Ok, Err, IfOk, if◌then◌else◌, length, min, take, drop, get_or, flat_map, replicate, codes, decimal, nat_le, nat_lt, slice_index, refl, sym, ap, subst, arith, append_assoc}
-use Rattle.std.specs.Prelude.{slice_index_or}
+use Rattle.std.proofs.Common.{◌≡◌, ◌≤◌, ◌<◌, ◌+◌, ◌-◌, ◌*◌, ◌/◌, ◌%◌, ◌^◌, ◌++◌, ◌∙◌, ◌==◌, ◌&&◌, ◌||◌, ℕ, zero, suc, List, [], ◌∷◌, Bool, true, false, not, Option, Some, None, Result, Ok, Err, IfOk, if◌then◌else◌, length, map, min, take, drop, get_or, flat_map, replicate, codes, decimal, nat_le, nat_lt, slice_index, refl, sym, ap, subst, arith, append_assoc}
+use Rattle.std.specs.Prelude.{slice_get, slice_index_or}
+use Rattle.std.specs.Option.{unwrap_or}
+use Rattle.std.specs.Int.{to_be_bytes, w16}
 use Rattle.std.specs.List.{All, filter, list_all, list_any, range_with_len}
-use Rattle.std.specs.Char.{is_ascii_digit}
+use Rattle.std.specs.Char.{is_ascii_digit, to_ascii_uppercase}
 use Rattle.std.specs.Str.{bytes_eq}
 use Rattle.std.specs.Str.Lines.{strip_carriage_return}
 use Rattle.std.proofs.lemmas.Grind.{common_steps}
 use Rattle.std.proofs.lemmas.Bool.Decides.{nat_tests}
 use Rattle.std.proofs.lemmas.Fmt.{digits_decimal}
-use Rattle.std.proofs.lemmas.List.{append-nil, drop_all, drop_more, length-append, length-replicate}
+use Rattle.std.proofs.lemmas.List.{append-nil, drop_all, get_or-map, drop_more, length-append, length-replicate}
 use Rattle.std.proofs.lemmas.List.Folds.{list_all-append}
 use Rattle.ps_lines.specs.Lines.{HasNoLineFeed, Line, RawLine, kept_of, lines_from, raw_lines}
 use Rattle.ps_lines.specs.Lines.Line.{Kept, Large, Long}
@@ -16,7 +18,17 @@ use Rattle.ps_lines.specs.Lines.RawLine.{Ended}
 use Rattle.ps_lines.proofs.Cut.{raw_lines-ended}
 use Rattle.ps_model.specs.Meaning.{Item}
 use Rattle.ps_model.specs.Meaning.Item.{scan}
-use Rattle.ps_model.specs.Network.{Network, declared_count, input_count, signal_name}
+use Rattle.ps_model.specs.Network.{Network, declared_count, declared_signals, input_count, instance_count, instance_name, kind_at, names, no_instance, signal_name}
+use Rattle.ps_model.specs.Blocks.{block}
+use Rattle.ps_model.specs.Pins.{pin_names}
+use Rattle.ps_model.specs.declared.kind.Kind.{Kind}
+use Rattle.ps_model.specs.declared.kind.Kind.TheVariants.{Equivalent, Antivalent, EmergencyStop, Espe, ModeSelector, TwoHandTwo, TwoHandThree, GuardMonitoring, GuardLocking, EnableSwitch, SafetyRequest, OutControl, Edm}
+use Rattle.ps_model.specs.declared.named.Instance.{Instance}
+use Rattle.ps_model.specs.declared.named.Signal.{Signal}
+use Rattle.ps_report.specs.Lines.{code_text}
+use Rattle.ps_bench_names.specs.declared.name.Name.{Name}
+use Rattle.ps_bench_names.specs.declared.name.Name.TheVariants.{Code, Pin, Signal as Signal_name}
+use Rattle.hex.specs.Hex.{encode_with, lower_digits}
 use Rattle.ps_model.specs.Sound.{IsSound}
 use Rattle.ps_model.specs.declared.channel.ImageSizes.{ImageSizes}
 use Rattle.ps_reach.specs.Asking.{Point, at_first}
@@ -52,9 +64,9 @@ use Rattle.ps_bench_cases.specs.declared.rule.CaseRule.TheVariants.{K5}
 use Rattle.ps_trace.specs.Faults.{first_of, others_of}
 use Rattle.ps_trace.specs.Words.{words}
 use Rattle.ps_bench_never.specs.Casing.{case_text, change_text, set_text, changes_text, expect_text, expected, gap_before, inputs_at, inputs_before, is_of_before, line_text, scan_line, scan_text}
-use Rattle.ps_bench_never.specs.Pieces.{condition_text, name_text, sign, signal_text, values_text}
+use Rattle.ps_bench_never.specs.Pieces.{condition_text, instance_text, name_text, pin_text, sign, signal_text, value_text, values_text}
 use Rattle.ps_bench_never.specs.SameTelling.{outputs_text}
-use Rattle.ps_bench_never.specs.ReadBack.{CaseIsRead, DifferenceIsRead, FoundIsRead, HasPlainNames, IsOneCaseOf, is_of_name, is_one_line}
+use Rattle.ps_bench_never.specs.ReadBack.{CaseIsRead, DifferenceIsRead, FoundIsRead, HasPlainNames, HasShortValues, IsOneCaseOf, is_of_name, is_one_line}
 use Rattle.ps_bench_never.proofs.ScanBack.{all_set, scan_done, settings_from, text_plain}
 
 -- ---- Bytes of a line.
@@ -97,6 +109,138 @@ one_name (b ∷ bytes) are =
 one_each : {X : Type 0} (f : X → List ℕ) → ((x : X) → is_one_line (f x) ≡ true) → (xs : List X) → is_one_line (flat_map f xs) ≡ true
 one_each f each [] = refl
 one_each f each (x ∷ xs) = one_both (f x) (flat_map f xs) (each x) (one_each f each xs)
+
+-- ---- A condition.
+
+-- names of plain bytes
+abbrev are_named : List (List ℕ) → Bool
+are_named ns = list_all (λ n. list_all is_of_name n) ns
+
+all_named : (ns : List (List ℕ)) → All (λ n. list_all is_of_name n ≡ true) ns → are_named ns ≡ true
+all_named [] each = refl
+all_named (n ∷ ns) each =
+    ap (λ (t : Bool). t && are_named ns) (each 0 [] (omega arith)) ∙ all_named ns (λ k d inside. each (suc k) d (omega (arith, inside)))
+
+named_at : (ns : List (List ℕ)) (i : ℕ) → are_named ns ≡ true → list_all is_of_name (get_or ns i []) ≡ true
+named_at [] i are = refl
+named_at (n ∷ ns) zero are = (both_hold (list_all is_of_name n) (are_named ns) are).0
+named_at (n ∷ ns) (suc i) are = named_at ns i (both_hold (list_all is_of_name n) (are_named ns) are).1
+
+named_or_none : (ns : List (List ℕ)) (i : ℕ) → are_named ns ≡ true → list_all is_of_name (unwrap_or (slice_get ns i) []) ≡ true
+named_or_none [] i are = refl
+named_or_none (n ∷ ns) zero are = (both_hold (list_all is_of_name n) (are_named ns) are).0
+named_or_none (n ∷ ns) (suc i) are = named_or_none ns i (both_hold (list_all is_of_name n) (are_named ns) are).1
+
+pins_named : (kind : Kind) → are_named (pin_names kind) ≡ true
+unfolding block
+pins_named Equivalent = refl
+pins_named Antivalent = refl
+pins_named EmergencyStop = refl
+pins_named Espe = refl
+pins_named ModeSelector = refl
+pins_named TwoHandTwo = refl
+pins_named TwoHandThree = refl
+pins_named GuardMonitoring = refl
+pins_named GuardLocking = refl
+pins_named EnableSwitch = refl
+pins_named SafetyRequest = refl
+pins_named OutControl = refl
+pins_named Edm = refl
+
+-- a hexadecimal digit
+digit_at : (ds : List ℕ) (k : ℕ) → list_all (λ d. nat_le 32 (to_ascii_uppercase d)) ds ≡ true → k < length ds → nat_le 32 (to_ascii_uppercase (slice_index ds k)) ≡ true
+digit_at [] k are inside = absurd (omega (arith, inside))
+digit_at (d ∷ ds) zero are inside = (both_hold (nat_le 32 (to_ascii_uppercase d)) (list_all (λ d. nat_le 32 (to_ascii_uppercase d)) ds) are).0
+digit_at (d ∷ ds) (suc k) are inside =
+    digit_at ds k (both_hold (nat_le 32 (to_ascii_uppercase d)) (list_all (λ d. nat_le 32 (to_ascii_uppercase d)) ds) are).1 (omega (arith, inside))
+
+one_digit : (k : ℕ) → k < 16 → nat_le 32 (to_ascii_uppercase (slice_index lower_digits k)) ≡ true
+one_digit k inside = digit_at lower_digits k refl inside
+
+one_hex : (bytes : List ℕ) → All (λ b. b < 256) bytes → is_one_line (map to_ascii_uppercase (encode_with lower_digits bytes)) ≡ true
+unfolding encode_with
+one_hex [] each = refl
+one_hex (b ∷ bytes) each =
+    let small : b < 256 = each 0 0 (omega arith) in
+    let more = is_one_line (map to_ascii_uppercase (encode_with lower_digits bytes)) in
+    ap (λ (t : Bool). t && (nat_le 32 (to_ascii_uppercase (slice_index lower_digits (b % 16))) && more)) (one_digit (b / 16) (omega (arith, small)))
+    ∙ ap (λ (t : Bool). t && more) (one_digit (b % 16) (omega arith))
+    ∙ one_hex bytes (λ k d inside. each (suc k) d (omega (arith, inside)))
+
+two_bytes : (v : ℕ) → All (λ b. b < 256) (to_be_bytes w16 v)
+two_bytes v zero d inside = omega arith
+two_bytes v (suc zero) d inside = omega arith
+two_bytes v (suc (suc k)) d inside = absurd (omega (arith, inside))
+
+one_code : (v : ℕ) → is_one_line (code_text v) ≡ true
+one_code v = one_hex (to_be_bytes w16 v) (two_bytes v)
+
+one_number : (v : ℕ) → v < 65536 → is_one_line (decimal v) ≡ true
+one_number v small = let fits : v < 2 ^ 64 = omega arith in one_digits (decimal v) (digits_decimal digits_of_traces v fits)
+
+one_value : (name : Name) (v : ℕ) → v < 65536 → is_one_line (value_text name v) ≡ true
+one_value (Code i) v small = one_code v
+one_value (Signal_name s) v small = one_number v small
+one_value (Pin i j) v small = one_number v small
+
+one_values_after : (name : Name) (vs : List ℕ) → All (λ v. v < 65536) vs → is_one_line (flat_map (λ v. codes "," ++ value_text name v) vs) ≡ true
+one_values_after name [] each = refl
+one_values_after name (v ∷ vs) each =
+    one_both (codes "," ++ value_text name v) (flat_map (λ w. codes "," ++ value_text name w) vs)
+    (one_both (codes ",") (value_text name v) refl (one_value name v (each 0 0 (omega arith))))
+    (one_values_after name vs (λ k d inside. each (suc k) d (omega (arith, inside))))
+
+one_values : (name : Name) (vs : List ℕ) → All (λ v. v < 65536) vs → is_one_line (values_text name vs) ≡ true
+one_values name [] each = refl
+one_values name (v ∷ vs) each =
+    one_both (value_text name v) (flat_map (λ w. codes "," ++ value_text name w) vs) (one_value name v (each 0 0 (omega arith)))
+    (one_values_after name vs (λ k d inside. each (suc k) d (omega (arith, inside))))
+
+one_sign : (denied : Bool) → is_one_line (sign denied) ≡ true
+one_sign true = refl
+one_sign false = refl
+
+module _ (net : Network) (sound : IsSound net) (plain_names : HasPlainNames net) where
+  text_named : (s : ℕ) (b : Bool) → nat_lt s (declared_count net) ≡ b → is_one_line (signal_text net s) ≡ true
+  text_named s true is =
+      let inside : s < declared_count net = grind (arith, nat_tests) in one_name (signal_text net s) (text_plain net sound plain_names s inside)
+  text_named s false is = ap (λ (t : Bool). is_one_line (if t then signal_name net s else [])) is
+
+  -- the name of an instance
+  instances_named : are_named (map (λ (i : Instance). i.name) net.instances) ≡ true
+  instances_named =
+      let declared = map (λ (s : Signal). s.name) (declared_signals net) in
+      let instances = map (λ (i : Instance). i.name) net.instances in
+      (both_hold (are_named declared) (are_named instances)
+      (sym (list_all-append (λ n. list_all is_of_name n) declared instances) ∙ all_named (names net) plain_names)).1
+
+  instance_one : (i : ℕ) (b : Bool) → nat_lt i (instance_count net) ≡ b → is_one_line (instance_text net i) ≡ true
+  instance_one i true is =
+      let inside : i < instance_count net = grind (arith, nat_tests) in
+      ap (λ (t : Bool). is_one_line (if t then instance_name net i else [])) is
+      ∙ ap is_one_line (sym (get_or-map (λ (x : Instance). x.name) net.instances i no_instance [] inside))
+      ∙ one_name (get_or (map (λ (x : Instance). x.name) net.instances) i []) (named_at (map (λ (x : Instance). x.name) net.instances) i instances_named)
+  instance_one i false is = ap (λ (t : Bool). is_one_line (if t then instance_name net i else [])) is
+
+  pin_one : (i j : ℕ) (b : Bool) → nat_lt i (instance_count net) ≡ b → is_one_line (pin_text net i j) ≡ true
+  pin_one i j true is =
+      ap (λ (t : Bool). is_one_line (if t then unwrap_or (slice_get (pin_names (kind_at net i)) j) [] else [])) is
+      ∙ one_name (unwrap_or (slice_get (pin_names (kind_at net i)) j) []) (named_or_none (pin_names (kind_at net i)) j (pins_named (kind_at net i)))
+  pin_one i j false is = ap (λ (t : Bool). is_one_line (if t then unwrap_or (slice_get (pin_names (kind_at net i)) j) [] else [])) is
+
+  name_one : (name : Name) → is_one_line (name_text net name) ≡ true
+  name_one (Signal_name s) = text_named s (nat_lt s (declared_count net)) refl
+  name_one (Code i) = instance_one i (nat_lt i (instance_count net)) refl
+  name_one (Pin i j) =
+      one_both (instance_text net i ++ codes ".") (pin_text net i j)
+      (one_both (instance_text net i) (codes ".") (instance_one i (nat_lt i (instance_count net)) refl) refl)
+      (pin_one i j (nat_lt i (instance_count net)) refl)
+
+  condition_one : (c : Condition) → HasShortValues c → is_one_line (condition_text net c) ≡ true
+  condition_one c short =
+      one_both (codes " " ++ name_text net c.name ++ sign c.denied) (values_text c.name c.values)
+      (one_both (codes " " ++ name_text net c.name) (sign c.denied) (one_both (codes " ") (name_text net c.name) refl (name_one c.name)) (one_sign c.denied))
+      (one_values c.name c.values short)
 
 -- ---- Values that are Ok.
 
@@ -264,14 +408,9 @@ module _ (net : Network) (sizes : ImageSizes) (total : List Item) where
   -- ---- A scan.
 
   module _ (sound : IsSound net) (plain_names : HasPlainNames net) where
-    text_named : (s : ℕ) (b : Bool) → nat_lt s (declared_count net) ≡ b → is_one_line (signal_text net s) ≡ true
-    text_named s true is =
-        let inside : s < declared_count net = grind (arith, nat_tests) in one_name (signal_text net s) (text_plain net sound plain_names s inside)
-    text_named s false is = ap (λ (t : Bool). is_one_line (if t then signal_name net s else [])) is
-
     one_set : (s : ℕ) (value : Bool) → is_one_line (set_text net s value) ≡ true
-    one_set s true = one_both (32 ∷ signal_text net s) (codes "=1") (text_named s (nat_lt s (declared_count net)) refl) refl
-    one_set s false = one_both (32 ∷ signal_text net s) (codes "=0") (text_named s (nat_lt s (declared_count net)) refl) refl
+    one_set s true = one_both (32 ∷ signal_text net s) (codes "=1") (text_named net sound plain_names s (nat_lt s (declared_count net)) refl) refl
+    one_set s false = one_both (32 ∷ signal_text net s) (codes "=0") (text_named net sound plain_names s (nat_lt s (declared_count net)) refl) refl
 
     one_change : (s : ℕ) (was is : Bool) → is_one_line (change_text net s was is) ≡ true
     one_change s true true = refl
@@ -386,7 +525,7 @@ module _ (net : Network) (sizes : ImageSizes) (total : List Item) where
   -- ---- All lines.
 
   module _ (sound : IsSound net) (plain_names : HasPlainNames net) (every : ℕ) (small : every ≤ 4294967295) (cs : List Condition)
-      (plain_cs : All (λ c. is_one_line (condition_text net c) ≡ true) cs) (scans : List (List Bool)) (sizes_are : All (λ ins. length ins ≡ input_count net) scans)
+      (plain_cs : All HasShortValues cs) (scans : List (List Bool)) (sizes_are : All (λ ins. length ins ≡ input_count net) scans)
       (tail : List ℕ)
       (ends : (d : Draft) (number at time : ℕ) (ins : List Bool) → Stands d time total ins → Read (lines_read net sizes d number (lines at tail))) where
     -- the conditions that are kept are one line
@@ -395,10 +534,10 @@ module _ (net : Network) (sizes : ImageSizes) (total : List Item) where
     kept_one c rest true first more = one_both (condition_text net c) (conditions_text rest) first more
     kept_one c rest false first more = more
 
-    filtered_one : (p : Condition → Bool) (xs : List Condition) → All (λ c. is_one_line (condition_text net c) ≡ true) xs → is_one_line (conditions_text (filter p xs)) ≡ true
+    filtered_one : (p : Condition → Bool) (xs : List Condition) → All HasShortValues xs → is_one_line (conditions_text (filter p xs)) ≡ true
     filtered_one p [] are = refl
     filtered_one p (c ∷ xs) are =
-        kept_one c (filter p xs) (p c) (are 0 c (omega arith)) (filtered_one p xs (λ k d inside. are (suc k) d (omega (arith, inside))))
+        kept_one c (filter p xs) (p c) (condition_one net sound plain_names c (are 0 c (omega arith))) (filtered_one p xs (λ k d inside. are (suc k) d (omega (arith, inside))))
 
     -- what comes after what is expected, which is written or not
     expect_step : (before some : Bool) (d : Draft) (number at : ℕ) (rest : List ℕ) (time : ℕ) (items : List Item) (ins : List Bool) → Stands d time items ins →
@@ -486,7 +625,7 @@ module _ (net : Network) (sizes : ImageSizes) (sound : IsSound net) (plain_names
       ended_past net sizes all_items d.file d.head d.statements number (fault_left d.head d.stand.waiting) stands.file stands.made
 
   -- a case, and after its scans bytes that are read as no scan
-  case_before : (name : List ℕ) → is_one_line name ≡ true → (cs : List Condition) → All (λ c. is_one_line (condition_text net c) ≡ true) cs → (tail : List ℕ) →
+  case_before : (name : List ℕ) → is_one_line name ≡ true → (cs : List Condition) → All HasShortValues cs → (tail : List ℕ) →
       ((d : Draft net sizes all_items) (number at time : ℕ) (ins : List Bool) → Stands net sizes all_items d time all_items ins →
       Read net sizes all_items (lines_read net sizes d number (lines net sizes all_items at tail))) →
       Read net sizes all_items (cases_of net sizes (case_text net name every cs scans ++ tail))
@@ -547,5 +686,5 @@ difference_is_read net sizes sound plain_names q says small path values place =
     let output = input_count net + place in
     case_before net sizes sound plain_names every small scans sizes_are (signal_text net output ++ codes " is as it was")
     (one_both (signal_text net output) (codes " is as it was")
-    (text_named net sizes (scans_at 0 every scans) sound plain_names output (nat_lt output (declared_count net)) refl) refl)
+    (text_named net sound plain_names output (nat_lt output (declared_count net)) refl) refl)
     [] (λ k d inside. absurd (omega (arith, inside))) (outputs_text net values) (at_outputs net sizes sound plain_names every small scans sizes_are values)

@@ -1,5 +1,5 @@
 -- The case that is told is read as the scans that were found.
-use Rattle.std.specs.Prelude.{◌≡◌, ◌≤◌, ◌==◌, ◌++◌, ◌&&◌, ◌||◌, ◌∷◌, [], ℕ, Bool, IfOk, true, not, List, codes, decimal, length, nat_le, nat_lt}
+use Rattle.std.specs.Prelude.{◌≡◌, ◌≤◌, ◌<◌, ◌==◌, ◌++◌, ◌&&◌, ◌||◌, ◌∷◌, [], ℕ, Bool, IfOk, true, not, List, codes, decimal, length, nat_le, nat_lt}
 use Rattle.std.specs.List.{All, list_all}
 use Rattle.ps_base.specs.declared.limits.TheConstants.{LARGEST_TIME}
 use Rattle.ps_model.specs.Meaning.{Item}
@@ -21,7 +21,6 @@ use Rattle.ps_bench_cases.specs.declared.case.CaseFile.{CaseFile}
 use Rattle.ps_bench_rules.specs.declared.rules.Condition.{Condition}
 use Rattle.ps_bench_rules.specs.declared.rules.Rule.{Rule}
 use Rattle.ps_bench_never.specs.Casing.{case_text, scan_line}
-use Rattle.ps_bench_never.specs.Pieces.{condition_text}
 use Rattle.ps_bench_never.specs.SameTelling.{difference_case}
 
 -- a byte of a name: no blank or control byte, and none of `#` and `=`
@@ -57,6 +56,10 @@ ScanIsRead = (net : Network) → IsSound net → HasPlainNames net → (gap : �
 abbrev pub is_one_line : List ℕ → Bool
 is_one_line bytes = list_all (λ b. nat_le 32 b) bytes
 
+-- the values of a condition are of 16 bits, as those of each rules file that is read
+abbrev pub HasShortValues : Condition → Type 0
+HasShortValues c = All (λ v. v < 65536) c.values
+
 -- A case file is one case, which makes these scans and restarts.
 pub record IsOneCaseOf (net : Network) (items : List Item) (file : CaseFile) : Type 0 where
   pub case : Case
@@ -68,14 +71,14 @@ pub record IsOneCaseOf (net : Network) (items : List Item) (file : CaseFile) : T
 -- refused (a case that is told may have more lines or scans than a case file may).
 abbrev pub CaseIsRead : Type 0
 CaseIsRead = (net : Network) (sizes : ImageSizes) → IsSound net → HasPlainNames net → (name : List ℕ) → is_one_line name ≡ true →
-    (every : ℕ) → every ≤ LARGEST_TIME → (cs : List Condition) → All (λ c. is_one_line (condition_text net c) ≡ true) cs →
+    (every : ℕ) → every ≤ LARGEST_TIME → (cs : List Condition) → All HasShortValues cs →
     (scans : List (List Bool)) → All (λ ins. length ins ≡ input_count net) scans →
     IfOk (cases_of net sizes (case_text net name every cs scans)) (IsOneCaseOf net (scans_at 0 every scans))
 
 -- So is the case that is told of a rule that fails: it is the list of scans that was found.
 abbrev pub FoundIsRead : Type 0
 FoundIsRead = (net : Network) (sizes : ImageSizes) → IsSound net → HasPlainNames net → (q : Asked) → SaysOfEach net q → q.every ≤ LARGEST_TIME →
-    (rule : Rule) → is_one_line rule.name ≡ true → All (λ c. is_one_line (condition_text net c) ≡ true) rule.conditions → (path : List ℕ) →
+    (rule : Rule) → is_one_line rule.name ≡ true → All HasShortValues rule.conditions → (path : List ℕ) →
     IfOk (cases_of net sizes (case_text net rule.name q.every rule.conditions (inputs_from net q (at_first net) path)))
     (IsOneCaseOf net (paced.items_of net q path))
 

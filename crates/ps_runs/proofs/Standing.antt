@@ -1,5 +1,5 @@
 -- What a run of two channels wrote of the items of a trace, by what its world answered.
-use Rattle.std.proofs.Common.{◌≡◌, ◌∙◌, ◌++◌, ℕ, suc, Bool, false, List, [], ◌∷◌, Option, Some, None, Result, Ok, Err, length, refl, sym, ap, subst, take, drop, append_assoc}
+use Rattle.std.proofs.Common.{◌≡◌, ◌∙◌, ◌++◌, ℕ, suc, Bool, false, List, [], ◌∷◌, Option, None, Result, Ok, Err, length, refl, sym, ap, subst, take, drop, append_assoc}
 use Rattle.std.specs.Prelude.{◌||◌, flat_map}
 use Rattle.std.proofs.Math.Bool.{or_assoc, or-false}
 use Rattle.std.proofs.lemmas.List.{take-append-drop}

@@ -1,20 +1,24 @@
 -- A trace that is run in a world of three seats, from its beginning, answers what is asked of it.
 use Rattle.std.specs.Prelude.{IfErr, OnOk}
-use Rattle.std.proofs.Common.{◌≡◌, ◌∷◌, [], ◌∙◌, ℕ, List, Option, IsTrue, Result, Ok, Err, refl, sym, ap, subst, inl, arith}
+use Rattle.std.proofs.Common.{◌≡◌, ◌∷◌, [], ◌∙◌, ℕ, List, Option, IsTrue, Result, Ok, Err, map, refl, sym, ap, subst, inl, arith}
+use Rattle.std.specs.Option.{option_or}
 use Rattle.ps_base.specs.declared.failing.Refusal.{Refusal}
 use Rattle.ps_model.specs.Network.{Network}
 use Rattle.ps_model.specs.Sound.{IsSound}
 use Rattle.ps_report.specs.Short.{refusal_text}
 use Rattle.ps_runs.specs.Outcomes.{Outcome, vote_lines, IsTold}
-use Rattle.ps_runs.specs.Seats.{VotesItem, AreAtBeginning, coming}
+use Rattle.ps_runs.specs.Again.{again_among}
+use Rattle.ps_runs.specs.Seats.{VotesItem, AreAtBeginning, coming, first_outvoted_again}
 use Rattle.ps_runs.specs.declared.items.Cut.{Cut}
 use Rattle.ps_runs.specs.declared.seats.Again.{Again}
 use Rattle.ps_runs.specs.declared.seats.StruckSeats.{StruckSeats}
-use Rattle.ps_runs.proofs.Courses.{again_first}
+use Rattle.ps_runs.proofs.Courses.{again_in}
 use Rattle.ps_runs.proofs.SeatFaults.{first_stands}
 use Rattle.ps_trace.specs.Reading.{only_refused}
 use Rattle.ps_trace.specs.Scans.{Scans, scans_of}
 use Rattle.ps_vote.specs.Answers.{VoteRunsAreRight, HealRunsAreRight}
+use Rattle.ps_vote.specs.Orders.{Course}
+use Rattle.ps_vote.specs.Votes.{vote}
 use Rattle.ps_vote.specs.Whole.{machines_in}
 use Rattle.ps_vote.specs.declared.seat.Vote.{Vote}
 use Rattle.ps_top.specs.Asking.{Answer, Asking, IsAnswer, IsLeftAfter, Worked, worked}
@@ -32,6 +36,10 @@ use Rattle.ps_top.proofs.Courses.{items_give, items_end}
 use Rattle.ps_top.proofs.Ending.{AsEnded, IsEnd, whole_meets, stops_meets, whole_leaves, stops_leaves}
 use Rattle.ps_top.proofs.Refusals.{otherwise_refuses}
 use Rattle.ps_top.proofs.Timely.{scans_timely}
+
+-- a run from its beginning, where no seat was healed before
+again_first : (net : Network) (p : StruckSeats) → AreAtBeginning net p → (run : Course) → again_in net p.heals p.faults run p ≡ first_outvoted_again p.heals (machines_in p.world.setup) run
+again_first net p begins run = λ i. option_or (begins.none_again i) (again_among p.heals (begins.none_healed i) run.done (map (vote (machines_in p.world.setup)) run.votes))
 
 module _ (net : Network) (sound : IsSound net) (p p' : StruckSeats) (first : AreAtBeginning net p)
     (votes : VoteRunsAreRight net (machines_in p.world.setup)) (healed : HealRunsAreRight net (machines_in p.world.setup))

@@ -1,5 +1,5 @@
 -- What calls promise, put together from their parts.
-use Rattle.std.specs.Prelude.{slice_index_or, ◌≢◌, ◌≤◌}
+use Rattle.std.specs.Prelude.{slice_index_or}
 use Rattle.std.proofs.Common.{◌≡◌, ◌⊎◌, ◌<◌, ℕ, zero, suc, Bool, IsTrue, List, [], ◌∷◌, Option, Some, Result, Err, Any, refl, sym, ◌∙◌, ap, subst, inl, inr, ⊎_elim, append-nil, arith}
 use Rattle.ps_outside.specs.Outside.{CountsStay, Rose}
 use Rattle.ps_runs.specs.declared.items.Cut.{Cut}

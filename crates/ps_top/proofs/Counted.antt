@@ -1,7 +1,6 @@
 -- What a load counts of its scans is what they mean.
 use Rattle.std.proofs.Common.{◌≡◌, ◌≤◌, ◌+◌, ◌*◌, ◌∙◌, ◌++◌, ℕ, suc, true, cond, Bool, IsTrue, List, [], ◌∷◌, Result, Ok, Err, length, map, refl, sym, ap, subst, append-nil, ⊎_elim, arith}
-use Rattle.std.specs.Prelude.{fold, flat_map, sum_by, Option, Some, None, is_some}
-use Rattle.std.proofs.lemmas.Option.{same_Some}
+use Rattle.std.specs.Prelude.{fold, flat_map, sum_by, Option, None, is_some}
 use Rattle.std.proofs.lemmas.List.Sums.{sum_by-cons, count_by-le-length}
 use Rattle.std.proofs.lemmas.List.FromFn.{length-map-range_with_len}
 use Rattle.std.specs.Option.{option_or}

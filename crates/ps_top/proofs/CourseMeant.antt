@@ -18,10 +18,10 @@ use Rattle.ps_vote.specs.Worlds.{Machines, World_state}
 use Rattle.ps_vote.specs.Votes.{vote}
 use Rattle.ps_vote.specs.Orders.{course}
 use Rattle.ps_vote.specs.Answers.{answers, AnswerRight, IsRight, VoteRunsAreRight, HealRunsAreRight}
-use Rattle.ps_vote.specs.Whole.{Whole, machines_in, after_events, IsWorldOf}
+use Rattle.ps_vote.specs.Whole.{Whole, machines_in, IsWorldOf}
 use Rattle.ps_top.specs.Asking.{Answer, IsAnswer, IsLeftAfter, Worked}
 use Rattle.ps_runs.specs.Lines.{restart_line, voted_text}
-use Rattle.ps_top.specs.Program.{answer, first_seats, voted_lines, end_line, end_status, told_votes, vote_scans, with_votes}
+use Rattle.ps_top.specs.Program.{answer, first_seats, voted_lines, end_line, end_status, vote_scans, with_votes}
 use Rattle.ps_runs.specs.Seats.{run_end}
 use Rattle.ps_runs.specs.Seats.{coming, course_lines, first_outvoted_again, voted_world}
 use Rattle.ps_runs.specs.declared.seats.Again.{Again}

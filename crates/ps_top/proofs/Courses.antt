@@ -1,6 +1,5 @@
 -- What is answered where a run of three seats wrote so of the items of a trace.
-use Rattle.std.proofs.Common.{◌≡◌, ◌∙◌, ◌++◌, ℕ, Bool, IsTrue, List, [], Result, Ok, Err, refl, sym, ap, append_assoc, append-nil, ◌⊎◌, arith}
-use Rattle.ps_base.specs.declared.failing.Refusal.{Refusal}
+use Rattle.std.proofs.Common.{◌≡◌, ◌∙◌, ◌++◌, ℕ, Bool, IsTrue, List, [], Result, Ok, Err, refl, sym, ap, append_assoc, append-nil, arith}
 use Rattle.ps_model.specs.Network.{Network}
 use Rattle.ps_report.specs.Short.{refusal_text}
 use Rattle.ps_runs.specs.Doing.{Did}
@@ -14,11 +13,10 @@ use Rattle.ps_trace.specs.Scans.{Scans, End}
 use Rattle.ps_trace.specs.Scans.End.{whole, refused as is_refused}
 use Rattle.ps_vote.specs.declared.faults.VoteFault.{VoteFault}
 use Rattle.ps_top.specs.Asking.{Answer}
-use Rattle.ps_top.specs.Meets.{IsCut, AppendsPart, Gives}
+use Rattle.ps_top.specs.Meets.{AppendsPart}
 use Rattle.ps_top.specs.Program.{answer, end_line, end_status}
 use Rattle.ps_top.specs.Resting.{vote_answer}
-use Rattle.ps_top.specs.declared.Status.{Status}
-use Rattle.ps_top.specs.declared.Status.TheVariants.{Done, BadInput, ReadFault, WriteFault}
+use Rattle.ps_top.specs.declared.Status.TheVariants.{Done, BadInput}
 use Rattle.ps_top.proofs.Calling.{no_read_said, no_memory_said}
 use Rattle.ps_top.proofs.Ending.{AsEnded, IsEnd}
 use Rattle.ps_top.proofs.Meeting.{all_given, given_behind, part_given, part_unread}

@@ -15,7 +15,7 @@ use Rattle.ps_runs.specs.declared.seats.StruckSeats.{StruckSeats}
 use Rattle.ps_runs.proofs.Courses.{again_in}
 use Rattle.ps_runs.proofs.SeatFaults.{first_stands}
 use Rattle.ps_trace.specs.Reading.{only_refused}
-use Rattle.ps_trace.specs.Scans.{Scans, scans_of}
+use Rattle.ps_trace.specs.Scans.{scans_of}
 use Rattle.ps_vote.specs.Answers.{VoteRunsAreRight, HealRunsAreRight}
 use Rattle.ps_vote.specs.Orders.{Course}
 use Rattle.ps_vote.specs.Votes.{vote}
@@ -23,12 +23,12 @@ use Rattle.ps_vote.specs.Whole.{machines_in}
 use Rattle.ps_vote.specs.declared.seat.Vote.{Vote}
 use Rattle.ps_top.specs.Asking.{Answer, Asking, IsAnswer, IsLeftAfter, Worked, worked}
 use Rattle.ps_top.specs.Calls.{CallSeen, NameRose, GoesOn, Causes, Answers, LeavesRefusal, with_left}
-use Rattle.ps_top.specs.Meets.{IsCut, Meets}
+use Rattle.ps_top.specs.Meets.{IsCut}
 use Rattle.ps_top.specs.Program.{answer, vote_scans, vote_named, with_votes}
 use Rattle.ps_top.specs.Resting.{vote_answer}
 use Rattle.ps_top.specs.Running.{DoesTrace, RunsTrace, status_behind}
 use Rattle.ps_top.specs.declared.Status.{Status}
-use Rattle.ps_top.specs.declared.Status.TheVariants.{Done, BadInput, ReadFault}
+use Rattle.ps_top.specs.declared.Status.TheVariants.{Done, BadInput}
 use Rattle.ps_top.specs.declared.left.Left.{Left}
 use Rattle.ps_top.proofs.Calling.{any_only, causes_left, done_causes}
 use Rattle.ps_top.proofs.CourseMeant.{run_answers, refusal_answers, run_leaves, refusal_leaves}

@@ -14,17 +14,16 @@ use Rattle.ps_runs.specs.declared.striking.StruckWorld.{StruckWorld}
 use Rattle.ps_runs.specs.declared.striking.Trip.{Trip}
 use Rattle.ps_runs.proofs.ToCome.{first_stands}
 use Rattle.ps_trace.specs.Reading.{only_refused}
-use Rattle.ps_trace.specs.Scans.{Scans, scans_of}
+use Rattle.ps_trace.specs.Scans.{scans_of}
 use Rattle.ps_world.specs.Answers.{RunsAreRight}
 use Rattle.ps_world.specs.Whole.{machines_in}
 use Rattle.ps_top.specs.Asking.{Answer, Asking, IsAnswer, IsLeftAfter, Worked, worked}
 use Rattle.ps_top.specs.Calls.{CallSeen, NameRose, GoesOn, Causes, Answers, LeavesRefusal, IsRefusing, with_left}
-use Rattle.ps_top.specs.Meets.{IsCut, Meets}
 use Rattle.ps_top.specs.Program.{answer, answer_scans, run_named, status_if, with_world}
 use Rattle.ps_top.specs.Resting.{run_answer}
 use Rattle.ps_top.specs.Running.{DoesTrace, RunsTrace, status_behind}
 use Rattle.ps_top.specs.declared.Status.{Status}
-use Rattle.ps_top.specs.declared.Status.TheVariants.{BadInput, ReadFault}
+use Rattle.ps_top.specs.declared.Status.TheVariants.{BadInput}
 use Rattle.ps_top.specs.declared.left.Left.{Left}
 use Rattle.ps_top.proofs.Calling.{any_only, causes_left, done_causes}
 use Rattle.ps_top.proofs.Ending.{AsEnded, IsEnd, whole_meets, stops_meets, whole_leaves, stops_leaves}

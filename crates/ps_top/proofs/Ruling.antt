@@ -1,5 +1,5 @@
 -- How a judged certificate is told.
-use Rattle.std.proofs.Common.{◌≡◌, ◌∙◌, ◌⊎◌, ℕ, List, [], ◌∷◌, Option, Some, IsTrue, length, ap, refl, sym, subst, inl, inr, arith}
+use Rattle.std.proofs.Common.{◌≡◌, ◌∙◌, ℕ, List, [], ◌∷◌, Option, Some, IsTrue, length, ap, refl, sym, subst, inl, inr, arith}
 use Rattle.ps_checker.specs.Counts.{Counts}
 use Rattle.ps_model.specs.Network.{Network}
 use Rattle.ps_accepted.specs.Source.{counts}
@@ -12,7 +12,7 @@ use Rattle.ps_top.specs.Meets.{IsCut}
 use Rattle.ps_top.specs.Program.{answer, leaves_checked, with_checked, Ruling, Judges, verdict, verify_named}
 use Rattle.ps_top.specs.Program.Ruling.{derives, objects}
 use Rattle.ps_top.specs.declared.Status.{Status}
-use Rattle.ps_top.specs.declared.Status.TheVariants.{Done, Memory}
+use Rattle.ps_top.specs.declared.Status.TheVariants.{Done}
 use Rattle.ps_top.specs.declared.verifying.Judgement.{Judgement}
 use Rattle.ps_top.specs.declared.verifying.Judgement.TheVariants.{Derives, Objects}
 use Rattle.ps_top.specs.declared.left.Left.{Left}

@@ -1,6 +1,6 @@
 -- How a call ends whose source gives no application.
 use Rattle.std.specs.Prelude.{IsErrOf}
-use Rattle.std.proofs.Common.{◌≡◌, ◌≤◌, ◌+◌, ◌∙◌, ℕ, List, Some, IsTrue, Result, Ok, Err, length, take, refl, sym, ap, subst, inl, inr, arith}
+use Rattle.std.proofs.Common.{◌≡◌, ◌≤◌, ◌+◌, ◌∙◌, ℕ, List, Result, Err, length, take, refl, sym, ap, subst, inl, inr, arith}
 use Rattle.std.proofs.lemmas.List.{length-take, take_all}
 use Rattle.ps_base.specs.declared.failing.Fail.{Fail}
 use Rattle.ps_base.specs.declared.failing.Fail.TheVariants.{Memory as NoneForRules, Refused as RefusedByRules}
@@ -17,7 +17,7 @@ use Rattle.ps_top.specs.Refusing.{GivesNone, short, unread, refuses, IsUnread, S
 use Rattle.ps_top.specs.Sourcing.{AreOfSource}
 use Rattle.ps_top.specs.declared.left.Left.{Left}
 use Rattle.ps_top.specs.declared.Status.{Status}
-use Rattle.ps_top.specs.declared.Status.TheVariants.{ReadFault, Memory}
+use Rattle.ps_top.specs.declared.Status.TheVariants.{ReadFault}
 use Rattle.ps_top.proofs.Calling.{passes_left, passes_read, passes_both, says_left, surely_read}
 
 -- bytes that have a flat source are all of their text, which has it

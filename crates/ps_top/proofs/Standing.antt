@@ -1,8 +1,7 @@
 -- What is answered where a run of two channels wrote so of the items of a trace.
-use Rattle.std.proofs.Common.{◌≡◌, ◌∙◌, ◌++◌, ℕ, Bool, true, false, IsTrue, List, [], Option, None, Result, Ok, Err, refl, sym, ap, subst, append_assoc, append-nil, ◌⊎◌, arith}
+use Rattle.std.proofs.Common.{◌≡◌, ◌∙◌, ◌++◌, ℕ, Bool, true, false, IsTrue, List, Option, None, Result, Ok, Err, refl, sym, ap, subst, append_assoc, append-nil, arith}
 use Rattle.std.specs.Prelude.{◌||◌}
 use Rattle.std.specs.Option.{option_or}
-use Rattle.ps_base.specs.declared.failing.Refusal.{Refusal}
 use Rattle.ps_model.specs.declared.channel.Fault.{Fault}
 use Rattle.ps_model.specs.declared.channel.Verdict.{Verdict}
 use Rattle.ps_model.specs.Network.{Network}
@@ -22,11 +21,11 @@ use Rattle.ps_runs.proofs.ToCome.{Stands}
 use Rattle.ps_trace.specs.Scans.{Scans, End}
 use Rattle.ps_trace.specs.Scans.End.{whole, refused as is_refused}
 use Rattle.ps_top.specs.Asking.{Answer}
-use Rattle.ps_top.specs.Meets.{IsCut, AppendsPart, Gives}
+use Rattle.ps_top.specs.Meets.{IsCut, AppendsPart}
 use Rattle.ps_top.specs.Program.{answer, end_line, status_if}
 use Rattle.ps_top.specs.Resting.{status_of, run_answer}
 use Rattle.ps_top.specs.declared.Status.{Status}
-use Rattle.ps_top.specs.declared.Status.TheVariants.{BadInput, ReadFault, WriteFault}
+use Rattle.ps_top.specs.declared.Status.TheVariants.{BadInput}
 use Rattle.ps_top.proofs.Calling.{no_read_said, no_memory_said}
 use Rattle.ps_top.proofs.Ending.{AsEnded, IsEnd}
 use Rattle.ps_top.proofs.Meeting.{all_given, given_behind, part_given, part_unread}

@@ -1,5 +1,5 @@
 -- What the judge of a certificate's text answers.
-use Rattle.std.specs.Prelude.{◌≡◌, ◌⊎◌, ℕ, List, Some}
+use Rattle.std.specs.Prelude.{◌≡◌, ◌⊎◌, ℕ, List}
 use Rattle.ps_flow.specs.declared.certificate.CertLine.{CertLine}
 use Rattle.ps_model.specs.Network.{Network}
 use Rattle.ps_report.specs.Short.{refusal_text}

@@ -1,4 +1,4 @@
-use Rattle.std.proofs.Common.{◌∙◌, List, Option, ℕ, subst, sym}
+use Rattle.std.proofs.Common.{List, Option, ℕ, subst, sym}
 use Rattle.ps_bench_trace.specs.Playing.{trace_held}
 use Rattle.ps_bench_watch.specs.Asking.{text_in}
 use Rattle.ps_bench_watch.specs.Showing.{ComesOfHeld, MakesRun}

@@ -1,12 +1,12 @@
-use Rattle.std.proofs.Common.{◌≡◌, ◌⊎◌, ℕ, Bool, IsTrue, List, Option, Some, inl, inr, sym, ap, subst}
+use Rattle.std.proofs.Common.{ℕ, Bool, IsTrue, List, Option, inl, inr, sym, ap, subst}
 use Rattle.ps_bench_frame.specs.Meant.{file_meant}
 use Rattle.ps_bench_frame.specs.Opening.{source}
 use Rattle.ps_bench_frame.specs.Stopping.{TookNothing}
 use Rattle.ps_runs.specs.declared.striking.StruckWorld.{StruckWorld}
 use Rattle.ps_bench_trace.specs.Playing.{trace_held}
 use Rattle.ps_bench_watch.specs.Asking.{text_in, wanted_by}
-use Rattle.ps_bench_watch.specs.Showing.{ComesOfHeld, ComesOfPlay, IsUnreadEnd, MakesRun, Run}
-use Rattle.ps_bench_watch.proofs.WatchComing.{none_made, where_told}
+use Rattle.ps_bench_watch.specs.Showing.{ComesOfHeld, ComesOfPlay, MakesRun, Run}
+use Rattle.ps_bench_watch.proofs.WatchComing.{where_told}
 use Rattle.ps_bench_watch.proofs.watching.watch_play.Goals as goal
 
 pub returns-in-Err-clause-comes : goal.returns-in-Err-clause-comes

@@ -1,4 +1,4 @@
-use Rattle.std.proofs.Common.{◌≡◌, ◌∙◌, ℕ, List, Err, sym, ap, subst}
+use Rattle.std.proofs.Common.{◌∙◌, ℕ, List, Err, sym, ap, subst}
 use Rattle.std.proofs.lemmas.Option.{same_Some}
 use Rattle.ps_base.specs.declared.failing.Fail.{Fail}
 use Rattle.ps_accepted.specs.Answering.{IsAcceptance, source_of}

@@ -1,4 +1,4 @@
-use Rattle.std.proofs.Common.{◌≡◌, ◌∙◌, ℕ, List, Err, ap, subst}
+use Rattle.std.proofs.Common.{◌∙◌, Err, ap, subst}
 use Rattle.ps_base.specs.declared.failing.Fail.{Fail}
 use Rattle.ps_accepted.specs.Answering.{IsResolved}
 use Rattle.ps_accepted.specs.Source.{IsResolvedAs}

@@ -1,5 +1,4 @@
-use Rattle.std.proofs.Common.{◌≡◌, ◌∙◌, ℕ, List, [], sym, ap, subst, arith}
-use Rattle.ps_checker.specs.Counts.{Counts}
+use Rattle.std.proofs.Common.{◌≡◌, ◌∙◌, ℕ, List, [], ap, subst, arith}
 use Rattle.ps_flow.specs.Derivation.{certificate}
 use Rattle.ps_flow.specs.declared.certificate.CertLine.{CertLine}
 use Rattle.ps_model.specs.Network.{Network}

@@ -1,4 +1,4 @@
-use Rattle.std.proofs.Common.{ℕ, List, [], ◌∷◌, ap, subst, arith}
+use Rattle.std.proofs.Common.{ℕ, List, [], ap, subst, arith}
 use Rattle.ps_accepted.specs.Demanding.{IsDemandableAs}
 use Rattle.ps_top.specs.Asking.{worked}
 use Rattle.ps_top.specs.Calls.{SaysAnswer}

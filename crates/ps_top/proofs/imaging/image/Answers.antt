@@ -7,7 +7,7 @@ use Rattle.ps_top.specs.Calls.{SaysAnswer}
 use Rattle.ps_top.specs.Program.{answer, image_lines, imaged}
 use Rattle.ps_top.specs.declared.Status.TheVariants.{Done}
 use Rattle.ps_top.proofs.Applied.{accepted_answers, checked_none}
-use Rattle.ps_top.proofs.Calling.{found_of_all, memory_answers, said_answers}
+use Rattle.ps_top.proofs.Calling.{found_of_all, said_answers}
 use Rattle.ps_top.proofs.Refusals.{otherwise_refuses}
 use Rattle.ps_top.proofs.imaging.image.Goals as goal
 

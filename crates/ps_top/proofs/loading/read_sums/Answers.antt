@@ -7,7 +7,7 @@ use Rattle.ps_model.specs.declared.channel.Fault.{Fault}
 use Rattle.ps_runs.specs.Resting.{ran}
 use Rattle.ps_trace.specs.Reading.{items_left, only_refused}
 use Rattle.ps_trace.specs.Scans.{Scans, scans_behind, scans_of}
-use Rattle.ps_world.specs.Whole.{Whole, machines_in}
+use Rattle.ps_world.specs.Whole.{machines_in}
 use Rattle.ps_top.specs.Asking.{worked}
 use Rattle.ps_runs.specs.Tripping.{first_trip}
 use Rattle.ps_top.specs.Calls.{SaysAnswer, with_left}

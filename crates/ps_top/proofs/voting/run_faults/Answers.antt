@@ -1,5 +1,4 @@
-use Rattle.std.proofs.Common.{◌≡◌, ◌∷◌, ◌∙◌, [], ℕ, Bool, List, IsTrue, Ok, Err, subst}
-use Rattle.ps_trace.specs.Faults.{FaultList}
+use Rattle.std.proofs.Common.{◌≡◌, ◌∷◌, ◌∙◌, [], Bool, List, Ok, Err, subst}
 use Rattle.ps_vote.specs.Whole.{Whole}
 use Rattle.ps_vote.specs.declared.faults.VoteFault.{VoteFault}
 use Rattle.ps_vote.specs.declared.seat.VoteSizes.{VoteSizes}

@@ -19,7 +19,7 @@ use Rattle.ps_model.specs.Network.{Network}
 use Rattle.ps_model.specs.declared.channel.Channel.{Channel}
 use Rattle.ps_model.specs.declared.channel.ImageSizes.{ImageSizes}
 use Rattle.ps_outside.specs.Outside.{Rose}
-use Rattle.ps_bench_report.specs.Asking.{AnswersReport, StopsReport}
+use Rattle.ps_bench_report.specs.Asking.{AnswersReport, StopsReport, Wanted as Reported}
 use Rattle.ps_bench_test.specs.Stopping.{StopsExpanding, StopsTesting}
 use Rattle.ps_bench_test.specs.Testing.{AreRanFiles, FileRan, test_status, test_text}
 use Rattle.ps_bench_watch.specs.Tracing.{AnswersTrace, StopsTrace}
@@ -54,6 +54,10 @@ abbrev pub tried_of : (trace : List ℕ) (from count : ℕ) (channel : Option Ch
 tried_of trace from count channel print =
     record { trace = trace; from = from; count = count; channel = channel; print = print }
 
+-- what is asked of a page
+abbrev pub reported_of : (app : List ℕ) (cases : List (List ℕ)) (title : Option (List ℕ)) → Reported
+reported_of app cases title = record { app = app; names = cases; title = title }
+
 -- By what the words ask, over files and a stream that tell what they hold or do not: the status, and what an output
 -- that tells took. `test` ran all cases of all of its files, in the order of the words; its status is Done where each
 -- passed, and else Failed.
@@ -84,7 +88,7 @@ Answers (Campaign app trace from count channel print) input reading held status 
 Answers (Sum files) input reading held status tells before after =
     AnswersSum files reading held tells before after status
 Answers (Report app cases title) input reading held status tells before after =
-    AnswersReport app cases reading held tells before after status
+    AnswersReport (reported_of app cases title) reading held tells before after status
 Answers (Live app names) input reading held status tells before after =
     AnswersLive app names input reading held tells before after status
 Answers Page input reading held status tells before after = status ≡ Done
@@ -114,7 +118,7 @@ Stops (Campaign app trace from count channel print) input reading held stop tell
 Stops (Sum files) input reading held stop tells before after =
     StopsSum files reading held tells before after stop
 Stops (Report app cases title) input reading held stop tells before after =
-    StopsReport app cases reading held tells before after stop
+    StopsReport (reported_of app cases title) reading held tells before after stop
 Stops (Live app names) input reading held stop tells before after =
     StopsLive app names input reading held tells before after stop
 Stops Page input reading held stop tells before after = stop ≡ Unwritten

@@ -1,5 +1,5 @@
 -- What comes of a call with an application.
-use Rattle.std.proofs.Common.{◌≡◌, ◌≤◌, ◌∙◌, ◌++◌, ◌∷◌, [], ℕ, zero, Bool, List, Any, Option, Result, Ok, Err, inl, inr, refl, ap, subst, arith}
+use Rattle.std.proofs.Common.{◌≡◌, ◌≤◌, ◌∙◌, ◌++◌, ◌∷◌, [], ℕ, zero, Bool, IsTrue, List, Any, Option, Some, Result, Ok, Err, inl, inr, refl, ap, subst, arith}
 use Rattle.std.proofs.lemmas.Result.{IfErr-weaker}
 use Rattle.std.specs.Prelude.{IfErr, IfOk}
 use Rattle.ps_bench_cover.specs.Leaving.{Leaves, LeavesOutput, Stays, sides}
@@ -12,30 +12,41 @@ use Rattle.ps_bench_report.specs.declared.page.Piece.{Piece}
 use Rattle.ps_model.specs.Network.{Network}
 use Rattle.ps_model.specs.declared.channel.ImageSizes.{ImageSizes}
 use Rattle.ps_outside.specs.Outside.{Rose}
-use Rattle.ps_bench_report.specs.Asking.{AnswersReport, Ends, IsPageOf, IsReport, StopsReport}
+use Rattle.ps_bench_frame.specs.Sourcing.{IsSourceOf}
+use Rattle.ps_bench_trials.specs.Naming.{digest_text}
+use Rattle.ps_parser.specs.Tree.{SourceTree}
+use Rattle.ps_bench_report.specs.Asking.{AnswersReport, Ends, IsReport, StopsReport, Wanted}
+use Rattle.ps_bench_report.specs.Contents.{back_pieces, cases_front, front_pieces, results_front, title_text}
+use Rattle.ps_bench_report.specs.Digests.{file_rows}
 use Rattle.ps_bench_report.specs.Results.{cases_rows, files_rows}
-use Rattle.ps_bench_report.specs.Paged.{Paged}
-use Rattle.ps_bench_report.specs.Running.{EndsPage, MakesPage, ShowsCases}
+use Rattle.ps_bench_report.specs.Running.{BeginsPages, EndsPage, MakesPage, ShowsFiles, Subject}
+use Rattle.ps_bench_report.specs.Writing.{written}
+use Rattle.ps_bench_report.specs.declared.running.Pages.{Pages}
 use Rattle.ps_bench_report.specs.Sections.{HaveSections, cases_of}
 use Rattle.ps_bench_test.proofs.Stopped.{any_behind}
-use Rattle.ps_bench_test.specs.Testing.{AreRanFiles, FileRan}
+use Rattle.ps_bench_test.specs.Testing.{AreRanFiles, FileRan, tally_of, tally_of_files}
+use Rattle.ps_bench_test.specs.Outcome.{none_told}
+use Rattle.ps_bench_test.specs.Report.{foot_text}
+use Rattle.ps_bench_test.specs.declared.outcome.Tally.{Tally}
+use Rattle.ps_bench_words.specs.declared.asking.Format.TheVariants.{Text}
 use Rattle.ps_bench_report.proofs.Reading.{le_two}
-use Rattle.ps_bench_report.proofs.Shown.{rows_of_cases}
+use Rattle.ps_bench_report.proofs.Covering.{told_of}
+use Rattle.ps_bench_report.proofs.Shown.{rows_of_cases, tally_of_cases}
 
 -- what was answered of an application, and why the call stopped, by how it ended
-pub answered : (net : Network) (sizes : ImageSizes) (app : List ℕ) (names : List (List ℕ)) (reading : Bool)
+pub answered : (net : Network) (sizes : ImageSizes) (wanted : Wanted) (reading : Bool)
     (held : List ℕ → Option (List ℕ)) (tells : Bool) (before after : List ℕ) (ended : Result Status Stop) →
-    IsOfApp (source net sizes reading held) app → Ends (source net sizes reading held) app names tells before after ended →
-    IfOk ended (AnswersReport app names reading held tells before after)
-answered net sizes app names reading held tells before after (Ok status) of ends = (net, sizes, of, ends)
-answered net sizes app names reading held tells before after (Err stop) of ends = tt
+    IsOfApp (source net sizes reading held) wanted.app → Ends (source net sizes reading held) wanted tells before after ended →
+    IfOk ended (AnswersReport wanted reading held tells before after)
+answered net sizes wanted reading held tells before after (Ok status) of ends = (net, sizes, of, ends)
+answered net sizes wanted reading held tells before after (Err stop) of ends = tt
 
-pub stopped : (net : Network) (sizes : ImageSizes) (app : List ℕ) (names : List (List ℕ)) (reading : Bool)
+pub stopped : (net : Network) (sizes : ImageSizes) (wanted : Wanted) (reading : Bool)
     (held : List ℕ → Option (List ℕ)) (tells : Bool) (before after : List ℕ) (ended : Result Status Stop) →
-    IsOfApp (source net sizes reading held) app → Ends (source net sizes reading held) app names tells before after ended →
-    IfErr ended (StopsReport app names reading held tells before after)
-stopped net sizes app names reading held tells before after (Ok status) of ends = tt
-stopped net sizes app names reading held tells before after (Err stop) of ends = inr (net, sizes, of, ends)
+    IsOfApp (source net sizes reading held) wanted.app → Ends (source net sizes reading held) wanted tells before after ended →
+    IfErr ended (StopsReport wanted reading held tells before after)
+stopped net sizes wanted reading held tells before after (Ok status) of ends = tt
+stopped net sizes wanted reading held tells before after (Err stop) of ends = inr (net, sizes, of, ends)
 
 -- what is so after a call that changes none of it was so before
 pub moved : (P : Source → Bool → List ℕ → Type 0) (net : Network) (sizes : ImageSizes) (r r' : Bool)
@@ -47,32 +58,50 @@ moved P net sizes r r' h h' t t' b b' r_is h_is t_is b_is holds =
     (subst (λ (x : Bool). P (source net sizes r' h') x b) t_is
     (subst (λ (x : List ℕ). P (source net sizes r' h') t' x) b_is holds)))
 
--- the rows of the files that were run, and the parts of their cases, stand in the report
-report_is : (from : Source) (app : List ℕ) (names : List (List ℕ)) (rows none sections nothing : Paged) (text : List ℕ)
-    (fs : List FileRan) → AreRanFiles from app names fs → ShowsCases (cases_of fs) none rows nothing sections → none.pieces ≡ [] →
-    nothing.pieces ≡ [] → MakesPage rows sections text → IsReport from app names text
-report_is from app names rows none sections nothing text fs ran shows empty first has =
-    let in_rows = shows.in_rows has.0 in
-    let in_parts = shows.in_parts has.1 in
-    let is : rows.pieces ≡ files_rows fs = in_rows.1 ∙ ap (λ (t : List Piece). t ++ cases_rows (cases_of fs)) empty ∙ rows_of_cases fs in
-    record {
-      files = fs;
-      ran = ran;
-      sections = sections.pieces;
-      drawn = subst (λ (t : List Piece). HaveSections (cases_of fs) t sections.pieces) first in_parts.1;
-      is = subst (λ (t : List Piece). IsPageOf t sections.pieces text) is has.2;
-    }
+module _ (from : Source) (wanted : Wanted) (tree : SourceTree) (text : List ℕ)
+    (held : IsTrue from.tells → from.held wanted.app ≡ Some text) (of_source : IsTrue from.tells → IsSourceOf from.held wanted.app tree)
+    (begun pages : Pages) (begins : BeginsPages from.net wanted.title wanted.app text begun)
+    (fs : List FileRan) (ran : AreRanFiles from wanted.app wanted.names fs) (shows : ShowsFiles from wanted.names fs begun pages) where
+  abbrev of_app : Subject
+  of_app = record { net = from.net; tree = tree; name = wanted.app; source = text }
 
--- a call ends by the page in which they stand
-pub reported : (from : Source) (app : List ℕ) (names : List (List ℕ)) (rows none sections nothing : Paged) (fs : List FileRan) (tells : Bool)
-    (before after : List ℕ) (ended : Result Status Stop) → AreRanFiles from app names fs → ShowsCases (cases_of fs) none rows nothing sections →
-    none.pieces ≡ [] → nothing.pieces ≡ [] → EndsPage rows sections tells before after ended → Ends from app names tells before after ended
-reported from app names rows none sections nothing fs tells before after (Ok status) ran shows empty first (done, text, has, took) =
-    (done, text, report_is from app names rows none sections nothing text fs ran shows empty first has, took)
-reported from app names rows none sections nothing fs tells before after (Err stop) ran shows empty first (inl short) =
-    inl short
-reported from app names rows none sections nothing fs tells before after (Err stop) ran shows empty first (inr (text, has, stops)) =
-    inr (inr (text, report_is from app names rows none sections nothing text fs ran shows empty first has, stops))
+  -- the rows of the files that were run, and the parts of their cases, stand in the report
+  report_is : (page : List ℕ) → MakesPage of_app pages page → IsReport from wanted page
+  report_is page makes =
+      let front = front_pieces (title_text wanted.title wanted.app) wanted.app (digest_text text) in
+      let rows = file_rows wanted.names shows.digests in
+      let in_front = shows.in_front makes.front in
+      let in_rows = shows.in_rows makes.rows in
+      let in_parts = shows.in_parts makes.sections in
+      let front_is : pages.front.pieces ++ results_front ≡ front ++ rows ++ results_front =
+      ap (λ (t : List Piece). t ++ results_front) (in_front.1 ∙ ap (λ (t : List Piece). t ++ rows) (begins.front in_front.0)) in
+      let rows_are : pages.rows.pieces ≡ files_rows fs =
+      in_rows.1 ∙ ap (λ (t : List Piece). t ++ cases_rows (cases_of fs)) begins.rows ∙ rows_of_cases fs in
+      let total : foot_text Text pages.tally ≡ foot_text Text (tally_of_files none_told fs) =
+      ap (foot_text Text) (shows.tally ∙ ap (λ (t : Tally). tally_of t (cases_of fs)) begins.tally ∙ tally_of_cases none_told fs) in
+      record {
+        files = fs;
+        ran = ran;
+        digests = shows.digests;
+        named = shows.named;
+        sections = pages.sections.pieces;
+        drawn = subst (λ (t : List Piece). HaveSections (cases_of fs) t pages.sections.pieces) begins.sections in_parts.1;
+        source = text;
+        held = held;
+        tree = tree;
+        of_source = of_source;
+        told = makes.told;
+        are = makes.are;
+        coverage = told_of from.net tree (cases_of fs) begun.cover pages.cover makes.told.coverage begins.whole begins.unseen shows.covers makes.coverage;
+        is = makes.is ∙ (λ i. written (front_is i ++ rows_are i ++ cases_front (total i) ++ pages.sections.pieces ++ back_pieces makes.told));
+      }
+
+  -- a call ends by the page in which they stand
+  pub reported : (tells : Bool) (before after : List ℕ) (ended : Result Status Stop) → EndsPage of_app pages tells before after ended →
+      Ends from wanted tells before after ended
+  reported tells before after (Ok status) (done, page, makes, took) = (done, page, report_is page makes, took)
+  reported tells before after (Err stop) (inl short) = inl short
+  reported tells before after (Err stop) (inr (page, makes, stops)) = inr (inr (page, report_is page makes, stops))
 
 -- ---- What a call leaves.
 

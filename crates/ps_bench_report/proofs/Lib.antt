@@ -6,10 +6,15 @@ pub mod Recorded
 pub mod Lasting
 pub mod Stopping
 pub mod Played
+-- what the scans of runs show of an application
+pub mod Covering
 -- the scans that pictures show
 pub mod Picturing
--- cases that are shown, after others, and the text of their pages
+-- pieces that are added, cases and files that are shown, after others, and the text of their pages
+pub mod Adding
 pub mod Shown
+-- lines with their numbers
+pub mod Numbering
 -- what a read leaves, and why a call stops by it
 pub mod Reading
 -- a case file that was read once

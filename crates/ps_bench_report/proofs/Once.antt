@@ -1,5 +1,5 @@
 -- A case file that was read once: what comes of the text that is held of it comes of the file.
-use Rattle.std.proofs.Common.{◌≡◌, ◌≤◌, ◌∙◌, ℕ, Bool, true, IsTrue, List, Option, Some, Result, Ok, Err, inl, inr, refl, sym, arith}
+use Rattle.std.proofs.Common.{◌≡◌, ◌≤◌, ◌∙◌, ◌∷◌, [], ℕ, Bool, true, IsTrue, List, Option, Some, Result, Ok, Err, inl, inr, refl, sym, arith}
 use Rattle.std.proofs.lemmas.Result.{IfErr-weaker}
 use Rattle.ps_bench_cases.specs.declared.case.CaseFile.{CaseFile}
 use Rattle.ps_bench_cases.specs.declared.rule.CaseRefusal.{CaseRefusal}
@@ -10,8 +10,9 @@ use Rattle.ps_bench_frame.specs.Refusing.{refused_line}
 use Rattle.ps_bench_frame.specs.Stopping.{AreRefused, StopsAtCases}
 use Rattle.ps_bench_frame.specs.declared.ending.Stop.{Stop}
 use Rattle.ps_bench_frame.specs.declared.ending.Stop.TheVariants.{App, Cases, Input, NoMemory, UnreadApp, UnreadCases, Unwritten}
-use Rattle.ps_bench_report.specs.Paged.{Paged}
+use Rattle.ps_bench_report.specs.Digests.{AreDigests}
 use Rattle.ps_bench_report.specs.Running.{EndsFile}
+use Rattle.ps_bench_report.specs.declared.running.Pages.{Pages}
 use Rattle.ps_model.specs.Network.{Network}
 use Rattle.ps_model.specs.declared.channel.ImageSizes.{ImageSizes}
 use Rattle.ps_outside.specs.Outside.{Rose}
@@ -38,17 +39,31 @@ module _ (net : Network) (sizes : ImageSizes) (tells : Bool) (held : List ℕ �
   stops_held UnreadApp telling before after stops = stops
   stops_held (Input why) telling before after stops = stops
 
+  -- what names it
+  digests_held : (digests : List (List ℕ)) → AreDigests (from_text net sizes text) (name ∷ []) digests → AreDigests (source net sizes tells held) (name ∷ []) digests
+  digests_held [] named = named
+  digests_held (d ∷ []) named = (λ told. let is_named = named.0 refl in (is_named.0, is told ∙ is_named.1, is_named.2), tt)
+  digests_held (d ∷ e ∷ ds) named = absurd named.1
+
   -- how a call ends that ran its cases
-  pub ends_held : {X : Type 0} (app : List ℕ) (rows rows' sections sections' : Paged) (telling : Bool) (before after : List ℕ) (ended : Result X Stop) →
-      EndsFile (from_text net sizes text) app name rows rows' sections sections' telling before after ended →
-      EndsFile (source net sizes tells held) app name rows rows' sections sections' telling before after ended
-  ends_held app rows rows' sections sections' telling before after (Ok done) ends = (
+  pub ends_held : {X : Type 0} (app : List ℕ) (old new : Pages) (telling : Bool) (before after : List ℕ) (ended : Result X Stop) →
+      EndsFile (from_text net sizes text) app name old new telling before after ended →
+      EndsFile (source net sizes tells held) app name old new telling before after ended
+  ends_held app old new telling before after (Ok done) ends = (
     ends.0,
     ends.1,
     record { name_is = ends.2.name_is; of_text = of_text_held ends.1.file ends.2.of_text; ran = ends.2.ran },
-    ends.3,
+    record {
+      digests = ends.3.digests;
+      named = digests_held ends.3.digests ends.3.named;
+      in_front = ends.3.in_front;
+      in_rows = ends.3.in_rows;
+      in_parts = ends.3.in_parts;
+      tally = ends.3.tally;
+      covers = ends.3.covers;
+    },
   )
-  ends_held app rows rows' sections sections' telling before after (Err stop) ends = stops_held stop telling before after ends
+  ends_held app old new telling before after (Err stop) ends = stops_held stop telling before after ends
 
 -- no count rises where there is none
 never_rose : Rose 0 0 → ⊥

@@ -17,6 +17,9 @@ use Rattle.ps_model.specs.declared.channel.Fault.{Fault}
 use Rattle.ps_outside.specs.Outside.{Rose}
 use Rattle.ps_outside.specs.declared.text_fail.TextFail.{TextFail}
 use Rattle.ps_outside.specs.declared.text_fail.TextFail.TheVariants.{Fault as IsFault, Memory as NoMemory, Refused as IsRefused}
+use Rattle.ps_cover.specs.Applying.{scans_of as steps_of}
+use Rattle.ps_cover.specs.declared.cover.Cover.{Cover}
+use Rattle.ps_bench_report.specs.Covered.{CoversRun}
 use Rattle.ps_bench_report.specs.Filmed.{HasRecorded, made_of}
 use Rattle.ps_bench_report.specs.Played.{KeepsItems, RecordsItems, run_of}
 use Rattle.ps_bench_report.specs.Recording.{Film, IsFilmOf, Made, Records, film_of, made_in, shot_of}
@@ -56,15 +59,19 @@ records_items net names items faults p w r begins faults_are has fine same = rec
       (has ws means fine few));
 }
 
--- what is kept of a run that is done has what was recorded
+-- what is kept of a run that is done has what was recorded, and knows what was shown
 pub keeps_items : (net : Network) (names : List Name) (items : List Item) (faults : List Fault) (p : StruckWorld) (w : Recorder) (result : Result (Option Kept) Memory) →
     IsBeginning net p → p.faults ≡ faults → ((ws : List State) → Meaning net items ws → HasRecorded net names (made_of net p items ws) w) →
     OnOk result (w.is_wanting ≡ false) → IfOk result (λ got. IsSomeAnd got (λ kept. film_of kept.recording ≡ film_of w.recording)) →
+    (cover : Cover) → IfOk result (λ got. IsSomeAnd got (λ kept. kept.cover ≡ cover)) →
+    ((ws : List State) → Meaning net items ws → CoversRun net (steps_of net nothing items ws) cover) →
     IfOk result (λ got. IsSomeAnd got (KeepsItems net names items faults))
-keeps_items net names items faults p w (Ok (Some kept)) begins faults_are has fine same =
-    records_items net names items faults p w kept.recording begins faults_are has fine same
-keeps_items net names items faults p w (Ok None) begins faults_are has fine same = same
-keeps_items net names items faults p w (Err wanting) begins faults_are has fine same = tt
+keeps_items net names items faults p w (Ok (Some kept)) begins faults_are has fine same cover is covers = record {
+  records = records_items net names items faults p w kept.recording begins faults_are has fine same;
+  covers = λ ws means. subst (CoversRun net (steps_of net nothing items ws)) (sym is) (covers ws means);
+}
+keeps_items net names items faults p w (Ok None) begins faults_are has fine same cover is covers = absurd same
+keeps_items net names items faults p w (Err wanting) begins faults_are has fine same cover is covers = tt
 
 -- a case alone in a file has the items that it means
 later_none : (items : List Item) → later 0 items ≡ items

@@ -10,6 +10,7 @@ use Rattle.ps_model.specs.Sound.{IsSound}
 use Rattle.ps_bench_report.proofs.Films.{film_begins, film_goes}
 use Rattle.ps_bench_report.proofs.Seeing.{known}
 use Rattle.ps_bench_report.specs.Recorder.{TakesRestart, TakesScan, next_frame, recorder_takes, seen_behind}
+use Rattle.ps_bench_report.specs.Taking.{cover_takes}
 use Rattle.ps_bench_report.specs.Recording.{Film, IsFilmOf, Made, Shot, film_of, shot_of}
 use Rattle.ps_bench_report.specs.Filmed.{HasRecorded, IsBegun, made_of}
 use Rattle.ps_bench_report.specs.declared.filming.Both.{Both}
@@ -70,8 +71,8 @@ module _ (net : Network) (names : List Name) where
       }
 
   -- what a recorder makes of an outcome, beside another that takes it
-  abbrev Takes : Both → Watched StruckWorld → Outcome Verdict → Both → Type 0
-  Takes w p outcome w' = recorder_takes net w.recorder p outcome w'.recorder
+  abbrev pub Takes : Both → Watched StruckWorld → Outcome Verdict → Both → Type 0
+  Takes w p outcome w' = recorder_takes net w.recorder p outcome w'.recorder × cover_takes net w.cover p outcome w'.cover
 
   -- A run from its beginning was recorded.
   pub recorded : IsSound net → (said : Both → Watched StruckWorld → Outcome Verdict → List ℕ) (time : ℕ) (p : Watched StruckWorld)
@@ -80,8 +81,8 @@ module _ (net : Network) (names : List Name) where
       (ws : List State) → Runs net nothing scans.items ws → OnOk ended (HasRecorded net names (made_of net p.performer scans.items ws) w'.recorder)
   recorded sound said time p w scans bytes ended after w' begun did ws means =
       by ended (known net sound p.performer.faults said Takes (λ made r w. Knows made r w.recorder)
-      (λ made r w p now v report w' knows takes. knows_scan made r w.recorder (seen_behind p now v report) w'.recorder knows takes)
-      (λ made r w p w' knows takes. knows_anew made r w.recorder w'.recorder knows takes)
+      (λ made r w p now v report w' knows takes. knows_scan made r w.recorder (seen_behind p now v report) w'.recorder knows takes.0)
+      (λ made r w p w' knows takes. knows_anew made r w.recorder w'.recorder knows takes.0)
       time 0 p w scans bytes ended after w' nothing [] false ws
       (first_stands net p.performer begun.world) begun.evaluator (omega arith) means
       (λ fine few. record { scans = begun.fresh.none_made; restarted = begun.fresh.not_restarted; film = film_begins names (film_of w.recorder.recording) begun.fresh.film })

@@ -1,16 +1,26 @@
 -- Cases that are shown, after others, and the text of the pages in which they are.
-use Rattle.std.proofs.Common.{◌≡◌, ◌∙◌, ℕ, List, [], ◌∷◌, ◌++◌, refl, ap, subst, sym, append_assoc}
+use Rattle.std.proofs.Common.{◌≡◌, ◌∙◌, ℕ, IsTrue, List, [], ◌∷◌, ◌++◌, refl, ap, subst, sym, append_assoc}
 use Rattle.std.proofs.lemmas.Grind.{flat_map-append}
 use Rattle.std.proofs.lemmas.List.{append-nil}
 use Rattle.ps_bench_report.specs.CaseRows.{case_row}
+use Rattle.ps_bench_frame.specs.Opening.{Source}
+use Rattle.ps_cover.specs.declared.cover.Cover.{Cover}
+use Rattle.ps_model.specs.Network.{Network}
+use Rattle.ps_bench_report.proofs.Adding.{adds_behind}
+use Rattle.ps_bench_report.proofs.Covering.{covered_behind, none_covered}
+use Rattle.ps_bench_report.specs.Covered.{CoversCases}
+use Rattle.ps_bench_report.specs.Digests.{AreDigests, IsDigest, file_rows}
+use Rattle.ps_bench_report.specs.Files.{file_row}
 use Rattle.ps_bench_report.specs.Paged.{Adds, OnWhole, Paged}
 use Rattle.ps_bench_report.specs.Results.{cases_rows, files_rows}
-use Rattle.ps_bench_report.specs.Running.{ShowsCases}
+use Rattle.ps_bench_report.specs.Running.{ShowsCases, ShowsFiles}
 use Rattle.ps_bench_report.specs.Sections.{HasSection, HaveSections, cases_of}
 use Rattle.ps_bench_report.specs.Writing.{piece_text, written}
 use Rattle.ps_bench_report.specs.declared.page.Piece.{Piece}
-use Rattle.ps_bench_test.specs.Testing.{FileRan}
-use Rattle.ps_bench_test.specs.Outcome.{Ran}
+use Rattle.ps_bench_report.specs.declared.running.Pages.{Pages}
+use Rattle.ps_bench_test.specs.Testing.{FileRan, tally_of, tally_of_files}
+use Rattle.ps_bench_test.specs.Outcome.{Ran, counted, passes}
+use Rattle.ps_bench_test.specs.declared.outcome.Tally.{Tally}
 
 -- parts after others
 sections_behind : (rs ss : List Ran) (before middle after : List Piece) →
@@ -21,59 +31,135 @@ sections_behind (r ∷ rs) ss before middle after first second =
     (first.0, first.1, sections_behind rs ss first.0 middle after first.2 second)
 
 -- no case
-pub none_shown : (rows sections : Paged) → ShowsCases [] rows rows sections sections
-none_shown rows sections = record {
-  in_rows = λ whole. (whole, sym (append-nil rows.pieces));
+pub none_shown : (net : Network) (pages : Pages) → ShowsCases net [] pages pages
+none_shown net pages = record {
+  in_front = refl;
+  in_rows = λ whole. (whole, sym (append-nil pages.rows.pieces));
   in_parts = λ whole. (whole, refl);
+  tally = refl;
+  covers = none_covered net pages.cover;
 }
 
 -- one case
-pub one_shown : (r : Ran) (rows rows' sections sections' : Paged) → Adds rows rows' (case_row r) →
-    OnWhole sections sections' (HasSection r) → ShowsCases (r ∷ []) rows rows' sections sections'
-one_shown r rows rows' sections sections' row part = record {
+pub one_shown : (r : Ran) (old : Pages) (rows sections : Paged) (cover : Cover) → Adds old.rows rows (case_row r) →
+    OnWhole old.sections sections (HasSection r) → CoversCases r.net (r ∷ []) old.cover cover →
+    (tally : Tally) → tally ≡ counted old.tally (passes r.outcome) →
+    ShowsCases r.net (r ∷ []) old (record { front = old.front; rows = rows; sections = sections; tally = tally; cover = cover })
+one_shown r old rows sections cover row part covers tally counts = record {
+  in_front = refl;
   in_rows = λ whole.
       let is = row whole in
-      (is.0, is.1 ∙ ap (λ (t : List Piece). rows.pieces ++ t) (sym (append-nil (case_row r))));
+      (is.0, is.1 ∙ ap (λ (t : List Piece). old.rows.pieces ++ t) (sym (append-nil (case_row r))));
   in_parts = λ whole.
       let is = part whole in
-      (is.0, (sections'.pieces, is.1, refl));
+      (is.0, (sections.pieces, is.1, refl));
+  tally = counts;
+  covers = covers;
 }
+
+-- rows and parts after others
+rows_behind : (rs ss : List Ran) (old mid new : Paged) → Adds old mid (cases_rows rs) → Adds mid new (cases_rows ss) →
+    Adds old new (cases_rows (rs ++ ss))
+rows_behind rs ss old mid new first second =
+    subst (λ (p : List Piece). Adds old new p) (sym (flat_map-append case_row rs ss))
+    (adds_behind old mid new (cases_rows rs) (cases_rows ss) first second)
+
+parts_behind : (rs ss : List Ran) (old mid new : Paged) → OnWhole old mid (HaveSections rs) → OnWhole mid new (HaveSections ss) →
+    OnWhole old new (HaveSections (rs ++ ss))
+parts_behind rs ss old mid new first second = λ whole.
+    let two = second whole in
+    let one = first two.0 in
+    (one.0, sections_behind rs ss old.pieces mid.pieces new.pieces one.1 two.1)
+
+tally_behind : (t : Tally) (rs ss : List Ran) → tally_of t (rs ++ ss) ≡ tally_of (tally_of t rs) ss
+tally_behind t [] ss = refl
+tally_behind t (r ∷ rs) ss = tally_behind (counted t (passes r.outcome)) rs ss
 
 -- cases after others
-pub shown_behind : (rs ss : List Ran) (rows mid rows' sections middle sections' : Paged) →
-    ShowsCases rs rows mid sections middle → ShowsCases ss mid rows' middle sections' →
-    ShowsCases (rs ++ ss) rows rows' sections sections'
-shown_behind rs ss rows mid rows' sections middle sections' first second = record {
-  in_rows = λ whole.
-      let two = second.in_rows whole in
-      let one = first.in_rows two.0 in (
-        one.0,
-        two.1 ∙ ap (λ (t : List Piece). t ++ cases_rows ss) one.1 ∙ append_assoc rows.pieces (cases_rows rs) (cases_rows ss)
-            ∙ ap (λ (t : List Piece). rows.pieces ++ t) (sym (flat_map-append case_row rs ss)),
-      );
-  in_parts = λ whole.
-      let two = second.in_parts whole in
-      let one = first.in_parts two.0 in
-      (one.0, sections_behind rs ss sections.pieces middle.pieces sections'.pieces one.1 two.1);
+pub shown_behind : (net : Network) (rs ss : List Ran) (old mid new : Pages) → ShowsCases net rs old mid → ShowsCases net ss mid new →
+    ShowsCases net (rs ++ ss) old new
+shown_behind net rs ss old mid new first second = record {
+  in_front = second.in_front ∙ first.in_front;
+  in_rows = rows_behind rs ss old.rows mid.rows new.rows first.in_rows second.in_rows;
+  in_parts = parts_behind rs ss old.sections mid.sections new.sections first.in_parts second.in_parts;
+  tally = second.tally ∙ ap (λ (t : Tally). tally_of t ss) first.tally ∙ sym (tally_behind old.tally rs ss);
+  covers = covered_behind net rs ss old.cover mid.cover new.cover first.covers second.covers;
 }
 
--- the cases of one more file
-cases_more : (fs : List FileRan) (f : FileRan) → cases_of (fs ++ f ∷ []) ≡ cases_of fs ++ f.ran
-cases_more fs f =
-    flat_map-append (λ (g : FileRan). g.ran) fs (f ∷ []) ∙ ap (λ (t : List Ran). cases_of fs ++ t) (append-nil f.ran)
+-- what files are named by, after others
+digests_behind : (from : Source) (ns ms ds es : List (List ℕ)) → AreDigests from ns ds → AreDigests from ms es → AreDigests from (ns ++ ms) (ds ++ es)
+digests_behind from [] ms [] es first second = second
+digests_behind from [] ms (d ∷ ds) es first second = absurd first
+digests_behind from (n ∷ ns) ms [] es first second = absurd first
+digests_behind from (n ∷ ns) ms (d ∷ ds) es first second = (first.0, digests_behind from ns ms ds es first.1 second)
 
-pub file_shown : (fs : List FileRan) (f : FileRan) (rows mid rows' sections middle sections' : Paged) →
-    ShowsCases (cases_of fs) rows mid sections middle → ShowsCases f.ran mid rows' middle sections' →
-    ShowsCases (cases_of (fs ++ f ∷ [])) rows rows' sections sections'
-file_shown fs f rows mid rows' sections middle sections' first second =
-    subst (λ (rs : List Ran). ShowsCases rs rows rows' sections sections') (sym (cases_more fs f))
-    (shown_behind (cases_of fs) f.ran rows mid rows' sections middle sections' first second)
+file_rows_behind : (from : Source) (ns ms ds es : List (List ℕ)) → AreDigests from ns ds → file_rows (ns ++ ms) (ds ++ es) ≡ file_rows ns ds ++ file_rows ms es
+file_rows_behind from [] ms [] es first = refl
+file_rows_behind from [] ms (d ∷ ds) es first = absurd first
+file_rows_behind from (n ∷ ns) ms [] es first = absurd first
+file_rows_behind from (n ∷ ns) ms (d ∷ ds) es first =
+    ap (λ (t : List Piece). file_row n d ++ t) (file_rows_behind from ns ms ds es first.1)
+    ∙ sym (append_assoc (file_row n d) (file_rows ns ds) (file_rows ms es))
+
+-- no file
+pub none_filed : (from : Source) (pages : Pages) → ShowsFiles from [] [] pages pages
+none_filed from pages = record {
+  digests = [];
+  named = tt;
+  in_front = λ whole. (whole, sym (append-nil pages.front.pieces));
+  in_rows = λ whole. (whole, sym (append-nil pages.rows.pieces));
+  in_parts = λ whole. (whole, refl);
+  tally = refl;
+  covers = none_covered from.net pages.cover;
+}
+
+-- one file, after whose row its cases are shown
+pub one_filed : (from : Source) (name : List ℕ) (f : FileRan) (digest : List ℕ) (old : Pages) (front : Paged) (new : Pages) →
+    IsDigest from name digest → Adds old.front front (file_row name digest) →
+    ShowsCases from.net f.ran (record { front = front; rows = old.rows; sections = old.sections; tally = old.tally; cover = old.cover }) new →
+    ShowsFiles from (name ∷ []) (f ∷ []) old new
+one_filed from name f digest old front new named row shows = record {
+  digests = digest ∷ [];
+  named = (named, tt);
+  in_front = λ whole.
+      let is = row (subst (λ (p : Paged). IsTrue p.whole) shows.in_front whole) in
+      (is.0, ap (λ (p : Paged). p.pieces) shows.in_front ∙ is.1 ∙ ap (λ (t : List Piece). old.front.pieces ++ t) (sym (append-nil (file_row name digest))));
+  in_rows = subst (λ (rs : List Ran). Adds old.rows new.rows (cases_rows rs)) (sym (append-nil f.ran)) shows.in_rows;
+  in_parts = subst (λ (rs : List Ran). OnWhole old.sections new.sections (HaveSections rs)) (sym (append-nil f.ran)) shows.in_parts;
+  tally = subst (λ (rs : List Ran). new.tally ≡ tally_of old.tally rs) (sym (append-nil f.ran)) shows.tally;
+  covers = subst (λ (rs : List Ran). CoversCases from.net rs old.cover new.cover) (sym (append-nil f.ran)) shows.covers;
+}
+
+-- files after others
+pub filed_behind : (from : Source) (ns ms : List (List ℕ)) (fs gs : List FileRan) (old mid new : Pages) → ShowsFiles from ns fs old mid →
+    ShowsFiles from ms gs mid new → ShowsFiles from (ns ++ ms) (fs ++ gs) old new
+filed_behind from ns ms fs gs old mid new first second =
+    let same : cases_of (fs ++ gs) ≡ cases_of fs ++ cases_of gs = flat_map-append (λ (f : FileRan). f.ran) fs gs in
+    record {
+      digests = first.digests ++ second.digests;
+      named = digests_behind from ns ms first.digests second.digests first.named second.named;
+      in_front = subst (λ (p : List Piece). Adds old.front new.front p) (sym (file_rows_behind from ns ms first.digests second.digests first.named))
+          (adds_behind old.front mid.front new.front (file_rows ns first.digests) (file_rows ms second.digests) first.in_front second.in_front);
+      in_rows = subst (λ (rs : List Ran). Adds old.rows new.rows (cases_rows rs)) (sym same)
+          (rows_behind (cases_of fs) (cases_of gs) old.rows mid.rows new.rows first.in_rows second.in_rows);
+      in_parts = subst (λ (rs : List Ran). OnWhole old.sections new.sections (HaveSections rs)) (sym same)
+          (parts_behind (cases_of fs) (cases_of gs) old.sections mid.sections new.sections first.in_parts second.in_parts);
+      tally = second.tally ∙ ap (λ (t : Tally). tally_of t (cases_of gs)) first.tally ∙ sym (tally_behind old.tally (cases_of fs) (cases_of gs))
+          ∙ ap (tally_of old.tally) (sym same);
+      covers = subst (λ (rs : List Ran). CoversCases from.net rs old.cover new.cover) (sym same)
+          (covered_behind from.net (cases_of fs) (cases_of gs) old.cover mid.cover new.cover first.covers second.covers);
+    }
 
 -- the rows of files are those of their cases
 pub rows_of_cases : (fs : List FileRan) → cases_rows (cases_of fs) ≡ files_rows fs
 rows_of_cases [] = refl
 rows_of_cases (f ∷ fs) =
     flat_map-append case_row f.ran (cases_of fs) ∙ ap (λ (t : List Piece). cases_rows f.ran ++ t) (rows_of_cases fs)
+
+-- the total of files is that of their cases
+pub tally_of_cases : (t : Tally) (fs : List FileRan) → tally_of t (cases_of fs) ≡ tally_of_files t fs
+tally_of_cases t [] = refl
+tally_of_cases t (f ∷ fs) = tally_behind t f.ran (cases_of fs) ∙ tally_of_cases (tally_of t f.ran) fs
 
 -- pieces after others, in a text
 pub text_behind : (ps qs : List Piece) (text text' : List ℕ) → text ≡ written ps → text' ≡ text ++ written qs →

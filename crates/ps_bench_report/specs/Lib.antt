@@ -2,6 +2,13 @@
 pub mod Results
 pub mod Sections
 pub mod Asking
+-- its contents, the sentences in it, the numbers of its lines, what names its files, and what is told of an application
+pub mod Contents
+pub mod Texts
+pub mod Numbered
+pub mod Digests
+pub mod Telling
+pub mod Covered
 -- apparatus: how calls end that read files, run their cases, and write a page
 pub mod Running
 -- markup: the names of elements and attributes
@@ -26,4 +33,5 @@ pub mod Sheets
 pub mod Played
 -- what a recorder makes of the outcomes of a run
 pub mod Recorder
+pub mod Taking
 pub mod Filmed

@@ -6,7 +6,9 @@ use Rattle.ps_model.specs.Meaning.{Item, Meaning, nothing}
 use Rattle.ps_model.specs.Network.{Network}
 use Rattle.ps_model.specs.Scanning.{State}
 use Rattle.ps_model.specs.declared.channel.Fault.{Fault}
+use Rattle.ps_bench_report.specs.Covered.{CoversRun}
 use Rattle.ps_bench_report.specs.Marks.{names_shown}
+use Rattle.ps_cover.specs.Applying.{scans_of}
 use Rattle.ps_bench_report.specs.Recording.{Made, Records, made_in}
 use Rattle.ps_bench_report.specs.declared.filming.Kept.{Kept}
 use Rattle.ps_bench_report.specs.declared.recording.Recording.{Recording}
@@ -33,10 +35,13 @@ abbrev pub IsRecordingOf : Network → List Statement → Recording → Type 0
 IsRecordingOf net statements r =
     RecordsItems net (names_shown net statements) (items_of net statements) (faults_in statements) r
 
--- What is kept of a run shows these names in it.
-abbrev pub KeepsItems : Network → List Name → List Item → List Fault → Kept → Type 0
-KeepsItems net names items faults kept = RecordsItems net names items faults kept.recording
+-- What is kept of a run shows these names in it, and knows what its scans show of the application.
+pub record KeepsItems (net : Network) (names : List Name) (items : List Item) (faults : List Fault)
+    (kept : Kept) : Type 0 where
+  pub records : RecordsItems net names items faults kept.recording
+  pub covers : (ws : List State) → Meaning net items ws → CoversRun net (scans_of net nothing items ws) kept.cover
 
 -- What is kept of the run of a case shows the case.
 abbrev pub IsKeptOf : Network → List Statement → Kept → Type 0
-IsKeptOf net statements kept = IsRecordingOf net statements kept.recording
+IsKeptOf net statements kept =
+    KeepsItems net (names_shown net statements) (items_of net statements) (faults_in statements) kept

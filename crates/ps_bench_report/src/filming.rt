@@ -2,16 +2,17 @@
 
 ghost use Rattle.std.specs.Prelude.{◌≡◌, ◌≤◌, false, ℕ, List, IsTrue, Err, IfOk, OnOk, Some};
 ghost use Rattle.ps_base.specs.declared.failing.Refusal.{Refusal as RefusalOf};
-ghost use Rattle.ps_model.specs.Meaning.{Meaning};
+ghost use Rattle.ps_model.specs.Meaning.{Meaning, nothing};
 ghost use Rattle.ps_model.specs.Network.{input_count};
 ghost use Rattle.ps_model.specs.Scanning.{State};
 ghost use Rattle.ps_bench_report.specs.Filmed.{HasRecorded, IsBegun, made_of};
 ghost use Rattle.ps_bench_report.specs.Recording.{film_of};
-ghost use Rattle.ps_cover.specs.Covers.{IsCoverFor};
+ghost use Rattle.ps_cover.specs.Applying.{scans_of};
+ghost use Rattle.ps_cover.specs.Covers.{IsAt, IsCoverFor, Knows};
 ghost use Rattle.ps_runs.specs.Cutting.{TellsFailures};
 ghost use Rattle.ps_runs.specs.Performing.{IsStruckWorldFor};
 ghost use Rattle.ps_runs.specs.Running.{Fits};
-ghost use Rattle.ps_runs.specs.Watching.{IsWatchedFor};
+ghost use Rattle.ps_runs.specs.Watching.{IsWatchedFor, StandsAt};
 ghost use Rattle.ps_bench_names.specs.declared.name.Name.{Name as NameOf};
 ghost use Rattle.ps_trace.specs.Reading.{IsReadingTrace, file_of, input_count_of, items_left, last_of};
 ghost use Rattle.ps_trace.specs.Scans.End.{refused};
@@ -66,6 +67,7 @@ impl<'a> Both<'a> {
     /// What was kept. An error: memory ran out for a scan.
     pub(crate) fn finish(self) -> Result<Kept<'a>, Memory>
         ensures film { IfOk result (λ kept. film_of kept.recording ≡ film_of self.entry.recorder.recording) }
+        ensures cover { IfOk result (λ kept. kept.cover ≡ self.entry.cover) }
         ensures wanting { OnOk result (self.entry.recorder.is_wanting ≡ false) }
     {
         let Both { recorder, cover } = self;
@@ -79,13 +81,15 @@ impl<'a> Both<'a> {
 impl Taker<Watched<StruckWorld>> for Both<'_> {
     ghost use Rattle.std.specs.Prelude.{[]};
     ghost use Rattle.ps_bench_report.specs.Recorder.{recorder_takes};
+    ghost use Rattle.ps_bench_report.specs.Taking.{cover_takes};
     ghost use Rattle.ps_cover.specs.Covers.{IsCoverFor};
 
     ghost fits = { λ net t. IsCoverFor net t.cover };
 
     ghost said = { λ _ _ _ _. [] };
 
-    ghost takes = { λ net old p o new. recorder_takes net old.recorder p o new.recorder };
+    ghost takes = { λ net old p o new. recorder_takes net old.recorder p o new.recorder
+        × cover_takes net old.cover p o new.cover };
 
     fn take_scan<S: Sink>(
         &mut self,
@@ -160,6 +164,13 @@ pub(crate) fn record_items<F: Files>(
         (ws : List State) → Meaning app.now (items_left trace.old text).items ws →
         OnOk result (HasRecorded app.now names
         (made_of app.now runner.old.performer.performer (items_left trace.old text).items ws) runner.new.taker.recorder) }
+    // Where all was done, what was shown is known by the cover.
+    ensures covers { IsTrue (F.tells files.old) → (text : List ℕ) →
+        F.held files.old (file_of trace.old) ≡ Some text → IsReadingTrace trace.old text →
+        StandsAt app.now nothing runner.old.performer.evaluator → IsAt app.now nothing runner.old.taker.cover →
+        (ws : List State) → Meaning app.now (items_left trace.old text).items ws →
+        OnOk result (Knows app.now (scans_of app.now nothing (items_left trace.old text).items ws)
+        runner.old.taker.cover runner.new.taker.cover) }
     // A refusal is that of the trace.
     ensures refuses { IsTrue (F.tells files.old) → (text : List ℕ) →
         F.held files.old (file_of trace.old) ≡ Some text → IsReadingTrace trace.old text →

@@ -62,6 +62,7 @@ fn record_trace<'a>(
 // What was kept of a run that is done.
 fn finished<'a>(runner: Runner<Watched<StruckWorld>, Both<'a>>) -> Result<Option<Kept<'a>>, Memory>
     ensures film { IfOk result (λ got. IsSomeAnd got (λ kept. film_of kept.recording ≡ film_of runner.entry.taker.recorder.recording)) }
+    ensures cover { IfOk result (λ got. IsSomeAnd got (λ kept. kept.cover ≡ runner.entry.taker.cover)) }
     ensures wanting { OnOk result (runner.entry.taker.recorder.is_wanting ≡ false) }
 {
     let Runner { taker, .. } = runner;

@@ -1,25 +1,29 @@
 // `report APP CASES..`: one page for the file on the safety of a machine.
 
-ghost use Rattle.std.specs.Prelude.{◌≡◌, ◌≤◌, [], ◌∷◌, ◌++◌, ℕ, List, Any, IfOk, IfErr, IsErrOf, IsTrue};
+ghost use Rattle.std.specs.Prelude.{◌≡◌, ◌≤◌, ◌∷◌, ◌++◌, ℕ, List, Any, IfOk, IfErr, IsErrOf, IsTrue, Some, option_map};
 ghost use Rattle.ps_bench_cover.specs.Leaving.{Leaves, LeavesOutput, sides};
 ghost use Rattle.ps_bench_frame.specs.Ending.{IsUnread};
 ghost use Rattle.ps_bench_frame.specs.Opening.{source};
+ghost use Rattle.ps_bench_frame.specs.Sourcing.{IsSourceOf};
 ghost use Rattle.ps_bench_words.specs.Seen.{seen};
 ghost use Rattle.ps_model.specs.Typing.{Accepted};
 ghost use Rattle.ps_outside.specs.Outside.{Rose};
-ghost use Rattle.ps_bench_report.specs.Asking.{AnswersReport, Ends, StopsReport};
-ghost use Rattle.ps_bench_report.specs.Running.{EndsPage, MakesPage};
-ghost use Rattle.ps_bench_report.specs.Writing.{written};
+ghost use Rattle.ps_bench_report.specs.Asking.{AnswersReport, Ends, StopsReport, wanted_by};
+ghost use Rattle.ps_bench_report.specs.Contents.{back_pieces, cases_front, front_pieces, title_text};
+ghost use Rattle.ps_bench_report.specs.Running.{BeginsPages, EndsPage, IsTextOf, MakesPage, subject_of};
+ghost use Rattle.ps_bench_trials.specs.Naming.{digest_text};
 
-use crate::names::Tag;
 use crate::page::Page;
 use crate::running::{Bench, Pages, run_files};
-use crate::tables::{add_file, add_foot, add_head, close_table, open_table};
-use crate::texts::{Shown, add_texts};
+use crate::tables::{add_front, open_results, open_sections};
+use crate::texts::{Shown, Texts, add_back, texts_of};
 use crate::writing::add_page;
 use ps_base::{Bytes, Memory};
 use ps_bench_frame::{Opened, Sourced, Status, Stop, open_sourced};
+use ps_bench_test::Tally;
+use ps_bench_test::report::foot;
 use ps_bench_trials::digest_of_text;
+use ps_bench_words::Format;
 use ps_cover::Cover;
 use ps_outside::{Files, Output, write_all};
 use std::alloc::Global;
@@ -36,31 +40,30 @@ pub struct Asked<'a> {
 }
 
 // The title of a page: the one that is given, or one by the name of the application.
-fn title_of(alloc: Global, asked: &Asked<'_>) -> Result<Bytes, Memory> {
-    match asked.title {
+fn title_of(alloc: Global, given: Option<&str>, app: &str) -> Result<Bytes, Memory>
+    ensures { IfOk result (λ title. title ≡ title_text (option_map (λ text. text.now) given) app.now) }
+{
+    match given {
         Some(title) => Bytes::from_slice(alloc, title.as_bytes()),
         None => {
             let mut title = Bytes::from_slice(alloc, b"Report on ")?;
-            title.extend_from_slice(asked.app.as_bytes())?;
+            title.extend_from_slice(app.as_bytes())?;
             Ok(title)
         }
     }
 }
 
-// The beginning of the page: the head, and the first row of the files, which names the application by its text.
-fn front_of(alloc: Global, text: &[u8], asked: &Asked<'_>) -> Result<Page, Memory> {
+// The beginning of the page, with the row of the application, which is named by its text.
+fn front_of(alloc: Global, text: &[u8], asked: &Asked<'_>) -> Result<Page, Memory>
+    ensures { IfOk result (λ page. IsTrue page.whole → page.pieces ≡ front_pieces
+        (title_text (option_map (λ text. text.now) asked.now.title) asked.now.app.now) asked.now.app.now
+        (digest_text text.now)) }
+{
     let digest = digest_of_text(alloc, text)?;
-    let title = title_of(alloc, asked)?;
+    let title = title_of(alloc, asked.title, asked.app)?;
     let mut page = Page::new(alloc);
-    add_head(&mut page, title.as_slice());
-    let columns: [&[u8]; 2] = [b"File", b"SHA-256"];
-    open_table(
-        &mut page,
-        b"Files",
-        b"The application, and the case files",
-        columns.as_slice(),
-    );
-    add_file(&mut page, asked.app.as_bytes(), digest.as_slice());
+    let name = asked.app.as_bytes();
+    add_front(&mut page, title.as_slice(), name, digest.as_slice());
     Ok(page)
 }
 
@@ -70,7 +73,8 @@ fn first_pages<'a>(
     opened: &'a Opened,
     asked: &Asked<'_>,
 ) -> Result<Pages<'a>, Memory>
-    ensures { IfOk result (λ pages. (pages.rows.pieces ≡ []) × (pages.sections.pieces ≡ [])) }
+    ensures { IfOk result (BeginsPages opened.now.app (option_map (λ text. text.now) asked.now.title)
+        asked.now.app.now opened.now.text) }
 {
     let cover = Cover::new(alloc, &opened.app)?;
     let front = front_of(alloc, opened.text.as_slice(), asked)?;
@@ -78,42 +82,32 @@ fn first_pages<'a>(
         front,
         rows: Page::new(alloc),
         sections: Page::new(alloc),
+        tally: Tally::none(),
         cover,
     })
 }
 
-// What stands between the rows of the files and those of the results.
-fn open_results(page: &mut Page) {
-    close_table(page);
-    let columns: [&[u8]; 4] = [b"Case", b"Line", b"Result", b"Scans"];
-    open_table(page, b"Results", b"All cases", columns.as_slice());
-}
-
-// What stands between the rows of the results and the parts of the cases.
-fn between_of(alloc: Global) -> Page {
+// What stands between the rows of the results and the parts of the cases, with this total.
+fn between_of(alloc: Global, total: &[u8]) -> Page
+    ensures { IsTrue result.whole → result.pieces ≡ cases_front total.now }
+{
     let mut page = Page::new(alloc);
-    close_table(&mut page);
-    page.open(Tag::Section);
-    page.element(Tag::H2, b"Cases");
+    open_sections(&mut page, total);
     page
 }
 
-// What stands after the parts of the cases: those that are texts, and the foot.
-fn back_of(alloc: Global, shown: &Shown<'_>) -> Page
-    requires { Accepted shown.now.app.now }
+// What stands after the parts of the cases.
+fn back_of(alloc: Global, texts: &Texts) -> Page
+    ensures { IsTrue result.whole → result.pieces ≡ back_pieces texts.now }
 {
     let mut page = Page::new(alloc);
-    page.close(Tag::Section);
-    add_texts(&mut page, alloc, shown);
-    add_foot(&mut page);
+    add_back(&mut page, texts);
     page
 }
 
 // The text of the pages of a report.
 fn text_of(alloc: Global, pages: &Pages<'_>, between: &Page, back: &Page) -> Result<Bytes, Memory>
-    ensures { IfOk result (λ text. IsTrue pages.now.rows.whole × IsTrue pages.now.sections.whole × (text ≡ written
-        (pages.now.front.pieces ++ pages.now.rows.pieces ++ between.now.pieces ++ pages.now.sections.pieces
-        ++ back.now.pieces))) }
+    ensures { IfOk result (IsTextOf pages.now between.now back.now) }
 {
     let mut text = Bytes::new(alloc);
     add_page(&mut text, &pages.front)?;
@@ -132,10 +126,11 @@ fn report_text(
     pages: &mut Pages<'_>,
 ) -> Result<Bytes, Memory>
     requires { Accepted sourced.now.opened.app }
-    ensures { IfOk result (MakesPage pages.old.rows pages.old.sections) }
+    ensures { IfOk result (MakesPage (subject_of sourced.now asked.now.app.now) pages.old) }
 {
     open_results(&mut pages.front);
-    let between = between_of(alloc);
+    let total = foot(alloc, Format::Text, &pages.tally)?;
+    let between = between_of(alloc, total.as_slice());
     let shown = Shown {
         name: asked.app,
         text: sourced.opened.text.as_slice(),
@@ -143,7 +138,8 @@ fn report_text(
         source: &sourced.source,
         cover: &pages.cover,
     };
-    let back = back_of(alloc, &shown);
+    let texts = texts_of(alloc, &shown)?;
+    let back = back_of(alloc, &texts);
     text_of(alloc, pages, &between, &back)
 }
 
@@ -156,8 +152,8 @@ fn write_report<O: Output>(
     pages: &mut Pages<'_>,
 ) -> Result<Status, Stop>
     requires { Accepted sourced.now.opened.app }
-    ensures ends { EndsPage pages.old.rows pages.old.sections (O.tells out.old) (O.taken out.old) (O.taken out.new)
-        result }
+    ensures ends { EndsPage (subject_of sourced.now asked.now.app.now) pages.old
+        (O.tells out.old) (O.taken out.old) (O.taken out.new) result }
     ensures leaves { LeavesOutput (O.tells out.old) (O.tells out.new) (O.faults out.old) (O.faults out.new) result }
 {
     match report_text(alloc, sourced, asked, pages) {
@@ -177,9 +173,12 @@ fn report_app<F: Files, O: Output>(
     sourced: &Sourced,
     asked: &Asked<'_>,
 ) -> Result<Status, Stop>
-    requires { Accepted sourced.now.opened.app }
+    requires accepted { Accepted sourced.now.opened.app }
+    requires text { IsTrue (F.tells files.old) → F.held files.old asked.now.app.now ≡ Some sourced.now.opened.text }
+    requires source { IsTrue (F.tells files.old) →
+        IsSourceOf (F.held files.old) asked.now.app.now sourced.now.source }
     ensures ends { Ends (source sourced.now.opened.app sourced.now.opened.sizes (F.tells files.old) (F.held files.old))
-        asked.now.app.now (seen asked.now.cases.now) (O.tells out.old) (O.taken out.old) (O.taken out.new) result }
+        (wanted_by asked.now) (O.tells out.old) (O.taken out.old) (O.taken out.new) result }
     ensures leaves { Leaves (Any (λ (name : List ℕ). Rose (F.faults files.old name) (F.faults files.new name))
         (asked.now.app.now ∷ seen asked.now.cases.now))
         (sides (F.tells files.old) (F.held files.old) (F.faults files.old) (O.tells out.old) (O.faults out.old))
@@ -216,9 +215,9 @@ pub fn report<F: Files, O: Output>(
     out: &mut O,
     asked: &Asked<'_>,
 ) -> Result<Status, Stop>
-    ensures answers { IfOk result (AnswersReport asked.now.app.now (seen asked.now.cases.now)
+    ensures answers { IfOk result (AnswersReport (wanted_by asked.now)
         (F.tells files.old) (F.held files.old) (O.tells out.old) (O.taken out.old) (O.taken out.new)) }
-    ensures stops { IfErr result (StopsReport asked.now.app.now (seen asked.now.cases.now)
+    ensures stops { IfErr result (StopsReport (wanted_by asked.now)
         (F.tells files.old) (F.held files.old) (O.tells out.old) (O.taken out.old) (O.taken out.new)) }
     ensures unread { IfErr result (λ stop. IsUnread stop →
         Any (λ (name : List ℕ). Rose (F.faults files.old name) (F.faults files.new name))

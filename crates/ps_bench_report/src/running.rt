@@ -1,6 +1,6 @@
 // The cases of files are run, with a row for the result of each, and what else is shown of them.
 
-ghost use Rattle.std.specs.Prelude.{◌≡◌, [], ◌∷◌, ℕ, List, All, Any, OnOk};
+ghost use Rattle.std.specs.Prelude.{◌≡◌, [], ◌∷◌, ℕ, List, All, Any, IsTrue, OnOk};
 ghost use Rattle.ps_bench_cover.specs.Leaving.{Leaves, sides};
 ghost use Rattle.ps_bench_frame.specs.Opening.{source};
 ghost use Rattle.ps_bench_words.specs.Seen.{seen};
@@ -9,6 +9,9 @@ ghost use Rattle.ps_bench_cases.specs.Runnable.{IsRunnable};
 ghost use Rattle.ps_bench_cases.specs.declared.case.Case.{Case as CaseOf};
 ghost use Rattle.ps_model.specs.Typing.{Accepted};
 ghost use Rattle.ps_outside.specs.Outside.{Rose};
+ghost use Rattle.ps_bench_report.specs.Files.{file_row};
+ghost use Rattle.ps_bench_report.specs.Paged.{Adds};
+ghost use Rattle.ps_bench_trials.specs.Naming.{Names};
 ghost use Rattle.ps_bench_report.specs.Running.{EndsFile, EndsFiles, ReadsFile, ShowsCases, stop_by};
 ghost use Rattle.ps_bench_test.specs.Testing.{AreRan, IsRan};
 ghost use Rattle.ps_bench_test.specs.Outcome.{Ran};
@@ -20,7 +23,7 @@ use ps_base::Memory;
 use ps_base::limits::LARGEST_TRACE;
 use ps_bench_cases::{Case, CaseFile};
 use ps_bench_frame::{HeldText, Opened, Stop, open_written_cases};
-use ps_bench_test::{CaseRun, outcome_of};
+use ps_bench_test::{CaseRun, Tally, outcome_of};
 use ps_bench_trials::name_of_file;
 use ps_cover::Cover;
 use ps_outside::{Files, Output, ReadFail};
@@ -42,6 +45,8 @@ pub(crate) struct Pages<'a> {
     pub(crate) rows: Page,
     /// The parts of the cases.
     pub(crate) sections: Page,
+    /// How many cases were run, and failed.
+    pub(crate) tally: Tally,
     /// What their scans have shown of the application.
     pub(crate) cover: Cover<'a>,
 }
@@ -53,6 +58,7 @@ impl<'a> Drop for Pages<'a> {
             front: _,
             rows: _,
             sections: _,
+            tally: _,
             cover: _,
         } = self;
     }
@@ -66,7 +72,7 @@ struct Named<'a> {
     file: &'a CaseFile,
 }
 
-// Runs a case, with a row for its result.
+// Runs a case, with a row for its result, and counts it.
 fn run_case(
     bench: &Bench<'_>,
     named: &Named<'_>,
@@ -77,7 +83,7 @@ fn run_case(
     requires runnable { IsRunnable bench.now.opened.now.app (whole_case named.now.file.now case.now) }
     ensures { OnOk result ((r : Ran)
         × IsRan bench.now.opened.now.app bench.now.name.now named.now.name.now named.now.file.now case.now r
-        × ShowsCases (r ∷ []) pages.old.rows pages.new.rows pages.old.sections pages.new.sections) }
+        × ShowsCases bench.now.opened.now.app (r ∷ []) pages.old pages.new) }
 {
     let app = &bench.opened.app;
     let outcome = outcome_of(bench.alloc, app, named.file, case)?;
@@ -90,6 +96,7 @@ fn run_case(
         outcome: &outcome,
     };
     add_case(&mut pages.rows, bench.alloc, &run);
+    pages.tally = pages.tally.and(run.passed());
     let total = &mut pages.cover;
     add_section(&mut pages.sections, bench.alloc, named.place, &run, total)?;
     Ok(())
@@ -107,7 +114,7 @@ fn run_cases(
         IsRunnable bench.now.opened.now.app (whole_case named.now.file.now case)) cases.now }
     ensures { OnOk result ((rs : List Ran)
         × AreRan bench.now.opened.now.app bench.now.name.now named.now.name.now named.now.file.now cases.now rs
-        × ShowsCases rs pages.old.rows pages.new.rows pages.old.sections pages.new.sections) }
+        × ShowsCases bench.now.opened.now.app rs pages.old pages.new) }
 {
     for case in cases {
         run_case(bench, named, case, pages)?;
@@ -132,8 +139,10 @@ fn add_named<F: Files>(
     name: &str,
     page: &mut Page,
 ) -> Result<(), ReadFail>
-    ensures { ReadsFile name.now (F.tells files.old) (F.tells files.new) (F.held files.old) (F.held files.new)
+    ensures reads { ReadsFile name.now (F.tells files.old) (F.tells files.new) (F.held files.old) (F.held files.new)
         (F.faults files.old) (F.faults files.new) result }
+    ensures named { OnOk result ((digest : List ℕ) × (IsTrue (F.tells files.old) → Names (F.held files.old name.now) digest)
+        × Adds page.old page.new (file_row name.now digest)) }
 {
     match name_of_file(alloc, files, name) {
         Ok(digest) => {
@@ -157,8 +166,7 @@ fn run_read<F: Files, O: Output>(
     requires { Accepted bench.now.opened.now.app }
     ensures ends { EndsFile
         (source bench.now.opened.now.app bench.now.opened.now.sizes (F.tells files.old) (F.held files.old))
-        bench.now.name.now name.now pages.old.rows pages.new.rows pages.old.sections pages.new.sections
-        (O.tells out.old) (O.taken out.old) (O.taken out.new) result }
+        bench.now.name.now name.now pages.old pages.new (O.tells out.old) (O.taken out.old) (O.taken out.new) result }
     ensures leaves { Leaves (Rose (F.faults files.old name.now) (F.faults files.new name.now))
         (sides (F.tells files.old) (F.held files.old) (F.faults files.old) (O.tells out.old) (O.faults out.old))
         (sides (F.tells files.new) (F.held files.new) (F.faults files.new) (O.tells out.new) (O.faults out.new))
@@ -197,8 +205,7 @@ fn run_file<F: Files, O: Output>(
     requires { Accepted bench.now.opened.now.app }
     ensures ends { EndsFile
         (source bench.now.opened.now.app bench.now.opened.now.sizes (F.tells files.old) (F.held files.old))
-        bench.now.name.now name.now pages.old.rows pages.new.rows pages.old.sections pages.new.sections
-        (O.tells out.old) (O.taken out.old) (O.taken out.new) result }
+        bench.now.name.now name.now pages.old pages.new (O.tells out.old) (O.taken out.old) (O.taken out.new) result }
     ensures leaves { Leaves (Rose (F.faults files.old name.now) (F.faults files.new name.now))
         (sides (F.tells files.old) (F.held files.old) (F.faults files.old) (O.tells out.old) (O.faults out.old))
         (sides (F.tells files.new) (F.held files.new) (F.faults files.new) (O.tells out.new) (O.faults out.new))
@@ -226,8 +233,7 @@ pub(crate) fn run_files<F: Files, O: Output>(
     requires { Accepted bench.now.opened.now.app }
     ensures ends { EndsFiles
         (source bench.now.opened.now.app bench.now.opened.now.sizes (F.tells files.old) (F.held files.old))
-        bench.now.name.now (seen names.now) pages.old.rows pages.new.rows pages.old.sections pages.new.sections
-        (O.tells out.old) (O.taken out.old) (O.taken out.new) result }
+        bench.now.name.now (seen names.now) pages.old pages.new (O.tells out.old) (O.taken out.old) (O.taken out.new) result }
     ensures leaves { Leaves
         (Any (λ (name : List ℕ). Rose (F.faults files.old name) (F.faults files.new name)) (seen names.now))
         (sides (F.tells files.old) (F.held files.old) (F.faults files.old) (O.tells out.old) (O.faults out.old))

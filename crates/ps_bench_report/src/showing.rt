@@ -1,9 +1,10 @@
 // The part of a case in a report, and what its scans show of the application.
 
-ghost use Rattle.std.specs.Prelude.{◌≡◌, OnOk};
+ghost use Rattle.std.specs.Prelude.{◌∷◌, [], OnOk};
 ghost use Rattle.ps_bench_cases.specs.Meant.{whole_case};
 ghost use Rattle.ps_bench_cases.specs.Runnable.{IsRunnable};
 ghost use Rattle.ps_model.specs.Typing.{Accepted};
+ghost use Rattle.ps_bench_report.specs.Covered.{CoversCases};
 ghost use Rattle.ps_bench_report.specs.Paged.{OnWhole};
 ghost use Rattle.ps_bench_report.specs.Sections.{HasDiagram, HasSection};
 ghost use Rattle.ps_bench_test.specs.Outcome.{ran_of};
@@ -40,7 +41,8 @@ fn add_drawn(
 ) -> Result<(), Memory>
     requires accepted { Accepted run.now.app.now }
     requires runnable { IsRunnable run.now.app.now (whole_case run.now.file.now run.now.case.now) }
-    ensures { OnOk result (OnWhole page.old page.new (HasDiagram (ran_of run.now))) }
+    ensures drawn { OnOk result (OnWhole page.old page.new (HasDiagram (ran_of run.now))) }
+    ensures covers { OnOk result (CoversCases run.now.app.now (ran_of run.now ∷ []) total.old total.new) }
 {
     match record_case(alloc, run.app, run.file, run.case)? {
         Some(kept) => {
@@ -66,7 +68,8 @@ pub(crate) fn add_section(
 ) -> Result<(), Memory>
     requires accepted { Accepted run.now.app.now }
     requires runnable { IsRunnable run.now.app.now (whole_case run.now.file.now run.now.case.now) }
-    ensures { OnOk result (OnWhole page.old page.new (HasSection (ran_of run.now))) }
+    ensures shown { OnOk result (OnWhole page.old page.new (HasSection (ran_of run.now))) }
+    ensures covers { OnOk result (CoversCases run.now.app.now (ran_of run.now ∷ []) total.old total.new) }
 {
     let told = case_report(alloc, Format::Text, &Tally::none(), run)?;
     open_case(page, run.case.name.as_str().as_bytes(), told.as_slice());

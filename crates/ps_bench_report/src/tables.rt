@@ -1,8 +1,12 @@
-//! Head, tables, texts and foot of a report.
+//! Head and tables of a report, and parts that are texts.
 
 ghost use Rattle.std.specs.Prelude.{◌≡◌};
+ghost use Rattle.std.specs.List.{flat_map};
 ghost use Rattle.ps_bench_report.specs.Paged.{Adds};
+ghost use Rattle.ps_bench_report.specs.Parts.{pieces_of};
 ghost use Rattle.ps_bench_report.specs.CaseRows.{case_front, case_row, class_of, result_row, word_of};
+ghost use Rattle.ps_bench_report.specs.Contents.{cases_front, front_pieces, head_pieces, results_front};
+ghost use Rattle.ps_bench_report.specs.Contents.{table_back, table_front};
 ghost use Rattle.ps_bench_report.specs.Files.{file_row, text_part};
 ghost use Rattle.ps_bench_test.specs.Outcome.{ran_of};
 
@@ -15,8 +19,10 @@ use ps_bench_frame::pieces::add_place;
 use ps_bench_test::CaseRun;
 use std::alloc::Global;
 
-/// The head of a page with this title, up to its first part.
-pub(crate) fn add_head(page: &mut Page, title: &[u8]) {
+// The head of a page with this title, up to its first part.
+fn add_head(page: &mut Page, title: &[u8])
+    ensures { Adds page.old page.new (head_pieces title.now) }
+{
     add_parts(
         page,
         &[
@@ -27,11 +33,6 @@ pub(crate) fn add_head(page: &mut Page, title: &[u8]) {
             Part::Element(Tag::H1, title),
         ],
     );
-}
-
-/// The foot of a page.
-pub(crate) fn add_foot(page: &mut Page) {
-    add_parts(page, &[Part::End(Tag::Main), Part::Epilogue]);
 }
 
 /// A part that is a text, with its blanks and lines, or one sentence where the text is empty.
@@ -54,13 +55,10 @@ pub(crate) fn add_text<'x>(page: &mut Page, heading: &'x [u8], text: &'x [u8], n
     );
 }
 
-/// A part that is a table, with its heading and these columns, up to its first row.
-pub(crate) fn open_table<'x>(
-    page: &mut Page,
-    heading: &'x [u8],
-    caption: &'x [u8],
-    columns: &[&[u8]],
-) {
+// A part that is a table, with its heading and the heads of its columns, up to its first row.
+fn open_table<'x>(page: &mut Page, heading: &'x [u8], caption: &'x [u8], columns: &'x [Part<'x>])
+    ensures { Adds page.old page.new (table_front heading.now caption.now (flat_map pieces_of columns.now)) }
+{
     add_parts(
         page,
         &[
@@ -72,9 +70,7 @@ pub(crate) fn open_table<'x>(
             Part::Open(Tag::Tr),
         ],
     );
-    for column in columns {
-        add_parts(page, &[Part::Marked(Tag::Th, Key::Scope, b"col", *column)]);
-    }
+    add_parts(page, columns);
     add_parts(
         page,
         &[
@@ -85,14 +81,69 @@ pub(crate) fn open_table<'x>(
     );
 }
 
-/// The end of a table.
-pub(crate) fn close_table(page: &mut Page) {
+// The end of a table.
+fn close_table(page: &mut Page)
+    ensures { Adds page.old page.new table_back }
+{
     add_parts(
         page,
         &[
             Part::End(Tag::Tbody),
             Part::End(Tag::Table),
             Part::End(Tag::Section),
+        ],
+    );
+}
+
+/// What stands before the rows of the case files: the head of a page with this title, and the row of the application of
+/// this name, with what it is named by.
+pub(crate) fn add_front<'x>(page: &mut Page, title: &'x [u8], name: &'x [u8], digest: &'x [u8])
+    ensures { Adds page.old page.new (front_pieces title.now name.now digest.now) }
+{
+    add_head(page, title);
+    open_table(
+        page,
+        b"Files",
+        b"The application, and the case files",
+        &[
+            Part::Marked(Tag::Th, Key::Scope, b"col", b"File"),
+            Part::Marked(Tag::Th, Key::Scope, b"col", b"SHA-256"),
+        ],
+    );
+    add_file(page, name, digest);
+}
+
+/// What stands between the rows of the case files and those of the results.
+pub(crate) fn open_results(page: &mut Page)
+    ensures { Adds page.old page.new results_front }
+{
+    close_table(page);
+    open_table(
+        page,
+        b"Results",
+        b"All cases",
+        &[
+            Part::Marked(Tag::Th, Key::Scope, b"col", b"Case"),
+            Part::Marked(Tag::Th, Key::Scope, b"col", b"Line"),
+            Part::Marked(Tag::Th, Key::Scope, b"col", b"Result"),
+            Part::Marked(Tag::Th, Key::Scope, b"col", b"Scans"),
+        ],
+    );
+}
+
+/// What stands between the rows of the results and the parts of the cases, with this total of the results.
+pub(crate) fn open_sections(page: &mut Page, total: &[u8])
+    ensures { Adds page.old page.new (cases_front total.now) }
+{
+    add_parts(
+        page,
+        &[
+            Part::End(Tag::Tbody),
+            Part::End(Tag::Table),
+            Part::Element(Tag::P, total),
+            Part::End(Tag::Section),
+            Part::Open(Tag::Section),
+            Part::Element(Tag::H2, b"Cases"),
         ],
     );
 }

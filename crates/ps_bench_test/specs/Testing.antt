@@ -1,6 +1,6 @@
 -- What `test` runs, what it tells of it, and its status.
 use Rattle.std.specs.Prelude.{◌≡◌, ◌≤◌, ◌<◌, ◌+◌, ◌↔◌, ℕ, slice_index_or, Bool, IsTrue, List, [], ◌∷◌, ◌++◌}
-use Rattle.std.specs.Prelude.{length, if◌then◌else◌}
+use Rattle.std.specs.Prelude.{length, min, if◌then◌else◌}
 use Rattle.std.specs.List.{list_all}
 use Rattle.std.specs.List.Sorted.{IsNonDecreasingBy}
 use Rattle.ps_bench_frame.specs.Opening.{IsOfText, Source}
@@ -8,7 +8,7 @@ use Rattle.ps_bench_words.specs.declared.asking.Format.{Format}
 use Rattle.ps_bench_cases.specs.declared.case.Case.{Case}
 use Rattle.ps_bench_cases.specs.declared.case.CaseFile.{CaseFile}
 use Rattle.ps_bench_cases.specs.declared.case.Statement.{Statement}
-use Rattle.ps_bench_cases.specs.Meant.{items_of, whole_case}
+use Rattle.ps_bench_cases.specs.Meant.{items_of, times_in, whole_case}
 use Rattle.ps_bench_judge.specs.CaseRuns.{IsJudged, failures_of}
 use Rattle.ps_bench_judge.specs.declared.checks.Failure.{Failure}
 use Rattle.ps_bench_judge.specs.declared.run.CaseOutcome.{CaseOutcome}
@@ -30,10 +30,12 @@ pub record AreToldInOrder (failures : List Failure) : Type 0 where
       (slice_index_or failures k d).line ≡ (slice_index_or failures (k + 1) d).line →
       (slice_index_or failures k d).now ≤ (slice_index_or failures (k + 1) d).now
 
--- What came of a case that means these statements: its failures are those of the run that they mean, in order.
+-- What came of a case that means these statements: its failures are those of the run that they mean, in order, and it
+-- made as many scans as they make, of which 4,294,967,295 are counted at most.
 pub record IsOutcome (net : Network) (statements : List Statement) (outcome : CaseOutcome) : Type 0 where
   pub judged : IsJudged net statements outcome.failures.items
   pub in_order : AreToldInOrder outcome.failures.items
+  pub scans : outcome.scans ≡ min (length (times_in statements)) 4294967295
 
 -- this case of a file of this name was run on an application of this name
 pub record IsRan (net : Network) (app name : List ℕ) (file : CaseFile) (case : Case) (r : Ran) : Type 0 where

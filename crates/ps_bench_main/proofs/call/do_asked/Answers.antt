@@ -14,7 +14,7 @@ use Rattle.ps_bench_test.specs.Stopping.{StopsTesting}
 use Rattle.ps_bench_test.proofs.Stopped.{err_is}
 use Rattle.ps_bench_cover.specs.Asking.{AnswersCover, StopsCover}
 use Rattle.ps_bench_campaign.specs.Summing.{AnswersSum, StopsSum}
-use Rattle.ps_bench_main.specs.Answering.{Answers, IsUnreadBy, Stops, covered_of, wanted_of}
+use Rattle.ps_bench_main.specs.Answering.{Answers, IsUnreadBy, Stops, covered_of, reported_of, wanted_of}
 use Rattle.ps_bench_main.proofs.Risen.{risen_any}
 use Rattle.ps_bench_watch.specs.Asking.{AnswersWatch, StopsWatch}
 use Rattle.ps_bench_main.proofs.call.do_asked.Goals as goal
@@ -219,7 +219,7 @@ returns-in-Report-clause-answers g c =
     subst (λ (asked : Asked). IfOk c.report.result (λ status. Answers (asked_seen asked) (fed (g.I.Stream.tells c.args.input.now) (g.I.Stream.coming c.args.input.now) (g.I.Stream.coming c.args.input.now))
     (g.F.Files.tells c.args.files.now) (g.F.Files.held c.args.files.now)
     status (g.O.Sink.tells c.args.out.now) (g.O.Sink.taken c.args.out.now) (g.O.Sink.taken c.report.new.out))) (sym c.in-Report.is)
-    (subst (λ (cases : List (Bor (List ℕ))). IfOk c.report.result (λ status. AnswersReport c.in-Report.app.now (seen cases) (g.F.Files.tells c.args.files.now) (g.F.Files.held c.args.files.now)
+    (subst (λ (cases : List (Bor (List ℕ))). IfOk c.report.result (λ status. AnswersReport (reported_of c.in-Report.app.now (seen cases) (option_map (λ (text : Bor (List ℕ)). text.now) c.in-Report.title)) (g.F.Files.tells c.args.files.now) (g.F.Files.held c.args.files.now)
     (g.O.Sink.tells c.args.out.now) (g.O.Sink.taken c.args.out.now) (g.O.Sink.taken c.report.new.out) status))
     c.as_slice-in-Report.ensures.value c.report.ensures.answers)
 
@@ -228,7 +228,7 @@ returns-in-Report-clause-stops g c =
     subst (λ (asked : Asked). IfErr c.report.result (λ stop. Stops (asked_seen asked) (fed (g.I.Stream.tells c.args.input.now) (g.I.Stream.coming c.args.input.now) (g.I.Stream.coming c.args.input.now))
     (g.F.Files.tells c.args.files.now) (g.F.Files.held c.args.files.now)
     stop (g.O.Sink.tells c.args.out.now) (g.O.Sink.taken c.args.out.now) (g.O.Sink.taken c.report.new.out))) (sym c.in-Report.is)
-    (subst (λ (cases : List (Bor (List ℕ))). IfErr c.report.result (λ stop. StopsReport c.in-Report.app.now (seen cases) (g.F.Files.tells c.args.files.now) (g.F.Files.held c.args.files.now)
+    (subst (λ (cases : List (Bor (List ℕ))). IfErr c.report.result (λ stop. StopsReport (reported_of c.in-Report.app.now (seen cases) (option_map (λ (text : Bor (List ℕ)). text.now) c.in-Report.title)) (g.F.Files.tells c.args.files.now) (g.F.Files.held c.args.files.now)
     (g.O.Sink.tells c.args.out.now) (g.O.Sink.taken c.args.out.now) (g.O.Sink.taken c.report.new.out) stop))
     c.as_slice-in-Report.ensures.value c.report.ensures.stops)
 

@@ -1,7 +1,11 @@
 use Rattle.std.proofs.Common.{◌≡◌, ◌∙◌, Err, refl, sym, ap, subst}
 use Rattle.std.specs.Prelude.{OnOk}
 use Rattle.ps_model.specs.Meaning.{nothing}
+use Rattle.ps_bench_cover.proofs.Begun.{begun_unseen, begun_whole}
 use Rattle.ps_bench_report.proofs.Played.{ends_whole, keeps_items}
+use Rattle.ps_cover.specs.Applying.{scans_of}
+use Rattle.ps_cover.specs.Covers.{IsAt, Knows}
+use Rattle.ps_cover.specs.declared.cover.Cover.{Cover}
 use Rattle.ps_bench_report.specs.Recorder.{IsFresh}
 use Rattle.ps_bench_report.specs.declared.filming.Both.{Both}
 use Rattle.ps_bench_report.specs.Filmed.{HasRecorded, IsBegun, made_of}
@@ -35,11 +39,23 @@ returns-in-Ok c = record {
         evaluator = subst (λ (w : Watched StruckWorld). StandsAt net nothing w.evaluator) (sym performer_is) c.in_ok-performer.ensures.first;
         fresh = subst (IsFresh names) (sym (ap (λ (b : Both). b.recorder) c.in_ok-runner.ensures.taker)) fresh;
       } in
+      let cover = c.in_ok-cover.cover in
+      let is = c.in_ok-cover.ensures in
+      let cover_is : ran.taker.cover ≡ cover = ap (λ (b : Both). b.cover) c.in_ok-runner.ensures.taker in
       keeps_items net names items c.args.faults ran.performer.performer c.record_items.new.runner.taker.recorder c.finished.result begins faults_are
       (λ ws means.
       subst (λ r. OnOk r (HasRecorded net names (made_of net ran.performer.performer items ws) c.record_items.new.runner.taker.recorder)) c.in-Ok.is
       (c.record_items.ensures.records refl text refl reading names begun ws means))
-      c.finished.ensures.wanting c.finished.ensures.film;
+      c.finished.ensures.wanting c.finished.ensures.film c.record_items.new.runner.taker.cover c.finished.ensures.cover
+      (λ ws means.
+      record {
+        begun = cover;
+        whole = begun_whole net cover is.points is.none_off is.none_on;
+        unseen = begun_unseen net cover is.points is.none_off is.none_on;
+        knows = subst (λ (t : Cover). Knows net (scans_of net nothing items ws) t c.record_items.new.runner.taker.cover) cover_is
+            (subst (λ r. OnOk r (Knows net (scans_of net nothing items ws) ran.taker.cover c.record_items.new.runner.taker.cover)) c.in-Ok.is
+            (c.record_items.ensures.covers refl text refl reading begun.evaluator (subst (IsAt net nothing) (sym cover_is) is.first) ws means));
+      });
 }
 
 pub returns : goal.returns

@@ -4,7 +4,7 @@ use Rattle.ps_bench_cover.specs.Leaving.{sides}
 use Rattle.ps_bench_frame.specs.Opening.{Source, source}
 use Rattle.ps_bench_words.specs.Seen.{seen}
 use Rattle.ps_outside.specs.Outside.{Rose}
-use Rattle.ps_bench_report.specs.Asking.{Ends}
+use Rattle.ps_bench_report.specs.Asking.{Ends, wanted_by}
 use Rattle.ps_bench_report.proofs.Coming.{moved, reported, unread_behind, written_behind}
 use Rattle.ps_bench_report.proofs.Reading.{memory_leaves}
 use Rattle.ps_bench_report.proofs.reporting.report_app.Goals as goal
@@ -22,8 +22,9 @@ pub returns-in-Ok-run_files : goal.returns-in-Ok-run_files
 returns-in-Ok-run_files g c =
     let net = c.args.sourced.now.opened.app in
     let sizes = c.args.sourced.now.opened.sizes in
-    let app = c.args.asked.now.app.now in
-    let names = seen c.args.asked.now.cases.now in
+    let wanted = wanted_by c.args.asked.now in
+    let app = wanted.app in
+    let names = wanted.names in
     let r = g.F.Files.tells c.args.files.now in
     let h = g.F.Files.held c.args.files.now in
     let f = g.F.Files.faults c.args.files.now in
@@ -40,9 +41,9 @@ returns-in-Ok-run_files g c =
     let pages = c.run_files.new.pages in
     let after = g.O.Sink.taken c.write_report.new.out in
     record {
-      ends = moved (λ (x : Source) tells taken. Ends x app names tells taken after ended) net sizes r r h h t t' b b' refl refl filed.stays.telling ran.0
-          (reported (source net sizes r h) app names pages.rows c.in-Ok.pages.rows pages.sections c.in-Ok.pages.sections ran.1 t' b' after ended
-          ran.2 ran.3 c.in-Ok.ensures.0 c.in-Ok.ensures.1 c.write_report.ensures.ends);
+      ends = moved (λ (x : Source) tells taken. Ends x wanted tells taken after ended) net sizes r r h h t t' b b' refl refl filed.stays.telling ran.0
+          (reported (source net sizes r h) wanted c.args.sourced.now.source c.args.sourced.now.opened.text c.requires.text c.requires.source
+          c.in-Ok.pages pages c.in-Ok.ensures ran.1 ran.2 ran.3 t' b' after ended c.write_report.ensures.ends);
       leaves = written_behind (Any (λ (name : List ℕ). Rose (f name) (f' name)) (app ∷ names)) r (g.F.Files.tells c.run_files.new.files) h
           (g.F.Files.held c.run_files.new.files) f f' t t' (g.O.Sink.tells c.write_report.new.out) w w' (g.O.Sink.faults c.write_report.new.out) ended
           filed.stays c.write_report.ensures.leaves;

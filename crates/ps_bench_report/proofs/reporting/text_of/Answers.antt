@@ -13,8 +13,12 @@ returns c =
     let one = c.in_ok-add_page.ensures.text ∙ ap (λ x. x ++ written p) c.new-text.ensures in
     let two = text_behind p q _ _ one c.in_ok-add_page-2.ensures.text in
     let three = text_behind (p ++ q) r _ _ two c.in_ok-add_page-3.ensures.text in
-    let four = text_behind ((p ++ q) ++ r) s _ _ three c.in_ok-add_page-4.ensures.text in (
-      c.in_ok-add_page-2.ensures.whole,
-      c.in_ok-add_page-4.ensures.whole,
-      text_behind (((p ++ q) ++ r) ++ s) t _ _ four c.in_ok-add_page-5.ensures.text ∙ ap written (pages_behind p q r s t),
-    )
+    let four = text_behind ((p ++ q) ++ r) s _ _ three c.in_ok-add_page-4.ensures.text in
+    record {
+      front = c.in_ok-add_page.ensures.whole;
+      rows = c.in_ok-add_page-2.ensures.whole;
+      between_whole = c.in_ok-add_page-3.ensures.whole;
+      sections = c.in_ok-add_page-4.ensures.whole;
+      back_whole = c.in_ok-add_page-5.ensures.whole;
+      is = text_behind (((p ++ q) ++ r) ++ s) t _ _ four c.in_ok-add_page-5.ensures.text ∙ ap written (pages_behind p q r s t);
+    }

@@ -1,5 +1,5 @@
-use Rattle.std.proofs.Common.{refl}
-use Rattle.ps_bench_test.specs.Outcome.{Ran}
+use Rattle.std.proofs.Common.{◌∙◌, refl, ap}
+use Rattle.ps_bench_test.specs.Outcome.{Ran, counted}
 use Rattle.ps_bench_report.proofs.Shown.{one_shown}
 use Rattle.ps_bench_report.proofs.running.run_case.Goals as goal
 
@@ -15,5 +15,6 @@ returns c =
     } in (
       r,
       record { net_is = refl; app_is = refl; name_is = refl; file_is = refl; case_is = refl; outcome = c.in_ok-outcome.ensures },
-      one_shown r c.args.pages.now.rows c.add_case.new.page c.args.pages.now.sections c.add_section.new.page c.add_case.ensures c.in_ok-add_section.ensures,
+      one_shown r c.args.pages.now c.add_case.new.page c.add_section.new.page c.add_section.new.total c.add_case.ensures c.in_ok-add_section.ensures.shown c.in_ok-add_section.ensures.covers
+          c.and.result (c.and.ensures ∙ ap (counted c.args.pages.now.tally) c.passed.ensures),
     )

@@ -8,4 +8,4 @@ abbrev pub invariant-loop-case : goal.invariant-loop-case
 invariant-loop-case l =
     (rs : List Ran)
     × AreRan l.bench.opened.now.app l.bench.name.now l.named.name.now l.named.file.now (take l.case-index l.cases) rs
-    × ShowsCases rs l.fn.pages.rows l.pages.rows l.fn.pages.sections l.pages.sections
+    × ShowsCases l.bench.opened.now.app rs l.fn.pages l.pages

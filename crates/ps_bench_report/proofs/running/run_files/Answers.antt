@@ -12,12 +12,17 @@ use Rattle.ps_bench_test.specs.Testing.{AreRanFiles, IsRanFile}
 use Rattle.ps_bench_test.proofs.Running.{are_more_files, seen_more}
 use Rattle.ps_bench_test.proofs.Stopped.{word_any}
 use Rattle.ps_bench_report.proofs.Coming.{moved}
-use Rattle.ps_bench_report.proofs.Shown.{file_shown, none_shown}
+use Rattle.ps_bench_report.specs.Running.{ShowsFiles}
+use Rattle.ps_bench_report.proofs.Shown.{filed_behind, none_filed}
 use Rattle.ps_bench_report.proofs.running.run_files.Goals as goal
 
 pub loop-name-init : goal.loop-name-init
 loop-name-init g c = record {
-  ran = ([], tt, none_shown c.args.pages.now.rows c.args.pages.now.sections);
+  ran = (
+    [],
+    tt,
+    none_filed (source c.args.bench.now.opened.now.app c.args.bench.now.opened.now.sizes (g.F.Files.tells c.args.files.now) (g.F.Files.held c.args.files.now)) c.args.pages.now,
+  );
   place = refl;
   unsaid = refl;
   stays = same (sides (g.F.Files.tells c.args.files.now) (g.F.Files.held c.args.files.now) (g.F.Files.faults c.args.files.now) (g.O.Sink.tells c.args.out.now) (g.O.Sink.faults c.args.out.now));
@@ -57,8 +62,10 @@ loop-name-preserved g c =
         subst (λ ns. AreRanFiles from word ns (old.0 ++ new.1 ∷ [])) (sym (seen_more names place none below))
             (are_more_files from word (seen (take place names)) name old.0 new.1 old.1
             (moved (λ (x : Source) tells taken. IsRanFile x word name new.1) net sizes r r' h h' t t' b b' inv.stays.reading inv.stays.kept inv.stays.telling inv.unsaid new.2)),
-        file_shown old.0 new.1 c.args.pages.now.rows c.loop-name.pages.rows c.run_file.new.pages.rows
-            c.args.pages.now.sections c.loop-name.pages.sections c.run_file.new.pages.sections old.2 new.3,
+        subst (λ ns. ShowsFiles from ns (old.0 ++ new.1 ∷ []) c.args.pages.now c.run_file.new.pages) (sym (seen_more names place none below))
+            (filed_behind from (seen (take place names)) (name ∷ []) old.0 (new.1 ∷ []) c.args.pages.now c.loop-name.pages c.run_file.new.pages old.2
+            (moved (λ (x : Source) tells taken. ShowsFiles x (name ∷ []) (new.1 ∷ []) c.loop-name.pages c.run_file.new.pages) net sizes r r' h h' t t' b b'
+            inv.stays.reading inv.stays.kept inv.stays.telling inv.unsaid new.3)),
       );
       place = ap (λ n. n + 1) inv.place;
       unsaid = new.0 ∙ inv.unsaid;
@@ -114,6 +121,11 @@ returns g c =
     let old = inv.ran in
     let all : length names ≤ i = omega arith in
     record {
-      ends = (inv.unsaid, old.0, subst (λ ns. AreRanFiles from c.args.bench.now.name.now (seen ns) old.0) (take_all i names all) old.1, old.2);
+      ends = (
+        inv.unsaid,
+        old.0,
+        subst (λ ns. AreRanFiles from c.args.bench.now.name.now (seen ns) old.0) (take_all i names all) old.1,
+        subst (λ ns. ShowsFiles from (seen ns) old.0 c.args.pages.now c.loop-name.pages) (take_all i names all) old.2,
+      );
       leaves = done (Any (λ (n : List ℕ). Rose (f n) (f' n)) (seen names)) before after tt inv.stays;
     }

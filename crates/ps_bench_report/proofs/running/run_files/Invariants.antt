@@ -2,8 +2,7 @@ use Rattle.std.proofs.Common.{◌≡◌, List, take}
 use Rattle.ps_bench_cover.specs.Leaving.{Stays, sides}
 use Rattle.ps_bench_frame.specs.Opening.{source}
 use Rattle.ps_bench_words.specs.Seen.{seen}
-use Rattle.ps_bench_report.specs.Running.{ShowsCases}
-use Rattle.ps_bench_report.specs.Sections.{cases_of}
+use Rattle.ps_bench_report.specs.Running.{ShowsFiles}
 use Rattle.ps_bench_test.specs.Testing.{AreRanFiles, FileRan}
 use Rattle.ps_bench_report.proofs.running.run_files.Given as goal
 
@@ -12,7 +11,7 @@ invariant-loop-name g l =
     record {
       ran : (fs : List FileRan)
           × AreRanFiles (source l.bench.opened.now.app l.bench.opened.now.sizes (g.F.Files.tells l.fn.files) (g.F.Files.held l.fn.files)) l.bench.name.now (seen (take l.name-index l.names)) fs
-          × ShowsCases (cases_of fs) l.fn.pages.rows l.pages.rows l.fn.pages.sections l.pages.sections;
+          × ShowsFiles (source l.bench.opened.now.app l.bench.opened.now.sizes (g.F.Files.tells l.fn.files) (g.F.Files.held l.fn.files)) (seen (take l.name-index l.names)) fs l.fn.pages l.pages;
       place : l.place ≡ l.name-index;
       unsaid : g.O.Sink.taken l.out ≡ g.O.Sink.taken l.fn.out;
       stays : Stays (sides (g.F.Files.tells l.fn.files) (g.F.Files.held l.fn.files) (g.F.Files.faults l.fn.files) (g.O.Sink.tells l.fn.out) (g.O.Sink.faults l.fn.out))

@@ -1,4 +1,4 @@
-use Rattle.std.proofs.Common.{Err, ap, refl, subst}
+use Rattle.std.proofs.Common.{◌∙◌, ℕ, List, Option, Err, ap, refl, subst}
 use Rattle.ps_bench_cover.proofs.Leaving.{both, done}
 use Rattle.ps_bench_cover.specs.Leaving.{Stays, sides}
 use Rattle.ps_bench_frame.proofs.Stopped.{rose_since}
@@ -7,6 +7,8 @@ use Rattle.ps_bench_frame.specs.declared.ending.Stop.TheVariants.{UnreadCases}
 use Rattle.ps_outside.specs.Outside.{Rose}
 use Rattle.ps_bench_test.specs.Testing.{AreRan}
 use Rattle.ps_bench_report.proofs.Reading.{cases_written, memory_leaves, read_stays, unread_leaves}
+use Rattle.ps_bench_report.proofs.Shown.{one_filed}
+use Rattle.ps_bench_trials.specs.Naming.{Names}
 use Rattle.ps_bench_report.proofs.Stopped.{placed_leaves, stops_placed, unnamed_stops}
 use Rattle.ps_bench_report.proofs.running.run_read.Goals as goal
 
@@ -61,13 +63,13 @@ returns-in-Err-add_named g c =
     let from = source c.args.bench.now.opened.now.app c.args.bench.now.opened.now.sizes r h in
     let stays : Stays before after = both before opened after
     (record { reading = is.reading; kept = is.kept; reads = is.reads; telling = is.telling; writes = is.writes })
-    (read_stays name r' r'' h' h'' f' f'' t' w' c.add_named.result c.add_named.ensures) in
+    (read_stays name r' r'' h' h'' f' f'' t' w' c.add_named.result c.add_named.ensures.reads) in
     let place = c.args.place in
     let fail = c.in-Err-add_named.fail in
     record {
       ends = unnamed_stops from name place fail c.stop_by.result t taken taken' c.stop_by.ensures is.unsaid;
       leaves = unread_leaves (Rose (f name) (f'' name)) before after (UnreadCases place) c.stop_by.result fail c.stop_by.ensures (cases_written place) stays
-          (λ at. rose_since (f name) (f' name) (f'' name) (is.reads name) (c.in-Err-add_named.ensures.fault (ap Err at)));
+          (λ at. rose_since (f name) (f' name) (f'' name) (is.reads name) (c.in-Err-add_named.ensures.reads.fault (ap Err at)));
     }
 
 pub returns-in-Ok-run_cases : goal.returns-in-Ok-run_cases
@@ -91,8 +93,10 @@ returns-in-Ok-run_cases g c =
     let after = sides r'' h'' f'' t' w' in
     let stays : Stays before after = both before opened after
     (record { reading = is.reading; kept = is.kept; reads = is.reads; telling = is.telling; writes = is.writes })
-    (read_stays name r' r'' h' h'' f' f'' t' w' c.add_named.result c.add_named.ensures) in
+    (read_stays name r' r'' h' h'' f' f'' t' w' c.add_named.result c.add_named.ensures.reads) in
     let ran = c.in-Ok-run_cases.ensures in
+    let named = c.in-Ok-add_named.ensures.named in
+    let from = source c.args.bench.now.opened.now.app c.args.bench.now.opened.now.sizes r h in
     record {
       ends = (
         is.unsaid,
@@ -102,7 +106,8 @@ returns-in-Ok-run_cases g c =
           of_text = is.of_text;
           ran = subst (λ cs. AreRan c.args.bench.now.opened.now.app c.args.bench.now.name.now name c.in-Ok.file cs ran.0) c.as_slice.ensures ran.1;
         },
-        ran.2,
+        one_filed from name (record { name = name; file = c.in-Ok.file; ran = ran.0 }) named.0 c.args.pages.now c.add_named.new.page c.run_cases.new.pages
+            (λ tells. subst (λ (held : List ℕ → Option (List ℕ)). Names (held name) named.0) is.kept (named.1 (is.reading ∙ tells))) named.2 ran.2,
       );
       leaves = done (Rose (f name) (f'' name)) before after c.in-Ok-run_cases.field-0 stays;
     }
@@ -128,5 +133,5 @@ returns g c =
     let after = sides r'' h'' f'' t' w' in
     let stays : Stays before after = both before opened after
     (record { reading = is.reading; kept = is.kept; reads = is.reads; telling = is.telling; writes = is.writes })
-    (read_stays name r' r'' h' h'' f' f'' t' w' c.add_named.result c.add_named.ensures) in
+    (read_stays name r' r'' h' h'' f' f'' t' w' c.add_named.result c.add_named.ensures.reads) in
     record { ends = λ told. is.unsaid; leaves = memory_leaves (Rose (f name) (f'' name)) before after stays }

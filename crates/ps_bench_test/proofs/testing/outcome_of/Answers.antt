@@ -7,4 +7,5 @@ returns c =
       judged = λ setup of ws means p.
           c.in_ok-failures.ensures.same p ∙ c.in_ok-outcome.ensures.judged setup of ws means p;
       in_order = c.in_ok-failures.ensures.ordered;
+      scans = c.in_ok-outcome.ensures.scans;
     }

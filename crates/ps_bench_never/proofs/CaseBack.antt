@@ -7,14 +7,12 @@ use Rattle.std.specs.List.{All, filter, list_all, list_any, range_with_len}
 use Rattle.std.specs.Char.{is_ascii_digit, to_ascii_uppercase}
 use Rattle.std.specs.Str.{bytes_eq}
 use Rattle.std.specs.Str.Lines.{strip_carriage_return}
-use Rattle.std.proofs.lemmas.Grind.{common_steps}
 use Rattle.std.proofs.lemmas.Bool.Decides.{nat_tests}
 use Rattle.std.proofs.lemmas.Fmt.{digits_decimal}
-use Rattle.std.proofs.lemmas.List.{append-nil, drop_all, get_or-map, drop_more, length-append, length-replicate}
+use Rattle.std.proofs.lemmas.List.{append-nil, drop_all, get_or-map, drop_more, length-replicate}
 use Rattle.std.proofs.lemmas.List.Folds.{list_all-append}
-use Rattle.ps_lines.specs.Lines.{HasNoLineFeed, Line, RawLine, kept_of, lines_from, raw_lines}
+use Rattle.ps_lines.specs.Lines.{HasNoLineFeed, Line, RawLine, lines_from, raw_lines}
 use Rattle.ps_lines.specs.Lines.Line.{Kept, Large, Long}
-use Rattle.ps_lines.specs.Lines.RawLine.{Ended}
 use Rattle.ps_lines.proofs.Cut.{raw_lines-ended}
 use Rattle.ps_model.specs.Meaning.{Item}
 use Rattle.ps_model.specs.Meaning.Item.{scan}
@@ -41,9 +39,8 @@ use Rattle.ps_bench_names.specs.Words.{counted, words_in}
 use Rattle.ps_bench_names.specs.declared.name.Setting.{Setting}
 use Rattle.ps_bench_rules.specs.declared.rules.Condition.{Condition}
 use Rattle.ps_bench_cases.proofs.ReadBack.{both_hold, digits_of_traces}
-use Rattle.ps_bench_cases.specs.File.{act_after, bytes_after, case_after, case_begun, case_judged, cases_of, closed_by, coming, ended_by, fault_left, file_ended, lines_read, no_lines, said_after, stated, unless_large, unless_refused}
-use Rattle.ps_bench_cases.specs.Line.{alone, asked, case_name, checks_said, expect_of, expect_now, expect_said, line_said, said_by_words}
-use Rattle.ps_bench_cases.specs.Line.Said.{begins}
+use Rattle.ps_bench_cases.specs.File.{act_after, bytes_after, case_begun, case_judged, cases_of, closed_by, coming, ended_by, fault_left, lines_read, no_lines, said_after, stated, unless_large, unless_refused}
+use Rattle.ps_bench_cases.specs.Line.{alone, asked, case_name, checks_said, expect_of, expect_now, line_said, said_by_words}
 use Rattle.ps_bench_cases.specs.Parts.{both}
 use Rattle.ps_bench_cases.specs.Words.{number_said}
 use Rattle.ps_bench_cases.specs.Meant.{items_from, items_made, items_of, set_by}
@@ -63,7 +60,7 @@ use Rattle.ps_bench_cases.specs.declared.rule.CaseRule.{CaseRule}
 use Rattle.ps_bench_cases.specs.declared.rule.CaseRule.TheVariants.{K5}
 use Rattle.ps_trace.specs.Faults.{first_of, others_of}
 use Rattle.ps_trace.specs.Words.{words}
-use Rattle.ps_bench_never.specs.Casing.{case_text, change_text, set_text, changes_text, expect_text, expected, gap_before, inputs_at, inputs_before, is_of_before, line_text, scan_line, scan_text}
+use Rattle.ps_bench_never.specs.Casing.{case_text, change_text, set_text, changes_text, expect_text, expected, gap_before, inputs_at, inputs_before, is_of_before, line_text, scan_line}
 use Rattle.ps_bench_never.specs.Pieces.{condition_text, instance_text, name_text, pin_text, sign, signal_text, value_text, values_text}
 use Rattle.ps_bench_never.specs.SameTelling.{outputs_text}
 use Rattle.ps_bench_never.specs.ReadBack.{CaseIsRead, DifferenceIsRead, FoundIsRead, HasPlainNames, HasShortValues, IsOneCaseOf, is_of_name, is_one_line}

@@ -1,7 +1,7 @@
 -- A scan of a case is read as it was written.
-use Rattle.std.proofs.Common.{◌≡◌, ◌≢◌, ◌≤◌, ◌<◌, ◌+◌, ◌^◌, ◌++◌, ◌∙◌, ◌==◌, ◌&&◌, ◌||◌, inl, inr, ℕ, zero, suc, List, [], ◌∷◌, Bool, true, false, not, Option, Some, None, Result, Ok, Err, if◌then◌else◌, length, map, take, drop, get_or, fold, flat_map, codes, decimal, nat_lt, refl, sym, ap, subst, arith, below_more, get_or-set_other, get_or-set_same, append_assoc}
-use Rattle.std.specs.Prelude.{slice_index_or, slice_set}
-use Rattle.std.specs.List.{All, after_first, before_first, list_all, list_any, position_from, position_or_len, prefix_len, range_with_len}
+use Rattle.std.proofs.Common.{◌≡◌, ◌≢◌, ◌≤◌, ◌<◌, ◌+◌, ◌^◌, ◌++◌, ◌∙◌, ◌==◌, ◌&&◌, ◌||◌, ℕ, zero, suc, List, [], ◌∷◌, Bool, true, false, not, Some, None, Result, Ok, if◌then◌else◌, length, map, take, drop, get_or, fold, flat_map, decimal, nat_lt, refl, sym, ap, subst, arith, below_more, get_or-set_other, get_or-set_same, append_assoc}
+use Rattle.std.specs.Prelude.{slice_set}
+use Rattle.std.specs.List.{list_all, list_any, position_from, position_or_len, prefix_len, range_with_len}
 use Rattle.std.specs.Char.{is_ascii_digit}
 use Rattle.std.proofs.lemmas.Grind.{common_steps}
 use Rattle.std.proofs.lemmas.Bool.Decides.{nat_tests}
@@ -16,17 +16,17 @@ use Rattle.ps_model.specs.declared.channel.ImageSizes.{ImageSizes}
 use Rattle.ps_trace.specs.Words.{before_words, is_blank, number_of, onto_word, words}
 use Rattle.ps_trace.proofs.HeaderLemmas.{same_name}
 use Rattle.ps_bench_names.specs.Names.{has_equals, input_in, is_equals, name_part, number_named, signal_names, value_part}
-use Rattle.ps_bench_names.specs.Words.{counted, is_comment, is_digits, words_in}
+use Rattle.ps_bench_names.specs.Words.{counted, is_digits, words_in}
 use Rattle.ps_bench_names.specs.declared.name.Setting.{Setting}
 use Rattle.ps_bench_cases.proofs.ReadBack.{both_hold, digits_of_traces, number_back}
 use Rattle.ps_bench_cases.specs.File.{act_after, said_after}
 use Rattle.ps_bench_cases.specs.Stands.{one_scan, unless_over}
 use Rattle.ps_bench_cases.specs.Line.{line_said, said_by_words, settings_said}
-use Rattle.ps_bench_cases.specs.Meant.{set_by, with_setting}
+use Rattle.ps_bench_cases.specs.Meant.{set_by}
 use Rattle.ps_bench_cases.specs.Parts.{and_then, both}
 use Rattle.ps_bench_cases.specs.Words.{number_said, setting_said}
 use Rattle.ps_bench_cases.specs.declared.rule.CaseRule.{CaseRule}
-use Rattle.ps_bench_never.specs.Casing.{change_text, changes_text, scan_line}
+use Rattle.ps_bench_never.specs.Casing.{change_text, scan_line}
 use Rattle.ps_bench_never.specs.Pieces.{signal_text}
 use Rattle.ps_bench_never.specs.ReadBack.{HasPlainNames, IsReadAsScan, ScanIsRead, is_of_name, with_these}
 
@@ -181,8 +181,12 @@ module _ (net : Network) (sound : IsSound net) (plain_names : HasPlainNames net)
 
   declared_size : length declared ≡ declared_count net
   declared_size =
-      omega (arith, length-map (declared_signals net) (λ (s : Signal). s.name), length-append net.inputs (net.outputs ++ net.locals),
-      length-append net.outputs net.locals)
+      omega (
+        arith,
+        length-map (declared_signals net) (λ (s : Signal). s.name),
+        length-append net.inputs (net.outputs ++ net.locals),
+        length-append net.outputs net.locals,
+      )
 
   all_size : length (names net) ≡ length declared + length net.instances
   all_size = length-append declared (map (λ i. i.name) net.instances) ∙ ap (λ (n : ℕ). length declared + n) (length-map net.instances (λ i. i.name))

@@ -41,7 +41,7 @@ pub struct Asked<'a> {
 
 // The title of a page: the one that is given, or one by the name of the application.
 fn title_of(alloc: Global, given: Option<&str>, app: &str) -> Result<Bytes, Memory>
-    ensures { IfOk result (λ title. title ≡ title_text (option_map (λ text. text.now) given) app.now) }
+    ensures { IfOk result (λ title. title ≡ title_text (option_map (λ text. text.now) given.entry) app.now) }
 {
     match given {
         Some(title) => Bytes::from_slice(alloc, title.as_bytes()),

@@ -1,6 +1,8 @@
 use Rattle.std.proofs.Common.{List, Option, inl, inr, subst}
 use Rattle.std.specs.Prelude.{IsSomeAnd}
 use Rattle.std.proofs.lemmas.Result.{on_ok_weaker}
+use Rattle.ps_bench_cases.specs.Alone.{alone}
+use Rattle.ps_bench_cases.specs.Legible.{IsLegible}
 use Rattle.ps_bench_cases.specs.Meant.{whole_case}
 use Rattle.ps_bench_report.specs.Played.{IsKeptOf}
 use Rattle.ps_bench_report.specs.declared.filming.Kept.{Kept}
@@ -12,7 +14,8 @@ pub returns-in_ok-id-in-Some : goal.returns-in_ok-id-in-Some
 returns-in_ok-id-in-Some c =
     let run = c.args.run.now in
     let case = whole_case run.file.now run.case.now in
-    let kept = λ legible. subst (λ (o : Option Kept). IsSomeAnd o (IsKeptOf run.app.now case)) c.in-Some.is (c.in_ok-kept.ensures.records legible) in
+    let kept : IsLegible run.app.now (alone run.file.now run.case.now) → IsKeptOf run.app.now case c.in-Some.kept =
+    λ legible. subst (λ (o : Option Kept). IsSomeAnd o (IsKeptOf run.app.now case)) c.in-Some.is (c.in_ok-kept.ensures.records legible) in
     record {
       drawn = on_ok_weaker c.add_diagram.result (λ shown whole.
           let is = shown whole in (
@@ -32,7 +35,8 @@ pub returns-in-None : goal.returns-in-None
 returns-in-None c =
     let run = c.args.run.now in
     let case = whole_case run.file.now run.case.now in
-    let none = λ legible. subst (λ (o : Option Kept). IsSomeAnd o (IsKeptOf run.app.now case)) c.in-None.is (c.in_ok-kept.ensures.records legible) in
+    let none : IsLegible run.app.now (alone run.file.now run.case.now) → ⊥ =
+    λ legible. subst (λ (o : Option Kept). IsSomeAnd o (IsKeptOf run.app.now case)) c.in-None.is (c.in_ok-kept.ensures.records legible) in
     record {
       drawn = λ whole.
           let is = c.element.ensures whole in

@@ -1,7 +1,7 @@
 -- What a call does in memory.
 use Rattle.std.proofs.Common.{◌≡◌, ◌⊎◌, ℕ, Bool, true, false, List, refl, subst, inl, inr, ⊎_elim}
 use Rattle.ps_outside.specs.InMemory.{FilesInMemory, SinkInMemory}
-use Rattle.ps_top.specs.Meets.{AppendsNothing, AppendsPart, IsCut}
+use Rattle.ps_top.specs.Meets.{AppendsNothing, AppendsPart}
 use Rattle.ps_top.specs.declared.Status.{Status}
 use Rattle.ps_top.specs.declared.Status.TheVariants.{ReadFault, WriteFault, Memory}
 use Rattle.ps_top.specs.declared.left.Left.{Left}

@@ -1,5 +1,5 @@
 -- What is told of a call.
-use Rattle.std.proofs.Common.{◌≡◌, ◌∙◌, ℕ, Bool, false, List, Some, Result, Ok, Err, IfOk, refl, sym, subst, slice_get}
+use Rattle.std.proofs.Common.{◌≡◌, ℕ, Bool, false, List, Some, Result, Ok, Err, IfOk, refl, sym, subst, slice_get}
 use Rattle.ps_base.specs.declared.failing.Refusal.{Refusal}
 use Rattle.ps_message.specs.Ending.{usage_text}
 use Rattle.ps_message.specs.Message.{Says}

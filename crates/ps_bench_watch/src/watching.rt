@@ -39,7 +39,7 @@ use ps_bench_trace::{Expansion, Play, open_play, refuse_input};
 use ps_bench_waves::{Format, head_of, header_of, parts_of};
 use ps_bench_words::Layout;
 use ps_message::Listener;
-use ps_model::App;
+use ps_model::{App, ImageSizes};
 use ps_outside::{Files, Output, write_all};
 use ps_runs::{Cut, StruckWorld};
 use ps_trace::{Faults, TraceFail, TraceReader, read_faults};
@@ -283,6 +283,44 @@ fn show_play<F: Files, O: Output>(
     }
 }
 
+// The faults that strike in a run: those of the file of this name, or those that are brought where no file is named.
+// Where the file is refused the line of the refusal is written, and where it cannot be read nothing.
+fn faults_named<F: Files, O: Output>(
+    alloc: Global,
+    files: &mut F,
+    out: &mut O,
+    name: Option<&str>,
+    sizes: &ImageSizes,
+    brought: Faults,
+) -> Result<Faults, Stop>
+    requires ordered { AreInOrder brought }
+    requires one_channel { AreOfOneChannel brought }
+    ensures gives { IsTrue (F.tells files.old) → IfOk result (λ faults.
+        AreFaults (F.held files.old) sizes.now (option_map (λ n. n.now) name.entry) brought faults) }
+    ensures ordered { IfOk result AreInOrder }
+    ensures one_channel { IfOk result AreOfOneChannel }
+    ensures unsaid { OnOk result (O.taken out.new ≡ O.taken out.old) }
+    ensures unread_unsaid { IfErr result (λ stop. IsUnread stop → O.taken out.new ≡ O.taken out.old) }
+    ensures of_run { IfErr result IsOfRun }
+    ensures of_faults { (refusal : RefusalOf) → result ≢ Err (Stop.Input (InputStop.Refused Input.Trace refusal)) }
+    ensures unread { IfErr result (λ stop. IsUnread stop →
+        RosesIn (F.faults files.old) (F.faults files.new) (option_map (λ n. n.now) name.entry)) }
+    ensures unwritten { IsErrOf result Stop.Unwritten → Rose (O.faults out.old) (O.faults out.new) }
+    ensures reads { (other : List ℕ) → F.faults files.old other ≤ F.faults files.new other }
+    ensures writes { O.faults out.old ≤ O.faults out.new }
+    ensures kept { F.held files.new ≡ F.held files.old }
+    ensures reading { F.tells files.new ≡ F.tells files.old }
+    ensures telling { O.tells out.new ≡ O.tells out.old }
+{
+    match name {
+        Some(name) => match read_faults(alloc, files, name, sizes) {
+            Ok(faults) => Ok(faults),
+            Err(why) => Err(end_without(out, Input::Faults, why)),
+        },
+        None => Ok(brought),
+    }
+}
+
 // The world of an application before the first scan, which faults will strike: those of a file, if one is named, and
 // else these.
 fn struck_world<F: Files, O: Output>(
@@ -313,13 +351,8 @@ fn struck_world<F: Files, O: Output>(
     ensures telling { O.tells out.new ≡ O.tells out.old }
 {
     let world = World::build(alloc, app)?;
-    let Some(name) = name else {
-        return Ok(StruckWorld::new(world, brought));
-    };
-    match read_faults(alloc, files, name, &world.sizes()) {
-        Ok(faults) => Ok(StruckWorld::new(world, faults)),
-        Err(why) => Err(end_without(out, Input::Faults, why)),
-    }
+    let faults = faults_named(alloc, files, out, name, &world.sizes(), brought)?;
+    Ok(StruckWorld::new(world, faults))
 }
 
 // Writes what is watched, of these names, of the run that is asked for, where the word for its trace means this.

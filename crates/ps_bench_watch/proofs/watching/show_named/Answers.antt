@@ -1,6 +1,5 @@
 use Rattle.std.proofs.Common.{◌≡◌, ◌∙◌, IsTrue, Err, inl, inr, sym, ap, subst}
 use Rattle.ps_accepted.proofs.Sourced.{some_of}
-use Rattle.ps_bench_frame.specs.declared.ending.InputStop.TheVariants.{Refused}
 use Rattle.ps_outside.specs.declared.text_fail.TextFail.TheVariants as text_fail
 use Rattle.ps_trace.specs.Reading.{IsRead}
 use Rattle.ps_trace.specs.Scans.{Scans, scans_behind}

@@ -1,19 +1,24 @@
-use Rattle.std.proofs.Common.{ℕ, Bool, IsTrue, List, Option, inl, inr, sym, ap, subst}
+use Rattle.std.proofs.Common.{◌≡◌, ℕ, Bool, IsTrue, List, Option, Err, inl, inr, sym, ap, subst}
+use Rattle.ps_bench_frame.specs.Ending.{stop_status}
 use Rattle.ps_bench_frame.specs.Meant.{file_meant}
 use Rattle.ps_bench_frame.specs.Opening.{source}
 use Rattle.ps_bench_frame.specs.Stopping.{TookNothing}
+use Rattle.ps_bench_frame.specs.declared.ending.Status.TheVariants.{ReadFault}
+use Rattle.ps_bench_frame.specs.declared.ending.Stop.TheVariants.{NoMemory}
 use Rattle.ps_runs.specs.declared.striking.StruckWorld.{StruckWorld}
 use Rattle.ps_bench_trace.specs.Playing.{trace_held}
-use Rattle.ps_bench_watch.specs.Asking.{text_in, wanted_by}
-use Rattle.ps_bench_watch.specs.Showing.{ComesOfHeld, ComesOfPlay, MakesRun, Run}
-use Rattle.ps_bench_watch.proofs.WatchComing.{where_told}
+use Rattle.ps_bench_watch.specs.Asking.{default_in, text_in, wanted_by}
+use Rattle.ps_bench_watch.specs.Showing.{ComesOfHeld, ComesOfPlay, IsWanted, MakesRun, Run}
+use Rattle.ps_bench_watch.proofs.WatchComing.{none_made, where_told}
 use Rattle.ps_bench_watch.proofs.watching.watch_play.Goals as goal
 
 pub returns-in-Err-clause-comes : goal.returns-in-Err-clause-comes
-returns-in-Err-clause-comes g c = ?
+returns-in-Err-clause-comes g c =
+    none_made _ _ _ _ c.in-Err.stop (λ refusal is. c.in-Err.ensures.of_faults refusal (ap Err is)) c.in-Err.ensures.unread_unsaid
 
 pub returns-in-Err-prepare-clause-comes : goal.returns-in-Err-prepare-clause-comes
-returns-in-Err-prepare-clause-comes g c = ?
+returns-in-Err-prepare-clause-comes g c =
+    none_made _ _ _ _ NoMemory (λ refusal is. cc) (λ is. let clash : stop_status NoMemory ≡ ReadFault = is in cc)
 
 pub returns-in-Ok-prepare-clause-comes : goal.returns-in-Ok-prepare-clause-comes
 returns-in-Ok-prepare-clause-comes g c =
@@ -44,7 +49,7 @@ returns-in-Ok-prepare-clause-comes g c =
     let play : IsTrue from.tells → ComesOfHeld net T (trace_held c.args.play.cases (from.held name)) tells before after ended →
     ComesOfPlay from T wanted run tells before after ended = λ reading comes.
     (comes.0, c.args.play.faults, c.requires.means reading comes.0 comes.1, c.in-Ok.ensures.faults reading, comes.2) in
-    let is_wanted = record { world = c.in-Ok.ensures.begins.world.setup; names = c.requires.names } in
+    let is_wanted : IsWanted net (default_in net c.args.asked.now.layout) wanted run = record { world = c.in-Ok.ensures.begins.world.setup; names = c.requires.names } in
     record {
       to_end = λ end. (run, is_wanted, λ reading. play reading ((makes reading).to_end end));
       unread = λ is.

@@ -1,5 +1,5 @@
 -- What `watch` is asked, and what it writes by that.
-use Rattle.std.specs.Prelude.{◌≡◌, ◌⊎◌, ℕ, Bool, IsTrue, List, ◌++◌, Option, Some, None, option_map, Result, Ok, Err}
+use Rattle.std.specs.Prelude.{◌≡◌, ◌⊎◌, ℕ, Bool, IsTrue, List, ◌++◌, Option, option_map, Result, Ok, Err}
 use Rattle.ps_bench_frame.specs.Ending.{IsOfRun}
 use Rattle.ps_bench_frame.specs.Meant.{file_meant}
 use Rattle.ps_bench_frame.specs.Opening.{IsOfApp, Source, source}

@@ -1,5 +1,5 @@
 -- What `watch` writes of a run.
-use Rattle.std.specs.Prelude.{◌≡◌, ◌⊎◌, ℕ, Bool, IsTrue, List, ◌++◌, Option, Some, None, Result, Ok, Err}
+use Rattle.std.specs.Prelude.{◌≡◌, ◌⊎◌, ℕ, Bool, IsTrue, List, ◌++◌, Option, Some, Result, Ok, Err}
 use Rattle.ps_base.specs.declared.failing.Refusal.{Refusal}
 use Rattle.ps_bench_names.specs.declared.name.Name.{Name}
 use Rattle.ps_model.specs.declared.channel.Fault.{Fault}

@@ -25,7 +25,7 @@ told-requires g c = record {
 
 pub returns : goal.returns
 returns g c = record {
-  found = c.in_ok-found.full;
+  found = c.in_ok-found.found;
   path = c.in_ok-text.ensures.0;
   finds = c.in_ok-text.ensures.1;
   answers = subst (λ (found : Found). (path : Option Path) → slice_get found.paths.items 0 ≡ Some path →

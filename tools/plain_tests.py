@@ -27,7 +27,7 @@ CANNOT = {
     "tools/campaigns.py": [[], MANY, ["BYTES"], ["BYTES", "plcsafe-bench=GONE"], ["plcsafe-bench=FOLDER"], ["plcsafe-bench=BYTES"], ["--count", "a"]],
     "tools/cases.py": [[], ["BYTES"], ["BYTES", "plcsafe-bench=GONE"], ["GONE", "plcsafe-bench=BYTES"], ["FOLDER", "plcsafe-bench=FOLDER"], ["--count", "a"]],
     "tools/check": [["nothing"], ["--program"], ["--program", "GONE"], ["--program", "FOLDER"], ["--log", "GONE"], ["--log", "FOLDER"], ["--list", "a"]],
-    "tools/claims": [["nothing"], MANY],
+    "tools/claims": [["nothing"], ["--write", "a"], ["--self-test", "--write"], MANY],
     "tools/colours.py": [[], ["nothing"], MANY],
     "tools/diagrams.py": [["nothing"], MANY],
     "tools/editor.py": [[], ["GONE"], ["FOLDER"], ["BYTES"]],

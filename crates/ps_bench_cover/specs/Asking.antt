@@ -49,8 +49,8 @@ wanted_by asked = record {
 abbrev pub ArePlacesOf : Source → (app : List ℕ) → List Place → Type 0
 ArePlacesOf from app places = (tree : SourceTree) × IsSourceOf from.held app tree × (places ≡ places_of from.net tree)
 
--- What is known is what the traces of these words show, each from its first state on; what is excluded, no run of its
--- block alone shows.
+-- What is known is what the traces of these words show, each from its first state on; and as excluded counts exactly
+-- what is excluded, which no run of its block alone shows.
 abbrev pub IsKnown : Source → (app : List ℕ) → (words : List (List ℕ)) → Known → Type 0
 IsKnown from app words known =
     IsTrue from.tells → (traces : List (List ScanStep)) × AreScansAll from words traces

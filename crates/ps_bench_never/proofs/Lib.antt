@@ -18,5 +18,9 @@ pub mod Asking
 pub mod SameFinding
 -- the output that is named differs
 pub mod Naming
+-- what is told is so, and is read back
+pub mod Verdicts
+pub mod ScanBack
+pub mod CaseBack
 -- how a call of `same` ends, by what stood before its parts
 pub mod SameComing

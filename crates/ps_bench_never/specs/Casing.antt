@@ -22,8 +22,12 @@ changes_text net before values =
     flat_map (λ i. change_text net i (slice_index_or before i false) (slice_index_or values i false)) (range_with_len 0 (length values))
 
 -- a scan so many ms after the one before, as `  +10 S_L=1`
+abbrev pub scan_line : Network → (gap : ℕ) → (before values : List Bool) → List ℕ
+scan_line net gap before values = codes "  +" ++ decimal gap ++ changes_text net before values
+
+-- its line
 abbrev pub scan_text : Network → (gap : ℕ) → (before values : List Bool) → List ℕ
-scan_text net gap before values = codes "  +" ++ decimal gap ++ changes_text net before values ++ codes "\n"
+scan_text net gap before values = scan_line net gap before values ++ codes "\n"
 
 -- the condition is of the scan before, or is not
 abbrev pub is_of_before : (before : Bool) → Condition → Bool

@@ -7,6 +7,7 @@ pub mod Asking
 pub mod Pieces
 pub mod Casing
 pub mod Telling
+pub mod Stopping
 pub mod Answering
 -- what it says if scans come at any times: what a reader of the promise has to believe
 pub mod TellingAny
@@ -21,3 +22,6 @@ pub mod SameTelling
 pub mod SameAnswering
 -- the law: the output that is named differs
 pub mod Naming
+-- the laws of both: what is told is so, and an open rule is told with its cause; a case that is told is read as its scans
+pub mod Verdicts
+pub mod ReadBack

@@ -1,9 +1,34 @@
-//! What a search at a number of ms says of scans at any times.
+//! What holds of all that is told of rules.
 
+ghost use Rattle.ps_bench_never.specs.ReadBack.{CaseIsRead, DifferenceIsRead, FoundIsRead, ScanIsRead};
+ghost use Rattle.ps_bench_never.specs.Verdicts.{EachIsSo, EachIsSoAtAnyTimes};
 ghost use Rattle.ps_bench_never.specs.Whenever.{PacedEndsMeeting};
 
 /// A list of items whose scans come some ms apart, and which ends by meeting a rule, is one whose scans come at any times
 /// and which does.
 pub fn a_case_is_of_any_times()
     ensures { PacedEndsMeeting }
+{}
+
+/// What is told of each rule is so: it holds in every scan of every list; or fails by a shortest list, with times of 32
+/// bits; or is open for a cause that is so, which is told.
+pub fn each_rule_is_as_told()
+    // Scans some ms apart: as many states were held as may be, or the times of a shortest list pass 32 bits.
+    ensures paced { EachIsSo }
+    // Scans at any times: as many states were held as may be, or a run was found that no times meet, or too many inputs
+    // and timers are free.
+    ensures any { EachIsSoAtAnyTimes }
+{}
+
+/// What is told is read back, by the definitions by which case files are read: of applications whose names have no blanks,
+/// control bytes, `#` and `=`.
+pub fn a_told_case_is_read()
+    // A scan line asks for a scan so many ms later, with settings that make the inputs of this scan of those before.
+    ensures scans { ScanIsRead }
+    // A case that is told, where it keeps within the limits of a case file, is one case of its scans.
+    ensures cases { CaseIsRead }
+    // So the case of a rule that fails is the list of scans that was found.
+    ensures found { FoundIsRead }
+    // The case of two applications is the list of scans after which an output differs.
+    ensures differs { DifferenceIsRead }
 {}

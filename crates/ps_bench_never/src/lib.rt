@@ -11,7 +11,8 @@
 //! `never`, whether the scans of the rules file come so many ms apart or at any times:
 //!
 //! - `telling`: the whole text if scans come so many ms apart. `answering`: the answer then.
-//! - `searching`: the searches of rules whose scans come at any times. `telling_any`: the text of what they found.
+//! - `stopping`: whether a search stopped before its end.
+//! - `searching`: the searches of rules whose scans come some ms apart. `telling_any`: the text of what they found.
 //!   `answering_any`: the answer to any rules file.
 //! - `forbidding`: `never APP RULES`.
 //! - `laws`: a case at a number of ms is one at any times.
@@ -38,6 +39,7 @@ mod same_answering;
 pub mod same_laws;
 mod same_telling;
 mod searching;
+mod stopping;
 mod telling;
 mod telling_any;
 mod wanted;

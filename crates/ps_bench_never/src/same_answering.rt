@@ -17,6 +17,7 @@ ghost use Rattle.ps_reach.specs.Comparing.{two_of};
 
 use crate::inputs_of_two;
 use crate::same_telling::told;
+use crate::stopping::full_only;
 use ps_base::{Bytes, Memory};
 use ps_bench_names::Settings;
 use ps_bench_rules::{
@@ -126,7 +127,7 @@ fn answer_asked<W: Observer>(
     requires shared { FollowsShared compared.now.app.now asked.now }
     ensures { IfOk result (IsToldFor (two_of compared.now) asked.now) }
 {
-    let found = compare(
+    let all = compare(
         alloc,
         compared.app,
         compared.other,
@@ -134,6 +135,7 @@ fn answer_asked<W: Observer>(
         compared.most,
         observer,
     )?;
+    let found = full_only(all, compared.most)?;
     let text = told(alloc, compared, asked, &found)?;
     Ok(Told {
         text,

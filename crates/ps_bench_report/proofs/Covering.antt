@@ -1,12 +1,11 @@
 -- What the scans of a run show of an application, scan by scan, and those of cases, one after another.
-use Rattle.std.proofs.Common.{◌≡◌, ◌≤◌, ◌∙◌, ◌++◌, ℕ, List, [], ◌∷◌, Result, Ok, Err, map, refl, sym, ap, subst, append_assoc, append-nil, arith}
+use Rattle.std.proofs.Common.{◌≡◌, ◌≤◌, ◌∙◌, ◌++◌, ℕ, List, [], ◌∷◌, Result, Ok, Err, map, sym, ap, subst, append_assoc, append-nil, arith}
 use Rattle.std.specs.List.{AllByRecursion}
 use Rattle.std.specs.Prelude.{OnOk}
 use Rattle.std.proofs.lemmas.List.{map-append}
 use Rattle.ps_bench_report.specs.Covered.{CoversCases, CoversRun, IsCoverage, IsCoverageOf, IsMeant, steps_in, traces_in}
 use Rattle.ps_bench_report.specs.Taking.{cover_takes}
 use Rattle.ps_bench_report.specs.declared.filming.Both.{Both}
-use Rattle.ps_bench_cover.specs.Standing.{places_of}
 use Rattle.ps_bench_test.specs.Outcome.{Ran}
 use Rattle.ps_base.specs.declared.failing.Place.{Place}
 use Rattle.ps_cover.proofs.Joining.{joins_up}

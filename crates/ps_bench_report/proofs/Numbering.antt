@@ -1,5 +1,5 @@
 -- Lines with their numbers, one after another.
-use Rattle.std.proofs.Common.{◌≡◌, ◌+◌, ◌++◌, ◌∙◌, ℕ, List, [], ◌∷◌, length, map, sym, ap, suc, append_assoc, append-nil, arith}
+use Rattle.std.proofs.Common.{◌≡◌, ◌+◌, ◌++◌, ◌∙◌, ℕ, List, [], ◌∷◌, length, sym, ap, suc, append_assoc, append-nil, arith}
 use Rattle.std.specs.Prelude.{min}
 use Rattle.ps_bench_report.specs.Numbered.{numbered_behind, numbered_line}
 

@@ -1,5 +1,5 @@
 -- What the runs of cases show of an application, and what is told of that.
-use Rattle.std.specs.Prelude.{◌≡◌, ℕ, List, [], ◌∷◌, ◌++◌, map}
+use Rattle.std.specs.Prelude.{◌≡◌, ℕ, List, ◌++◌, map}
 use Rattle.std.specs.List.{AllByRecursion}
 use Rattle.ps_bench_cases.specs.Alone.{alone}
 use Rattle.ps_bench_cases.specs.Legible.{IsLegible}

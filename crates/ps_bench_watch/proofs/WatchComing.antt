@@ -1,7 +1,9 @@
 -- What comes of a call for a run.
-use Rattle.std.proofs.Common.{Result, Ok, ◌≡◌, ℕ, Bool, List, Option, Some, Err, inl, inr, subst}
+use Rattle.std.proofs.Common.{Result, Ok, ◌≡◌, ◌≢◌, ◌⊎◌, ℕ, Bool, true, false, IsTrue, List, Option, Some, Err, inl, inr, refl, sym, subst}
+use Rattle.std.proofs.lemmas.Bool.{true≢false}
 use Rattle.ps_base.specs.declared.failing.Refusal.{Refusal}
 use Rattle.std.specs.Prelude.{IfErr, IfOk}
+use Rattle.ps_bench_frame.specs.Ending.{IsUnread}
 use Rattle.ps_bench_frame.specs.Opening.{IsOfApp, source}
 use Rattle.ps_bench_frame.specs.declared.ending.Status.{Status}
 use Rattle.ps_bench_words.specs.declared.asking.Layout.{Layout}
@@ -15,7 +17,7 @@ use Rattle.ps_model.specs.Meaning.{Item}
 use Rattle.ps_model.specs.Network.{Network}
 use Rattle.ps_model.specs.Scanning.{State}
 use Rattle.ps_bench_watch.specs.Asking.{AnswersIn, AnswersWatch, StopsWatch}
-use Rattle.ps_bench_watch.specs.Showing.{ComesOfHeld, ComesOfRun, IsRunEnd, RefusesHeader, Run, Wanted}
+use Rattle.ps_bench_watch.specs.Showing.{ComesOfHeld, ComesOfRun, IsRunEnd, MakesRun, RefusesHeader, Run, Wanted}
 
 -- the trace could not be opened
 pub comes_headless : (net : Network) (text : List Item → List State → List ℕ) (held : Option (List ℕ)) (tells : Bool)
@@ -28,6 +30,21 @@ comes_headless net text held tells before after stop refuses (inr end) =
     let same : stop ≡ Input (Refused Trace end.0) = let is = end.1 in cc in
     let refused = refuses end.0 same in
     (refused.0, refused.1, inr (end.0, end.1, refused.2))
+
+-- of a call that stops without a run nothing is so but that a read that failed left the output as it was
+pub none_made : (Comes : Type 0) (tells : Bool) (before after : List ℕ) (stop : Stop) →
+    ((refusal : Refusal) → stop ≢ Input (Refused Trace refusal)) → (IsUnread stop → after ≡ before) →
+    MakesRun Comes tells before after (Err stop)
+none_made Comes tells before after stop never unsaid = record { to_end = to_end; unread = λ is. inr (λ tell. unsaid is) }
+  where
+    to_end : IsRunEnd (Err stop) → Comes
+    to_end (inl is) = cc
+    to_end (inr end) = absurd (never end.0 (let is = end.1 in cc))
+
+-- what is so of one run only where the files tell is so at all, or something else is
+pub where_told : (tells : Bool) (A B : Type 0) → (IsTrue tells → A ⊎ B) → (IsTrue tells → A) ⊎ B
+where_told true A B h = elim (h refl) [ inl a ↦ inl (λ told. a) | inr b ↦ inr b ]
+where_told false A B h = inl (λ told. absurd (true≢false (sym told)))
 
 -- what was answered of an application, and why the call stopped, by what it came to
 pub answered : (net : Network) (sizes : ImageSizes) (app : List ℕ) (layout : Layout) (wanted : Wanted) (reading : Bool)

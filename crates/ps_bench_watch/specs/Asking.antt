@@ -1,5 +1,5 @@
 -- What `watch` is asked, and what it writes by that.
-use Rattle.std.specs.Prelude.{◌≡◌, ◌⊎◌, ℕ, Bool, IsTrue, List, ◌++◌, Option, Some, None, option_map, Result, Ok, Err}
+use Rattle.std.specs.Prelude.{◌≡◌, ◌⊎◌, ℕ, Bool, IsTrue, List, ◌++◌, Option, option_map, Result, Ok, Err}
 use Rattle.ps_bench_frame.specs.Ending.{IsOfRun}
 use Rattle.ps_bench_frame.specs.Meant.{file_meant}
 use Rattle.ps_bench_frame.specs.Opening.{IsOfApp, Source, source}
@@ -106,8 +106,9 @@ AnswersWatch app layout wanted reading held tells before after status =
     × Answered (source net sizes reading held) layout wanted tells before after status
 
 -- Why `watch` stops before all is done: it gets no application of this name; or none of the cases of the file that the
--- word for the trace names; or the faults or the trace stop it, and where a line of the trace is refused, all was
--- written that comes before it, and then the line of the refusal.
+-- word for the trace names; or the faults or the trace stop it. Where a line of the trace is refused, all was written
+-- that comes before it, and then the line of the refusal; where a file cannot be read, a beginning of the text of the
+-- run, or nothing.
 abbrev pub StopsWatch : (app : List ℕ) → Layout → Wanted → (reading : Bool) (held : List ℕ → Option (List ℕ)) →
     (tells : Bool) → (before after : List ℕ) → Stop → Type 0
 StopsWatch app layout wanted reading held tells before after stop =

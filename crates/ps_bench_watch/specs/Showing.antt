@@ -1,5 +1,5 @@
 -- What `watch` writes of a run.
-use Rattle.std.specs.Prelude.{◌≡◌, ◌⊎◌, ℕ, Bool, IsTrue, List, ◌++◌, Option, Some, None, Result, Ok, Err}
+use Rattle.std.specs.Prelude.{◌≡◌, ◌⊎◌, ℕ, Bool, IsTrue, List, ◌++◌, Option, Some, Result, Ok, Err}
 use Rattle.ps_base.specs.declared.failing.Refusal.{Refusal}
 use Rattle.ps_bench_names.specs.declared.name.Name.{Name}
 use Rattle.ps_model.specs.declared.channel.Fault.{Fault}
@@ -9,7 +9,9 @@ use Rattle.ps_model.specs.Scanning.{State}
 use Rattle.ps_report.specs.Short.{refusal_text}
 use Rattle.ps_runs.specs.Written.{IsBeginningOf}
 use Rattle.ps_top.specs.Program.{end_line, region_sizes}
+use Rattle.ps_bench_frame.specs.Ending.{IsUnread}
 use Rattle.ps_bench_frame.specs.Opening.{Source}
+use Rattle.ps_bench_frame.specs.Stopping.{TookNothing}
 use Rattle.ps_bench_trace.specs.Opening.{AreFaults}
 use Rattle.ps_bench_trace.specs.Playing.{IsPlay}
 use Rattle.ps_trace.specs.Reading.{only_refused}
@@ -91,9 +93,20 @@ ComesOfPlay from text wanted run tells before after ended =
     × AreFaults from.held (region_sizes run.setup) wanted.file brought run.faults
     × ComesOf from.net text trace tells before after ended
 
+-- a read of what a run is made of failed
+abbrev pub IsUnreadEnd : Result (Unit {0}) Stop → Type 0
+IsUnreadEnd (Ok done) = ⊥
+IsUnreadEnd (Err stop) = IsUnread stop
+
+-- What comes of a run was written where it came to its end. Where a read failed, that was written up to there, which is
+-- a beginning of its text, or nothing.
+pub record MakesRun (Comes : Type 0) (tells : Bool) (before after : List ℕ) (ended : Result (Unit {0}) Stop) : Type 0 where
+  pub to_end : IsRunEnd ended → Comes
+  pub unread : IsUnreadEnd ended → Comes ⊎ TookNothing tells before after
+
 -- the same of a run that is wanted, where the files tell
 abbrev pub ComesOfRun : Source → (text : Run → List Item → List State → List ℕ) → (by_default : List Name) → Wanted →
     (tells : Bool) → (before after : List ℕ) → Result (Unit {0}) Stop → Type 0
 ComesOfRun from text by_default wanted tells before after ended =
-    IsRunEnd ended → (run : Run) × IsWanted from.net by_default wanted run
-    × (IsTrue from.tells → ComesOfPlay from (text run) wanted run tells before after ended)
+    MakesRun ((run : Run) × IsWanted from.net by_default wanted run
+    × (IsTrue from.tells → ComesOfPlay from (text run) wanted run tells before after ended)) tells before after ended

@@ -6,11 +6,14 @@ ghost use Rattle.ps_base.specs.declared.failing.Refusal.{Refusal as RefusalOf};
 ghost use Rattle.ps_bench_frame.specs.Ending.{IsOfRun, IsUnread};
 ghost use Rattle.ps_bench_frame.specs.Meant.{file_meant};
 ghost use Rattle.ps_bench_frame.specs.Opening.{source};
+ghost use Rattle.ps_bench_frame.specs.Stopping.{Took};
+ghost use Rattle.ps_bench_frame.specs.declared.ending.Input.{Input as InputOf};
 ghost use Rattle.ps_bench_words.specs.Seen.{seen};
 ghost use Rattle.ps_bench_words.specs.declared.asking.Layout.{Layout as LayoutOf};
 ghost use Rattle.ps_bench_words.specs.declared.asking.Layout.TheVariants.{Vcd};
 ghost use Rattle.ps_model.specs.Network.{input_count};
 ghost use Rattle.ps_outside.specs.Outside.{Rose};
+ghost use Rattle.ps_report.specs.Short.{refusal_text};
 ghost use Rattle.ps_model.specs.Typing.{Accepted};
 ghost use Rattle.ps_runs.specs.Running.{IsBeginning};
 ghost use Rattle.ps_trace.specs.FaultOrder.{AreInOrder, AreOfOneChannel};
@@ -22,7 +25,7 @@ ghost use Rattle.ps_bench_watch.specs.Asking.{AnswersIn, AnswersWatch, IsRisen, 
 ghost use Rattle.ps_bench_watch.specs.Asking.{default_in, head_in, text_in, wanted_by};
 ghost use Rattle.ps_bench_watch.specs.Naming.{AreWatched};
 ghost use Rattle.ps_bench_watch.specs.Prepared.{IsPlayerFor, IsPlayerOf, IsPrepared, layout_of, performer_of};
-ghost use Rattle.ps_bench_watch.specs.Showing.{ComesOfHeld, ComesOfRun, IsRunEnd, Run, Shows};
+ghost use Rattle.ps_bench_watch.specs.Showing.{ComesOfHeld, ComesOfRun, MakesRun, Run, Shows};
 ghost use Rattle.ps_bench_watch.specs.Stopping.{EndsBehind};
 
 use crate::naming::watched_names;
@@ -32,14 +35,14 @@ use ps_base::{Bytes, Memory};
 use ps_bench_frame::{Input, InputStop, Opened, Status, Stop, open_app, word_of};
 use ps_bench_messages::tell_no_name;
 use ps_bench_names::Name;
-use ps_bench_trace::{Expansion, Play, open_faults, open_play, open_trace, refuse_input};
+use ps_bench_trace::{Expansion, Play, open_play, refuse_input};
 use ps_bench_waves::{Format, head_of, header_of, parts_of};
 use ps_bench_words::Layout;
 use ps_message::Listener;
-use ps_model::App;
+use ps_model::{App, ImageSizes};
 use ps_outside::{Files, Output, write_all};
 use ps_runs::{Cut, StruckWorld};
-use ps_trace::{Faults, TraceReader};
+use ps_trace::{Faults, TraceFail, TraceReader, read_faults};
 use ps_world::World;
 use std::alloc::Global;
 
@@ -133,6 +136,27 @@ fn prepare(
     }
 }
 
+// Ends a call that gets nothing of what a run is made of: the line of a refusal is written, and else nothing.
+fn end_without<O: Output>(out: &mut O, input: Input, why: TraceFail) -> Stop
+    ensures says { (refusal : RefusalOf) → result ≡ Stop.Input (InputStop.Refused input refusal) →
+        (why ≡ TraceFail.Refused refusal)
+        × Took (refusal_text refusal) (O.tells out.old) (O.taken out.old) (O.taken out.new) }
+    ensures of_run { IsOfRun result }
+    ensures of_input { (other : InputOf) (refusal : RefusalOf) →
+        result ≡ Stop.Input (InputStop.Refused other refusal) → other ≡ input }
+    ensures unread { IsUnread result → why ≡ TraceFail.Fault }
+    ensures unsaid { IsUnread result → O.taken out.new ≡ O.taken out.old }
+    ensures unwritten { result ≡ Stop.Unwritten → Rose (O.faults out.old) (O.faults out.new) }
+    ensures writes { O.faults out.old ≤ O.faults out.new }
+    ensures telling { O.tells out.new ≡ O.tells out.old }
+{
+    match why {
+        TraceFail::Refused(refusal) => refuse_input(out, input, refusal),
+        TraceFail::Fault => Stop::Input(InputStop::Unread(input)),
+        TraceFail::Memory => Stop::NoMemory,
+    }
+}
+
 // Why a call stops whose run was cut short.
 fn stop_behind<O: Output>(out: &mut O, cut: Cut) -> Stop
     ensures ends { EndsBehind (Err cut) (O.tells out.old) (O.taken out.old) (O.taken out.new) (Err result) }
@@ -210,9 +234,9 @@ fn show_named<F: Files, O: Output>(
     requires fits { IsPlayerFor app.now prepared.old.player }
     requires first { (performer_of prepared.old.player).performer.world.state.last ≡ 0 }
     ensures comes { IsTrue (F.tells files.old) → (layout : LayoutOf) (run : Run) →
-        IsPrepared app.now layout run prepared.old → IsRunEnd result →
-        ComesOfHeld app.now (text_in app.now layout run) (F.held files.old name.now) (O.tells out.old)
-        (O.taken out.old) (O.taken out.new) result }
+        IsPrepared app.now layout run prepared.old → MakesRun
+        (ComesOfHeld app.now (text_in app.now layout run) (F.held files.old name.now) (O.tells out.old)
+        (O.taken out.old) (O.taken out.new) result) (O.tells out.old) (O.taken out.old) (O.taken out.new) result }
     ensures of_run { IfErr result IsOfRun }
     ensures unread { IfErr result (λ stop. IsUnread stop →
         Rose (F.faults files.old name.now) (F.faults files.new name.now)) }
@@ -221,9 +245,9 @@ fn show_named<F: Files, O: Output>(
     ensures writes { O.faults out.old ≤ O.faults out.new }
     ensures telling { O.tells out.new ≡ O.tells out.old }
 {
-    match open_trace(alloc, files, out, name, app) {
+    match TraceReader::start(alloc, files, name, app) {
         Ok(mut trace) => show(files, out, app, &mut trace, prepared),
-        Err(stop) => Err(stop),
+        Err(why) => Err(end_without(out, Input::Trace, why)),
     }
 }
 
@@ -240,8 +264,9 @@ fn show_play<F: Files, O: Output>(
     requires fits { IsPlayerFor app.now prepared.old.player }
     requires first { (performer_of prepared.old.player).performer.world.state.last ≡ 0 }
     ensures comes { IsTrue (F.tells files.old) → (layout : LayoutOf) (run : Run) →
-        IsPrepared app.now layout run prepared.old → IsRunEnd result →
-        ComesOfHeld app.now (text_in app.now layout run) (trace_held cases (F.held files.old (file_meant word.now)))
+        IsPrepared app.now layout run prepared.old → MakesRun
+        (ComesOfHeld app.now (text_in app.now layout run) (trace_held cases (F.held files.old (file_meant word.now)))
+        (O.tells out.old) (O.taken out.old) (O.taken out.new) result)
         (O.tells out.old) (O.taken out.old) (O.taken out.new) result }
     ensures of_run { IfErr result IsOfRun }
     ensures unread { IfErr result (λ stop. IsUnread stop →
@@ -255,6 +280,44 @@ fn show_play<F: Files, O: Output>(
     match cases {
         Some(mut cases) => show_named(alloc, &mut cases, out, app, word.file, prepared),
         None => show_named(alloc, files, out, app, word.file, prepared),
+    }
+}
+
+// The faults that strike in a run: those of the file of this name, or those that are brought where no file is named.
+// Where the file is refused the line of the refusal is written, and where it cannot be read nothing.
+fn faults_named<F: Files, O: Output>(
+    alloc: Global,
+    files: &mut F,
+    out: &mut O,
+    name: Option<&str>,
+    sizes: &ImageSizes,
+    brought: Faults,
+) -> Result<Faults, Stop>
+    requires ordered { AreInOrder brought }
+    requires one_channel { AreOfOneChannel brought }
+    ensures gives { IsTrue (F.tells files.old) → IfOk result (λ faults.
+        AreFaults (F.held files.old) sizes.now (option_map (λ n. n.now) name.entry) brought faults) }
+    ensures ordered { IfOk result AreInOrder }
+    ensures one_channel { IfOk result AreOfOneChannel }
+    ensures unsaid { OnOk result (O.taken out.new ≡ O.taken out.old) }
+    ensures unread_unsaid { IfErr result (λ stop. IsUnread stop → O.taken out.new ≡ O.taken out.old) }
+    ensures of_run { IfErr result IsOfRun }
+    ensures of_faults { (refusal : RefusalOf) → result ≢ Err (Stop.Input (InputStop.Refused Input.Trace refusal)) }
+    ensures unread { IfErr result (λ stop. IsUnread stop →
+        RosesIn (F.faults files.old) (F.faults files.new) (option_map (λ n. n.now) name.entry)) }
+    ensures unwritten { IsErrOf result Stop.Unwritten → Rose (O.faults out.old) (O.faults out.new) }
+    ensures reads { (other : List ℕ) → F.faults files.old other ≤ F.faults files.new other }
+    ensures writes { O.faults out.old ≤ O.faults out.new }
+    ensures kept { F.held files.new ≡ F.held files.old }
+    ensures reading { F.tells files.new ≡ F.tells files.old }
+    ensures telling { O.tells out.new ≡ O.tells out.old }
+{
+    match name {
+        Some(name) => match read_faults(alloc, files, name, sizes) {
+            Ok(faults) => Ok(faults),
+            Err(why) => Err(end_without(out, Input::Faults, why)),
+        },
+        None => Ok(brought),
     }
 }
 
@@ -275,6 +338,7 @@ fn struck_world<F: Files, O: Output>(
     ensures faults { IsTrue (F.tells files.old) → IfOk result (λ world. AreFaults (F.held files.old)
         (region_sizes world.world.setup) (option_map (λ n. n.now) name.entry) brought world.faults) }
     ensures unsaid { OnOk result (O.taken out.new ≡ O.taken out.old) }
+    ensures unread_unsaid { IfErr result (λ stop. IsUnread stop → O.taken out.new ≡ O.taken out.old) }
     ensures of_run { IfErr result IsOfRun }
     ensures of_faults { (refusal : RefusalOf) → result ≢ Err (Stop.Input (InputStop.Refused Input.Trace refusal)) }
     ensures unread { IfErr result (λ stop. IsUnread stop →
@@ -287,7 +351,7 @@ fn struck_world<F: Files, O: Output>(
     ensures telling { O.tells out.new ≡ O.tells out.old }
 {
     let world = World::build(alloc, app)?;
-    let faults = open_faults(alloc, files, out, name, &world.sizes(), brought)?;
+    let faults = faults_named(alloc, files, out, name, &world.sizes(), brought)?;
     Ok(StruckWorld::new(world, faults))
 }
 

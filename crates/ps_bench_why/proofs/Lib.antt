@@ -16,3 +16,4 @@ pub mod Placed
 pub mod Reasons
 -- lines that are written, one after another
 pub mod Tellings
+pub mod Ordered

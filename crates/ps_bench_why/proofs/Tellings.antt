@@ -12,7 +12,7 @@ use Rattle.std.proofs.lemmas.Option.{get_or_from_slice_get, same_Some, slice_get
 use Rattle.ps_why.proofs.Told.{push_at, push_before, push_cases}
 use Rattle.ps_why.specs.declared.explaining.Explanation.{Explanation}
 use Rattle.ps_bench_why.specs.Pending.{AddsChildren, IsChild, IsOfFact, IsTelling, KeepsNotes}
-use Rattle.ps_bench_why.specs.Trees.{AreLinesOf, IsReasonOf, MayFollow}
+use Rattle.ps_bench_why.specs.Trees.{AreLinesOf, IsReasonOf, MayFollow, next_line}
 use Rattle.ps_why.specs.Below.{first_line}
 use Rattle.ps_why.specs.declared.lines.Line.{Line}
 
@@ -245,12 +245,13 @@ module _ (e : Explanation) where
   }
 
   pub telling_all : (told : List Bool) (lines : List Line) → IsTelling e told lines [] →
-      ((n : ℕ) → n < length e.facts.items → slice_get told n ≡ Some true) → AreLinesOf e lines
-  telling_all told lines t all = record {
+      ((n : ℕ) → n < length e.facts.items → slice_get told n ≡ Some true) → ((p : ℕ) → slice_get lines p ≡ next_line e (take p lines)) → AreLinesOf e lines
+  telling_all told lines t all next = record {
     each = λ n within. t.noted n (all n within);
     of = λ y c. omega (arith, slice_get_within told y.fact true (t.notes y c), t.size);
     once = t.once;
     follows = t.follows;
+    next = next;
   }
 
   -- a line is told, and its reasons are pending

@@ -15,8 +15,9 @@ use Rattle.ps_parser.specs.Places.{step_place}
 use Rattle.ps_parser.specs.Tree.{SourceTree}
 use Rattle.ps_machine.specs.Calls.{call_step}
 use Rattle.ps_why.specs.Drivers.{IsStepOf}
-use Rattle.ps_why.specs.Explanations.{IsMeant, IsReason}
-use Rattle.ps_why.specs.Scenes.{IsCallOf}
+use Rattle.ps_why.specs.Explanations.{HasReasons, IsMeant, IsReason}
+use Rattle.ps_why.specs.Scenes.{IsCallOf, IsSceneFor, IsSceneOf}
+use Rattle.ps_why.specs.declared.scene.Scene.{Scene}
 use Rattle.ps_why.specs.declared.explaining.Explanation.{Explanation}
 use Rattle.ps_why.specs.declared.questions.Question.{Question}
 use Rattle.ps_why.specs.declared.questions.Question.TheVariants.{Signal as OfSignal, Instance as OfInstance, Pin as OfPin}
@@ -97,7 +98,8 @@ IsEnough net s facts = (others : List Bool) (other : State) →
     EachIsSo net (old_state net s.past) (passed s.past s.now) other facts
 
 -- A text tells why it is so in a scan what is asked: it tells an explanation, in which that is told, and all of which is
--- so in the scan, is used, rests on what is told, and is enough; with the places of the source.
+-- so in the scan, is used, rests on what is told, and is enough; each fact with its reasons, all of them and no others,
+-- as the scan is seen; with the places of the source.
 pub record IsReasoned (net : Network) (tree : SourceTree) (s : Scanned) (question : Question) (format : Format) (text : List ℕ) : Type 0 where
   pub moment : Moment
   pub explanation : Explanation
@@ -107,5 +109,9 @@ pub record IsReasoned (net : Network) (tree : SourceTree) (s : Scanned) (questio
   pub meant : IsMeant net (old_state net s.past) (passed s.past s.now) s.new explanation
   pub enough : IsEnough net s explanation.facts.items
   pub of : IsMomentOf net s moment
+  pub scene : Scene
+  pub fits : IsSceneFor net scene
+  pub seen : IsSceneOf net (old_state net s.past) (passed s.past s.now) s.new scene
+  pub reasons : HasReasons net scene explanation
   pub placed : ArePlacesOf net tree explanation.facts.items places
   pub told : IsToldAs moment explanation places format text

@@ -3,7 +3,8 @@
 ghost use Rattle.std.specs.Prelude.{◌≡◌, ◌++◌, ◌∷◌, true, [], length, map, IfOk, OnOk, Some, slice_get};
 ghost use Rattle.std.specs.List.{range_with_len};
 ghost use Rattle.ps_why.specs.Below.{first_line};
-ghost use Rattle.ps_bench_why.specs.Pending.{AddsChildren, IsOfFact, IsTelling, KeepsNotes};
+ghost use Rattle.ps_bench_why.specs.Pending.{AddsChildren, IsInOrder, IsOfFact, IsTelling, KeepsNotes, KeepsOrder};
+ghost use Rattle.ps_bench_why.specs.Pending.{children_of};
 ghost use Rattle.ps_bench_why.specs.Trees.{AreLinesOf};
 
 use ps_base::Memory;
@@ -16,7 +17,8 @@ fn push_reasons(
     line: Line,
     pending: &mut Vec<Line>,
 ) -> Result<(), Memory>
-    ensures { OnOk result (AddsChildren explanation.now line pending.old.items pending.new.items) }
+    ensures adds { OnOk result (AddsChildren explanation.now line pending.old.items pending.new.items) }
+    ensures all { OnOk result (pending.new.items ≡ pending.old.items ++ children_of explanation.now line) }
 {
     let place = line.fact as usize;
     if place >= explanation.reasons.len() {
@@ -45,6 +47,8 @@ fn tell_line(
 ) -> Result<(), Memory>
     requires telling { IsTelling explanation.now told.old lines.old.items (pending.old.items ++ line ∷ []) }
     ensures telling { OnOk result (IsTelling explanation.now told.new lines.new.items pending.new.items) }
+    ensures order { OnOk result (KeepsOrder explanation.now lines.old.items (pending.old.items ++ line ∷ [])
+        lines.new.items pending.new.items) }
     ensures keeps { OnOk result (KeepsNotes told.old told.new) }
     ensures tells { OnOk result (slice_get told.new line.fact ≡ Some true) }
 {
@@ -66,6 +70,8 @@ fn tell_pending(
 ) -> Result<(), Memory>
     requires telling { IsTelling explanation.now told.old lines.old.items pending.old.items }
     ensures telling { OnOk result (IsTelling explanation.now told.new lines.new.items pending.new.items) }
+    ensures order { OnOk result (KeepsOrder explanation.now lines.old.items pending.old.items
+        lines.new.items pending.new.items) }
     ensures keeps { OnOk result (KeepsNotes told.old told.new) }
     ensures done { OnOk result (pending.new.items ≡ []) }
 {
@@ -91,6 +97,7 @@ fn tell_first(
     requires left { line.depth ≡ 0 }
     requires fact { IsOfFact explanation.now line }
     ensures telling { OnOk result (IsTelling explanation.now told.new lines.new.items []) }
+    ensures order { OnOk result (KeepsOrder explanation.now lines.old.items (line ∷ []) lines.new.items []) }
     ensures none { OnOk result (pending.new.items ≡ []) }
     ensures keeps { OnOk result (KeepsNotes told.old told.new) }
     ensures tells { OnOk result (slice_get told.new line.fact ≡ Some true) }
@@ -109,6 +116,7 @@ fn tell_firsts(
 ) -> Result<(), Memory>
     requires firsts { firsts.now ≡ map first_line (range_with_len 0 (length explanation.now.facts.items)) }
     requires telling { IsTelling explanation.now told.old lines.old.items [] }
+    requires order { IsInOrder explanation.now lines.old.items [] firsts.now }
     requires none { pending.old.items ≡ [] }
     ensures { OnOk result (AreLinesOf explanation.now lines.new.items) }
 {

@@ -4,12 +4,14 @@ pub mod Calling
 pub mod Counting
 pub mod CoverDeciding
 pub mod Fixing
+pub mod InTime
 pub mod Inputs
 pub mod Joining
 pub mod Knowing
 pub mod Listed
 pub mod Listings
 pub mod Looking
+pub mod Making
 pub mod Numbering
 pub mod Searched
 pub mod Showing

@@ -8,8 +8,9 @@ use Rattle.ps_model.specs.Scanning.{State, block_in, limit_of, pins_under}
 use Rattle.ps_model.specs.Table.{Conditions}
 use Rattle.ps_model.specs.declared.kind.Kind.{Kind}
 use Rattle.ps_ways.specs.Calling.{seen_by}
-use Rattle.ps_cover.specs.Alone.{Allows, IsExcluded}
+use Rattle.ps_cover.specs.Alone.{Allows}
 use Rattle.ps_cover.specs.Marks.{marked}
+use Rattle.ps_cover.specs.Timed.{IsNeverMade}
 
 -- A scan of a run: the state before it, the ms that passed since the scan before, and the state after it.
 pub record ScanStep : Type 0 where
@@ -55,9 +56,9 @@ IsFixedBy kind args fixed = (v : ℕ → Bool) → Allows fixed (pins_under v ki
 abbrev pub is_at_once : Kind → List Actual → Bool
 is_at_once kind args = limit_of kind args == 0
 
--- A mark that no run of the block alone makes, no scan of the application makes, whatever its items.
+-- A mark that no run of the block alone makes, at any times, no scan of the application makes, whatever its items.
 abbrev pub NoneExcluded : Type 0
 NoneExcluded = (net : Network) (call : CallAt) (fixed : List (Option Bool)) (mark : ℕ) (items : List Item) (ws : List State) →
     IsCallOf net call → IsFixedBy (kind_of net call) call.args fixed →
-    IsExcluded (kind_of net call) (is_at_once (kind_of net call) call.args) fixed mark →
+    IsNeverMade (kind_of net call) (is_at_once (kind_of net call) call.args) fixed mark →
     Meaning net items ws → list_any (makes net call mark) (scans_of net nothing items ws) ≡ false

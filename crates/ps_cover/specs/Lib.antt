@@ -1,6 +1,7 @@
 -- what one block can do alone: what a reader of the promise has to believe
 pub mod Marks
 pub mod Alone
+pub mod Timed
 pub mod Applying
 -- pins that have one value: what a reader of the clauses has to believe
 pub mod Fixed

@@ -50,7 +50,7 @@ mod tallying;
 mod text;
 mod trying;
 
-pub use alone::{Excluded, excluded_marks};
+pub use alone::excluded_marks;
 pub use clock::Clock;
 pub use cover::Cover;
 pub use deciding::{is_and, is_value, leaves_decision};

@@ -1,6 +1,6 @@
--- What a person is told of a call, besides its answer.
-use Rattle.std.specs.Prelude.{◌≡◌, ◌⊎◌, ◌||◌, ◌++◌, ℕ, Bool, true, false, IsTrue, List, [], Option, Some, None, codes}
-use Rattle.std.specs.Prelude.{map, slice_get, IfSome}
+-- What a person is told of a call, besides its answer. Where it is nothing, the text is empty.
+use Rattle.std.specs.Prelude.{◌≡◌, ◌≢◌, ◌⊎◌, ◌||◌, ◌++◌, ◌∷◌, ℕ, Bool, true, false, not, List, [], Option, Some, None}
+use Rattle.std.specs.Prelude.{codes, map, slice_get}
 use Rattle.std.specs.List.{flat_map}
 use Rattle.std.specs.Str.{bytes_eq}
 use Rattle.ps_base.specs.declared.failing.Refusal.{Refusal}
@@ -15,6 +15,7 @@ use Rattle.ps_model.specs.Network.{Network}
 use Rattle.ps_notes.specs.Notes.{notes}
 use Rattle.ps_notes.specs.declared.note.OddComment.{OddComment}
 use Rattle.ps_notes.specs.declared.note.Placed.{Placed}
+use Rattle.ps_parser.specs.Tree.{SourceTree}
 use Rattle.ps_runs.specs.declared.seats.Again.{Again}
 use Rattle.ps_runs.specs.declared.striking.Trip.{Trip}
 use Rattle.ps_top.specs.declared.Status.{Status}
@@ -23,11 +24,14 @@ use Rattle.ps_top.specs.declared.Status.TheVariants.{ReadFault, WriteFault, Memo
 use Rattle.ps_top.specs.declared.left.Left.{Left}
 use Rattle.ps_vote.specs.declared.seat.Seat.{Seat}
 use Rattle.ps_vote.specs.declared.seat.Seat.TheVariants.{A, B, C}
-use Rattle.ps_edge.specs.Spoken.{IsNamed, spoken_of}
+use Rattle.ps_edge.specs.Hearing.{IsFirst, ListenerSeen}
+use Rattle.ps_edge.specs.Spoken.{most_of, named, spoken_of}
 use Rattle.ps_edge.specs.declared.spoken.Spoken.{Spoken}
-use Rattle.ps_edge.specs.declared.spoken.Spoken.TheVariants.{App, Trace}
+use Rattle.ps_edge.specs.declared.spoken.Spoken.TheVariants.{App, Cert, Faults, Trace}
 use Rattle.ps_edge.specs.declared.telling.Message.{Message}
-use Rattle.ps_edge.specs.declared.telling.Message.TheVariants.{Nothing, Fixed, Written}
+use Rattle.ps_edge.specs.declared.telling.Message.TheVariants.{Fixed, Written}
+
+-- ---- notes and comments
 
 -- These are the notes of an application in their order, each with a place. Which place is left open.
 abbrev pub ArePlaced : Network → List Placed → Type 0
@@ -41,18 +45,33 @@ notes_text file net placed = flat_map (note_text file net) placed
 abbrev pub odds_text : (file : List ℕ) → List OddComment → List ℕ
 odds_text file odds = flat_map (odd_text file) odds
 
--- These are lines on comments of a text of the call. Which comments, and where they stand, is left open.
-abbrev pub AreOnComments : (words : List (List ℕ)) → Spoken → List ℕ → Type 0
-AreOnComments words spoken text =
-    (file : List ℕ) × IsNamed words spoken file × (odds : List OddComment) × (text ≡ odds_text file odds)
+-- Lines on comments of the text of this name, and nothing where none is named. Which comments, and where they stand, is
+-- left open.
+abbrev pub AreOfFile : (file : Option (List ℕ)) → List ℕ → Type 0
+AreOfFile None text = text ≡ []
+AreOfFile (Some file) text = (odds : List OddComment) × (text ≡ odds_text file odds)
 
--- The notes of the application that `check` accepted, all of them, and then lines on its comments. The places of the
--- notes, and which comments these are, are left open.
+-- these are lines on comments of a text of the call
+abbrev pub AreOnComments : (words : List (List ℕ)) → Spoken → List ℕ → Type 0
+AreOnComments words spoken text = AreOfFile (named words spoken) text
+
+-- The notes of this application, all of them, and then lines on its comments. The places of the notes, and which
+-- comments these are, are left open.
+abbrev pub AreNotesOn : (file : List ℕ) → Network → List ℕ → Type 0
+AreNotesOn file net text =
+    (placed : List Placed) × ArePlaced net placed × (odds : List OddComment)
+    × (text ≡ notes_text file net placed ++ odds_text file odds)
+
+-- the notes of an application, where it is left with its flat source and its text, and its file is named
+abbrev pub AreNotesOf : Option Network → Option SourceTree → (source file : Option (List ℕ)) → List ℕ → Type 0
+AreNotesOf (Some net) (Some flat) (Some source) (Some file) text = AreNotesOn file net text
+AreNotesOf _ _ _ _ text = text ≡ []
+
+-- the notes of the application that `check` accepted
 abbrev pub AreNotes : (words : List (List ℕ)) → Left → List ℕ → Type 0
-AreNotes words left text =
-    (slice_get words 0 ≡ Some (codes "check")) × (net : Network) × (left.app ≡ Some net)
-    × (file : List ℕ) × IsNamed words App file × (placed : List Placed) × ArePlaced net placed
-    × (odds : List OddComment) × (text ≡ notes_text file net placed ++ odds_text file odds)
+AreNotes words left text = AreNotesOf left.app left.source left.text (named words App) text
+
+-- ---- runs
 
 -- a first word of a command that runs a trace
 abbrev pub asks_run : Option (List ℕ) → Bool
@@ -61,10 +80,18 @@ asks_run (Some word) =
     bytes_eq word (codes "run") || bytes_eq word (codes "fault") || bytes_eq word (codes "vote")
     || bytes_eq word (codes "heal")
 
--- Lines on the comments of a text of a command that runs a trace, or nothing. Of every other command it is nothing.
+-- lines on comments of the trace, and where it has none, of the fault file
+abbrev pub AreOfTexts : (words : List (List ℕ)) → List ℕ → Type 0
+AreOfTexts words text = (AreOnComments words Trace text × (text ≢ [])) ⊎ AreOnComments words Faults text
+
+-- these lines, of a command that runs a trace, and nothing of every other
+abbrev pub AreIfRun : (is_run : Bool) → (words : List (List ℕ)) → List ℕ → Type 0
+AreIfRun true words text = AreOfTexts words text
+AreIfRun false words text = text ≡ []
+
+-- the lines on the comments of the texts of a run
 abbrev pub AreOfRun : (words : List (List ℕ)) → List ℕ → Type 0
-AreOfRun words text =
-    (text ≡ []) ⊎ (IsTrue (asks_run (slice_get words 0)) × (spoken : Spoken) × AreOnComments words spoken text)
+AreOfRun words text = AreIfRun (asks_run (slice_get words 0)) words text
 
 -- the letter of a seat
 abbrev pub letter_of : Seat → ℕ
@@ -72,12 +99,15 @@ letter_of A = 65
 letter_of B = 66
 letter_of C = 67
 
--- the message of a seat that was outvoted again in the scan after its healing, by the name of the trace, where there
--- is such a seat, and else nothing
+-- the message of a seat that was outvoted again in the scan after its healing, in a trace of this name, and nothing
+-- where there is no such seat
+abbrev pub again_told : Option Again → (file : Option (List ℕ)) → List ℕ
+again_told (Some again) (Some file) = again_text file again.now (letter_of again.seat)
+again_told _ _ = []
+
+-- the message of such a seat, as it is left, by the name of the trace
 abbrev pub IsOfAgain : (words : List (List ℕ)) → Option Again → List ℕ → Type 0
-IsOfAgain words None text = text ≡ []
-IsOfAgain words (Some again) text =
-    (text ≡ []) ⊎ ((file : List ℕ) × IsNamed words Trace file × (text ≡ again_text file again.now (letter_of again.seat)))
+IsOfAgain words again text = text ≡ again_told again (named words Trace)
 
 -- What is told of a run that did all: the message of the seat that was outvoted again, as it is left, and then lines on
 -- the comments of its texts.
@@ -85,35 +115,111 @@ abbrev pub AreOfWholeRun : (words : List (List ℕ)) → Left → List ℕ → T
 AreOfWholeRun words left text =
     (again comments : List ℕ) × IsOfAgain words left.again again × AreOfRun words comments × (text ≡ again ++ comments)
 
--- what is told of a call that did all: the notes on what `check` accepted, or what is told of a run
-abbrev pub AreOfDone : (words : List (List ℕ)) → Left → List ℕ → Type 0
-AreOfDone words left text = AreNotes words left text ⊎ AreOfWholeRun words left text
+-- whether the first word is `check`
+abbrev pub asks_check : Option (List ℕ) → Bool
+asks_check None = false
+asks_check (Some word) = bytes_eq word (codes "check")
 
--- The message of the refusal that is left, by the name of the text that its rule is about, and the lines of further
--- refusals after it. Of an application it quotes the text that was read. Which refusals are further ones is left open.
-abbrev pub IsOfRefusal : (words : List (List ℕ)) → Left → List ℕ → Type 0
-IsOfRefusal words left text =
-    (refusal : Refusal) × (left.refusal ≡ Some refusal) × (file : List ℕ) × IsNamed words (spoken_of refusal.rule) file
-    × (source : List ℕ) × (spoken_of refusal.rule ≡ App → IfSome left.text (λ bytes. source ≡ bytes))
-    × (given first : List ℕ) × Says file source refusal given first
+-- the notes, of `check`, and what is told of a run, of every other command
+abbrev pub AreIfCheck : (is_check : Bool) → (words : List (List ℕ)) → Left → List ℕ → Type 0
+AreIfCheck true words left text = AreNotes words left text
+AreIfCheck false words left text = AreOfWholeRun words left text
+
+-- what is told of a call that did all
+abbrev pub AreOfDone : (words : List (List ℕ)) → Left → List ℕ → Type 0
+AreOfDone words left text = AreIfCheck (asks_check (slice_get words 0)) words left text
+
+-- ---- refusals
+
+-- The message of a refusal of the application of this name and text, and the lines of further refusals after it. Which
+-- further words the message has, and which refusals are further ones, is left open.
+abbrev pub IsOfApp : (file source : List ℕ) → Refusal → List ℕ → Type 0
+IsOfApp file source refusal text =
+    (given first : List ℕ) × Says file source refusal given first
     × (further : List Refusal) × (more : ℕ) × (text ≡ first ++ also_text file source further more)
 
+-- The message of a refusal of another text, of which at most so many bytes are read anew. Which further words it has is
+-- left open.
+abbrev pub IsOfOther : (most : ℕ) → ListenerSeen → (file : List ℕ) → Refusal → List ℕ → Type 0
+IsOfOther most who file refusal text =
+    (source given : List ℕ) × IsFirst most (who.reads file) source × Says file source refusal given text
+
+-- the text of the application, as it is left; empty where none is
+abbrev pub source_of : Option (List ℕ) → List ℕ
+source_of (Some text) = text
+source_of None = []
+
+-- the message of a refusal, by the text that its rule is about, in a file of this name
+abbrev pub IsOfText : Spoken → ListenerSeen → Left → (file : List ℕ) → Refusal → List ℕ → Type 0
+IsOfText App who left file refusal text = IsOfApp file (source_of left.text) refusal text
+IsOfText Cert who left file refusal text = IsOfOther (most_of Cert) who file refusal text
+IsOfText Faults who left file refusal text = IsOfOther (most_of Faults) who file refusal text
+IsOfText Trace who left file refusal text = IsOfOther (most_of Trace) who file refusal text
+
+-- the same, and nothing where no file is named
+abbrev pub IsOfNamed : (file : Option (List ℕ)) → ListenerSeen → Left → Refusal → List ℕ → Type 0
+IsOfNamed None who left refusal text = text ≡ []
+IsOfNamed (Some file) who left refusal text = IsOfText (spoken_of refusal.rule) who left file refusal text
+
+-- the message of this refusal, by the name of the text that its rule is about, and nothing where there is no refusal
+abbrev pub IsOfSome : Option Refusal → (words : List (List ℕ)) → ListenerSeen → Left → List ℕ → Type 0
+IsOfSome None words who left text = text ≡ []
+IsOfSome (Some refusal) words who left text = IsOfNamed (named words (spoken_of refusal.rule)) who left refusal text
+
+-- the message of the refusal that is left
+abbrev pub IsOfRefusal : (words : List (List ℕ)) → ListenerSeen → Left → List ℕ → Type 0
+IsOfRefusal words who left text = IsOfSome left.refusal words who left text
+
 -- the message of the refusal that is left, and after it that of the seat that was outvoted again, as it is left
-abbrev pub IsOfBadInput : (words : List (List ℕ)) → Left → List ℕ → Type 0
-IsOfBadInput words left text =
-    (refused again : List ℕ) × IsOfRefusal words left refused × IsOfAgain words left.again again × (text ≡ refused ++ again)
+abbrev pub IsOfBadInput : (words : List (List ℕ)) → ListenerSeen → Left → List ℕ → Type 0
+IsOfBadInput words who left text =
+    (refused again : List ℕ) × IsOfRefusal words who left refused × IsOfAgain words left.again again
+    × (text ≡ refused ++ again)
 
--- The message of the scan that tripped first, as it is left, by the name of the trace, and the lines on comments after
--- it. What name and which values stand before the number of a field is left open.
+-- ---- trips
+
+-- The message of a scan that tripped, in a trace of this name, and the lines on comments after it. What name and which
+-- values stand before the number of a field is left open, but for a call that left no text of an application: there it
+-- is nothing.
+abbrev pub IsOfScan : (words : List (List ℕ)) → Left → (file : List ℕ) → Trip → List ℕ → Type 0
+IsOfScan words left file trip text =
+    (field comments : List ℕ) × (left.text ≡ None → field ≡ []) × AreOfRun words comments
+    × (text ≡ trip_text file trip.now trip.cause field ++ comments)
+
+-- the same, and nothing where no scan tripped or no trace is named
+abbrev pub IsOfFirst : Option Trip → (file : Option (List ℕ)) → (words : List (List ℕ)) → Left → List ℕ → Type 0
+IsOfFirst (Some trip) (Some file) words left text = IsOfScan words left file trip text
+IsOfFirst _ _ words left text = text ≡ []
+
+-- what is told of the scan that tripped first, as it is left, by the name of the trace
 abbrev pub IsOfTrip : (words : List (List ℕ)) → Left → List ℕ → Type 0
-IsOfTrip words left text =
-    (trip : Trip) × (left.trip ≡ Some trip) × (file : List ℕ) × IsNamed words Trace file × (field comments : List ℕ)
-    × AreOfRun words comments × (text ≡ trip_text file trip.now trip.cause field ++ comments)
+IsOfTrip words left text = IsOfFirst left.trip (named words Trace) words left text
 
--- the message of a text of the call that cannot be read
-abbrev pub IsOfUnread : (words : List (List ℕ)) → List ℕ → Type 0
-IsOfUnread words text =
-    (spoken : Spoken) × (file : List ℕ) × IsNamed words spoken file × (why : Unread) × (text ≡ unread_text file why)
+-- ---- texts that cannot be read
+
+-- the message of a file that cannot be read for this reason, and nothing where it can
+abbrev pub why_told : (file : List ℕ) → Option Unread → List ℕ
+why_told file None = []
+why_told file (Some why) = unread_text file why
+
+-- the same of the text of this name, and nothing where none is named
+abbrev pub unread_told : (unread : List ℕ → Option Unread) → (file : Option (List ℕ)) → List ℕ
+unread_told unread None = []
+unread_told unread (Some file) = why_told file (unread file)
+
+-- a text, or another one where it is empty
+abbrev pub or_else : (text other : List ℕ) → List ℕ
+or_else [] other = other
+or_else (byte ∷ bytes) other = byte ∷ bytes
+
+-- The message of the first text of the call that the listener cannot read, in the order in which a call reads them: the
+-- application, the fault file, and the trace. A certificate has the place of a trace.
+abbrev pub IsOfUnread : (words : List (List ℕ)) → (unread : List ℕ → Option Unread) → List ℕ → Type 0
+IsOfUnread words unread text =
+    text ≡ or_else (unread_told unread (named words App))
+    (or_else (unread_told unread (named words Faults)) (unread_told unread (named words Trace)))
+
+-- ---- words
 
 -- a first word that asks for help, or none
 abbrev pub asks_help : Option (List ℕ) → Bool
@@ -127,27 +233,43 @@ asks_version None = false
 asks_version (Some word) =
     bytes_eq word (codes "--version") || bytes_eq word (codes "-V") || bytes_eq word (codes "version")
 
--- What is told of words that are not taken: help or the version, where they ask for it, or what is wrong and what
--- helps. In which words the last two are said is left open.
+-- Help, or the version, by what is asked for, or else what is wrong with the words and what helps. In which words the
+-- last two are said is left open.
+abbrev pub IsOfAsking : (help version : Bool) → List ℕ → Type 0
+IsOfAsking true version text = text ≡ HELP.now
+IsOfAsking false true text = text ≡ VERSION.now
+IsOfAsking false false text = (wrong help : List ℕ) × (text ≡ usage_text wrong help)
+
+-- what is told of words that are not taken
 abbrev pub IsOfWords : (words : List (List ℕ)) → List ℕ → Type 0
-IsOfWords words text =
-    (IsTrue (asks_help (slice_get words 0)) × (text ≡ HELP.now))
-    ⊎ (IsTrue (asks_version (slice_get words 0)) × (text ≡ VERSION.now))
-    ⊎ ((wrong help : List ℕ) × (text ≡ usage_text wrong help))
+IsOfWords words text = IsOfAsking (asks_help (slice_get words 0)) (asks_version (slice_get words 0)) text
 
--- what may be told of a call with these words that left this and ended so
-abbrev pub IsTold : (words : List (List ℕ)) → Left → Status → List ℕ → Type 0
-IsTold words left Done text = AreOfDone words left text
-IsTold words left Refused text = IsOfRefusal words left text
-IsTold words left Usage text = IsOfWords words text
-IsTold words left BadInput text = IsOfBadInput words left text
-IsTold words left Tripped text = IsOfTrip words left text
-IsTold words left ReadFault text = IsOfUnread words text
-IsTold words left WriteFault text = text ≡ UNWRITTEN.now
-IsTold words left Memory text = text ≡ NO_MEMORY.now
+-- ---- calls
 
--- a message says such a text, or nothing
+-- what is told of a call with these words that left this and ended so, by what the listener reads
+abbrev pub IsTold : (words : List (List ℕ)) → ListenerSeen → Left → Status → List ℕ → Type 0
+IsTold words who left Done text = AreOfDone words left text
+IsTold words who left Refused text = IsOfRefusal words who left text
+IsTold words who left Usage text = IsOfWords words text
+IsTold words who left BadInput text = IsOfBadInput words who left text
+IsTold words who left Tripped text = IsOfTrip words left text
+IsTold words who left ReadFault text = IsOfUnread words who.unread text
+IsTold words who left WriteFault text = text ≡ UNWRITTEN.now
+IsTold words who left Memory text = text ≡ NO_MEMORY.now
+
+-- Whether what is told takes memory: help, the version, and what is told of a failed write and of memory itself take
+-- none.
+abbrev pub takes_memory : (words : List (List ℕ)) → Status → Bool
+takes_memory words Usage = not (asks_help (slice_get words 0) || asks_version (slice_get words 0))
+takes_memory words WriteFault = false
+takes_memory words Memory = false
+takes_memory words _ = true
+
+-- the bytes of a message
+abbrev pub message_bytes : Message → List ℕ
+message_bytes (Fixed text) = text.now
+message_bytes (Written bytes) = bytes
+
+-- a message says such a text
 abbrev pub Carries : (List ℕ → Type 0) → Message → Type 0
-Carries IsText Nothing = Unit {0}
-Carries IsText (Fixed text) = IsText text.now
-Carries IsText (Written bytes) = IsText bytes
+Carries IsText message = IsText (message_bytes message)

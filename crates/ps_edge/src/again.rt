@@ -1,10 +1,9 @@
 // What is told of a seat that was outvoted again in the scan after its healing.
 
 ghost use Rattle.std.specs.Prelude.{◌≡◌, IfOk};
-ghost use Rattle.ps_edge.specs.Telling.{Carries, IsOfAgain, IsOfBadInput, IsOfRefusal, letter_of};
+ghost use Rattle.ps_edge.specs.Telling.{IsOfAgain, letter_of};
 
 use crate::spoken::Spoken;
-use crate::telling::Message;
 use ps_base::{Bytes, Memory};
 use ps_message::again_message;
 use ps_top::{Left, Words};
@@ -31,27 +30,5 @@ pub(crate) fn again_on(alloc: Global, words: &Words, left: &Left) -> Result<Byte
             again_message(alloc, name.as_bytes(), again.now, letter_of(again.seat))
         }
         _ => Ok(Bytes::new(alloc)),
-    }
-}
-
-// The message of a refusal, and after it that of the seat that was outvoted again.
-pub(crate) fn refusal_and_again(
-    alloc: Global,
-    words: &Words,
-    left: &Left,
-    refusal: Message,
-) -> Result<Message, Memory>
-    requires { Carries (IsOfRefusal words.now left.now) refusal }
-    ensures { IfOk result (Carries (IsOfBadInput words.now left.now)) }
-{
-    match refusal {
-        Message::Written(bytes) => {
-            let mut bytes = bytes;
-            let again = again_on(alloc, words, left)?;
-            bytes.extend_from_slice(again.as_slice())?;
-            Ok(Message::Written(bytes))
-        }
-        // a refusal has no words that are always the same
-        Message::Nothing | Message::Fixed(_) => Ok(Message::Nothing),
     }
 }

@@ -1,7 +1,8 @@
 // What is told of words that are not taken.
 
-ghost use Rattle.std.specs.Prelude.{◌≡◌, IfOk, slice_get};
-ghost use Rattle.ps_edge.specs.Telling.{Carries, IsOfWords, asks_help, asks_version};
+ghost use Rattle.std.specs.Prelude.{◌≡◌, IfOk, IsTrue, OnErr, slice_get};
+ghost use Rattle.ps_edge.specs.Telling.{Carries, IsOfWords, asks_help, asks_version, takes_memory};
+ghost use Rattle.ps_top.specs.declared.Status.TheVariants.{Usage};
 
 use crate::telling::Message;
 use ps_base::Memory;
@@ -43,7 +44,8 @@ fn word_at(words: &Words, place: usize) -> &[u8] {
 
 // What is told of words that are not taken. Of these the first five are looked at, one more than any command has.
 pub(crate) fn usage_on(alloc: Global, words: &Words) -> Result<Message, Memory>
-    ensures { IfOk result (Carries (IsOfWords words.now)) }
+    ensures told { IfOk result (Carries (IsOfWords words.now)) }
+    ensures memory { OnErr result (IsTrue (takes_memory words.now Usage)) }
 {
     if asks_help(words) {
         return Ok(Message::Fixed(HELP));

@@ -1,14 +1,11 @@
 // What is told of an application that `check` accepts, and of comments that are shown otherwise than they are read.
 
-ghost use Rattle.std.specs.Prelude.{◌≡◌, ◌++◌, List, IsTrue, IfOk, Some, codes, slice_get};
-ghost use Rattle.ps_notes.specs.declared.note.OddComment.{OddComment as OddCommentOf};
-ghost use Rattle.ps_notes.specs.declared.note.Placed.{Placed as PlacedOf};
-ghost use Rattle.ps_edge.specs.Telling.{AreNotes, AreOfDone, AreOfRun, AreOfWholeRun, ArePlaced, Carries};
-ghost use Rattle.ps_edge.specs.Telling.{asks_run, notes_text, odds_text};
+ghost use Rattle.std.specs.Prelude.{◌≡◌, IfOk, slice_get};
+ghost use Rattle.ps_edge.specs.Telling.{AreNotes, AreNotesOn, AreOfDone, AreOfRun, AreOfWholeRun, AreOnComments};
+ghost use Rattle.ps_edge.specs.Telling.{asks_check, asks_run, notes_text, odds_text};
 
 use crate::again::again_on;
 use crate::spoken::Spoken;
-use crate::telling::Message;
 use ps_base::{Bytes, Memory};
 use ps_findings::{odd_comments, odd_lines, placed_notes};
 use ps_message::{Listener, note_line, odd_line};
@@ -23,7 +20,7 @@ const MOST_LOOKED_AT: u32 = 262_144;
 
 // Whether the words are those of `check`.
 fn asks_check(words: &Words) -> bool
-    ensures { IsTrue result → slice_get words.now 0 ≡ Some (codes "check") }
+    ensures { result ≡ asks_check (slice_get words.now 0) }
 {
     words.len() > 0 && words.at(0).as_str() == "check"
 }
@@ -71,8 +68,7 @@ fn lines_on(
     source: &Source,
     app: &App,
 ) -> Result<Bytes, Memory>
-    ensures { IfOk result (λ bytes. (placed : List PlacedOf) × ArePlaced app.now placed × (odds : List OddCommentOf)
-        × (bytes ≡ notes_text name.now app.now placed ++ odds_text name.now odds)) }
+    ensures { IfOk result (AreNotesOn name.now app.now) }
 {
     let placed = placed_notes(alloc, source, app)?;
     let odds = odd_comments(alloc, text)?;
@@ -82,10 +78,9 @@ fn lines_on(
     Ok(lines)
 }
 
-// The notes on an application that `check` accepted.
-fn notes_on(alloc: Global, words: &Words, left: &Left) -> Result<Message, Memory>
-    requires { slice_get words.now 0 ≡ Some (codes "check") }
-    ensures { IfOk result (Carries (AreNotes words.now left.now)) }
+// The notes on an application that `check` accepted; empty where none is left.
+fn notes_on(alloc: Global, words: &Words, left: &Left) -> Result<Bytes, Memory>
+    ensures { IfOk result (AreNotes words.now left.now) }
 {
     match (
         &left.app,
@@ -94,10 +89,9 @@ fn notes_on(alloc: Global, words: &Words, left: &Left) -> Result<Message, Memory
         Spoken::App.name_in(words),
     ) {
         (Some(app), Some(source), Some(text), Some(name)) => {
-            let lines = lines_on(alloc, name.as_bytes(), text.as_slice(), source, app)?;
-            Ok(Message::Written(lines))
+            lines_on(alloc, name.as_bytes(), text.as_slice(), source, app)
         }
-        _ => Ok(Message::Nothing),
+        _ => Ok(Bytes::new(alloc)),
     }
 }
 
@@ -108,8 +102,7 @@ fn comments_of<L: Listener>(
     spoken: Spoken,
     listener: &L,
 ) -> Result<Bytes, Memory>
-    requires { IsTrue (asks_run (slice_get words.now 0)) }
-    ensures { IfOk result (AreOfRun words.now) }
+    ensures { IfOk result (AreOnComments words.now spoken) }
 {
     match spoken.name_in(words) {
         Some(name) => {
@@ -146,24 +139,23 @@ fn run_on<L: Listener>(
     words: &Words,
     left: &Left,
     listener: &L,
-) -> Result<Message, Memory>
-    ensures { IfOk result (Carries (AreOfWholeRun words.now left.now)) }
+) -> Result<Bytes, Memory>
+    ensures { IfOk result (AreOfWholeRun words.now left.now) }
 {
     let mut lines = again_on(alloc, words, left)?;
     let comments = comments_on(alloc, words, listener)?;
     lines.extend_from_slice(comments.as_slice())?;
-    Ok(Message::Written(lines))
+    Ok(lines)
 }
 
 // What is told of a call that did all.
-#[tactic(auto, using(crate::proofs::Told::of_notes, crate::proofs::Told::of_run))]
 pub(crate) fn done_on<L: Listener>(
     alloc: Global,
     words: &Words,
     left: &Left,
     listener: &L,
-) -> Result<Message, Memory>
-    ensures { IfOk result (Carries (AreOfDone words.now left.now)) }
+) -> Result<Bytes, Memory>
+    ensures { IfOk result (AreOfDone words.now left.now) }
 {
     if asks_check(words) {
         notes_on(alloc, words, left)

@@ -1,7 +1,9 @@
 // All that the program does, over the system.
 
-ghost use Rattle.std.specs.Prelude.{◌≡◌, ◌≢◌, ◌⊎◌, ◌≤◌, []};
-ghost use Rattle.ps_edge.specs.Exit.{exit_number};
+ghost use Rattle.std.specs.Prelude.{◌≡◌, ◌≢◌, ◌⊎◌, ◌≤◌, ℕ, List, []};
+ghost use Rattle.std.specs.declared.io.ErrorKind.{ErrorKind as KindOf};
+ghost use Rattle.ps_edge.specs.Exit.{exit_number, number_without_words};
+ghost use Rattle.ps_edge.specs.System.{ExitsWith};
 ghost use Rattle.ps_words.specs.Command as asked;
 ghost use Rattle.ps_words.specs.Command.Command.{NotTaken};
 
@@ -24,6 +26,9 @@ pub fn exit_of_words<R: Env + rt::Files + Print + Eprint + AllocGlobal>(
     words: &Words,
 ) -> u8
     ensures in_range { result ≤ 7 }
+
+    // The number is that of the status with which the call ended, over files and an output that tell no bytes.
+    ensures does { ExitsWith words.now result }
 
     // Usage comes exactly where the words are not taken, unless the output fails or memory runs out.
     ensures usage { result ≡ exit_number Status.Usage → asked.command_of words.now ≡ NotTaken }
@@ -59,6 +64,10 @@ pub fn exit_of_words<R: Env + rt::Files + Print + Eprint + AllocGlobal>(
 /// Does all that the program does, and says the number with which it exits: 0 to 7, or 8 where there are no words.
 pub fn exit_of_program<R: Env + rt::Files + Print + Eprint + AllocGlobal>(system: &R) -> u8
     ensures in_range { result ≤ 8 }
+
+    // The number is that of a call with the words that the system gives, or where it gives none, that of the error.
+    ensures does { ((words : List (List ℕ)) × ExitsWith words result)
+        ⊎ ((kind : KindOf) × (result ≡ number_without_words kind)) }
 {
     match words_given(system.alloc(), env::args(system)) {
         Ok(words) => exit_of_words(system, &words),

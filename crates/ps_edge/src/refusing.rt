@@ -1,24 +1,25 @@
 // What is told of a refusal.
 
-ghost use Rattle.std.specs.Prelude.{◌≡◌, ℕ, List, IfOk, IfSome};
-ghost use Rattle.ps_message.specs.Message.{Says};
-ghost use Rattle.ps_edge.specs.Telling.{Carries, IsOfRefusal};
+ghost use Rattle.std.specs.Prelude.{◌≡◌, IfOk, IsTrue};
+ghost use Rattle.ps_edge.specs.Hearing.{listener_seen};
+ghost use Rattle.ps_edge.specs.Spoken.{most_of};
+ghost use Rattle.ps_edge.specs.Telling.{IsOfOther, IsOfRefusal, source_of};
 
+use crate::known::KnownListener;
 use crate::spoken::Spoken;
-use crate::telling::Message;
 use ps_accepted::accept_text;
 use ps_base::{Bytes, Fail, Memory, Refusal, Rule};
 use ps_findings::{
     RegionSizes, detail_on, dirty_told, header_told, inputs_told, past_told, refusal_of_app,
 };
-use ps_message::{Listener, message};
+use ps_message::message;
 use ps_top::{Left, Words};
 use ps_vote::{Seat, VoteSizes, VoteWorld};
 use std::alloc::Global;
 
 // The text of the application that is left, or nothing.
 fn source_in(left: &Left) -> &[u8]
-    ensures { IfSome left.now.text (λ bytes. result.now ≡ bytes) }
+    ensures { result.now ≡ source_of left.now.text }
 {
     match &left.text {
         Some(text) => text.as_slice(),
@@ -98,17 +99,18 @@ fn told_on(alloc: Global, left: &Left, text: &[u8], refusal: &Refusal) -> Result
 }
 
 // The message of a refusal of another text of this name, which is read for its line.
-fn refusal_of_other<L: Listener>(
+fn refusal_of_other<L: KnownListener>(
     alloc: Global,
     name: &str,
     left: &Left,
+    spoken: Spoken,
     refusal: &Refusal,
     listener: &L,
 ) -> Result<Bytes, Memory>
-    ensures { IfOk result (λ bytes. (text given : List ℕ) × Says name.now text refusal.now given bytes) }
+    ensures { IsTrue (L.tells listener.now) → IfOk result (IsOfOther (most_of spoken)
+        (listener_seen L.quiet L.heard L.reads L.unread L.room listener.now) name.now refusal.now) }
 {
-    let most = Spoken::by_rule(refusal.rule).most();
-    let text = listener.text_of(alloc, name, most);
+    let text = listener.first_of(alloc, name, spoken.most());
     let words = told_on(alloc, left, text.as_slice(), refusal)?;
     message(
         alloc,
@@ -119,26 +121,25 @@ fn refusal_of_other<L: Listener>(
     )
 }
 
-// The message of the refusal that is left.
-pub(crate) fn refusal_on<L: Listener>(
+// The message of the refusal that is left; empty where none is, or no word names its text.
+pub(crate) fn refusal_on<L: KnownListener>(
     alloc: Global,
     words: &Words,
     left: &Left,
     listener: &L,
-) -> Result<Message, Memory>
-    ensures { IfOk result (Carries (IsOfRefusal words.now left.now)) }
+) -> Result<Bytes, Memory>
+    ensures { IsTrue (L.tells listener.now) → IfOk result (IsOfRefusal words.now
+        (listener_seen L.quiet L.heard L.reads L.unread L.room listener.now) left.now) }
 {
     let Some(refusal) = &left.refusal else {
-        return Ok(Message::Nothing);
+        return Ok(Bytes::new(alloc));
     };
     let spoken = Spoken::by_rule(refusal.rule);
     let Some(name) = spoken.name_in(words) else {
-        return Ok(Message::Nothing);
+        return Ok(Bytes::new(alloc));
     };
-    let source = source_in(left);
-    let bytes = match spoken {
-        Spoken::App => refusal_of_app(alloc, name, source, refusal)?,
-        _ => refusal_of_other(alloc, name, left, refusal, listener)?,
-    };
-    Ok(Message::Written(bytes))
+    match spoken {
+        Spoken::App => refusal_of_app(alloc, name, source_in(left), refusal),
+        _ => refusal_of_other(alloc, name, left, spoken, refusal, listener),
+    }
 }

@@ -1,7 +1,7 @@
 // Which of the texts of a call a rule speaks of, and which word names it.
 
-ghost use Rattle.std.specs.Prelude.{◌≡◌, IfSome};
-ghost use Rattle.ps_edge.specs.Spoken.{IsNamed, place_of, spoken_of};
+ghost use Rattle.std.specs.Prelude.{◌≡◌, MatchOption};
+ghost use Rattle.ps_edge.specs.Spoken.{most_of, named, place_of, spoken_of};
 
 use ps_base::Rule;
 use ps_base::limits::{
@@ -41,7 +41,9 @@ impl Spoken {
     }
 
     /// As many bytes of such a text as its rules look at.
-    pub(crate) fn most(self) -> u32 {
+    pub(crate) fn most(self) -> u32
+        ensures { result ≡ most_of self }
+    {
         match self {
             Spoken::App => LARGEST_SOURCE,
             Spoken::Cert => LARGEST_CERTIFICATE,
@@ -63,7 +65,7 @@ impl Spoken {
 
     /// The word that names such a text, if there is one.
     pub(crate) fn name_in(self, words: &Words) -> Option<&str>
-        ensures { IfSome result (λ name. IsNamed words.now self name.now) }
+        ensures { MatchOption result (named words.now self ≡ None) (λ name. named words.now self ≡ Some name.now) }
     {
         let place = self.place();
         if place < words.len() {

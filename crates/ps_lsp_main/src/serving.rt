@@ -1,9 +1,11 @@
 // From the beginning of a stream to its end.
 
-ghost use Rattle.std.specs.Prelude.{◌≡◌, IfErr, IfOk, IfSome, IsTrue, OnErr, OnOk};
+ghost use Rattle.std.specs.Prelude.{◌≡◌, [], IfErr, IfOk, IsTrue, OnErr, OnOk};
 ghost use Rattle.ps_lsp_rpc.specs.Sending.{Continues};
-ghost use Rattle.ps_lsp_main.specs.Streaming.{EndsWith, IsShort, IsWhole, Serves, ServesFrame, ServesNext};
-ghost use Rattle.ps_lsp_main.specs.Streaming.{ServesStream};
+ghost use Rattle.ps_lsp_text.specs.Stages.{ended_by, stage_of};
+ghost use Rattle.ps_lsp_main.specs.Endings.{Goes, Leads, ending_in, status_of};
+ghost use Rattle.ps_lsp_main.specs.Streaming.{EndsWith, HandsOn, HandsOnNext, IsFailed, IsShort, Serves, ServesFrame};
+ghost use Rattle.ps_lsp_main.specs.Streaming.{ServesNext, ServesStream};
 
 use ps_lsp_rpc::{Frame, Incoming, Unsent, read_frame, send_reply};
 use ps_lsp_text::Server;
@@ -28,7 +30,9 @@ pub(crate) enum Ending {
 impl Ending {
     /// The number with which the program exits: 0 after a shutdown, 1 without one, and else that of the other
     /// programs for the same failure.
-    pub(crate) fn number(self) -> u8 {
+    pub(crate) fn number(self) -> u8
+        ensures { result ≡ status_of self }
+    {
         match self {
             Ending::Exit => 0,
             Ending::Broken => 1,
@@ -47,7 +51,10 @@ pub(crate) fn serve_one<O: Output>(
     body: &[u8],
     out: &mut O,
 ) -> Result<(), Ending>
-    ensures serves { IsTrue (O.tells out.old) → OnOk result (Serves body.now (O.taken out.old) (O.taken out.new)) }
+    ensures serves { IsTrue (O.tells out.old) →
+        OnOk result (Serves server.old server.new body.now (O.taken out.old) (O.taken out.new)) }
+    ensures goes { OnOk result (Goes body.now (stage_of server.old) (stage_of server.new)) }
+    ensures handed_on { OnOk result (O.held_back out.new ≡ []) }
     ensures short { IfErr result IsShort }
     ensures begun { IsTrue (O.tells out.old) → OnErr result (Continues (O.taken out.old) (O.taken out.new)) }
     ensures telling { O.tells out.new ≡ O.tells out.old }
@@ -64,7 +71,7 @@ pub(crate) fn serve_one<O: Output>(
 
 // How a server ended, if it did.
 fn ending_of(server: &Server) -> Option<Ending>
-    ensures { IfSome result IsWhole }
+    ensures { result ≡ ending_in (ended_by (stage_of server.now)) }
 {
     match server.ended() {
         Some(true) => Some(Ending::Exit),
@@ -80,8 +87,10 @@ fn serve_frame<O: Output>(
     frame: &Frame,
     out: &mut O,
 ) -> Result<Option<Ending>, Ending>
-    ensures served { IsTrue (O.tells out.old) → OnOk result (ServesFrame frame.now (O.taken out.old) (O.taken out.new)) }
-    ensures whole { IfOk result (λ given. IfSome given IsWhole) }
+    ensures served { IsTrue (O.tells out.old) →
+        OnOk result (ServesFrame frame.now server.old server.new (O.taken out.old) (O.taken out.new)) }
+    ensures leads { IfOk result (Leads frame.now (stage_of server.old) (stage_of server.new)) }
+    ensures hands_on { OnOk result (HandsOn (O.held_back out.old) (O.held_back out.new)) }
     ensures short { IfErr result IsShort }
     ensures begun { IsTrue (O.tells out.old) → OnErr result (Continues (O.taken out.old) (O.taken out.new)) }
     ensures telling { O.tells out.new ≡ O.tells out.old }
@@ -111,11 +120,11 @@ fn serve_next<I: Incoming, O: Output>(
     input: &mut I,
     out: &mut O,
 ) -> Result<Option<Ending>, Ending>
-    ensures served { OnOk result (ServesNext (I.tells input.old) (O.tells out.old) (I.ahead input.old) (I.ahead input.new)
-        (O.taken out.old) (O.taken out.new)) }
-    ensures whole { IfOk result (λ given. IfSome given IsWhole) }
-    ensures fails { IfErr result (λ ending. EndsWith (I.tells input.old) (O.tells out.old) ending (I.ahead input.old)
-        (I.ahead input.new) (O.taken out.old) (O.taken out.new)) }
+    ensures served { IfOk result (λ ending. ServesNext (I.tells input.old) (O.tells out.old) server.old server.new ending
+        (I.ahead input.old) (I.ahead input.new) (O.taken out.old) (O.taken out.new)) }
+    ensures fails { IfErr result (λ ending. IsFailed ending × EndsWith (I.tells input.old) (O.tells out.old) ending
+        (I.ahead input.old) (I.ahead input.new) (O.taken out.old) (O.taken out.new)) }
+    ensures hands_on { HandsOnNext result (O.held_back out.old) (O.held_back out.new) }
     ensures reading { I.tells input.new ≡ I.tells input.old }
     ensures writing { O.tells out.new ≡ O.tells out.old }
 {
@@ -131,7 +140,7 @@ fn serve_next<I: Incoming, O: Output>(
 /// the output fails or memory runs out.
 pub(crate) fn serve<I: Incoming, O: Output>(alloc: Global, input: &mut I, out: &mut O) -> Ending
     ensures { ServesStream (I.tells input.old) (O.tells out.old) result (I.ahead input.old) (I.ahead input.new)
-        (O.taken out.old) (O.taken out.new) }
+        (O.taken out.old) (O.taken out.new) (O.held_back out.old) (O.held_back out.new) }
 {
     let mut server = Server::new(alloc);
     'messages: for _ in 0..u64::MAX {

@@ -1,6 +1,6 @@
 // What is written for a message.
 
-ghost use Rattle.std.specs.Prelude.{◌≡◌, IsTrue, OnErr, OnOk, option_map};
+ghost use Rattle.std.specs.Prelude.{◌≡◌, [], IsTrue, OnErr, OnOk, option_map};
 ghost use Rattle.serde_json.specs.View.{view};
 ghost use Rattle.ps_lsp_rpc.specs.Sending.{Continues, Sends, SendsReply};
 
@@ -57,6 +57,7 @@ fn send<O: Output>(alloc: Global, out: &mut O, value: Option<&Value>) -> Result<
 /// on. Where that fails, what was written before stays, and a part of the reply may stand after it.
 pub fn send_reply<O: Output>(alloc: Global, out: &mut O, reply: &Reply) -> Result<(), Unsent>
     ensures sends { IsTrue (O.tells out.old) → OnOk result (SendsReply reply.now (O.taken out.old) (O.taken out.new)) }
+    ensures handed_on { OnOk result (O.held_back out.new ≡ []) }
     ensures begun { IsTrue (O.tells out.old) → OnErr result (Continues (O.taken out.old) (O.taken out.new)) }
     ensures telling { O.tells out.new ≡ O.tells out.old }
 {

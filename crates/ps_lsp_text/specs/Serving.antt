@@ -1,10 +1,16 @@
 -- What the server sends for a message.
-use Rattle.std.specs.Prelude.{ℕ, List, Option, option_map}
+use Rattle.std.specs.Prelude.{◌≡◌, ℕ, List, Option, option_map}
 use Rattle.serde_json.specs.Data.{Data}
 use Rattle.serde_json.specs.View.{view}
 use Rattle.ps_lsp_rpc.specs.Rpc.{Answers, IsReadAs, asked}
 use Rattle.ps_lsp_rpc.specs.declared.sending.Reply.{Reply}
+use Rattle.ps_lsp_text.specs.Stages.{method_in, stage_after, stage_of}
+use Rattle.ps_lsp_text.specs.declared.server.Server.{Server}
 
--- the message of these bytes is answered as often as it asks: a request once under its id, a notification never
-abbrev pub IsAnswered : List ℕ → Reply → Type 0
-IsAnswered body reply = (value : Option Data) × IsReadAs body value × Answers (asked value) (option_map view reply.answer)
+-- The message of these bytes is answered as often as it asks: a request once under its id, a notification never; and its
+-- method leads from the stage before it to the one after it.
+pub record IsAnswered (before after : Server) (body : List ℕ) (reply : Reply) : Type 0 where
+  pub value : Option Data
+  pub read : IsReadAs body value
+  pub answers : Answers (asked value) (option_map view reply.answer)
+  pub stage : stage_of after ≡ stage_after (stage_of before) (method_in value)

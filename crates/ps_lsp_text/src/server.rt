@@ -1,12 +1,14 @@
 // The server: its open texts, and what it does for each method.
 
-ghost use Rattle.std.specs.Prelude.{◌≡◌, ℕ, List, IfOk};
+ghost use Rattle.std.specs.Prelude.{◌≡◌, ℕ, List, IfOk, OnOk};
 ghost use Rattle.serde_json.specs.View.{view};
 ghost use Rattle.ps_lsp_text.specs.Findings.{Diagnoses};
 ghost use Rattle.ps_accepted.specs.Answering.{IsFrontOf};
 ghost use Rattle.ps_lsp_text.specs.Texts.{held};
 ghost use Rattle.ps_lsp_text.specs.Published.{TellsOf};
+ghost use Rattle.ps_lsp_rpc.specs.Rpc.{value_of};
 ghost use Rattle.ps_lsp_text.specs.Serving.{IsAnswered};
+ghost use Rattle.ps_lsp_text.specs.Stages.{ended_by, method_in, stage_after, stage_by, stage_of};
 
 use crate::asking::{changed_text, position_in, text_at, uri_of};
 use crate::fronts::front_of;
@@ -20,7 +22,7 @@ use serde_json::Value;
 use std::alloc::Global;
 
 /// How far a server is.
-#[derive(Clone, Copy, PartialEq)]
+#[derive(Clone, Copy)]
 pub enum Stage {
     /// It has not been asked to begin.
     Fresh,
@@ -95,6 +97,32 @@ fn capabilities(alloc: Global) -> Result<Value, Memory> {
     }
 }
 
+// How far a server is after a method.
+fn stage_by(before: Stage, method: &str) -> Stage
+    ensures { result ≡ stage_by before method.now }
+{
+    match before {
+        Stage::Fresh => match method {
+            "exit" => Stage::Ended { orderly: false },
+            "initialize" => Stage::Running,
+            _ => Stage::Fresh,
+        },
+        Stage::Running => match method {
+            "exit" => Stage::Ended { orderly: false },
+            "shutdown" => Stage::Shut,
+            _ => Stage::Running,
+        },
+        Stage::Shut => match method {
+            "exit" => Stage::Ended { orderly: true },
+            _ => Stage::Shut,
+        },
+        Stage::Ended { orderly } => match method {
+            "exit" => Stage::Ended { orderly: false },
+            _ => Stage::Ended { orderly },
+        },
+    }
+}
+
 // A question about a place of a text.
 #[derive(Clone, Copy)]
 enum Asks {
@@ -114,7 +142,9 @@ fn result_at(alloc: Global, asks: Asks, uri: &str, asked: Asked) -> Result<Value
 
 impl Server {
     /// A server that has not been asked to begin. It takes no memory.
-    pub fn new(alloc: Global) -> Server {
+    pub fn new(alloc: Global) -> Server
+        ensures { stage_of result ≡ Stage.Fresh }
+    {
         Server {
             stage: Stage::Fresh,
             texts: Texts::new(alloc),
@@ -122,7 +152,9 @@ impl Server {
     }
 
     /// Whether it has been told to exit, and then whether it was asked to shut down before.
-    pub fn ended(&self) -> Option<bool> {
+    pub fn ended(&self) -> Option<bool>
+        ensures { result ≡ ended_by (stage_of self.now) }
+    {
         match self.stage {
             Stage::Ended { orderly } => Some(orderly),
             Stage::Fresh | Stage::Running | Stage::Shut => None,
@@ -142,7 +174,8 @@ impl Server {
 
     // Holds the text of a name, and tells what is found in it.
     fn opened(&mut self, alloc: Global, uri: &str, text: &str) -> Result<Value, Memory>
-        ensures { IfOk result (λ notice. TellsOf uri.now text.now (view notice)) }
+        ensures tells { IfOk result (λ notice. TellsOf uri.now text.now (view notice)) }
+        ensures stays { self.new.stage ≡ self.old.stage }
     {
         let front = front_of(text);
         self.texts.hold(alloc, uri, front)?;
@@ -154,12 +187,9 @@ impl Server {
     }
 
     // A text is opened, or changed: its name, and what it is now.
-    fn open(
-        &mut self,
-        alloc: Global,
-        uri: Option<&str>,
-        text: Option<&str>,
-    ) -> Result<Done, Memory> {
+    fn open(&mut self, alloc: Global, uri: Option<&str>, text: Option<&str>) -> Result<Done, Memory>
+        ensures { self.new.stage ≡ self.old.stage }
+    {
         match (uri, text) {
             (Some(uri), Some(text)) => Ok(told(self.opened(alloc, uri, text)?)),
             _ => Ok(failed(Code::NoParams, "a text has a name and a text")),
@@ -167,7 +197,9 @@ impl Server {
     }
 
     // A text is closed.
-    fn close(&mut self, alloc: Global, request: &Request) -> Result<Done, Memory> {
+    fn close(&mut self, alloc: Global, request: &Request) -> Result<Done, Memory>
+        ensures { self.new.stage ≡ self.old.stage }
+    {
         match uri_of(request) {
             Some(uri) => {
                 self.texts.let_go(uri);
@@ -207,7 +239,9 @@ impl Server {
     }
 
     // What comes of a method while the server answers.
-    fn run(&mut self, alloc: Global, request: &Request, method: &str) -> Result<Done, Memory> {
+    fn run(&mut self, alloc: Global, request: &Request, method: &str) -> Result<Done, Memory>
+        ensures { self.new.stage ≡ self.old.stage }
+    {
         match method {
             "textDocument/didOpen" => {
                 self.open(
@@ -226,27 +260,19 @@ impl Server {
         }
     }
 
-    // What comes of a method, by how far the server is.
-    fn perform(&mut self, alloc: Global, request: &Request) -> Result<Done, Memory> {
-        let Some(method) = request.method() else {
-            return Ok(failed(Code::NoRequest, "a request has a method"));
-        };
-        match (self.stage, method) {
-            (Stage::Fresh, "initialize") => {
-                self.stage = Stage::Running;
-                Ok(given(capabilities(alloc)?))
-            }
-            (stage, "exit") => {
-                self.stage = Stage::Ended {
-                    orderly: stage == Stage::Shut,
-                };
-                Ok(given(Value::Null))
-            }
-            (Stage::Running, "shutdown") => {
-                self.stage = Stage::Shut;
-                Ok(given(Value::Null))
-            }
-            (Stage::Running, "initialized") => Ok(given(Value::Null)),
+    // What comes of a method, by how far the server was before it.
+    fn perform_in(
+        &mut self,
+        alloc: Global,
+        request: &Request,
+        before: Stage,
+        method: &str,
+    ) -> Result<Done, Memory>
+        ensures { self.new.stage ≡ self.old.stage }
+    {
+        match (before, method) {
+            (Stage::Fresh, "initialize") => Ok(given(capabilities(alloc)?)),
+            (_, "exit") | (Stage::Running, "shutdown" | "initialized") => Ok(given(Value::Null)),
             (Stage::Running, _) => self.run(alloc, request, method),
             (Stage::Fresh, _) => Ok(failed(
                 Code::NotReady,
@@ -259,10 +285,22 @@ impl Server {
         }
     }
 
+    // What comes of a message; its method, if it has one, says how far the server is after it.
+    fn perform(&mut self, alloc: Global, request: &Request) -> Result<Done, Memory>
+        ensures { OnOk result (self.new.stage ≡ stage_after self.old.stage (method_in (value_of request.now))) }
+    {
+        let Some(method) = request.method() else {
+            return Ok(failed(Code::NoRequest, "a request has a method"));
+        };
+        let before = self.stage;
+        self.stage = stage_by(before, method);
+        self.perform_in(alloc, request, before, method)
+    }
+
     /// What is sent for the message with this body: the answer, where it asks for one, and a notice, where it opens,
     /// changes or closes a text. It returns for any bytes. An error means out of memory.
     pub fn reply(&mut self, alloc: Global, body: &[u8]) -> Result<Reply, Memory>
-        ensures answered { IfOk result (IsAnswered body.now) }
+        ensures answered { IfOk result (IsAnswered self.old self.new body.now) }
     {
         let request = Request::read(alloc, body)?;
         let Done { outcome, notice } = self.perform(alloc, &request)?;

@@ -1,6 +1,7 @@
 -- What a run of three seats wrote of the items of a trace, by what its world answered.
-use Rattle.std.proofs.Common.{◌≡◌, ◌∙◌, ◌++◌, ℕ, zero, suc, Bool, List, [], ◌∷◌, Option, Some, None, Result, Ok, Err, refl, sym, ap, subst, take, drop, append_assoc}
+use Rattle.std.proofs.Common.{◌≡◌, ◌∙◌, ◌++◌, ℕ, zero, suc, Bool, List, [], ◌∷◌, Option, Some, None, Result, Ok, Err, map, refl, sym, ap, subst, take, drop, append_assoc}
 use Rattle.std.proofs.lemmas.List.{take-append-drop}
+use Rattle.std.specs.Option.{option_or}
 use Rattle.ps_base.specs.declared.failing.Refusal.{Refusal}
 use Rattle.ps_model.specs.Network.{Network}
 use Rattle.ps_model.specs.Meaning.{Item}
@@ -8,17 +9,22 @@ use Rattle.ps_model.specs.Meaning.Item.{scan, restart}
 use Rattle.ps_trace.specs.Scans.{Scans, End}
 use Rattle.ps_trace.specs.Scans.End.{whole, refused as is_refused}
 use Rattle.ps_vote.specs.declared.faults.VoteFault.{VoteFault}
+use Rattle.ps_vote.specs.declared.seat.Seat.{Seat}
 use Rattle.ps_vote.specs.declared.seat.Vote.{Vote}
+use Rattle.ps_vote.specs.Votes.{vote}
 use Rattle.ps_vote.specs.Worlds.{Machines, World_state, Event}
 use Rattle.ps_vote.specs.Steps.{world_step, after}
 use Rattle.ps_vote.specs.Whole.{Whole, machines_in, after_events}
 use Rattle.ps_vote.specs.Orders.{Path, Course, at_vote, path_of_scan, scanned, course_from}
+use Rattle.ps_runs.specs.Again.{again_among, again_at, first_again, healed_by}
 use Rattle.ps_runs.specs.Doing.{Did, all, refused, unread, refused_item, unwritten, next}
 use Rattle.ps_runs.specs.Outcomes.{Outcome, performed, refuses, anew, vote_lines, IsTold}
-use Rattle.ps_runs.specs.Seats.{due, next_path, voted_at, vote_taken, unless_at_fault, VotesScan, VotesItem, coming, course_lines, fault_refusal, run_end, AreAtBeginning, VotesTo}
+use Rattle.ps_runs.specs.Seats.{due, next_path, voted_at, vote_taken, unless_at_fault, healed_behind, again_behind, VotesScan, VotesItem, coming, course_lines, fault_refusal, run_end, AreAtBeginning, VotesTo, first_outvoted_again}
 use Rattle.ps_runs.specs.declared.items.Cut.{Cut}
 use Rattle.ps_runs.specs.declared.items.Cut.TheVariants.{Refused, Unread, Unwritten}
+use Rattle.ps_runs.specs.declared.seats.Again.{Again}
 use Rattle.ps_runs.specs.declared.seats.StruckSeats.{StruckSeats}
+use Rattle.ps_runs.proofs.Firsts.{or_none, or_both}
 use Rattle.ps_runs.proofs.SeatFaults.{Stands, due_of_scan, first_stands, stands_behind}
 
 -- events after others
@@ -36,6 +42,11 @@ take_nothing : (n : ℕ) → take {A = ℕ} n [] ≡ []
 take_nothing zero = refl
 take_nothing (suc n) = refl
 
+-- the seat of earlier scans, and else that of this one
+first_is : (before : Option Again) (healed : Option Seat) (now : ℕ) (v : Vote) → first_again before healed now v ≡ option_or before (again_at healed now v)
+first_is None healed now v = refl
+first_is (Some again) healed now v = refl
+
 -- every outcome that is taken is told
 abbrev pub TakesTold : {T : Type 0} → T → Outcome Vote → T → Type 0
 TakesTold t outcome t' = IsTold outcome
@@ -49,6 +60,14 @@ module _ (net : Network) (heals : Bool) (faults : List VoteFault) where
   abbrev pub ending : (number : ℕ) → List Item → Whole → Whole
   ending number items w = after_events (coming heals faults number items w).events w
 
+  -- the first seat that is outvoted again in what a run comes to, from where it stands
+  abbrev pub again_in : Course → StruckSeats → Option Again
+  again_in run p = option_or p.again (again_among heals p.healed run.done (map (vote (machines_in p.world.setup)) run.votes))
+
+  -- the same of items from a number on
+  abbrev pub again_of : (number : ℕ) → List Item → StruckSeats → Option Again
+  again_of number items p = again_in (coming heals faults number items p.world) p
+
   -- so many scans were made in this run
   abbrev pub StandsIn : ℕ → StruckSeats → Type 0
   StandsIn done p = Stands faults done p × (p.heals ≡ heals)
@@ -60,12 +79,14 @@ module _ (net : Network) (heals : Bool) (faults : List VoteFault) where
     said_first : (items : List Item) → saying (suc done) (item ∷ items) p.world ≡ vote_lines net outcome ++ saying (suc made) items after.world
     same_end : (items : List Item) → ending (suc done) (item ∷ items) p.world ≡ ending (suc made) items after.world
     same_refusal : (items : List Item) → (coming heals faults (suc done) (item ∷ items) p.world).refused ≡ (coming heals faults (suc made) items after.world).refused
+    same_again : (items : List Item) → again_of (suc done) (item ∷ items) p ≡ again_of (suc made) items after
 
   -- A run stops at an item: nothing is to come of it and later ones but a refusal.
   record Stops (done : ℕ) (item : Item) (refusal : Refusal) (p after : StruckSeats) : Type 0 where
     said_none : (items : List Item) → saying (suc done) (item ∷ items) p.world ≡ []
     world_is : (items : List Item) → after.world ≡ ending (suc done) (item ∷ items) p.world
     ends_so : (items : List Item) (end : End) → run_end (coming heals faults (suc done) (item ∷ items) p.world).refused end ≡ is_refused refusal
+    again_is : (items : List Item) → after.again ≡ again_of (suc done) (item ∷ items) p
 
   -- a scan that the faults of its number strike
   module _ (done now : ℕ) (ins : List Bool) (outcome : Outcome Vote) (p after' : StruckSeats) (stands : StandsIn done p) (makes : VotesScan net p now ins outcome after') where
@@ -96,6 +117,20 @@ module _ (net : Network) (heals : Bool) (faults : List VoteFault) where
     outcome_is : (at : Option VoteFault) → (next_path p now ins).refused ≡ at → outcome ≡ unless_at_fault at (vote_taken net m now (voted_at p now ins))
     outcome_is at is = makes.comes ∙ ap (λ a. unless_at_fault a (vote_taken net m now (voted_at p now ins))) is
 
+    -- its vote
+    abbrev voted : Vote
+    voted = vote m (voted_at p now ins)
+
+    -- the votes of the scans after it
+    abbrev votes_later : List Item → List Vote
+    votes_later items = map (vote m) (later items).votes
+
+    healed_is : (next_path p now ins).refused ≡ None → healed_by heals voted ≡ after'.healed
+    healed_is is = ap (λ h. healed_by h voted) (sym stands.1) ∙ sym (makes.healed ∙ ap (healed_behind p) (outcome_is None is))
+
+    again_is : (next_path p now ins).refused ≡ None → option_or p.again (again_at p.healed now voted) ≡ after'.again
+    again_is is = sym (first_is p.again p.healed now voted) ∙ sym (makes.again ∙ ap (again_behind p) (outcome_is None is))
+
     goes_scan : (at : Option VoteFault) → (next_path p now ins).refused ≡ at → IsTold outcome → Goes done (scan now ins) outcome p after'
     goes_scan (Some f) is told = absurd (subst IsTold (outcome_is (Some f) is) told)
     goes_scan None is told = record {
@@ -107,6 +142,11 @@ module _ (net : Network) (heals : Bool) (faults : List VoteFault) where
           ∙ (λ i. record { setup = p.world.setup; state = events_behind m (path p.heals (due p)).events (later items).events p.world.state i })
           ∙ (λ i. ending (suc (suc done)) items (sym makes.happens i));
       same_refusal = λ items. ap (λ (c : Course). c.refused) (course_is None is items) ∙ (λ i. (coming heals faults (suc (suc done)) items (sym makes.happens i)).refused);
+      same_again = λ items. ap (λ (c : Course). again_in c p) (course_is None is items)
+          ∙ sym (or_both p.again (again_at p.healed now voted) (again_among heals (healed_by heals voted) (later items).done (votes_later items)))
+          ∙ (λ i. option_or (again_is is i) (again_among heals (healed_is is i) (later items).done (votes_later items)))
+          ∙ (λ i. let w = sym makes.happens i in let run = coming heals faults (suc (suc done)) items w in
+          option_or after'.again (again_among heals after'.healed run.done (map (vote (machines_in w.setup)) run.votes)));
     }
 
     stops_scan : (refusal : Refusal) (at : Option VoteFault) → (next_path p now ins).refused ≡ at → outcome ≡ refuses refusal → Stops done (scan now ins) refusal p after'
@@ -117,6 +157,7 @@ module _ (net : Network) (heals : Bool) (faults : List VoteFault) where
           said_none = λ items. ap (λ (c : Course). course_lines net m c.done c.votes) (course_is (Some f) is items);
           world_is = λ items. makes.happens ∙ sym (ap (λ (c : Course). after_events c.events p.world) (course_is (Some f) is items));
           ends_so = λ items end. ap (λ (c : Course). run_end c.refused end) (course_is (Some f) is items) ∙ ap is_refused (sym same);
+          again_is = λ items. makes.again ∙ ap (again_behind p) refuses_it ∙ sym (or_none p.again) ∙ sym (ap (λ (c : Course). again_in c p) (course_is (Some f) is items));
         }
 
   goes_on : (done : ℕ) (item : Item) (outcome : Outcome Vote) (p after' : StruckSeats) → StandsIn done p → VotesItem net p item outcome after' → IsTold outcome → Goes done item outcome p after'
@@ -127,6 +168,7 @@ module _ (net : Network) (heals : Bool) (faults : List VoteFault) where
     said_first = λ items. (λ i. vote_lines net (sym begins.0 i) ++ saying (suc done) items (sym begins.1 i).world);
     same_end = λ items. (λ i. ending (suc done) items (sym begins.1 i).world);
     same_refusal = λ items. (λ i. (coming heals faults (suc done) items (sym begins.1 i).world).refused);
+    same_again = λ items. (λ i. again_of (suc done) items (sym begins.1 i));
   }
 
   stops_at : (done : ℕ) (item : Item) (refusal : Refusal) (p after' : StruckSeats) → StandsIn done p → VotesItem net p item (refuses refusal) after' → Stops done item refusal p after'
@@ -138,6 +180,7 @@ module _ (net : Network) (heals : Bool) (faults : List VoteFault) where
     pub written : bytes ≡ saying (suc done) scans.items p.world
     pub ends : after'.world ≡ ending (suc done) scans.items p.world
     pub ended : run_end (coming heals faults (suc done) scans.items p.world).refused scans.end ≡ end
+    pub again : after'.again ≡ again_of (suc done) scans.items p
 
   -- these bytes begin what is said of the items
   abbrev pub Begun : (done : ℕ) → List Item → StruckSeats → (bytes : List ℕ) → Type 0
@@ -151,11 +194,11 @@ module _ (net : Network) (heals : Bool) (faults : List VoteFault) where
   CameTo done scans p after' bytes (Err Unwritten) = Begun done scans.items p bytes
 
   no_item : (done : ℕ) (p : StruckSeats) (end : End) → Came done (record { items = []; end = end }) p p [] end
-  no_item done p end = record { written = refl; ends = refl; ended = refl }
+  no_item done p end = record { written = refl; ends = refl; ended = refl; again = sym (or_none p.again) }
 
   stopped : (done : ℕ) (item : Item) (rest : Scans) (refusal : Refusal) (p after' : StruckSeats) → Stops done item refusal p after' →
       Came done (record { items = item ∷ rest.items; end = rest.end }) p after' [] (is_refused refusal)
-  stopped done item rest refusal p after' stops = record { written = sym (stops.said_none rest.items); ends = stops.world_is rest.items; ended = stops.ends_so rest.items rest.end }
+  stopped done item rest refusal p after' stops = record { written = sym (stops.said_none rest.items); ends = stops.world_is rest.items; ended = stops.ends_so rest.items rest.end; again = stops.again_is rest.items }
 
   module _ (done : ℕ) (item : Item) (outcome : Outcome Vote) (p mid : StruckSeats) (goes : Goes done item outcome p mid) where
     begun_behind : (items : List Item) (bytes : List ℕ) → Begun goes.made items mid bytes → Begun done (item ∷ items) p (vote_lines net outcome ++ bytes)
@@ -177,6 +220,7 @@ module _ (net : Network) (heals : Bool) (faults : List VoteFault) where
       written = ap (λ l. vote_lines net outcome ++ l) came.written ∙ sym (goes.said_first rest.items);
       ends = came.ends ∙ sym (goes.same_end rest.items);
       ended = ap (λ (f : Option VoteFault). run_end f rest.end) (goes.same_refusal rest.items) ∙ came.ended;
+      again = came.again ∙ sym (goes.same_again rest.items);
     }
 
     came_to_behind : (rest : Scans) (after' : StruckSeats) (bytes : List ℕ) (ended : Result (Unit {0}) Cut) → CameTo goes.made rest mid after' bytes ended →
@@ -212,18 +256,30 @@ module _ (net : Network) (heals : Bool) (faults : List VoteFault) where
 
 -- ---- A whole run.
 
+-- from its beginning, where no seat was healed
+again_first : (net : Network) (p : StruckSeats) → AreAtBeginning net p → (run : Course) → again_in net p.heals p.faults run p ≡ first_outvoted_again p.heals (machines_in p.world.setup) run
+again_first net p begins run = λ i. option_or (begins.none_again i) (again_among p.heals (begins.none_healed i) run.done (map (vote (machines_in p.world.setup)) run.votes))
+
 -- what was done of a trace, by how it ended, is what the run came to
-came_as : (net : Network) (scans : Scans) (p after' : StruckSeats) (bytes : List ℕ) (ended : Result (Unit {0}) Cut) →
+came_as : (net : Network) (scans : Scans) (p after' : StruckSeats) (bytes : List ℕ) (ended : Result (Unit {0}) Cut) → AreAtBeginning net p →
     CameTo net p.heals p.faults 0 scans p after' bytes ended → VotesTo net scans p after' bytes ended
-came_as net scans p after' bytes (Ok x) came = record { written = (came.written, came.ended); world = λ done. came.ends }
-came_as net scans p after' bytes (Err (Refused refusal)) came = record { written = (came.written, came.ended); world = λ done. came.ends }
-came_as net scans p after' bytes (Err Unread) begun = record { written = begun; world = λ done. absurd done }
-came_as net scans p after' bytes (Err Unwritten) begun = record { written = begun; world = λ done. absurd done }
+came_as net scans p after' bytes (Ok x) begins came = record {
+  written = (came.written, came.ended);
+  world = λ done. came.ends;
+  again = λ done. came.again ∙ again_first net p begins (coming p.heals p.faults 1 scans.items p.world);
+}
+came_as net scans p after' bytes (Err (Refused refusal)) begins came = record {
+  written = (came.written, came.ended);
+  world = λ done. came.ends;
+  again = λ done. came.again ∙ again_first net p begins (coming p.heals p.faults 1 scans.items p.world);
+}
+came_as net scans p after' bytes (Err Unread) begins begun = record { written = begun; world = λ done. absurd done; again = λ done. absurd done }
+came_as net scans p after' bytes (Err Unwritten) begins begun = record { written = begun; world = λ done. absurd done; again = λ done. absurd done }
 
 -- a run that was begun came to this
 pub votes_to : {T : Type 0} (net : Network) (time : ℕ) (p after' : StruckSeats) (t t' : T) (scans : Scans) (bytes : List ℕ) (ended : Result (Unit {0}) Cut) →
     AreAtBeginning net p → Did (VotesItem net) (λ t p outcome. vote_lines net outcome) (λ t p outcome t'. TakesTold t outcome t') time p t scans bytes ended after' t' →
     VotesTo net scans p after' bytes ended
 votes_to net time p after' t t' scans bytes ended begins did =
-    came_as net scans p after' bytes ended
+    came_as net scans p after' bytes ended begins
     (came_to net p.heals p.faults 0 time p t scans bytes ended after' t' (first_stands net p begins, refl) did)

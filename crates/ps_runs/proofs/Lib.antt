@@ -1,4 +1,5 @@
 mod Coming
+pub mod Firsts
 pub mod ToCome
 pub mod Doing
 mod Cutting

@@ -1,8 +1,9 @@
 -- What a run of two channels wrote of the items of a trace, by what its world answered.
-use Rattle.std.proofs.Common.{◌≡◌, ◌∙◌, ◌++◌, ℕ, suc, Bool, false, List, [], ◌∷◌, Result, Ok, Err, length, refl, sym, ap, subst, take, drop, append_assoc}
+use Rattle.std.proofs.Common.{◌≡◌, ◌∙◌, ◌++◌, ℕ, suc, Bool, false, List, [], ◌∷◌, Option, None, Result, Ok, Err, length, refl, sym, ap, subst, take, drop, append_assoc}
 use Rattle.std.specs.Prelude.{◌||◌, flat_map}
 use Rattle.std.proofs.Math.Bool.{or_assoc, or-false}
 use Rattle.std.proofs.lemmas.List.{take-append-drop}
+use Rattle.std.specs.Option.{option_or}
 use Rattle.ps_base.specs.declared.failing.Refusal.{Refusal}
 use Rattle.ps_model.specs.declared.channel.Fault.{Fault}
 use Rattle.ps_model.specs.declared.channel.Verdict.{Verdict}
@@ -19,11 +20,14 @@ use Rattle.ps_world.proofs.Turning.{after_append}
 use Rattle.ps_runs.specs.Doing.{Did, all, refused, unread, refused_item, unwritten, next}
 use Rattle.ps_runs.specs.Outcomes.{Outcome, performed, refuses, outcome_line}
 use Rattle.ps_runs.specs.Performing.{due, trips_with, MakesScan, Performs}
+use Rattle.ps_runs.specs.Tripping.{first_trip, trip_at}
 use Rattle.ps_runs.specs.Resting.{answered, ran, outcomes, any_trips, RunsTo}
 use Rattle.ps_runs.specs.Running.{IsBeginning}
 use Rattle.ps_runs.specs.declared.items.Cut.{Cut}
 use Rattle.ps_runs.specs.declared.items.Cut.TheVariants.{Refused, Unread, Unwritten}
 use Rattle.ps_runs.specs.declared.striking.StruckWorld.{StruckWorld}
+use Rattle.ps_runs.specs.declared.striking.Trip.{Trip}
+use Rattle.ps_runs.proofs.Firsts.{or_none, or_both}
 use Rattle.ps_runs.proofs.ToCome.{Stands, due_of_scan, first_stands, stands_behind}
 
 module _ (net : Network) (faults : List Fault) where
@@ -35,6 +39,10 @@ module _ (net : Network) (faults : List Fault) where
   abbrev pub any_of : (number : ℕ) → List Item → Whole → Bool
   any_of number items w = any_trips (answered net faults number items w)
 
+  -- the first of them that trips
+  abbrev pub first_of : (number : ℕ) → List Item → Whole → Option Trip
+  first_of number items w = first_trip (machines_in w.setup) faults number items w.state
+
   -- A run goes on after an item: what is to come of the item and later ones is its outcome and what is to come of those.
   record Goes (done : ℕ) (item : Item) (outcome : Outcome Verdict) (p after : StruckWorld) : Type 0 where
     made : ℕ
@@ -42,6 +50,7 @@ module _ (net : Network) (faults : List Fault) where
     first : (items : List Item) → coming (suc done) (item ∷ items) p.world ≡ outcome ∷ coming (suc made) items after.world
     same_end : (items : List Item) → ran faults (suc done) (item ∷ items) p.world ≡ ran faults (suc made) items after.world
     same_trip : (items : List Item) → (p.tripped || any_of (suc done) (item ∷ items) p.world) ≡ (after.tripped || any_of (suc made) items after.world)
+    same_first : (items : List Item) → option_or p.trip (first_of (suc done) (item ∷ items) p.world) ≡ option_or after.trip (first_of (suc made) items after.world)
 
   -- a scan that the faults of its number strike
   module _ (done now : ℕ) (ins : List Bool) (outcome : Outcome Verdict) (p after : StruckWorld) (stands : Stands faults done p) (makes : MakesScan net p now ins outcome after) where
@@ -60,6 +69,10 @@ module _ (net : Network) (faults : List Fault) where
     abbrev outcome_of : List Fault → Outcome Verdict
     outcome_of struck = performed now (verdict_of struck)
         (report_given (machines_in p.world.setup) (length net.outputs) (instance_count net) (at_compare (machines_in p.world.setup) struck now ins p.world.state))
+
+    -- its trip, where it trips
+    abbrev trip_of : List Fault → Option Trip
+    trip_of struck = trip_at (machines_in p.world.setup) now (at_compare (machines_in p.world.setup) struck now ins p.world.state)
 
     goes_scan : Goes done (scan now ins) outcome p after
     goes_scan = record {
@@ -81,6 +94,11 @@ module _ (net : Network) (faults : List Fault) where
           ∙ (λ i. p.tripped || (trips_with (verdict_of (due p)) || any_of (suc (suc done)) items (sym makes.happens i)))
           ∙ sym (or_assoc p.tripped (trips_with (verdict_of (due p))) (any_of (suc (suc done)) items after.world))
           ∙ (λ i. sym makes.remembers i || any_of (suc (suc done)) items after.world);
+      same_first = λ items.
+          (λ i. option_or p.trip (option_or (trip_of (same_due i)) (first_of (suc (suc done)) items (behind_scan (same_due i)))))
+          ∙ (λ i. option_or p.trip (option_or (trip_of (due p)) (first_of (suc (suc done)) items (sym makes.happens i))))
+          ∙ sym (or_both p.trip (trip_of (due p)) (first_of (suc (suc done)) items after.world))
+          ∙ (λ i. option_or (sym makes.trip i) (first_of (suc (suc done)) items after.world));
     }
 
   goes_on : (done : ℕ) (item : Item) (outcome : Outcome Verdict) (p after : StruckWorld) → Stands faults done p → Performs net p item outcome after → Goes done item outcome p after
@@ -91,6 +109,7 @@ module _ (net : Network) (faults : List Fault) where
     first = λ items. (λ i. sym begins.0 i ∷ coming (suc done) items (sym begins.1 i).world);
     same_end = λ items. (λ i. ran faults (suc done) items (sym begins.1 i).world);
     same_trip = λ items. (λ i. (sym begins.1 i).tripped || any_of (suc done) items (sym begins.1 i).world);
+    same_first = λ items. (λ i. option_or (sym begins.1 i).trip (first_of (suc done) items (sym begins.1 i).world));
   }
 
   -- a world that faults strike refuses no item
@@ -114,6 +133,7 @@ module _ (net : Network) (faults : List Fault) where
       pub taken : TakesAll t (coming (suc done) items p.world) t'
       pub ends : after.world ≡ ran faults (suc done) items p.world
       pub tripped : after.tripped ≡ (p.tripped || any_of (suc done) items p.world)
+      pub trip : after.trip ≡ option_or p.trip (first_of (suc done) items p.world)
 
     -- these bytes begin what is said of the items
     abbrev pub Begun : (done : ℕ) → List Item → StruckWorld → (bytes : List ℕ) → Type 0
@@ -127,7 +147,7 @@ module _ (net : Network) (faults : List Fault) where
     CameTo done scans p after t t' bytes (Err Unwritten) = Begun done scans.items p bytes
 
     no_item : (done : ℕ) (p : StruckWorld) (t : T) → Came done [] p p t t []
-    no_item done p t = record { written = refl; taken = refl; ends = refl; tripped = sym (or-false p.tripped) }
+    no_item done p t = record { written = refl; taken = refl; ends = refl; tripped = sym (or-false p.tripped); trip = sym (or_none p.trip) }
 
     module _ (done : ℕ) (item : Item) (outcome : Outcome Verdict) (p mid : StruckWorld) (goes : Goes done item outcome p mid) where
       -- what is said of the item first
@@ -153,6 +173,7 @@ module _ (net : Network) (faults : List Fault) where
           taken = subst (λ (l : List (Outcome Verdict)). TakesAll t l t') (sym (goes.first items)) (t-mid, took, came.taken);
           ends = came.ends ∙ sym (goes.same_end items);
           tripped = came.tripped ∙ sym (goes.same_trip items);
+          trip = came.trip ∙ sym (goes.same_first items);
         }
 
         came_to_behind : (rest : Scans) (after : StruckWorld) (t' : T) (bytes : List ℕ) (ended : Result (Unit {0}) Cut) → CameTo goes.made rest mid after t-mid t' bytes ended →
@@ -180,7 +201,7 @@ module _ (net : Network) (faults : List Fault) where
 
 -- ---- A whole run.
 
-module _ {T : Type 0} (net : Network) (takes : T → Outcome Verdict → T → Type 0) (p after : StruckWorld) (t t' : T) (none_tripped : p.tripped ≡ false) where
+module _ {T : Type 0} (net : Network) (takes : T → Outcome Verdict → T → Type 0) (p after : StruckWorld) (t t' : T) (none_tripped : p.tripped ≡ false) (no_trip : p.trip ≡ None) where
   -- what was done of a trace, by how it ended, is what the run came to
   came_as : (scans : Scans) (bytes : List ℕ) (ended : Result (Unit {0}) Cut) →
       CameTo net p.faults (outcome_line net) takes 0 scans p after t t' bytes ended → RunsTo net scans p after bytes ended
@@ -188,14 +209,16 @@ module _ {T : Type 0} (net : Network) (takes : T → Outcome Verdict → T → T
     written = (came.0.written, came.1);
     world = λ done. came.0.ends;
     tripped = λ done. came.0.tripped ∙ ap (λ b. b || any_of net p.faults 1 scans.items p.world) none_tripped;
+    trip = λ done. came.0.trip ∙ ap (λ t. option_or t (first_of net p.faults 1 scans.items p.world)) no_trip;
   }
   came_as scans bytes (Err (Refused refusal)) came = record {
     written = (came.0.written, came.1);
     world = λ done. came.0.ends;
     tripped = λ done. came.0.tripped ∙ ap (λ b. b || any_of net p.faults 1 scans.items p.world) none_tripped;
+    trip = λ done. came.0.trip ∙ ap (λ t. option_or t (first_of net p.faults 1 scans.items p.world)) no_trip;
   }
-  came_as scans bytes (Err Unread) begun = record { written = begun; world = λ done. absurd done; tripped = λ done. absurd done }
-  came_as scans bytes (Err Unwritten) begun = record { written = begun; world = λ done. absurd done; tripped = λ done. absurd done }
+  came_as scans bytes (Err Unread) begun = record { written = begun; world = λ done. absurd done; tripped = λ done. absurd done; trip = λ done. absurd done }
+  came_as scans bytes (Err Unwritten) begun = record { written = begun; world = λ done. absurd done; tripped = λ done. absurd done; trip = λ done. absurd done }
 
 -- a run that was begun came to this
 pub runs_to : {T : Type 0} (net : Network) (takes : T → Outcome Verdict → T → Type 0) (time : ℕ) (p after : StruckWorld) (t t' : T) (scans : Scans) (bytes : List ℕ)
@@ -203,5 +226,5 @@ pub runs_to : {T : Type 0} (net : Network) (takes : T → Outcome Verdict → T 
     Did (Performs net) (λ t p outcome. outcome_line net outcome) (λ t p outcome t'. takes t outcome t') time p t scans bytes ended after t' →
     RunsTo net scans p after bytes ended
 runs_to net takes time p after t t' scans bytes ended begins did =
-    came_as net takes p after t t' begins.none_tripped scans bytes ended
+    came_as net takes p after t t' begins.none_tripped begins.no_trip scans bytes ended
     (came_to net p.faults (outcome_line net) takes 0 time p t scans bytes ended after t' (first_stands net p begins) did)

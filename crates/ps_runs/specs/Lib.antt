@@ -7,6 +7,7 @@ pub mod Doing
 pub mod Cutting
 pub mod Running
 -- who performs them: worlds that faults strike, and the plain evaluator
+pub mod Tripping
 pub mod Performing
 pub mod Resting
 pub mod Again

@@ -1,6 +1,7 @@
 -- What a world of two channels that faults strike makes of the items of a trace.
 use Rattle.std.specs.Prelude.{◌≡◌, ◌⊎◌, ◌≤◌, ◌<◌, ℕ, suc, Bool, false, true, ◌||◌, List, [], ◌++◌, All, drop, length}
 use Rattle.std.specs.List.Sorted.{IsNonDecreasingBy}
+use Rattle.std.specs.Option.{option_or}
 use Rattle.ps_model.specs.declared.channel.Fault.{Fault}
 use Rattle.ps_model.specs.declared.channel.Verdict.{Verdict}
 use Rattle.ps_model.specs.declared.channel.Verdict.TheVariants.{Released, Tripped, Down}
@@ -11,6 +12,7 @@ use Rattle.ps_world.specs.Verdicts.{verdict, report_given}
 use Rattle.ps_world.specs.Whole.{Whole, machines_in, happened, after_events, IsSetupOf}
 use Rattle.ps_world.specs.Orders.{of_scan, at_compare, scan_events}
 use Rattle.ps_runs.specs.Outcomes.{Outcome, performed, anew}
+use Rattle.ps_runs.specs.Tripping.{trip_at}
 use Rattle.ps_runs.specs.declared.striking.StruckWorld.{StruckWorld}
 
 -- the faults that are still to come
@@ -51,6 +53,7 @@ pub record MakesScan (net : Network) (p : StruckWorld) (now : ℕ) (ins : List B
   pub leaves : to_come p ≡ due p ++ to_come after
   pub counts : (to_come p ≡ []) ⊎ (after.scans ≡ suc p.scans)
   pub remembers : after.tripped ≡ (p.tripped || trips_with (verdict (machines_in p.world.setup) (compared p now ins)))
+  pub trip : after.trip ≡ option_or p.trip (trip_at (machines_in p.world.setup) now (compared p now ins))
 
 -- the same run with another world
 abbrev pub with_world : Whole → StruckWorld → StruckWorld

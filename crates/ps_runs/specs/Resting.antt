@@ -9,6 +9,7 @@ use Rattle.ps_world.specs.Orders.{run_events}
 use Rattle.ps_world.specs.Whole.{Whole, machines_in, after_events}
 use Rattle.ps_runs.specs.Outcomes.{Outcome, performed, anew, outcome_line}
 use Rattle.ps_runs.specs.Performing.{trips_with}
+use Rattle.ps_runs.specs.Tripping.{first_trip}
 use Rattle.ps_runs.specs.Written.{HasEnded, WritesLines}
 use Rattle.ps_runs.specs.declared.items.Cut.{Cut}
 use Rattle.ps_runs.specs.declared.striking.StruckWorld.{StruckWorld}
@@ -40,10 +41,11 @@ any_trips [] = false
 any_trips (a ∷ given) = trips_with a.verdict || any_trips given
 
 -- What a run from its beginning over these scans came to: the bytes that it wrote, and at its end the world after
--- all events, and whether a scan tripped.
+-- all events, whether a scan tripped, and the first trip.
 pub record RunsTo (net : Network) (scans : Scans) (p after : StruckWorld) (bytes : List ℕ)
     (ended : Result (Unit {0}) Cut) : Type 0 where
   pub written : WritesLines (answer_lines net scans.items (answered net p.faults 1 scans.items p.world)) scans.end
       bytes ended
   pub world : HasEnded ended → after.world ≡ ran p.faults 1 scans.items p.world
   pub tripped : HasEnded ended → after.tripped ≡ any_trips (answered net p.faults 1 scans.items p.world)
+  pub trip : HasEnded ended → after.trip ≡ first_trip (machines_in p.world.setup) p.faults 1 scans.items p.world.state

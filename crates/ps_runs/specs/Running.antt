@@ -1,5 +1,5 @@
 -- What the items of a trace are done with.
-use Rattle.std.specs.Prelude.{◌≡◌, ◌≤◌, ◌<◌, false, All, take, length}
+use Rattle.std.specs.Prelude.{◌≡◌, ◌≤◌, ◌<◌, false, All, None, take, length}
 use Rattle.ps_model.specs.Network.{Network, input_count, instance_count}
 use Rattle.ps_trace.specs.FaultOrder.{AreInOrder, AreOfOneChannel}
 use Rattle.ps_world.specs.Whole.{IsWorldOf}
@@ -22,6 +22,7 @@ pub record IsBeginning (net : Network) (p : StruckWorld) : Type 0 where
   pub world : IsWorldOf net p.world
   pub none_made : p.scans ≡ 0
   pub none_tripped : p.tripped ≡ false
+  pub no_trip : p.trip ≡ None
   pub ordered : AreInOrder p.faults
   pub one_channel : AreOfOneChannel p.faults
   pub within : p.next ≤ length p.faults

@@ -1,6 +1,6 @@
 -- What a world of three seats that faults strike makes of the items of a trace, and what a run in it comes to.
 use Rattle.std.specs.Prelude.{◌≡◌, ◌⊎◌, ◌≤◌, ◌<◌, ℕ, suc, Bool, false, List, [], ◌∷◌, ◌++◌, take, drop, length}
-use Rattle.std.specs.Prelude.{All, Option, Some, None, Result}
+use Rattle.std.specs.Prelude.{All, Option, Some, None, Result, map}
 use Rattle.std.specs.List.Sorted.{IsNonDecreasingBy}
 use Rattle.ps_base.specs.declared.failing.Refusal.{Refusal}
 use Rattle.ps_base.specs.declared.failing.Rule.TheVariants.{F4}
@@ -17,7 +17,7 @@ use Rattle.ps_vote.specs.Worlds.{Machines, World_state, Restart}
 use Rattle.ps_vote.specs.Votes.{vote, report_given}
 use Rattle.ps_vote.specs.Whole.{Whole, machines_in, happened, after_events, IsSetupOf, IsWorldOf}
 use Rattle.ps_vote.specs.Orders.{Path, Course, of_scan, at_vote, path_of_scan, course_from}
-use Rattle.ps_runs.specs.Again.{first_again, healed_by}
+use Rattle.ps_runs.specs.Again.{again_among, first_again, healed_by}
 use Rattle.ps_runs.specs.Outcomes.{Outcome, performed, refuses, anew, vote_lines}
 use Rattle.ps_runs.specs.Written.{HasEnded, WritesLines}
 use Rattle.ps_runs.specs.declared.items.Cut.{Cut}
@@ -125,15 +125,21 @@ course_lines net m (scan now ins ∷ items) [] = []
 course_lines net m (scan now ins ∷ items) (z ∷ votes) =
     vote_lines net (vote_taken net m now z) ++ course_lines net m items votes
 
+-- the first seat that is outvoted again in a run from its beginning
+abbrev pub first_outvoted_again : (heals : Bool) → Machines → Course → Option Again
+first_outvoted_again heals m run = again_among heals None run.done (map (vote m) run.votes)
+
 -- the world after it
 abbrev pub voted_world : (heals : Bool) → List VoteFault → List Item → Whole → Whole
 voted_world heals faults items w = after_events (coming heals faults 1 items w).events w
 
 -- What a run from its beginning over these scans came to: the bytes that it wrote, and at its end, also where that is
--- at a fault that is refused, the world after all events.
+-- at a fault that is refused, the world after all events, and the first seat that was outvoted again.
 pub record VotesTo (net : Network) (scans : Scans) (p after : StruckSeats) (bytes : List ℕ)
     (ended : Result (Unit {0}) Cut) : Type 0 where
   pub written : let run = coming p.heals p.faults 1 scans.items p.world in
       WritesLines (course_lines net (machines_in p.world.setup) run.done run.votes) (run_end run.refused scans.end)
       bytes ended
   pub world : HasEnded ended → after.world ≡ voted_world p.heals p.faults scans.items p.world
+  pub again : HasEnded ended → after.again ≡ first_outvoted_again p.heals (machines_in p.world.setup)
+      (coming p.heals p.faults 1 scans.items p.world)

@@ -2,10 +2,12 @@
 
 ghost use Rattle.std.specs.Prelude.{◌≡◌, ◌⊎◌, ◌≤◌, ◌<◌, ℕ, suc, All, [], take, drop, length, IfOk};
 ghost use Rattle.std.specs.List.Sorted.{IsNonDecreasingBy};
+ghost use Rattle.std.specs.Option.{option_or};
 ghost use Rattle.ps_model.specs.Network.{Network, input_count, instance_count};
 ghost use Rattle.ps_trace.specs.FaultOrder.{AreInOrder, AreOfOneChannel};
-ghost use Rattle.ps_world.specs.Whole.{IsWorldOf};
+ghost use Rattle.ps_world.specs.Whole.{IsWorldOf, machines_in};
 ghost use Rattle.ps_runs.specs.Performing.{trips_with};
+ghost use Rattle.ps_runs.specs.Tripping.{outcome_in, trip_with, values_with};
 
 use crate::performing::Performer;
 use ps_base::Refusal;
@@ -112,6 +114,9 @@ fn is_trip(verdict: Verdict) -> bool
 // The values of the two channels in the first field in which their reports differ, where this is the cause of a trip.
 fn values_of(world: &mut World, cause: Cause) -> Option<(u16, u16)>
     ensures same { world.new ≡ world.old }
+    ensures values { result ≡ values_with cause
+        (outcome_in Channel.A (machines_in world.old.setup) world.old.state)
+        (outcome_in Channel.B (machines_in world.old.setup) world.old.state) }
 {
     let Cause::Differ(field) = cause else {
         return None;
@@ -124,6 +129,9 @@ fn values_of(world: &mut World, cause: Cause) -> Option<(u16, u16)>
 // Remembers a scan at this time with this verdict, which the world has just made, where it is the first that tripped.
 fn remember_trip(trip: &mut Option<Trip>, world: &mut World, now: u32, verdict: Verdict)
     ensures same { world.new ≡ world.old }
+    ensures first { trip.new ≡ option_or trip.old (trip_with verdict now
+        (outcome_in Channel.A (machines_in world.old.setup) world.old.state)
+        (outcome_in Channel.B (machines_in world.old.setup) world.old.state)) }
 {
     if trip.is_some() {
         return;

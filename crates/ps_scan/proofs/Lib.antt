@@ -6,3 +6,4 @@ mod Holding
 -- the pins of a call, and pins as bits
 pub mod FewPins
 pub mod Bitwise
+mod Stepping

@@ -1,10 +1,10 @@
 -- What calls promise, put together from their parts.
-use Rattle.std.specs.Prelude.{slice_index_or, ◌≢◌, ◌≤◌}
+use Rattle.std.specs.Prelude.{slice_index_or}
 use Rattle.std.proofs.Common.{◌≡◌, ◌⊎◌, ◌<◌, ℕ, zero, suc, Bool, IsTrue, List, [], ◌∷◌, Option, Some, Result, Err, Any, refl, sym, ◌∙◌, ap, subst, inl, inr, ⊎_elim, append-nil, arith}
 use Rattle.ps_outside.specs.Outside.{CountsStay, Rose}
 use Rattle.ps_runs.specs.declared.items.Cut.{Cut}
 use Rattle.ps_runs.specs.declared.items.Cut.TheVariants.{Unread}
-use Rattle.ps_top.specs.Asking.{Answer, Asking, IsAnswer, AsksFor, IsLeft, Worked, worked}
+use Rattle.ps_top.specs.Asking.{Answer, Asking, IsAnswer, AsksFor, IsLeftAfter, Worked, worked}
 use Rattle.ps_top.specs.Asking.Asking.{Says, Asks, Finds, Leaves}
 use Rattle.ps_top.specs.Calls.{OutputSeen, CallSeen, NameRose, KeepsFiles, KeepsOutput, KeepsCall, GoesOn, Passes, ReadsName, Writes, Streams, Causes, Answers, SaysAnswer, LeavesRefusal, with_left}
 use Rattle.ps_top.specs.Meets.{IsCut, Gives, Meets}
@@ -224,57 +224,57 @@ unread_answers name next names {old} {new} reads = record {
 
 -- a short answer was said
 pub said_answers : (said : Answer) (names : List (List ℕ)) {old new : CallSeen} {status : Status} → ¬ IsCut said.status → SaysAnswer said old new status →
-    LeavesRefusal new.left new.out status → Answers (Says said) names old new status
-said_answers said names {old} {new} {status} no_cut says refuses = record {
+    LeavesRefusal new.left new.out status → worked new.left ≡ worked old.left → Answers (Says said) names old new status
+said_answers said names {old} {new} {status} no_cut says refuses same = record {
   meets = λ tells. said_meets said old.files.held (NameRose old new) old.out.tells old.out.taken new.out.taken status (no_read_said said.status status no_cut says.ends) says.gives;
-  leaves = λ tells not_cut. tt;
+  leaves = λ tells not_cut. same;
   refuses = refuses;
   causes = said_causes names no_cut says;
 }
 
--- What is asked goes on as this, where these texts are held.
-pub record GoesOnAs (asking rest : Asking) (held : List ℕ → Option (List ℕ)) (work : Worked) (status : Status) : Type 0 where
+-- What is asked goes on as this, where these texts are held, and from where that was left goes on from where this is left.
+pub record GoesOnAs (asking rest : Asking) (held : List ℕ → Option (List ℕ)) (before mid : Worked) (status : Status) : Type 0 where
   pub right : (answer : Answer) → IsAnswer rest held answer → IsAnswer asking held answer
   pub asks : (name : List ℕ) → AsksFor rest held name → AsksFor asking held name
-  pub leaves : ¬ IsCut status → IsLeft rest held work → IsLeft asking held work
+  pub leaves : ¬ IsCut status → (work : Worked) → IsLeftAfter rest held mid work → IsLeftAfter asking held before work
 
 module _ (held : List ℕ → Option (List ℕ)) (work : Worked) (status : Status) where
   -- after the text that is held
-  pub asks_on : (name text : List ℕ) (next : List ℕ → Asking) → held name ≡ Some text → GoesOnAs (Asks name next) (next text) held work status
+  pub asks_on : (name text : List ℕ) (next : List ℕ → Asking) → held name ≡ Some text → GoesOnAs (Asks name next) (next text) held work work status
   asks_on name text next is = record {
     right = λ answer right. (text, is, right);
     asks = λ other asks. inr (text, is, asks);
-    leaves = λ not_cut leaves. (text, is, leaves);
+    leaves = λ not_cut last leaves. (text, is, leaves);
   }
 
   -- after what was found
-  pub finds_on : (X : Type 0) (Fits : X → Type 0) (next : X → Asking) (x : X) → Fits x → GoesOnAs (Finds X Fits next) (next x) held work status
+  pub finds_on : (X : Type 0) (Fits : X → Type 0) (next : X → Asking) (x : X) → Fits x → GoesOnAs (Finds X Fits next) (next x) held work work status
   finds_on X Fits next x fits = record {
     right = λ answer right. (x, fits, right);
     asks = λ other asks. (x, fits, asks);
-    leaves = λ not_cut leaves. (x, fits, leaves);
+    leaves = λ not_cut last leaves. (x, fits, leaves);
   }
 
   -- after what is left
-  pub leaves_on : (Fact : Worked → Type 0) (next : Asking) → (¬ IsCut status → Fact work) → GoesOnAs (Leaves Fact next) next held work status
-  leaves_on Fact next fact = record {
+  pub leaves_on : (Change : Worked → Worked → Type 0) (next : Asking) (mid : Worked) → (¬ IsCut status → Change work mid) → GoesOnAs (Leaves Change next) next held work mid status
+  leaves_on Change next mid change = record {
     right = λ answer right. right;
     asks = λ other asks. asks;
-    leaves = λ not_cut leaves. (fact not_cut, leaves);
+    leaves = λ not_cut last leaves. (mid, change not_cut, leaves);
   }
 
-  pub goes_both : (asking mid rest : Asking) → GoesOnAs asking mid held work status → GoesOnAs mid rest held work status → GoesOnAs asking rest held work status
-  goes_both asking mid rest first second = record {
+  pub goes_both : (then later : Worked) (asking mid rest : Asking) → GoesOnAs asking mid held work then status → GoesOnAs mid rest held then later status → GoesOnAs asking rest held work later status
+  goes_both then later asking mid rest first second = record {
     right = λ answer right. first.right answer (second.right answer right);
     asks = λ other asks. first.asks other (second.asks other asks);
-    leaves = λ not_cut leaves. first.leaves not_cut (second.leaves not_cut leaves);
+    leaves = λ not_cut last leaves. first.leaves not_cut last (second.leaves not_cut last leaves);
   }
 
 still_tells : {old mid : CallSeen} → Passes old mid → IsTrue old.files.tells → IsTrue mid.files.tells
 still_tells passes tells = subst (λ (b : Bool). IsTrue b) (sym passes.keeps.telling) tells
 
 -- the rest of a call, over files that hold the same texts, meets what the whole call is asked
-later_meets : (asking rest : Asking) (old mid new : CallSeen) (status : Status) → Passes old mid → GoesOnAs asking rest old.files.held (worked new.left) status →
+later_meets : (asking rest : Asking) (old mid new : CallSeen) (status : Status) → Passes old mid → GoesOnAs asking rest old.files.held (worked old.left) (worked mid.left) status →
     Meets rest mid.files.held (NameRose mid new) mid.out.tells mid.out.taken new.out.taken status → Meets asking old.files.held (NameRose old new) old.out.tells old.out.taken new.out.taken status
 later_meets asking rest old mid new status passes goes meets =
     let there = subst (λ (o : OutputSeen). Meets rest mid.files.held (NameRose mid new) o.tells o.taken new.out.taken status) passes.out meets in
@@ -286,11 +286,12 @@ later_meets asking rest old mid new status passes goes meets =
 
 -- a call that went on, and then did what it is asked as it goes on
 pub answers_behind : (asking rest : Asking) (names : List (List ℕ)) {old mid new : CallSeen} {status : Status} → Passes old mid →
-    (IsTrue old.files.tells → GoesOnAs asking rest old.files.held (worked new.left) status) → Answers rest names mid new status → Answers asking names old new status
+    (IsTrue old.files.tells → GoesOnAs asking rest old.files.held (worked old.left) (worked mid.left) status) → Answers rest names mid new status → Answers asking names old new status
 answers_behind asking rest names {old} {mid} {new} {status} passes goes answers = record {
   meets = λ tells. later_meets asking rest old mid new status passes (goes tells) (answers.meets (still_tells {old = old} {mid = mid} passes tells));
   leaves = λ tells not_cut.
-      (goes tells).leaves not_cut (subst (λ (h : List ℕ → Option (List ℕ)). IsLeft rest h (worked new.left)) passes.keeps.held (answers.leaves (still_tells {old = old} {mid = mid} passes tells) not_cut));
+      (goes tells).leaves not_cut (worked new.left)
+      (subst (λ (h : List ℕ → Option (List ℕ)). IsLeftAfter rest h (worked mid.left) (worked new.left)) passes.keeps.held (answers.leaves (still_tells {old = old} {mid = mid} passes tells) not_cut));
   refuses = answers.refuses;
   causes = causes_behind {old = old} {mid = mid} {new = new} passes answers.causes;
 }
@@ -302,32 +303,14 @@ answers_wider name answers = record { meets = answers.meets; leaves = answers.le
 
 -- a call that did what is asked of it as it goes on
 pub goes_answers : (asking rest : Asking) (names : List (List ℕ)) {old new : CallSeen} {status : Status} →
-    (IsTrue old.files.tells → GoesOnAs asking rest old.files.held (worked new.left) status) → Answers rest names old new status → Answers asking names old new status
+    (IsTrue old.files.tells → GoesOnAs asking rest old.files.held (worked old.left) (worked old.left) status) → Answers rest names old new status → Answers asking names old new status
 goes_answers asking rest names {old} {new} goes answers = answers_behind asking rest names {old = old} {mid = old} {new = new} (passes_same old) goes answers
 
 -- a call that found something, and did what it goes on as
 pub found_of_all : (X : Type 0) (Fits : X → Type 0) (next : X → Asking) (names : List (List ℕ)) {old new : CallSeen} {status : Status} (x : X) → Fits x →
     Answers (next x) names old new status → Answers (Finds X Fits next) names old new status
 found_of_all X Fits next names {old} {new} {status} x fits answers =
-    goes_answers (Finds X Fits next) (next x) names {old = old} {new = new} (λ tells. finds_on old.files.held (worked new.left) status X Fits next x fits) answers
-
--- a call that leaves something of which its answer does not speak
-pub answers_left : {asking : Asking} {names : List (List ℕ)} {old new last : CallSeen} {status : Status} (left : Left) → last ≡ with_left left new → worked left ≡ worked new.left →
-    left.refusal ≡ new.left.refusal → Answers asking names old new status → Answers asking names old last status
-answers_left {asking} {names} {old} {new} {last} {status} left is same refusal answers =
-    subst (λ (c : CallSeen). Answers asking names old c status) (sym is) (record {
-      meets = answers.meets;
-      leaves = λ tells not_cut. subst (λ (w : Worked). IsLeft asking old.files.held w) (sym same) (answers.leaves tells not_cut);
-      refuses = λ refusing. let r = answers.refuses refusing in (r.0, refusal ∙ r.1, r.2);
-      causes = record {
-        read_fault = answers.causes.read_fault;
-        write_fault = answers.causes.write_fault;
-        reads_exact = answers.causes.reads_exact;
-        writes_exact = answers.causes.writes_exact;
-        memory = answers.causes.memory;
-        keeps = record { files = answers.causes.keeps.files; out = answers.causes.keeps.out; loans = answers.causes.keeps.loans };
-      };
-    })
+    goes_answers (Finds X Fits next) (next x) names {old = old} {new = new} (λ tells. finds_on old.files.held (worked old.left) status X Fits next x fits) answers
 
 -- a call that was not cut short, and went on to its end
 pub done_causes : (names : List (List ℕ)) (status : Status) {old new : CallSeen} → ¬ IsCut status → GoesOn old new → Causes names old new status
@@ -414,6 +397,14 @@ unread_items file is streams = record {
 -- a write that did not fail
 pub writes_none : {failed : Type 0} {old new : CallSeen} → ¬ failed → Writes failed old new → Writes ⊥ old new
 writes_none not writes = record { rose = λ no. absurd no; exact = λ no. writes.exact not; keeps = writes.keeps; files = writes.files; loans = writes.loans }
+
+-- an answer was said of a call with something else left behind
+pub says_at : {said : Answer} {old new : CallSeen} {status : Status} (left : Left) → SaysAnswer said old new status → SaysAnswer said (with_left left old) new status
+says_at left says = record {
+  gives = says.gives;
+  ends = says.ends;
+  writes = record { rose = says.writes.rose; exact = says.writes.exact; keeps = says.writes.keeps; files = says.writes.files; loans = says.writes.loans };
+}
 
 -- an answer was said, and then something is left
 pub says_leaving : {said : Answer} {old new : CallSeen} {status : Status} (left : Left) → SaysAnswer said old new status → SaysAnswer said old (with_left left new) status

@@ -1,9 +1,9 @@
 -- What a load counts of its scans is what they mean.
 use Rattle.std.proofs.Common.{◌≡◌, ◌≤◌, ◌+◌, ◌*◌, ◌∙◌, ◌++◌, ℕ, suc, true, cond, Bool, IsTrue, List, [], ◌∷◌, Result, Ok, Err, length, map, refl, sym, ap, subst, append-nil, ⊎_elim, arith}
-use Rattle.std.specs.Prelude.{fold, flat_map, sum_by, Some, is_some}
-use Rattle.std.proofs.lemmas.Option.{same_Some}
+use Rattle.std.specs.Prelude.{fold, flat_map, sum_by, Option, None, is_some}
 use Rattle.std.proofs.lemmas.List.Sums.{sum_by-cons, count_by-le-length}
 use Rattle.std.proofs.lemmas.List.FromFn.{length-map-range_with_len}
+use Rattle.std.specs.Option.{option_or}
 use Rattle.ps_base.specs.declared.failing.Fail.{Fail}
 use Rattle.ps_base.specs.declared.failing.Fail.TheVariants.{Memory as NoneForRules, Refused as RefusedByRules}
 use Rattle.ps_model.specs.declared.channel.Verdict.{Verdict}
@@ -33,16 +33,16 @@ use Rattle.ps_load.specs.Texts.{app_text}
 use Rattle.ps_outside.specs.Outside.{Rose, last_count}
 use Rattle.ps_top.specs.Asking.{Answer, worked}
 use Rattle.ps_top.specs.Asking.Asking.{Says, Finds}
-use Rattle.ps_top.specs.Calls.{CallSeen, SaysAnswer, LeavesRefusal, Answers}
+use Rattle.ps_top.specs.Calls.{CallSeen, SaysAnswer, LeavesRefusal, Answers, with_left}
 use Rattle.ps_accepted.specs.Answering.{IsAcceptance}
 use Rattle.ps_top.specs.Meets.{IsCut}
 use Rattle.ps_top.specs.Refusing.{SaysNone}
 use Rattle.ps_runs.specs.Counting.{none_counted, with_more, counted_report, counted}
-use Rattle.ps_top.specs.Resting.{counted_answer, load_answer}
+use Rattle.ps_top.specs.Resting.{EndsWith, counted_answer, load_answer}
 use Rattle.ps_runs.specs.Doing.{Did, DoesItems}
 use Rattle.ps_runs.specs.Outcomes.{Outcome, performed}
 use Rattle.ps_runs.specs.Performing.{Performs}
-use Rattle.ps_top.specs.Program.{answer, with_application, summary, sum_scans, sum_trace, load, leaves_world, first_world}
+use Rattle.ps_top.specs.Program.{answer, with_application, summary, sum_scans, sum_trace, load, leaves_world, first_world, with_world}
 use Rattle.ps_runs.specs.Counting.{true_outputs, true_errors}
 use Rattle.ps_runs.specs.Resting.{answered, outcomes, ran}
 use Rattle.ps_runs.specs.declared.counting.Counter.{Counter}
@@ -51,10 +51,12 @@ use Rattle.ps_top.specs.declared.Status.TheVariants.{Refused as RefusedStatus}
 use Rattle.ps_runs.specs.declared.items.Cut.{Cut}
 use Rattle.ps_runs.specs.declared.items.Cut.TheVariants.{Refused, Unread, Unwritten}
 use Rattle.ps_runs.specs.declared.striking.StruckWorld.{StruckWorld}
-use Rattle.ps_top.proofs.Calling.{found_of_all, goes_answers, leaves_on, memory_answers, said_answers}
+use Rattle.ps_top.proofs.Calling.{answers_behind, found_of_all, leaves_on, memory_answers, passes_left, said_answers, says_at}
 use Rattle.ps_top.proofs.Meant.{ran_is}
 use Rattle.ps_top.proofs.Applied.{with_counts}
-use Rattle.ps_runs.proofs.Standing.{TakesAll, CameTo, came_to}
+use Rattle.ps_runs.specs.Tripping.{first_trip}
+use Rattle.ps_runs.specs.declared.striking.Trip.{Trip}
+use Rattle.ps_runs.proofs.Standing.{TakesAll, Came, CameTo, came_to, first_of}
 use Rattle.ps_runs.proofs.ToCome.{Stands}
 
 -- ---- The loop.
@@ -78,8 +80,8 @@ none_begun (b ∷ bytes) owed is = cc
 module _ (net : Network) (p after : StruckWorld) (scans : Scans) (c' : Counter) where
   -- what a load has counted of a whole trace, once it is told how its items ended
   abbrev pub CountsAsEnded : Result (Unit {0}) Cut → Type 0
-  CountsAsEnded (Ok x) = (c' ≡ fold counted none_counted (outcomes scans.items (answered net p.faults 1 scans.items p.world))) × (scans.end ≡ whole) × (after.world ≡ ran p.faults 1 scans.items p.world)
-  CountsAsEnded (Err (Refused refusal)) = (scans.end ≡ is_refused refusal) × (after.world ≡ ran p.faults 1 scans.items p.world)
+  CountsAsEnded (Ok x) = (c' ≡ fold counted none_counted (outcomes scans.items (answered net p.faults 1 scans.items p.world))) × (scans.end ≡ whole) × EndsWith scans.items p after
+  CountsAsEnded (Err (Refused refusal)) = (scans.end ≡ is_refused refusal) × EndsWith scans.items p after
   CountsAsEnded (Err Unread) = Unit {0}
   CountsAsEnded (Err Unwritten) = Unit {0}
 
@@ -91,25 +93,28 @@ module _ (net : Network) (p after : StruckWorld) (scans : Scans) (c' : Counter) 
   abbrev coming : List (Outcome Verdict)
   coming = outcomes scans.items (answered net p.faults 1 scans.items p.world)
 
-  told_counts : (bytes : List ℕ) (ended : Result (Unit {0}) Cut) → CameTo net p.faults silent counts 0 scans p after none_counted c' bytes ended → (bytes ≡ []) × CountsAsEnded ended
-  told_counts bytes (Ok x) came = (came.0.written ∙ nothing_said coming, (all_taken none_counted coming came.0.taken, came.1, came.0.ends))
-  told_counts bytes (Err (Refused refusal)) came = (came.0.written ∙ nothing_said coming, (came.1, came.0.ends))
-  told_counts bytes (Err Unread) begun = (none_begun bytes begun.0 (begun.1 ∙ nothing_said coming), tt)
-  told_counts bytes (Err Unwritten) begun = (none_begun bytes begun.0 (begun.1 ∙ nothing_said coming), tt)
+  all_ran : (bytes : List ℕ) → p.trip ≡ None → Came net p.faults silent counts 0 scans.items p after none_counted c' bytes → EndsWith scans.items p after
+  all_ran bytes no_trip came = record { world = came.ends; trip = came.trip ∙ ap (λ (o : Option Trip). option_or o (first_of net p.faults 1 scans.items p.world)) no_trip }
+
+  told_counts : (bytes : List ℕ) (ended : Result (Unit {0}) Cut) → p.trip ≡ None → CameTo net p.faults silent counts 0 scans p after none_counted c' bytes ended → (bytes ≡ []) × CountsAsEnded ended
+  told_counts bytes (Ok x) no_trip came = (came.0.written ∙ nothing_said coming, (all_taken none_counted coming came.0.taken, came.1, all_ran bytes no_trip came.0))
+  told_counts bytes (Err (Refused refusal)) no_trip came = (came.0.written ∙ nothing_said coming, (came.1, all_ran bytes no_trip came.0))
+  told_counts bytes (Err Unread) no_trip begun = (none_begun bytes begun.0 (begun.1 ∙ nothing_said coming), tt)
+  told_counts bytes (Err Unwritten) no_trip begun = (none_begun bytes begun.0 (begun.1 ∙ nothing_said coming), tt)
 
   -- the items of a load's trace were done from the first one on
-  pub items_count : (time : ℕ) (c : Counter) (bytes : List ℕ) (ended : Result (Unit {0}) Cut) → c ≡ none_counted → Stands p.faults 0 p →
+  pub items_count : (time : ℕ) (c : Counter) (bytes : List ℕ) (ended : Result (Unit {0}) Cut) → c ≡ none_counted → p.trip ≡ None → Stands p.faults 0 p →
       Did (Performs net) (λ t p outcome. silent outcome) (λ t p outcome t'. counts t outcome t') time p c scans bytes ended after c' → (bytes ≡ []) × CountsAsEnded ended
-  items_count time c bytes ended none stands did =
-      told_counts bytes ended
+  items_count time c bytes ended none no_trip stands did =
+      told_counts bytes ended no_trip
       (came_to net p.faults silent counts 0 time p none_counted scans bytes ended after c' stands (subst (λ (d : Counter). Did (Performs net) (λ t p outcome. silent outcome) (λ t p outcome t'. counts t outcome t') time p d scans bytes ended after c') none did))
 
   -- and nothing was written
-  pub loop_counts : {time : ℕ} {tells : Bool} {before now : List ℕ} (c : Counter) (ended : Result (Unit {0}) Cut) → c ≡ none_counted → Stands p.faults 0 p →
+  pub loop_counts : {time : ℕ} {tells : Bool} {before now : List ℕ} (c : Counter) (ended : Result (Unit {0}) Cut) → c ≡ none_counted → p.trip ≡ None → Stands p.faults 0 p →
       DoesItems (Performs net) (λ t q outcome. silent outcome) (λ t q outcome t'. counts t outcome t') time p c scans tells before now ended after c' →
       (IsTrue tells → now ≡ before) × CountsAsEnded ended
-  loop_counts {time} {tells} {before} c ended none stands does =
-      let came = items_count time c does.bytes ended none stands does.did in
+  loop_counts {time} {tells} {before} c ended none no_trip stands does =
+      let came = items_count time c does.bytes ended none no_trip stands does.did in
       (λ on. does.written on ∙ ap (λ (l : List ℕ). before ++ l) came.0 ∙ append-nil before, came.1)
 
 -- reading a text of a load never fails
@@ -237,24 +242,28 @@ module _ (net : Network) (sound : IsSound net) (n : ℕ) (w : Whole) (built : Is
 
   -- what a load says, and what is left, is what its scans mean
   pub load_answers : {old new : CallSeen} {status : Status} → SaysAnswer (load_answer n net [] w scans) old new status → LeavesRefusal new.left new.out status →
-      (¬ IsCut status → new.left.world ≡ Some (ran [] 1 scans.items w)) → Answers (sum_scans n net w.setup scans) [] old new status
+      (¬ IsCut status → worked new.left ≡ with_world (ran [] 1 scans.items w) (first_trip (machines_in w.setup) [] 1 scans.items w.state) (worked old.left)) →
+      Answers (sum_scans n net w.setup scans) [] old new status
   load_answers {old} {new} {status} says refuses leaves =
       let asking = Finds (List State) (Meaning net scans.items) (λ us. Says (summary n scans.end (map (report net) us))) in
-      goes_answers (sum_scans n net w.setup scans) asking [] {old = old} {new = new}
-      (λ tells. leaves_on old.files.held (worked new.left) status (leaves_world w.setup [] scans) asking (λ not_cut. leaves not_cut ∙ ap (λ (x : Whole). Some x) (ran_is net [] w built scans.items)))
-      (found_of_all (List State) (Meaning net scans.items) (λ us. Says (summary n scans.end (map (report net) us))) [] {old = old} {new = new} ws means
-      (said_answers (summary n scans.end (map (report net) ws)) [] (no_cut_summary n scans.end (map (report net) ws))
-      (subst (λ (a : Answer). SaysAnswer a old new status) (said_at scans.end) says) refuses))
+      let there : CallSeen = with_left new.left old in
+      let m = machines_in w.setup in
+      answers_behind (sum_scans n net w.setup scans) asking [] {old = old} {mid = there} {new = new} (passes_left new.left refl)
+      (λ tells. leaves_on old.files.held (worked old.left) status (leaves_world w.setup [] scans) asking (worked new.left)
+      (λ not_cut. leaves not_cut ∙ (λ i. with_world (ran_is net [] w built scans.items i) (first_trip m [] 1 scans.items (built.beginning i)) (worked old.left))))
+      (found_of_all (List State) (Meaning net scans.items) (λ us. Says (summary n scans.end (map (report net) us))) [] {old = there} {new = new} ws means
+      (said_answers (summary n scans.end (map (report net) ws)) [] {old = there} {new = new} (no_cut_summary n scans.end (map (report net) ws))
+      (says_at new.left (subst (λ (a : Answer). SaysAnswer a old new status) (said_at scans.end) says)) refuses refl))
 
 -- a load whose application is refused
 no_load_answers : (n : ℕ) (r : Refusal) {old new : CallSeen} {status : Status} → IsAcceptedAs app_text (is_refused_source r) →
-    SaysAnswer (answer (refusal_text r) RefusedStatus) old new status → LeavesRefusal new.left new.out status → Answers (load n) [] old new status
-no_load_answers n r {old} {new} read says refuses =
+    SaysAnswer (answer (refusal_text r) RefusedStatus) old new status → LeavesRefusal new.left new.out status → worked new.left ≡ worked old.left → Answers (load n) [] old new status
+no_load_answers n r {old} {new} read says refuses same =
     found_of_all Reading (IsAcceptedAs app_text) (with_application (with_counts (sum_trace n))) [] {old = old} {new = new} (is_refused_source r) read
-    (said_answers (answer (refusal_text r) RefusedStatus) [] (λ cut. grind arith) says refuses)
+    (said_answers (answer (refusal_text r) RefusedStatus) [] (λ cut. grind arith) says refuses same)
 
 -- a load whose application is not accepted
 pub none_answers : (n : ℕ) (why : Fail) {old new : CallSeen} {status : Status} → IsAcceptance app_text (Err why) → SaysNone why old new status → LeavesRefusal new.left new.out status →
-    Answers (load n) [] old new status
-none_answers n (RefusedByRules r) read says refuses = no_load_answers n r read says refuses
-none_answers n NoneForRules {old} {new} {status} read says refuses = subst (λ (s : Status). Answers (load n) [] old new s) (sym says.0) (memory_answers (load n) [] says.1)
+    worked new.left ≡ worked old.left → Answers (load n) [] old new status
+none_answers n (RefusedByRules r) read says refuses same = no_load_answers n r read says refuses same
+none_answers n NoneForRules {old} {new} {status} read says refuses same = subst (λ (s : Status). Answers (load n) [] old new s) (sym says.0) (memory_answers (load n) [] says.1)

@@ -1,5 +1,5 @@
 -- A run of three seats is answered by what its scans mean.
-use Rattle.std.proofs.Common.{◌≡◌, ◌∙◌, ◌++◌, ℕ, Bool, true, false, List, [], ◌∷◌, Option, Some, length, map, refl, sym, ap, subst}
+use Rattle.std.proofs.Common.{◌≡◌, ◌∙◌, ◌++◌, ℕ, Bool, true, false, List, [], ◌∷◌, Option, None, length, map, refl, sym, ap, subst}
 use Rattle.ps_base.specs.declared.failing.Refusal.{Refusal}
 use Rattle.ps_model.specs.Network.{Network, input_count, instance_count}
 use Rattle.ps_model.specs.Scanning.{State}
@@ -18,12 +18,13 @@ use Rattle.ps_vote.specs.Worlds.{Machines, World_state}
 use Rattle.ps_vote.specs.Votes.{vote}
 use Rattle.ps_vote.specs.Orders.{course}
 use Rattle.ps_vote.specs.Answers.{answers, AnswerRight, IsRight, VoteRunsAreRight, HealRunsAreRight}
-use Rattle.ps_vote.specs.Whole.{Whole, machines_in, after_events, IsWorldOf}
-use Rattle.ps_top.specs.Asking.{Answer, IsAnswer, IsLeft, Worked}
+use Rattle.ps_vote.specs.Whole.{Whole, machines_in, IsWorldOf}
+use Rattle.ps_top.specs.Asking.{Answer, IsAnswer, IsLeftAfter, Worked}
 use Rattle.ps_runs.specs.Lines.{restart_line, voted_text}
-use Rattle.ps_top.specs.Program.{answer, first_seats, voted_lines, end_line, end_status, told_votes, vote_scans}
+use Rattle.ps_top.specs.Program.{answer, first_seats, voted_lines, end_line, end_status, vote_scans, with_votes}
 use Rattle.ps_runs.specs.Seats.{run_end}
-use Rattle.ps_runs.specs.Seats.{course_lines, voted_world}
+use Rattle.ps_runs.specs.Seats.{coming, course_lines, first_outvoted_again, voted_world}
+use Rattle.ps_runs.specs.declared.seats.Again.{Again}
 use Rattle.ps_top.specs.Resting.{vote_answer}
 use Rattle.ps_top.specs.declared.Status.TheVariants.{BadInput}
 
@@ -72,15 +73,20 @@ module _ (net : Network) (sound : IsSound net) (heals : Bool) (faults : List Vot
       IsAnswer (vote_scans heals net w.setup faults scans) held said
   refusal_answers held scans r said is e = subst (λ (s : Scans). IsAnswer (vote_scans heals net w.setup faults s) held said) (sym is) ([], refl, e)
 
-  -- what is left of a run whose world this is
-  pub run_leaves : (scans scans' : Scans) → scans ≡ scans' → (held : List ℕ → Option (List ℕ)) (behind : Whole) (work : Worked) → work.votes ≡ Some behind → behind ≡ voted_world heals faults scans.items w →
-      IsLeft (vote_scans heals net w.setup faults scans') held work
-  run_leaves scans scans' same held behind work is_left ends =
-      let run = one_run net sound nothing scans'.items in (
-        is_left ∙ ap (λ (x : Whole). Some x) (ends ∙ ap (λ (s : Scans). voted_world heals faults s.items w) same ∙ (λ i. voted_world heals faults scans'.items (at_first i))),
-        (run.0, run.1, tt),
-      )
+  -- what is left of a run whose world this is, and the first seat that was outvoted again
+  pub run_leaves : (scans scans' : Scans) → scans ≡ scans' → (held : List ℕ → Option (List ℕ)) (behind : Whole) (again : Option Again) (before work : Worked) →
+      work ≡ with_votes behind again before → behind ≡ voted_world heals faults scans.items w →
+      again ≡ first_outvoted_again heals (machines_in w.setup) (coming heals faults 1 scans.items w) →
+      IsLeftAfter (vote_scans heals net w.setup faults scans') held before work
+  run_leaves scans scans' same held behind again before work is_left ends outvoted =
+      let run = one_run net sound nothing scans'.items in
+      let m = machines_in w.setup in
+      let ended = ends ∙ ap (λ (s : Scans). voted_world heals faults s.items w) same ∙ (λ i. voted_world heals faults scans'.items (at_first i)) in
+      let first = outvoted ∙ ap (λ (s : Scans). first_outvoted_again heals m (coming heals faults 1 s.items w)) same
+      ∙ (λ i. first_outvoted_again heals m (coming heals faults 1 scans'.items (at_first i))) in
+      (work, is_left ∙ (λ i. with_votes (ended i) (first i) before), (run.0, run.1, refl))
 
   -- and of one whose trace's header is refused: the world at the beginning
-  pub refusal_leaves : (scans : Scans) (r : Refusal) → scans ≡ only_refused r → (held : List ℕ → Option (List ℕ)) (work : Worked) → work.votes ≡ Some w → IsLeft (vote_scans heals net w.setup faults scans) held work
-  refusal_leaves scans r is held work is_left = run_leaves (only_refused r) scans (sym is) held w work is_left refl
+  pub refusal_leaves : (scans : Scans) (r : Refusal) → scans ≡ only_refused r → (held : List ℕ → Option (List ℕ)) (before work : Worked) → work ≡ with_votes w None before →
+      IsLeftAfter (vote_scans heals net w.setup faults scans) held before work
+  refusal_leaves scans r is held before work is_left = run_leaves (only_refused r) scans (sym is) held w None before work is_left refl refl

@@ -1,6 +1,5 @@
 -- What is answered where a run of three seats wrote so of the items of a trace.
-use Rattle.std.proofs.Common.{◌≡◌, ◌∙◌, ◌++◌, ℕ, Bool, IsTrue, List, [], Result, Ok, Err, refl, sym, ap, append_assoc, append-nil, ◌⊎◌, arith}
-use Rattle.ps_base.specs.declared.failing.Refusal.{Refusal}
+use Rattle.std.proofs.Common.{◌≡◌, ◌∙◌, ◌++◌, ℕ, Bool, IsTrue, List, [], Result, Ok, Err, refl, sym, ap, append_assoc, append-nil, arith}
 use Rattle.ps_model.specs.Network.{Network}
 use Rattle.ps_report.specs.Short.{refusal_text}
 use Rattle.ps_runs.specs.Doing.{Did}
@@ -9,16 +8,15 @@ use Rattle.ps_runs.specs.Seats.{VotesItem, coming, run_end, voted_world}
 use Rattle.ps_runs.specs.declared.items.Cut.{Cut}
 use Rattle.ps_runs.specs.declared.items.Cut.TheVariants.{Refused, Unread, Unwritten}
 use Rattle.ps_runs.specs.declared.seats.StruckSeats.{StruckSeats}
-use Rattle.ps_runs.proofs.Courses.{TakesTold, StandsIn, Came, Begun, CameTo, came_to}
+use Rattle.ps_runs.proofs.Courses.{TakesTold, again_of, StandsIn, Came, Begun, CameTo, came_to}
 use Rattle.ps_trace.specs.Scans.{Scans, End}
 use Rattle.ps_trace.specs.Scans.End.{whole, refused as is_refused}
 use Rattle.ps_vote.specs.declared.faults.VoteFault.{VoteFault}
 use Rattle.ps_top.specs.Asking.{Answer}
-use Rattle.ps_top.specs.Meets.{IsCut, AppendsPart, Gives}
+use Rattle.ps_top.specs.Meets.{AppendsPart}
 use Rattle.ps_top.specs.Program.{answer, end_line, end_status}
 use Rattle.ps_top.specs.Resting.{vote_answer}
-use Rattle.ps_top.specs.declared.Status.{Status}
-use Rattle.ps_top.specs.declared.Status.TheVariants.{Done, BadInput, ReadFault, WriteFault}
+use Rattle.ps_top.specs.declared.Status.TheVariants.{Done, BadInput}
 use Rattle.ps_top.proofs.Calling.{no_read_said, no_memory_said}
 use Rattle.ps_top.proofs.Ending.{AsEnded, IsEnd}
 use Rattle.ps_top.proofs.Meeting.{all_given, given_behind, part_given, part_unread}
@@ -56,10 +54,13 @@ module _ (net : Network) (heals : Bool) (faults : List VoteFault) where
     told_gives bytes tells start now (Err Unread) wrote begun = part_unread wanted tells start now (begun_part bytes tells start now wrote begun)
     told_gives bytes tells start now (Err Unwritten) wrote begun = part_given wanted tells start now (begun_part bytes tells start now wrote begun)
 
-    -- the world that is left after items that were done to an end
-    told_ends : (bytes : List ℕ) (ended : Result (Unit {0}) Cut) → IsEnd ended → CameTo net heals faults 0 scans p after' bytes ended → after'.world ≡ voted_world heals faults scans.items p.world
-    told_ends bytes (Ok x) end came = came.ends
-    told_ends bytes (Err (Refused refusal)) end came = came.ends
+    -- the world that is left after items that were done to an end, and the first seat that was outvoted again
+    abbrev pub Ends : Type 0
+    Ends = (after'.world ≡ voted_world heals faults scans.items p.world) × (after'.again ≡ again_of net heals faults 1 scans.items p)
+
+    told_ends : (bytes : List ℕ) (ended : Result (Unit {0}) Cut) → IsEnd ended → CameTo net heals faults 0 scans p after' bytes ended → Ends
+    told_ends bytes (Ok x) end came = (came.ends, came.again)
+    told_ends bytes (Err (Refused refusal)) end came = (came.ends, came.again)
     told_ends bytes (Err Unread) end begun = absurd end
     told_ends bytes (Err Unwritten) end begun = absurd end
 
@@ -69,5 +70,5 @@ module _ (net : Network) (heals : Bool) (faults : List VoteFault) where
       pub items_give : (tells : Bool) (start now : List ℕ) → (IsTrue tells → now ≡ start ++ bytes) → AsEnded (vote_answer heals net faults p.world scans) Done tells start now ended
       items_give tells start now wrote = told_gives bytes tells start now ended wrote (came_to net heals faults 0 time p t scans bytes ended after' t' stands did)
 
-      pub items_end : IsEnd ended → after'.world ≡ voted_world heals faults scans.items p.world
+      pub items_end : IsEnd ended → Ends
       items_end end = told_ends bytes ended end (came_to net heals faults 0 time p t scans bytes ended after' t' stands did)

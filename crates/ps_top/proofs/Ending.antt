@@ -1,5 +1,5 @@
 -- How a run comes to meet what it is asked, by how the items of its trace ended: whatever performs them, and whatever takes what comes of them.
-use Rattle.std.proofs.Common.{◌≡◌, ◌⊎◌, ℕ, Bool, List, Option, Some, Result, Ok, Err, inl, inr, refl, sym, ◌∙◌, ap, subst, arith}
+use Rattle.std.proofs.Common.{◌≡◌, ℕ, Bool, List, Some, Result, Ok, Err, inl, inr, refl, sym, ◌∙◌, subst, arith}
 use Rattle.ps_base.specs.declared.failing.Refusal.{Refusal}
 use Rattle.ps_model.specs.Meaning.{Item}
 use Rattle.ps_model.specs.Network.{Network}
@@ -9,7 +9,7 @@ use Rattle.ps_runs.specs.declared.items.Cut.{Cut}
 use Rattle.ps_runs.specs.declared.items.Cut.TheVariants.{Refused, Unread, Unwritten}
 use Rattle.ps_trace.specs.Reading.{only_refused}
 use Rattle.ps_trace.specs.Scans.{scans_of}
-use Rattle.ps_top.specs.Asking.{Answer, Asking, IsAnswer, IsLeft, Worked}
+use Rattle.ps_top.specs.Asking.{Answer, Asking, IsAnswer, IsLeftAfter, Worked}
 use Rattle.ps_top.specs.Asking.Asking.{Asks}
 use Rattle.ps_top.specs.Calls.{CallSeen, NameRose}
 use Rattle.ps_top.specs.Meets.{IsCut, Gives, Meets}
@@ -93,20 +93,20 @@ module _ {P T V : Type 0} (performs : P → Item → Outcome V → P → Type 0)
         (λ a same. subst (λ (b : Answer). IsAnswer (asking text) old.files.held b) (sym same) (refused text refusal none)) says.gives
     stops_meets status (cut text why written is does ends) rose = answered text status is rose (cut_gives text written why status does ends)
 
-  module _ (work : Worked) (leaves : (text written : List ℕ) (ended : Result (Unit {0}) Cut) → IsEnd ended → Does text written ended → IsLeft (asking text) old.files.held work)
-      (beginning : (text : List ℕ) (refusal : Refusal) → scans_of text net ≡ only_refused refusal → p' ≡ p → IsLeft (asking text) old.files.held work) where
+  module _ (before work : Worked) (leaves : (text written : List ℕ) (ended : Result (Unit {0}) Cut) → IsEnd ended → Does text written ended → IsLeftAfter (asking text) old.files.held before work)
+      (beginning : (text : List ℕ) (refusal : Refusal) → scans_of text net ≡ only_refused refusal → p' ≡ p → IsLeftAfter (asking text) old.files.held before work) where
     -- what is left of a trace that was run to its end
-    pub whole_leaves : (x : Unit {0}) → RunsTrace performs said takes net name p p' t t' old new (Ok x) → IsLeft (Asks name asking) old.files.held work
+    pub whole_leaves : (x : Unit {0}) → RunsTrace performs said takes net name p p' t t' old new (Ok x) → IsLeftAfter (Asks name asking) old.files.held before work
     whole_leaves x runs = (runs.0, runs.1, leaves runs.0 new.out.taken (Ok x) tt runs.2)
 
     cut_leaves : (text written : List ℕ) (why : Cut) (status : Status) → ¬ IsCut status → Does text written (Err why) → EndsCut why old.out.tells written new.out.taken status →
-        IsLeft (asking text) old.files.held work
+        IsLeftAfter (asking text) old.files.held before work
     cut_leaves text written (Refused refusal) status not_cut does says = leaves text written (Err (Refused refusal)) tt does
     cut_leaves text written Unread status not_cut does ends = absurd (not_cut (inl ends.0))
     cut_leaves text written Unwritten status not_cut does ends = absurd (not_cut (inr (inl ends.0)))
 
     -- and of one that stopped before
-    pub stops_leaves : (status : Status) → ¬ IsCut status → Stops status → IsLeft (Asks name asking) old.files.held work
+    pub stops_leaves : (status : Status) → ¬ IsCut status → Stops status → IsLeftAfter (Asks name asking) old.files.held before work
     stops_leaves status not_cut (short is same) = absurd (not_cut (inr (inr is)))
     stops_leaves status not_cut (unread is same) = absurd (not_cut (inl is))
     stops_leaves status not_cut (headless text refusal is none still says) = (text, is, beginning text refusal none still)

@@ -1,6 +1,6 @@
 -- A trace that is run in a world of two channels, from its beginning, answers what is asked of it.
 use Rattle.std.specs.Prelude.{IfErr, OnOk, ⊤}
-use Rattle.std.proofs.Common.{◌≡◌, ◌∷◌, [], ◌∙◌, ℕ, Bool, true, false, List, Option, Some, IsTrue, Result, Ok, Err, refl, sym, ap, subst, inl, arith}
+use Rattle.std.proofs.Common.{◌≡◌, ◌∷◌, [], ◌∙◌, ℕ, Bool, true, false, List, Option, IsTrue, Result, Ok, Err, refl, sym, ap, subst, inl, arith}
 use Rattle.ps_base.specs.declared.failing.Refusal.{Refusal}
 use Rattle.ps_model.specs.declared.channel.Verdict.{Verdict}
 use Rattle.ps_model.specs.Network.{Network}
@@ -11,19 +11,19 @@ use Rattle.ps_runs.specs.Performing.{Performs}
 use Rattle.ps_runs.specs.Running.{IsBeginning}
 use Rattle.ps_runs.specs.declared.items.Cut.{Cut}
 use Rattle.ps_runs.specs.declared.striking.StruckWorld.{StruckWorld}
+use Rattle.ps_runs.specs.declared.striking.Trip.{Trip}
 use Rattle.ps_runs.proofs.ToCome.{first_stands}
 use Rattle.ps_trace.specs.Reading.{only_refused}
-use Rattle.ps_trace.specs.Scans.{Scans, scans_of}
+use Rattle.ps_trace.specs.Scans.{scans_of}
 use Rattle.ps_world.specs.Answers.{RunsAreRight}
 use Rattle.ps_world.specs.Whole.{machines_in}
-use Rattle.ps_top.specs.Asking.{Answer, Asking, IsAnswer, IsLeft, Worked, worked}
+use Rattle.ps_top.specs.Asking.{Answer, Asking, IsAnswer, IsLeftAfter, Worked, worked}
 use Rattle.ps_top.specs.Calls.{CallSeen, NameRose, GoesOn, Causes, Answers, LeavesRefusal, IsRefusing, with_left}
-use Rattle.ps_top.specs.Meets.{IsCut, Meets}
-use Rattle.ps_top.specs.Program.{answer, answer_scans, run_named, status_if}
+use Rattle.ps_top.specs.Program.{answer, answer_scans, run_named, status_if, with_world}
 use Rattle.ps_top.specs.Resting.{run_answer}
 use Rattle.ps_top.specs.Running.{DoesTrace, RunsTrace, status_behind}
 use Rattle.ps_top.specs.declared.Status.{Status}
-use Rattle.ps_top.specs.declared.Status.TheVariants.{BadInput, ReadFault}
+use Rattle.ps_top.specs.declared.Status.TheVariants.{BadInput}
 use Rattle.ps_top.specs.declared.left.Left.{Left}
 use Rattle.ps_top.proofs.Calling.{any_only, causes_left, done_causes}
 use Rattle.ps_top.proofs.Ending.{AsEnded, IsEnd, whole_meets, stops_meets, whole_leaves, stops_leaves}
@@ -38,7 +38,7 @@ no_refusing true refusing = grind arith
 no_refusing false refusing = grind arith
 
 module _ (net : Network) (sound : IsSound net) (p p' : StruckWorld) (first : IsBeginning net p) (right : RunsAreRight net (machines_in p.world.setup))
-    {T : Type 0} (t t' : T) (name : List ℕ) (old new : CallSeen) (left : Left) (behind : left.world ≡ Some p'.world) (refusal : left.refusal ≡ new.left.refusal) where
+    {T : Type 0} (t t' : T) (name : List ℕ) (old new : CallSeen) (left : Left) (behind : worked left ≡ with_world p'.world p'.trip (worked new.left)) (same : worked new.left ≡ worked old.left) (refusal : left.refusal ≡ new.left.refusal) where
   abbrev said : T → StruckWorld → Outcome Verdict → List ℕ
   said u q outcome = outcome_line net outcome
 
@@ -67,15 +67,19 @@ module _ (net : Network) (sound : IsSound net) (p p' : StruckWorld) (first : IsB
   gives text written ended does =
       items_give net p.faults (scans_of text net) p p' first.none_tripped (λ u outcome u'. ⊤) t t' 0 does.bytes old.out.tells old.out.taken written ended (first_stands net p first) does.did does.written
 
-  ends : (text written : List ℕ) (ended : Result (Unit {0}) Cut) → IsEnd ended → Does text written ended → IsLeft (asking text) old.files.held (worked left)
-  ends text written ended end does =
-      run_leaves net sound p.faults first.one_channel p.world first.world right (scans_of text net) (scans_of text net) refl old.files.held p'.world (worked left) behind
-      (items_end net p.faults (scans_of text net) p p' first.none_tripped (λ u outcome u'. ⊤) t t' 0 does.bytes ended end (first_stands net p first) does.did)
+  left_is : worked left ≡ with_world p'.world p'.trip (worked old.left)
+  left_is = behind ∙ ap (λ (w : Worked). with_world p'.world p'.trip w) same
 
-  beginning : (text : List ℕ) (r : Refusal) → scans_of text net ≡ only_refused r → p' ≡ p → IsLeft (asking text) old.files.held (worked left)
+  ends : (text written : List ℕ) (ended : Result (Unit {0}) Cut) → IsEnd ended → Does text written ended → IsLeftAfter (asking text) old.files.held (worked old.left) (worked left)
+  ends text written ended end does =
+      let end_is = items_end net p.faults (scans_of text net) p p' first.none_tripped (λ u outcome u'. ⊤) t t' 0 does.bytes ended first.no_trip end (first_stands net p first) does.did in
+      run_leaves net sound p.faults first.one_channel p.world first.world right (scans_of text net) (scans_of text net) refl old.files.held p'.world p'.trip (worked old.left) (worked left)
+      left_is end_is.0 end_is.1
+
+  beginning : (text : List ℕ) (r : Refusal) → scans_of text net ≡ only_refused r → p' ≡ p → IsLeftAfter (asking text) old.files.held (worked old.left) (worked left)
   beginning text r none still =
-      refusal_leaves net sound p.faults first.one_channel p.world first.world right (scans_of text net) r none old.files.held (worked left)
-      (behind ∙ ap (λ (q : StruckWorld). Some q.world) still)
+      refusal_leaves net sound p.faults first.one_channel p.world first.world right (scans_of text net) r none old.files.held (worked old.left) (worked left)
+      (left_is ∙ ap (λ (q : StruckWorld). with_world q.world q.trip (worked old.left)) still ∙ ap (λ (o : Option Trip). with_world p.world o (worked old.left)) first.no_trip)
 
   -- what is asked of the trace is answered, with the world that is left
   pub world_answers : (ran : Result (Unit {0}) Status) (status : Status) → status ≡ status_behind ran (status_if p'.tripped) → (IsTrue old.files.tells → Runs ran) → OnOk ran (GoesOn old new) →
@@ -86,7 +90,7 @@ module _ (net : Network) (sound : IsSound net) (p p' : StruckWorld) (first : IsB
       let no_cut = no_cut_status p'.tripped final refl in
       subst (λ (s : Status). Answers (run_named net p.world.setup p.faults name) (name ∷ []) old (with_left left new) s) (sym is) (record {
         meets = λ tells. whole_meets (Performs net) said takes net name asking p p' t t' old new wanted final (λ fault. no_cut (inl fault)) answers refused gives x (runs tells);
-        leaves = λ tells not_cut. whole_leaves (Performs net) said takes net name asking p p' t t' old new (worked left) ends beginning x (runs tells);
+        leaves = λ tells not_cut. whole_leaves (Performs net) said takes net name asking p p' t t' old new (worked old.left) (worked left) ends beginning x (runs tells);
         refuses = otherwise_refuses final final left new.out (no_refusing p'.tripped) (inl refl);
         causes = causes_left left (done_causes (name ∷ []) final no_cut goes);
       })
@@ -95,7 +99,7 @@ module _ (net : Network) (sound : IsSound net) (p p' : StruckWorld) (first : IsB
         meets = λ tells. stops_meets (Performs net) said takes net name asking p p' t t' old new wanted (status_if p'.tripped)
             (λ fault. no_cut_status p'.tripped (status_if p'.tripped) refl (inl fault)) answers refused gives s (runs tells)
             (λ fault. any_only (NameRose old new) name (causes.read_fault fault));
-        leaves = λ tells not_cut. stops_leaves (Performs net) said takes net name asking p p' t t' old new (worked left) ends beginning s not_cut (runs tells);
+        leaves = λ tells not_cut. stops_leaves (Performs net) said takes net name asking p p' t t' old new (worked old.left) (worked left) ends beginning s not_cut (runs tells);
         refuses = λ refusing. let r = refuses refusing in (r.0, refusal ∙ r.1, r.2);
         causes = causes_left left causes;
       })

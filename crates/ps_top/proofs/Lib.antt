@@ -22,6 +22,7 @@ mod Courses
 mod CourseMeant
 mod Ending
 mod Sourced
+mod Checks
 mod Demands
 mod Opened
 mod Ran

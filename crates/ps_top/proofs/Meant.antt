@@ -1,5 +1,5 @@
 -- A run is answered by what its scans mean.
-use Rattle.std.proofs.Common.{◌≡◌, ◌<◌, ◌∙◌, ◌++◌, ℕ, suc, false, List, [], ◌∷◌, Option, Some, length, refl, sym, ap, subst, arith}
+use Rattle.std.proofs.Common.{◌≡◌, ◌<◌, ◌∙◌, ◌++◌, ℕ, suc, false, List, [], ◌∷◌, Option, None, length, refl, sym, ap, subst, arith}
 use Rattle.std.specs.Prelude.{slice_index_or}
 use Rattle.ps_base.specs.declared.failing.Refusal.{Refusal}
 use Rattle.ps_model.specs.declared.channel.Channel.{Channel}
@@ -20,8 +20,10 @@ use Rattle.ps_world.specs.Lists.{is_same}
 use Rattle.ps_world.specs.Orders.{other, events, run_events}
 use Rattle.ps_world.specs.Answers.{SpareChannel, ReleaseRight, RunsAreRight, answers_of_run}
 use Rattle.ps_world.specs.Whole.{Whole, machines_in, after_events, IsWorldOf}
-use Rattle.ps_top.specs.Asking.{Answer, IsAnswer, IsLeft, Worked}
-use Rattle.ps_top.specs.Program.{answer, end_line, first_world, answer_scans}
+use Rattle.ps_top.specs.Asking.{Answer, IsAnswer, IsLeftAfter, Worked}
+use Rattle.ps_top.specs.Program.{answer, end_line, first_world, answer_scans, with_world}
+use Rattle.ps_runs.specs.Tripping.{first_trip}
+use Rattle.ps_runs.specs.declared.striking.Trip.{Trip}
 use Rattle.ps_runs.specs.Resting.{answered, ran, answer_lines, any_trips}
 use Rattle.ps_top.specs.Resting.{status_of, run_answer}
 use Rattle.ps_top.specs.declared.Status.TheVariants.{BadInput}
@@ -74,13 +76,18 @@ module _ (net : Network) (sound : IsSound net) (faults : List Fault) (one : AreO
       IsAnswer (answer_scans net w.setup faults scans) held said
   refusal_answers held scans r said is e = subst (λ (s : Scans). IsAnswer (answer_scans net w.setup faults s) held said) (sym is) ([], refl, e)
 
-  -- what is left of a run whose world this is
-  pub run_leaves : (scans scans' : Scans) → scans ≡ scans' → (held : List ℕ → Option (List ℕ)) (behind : Whole) (work : Worked) → work.world ≡ Some behind → behind ≡ ran faults 1 scans.items w →
-      IsLeft (answer_scans net w.setup faults scans') held work
-  run_leaves scans scans' same held behind work is_left ends =
+  -- what is left of a run whose world and first trip these are
+  pub run_leaves : (scans scans' : Scans) → scans ≡ scans' → (held : List ℕ → Option (List ℕ)) (behind : Whole) (trip : Option Trip) (before work : Worked) →
+      work ≡ with_world behind trip before → behind ≡ ran faults 1 scans.items w → trip ≡ first_trip (machines_in w.setup) faults 1 scans.items w.state →
+      IsLeftAfter (answer_scans net w.setup faults scans') held before work
+  run_leaves scans scans' same held behind trip before work is_left ends trips =
       let run = one_run net sound nothing scans'.items in
-      (is_left ∙ ap (λ (x : Whole). Some x) (ends ∙ ap (λ (s : Scans). ran faults 1 s.items w) same ∙ ran_is net faults w built scans'.items), (run.0, run.1, tt))
+      let m = machines_in w.setup in
+      let ended = ends ∙ ap (λ (s : Scans). ran faults 1 s.items w) same ∙ ran_is net faults w built scans'.items in
+      let tripped = trips ∙ ap (λ (s : Scans). first_trip m faults 1 s.items w.state) same ∙ ap (λ (x : World_state). first_trip m faults 1 scans'.items x) built.beginning in
+      (work, is_left ∙ (λ i. with_world (ended i) (tripped i) before), (run.0, run.1, refl))
 
   -- and of one whose trace's header is refused: the world at the beginning
-  pub refusal_leaves : (scans : Scans) (r : Refusal) → scans ≡ only_refused r → (held : List ℕ → Option (List ℕ)) (work : Worked) → work.world ≡ Some w → IsLeft (answer_scans net w.setup faults scans) held work
-  refusal_leaves scans r is held work is_left = run_leaves (only_refused r) scans (sym is) held w work is_left refl
+  pub refusal_leaves : (scans : Scans) (r : Refusal) → scans ≡ only_refused r → (held : List ℕ → Option (List ℕ)) (before work : Worked) → work ≡ with_world w None before →
+      IsLeftAfter (answer_scans net w.setup faults scans) held before work
+  refusal_leaves scans r is held before work is_left = run_leaves (only_refused r) scans (sym is) held w None before work is_left refl refl

@@ -20,7 +20,7 @@ use Rattle.ps_words.specs.Command.{Command, command_of}
 use Rattle.ps_words.specs.Command.Command.{Run, Fault as FaultWords, Check, Cert, Verify, Image, Load, Demand, Vote, Heal, NotTaken}
 use Rattle.ps_top.specs.Asking.{Answer, Asking, IsAnswer, AsksFor, Worked}
 use Rattle.ps_top.specs.Asking.Asking.{Says, Asks, Finds, Leaves}
-use Rattle.ps_top.specs.Program.{Ruling, Judges, verdict, leaves_accepted, leaves_checked, with_application, accepted_source, accepted, summary, sum_scans, sum_trace, load, leaves_world, answer, image_lines, imaged, region_sizes, trips_of, unless_refused, with_faults, run_quietly, run_struck, answer_scans, run_named, verify_named, verify, demanded, demand, seat_faults_of, seat_sizes, told_votes, leaves_votes, vote_scans, vote_named, with_seat_faults, vote_struck, said, told, text}
+use Rattle.ps_top.specs.Program.{Ruling, Judges, LeavesAccepted, verdict, leaves_app, leaves_checked, leaves_text, checked, with_application, accepted_source, accepted_from, accepted, summary, sum_scans, sum_trace, load, leaves_world, answer, image_lines, imaged, region_sizes, trips_of, unless_refused, with_faults, run_quietly, run_struck, answer_scans, run_named, verify_named, verify, demanded, demand, seat_faults_of, seat_sizes, told_votes, leaves_votes, vote_scans, vote_named, with_seat_faults, vote_struck, said, told, text}
 use Rattle.ps_top.specs.Program.Ruling.{derives, objects}
 use Rattle.ps_accepted.specs.Demanding.{IsDemandableAs}
 use Rattle.ps_accepted.specs.Source.{Reading, Resolves, IsResolvedAs, IsAcceptedAs, counts}
@@ -58,8 +58,8 @@ module _ (held : List ℕ → Option (List ℕ)) where
     none = λ other asks missing a x. (each asks.0 asks.1).none other asks.2 missing a (subst (λ (z : X). IsAnswer (next z) held a) (only x.0 asks.0 x.1 asks.1) x.2);
   }
 
-  leaves_determined : (Fact : Worked → Type 0) (next : Asking) → IsDetermined next held → IsDetermined (Leaves Fact next) held
-  leaves_determined Fact next d = record { one = d.one; none = d.none }
+  leaves_determined : (Change : Worked → Worked → Type 0) (next : Asking) → IsDetermined next held → IsDetermined (Leaves Change next) held
+  leaves_determined Change next d = record { one = d.one; none = d.none }
 
 module _ (held : List ℕ → Option (List ℕ)) where
   -- what is said of the states that scans mean
@@ -102,7 +102,7 @@ module _ (held : List ℕ → Option (List ℕ)) where
   vote_scans_determined : (heals : Bool) (net : Network) → IsSound net → (setup : seats.Setup) (faults : List VoteFault) (scans : Scans) → IsDetermined (vote_scans heals net setup faults scans) held
   vote_scans_determined heals net sound setup faults scans =
       let run = course heals (seats.machines_in setup) scans.items faults in
-      leaves_determined held (leaves_votes setup run) (Finds (List State) (Meaning net scans.items) (λ ws. Says (told_votes net setup run scans.end ws)))
+      leaves_determined held (leaves_votes heals setup run) (Finds (List State) (Meaning net scans.items) (λ ws. Says (told_votes net setup run scans.end ws)))
       (meaning_determined net sound scans (told_votes net setup run scans.end))
 
   vote_trace_determined : (heals : Bool) (net : Network) → IsSound net → (setup : seats.Setup) (faults : List VoteFault) (trace : List ℕ) → IsDetermined (vote_named heals net setup faults trace) held
@@ -123,8 +123,12 @@ module _ (held : List ℕ → Option (List ℕ)) where
       go (stands_for net) f = leaves_determined held (leaves_checked (counts net (certificate net))) (next net) (each net f.0)
       go (is_refused r) f = says_determined held _
 
+  from_determined : (app : List ℕ) (next : List ℕ → Network → Asking) → ((s : List ℕ) (net : Network) → Resolves s net → IsDetermined (next s net) held) → IsDetermined (accepted_from app next) held
+  from_determined app next each =
+      asks_determined held app (λ s. Leaves (leaves_text s) (accepted_source s (next s))) (λ s. leaves_determined held (leaves_text s) (accepted_source s (next s)) (source_determined s (next s) (each s)))
+
   accepted_determined : (app : List ℕ) (next : Network → Asking) → ((s : List ℕ) (net : Network) → Resolves s net → IsDetermined (next net) held) → IsDetermined (accepted app next) held
-  accepted_determined app next each = asks_determined held app (λ s. accepted_source s next) (λ s. source_determined s next (each s))
+  accepted_determined app next each = from_determined app (λ s. next) each
 
   load_determined : (n : ℕ) → IsDetermined (load n) held
   load_determined n =
@@ -137,8 +141,9 @@ module _ (held : List ℕ → Option (List ℕ)) where
 
   verify_determined : (app c : List ℕ) → IsDetermined (verify app c) held
   verify_determined app c =
-      asks_determined held app (λ s. Finds Reading (IsResolvedAs s) (with_application (λ net. verify_named net c)))
-      (λ s. finds_determined held Reading (IsResolvedAs s) (with_application (λ net. verify_named net c)) (λ x y p q. one_resolution s x y p q) (go s))
+      asks_determined held app (λ s. Leaves (leaves_text s) (Finds Reading (IsResolvedAs s) (with_application (λ net. verify_named net c))))
+      (λ s. leaves_determined held (leaves_text s) (Finds Reading (IsResolvedAs s) (with_application (λ net. verify_named net c)))
+      (finds_determined held Reading (IsResolvedAs s) (with_application (λ net. verify_named net c)) (λ x y p q. one_resolution s x y p q) (go s)))
     where
       go : (s : List ℕ) (r : Reading) → IsResolvedAs s r → IsDetermined (with_application (λ net. verify_named net c) r) held
       go s (stands_for net) f =
@@ -148,8 +153,8 @@ module _ (held : List ℕ → Option (List ℕ)) where
 
   demand_determined : (app : List ℕ) → IsDetermined (demand app) held
   demand_determined app =
-      asks_determined held app (λ s. Leaves (leaves_accepted s) (Finds Reading (IsDemandableAs s) (with_application demanded)))
-      (λ s. leaves_determined held (leaves_accepted s) (Finds Reading (IsDemandableAs s) (with_application demanded))
+      asks_determined held app (λ s. Leaves (LeavesAccepted s) (Finds Reading (IsDemandableAs s) (with_application demanded)))
+      (λ s. leaves_determined held (LeavesAccepted s) (Finds Reading (IsDemandableAs s) (with_application demanded))
       (finds_determined held Reading (IsDemandableAs s) (with_application demanded) (λ x y p q. one_demanding s x y p q) (go s)))
     where
       go : (s : List ℕ) (r : Reading) → IsDemandableAs s r → IsDetermined (with_application demanded r) held
@@ -159,7 +164,7 @@ module _ (held : List ℕ → Option (List ℕ)) where
   said_determined : (c : Command) → IsDetermined (said c) held
   said_determined (Run app trace) = accepted_determined app (run_quietly trace) (λ s net r. quiet_determined net (resolved_sound s net r) trace)
   said_determined (FaultWords app trace faults) = accepted_determined app (run_struck trace faults) (λ s net r. struck_determined net (resolved_sound s net r) trace faults)
-  said_determined (Check app) = accepted_determined app _ (λ s net r. says_determined held _)
+  said_determined (Check app) = from_determined app checked (λ s net r. leaves_determined held (leaves_app s net) _ (says_determined held _))
   said_determined (Cert app) = accepted_determined app _ (λ s net r. says_determined held _)
   said_determined (Verify app c) = verify_determined app c
   said_determined (Image app) = accepted_determined app imaged (λ s net r. setup_determined net (λ setup. Says (answer (image_lines setup) Done)) (λ setup. says_determined held _))

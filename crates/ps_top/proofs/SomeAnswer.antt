@@ -23,7 +23,7 @@ use Rattle.ps_words.specs.Command.{Command, command_of}
 use Rattle.ps_words.specs.Command.Command.{Run, Fault as FaultWords, Check, Cert, Verify, Image, Load, Demand, Vote, Heal, NotTaken}
 use Rattle.ps_top.specs.Asking.{Answer, Asking, IsAnswer, AsksFor}
 use Rattle.ps_top.specs.Asking.Asking.{Says, Asks, Finds, Leaves}
-use Rattle.ps_top.specs.Program.{Ruling, Judges, verdict, leaves_accepted, with_application, accepted_source, accepted, summary, sum_scans, sum_trace, load, answer, image_lines, imaged, region_sizes, trips_of, unless_refused, with_faults, run_quietly, run_struck, answer_scans, run_named, verify_named, verify, demanded, demand, seat_faults_of, seat_sizes, told_votes, vote_scans, vote_named, with_seat_faults, vote_struck, said, told, text}
+use Rattle.ps_top.specs.Program.{Ruling, Judges, LeavesAccepted, verdict, leaves_text, checked, with_application, accepted_source, accepted_from, accepted, summary, sum_scans, sum_trace, load, answer, image_lines, imaged, region_sizes, trips_of, unless_refused, with_faults, run_quietly, run_struck, answer_scans, run_named, verify_named, verify, demanded, demand, seat_faults_of, seat_sizes, told_votes, vote_scans, vote_named, with_seat_faults, vote_struck, said, told, text}
 use Rattle.ps_top.specs.Program.Ruling.{derives, objects}
 use Rattle.ps_top.specs.declared.Status.TheVariants.{Done}
 use Rattle.ps_accepted.proofs.Keeping.{resolved_sound}
@@ -97,8 +97,11 @@ module _ (held : List ℕ → Option (List ℕ)) where
         go (stands_for net) f = each net f.0
         go (is_refused r) f = says_some _
 
+    from_some : (app : List ℕ) (next : List ℕ → Network → Asking) → ((s : List ℕ) (net : Network) → Resolves s net → HasAnswer (next s net) held) → HasAnswer (accepted_from app next) held
+    from_some app next each = asks_some app (λ s. Leaves (leaves_text s) (accepted_source s (next s))) (λ s. source_some s (next s) (each s))
+
     accepted_some : (app : List ℕ) (next : Network → Asking) → ((s : List ℕ) (net : Network) → Resolves s net → HasAnswer (next net) held) → HasAnswer (accepted app next) held
-    accepted_some app next each = asks_some app (λ s. accepted_source s next) (λ s. source_some s next (each s))
+    accepted_some app next each = from_some app (λ s. next) each
 
     load_some : (n : ℕ) → HasAnswer (load n) held
     load_some n =
@@ -112,7 +115,7 @@ module _ (held : List ℕ → Option (List ℕ)) where
 
     verify_some : (app c : List ℕ) → HasAnswer (verify app c) held
     verify_some app c =
-        asks_some app (λ s. Finds Reading (IsResolvedAs s) (with_application (λ net. verify_named net c)))
+        asks_some app (λ s. Leaves (leaves_text s) (Finds Reading (IsResolvedAs s) (with_application (λ net. verify_named net c))))
         (λ s. finds_some Reading (IsResolvedAs s) (with_application (λ net. verify_named net c)) (resolves s).0 (resolves s).1 (go s (resolves s).0))
       where
         go : (s : List ℕ) (r : Reading) → HasAnswer (with_application (λ net. verify_named net c) r) held
@@ -123,7 +126,7 @@ module _ (held : List ℕ → Option (List ℕ)) where
 
     demand_some : (app : List ℕ) → HasAnswer (demand app) held
     demand_some app =
-        asks_some app (λ s. Leaves (leaves_accepted s) (Finds Reading (IsDemandableAs s) (with_application demanded)))
+        asks_some app (λ s. Leaves (LeavesAccepted s) (Finds Reading (IsDemandableAs s) (with_application demanded)))
         (λ s. let d = some_demanding s (accepts s).0 (accepts s).1 in finds_some Reading (IsDemandableAs s) (with_application demanded) d.0 d.1 (go d.0))
       where
         go : (r : Reading) → HasAnswer (with_application demanded r) held
@@ -133,7 +136,7 @@ module _ (held : List ℕ → Option (List ℕ)) where
     said_some : (c : Command) → HasAnswer (said c) held
     said_some (Run app trace) = accepted_some app (run_quietly trace) (λ s net r. quiet_some net (resolved_sound s net r) trace)
     said_some (FaultWords app trace faults) = accepted_some app (run_struck trace faults) (λ s net r. struck_some net (resolved_sound s net r) trace faults)
-    said_some (Check app) = accepted_some app _ (λ s net r. says_some _)
+    said_some (Check app) = from_some app checked (λ s net r. says_some _)
     said_some (Cert app) = accepted_some app _ (λ s net r. says_some _)
     said_some (Verify app c) = verify_some app c
     said_some (Image app) = accepted_some app imaged (λ s net r. setup_some net (λ setup. Says (answer (image_lines setup) Done)) (λ setup. says_some _))

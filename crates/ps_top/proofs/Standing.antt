@@ -1,7 +1,7 @@
 -- What is answered where a run of two channels wrote so of the items of a trace.
-use Rattle.std.proofs.Common.{◌≡◌, ◌∙◌, ◌++◌, ℕ, Bool, true, false, IsTrue, List, [], Result, Ok, Err, refl, sym, ap, subst, append_assoc, append-nil, ◌⊎◌, arith}
+use Rattle.std.proofs.Common.{◌≡◌, ◌∙◌, ◌++◌, ℕ, Bool, true, false, IsTrue, List, Option, None, Result, Ok, Err, refl, sym, ap, subst, append_assoc, append-nil, arith}
 use Rattle.std.specs.Prelude.{◌||◌}
-use Rattle.ps_base.specs.declared.failing.Refusal.{Refusal}
+use Rattle.std.specs.Option.{option_or}
 use Rattle.ps_model.specs.declared.channel.Fault.{Fault}
 use Rattle.ps_model.specs.declared.channel.Verdict.{Verdict}
 use Rattle.ps_model.specs.Network.{Network}
@@ -12,17 +12,20 @@ use Rattle.ps_runs.specs.Performing.{Performs}
 use Rattle.ps_runs.specs.Resting.{ran}
 use Rattle.ps_runs.specs.declared.items.Cut.{Cut}
 use Rattle.ps_runs.specs.declared.items.Cut.TheVariants.{Refused, Unread, Unwritten}
+use Rattle.ps_runs.specs.Tripping.{first_trip}
 use Rattle.ps_runs.specs.declared.striking.StruckWorld.{StruckWorld}
-use Rattle.ps_runs.proofs.Standing.{any_of, Came, Begun, CameTo, came_to}
+use Rattle.ps_runs.specs.declared.striking.Trip.{Trip}
+use Rattle.ps_world.specs.Whole.{machines_in}
+use Rattle.ps_runs.proofs.Standing.{any_of, first_of, Came, Begun, CameTo, came_to}
 use Rattle.ps_runs.proofs.ToCome.{Stands}
 use Rattle.ps_trace.specs.Scans.{Scans, End}
 use Rattle.ps_trace.specs.Scans.End.{whole, refused as is_refused}
 use Rattle.ps_top.specs.Asking.{Answer}
-use Rattle.ps_top.specs.Meets.{IsCut, AppendsPart, Gives}
+use Rattle.ps_top.specs.Meets.{IsCut, AppendsPart}
 use Rattle.ps_top.specs.Program.{answer, end_line, status_if}
 use Rattle.ps_top.specs.Resting.{status_of, run_answer}
 use Rattle.ps_top.specs.declared.Status.{Status}
-use Rattle.ps_top.specs.declared.Status.TheVariants.{BadInput, ReadFault, WriteFault}
+use Rattle.ps_top.specs.declared.Status.TheVariants.{BadInput}
 use Rattle.ps_top.proofs.Calling.{no_read_said, no_memory_said}
 use Rattle.ps_top.proofs.Ending.{AsEnded, IsEnd}
 use Rattle.ps_top.proofs.Meeting.{all_given, given_behind, part_given, part_unread}
@@ -69,12 +72,18 @@ module _ (net : Network) (faults : List Fault) where
       told_gives bytes tells start now (Err Unread) wrote begun = part_unread wanted tells start now (begun_part bytes tells start now wrote begun)
       told_gives bytes tells start now (Err Unwritten) wrote begun = part_given wanted tells start now (begun_part bytes tells start now wrote begun)
 
-      -- the world that is left after items that were done to an end
-      told_ends : (bytes : List ℕ) (ended : Result (Unit {0}) Cut) → IsEnd ended → CameTo net faults (outcome_line net) takes 0 scans p after t t' bytes ended → after.world ≡ ran faults 1 scans.items p.world
-      told_ends bytes (Ok x) end came = came.0.ends
-      told_ends bytes (Err (Refused refusal)) end came = came.0.ends
-      told_ends bytes (Err Unread) end begun = absurd end
-      told_ends bytes (Err Unwritten) end begun = absurd end
+      -- the world that is left after items that were done to an end, and the first trip
+      abbrev pub Ends : Type 0
+      Ends = (after.world ≡ ran faults 1 scans.items p.world) × (after.trip ≡ first_trip (machines_in p.world.setup) faults 1 scans.items p.world.state)
+
+      came_ends : (bytes : List ℕ) → p.trip ≡ None → Came net faults (outcome_line net) takes 0 scans.items p after t t' bytes → Ends
+      came_ends bytes no_trip came = (came.ends, came.trip ∙ ap (λ (o : Option Trip). option_or o (first_of net faults 1 scans.items p.world)) no_trip)
+
+      told_ends : (bytes : List ℕ) (ended : Result (Unit {0}) Cut) → p.trip ≡ None → IsEnd ended → CameTo net faults (outcome_line net) takes 0 scans p after t t' bytes ended → Ends
+      told_ends bytes (Ok x) no_trip end came = came_ends bytes no_trip came.0
+      told_ends bytes (Err (Refused refusal)) no_trip end came = came_ends bytes no_trip came.0
+      told_ends bytes (Err Unread) no_trip end begun = absurd end
+      told_ends bytes (Err Unwritten) no_trip end begun = absurd end
 
       -- the items of a trace were done from the first one on
       abbrev Done : ℕ → List ℕ → Result (Unit {0}) Cut → Type 0
@@ -85,5 +94,5 @@ module _ (net : Network) (faults : List Fault) where
       items_give time bytes tells start now ended stands did wrote =
           told_gives bytes tells start now ended wrote (came_to net faults (outcome_line net) takes 0 time p t scans bytes ended after t' stands did)
 
-      pub items_end : (time : ℕ) (bytes : List ℕ) (ended : Result (Unit {0}) Cut) → IsEnd ended → Stands faults 0 p → Done time bytes ended → after.world ≡ ran faults 1 scans.items p.world
-      items_end time bytes ended end stands did = told_ends bytes ended end (came_to net faults (outcome_line net) takes 0 time p t scans bytes ended after t' stands did)
+      pub items_end : (time : ℕ) (bytes : List ℕ) (ended : Result (Unit {0}) Cut) → p.trip ≡ None → IsEnd ended → Stands faults 0 p → Done time bytes ended → Ends
+      items_end time bytes ended no_trip end stands did = told_ends bytes ended no_trip end (came_to net faults (outcome_line net) takes 0 time p t scans bytes ended after t' stands did)

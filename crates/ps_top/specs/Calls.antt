@@ -5,7 +5,7 @@ use Rattle.ps_outside.specs.Outside.{CountsStay, Rose}
 use Rattle.ps_report.specs.Short.{refusal_text}
 use Rattle.ps_runs.specs.Cutting.{TellsFailures}
 use Rattle.ps_runs.specs.declared.items.Cut.{Cut}
-use Rattle.ps_top.specs.Asking.{Answer, Asking, IsLeft, worked}
+use Rattle.ps_top.specs.Asking.{Answer, Asking, IsLeftAfter, worked}
 use Rattle.ps_top.specs.Meets.{IsCut, AppendsNothing, Gives, Meets}
 use Rattle.ps_top.specs.declared.Status.{Status}
 use Rattle.ps_top.specs.declared.Status.TheVariants.{Refused, BadInput, ReadFault, WriteFault, Memory}
@@ -140,7 +140,8 @@ LeavesRefusal left out status =
 pub record Answers (asking : Asking) (names : List (List ℕ)) (old new : CallSeen) (status : Status) : Type 0 where
   pub meets : IsTrue old.files.tells →
       Meets asking old.files.held (NameRose old new) old.out.tells old.out.taken new.out.taken status
-  pub leaves : IsTrue old.files.tells → ¬ IsCut status → IsLeft asking old.files.held (worked new.left)
+  pub leaves : IsTrue old.files.tells → ¬ IsCut status →
+      IsLeftAfter asking old.files.held (worked old.left) (worked new.left)
   pub refuses : LeavesRefusal new.left new.out status
   pub causes : Causes names old new status
 

@@ -1,13 +1,13 @@
 -- What the judge of a certificate's text answers.
-use Rattle.std.specs.Prelude.{◌≡◌, ◌⊎◌, ℕ, List, Some}
+use Rattle.std.specs.Prelude.{◌≡◌, ◌⊎◌, ℕ, List}
 use Rattle.ps_flow.specs.declared.certificate.CertLine.{CertLine}
 use Rattle.ps_model.specs.Network.{Network}
 use Rattle.ps_report.specs.Short.{refusal_text}
 use Rattle.ps_top.specs.Lines.{verified_line}
-use Rattle.ps_top.specs.Asking.{Answer}
+use Rattle.ps_top.specs.Asking.{Answer, worked}
 use Rattle.ps_accepted.specs.Source.{counts}
 use Rattle.ps_top.specs.Calls.{CallSeen, SaysAnswer}
-use Rattle.ps_top.specs.Program.{answer, Judges}
+use Rattle.ps_top.specs.Program.{answer, leaves_checked, Judges}
 use Rattle.ps_top.specs.Program.Ruling.{derives, objects}
 use Rattle.ps_top.specs.declared.Status.{Status}
 use Rattle.ps_top.specs.declared.Status.TheVariants.{Done, BadInput, Memory}
@@ -29,5 +29,6 @@ told_of (Objects refusal) = answer (refusal_text refusal) BadInput
 abbrev pub SaysJudgement : Judgement → (old new : CallSeen) → Status → Type 0
 SaysJudgement (Derives c) old new status =
     ((status ≡ Memory) × (new ≡ old))
-    ⊎ (SaysAnswer (told_of (Derives c)) old new status × (new.left.checked ≡ Some c))
-SaysJudgement (Objects refusal) old new status = SaysAnswer (told_of (Objects refusal)) old new status
+    ⊎ (SaysAnswer (told_of (Derives c)) old new status × leaves_checked c (worked old.left) (worked new.left))
+SaysJudgement (Objects refusal) old new status =
+    SaysAnswer (told_of (Objects refusal)) old new status × (worked new.left ≡ worked old.left)

@@ -1,7 +1,8 @@
 -- What the program writes, for its words and the texts that are held.
-use Rattle.std.specs.Prelude.{◌≡◌, ◌⊎◌, ℕ, suc, Bool, true, false, ◌==◌, ◌||◌, if◌then◌else◌, List, [], ◌∷◌, ◌++◌}
-use Rattle.std.specs.Prelude.{Option, Some, None, is_some, length, map, count_by, sum_by}
+use Rattle.std.specs.Prelude.{◌≡◌, ◌⊎◌, ◌+◌, ℕ, suc, Bool, true, false, ◌==◌, ◌||◌, if◌then◌else◌, List, [], ◌∷◌, ◌++◌}
+use Rattle.std.specs.Prelude.{Option, Some, None, is_some, length, map, sum_by, take}
 use Rattle.ps_base.specs.declared.failing.Refusal.{Refusal}
+use Rattle.ps_base.specs.declared.limits.TheConstants.{LARGEST_SOURCE}
 use Rattle.ps_model.specs.declared.channel.Cause.{Cause}
 use Rattle.ps_model.specs.declared.channel.Channel.TheVariants.{A, B}
 use Rattle.ps_model.specs.declared.channel.Fault.{Fault}
@@ -15,6 +16,7 @@ use Rattle.ps_flow.specs.Derivation.{certificate}
 use Rattle.ps_flow.specs.Read.{IsCertificate, RefusesText}
 use Rattle.ps_flow.specs.Written.{written}
 use Rattle.ps_load.specs.Texts.{app_text, trace_text}
+use Rattle.ps_parser.specs.Tree.{SourceTree}
 use Rattle.ps_checker.specs.Counts.{Counts}
 use Rattle.ps_checker.specs.Derives.{Derives}
 use Rattle.ps_checker.specs.Objections.{Objects}
@@ -44,10 +46,13 @@ use Rattle.ps_top.specs.Asking.{Answer, Asking, Worked}
 use Rattle.ps_top.specs.Asking.Asking.{Says, Asks, Finds, Leaves}
 use Rattle.ps_runs.specs.Counting.{true_outputs, true_errors}
 use Rattle.ps_runs.specs.Lines.{restart_line, voted_text}
-use Rattle.ps_runs.specs.Seats.{run_end}
+use Rattle.ps_runs.specs.Seats.{first_outvoted_again, run_end}
+use Rattle.ps_runs.specs.Tripping.{first_trip}
+use Rattle.ps_runs.specs.declared.seats.Again.{Again}
+use Rattle.ps_runs.specs.declared.striking.Trip.{Trip}
 use Rattle.ps_top.specs.Lines.{verified_line}
 use Rattle.ps_accepted.specs.Demanding.{IsDemandableAs}
-use Rattle.ps_accepted.specs.Source.{Reading, IsResolvedAs, IsAcceptedAs, counts}
+use Rattle.ps_accepted.specs.Source.{Reading, IsProgram, IsResolvedAs, IsAcceptedAs, counts}
 use Rattle.ps_accepted.specs.Source.Reading.{stands_for, is_refused}
 use Rattle.ps_top.specs.declared.Status.{Status}
 use Rattle.ps_top.specs.declared.Status.TheVariants.{Done, Refused, Usage, BadInput, Tripped}
@@ -58,9 +63,29 @@ answer bytes status = record { bytes = bytes; status = status }
 
 -- ---- the source
 
+-- what is left, with the counts of a certificate that was checked
+abbrev pub with_checked : Counts → Worked → Worked
+with_checked counts work = record work { checked = Some counts }
+
+-- the bytes that are read of a source: one more than the largest source has, or all of them
+abbrev pub read_of : List ℕ → List ℕ
+read_of source = take (LARGEST_SOURCE + 1) source
+
+-- what is left, with bytes that were read
+abbrev pub with_bytes : List ℕ → Worked → Worked
+with_bytes bytes work = record work { text = Some bytes }
+
+-- what is left, with the bytes that are read of a source
+abbrev pub with_text : List ℕ → Worked → Worked
+with_text source work = with_bytes (read_of source) work
+
 -- the counts of a certificate that was checked are left
-abbrev pub leaves_checked : Counts → Worked → Type 0
-leaves_checked counts work = work.checked ≡ Some counts
+abbrev pub leaves_checked : Counts → (before work : Worked) → Type 0
+leaves_checked counts before work = work ≡ with_checked counts before
+
+-- the bytes that were read of a source are left
+abbrev pub leaves_text : List ℕ → (before work : Worked) → Type 0
+leaves_text source before work = work ≡ with_text source before
 
 -- with an application the program goes on; a source that is refused has its line
 abbrev pub with_application : (Network → Asking) → Reading → Asking
@@ -73,15 +98,31 @@ accepted_source source next =
     Finds Reading (IsAcceptedAs source)
     (with_application (λ net. Leaves (leaves_checked (counts net (certificate net))) (next net)))
 
--- the application of the source of this name
+-- the application of the source of this name, whose bytes are left
+abbrev pub accepted_from : List ℕ → (List ℕ → Network → Asking) → Asking
+accepted_from app next = Asks app (λ source. Leaves (leaves_text source) (accepted_source source (next source)))
+
+-- the same, where the source decides nothing further
 abbrev pub accepted : List ℕ → (Network → Asking) → Asking
-accepted app next = Asks app (λ source. accepted_source source next)
+accepted app next = accepted_from app (λ source. next)
 
 -- ---- check and cert
 
+-- what is left, with an application and its flat source
+abbrev pub with_app : Network → SourceTree → Worked → Worked
+with_app net flat work = record work { app = Some net; source = Some flat }
+
+-- the application of this source is left, and the flat source for which it stands
+abbrev pub leaves_app : List ℕ → Network → (before work : Worked) → Type 0
+leaves_app source net before work = (flat : SourceTree) × IsProgram source flat × (work ≡ with_app net flat before)
+
+-- the line of the counts is said of an application, which is left
+abbrev pub checked : List ℕ → Network → Asking
+checked source net = Leaves (leaves_app source net) (Says (answer (check_text net) Done))
+
 -- `check APP`: the line of the counts
 abbrev pub check : List ℕ → Asking
-check app = accepted app (λ net. Says (answer (check_text net) Done))
+check app = accepted_from app checked
 
 -- `cert APP`: the certificate, a line for each of its lines
 abbrev pub cert : List ℕ → Asking
@@ -89,10 +130,11 @@ cert app = accepted app (λ net. Says (answer (written (certificate net)) Done))
 
 -- ---- demand
 
--- where this source is accepted, the counts of its certificate are left
-abbrev pub leaves_accepted : List ℕ → Worked → Type 0
-leaves_accepted source work =
-    (net : Network) → IsAcceptedAs source (stands_for net) → leaves_checked (counts net (certificate net)) work
+-- the bytes that were read of this source are left, and where it is accepted the counts of its certificate
+pub record LeavesAccepted (source : List ℕ) (before work : Worked) : Type 0 where
+  pub accepted : (net : Network) → IsAcceptedAs source (stands_for net) →
+      work ≡ with_checked (counts net (certificate net)) (with_text source before)
+  pub refused : (refusal : Refusal) → IsAcceptedAs source (is_refused refusal) → work ≡ with_text source before
 
 -- what each SAFEBOOL output demands, a line for each
 abbrev pub demanded : Network → Asking
@@ -101,7 +143,7 @@ demanded net = Says (answer (demand_lines net) Done)
 -- `demand APP`: the lines of what the outputs demand, where the application is accepted and no demand is too large
 abbrev pub demand : List ℕ → Asking
 demand app =
-    Asks app (λ source. Leaves (leaves_accepted source)
+    Asks app (λ source. Leaves (LeavesAccepted source)
     (Finds Reading (IsDemandableAs source) (with_application demanded)))
 
 -- ---- the channels of an application
@@ -193,10 +235,16 @@ abbrev pub told : Network → List (ℕ × Cause) → Scans → List State → A
 told net tripped scans ws =
     answer (item_lines net tripped 1 false scans.items ws ++ end_line scans.end) (end_status scans.end tripped)
 
--- the world after all events of the run is left
-abbrev pub leaves_world : Setup → List Fault → Scans → Worked → Type 0
-leaves_world setup faults scans work =
-    work.world ≡ Some (after_events (events (machines_in setup) scans.items faults) (first_world setup))
+-- what is left, with the world that a run ended with, and its first trip
+abbrev pub with_world : Whole → Option Trip → Worked → Worked
+with_world w trip work = record work { world = Some w; trip = trip }
+
+-- the world after all events of the run is left, and the first scan that trips
+abbrev pub leaves_world : Setup → List Fault → Scans → (before work : Worked) → Type 0
+leaves_world setup faults scans before work =
+    let m = machines_in setup in
+    work ≡ with_world (after_events (events m scans.items faults) (first_world setup))
+    (first_trip m faults 1 scans.items (world_0 m)) before
 
 -- the scans of a trace have the lines of what they mean, up to where the channels trip
 abbrev pub answer_scans : Network → Setup → List Fault → Scans → Asking
@@ -277,15 +325,22 @@ told_votes net setup run end ws =
     (voted_lines net run.done (map (vote_in (seats_in setup)) run.votes) ws ++ end_line (run_end run.refused end))
     (end_status (run_end run.refused end) [])
 
--- the world of three seats after all events of the run is left
-abbrev pub leaves_votes : SeatSetup → Course → Worked → Type 0
-leaves_votes setup run work = work.votes ≡ Some (seats_after run.events (first_seats setup))
+-- what is left, with the world of three seats that a run ended with, and the first seat that was outvoted again
+abbrev pub with_votes : WholeSeats → Option Again → Worked → Worked
+with_votes w again work = record work { votes = Some w; again = again }
+
+-- the world of three seats after all events of the run is left, and the first seat that is outvoted again in the scan
+-- after its healing
+abbrev pub leaves_votes : (heals : Bool) → SeatSetup → Course → (before work : Worked) → Type 0
+leaves_votes heals setup run before work =
+    work ≡ with_votes (seats_after run.events (first_seats setup)) (first_outvoted_again heals (seats_in setup) run)
+    before
 
 -- the scans of a trace have the lines of what they mean, up to a fault that is refused
 abbrev pub vote_scans : (heals : Bool) → Network → SeatSetup → List VoteFault → Scans → Asking
 vote_scans heals net setup faults scans =
     let run = course heals (seats_in setup) scans.items faults in
-    Leaves (leaves_votes setup run)
+    Leaves (leaves_votes heals setup run)
     (Finds (List State) (Meaning net scans.items) (λ ws. Says (told_votes net setup run scans.end ws)))
 
 -- the trace of this name is run in three seats, where these faults strike
@@ -368,7 +423,8 @@ verify_named net cert = Asks cert (λ text. Finds Ruling (Judges net text) (verd
 -- `verify APP CERT`: no rule S is tried, and nothing is derived
 abbrev pub verify : List ℕ → List ℕ → Asking
 verify app cert =
-    Asks app (λ source. Finds Reading (IsResolvedAs source) (with_application (λ net. verify_named net cert)))
+    Asks app (λ source. Leaves (leaves_text source)
+    (Finds Reading (IsResolvedAs source) (with_application (λ net. verify_named net cert))))
 
 -- ---- the words
 

@@ -9,6 +9,7 @@ use Rattle.ps_accepted.specs.Source.Reading.{is_refused}
 use Rattle.ps_outside.specs.declared.text_fail.TextFail.{TextFail}
 use Rattle.ps_outside.specs.declared.text_fail.TextFail.TheVariants.{Memory as NoMemory, Fault as IsFault}
 use Rattle.ps_outside.specs.declared.text_fail.TextFail.TheVariants.{Refused as IsRefused}
+use Rattle.ps_top.specs.Asking.{Worked, worked}
 use Rattle.ps_top.specs.Calls.{CallSeen, LeavesRefusal, Passes, ReadsName, SaysAnswer}
 use Rattle.ps_top.specs.Program.{answer}
 use Rattle.ps_top.specs.declared.Status.{Status}
@@ -36,14 +37,15 @@ abbrev pub IsUnread : Status → Type 0
 IsUnread status = (status ≡ Memory) ⊎ (status ≡ ReadFault)
 
 -- A name gave no application, by the readings that a source has: memory ran out, or the name could not be read, or
--- the source is refused, and its refusal was said and left.
-pub data GivesNone (Readings : List ℕ → Reading → Type 0) (name : List ℕ) (old new : CallSeen)
-    (status : Status) : Type 0 where
-  short : status ≡ Memory → Passes old new → GivesNone Readings name old new status
-  unread : status ≡ ReadFault → ReadsName name (Unit {0}) old new → GivesNone Readings name old new status
+-- the source is refused, its refusal was said and left, and so much is left of the source.
+pub data GivesNone (Left : List ℕ → (before work : Worked) → Type 0) (Readings : List ℕ → Reading → Type 0)
+    (name : List ℕ) (old new : CallSeen) (status : Status) : Type 0 where
+  short : status ≡ Memory → Passes old new → GivesNone Left Readings name old new status
+  unread : status ≡ ReadFault → ReadsName name (Unit {0}) old new → GivesNone Left Readings name old new status
   refuses : (mid : CallSeen) (refusal : Refusal) →
       (IsTrue old.files.tells →
-      (text : List ℕ) × (old.files.held name ≡ Some text) × Readings text (is_refused refusal)) →
+      (text : List ℕ) × (old.files.held name ≡ Some text) × Readings text (is_refused refusal)
+      × Left text (worked old.left) (worked new.left)) →
       Passes old mid → SaysAnswer (answer (refusal_text refusal) Refused) mid new status →
       LeavesRefusal new.left new.out status →
-      GivesNone Readings name old new status
+      GivesNone Left Readings name old new status

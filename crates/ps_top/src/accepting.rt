@@ -1,17 +1,16 @@
 // How a command comes to the application of a source.
 
-ghost use Rattle.std.specs.Prelude.{◌≡◌, ◌≢◌, Some, Ok, IfOk, IfErr, IsErrOf, OnOk};
-ghost use Rattle.ps_flow.specs.Derivation.{certificate};
+ghost use Rattle.std.specs.Prelude.{◌≡◌, ◌≢◌, ℕ, List, Some, Ok, IfOk, IfErr, IsErrOf, IsTrue, OnOk};
 ghost use Rattle.ps_model.specs.Typing.{Accepted as IsAccepted};
-ghost use Rattle.ps_accepted.specs.Answering.{IsChecked, app_of};
+ghost use Rattle.ps_accepted.specs.Answering.{IsChecked, app_of, source_of};
 ghost use Rattle.ps_accepted.specs.Demanding.{IsDemandableAs, checked_demanded, lines_demanded};
-ghost use Rattle.ps_accepted.specs.Source.{IsAcceptedAs, IsResolvedAs, counts};
+ghost use Rattle.ps_accepted.specs.Source.{IsAcceptedAs, IsProgram, IsResolvedAs};
 ghost use Rattle.ps_accepted.specs.Source.Reading.{stands_for};
 ghost use Rattle.ps_top.specs.Asking.{worked};
 ghost use Rattle.ps_top.specs.Calls.{LeavesRefusal, Passes, ReadsName};
-ghost use Rattle.ps_top.specs.Meets.{IsCut};
+ghost use Rattle.ps_top.specs.Program.{LeavesAccepted, leaves_text, with_bytes, with_checked};
 ghost use Rattle.ps_top.specs.Refusing.{GivesNone, IsUnread, SaysNone, SaysWhy};
-ghost use Rattle.ps_top.specs.Sourcing.{AreOfSource, Finds, HasLines, LeavesAccepted};
+ghost use Rattle.ps_top.specs.Sourcing.{AreOfSource, Finds, HasLines, leaves_both};
 
 use crate::Status;
 use crate::call::Call;
@@ -39,7 +38,7 @@ fn read_source<C: Call>(call: &mut C, name: &str) -> Result<Bytes, Status>
 // Ends a call whose source gives nothing, and leaves the bytes that were read of it.
 fn refuse_source<C: Call>(call: &mut C, bytes: Bytes, why: Fail) -> Status
     ensures says { SaysNone why (C.seen call.old) (C.seen call.new) result }
-    ensures worked { worked (C.seen call.new).left ≡ worked (C.seen call.old).left }
+    ensures left { worked (C.seen call.new).left ≡ with_bytes bytes (worked (C.seen call.old).left) }
     ensures refuses { LeavesRefusal (C.seen call.new).left (C.seen call.new).out result }
     ensures no_usage { result ≢ Status.Usage }
 {
@@ -49,10 +48,12 @@ fn refuse_source<C: Call>(call: &mut C, bytes: Bytes, why: Fail) -> Status
 
 // The accepted application of a name, by the rules L, P, B, N and S; or the status of a call that gets none.
 pub(crate) fn accept<C: Call>(call: &mut C, name: &str) -> Result<Accepted, Status>
-    ensures finds { IfOk result (Finds (λ text a. IsAcceptedAs text (stands_for (app_of a))) name.now (C.seen call.old)
-        (C.seen call.new)) }
+    ensures finds { IfOk result (Finds (λ text a. IsAcceptedAs text (stands_for (app_of a))) leaves_text name.now
+        (C.seen call.old) (C.seen call.new)) }
+    ensures sourced { IfOk result (λ a. IsTrue (C.seen call.old).files.tells → (text : List ℕ) →
+        (C.seen call.old).files.held name.now ≡ Some text → IsProgram text (source_of a)) }
     ensures checked { IfOk result IsChecked }
-    ensures none { IfErr result (GivesNone IsAcceptedAs name.now (C.seen call.old) (C.seen call.new)) }
+    ensures none { IfErr result (GivesNone leaves_text IsAcceptedAs name.now (C.seen call.old) (C.seen call.new)) }
 {
     let bytes = read_source(call, name)?;
     match accept_text(call.alloc(), bytes.as_slice()) {
@@ -66,11 +67,10 @@ pub(crate) fn accept<C: Call>(call: &mut C, name: &str) -> Result<Accepted, Stat
 
 // The same, where the certificate is no longer wanted: what was checked is left.
 pub(crate) fn accept_app<C: Call>(call: &mut C, name: &str) -> Result<App, Status>
-    ensures finds { IfOk result (Finds (λ text net. IsAcceptedAs text (stands_for net)) name.now (C.seen call.old)
-        (C.seen call.new)) }
+    ensures finds { IfOk result (λ net. Finds (λ text net. IsAcceptedAs text (stands_for net)) (leaves_both net) name.now
+        (C.seen call.old) (C.seen call.new) net) }
     ensures accepted { IfOk result IsAccepted }
-    ensures checked { IfOk result (λ net. (C.seen call.new).left.checked ≡ Some (counts net (certificate net))) }
-    ensures none { IfErr result (GivesNone IsAcceptedAs name.now (C.seen call.old) (C.seen call.new)) }
+    ensures none { IfErr result (GivesNone leaves_text IsAcceptedAs name.now (C.seen call.old) (C.seen call.new)) }
 {
     let (app, checked) = accept(call, name)?.into_parts();
     call.leave(Leaving::Checked(checked));
@@ -79,9 +79,9 @@ pub(crate) fn accept_app<C: Call>(call: &mut C, name: &str) -> Result<App, Statu
 
 // The application of a name, by the rules L, P, B and N alone; or the status of a call that gets none.
 pub(crate) fn resolve<C: Call>(call: &mut C, name: &str) -> Result<App, Status>
-    ensures finds { IfOk result (Finds (λ text net. IsResolvedAs text (stands_for net)) name.now (C.seen call.old)
-        (C.seen call.new)) }
-    ensures none { IfErr result (GivesNone IsResolvedAs name.now (C.seen call.old) (C.seen call.new)) }
+    ensures finds { IfOk result (Finds (λ text net. IsResolvedAs text (stands_for net)) leaves_text name.now
+        (C.seen call.old) (C.seen call.new)) }
+    ensures none { IfErr result (GivesNone leaves_text IsResolvedAs name.now (C.seen call.old) (C.seen call.new)) }
 {
     let bytes = read_source(call, name)?;
     match resolve_text(call.alloc(), bytes.as_slice()) {
@@ -99,7 +99,8 @@ fn lines_of<C: Call>(call: &mut C, bytes: Bytes, demanded: Demanded) -> Result<B
     ensures passes { OnOk result (Passes (C.seen call.old) (C.seen call.new)) }
     ensures lines { IfOk result (λ lines. lines_demanded demanded ≡ Ok lines) }
     ensures none { IfErr result (SaysWhy (lines_demanded demanded) (C.seen call.old) (C.seen call.new)) }
-    ensures checked { (C.seen call.new).left.checked ≡ Some (checked_demanded demanded) }
+    ensures left { worked (C.seen call.new).left ≡ with_checked (checked_demanded demanded)
+        (with_bytes bytes (worked (C.seen call.old).left)) }
 {
     let (counts, lines) = demanded.into_parts();
     call.leave(Leaving::Checked(counts));
@@ -115,11 +116,9 @@ fn lines_of<C: Call>(call: &mut C, bytes: Bytes, demanded: Demanded) -> Result<B
 // The lines of what the outputs of the application of a name demand, by the rules L, P, B, N, S and M1; or the status
 // of a call that gets none. Where the source is accepted, what was checked is left, also where the rule M1 refuses.
 pub(crate) fn accept_demands<C: Call>(call: &mut C, name: &str) -> Result<Bytes, Status>
-    ensures finds { IfOk result (Finds HasLines name.now (C.seen call.old) (C.seen call.new)) }
-    ensures none { IfErr result (GivesNone IsDemandableAs name.now (C.seen call.old) (C.seen call.new)) }
-    ensures leaves { OnOk result (LeavesAccepted name.now (C.seen call.old) (C.seen call.new)) }
-    ensures leaves_refused { IfErr result (λ status. ¬ IsCut status →
-        LeavesAccepted name.now (C.seen call.old) (C.seen call.new)) }
+    ensures finds { IfOk result (Finds HasLines LeavesAccepted name.now (C.seen call.old) (C.seen call.new)) }
+    ensures none { IfErr result (GivesNone LeavesAccepted IsDemandableAs name.now (C.seen call.old)
+        (C.seen call.new)) }
 {
     let bytes = read_source(call, name)?;
     match demand_text(call.alloc(), bytes.as_slice()) {

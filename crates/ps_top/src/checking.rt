@@ -19,10 +19,10 @@ pub(crate) fn check<C: Call>(call: &mut C, app: &str) -> Status
     match accept(call, app) {
         Ok(accepted) => {
             let (source, app, checked) = accepted.into_sourced();
+            let line = check_line(&app);
             call.leave(Leaving::Checked(checked));
-            let status = say(call, check_line(&app).as_slice(), Status::Done);
             call.leave(Leaving::App(app, source));
-            status
+            say(call, line.as_slice(), Status::Done)
         }
         Err(status) => status,
     }

@@ -7,7 +7,6 @@ ghost use Rattle.ps_model.specs.Network.{input_count};
 ghost use Rattle.ps_model.specs.Typing.{Accepted as IsAccepted};
 ghost use Rattle.ps_runs.specs.Counting.{none_counted};
 ghost use Rattle.ps_runs.specs.Performing.{IsStruckWorldFor};
-ghost use Rattle.ps_runs.specs.Resting.{ran};
 ghost use Rattle.ps_runs.specs.Running.{Fits, IsBeginning};
 ghost use Rattle.ps_accepted.specs.Answering.{IsAcceptance};
 ghost use Rattle.ps_trace.specs.Reading.{IsReadingTrace, file_of, input_count_of, items_left};
@@ -17,7 +16,8 @@ ghost use Rattle.ps_top.specs.Asking.{worked};
 ghost use Rattle.ps_top.specs.Calls.{Answers, LeavesRefusal, SaysAnswer, with_left};
 ghost use Rattle.ps_top.specs.Meets.{IsCut};
 ghost use Rattle.ps_top.specs.Program as program;
-ghost use Rattle.ps_top.specs.Resting.{load_answer};
+ghost use Rattle.ps_top.specs.Program.{with_world};
+ghost use Rattle.ps_top.specs.Resting.{EndsWith, load_answer};
 ghost use Rattle.ps_top.specs.declared.left.Left.{Left as LeftBehind};
 
 use crate::Status;
@@ -61,9 +61,8 @@ fn sum_scans<C: Call>(
         (items_left trace.old (trace_text number))) (C.seen call.old) (C.seen call.new) result }
     ensures refuses { LeavesRefusal (C.seen call.new).left (C.seen call.new).out result }
     ensures worked { worked (C.seen call.new).left ≡ worked (C.seen call.old).left }
-    ensures world { ¬ IsCut result → runner.new.performer.world
-        ≡ ran runner.old.performer.faults 1 (items_left trace.old
-        (trace_text number)).items runner.old.performer.world }
+    ensures ends { ¬ IsCut result → EndsWith (items_left trace.old (trace_text number)).items runner.old.performer
+        runner.new.performer }
     ensures no_usage { result ≢ Status.Usage }
 {
     match call.do_items_of(files, app, trace, runner) {
@@ -90,12 +89,12 @@ fn read_sums<C: Call>(
     requires none { runner.old.taker ≡ none_counted }
     requires held { held_of files.old (codes "trace") ≡ Some (trace_text number) }
     requires last { number ≤ 1000 }
-    ensures answers { (behind : LeftBehind) → behind.world ≡ Some runner.new.performer.world →
+    ensures answers { (behind : LeftBehind) → worked behind ≡ with_world runner.new.performer.world
+        runner.new.performer.trip (worked (C.seen call.new).left) →
         behind.refusal ≡ (C.seen call.new).left.refusal →
         Answers (program.sum_scans number app.now runner.old.performer.world.setup (scans_of
         (trace_text number) app.now)) []
         (C.seen call.old) (with_left behind (C.seen call.new)) result }
-    ensures worked { worked (C.seen call.new).left ≡ worked (C.seen call.old).left }
     ensures no_usage { result ≢ Status.Usage }
 {
     app.sound();
@@ -123,7 +122,6 @@ fn sum_in_world<C: Call>(
     requires last { number ≤ 1000 }
     ensures answers { Answers (program.sum_scans number app.now world.setup (scans_of (trace_text number) app.now)) []
         (C.seen call.old) (C.seen call.new) result }
-    ensures checked { (C.seen call.new).left.checked ≡ (C.seen call.old).left.checked }
     ensures no_usage { result ≢ Status.Usage }
 {
     let world = StruckWorld::new(world, Faults::new(call.alloc()));
@@ -143,7 +141,6 @@ fn sum_trace<C: Call>(call: &mut C, files: &mut LoadFiles, app: &App, number: u3
     requires held { held_of files.old (codes "trace") ≡ Some (trace_text number) }
     requires last { number ≤ 1000 }
     ensures answers { Answers (program.sum_trace number app.now) [] (C.seen call.old) (C.seen call.new) result }
-    ensures checked { (C.seen call.new).left.checked ≡ (C.seen call.old).left.checked }
     ensures no_usage { result ≢ Status.Usage }
 {
     match World::build(call.alloc(), app) {

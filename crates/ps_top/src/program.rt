@@ -71,7 +71,7 @@ fn do_all<C: Call>(call: &mut C, words: &Words) -> Status
 ///
 /// `words` are those after the program's name. What is written, and the status, is what the definition `text` says for
 /// these words and the texts that the files hold. In `left` stands what the call worked with, and the refusal where a
-/// text is refused.
+/// text is refused; what was in it before is dropped first.
 pub fn top<F: Files, S: Sink>(
     alloc: Global,
     words: &Words,
@@ -105,7 +105,7 @@ pub fn top<F: Files, S: Sink>(
         (S.tells out.old) (S.taken out.old) (S.taken out.new) }
     ensures memory { IsTrue (S.tells out.old) → result ≡ Status.Memory → S.taken out.new ≡ S.taken out.old }
 
-    // What is left behind, where the call was not cut short.
+    // What is left behind, where the call was not cut short: this and nothing else.
     ensures leaves { IsTrue (F.tells files.old) → ¬ IsCut result →
         IsLeft (program.text words.now) (F.held files.old) (worked left.new) }
 
@@ -153,6 +153,7 @@ pub fn top<F: Files, S: Sink>(
     ensures output_telling { S.tells out.new ≡ S.tells out.old }
     ensures output_count { S.faults out.old ≤ S.faults out.new }
 {
+    *left = Left::new();
     let mut call = CallOver {
         alloc,
         files,

@@ -8,6 +8,7 @@ ghost use Rattle.ps_runs.specs.Performing.{IsStruckWorldFor};
 ghost use Rattle.ps_runs.specs.Running.{Fits, IsBeginning};
 ghost use Rattle.ps_trace.specs.Reading.{IsReadingTrace, file_of, input_count_of, items_left, last_of};
 ghost use Rattle.ps_world.specs.Whole.{IsWorldOf};
+ghost use Rattle.ps_top.specs.Asking.{worked};
 ghost use Rattle.ps_top.specs.Calls.{Answers, Causes, GoesOn, LeavesRefusal};
 ghost use Rattle.ps_top.specs.Program as program;
 ghost use Rattle.ps_top.specs.Running.{EndsItems, RunsTrace, status_behind};
@@ -44,7 +45,7 @@ fn run_items<C: Call, P: Performer, T: Taker<P>>(
     ensures goes { OnOk result (GoesOn (C.seen call.old) (C.seen call.new)) }
     ensures causes { IfErr result (Causes (file_of trace.old ∷ []) (C.seen call.old) (C.seen call.new)) }
     ensures refuses { IfErr result (LeavesRefusal (C.seen call.new).left (C.seen call.new).out) }
-    ensures checked { (C.seen call.new).left.checked ≡ (C.seen call.old).left.checked }
+    ensures worked { worked (C.seen call.new).left ≡ worked (C.seen call.old).left }
     ensures no_usage { IfErr result (λ status. status ≢ Status.Usage) }
 {
     match call.do_items(app, trace, runner) {
@@ -71,7 +72,7 @@ pub(crate) fn run_trace<C: Call, P: Performer, T: Taker<P>>(
     ensures goes { OnOk result (GoesOn (C.seen call.old) (C.seen call.new)) }
     ensures causes { IfErr result (Causes (trace.now ∷ []) (C.seen call.old) (C.seen call.new)) }
     ensures refuses { IfErr result (LeavesRefusal (C.seen call.new).left (C.seen call.new).out) }
-    ensures checked { (C.seen call.new).left.checked ≡ (C.seen call.old).left.checked }
+    ensures worked { worked (C.seen call.new).left ≡ worked (C.seen call.old).left }
     ensures no_usage { IfErr result (λ status. status ≢ Status.Usage) }
 {
     match call.open_trace(trace, app) {
@@ -122,7 +123,6 @@ fn run_in_world<C: Call>(call: &mut C, app: &App, trace: &str, world: StruckWorl
     requires first { IsBeginning app.now world }
     ensures answers { Answers (program.run_named app.now world.world.setup world.faults trace.now) (trace.now ∷ [])
         (C.seen call.old) (C.seen call.new) result }
-    ensures checked { (C.seen call.new).left.checked ≡ (C.seen call.old).left.checked }
     ensures no_usage { result ≢ Status.Usage }
 {
     app.sound();
@@ -143,7 +143,6 @@ fn run_quietly<C: Call>(call: &mut C, app: &App, trace: &str) -> Status
     requires { Accepted app.now }
     ensures answers { Answers (program.run_quietly trace.now app.now) (trace.now ∷ []) (C.seen call.old)
         (C.seen call.new) result }
-    ensures checked { (C.seen call.new).left.checked ≡ (C.seen call.old).left.checked }
     ensures no_usage { result ≢ Status.Usage }
 {
     match World::build(call.alloc(), app) {
@@ -162,7 +161,6 @@ fn run_faults<C: Call>(call: &mut C, app: &App, trace: &str, faults: &str, world
     ensures answers { Answers (program.with_faults world.setup faults.now
         (λ list. program.run_named app.now world.setup list trace.now))
         (faults.now ∷ trace.now ∷ []) (C.seen call.old) (C.seen call.new) result }
-    ensures checked { (C.seen call.new).left.checked ≡ (C.seen call.old).left.checked }
     ensures no_usage { result ≢ Status.Usage }
 {
     let sizes = world.sizes();
@@ -177,7 +175,6 @@ fn run_struck<C: Call>(call: &mut C, app: &App, trace: &str, faults: &str) -> St
     requires { Accepted app.now }
     ensures answers { Answers (program.run_struck trace.now faults.now app.now) (faults.now ∷ trace.now ∷ [])
         (C.seen call.old) (C.seen call.new) result }
-    ensures checked { (C.seen call.new).left.checked ≡ (C.seen call.old).left.checked }
     ensures no_usage { result ≢ Status.Usage }
 {
     match World::build(call.alloc(), app) {

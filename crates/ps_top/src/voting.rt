@@ -44,7 +44,6 @@ fn run_in_seats<C: Call>(call: &mut C, app: &App, trace: &str, seats: StruckSeat
     ensures answers { Answers (program.vote_named seats.heals app.now seats.world.setup seats.faults trace.now)
         (trace.now ∷ [])
         (C.seen call.old) (C.seen call.new) result }
-    ensures checked { (C.seen call.new).left.checked ≡ (C.seen call.old).left.checked }
     ensures no_usage { result ≢ Status.Usage }
 {
     app.sound();
@@ -74,7 +73,6 @@ fn run_faults<C: Call>(
     ensures answers { Answers (program.with_seat_faults heals world.setup faults.now
         (λ list. program.vote_named heals app.now world.setup list trace.now))
         (faults.now ∷ trace.now ∷ []) (C.seen call.old) (C.seen call.new) result }
-    ensures checked { (C.seen call.new).left.checked ≡ (C.seen call.old).left.checked }
     ensures no_usage { result ≢ Status.Usage }
 {
     let sizes = world.sizes();
@@ -89,7 +87,6 @@ fn run_struck<C: Call>(call: &mut C, app: &App, trace: &str, faults: &str, heals
     requires { Accepted app.now }
     ensures answers { Answers (program.vote_struck heals trace.now faults.now app.now) (faults.now ∷ trace.now ∷ [])
         (C.seen call.old) (C.seen call.new) result }
-    ensures checked { (C.seen call.new).left.checked ≡ (C.seen call.old).left.checked }
     ensures no_usage { result ≢ Status.Usage }
 {
     match VoteWorld::build(call.alloc(), app) {

@@ -42,7 +42,7 @@ module _ (c : Conditions) where
   all_asked (Not a) (Not b) (Is d) = ap (λ y. not (asks a c) && (not (asks b c) && y)) (sym (and_on (asks d c)))
   all_asked (Not a) (Not b) (Not d) = ap (λ y. not (asks a c) && (not (asks b c) && y)) (sym (and_on (not (asks d c))))
 
-  one_unmet : (ls : List Literal) (l : Literal) → Contains ls l → meets l c ≡ false → list_all (λ l. meets l c) ls ≡ false
+  pub one_unmet : (ls : List Literal) (l : Literal) → Contains ls l → meets l c ≡ false → list_all (λ l. meets l c) ls ≡ false
   one_unmet ls l h n = list_all_at (λ l. meets l c) ls h.0 l h.1 (ap (λ l. meets l c) h.2 ∙ n)
 
 module _ (told : Fact → Type 0) (k : ℕ) (c : Conditions) (so : (a : Ask) (b : Bool) → told (AskIs k a b) → asks a c ≡ b) where

@@ -6,8 +6,11 @@ pub mod Resting
 pub mod Enough
 pub mod Grounded
 -- operands that are named, and literals and ways, one after another
+pub mod Listing
 pub mod Telling
+pub mod Operated
 pub mod Guarding
+pub mod Guarded
 -- what is said of what a step reads, that a scan is seen as it is, and that facts come to those that were found
 pub mod Adding
 pub mod Readings
@@ -22,3 +25,6 @@ pub mod Kept
 pub mod Rooted
 pub mod Settling
 pub mod Making
+-- a fact rests on its reasons
+pub mod Reasoned
+pub mod Listed

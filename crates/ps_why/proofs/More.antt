@@ -20,6 +20,28 @@ match_more : (b : Bool) (P P' Q Q' : Type 0) → (P → P') → (Q → Q') → M
 match_more true P P' Q Q' f g h = f h
 match_more false P P' Q Q' f g h = g h
 
+module _ (old new : Fact → Type 0) (more : (fact : Fact) → old fact → new fact) where
+  passed_more : (k q : ℕ) (w : Way) → IsPassed old k q w → IsPassed new k q w
+  passed_more k q w (inl h) = inl h
+  passed_more k q w (inr h) = inr (h.0, h.1, literal_by_more k old new more h.0 false h.2)
+
+  all_passed_more : (k q : ℕ) (ways : List Way) → AllByRecursion (IsPassed old k q) ways → AllByRecursion (IsPassed new k q) ways
+  all_passed_more k q [] h = tt
+  all_passed_more k q (w ∷ ways) h = (passed_more k q w h.0, all_passed_more k q ways h.1)
+
+  pub decides_more : (k : ℕ) (ways : List Way) (q q' : ℕ) → Decides old k ways q q' → Decides new k ways q q'
+  decides_more k ways q q' (inl left) = inl (record {
+    before = left.before;
+    way = left.way;
+    behind = left.behind;
+    order = left.order;
+    passed = all_passed_more k q left.before left.passed;
+    of_state = left.of_state;
+    open_way = open_by_more k old new more (asked left.way) left.open_way;
+    leads = left.leads;
+  })
+  decides_more k ways q q' (inr kept) = inr (all_passed_more k q ways kept.0, kept.1)
+
 module _ (net : Network) (old new : Fact → Type 0) (more : (fact : Fact) → old fact → new fact) where
   read_more : (k s : ℕ) (b : Bool) → ReadIsTold net old k s b → ReadIsTold net new k s b
   read_more k s b h = match_more (is_new net k s) _ _ _ _ (more (SignalIs s b)) (more (SignalWas s b)) h
@@ -38,27 +60,6 @@ module _ (net : Network) (old new : Fact → Type 0) (more : (fact : Fact) → o
     mode_agrees = λ n t. m.mode_agrees n (more (ModeWas i n) t);
   }
 
-  passed_more : (k q : ℕ) (w : Way) → IsPassed old k q w → IsPassed new k q w
-  passed_more k q w (inl h) = inl h
-  passed_more k q w (inr h) = inr (h.0, h.1, literal_by_more k old new more h.0 false h.2)
-
-  all_passed_more : (k q : ℕ) (ways : List Way) → AllByRecursion (IsPassed old k q) ways → AllByRecursion (IsPassed new k q) ways
-  all_passed_more k q [] h = tt
-  all_passed_more k q (w ∷ ways) h = (passed_more k q w h.0, all_passed_more k q ways h.1)
-
-  decides_more : (k : ℕ) (ways : List Way) (q q' : ℕ) → Decides old k ways q q' → Decides new k ways q q'
-  decides_more k ways q q' (inl left) = inl (record {
-    before = left.before;
-    way = left.way;
-    behind = left.behind;
-    order = left.order;
-    passed = all_passed_more k q left.before left.passed;
-    of_state = left.of_state;
-    open_way = open_by_more k old new more (asked left.way) left.open_way;
-    leads = left.leads;
-  })
-  decides_more k ways q q' (inr kept) = inr (all_passed_more k q ways kept.0, kept.1)
-
   moves_more : (k i q : ℕ) → IsInactive net old k q ⊎ (IsEntered net old k i q ⊎ IsDecided net old k i q) →
       IsInactive net new k q ⊎ (IsEntered net new k i q ⊎ IsDecided net new k i q)
   moves_more k i q (inl h) = inl (more (PinIs k 0 false) h.0, h.1)
@@ -68,7 +69,7 @@ module _ (net : Network) (old new : Fact → Type 0) (more : (fact : Fact) → o
     before = h.before;
     was = more (StateWas i h.before) h.was;
     not_idle = h.not_idle;
-    decides = decides_more k _ h.before q h.decides;
+    decides = decides_more old new more k _ h.before q h.decides;
   }))
 
   rests_more : (fact : Fact) → Rests net old fact → Rests net new fact

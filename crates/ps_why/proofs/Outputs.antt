@@ -3,14 +3,14 @@ use Rattle.std.proofs.Common.{◌≡◌, ◌≢◌, ◌⊎◌, ℕ, ◌+◌, ◌
 use Rattle.std.specs.Prelude.{Contains, Some, Option, None, slice_get, slice_index_or, MatchOption, option_map}
 use Rattle.std.specs.Option.{option_and_then}
 use Rattle.std.specs.Prelude.{nat_le, nat_lt, position}
-use Rattle.ps_model.proofs.Once.{place_of}
+use Rattle.ps_model.proofs.Once.{any_at, place_of}
 use Rattle.ps_model.proofs.OneSolution.{driven_below}
-use Rattle.ps_model.proofs.Positions.{found_at, none_found}
+use Rattle.ps_model.proofs.Positions.{found_at, none_found, none_found_from}
 use Rattle.ps_model.specs.Drivers.{driver, driver_by}
 use Rattle.ps_model.specs.Sound.{IsSound}
 use Rattle.ps_model.specs.declared.driver.Driver.{Driver}
 use Rattle.ps_why.specs.Drivers.{IsDrivenBy}
-use Rattle.std.proofs.lemmas.Bool.{and_parts, cases_Bool, eqb-true, false≢true, leb-true, ltb-true}
+use Rattle.std.proofs.lemmas.Bool.{and_parts, cases_Bool, eqb-true, false≢true, false_from_ne_true, leb-true, ltb-true}
 use Rattle.ps_model.specs.Action.{Action, Actual, assigns, calls, free, literal, time, wired}
 use Rattle.ps_model.specs.Blocks.{block, output_count, outs}
 use Rattle.ps_model.specs.Demand.{demand}
@@ -75,6 +75,12 @@ past_undriven net sound s past = elim (cases_Bool (is_driven net s)) [
   | inl on ↦ absurd (omega (arith, past, driven_below net sound s on))
   | inr off ↦ off
 ]
+
+-- and so has no driver
+pub past_driver : (net : Network) → IsSound net → (s : ℕ) → signal_count net ≤ s → None ≡ driver net s
+past_driver net sound s past =
+    sym (ap (found_driver net s) (none_found_from (drives net s) net.steps
+    (λ k a at. false_from_ne_true (drives net s a) (λ on. omega (arith, past, driven_below net sound s (any_at (drives net s) net.steps k a at on))))))
 
 -- ---- A signal.
 

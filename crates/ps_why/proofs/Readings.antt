@@ -1,5 +1,5 @@
 -- What a step reads, as facts.
-use Rattle.std.proofs.Common.{◌≡◌, ℕ, ◌<◌, ◌≤◌, Bool, true, false, List, length, map, subst, sym, ap, ◌∙◌, inl, inr, arith}
+use Rattle.std.proofs.Common.{◌≡◌, ℕ, ◌<◌, ◌≤◌, Bool, true, false, List, length, map, sym, ap, ◌∙◌, inl, inr, arith}
 use Rattle.std.specs.Prelude.{Contains, cond, slice_index_or}
 use Rattle.std.specs.Bool.{MatchBool}
 use Rattle.std.specs.List.{range_with_len}
@@ -8,16 +8,12 @@ use Rattle.std.proofs.lemmas.List.{get_or-map, get_or_past, length-map}
 use Rattle.std.proofs.lemmas.List.Elements.{Contains-get_or}
 use Rattle.std.proofs.lemmas.List.FromFn.{get_or-map-range_with_len, length-map-range_with_len}
 use mathlib.Core.Path.{fun_ext}
-use Rattle.ps_model.specs.Formula.{Formula, value}
+use Rattle.ps_model.specs.Formula.{Formula}
 use Rattle.ps_model.specs.Network.{Network, is_new, signal_count}
-use Rattle.ps_why.specs.Operands.{HasValue}
-use Rattle.ps_why.specs.Grounds.{ReadIsTold}
-use Rattle.ps_why.specs.Telling.{HasItsValue, IsTold}
-use Rattle.ps_why.specs.declared.fact.Fact.{Fact}
-use Rattle.ps_why.specs.declared.fact.Fact.TheVariants.{SignalIs, SignalWas}
-use Rattle.ps_why.proofs.Telling.{by_more}
-use Rattle.ps_why.specs.FactsRead.{GivesValue, fact_of_read}
+use Rattle.ps_why.specs.FactsRead.{fact_of_read}
+use Rattle.ps_why.specs.Reasons.{deciding, reads}
 use Rattle.ps_why.specs.Scenes.{IsSceneFor, read_in}
+use Rattle.ps_why.specs.declared.fact.Fact.{Fact}
 use Rattle.ps_why.specs.declared.scene.Scene.{Scene}
 
 -- what stands in a list stands in its image
@@ -30,7 +26,7 @@ map_contains f xs y h =
     let within : h.0 < length xs = omega (arith, h.1, length-map xs f) in
     (slice_index_or xs h.0 0, Contains-get_or xs h.0 0 within, sym h.2 ∙ get_or-map f xs h.0 0 y within)
 
-match_of : (n : Bool) (P : Fact → Type 0) (a b : Fact) → P (cond n a b) → MatchBool n (P a) (P b)
+pub match_of : (n : Bool) (P : Fact → Type 0) (a b : Fact) → P (cond n a b) → MatchBool n (P a) (P b)
 match_of true P a b h = h
 match_of false P a b h = h
 
@@ -57,21 +53,7 @@ module _ (net : Network) (x : Scene) (fits : IsSceneFor net x) (k : ℕ) where
             ∙ sym (past_read s past)
       ]
 
-  -- the facts of the signals that are told
-  abbrev pub facts_read : List ℕ → List Fact
-  facts_read told = map (λ s. fact_of_read net k s (slice_index_or read_list s false)) told
-
-  more : (told : List ℕ) (s : ℕ) (b : Bool) → IsTold read_list told s b → ReadIsTold net (Contains (facts_read told)) k s b
-  more told s b h =
-      match_of (is_new net k s) (Contains (facts_read told)) (SignalIs s b) (SignalWas s b)
-      (subst (λ v. Contains (facts_read told) (fact_of_read net k s v)) h.1
-      (contains_map (λ s. fact_of_read net k s (slice_index_or read_list s false)) told s h.0))
-
-  pub gives_value : (told : List ℕ) (e : Formula) → HasItsValue read_list told e → GivesValue net x k e (facts_read told)
-  gives_value told e h = record {
-    has = subst (HasValue (ReadIsTold net (Contains (facts_read told)) k) e) (ap (λ v. value v e) (fun_ext read_all))
-        (by_more (IsTold read_list told) (ReadIsTold net (Contains (facts_read told)) k) (more told) e _ h);
-    only = λ fact at.
-        let w = map_contains (λ s. fact_of_read net k s (slice_index_or read_list s false)) told fact at in
-        (w.0, w.2 ∙ ap (fact_of_read net k w.0) (read_all w.0));
-  }
+  -- what is told by that list
+  pub reads_by_list : (e : Formula) →
+      map (λ s. fact_of_read net k s (slice_index_or read_list s false)) (deciding (λ s. slice_index_or read_list s false) e) ≡ reads net x k e
+  reads_by_list e = ap (λ v. map (λ s. fact_of_read net k s (v s)) (deciding v e)) (fun_ext read_all)

@@ -1,11 +1,13 @@
 -- How facts come to those that are told.
 use Rattle.std.proofs.Common.{◌≡◌, ◌⊎◌, ℕ, zero, suc, ◌+◌, ◌<◌, ◌≤◌, ◌++◌, List, [], ◌∷◌, length, refl, subst, sym, ap, ◌∙◌, inl, inr, arith}
-use Rattle.std.specs.Prelude.{Bool, false, Contains, Some, slice_get, slice_index_or}
+use Rattle.std.specs.Prelude.{Bool, false, Contains, Some, slice_get, slice_index_or, take}
+use Rattle.std.specs.List.{AllZip}
 use Rattle.std.proofs.lemmas.Bool.{cases_lt}
 use Rattle.std.proofs.lemmas.List.{length_push}
+use Rattle.std.proofs.Math.Seq.{take-length}
 use Rattle.std.proofs.lemmas.List.Elements.{Contains-append_left, Contains-push}
 use Rattle.std.proofs.lemmas.Option.{get_or_from_slice_get, same_Some, slice_get-get_or, slice_get_within}
-use Rattle.ps_model.proofs.Once.{element_at}
+use Rattle.ps_model.proofs.Once.{element_at, take_next}
 use Rattle.ps_model.specs.Network.{Network}
 use Rattle.ps_model.specs.Scanning.{Solves, State}
 use Rattle.ps_why.specs.Explained.{IsLeaf}
@@ -15,7 +17,8 @@ use Rattle.ps_why.specs.Rests.{Rests}
 use Rattle.ps_why.specs.declared.fact.Fact.{Fact}
 use Rattle.ps_why.specs.declared.fact.Fact.TheVariants.{SignalIs}
 use Rattle.ps_why.specs.Entering.{Enters, EntersAll, IsAmong}
-use Rattle.ps_why.specs.Explanations.{AreSo, EachRests, IsMeantThere, IsOneOf, IsReason, IsTold}
+use Rattle.ps_why.specs.Explanations.{AreSo, EachRests, HasReasons, IsMeantThere, IsOneOf, IsReason, IsTold}
+use Rattle.ps_why.specs.Reasons.{reasons_of}
 use Rattle.ps_why.specs.Resting.{RestsThere}
 use Rattle.ps_why.specs.Scenes.{IsSceneOf}
 use Rattle.ps_why.specs.declared.explaining.Explanation.{Explanation}
@@ -66,6 +69,27 @@ module _ (mid new : List Fact) (f : Fact) (n : ℕ) (h : Enters mid new f n) whe
         ]
   ]
 
+-- lists that go together still do with one element more
+zip_push : {A B : Type 0} (R : A → B → Type 0) (xs : List A) (ys : List B) (x : A) (y : B) → AllZip R xs ys → R x y → AllZip R (xs ++ x ∷ []) (ys ++ y ∷ [])
+zip_push R [] [] x y h r = (r, tt)
+zip_push R [] (z ∷ ys) x y h r = absurd h
+zip_push R (z ∷ xs) [] x y h r = absurd h
+zip_push R (z ∷ xs) (w ∷ ys) x y h r = (h.0, zip_push R xs ys x y h.1 r)
+
+zip_more : {A B : Type 0} (R : A → B → Type 0) (xs : List A) (ys : List B) (i : ℕ) (x : A) (y : B) → slice_get xs i ≡ Some x → AllZip R (take i xs) ys → R x y →
+    AllZip R (take (i + 1) xs) (ys ++ y ∷ [])
+zip_more R xs ys i x y at h r =
+    let next : suc i ≡ i + 1 = omega arith in
+    subst (λ k. AllZip R (take k xs) (ys ++ y ∷ [])) next (subst (λ l. AllZip R l (ys ++ y ∷ [])) (sym (take_next xs i x at)) (zip_push R (take i xs) ys x y h r))
+
+-- numbers stay those of the same facts
+still_right : (mid new : List Fact) → ((m : ℕ) (g : Fact) → slice_get mid m ≡ Some g → slice_get new m ≡ Some g) → (gs : List Fact) (ms : List ℕ) →
+    AllZip (λ g m. slice_get mid m ≡ Some g) gs ms → AllZip (λ g m. slice_get new m ≡ Some g) gs ms
+still_right mid new kept [] [] h = h
+still_right mid new kept [] (m ∷ ms) h = h
+still_right mid new kept (g ∷ gs) [] h = h
+still_right mid new kept (g ∷ gs) (m ∷ ms) h = (kept m g h.0, still_right mid new kept gs ms h.1)
+
 module _ (old : List Fact) (given : List Fact) where
   -- what was told stays within
   longer : (mid : List Fact) → ((m : ℕ) (g : Fact) → slice_get old m ≡ Some g → slice_get mid m ≡ Some g) → length old ≤ length mid
@@ -82,6 +106,7 @@ module _ (old : List Fact) (given : List Fact) where
   enters_none = record {
     kept = λ n f at. at;
     each = λ f h. absurd (omega (arith, h.1));
+    right = tt;
     only = λ n f at. inl at;
   }
 
@@ -90,6 +115,8 @@ module _ (old : List Fact) (given : List Fact) where
   enters_next mid new i numbers f n h at e = record {
     kept = λ m g was. one_kept mid new f n e m g (h.kept m g was);
     each = λ g among. each_by g among (cases_lt among.0 i);
+    right = zip_more (λ g m. slice_get new m ≡ Some g) given numbers i f n at
+        (still_right mid new (one_kept mid new f n e) (take i given) numbers h.right) e.0;
     only = λ m g is. only_by m g (one_only mid new f n e m g is);
   }
     where
@@ -138,6 +165,8 @@ pub record IsToldSoFar (net : Network) (x : Scene) (roots : List Fact) (n : ℕ)
   pub within : n ≤ length facts
   pub asked_for : (f : Fact) → Contains roots f → (m : ℕ) × (slice_get facts m ≡ Some f)
   pub used : (m : ℕ) (f : Fact) → slice_get facts m ≡ Some f → Contains roots f ⊎ IsReason reasons m
+  pub right : (m : ℕ) (f : Fact) (r : Reasons) → slice_get facts m ≡ Some f → slice_get reasons m ≡ Some r →
+      AllZip (λ g k. slice_get facts k ≡ Some g) (reasons_of net x f) r.facts.items
   pub meant : (old : State) (ins : List Bool) (since : ℕ) (new : State) → Solves net old ins since new →
       IsSceneOf net old since new x → AreSo net old since new roots → IsMeantSoFar net old since new facts reasons
 
@@ -148,6 +177,7 @@ module _ (net : Network) (x : Scene) (roots : List Fact) where
     within = omega arith;
     asked_for = λ f is. let w = h.each f (among_all roots f is) in (w.0, w.2);
     used = λ m f at. inl (root m f at);
+    right = λ m f r at none. absurd (let clash = none in cc);
     meant = λ old ins since new solves scene so. record {
       so = λ m f at. (so.0 f (root m f at), so.1 f (root m f at));
       rests = λ m f r at none. absurd (let clash = none in cc);
@@ -161,7 +191,7 @@ module _ (net : Network) (x : Scene) (roots : List Fact) where
       ]
 
   module _ (n : ℕ) (facts facts' : List Fact) (reasons : List Reasons) (given : List Fact) (r : Reasons) (f : Fact)
-      (h : IsToldSoFar net x roots n facts reasons) (at : slice_get facts n ≡ Some f) (rests_there : RestsThere net x f given)
+      (h : IsToldSoFar net x roots n facts reasons) (at : slice_get facts n ≡ Some f) (rests_there : RestsThere net x f given) (given_is : given ≡ reasons_of net x f)
       (e : EntersAll facts facts' (length given) given r.facts.items) where
     inside : n < length facts
     inside = slice_get_within facts n f at
@@ -180,6 +210,20 @@ module _ (net : Network) (x : Scene) (roots : List Fact) where
       | inr w ↦ inr (w.0, w.1, w.2, push_before reasons r w.0 w.1 w.3, w.4)
     ]
     used_by m g (inr w) = inr (n, r, omega (arith, inside, w.2), subst (λ k. slice_get (reasons ++ r ∷ []) k ≡ Some r) h.each (push_at reasons r), w.1)
+
+    right_by : (m : ℕ) (g : Fact) (s : Reasons) → slice_get facts' m ≡ Some g → (slice_get reasons m ≡ Some s) ⊎ ((m ≡ length reasons) × (r ≡ s)) →
+        AllZip (λ g k. slice_get facts' k ≡ Some g) (reasons_of net x g) s.facts.items
+    right_by m g s is (inl was) =
+        let below : m < length reasons = slice_get_within reasons m s was in
+        elim (was_or_new m g is) [
+          | inl before ↦ still_right facts facts' e.kept (reasons_of net x g) s.facts.items (h.right m g s before was)
+          | inr w ↦ absurd (omega (arith, below, h.each, h.within, w.2))
+        ]
+    right_by m g s is (inr last) =
+        let same_place : n ≡ m = omega (arith, h.each, last.0) in
+        let same : f ≡ g = same_Some f g (sym (e.kept n f at) ∙ ap (slice_get facts') same_place ∙ is) in
+        subst (λ (t : Reasons). AllZip (λ g k. slice_get facts' k ≡ Some g) (reasons_of net x g) t.facts.items) last.1
+        (subst (λ gs. AllZip (λ g k. slice_get facts' k ≡ Some g) gs r.facts.items) (take-length given ∙ given_is ∙ ap (reasons_of net x) same) e.right)
 
     module _ (old : State) (ins : List Bool) (since : ℕ) (new : State) (solves : Solves net old ins since new)
         (scene : IsSceneOf net old since new x) (so : AreSo net old since new roots) where
@@ -221,6 +265,7 @@ module _ (net : Network) (x : Scene) (roots : List Fact) where
       within = omega (arith, inside, longer facts given facts' e.kept);
       asked_for = λ g is. let w = h.asked_for g is in (w.0, e.kept w.0 g w.1);
       used = λ m g is. used_by m g (was_or_new m g is);
+      right = λ m g s is reason. right_by m g s is (push_cases reasons r m s reason);
       meant = λ old ins since new solves scene so. record {
         so = λ m g is. so_by old ins since new solves scene so m g (was_or_new m g is);
         rests = λ m g s is reason. rests_by old ins since new solves scene so m g s is (push_cases reasons r m s reason);
@@ -234,6 +279,12 @@ module _ (net : Network) (x : Scene) (roots : List Fact) where
       each = omega (arith, h.each, h.within, end);
       used = h.used;
     }
+
+    pub right_all : HasReasons net x e
+    right_all m f at =
+        let within : m < length e.reasons.items = omega (arith, slice_get_within e.facts.items m f at, h.each, h.within, end) in
+        let reason = element_at e.reasons.items m within in
+        (reason.0, reason.1, h.right m f reason.0 at reason.1)
 
     pub meant_all : IsMeantThere net x roots e
     meant_all old ins since new solves scene so =

@@ -1,5 +1,6 @@
 -- Facts that are told once. Nothing here is part of what is promised.
-use Rattle.std.specs.Prelude.{◌≡◌, ◌⊎◌, ℕ, ◌<◌, ◌≤◌, ◌++◌, List, [], ◌∷◌, Contains, Some, length, slice_get}
+use Rattle.std.specs.Prelude.{◌≡◌, ◌⊎◌, ℕ, ◌<◌, ◌≤◌, ◌++◌, List, [], ◌∷◌, Contains, Some, length, slice_get, take}
+use Rattle.std.specs.List.{AllZip}
 use Rattle.ps_why.specs.declared.fact.Fact.{Fact}
 use Rattle.ps_why.specs.Explanations.{IsOneOf}
 
@@ -16,5 +17,6 @@ IsAmong count given fact = (j : ℕ) × (j < count) × (slice_get given j ≡ So
 pub record EntersAll (old new : List Fact) (count : ℕ) (given : List Fact) (numbers : List ℕ) : Type 0 where
   pub kept : (n : ℕ) (fact : Fact) → slice_get old n ≡ Some fact → slice_get new n ≡ Some fact
   pub each : (fact : Fact) → IsAmong count given fact → IsOneOf new numbers fact
+  pub right : AllZip (λ fact n. slice_get new n ≡ Some fact) (take count given) numbers
   pub only : (n : ℕ) (fact : Fact) → slice_get new n ≡ Some fact →
       (slice_get old n ≡ Some fact) ⊎ (IsAmong count given fact × Contains numbers n × (length old ≤ n))

@@ -1,9 +1,11 @@
 -- All that is told of a scan.
 use Rattle.std.specs.Prelude.{◌≡◌, ◌⊎◌, ℕ, ◌<◌, Bool, List, Contains, Some, length, slice_get}
+use Rattle.std.specs.List.{AllZip}
 use Rattle.ps_model.specs.Network.{Network}
 use Rattle.ps_model.specs.Scanning.{Solves, State}
 use Rattle.ps_why.specs.Explained.{EachIsSo, IsExplained, IsLeaf}
 use Rattle.ps_why.specs.Laws.{IsOfApplication}
+use Rattle.ps_why.specs.Reasons.{reasons_of}
 use Rattle.ps_why.specs.Rests.{Rests}
 use Rattle.ps_why.specs.declared.fact.Fact.{Fact}
 use Rattle.ps_why.specs.Scenes.{IsSceneOf}
@@ -26,6 +28,12 @@ pub record IsTold (roots : List Fact) (e : Explanation) : Type 0 where
   pub each : length e.reasons.items ≡ length e.facts.items
   pub used : (n : ℕ) (fact : Fact) → slice_get e.facts.items n ≡ Some fact →
       Contains roots fact ⊎ IsReason e.reasons.items n
+
+-- The reasons of each fact are told, all of them and no others, in their order.
+abbrev pub HasReasons : Network → Scene → Explanation → Type 0
+HasReasons net x e = (n : ℕ) (fact : Fact) → slice_get e.facts.items n ≡ Some fact →
+    (r : Reasons) × (slice_get e.reasons.items n ≡ Some r)
+    × AllZip (λ reason m. slice_get e.facts.items m ≡ Some reason) (reasons_of net x fact) r.facts.items
 
 -- each fact is a leaf, or rests on its reasons
 abbrev pub EachRests : Network → List Fact → List Reasons → Type 0

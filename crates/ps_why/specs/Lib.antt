@@ -13,6 +13,7 @@ pub mod Telling
 pub mod Scenes
 pub mod FactsRead
 pub mod Drivers
+pub mod Reasons
 pub mod Asking
 pub mod Resting
 pub mod Explanations

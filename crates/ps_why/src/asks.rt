@@ -1,12 +1,9 @@
 // On what it rests that something that a guard asks holds, or does not.
 
-ghost use Rattle.std.specs.Prelude.{◌≤◌, Contains, IfOk, OnOk};
-ghost use Rattle.ps_model.specs.Blocks.{block};
+ghost use Rattle.std.specs.Prelude.{◌≡◌, ◌++◌, IfOk, OnOk, slice_get};
 ghost use Rattle.ps_ways.specs.Stepping.{conditions_of};
-ghost use Rattle.ps_why.specs.declared.fact.Fact.TheVariants.{AskIs, AuxiliaryWas, ModeWas, ResetWas};
-ghost use Rattle.ps_why.specs.Telling.{Adds, TellsModes};
-ghost use Rattle.ps_why.specs.Asking.{IsOfStep, IsSeenIn, IsSettledBy, TellsLast};
-ghost use Rattle.ps_why.specs.Resting.{RestsThere};
+ghost use Rattle.ps_ways.specs.declared.way.Ask.TheVariants.{Edge, LatchedMode, Rise};
+ghost use Rattle.ps_why.specs.Reasons.{ask_reasons, asked_by};
 ghost use Rattle.ps_why.specs.Scenes.{IsSceneFor};
 
 use crate::scene::Scene;
@@ -28,9 +25,7 @@ pub(crate) struct Call {
 
 // Tells Reset, and what it was in the last step where it is TRUE now.
 fn tell_reset(call: &Call, seen: &StepConditions, facts: &mut Vec<Fact>) -> Result<(), Memory>
-    ensures told { OnOk result (TellsLast (Contains facts.new.items) call.now.step (conditions_of seen.now).pin
-        (block call.now.kind).reset (ResetWas call.now.instance call.now.last.reset)) }
-    ensures adds { OnOk result (Adds (IsOfStep call.now (conditions_of seen.now).pin) facts.old.items facts.new.items) }
+    ensures { OnOk result (facts.new.items ≡ facts.old.items ++ ask_reasons call.now (conditions_of seen.now).pin Edge) }
 {
     if let Some(pin) = reset_pin(call.kind) {
         if tell_pin(call.step, pin, seen, facts)? {
@@ -45,9 +40,7 @@ fn tell_reset(call: &Call, seen: &StepConditions, facts: &mut Vec<Fact>) -> Resu
 
 // Tells the auxiliary input, and what it was in the last step where it is TRUE now.
 fn tell_auxiliary(call: &Call, seen: &StepConditions, facts: &mut Vec<Fact>) -> Result<(), Memory>
-    ensures told { OnOk result (TellsLast (Contains facts.new.items) call.now.step (conditions_of seen.now).pin
-        (block call.now.kind).auxiliary (AuxiliaryWas call.now.instance call.now.last.auxiliary)) }
-    ensures adds { OnOk result (Adds (IsOfStep call.now (conditions_of seen.now).pin) facts.old.items facts.new.items) }
+    ensures { OnOk result (facts.new.items ≡ facts.old.items ++ ask_reasons call.now (conditions_of seen.now).pin Rise) }
 {
     if let Some(pin) = auxiliary_pin(call.kind) {
         if tell_pin(call.step, pin, seen, facts)? {
@@ -62,9 +55,8 @@ fn tell_auxiliary(call: &Call, seen: &StepConditions, facts: &mut Vec<Fact>) -> 
 
 // Tells the pins of the modes, and the mode that was latched.
 fn tell_latched(call: &Call, seen: &StepConditions, facts: &mut Vec<Fact>) -> Result<(), Memory>
-    ensures told { OnOk result (TellsModes call.now.step (conditions_of seen.now).pin facts.new.items) }
-    ensures mode { OnOk result (Contains facts.new.items (ModeWas call.now.instance call.now.last.mode)) }
-    ensures adds { OnOk result (Adds (IsOfStep call.now (conditions_of seen.now).pin) facts.old.items facts.new.items) }
+    ensures { OnOk result (facts.new.items
+        ≡ facts.old.items ++ ask_reasons call.now (conditions_of seen.now).pin LatchedMode) }
 {
     tell_modes(call.step, seen, facts)?;
     facts.push(Fact::ModeWas {
@@ -81,10 +73,7 @@ fn tell_ask(
     seen: &StepConditions,
     facts: &mut Vec<Fact>,
 ) -> Result<(), Memory>
-    requires seen { IsSeenIn call.now (conditions_of seen.now) }
-    requires mode { call.now.last.mode ≤ 7 }
-    ensures settles { OnOk result (IsSettledBy call.now ask (conditions_of seen.now) (Contains facts.new.items)) }
-    ensures adds { OnOk result (Adds (IsOfStep call.now (conditions_of seen.now).pin) facts.old.items facts.new.items) }
+    ensures { OnOk result (facts.new.items ≡ facts.old.items ++ ask_reasons call.now (conditions_of seen.now).pin ask) }
 {
     match ask {
         Ask::Pin(pin) => {
@@ -99,17 +88,16 @@ fn tell_ask(
     }
 }
 
-/// On what it rests that something that a guard can ask holds in a call, or does not.
+/// On what it rests whether something that a guard can ask holds in a call.
 pub(crate) fn ask_facts(
     alloc: Global,
     app: &App,
     k: u16,
     ask: Ask,
-    _value: bool,
     scene: &Scene<'_>,
 ) -> Result<Vec<Fact>, Memory>
     requires { IsSceneFor app.now scene.now }
-    ensures { IfOk result (λ facts. RestsThere app.now scene.entry.now (AskIs k ask _value) facts.items) }
+    ensures { IfOk result (λ facts. facts.items ≡ asked_by app.now scene.entry.now k ask (slice_get app.now.steps k)) }
 {
     app.sound();
     let mut facts = Vec::new(alloc);

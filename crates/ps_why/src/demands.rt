@@ -1,12 +1,12 @@
 // Which pin a safe output lacks.
 
-ghost use Rattle.std.specs.Prelude.{◌≡◌, ◌<◌, false, true, Contains, IfOk, MatchOption, OnOk, length};
+ghost use Rattle.std.specs.Prelude.{◌≡◌, ◌<◌, ◌++◌, false, true, not, find, Contains, IfOk, OnOk, length};
 ghost use Rattle.ps_model.specs.Blocks.{block};
 ghost use Rattle.ps_model.specs.Demand.{are_met, demand, is_met};
 ghost use Rattle.ps_model.specs.declared.demands.Need.{Need};
 ghost use Rattle.ps_ways.specs.Stepping.{conditions_of};
+ghost use Rattle.ps_why.specs.Reasons.{denied};
 ghost use Rattle.ps_why.specs.Rests.{unmet};
-ghost use Rattle.ps_why.specs.Telling.{Adds, IsPinOf};
 
 use crate::Fact;
 use ps_base::Memory;
@@ -26,8 +26,7 @@ fn is_met(need: Need, seen: &StepConditions) -> bool
 // The first part of the demand of a safe output that is not met.
 fn first_unmet(kind: Kind, output: u8, seen: &StepConditions) -> Option<Need>
     requires { output < length (block kind).outputs }
-    ensures { MatchOption result (are_met (conditions_of seen.now).pin (demand kind output) ≡ true)
-        (λ n. Contains (demand kind output) n × (is_met (conditions_of seen.now).pin n ≡ false)) }
+    ensures { result ≡ find (λ n. not (is_met (conditions_of seen.now).pin n)) (demand kind output) }
 {
     for need in demand(kind, output) {
         if !is_met(*need, seen) {
@@ -35,6 +34,24 @@ fn first_unmet(kind: Kind, output: u8, seen: &StepConditions) -> Option<Need>
         }
     }
     None
+}
+
+// The fact that the pin is not as the demand asks.
+fn unmet_fact(step: u16, need: Need) -> Fact
+    ensures { result ≡ unmet step need }
+{
+    match need {
+        Need::On(pin) => Fact::PinIs {
+            step,
+            pin,
+            value: false,
+        },
+        Need::Off(pin) => Fact::PinIs {
+            step,
+            pin,
+            value: true,
+        },
+    }
 }
 
 /// Tells of a safe output the first pin that its demand names and that is not as the demand asks, if there is one, and
@@ -51,24 +68,13 @@ pub fn tell_denial(
     ensures denied { IfOk result (λ b. b ≡ true →
         (need : Need) × Contains (demand kind output) need × Contains facts.new.items (unmet step need)) }
     ensures met { IfOk result (λ b. b ≡ false → are_met (conditions_of seen.now).pin (demand kind output) ≡ true) }
-    ensures adds { OnOk result (Adds (IsPinOf step (conditions_of seen.now).pin) facts.old.items facts.new.items) }
+    ensures told { OnOk result (facts.new.items
+        ≡ facts.old.items ++ denied step (conditions_of seen.now).pin (demand kind output)) }
 {
     match first_unmet(kind, output, seen) {
         None => Ok(false),
-        Some(Need::On(pin)) => {
-            facts.push(Fact::PinIs {
-                step,
-                pin,
-                value: false,
-            })?;
-            Ok(true)
-        }
-        Some(Need::Off(pin)) => {
-            facts.push(Fact::PinIs {
-                step,
-                pin,
-                value: true,
-            })?;
+        Some(need) => {
+            facts.push(unmet_fact(step, need))?;
             Ok(true)
         }
     }

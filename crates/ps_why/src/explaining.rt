@@ -2,8 +2,8 @@
 
 ghost use Rattle.std.specs.Prelude.{◌≡◌, ◌<◌, true, IfOk, IfSome, Some, length, slice_get};
 ghost use Rattle.ps_why.specs.Entering.{Enters, EntersAll};
-ghost use Rattle.ps_why.specs.Explanations.{IsMeantThere, IsTold};
-ghost use Rattle.ps_why.specs.Resting.{RestsThere};
+ghost use Rattle.ps_why.specs.Explanations.{HasReasons, IsMeantThere, IsTold};
+ghost use Rattle.ps_why.specs.Reasons.{reasons_of};
 ghost use Rattle.ps_why.specs.Scenes.{IsSceneFor};
 
 use crate::Fact;
@@ -37,14 +37,14 @@ pub struct Explanation {
 // On what a fact rests.
 fn facts_of(alloc: Global, app: &App, fact: Fact, scene: &Scene<'_>) -> Result<Vec<Fact>, Memory>
     requires { IsSceneFor app.now scene.now }
-    ensures { IfOk result (λ facts. RestsThere app.now scene.entry.now fact facts.items) }
+    ensures { IfOk result (λ facts. facts.items ≡ reasons_of app.now scene.entry.now fact) }
 {
     match fact {
         Fact::SignalIs { signal, value } => signal_facts(alloc, app, signal, value, scene),
-        Fact::PinIs { step, pin, value } => pin_facts(alloc, app, step, pin, value, scene),
-        Fact::AskIs { step, ask, value } => ask_facts(alloc, app, step, ask, value, scene),
-        Fact::StateIs { instance, code } => state_facts(alloc, app, instance, code, scene),
-        Fact::ModeIs { instance, mode } => mode_facts(alloc, app, instance, mode, scene),
+        Fact::PinIs { step, pin, .. } => pin_facts(alloc, app, step, pin, scene),
+        Fact::AskIs { step, ask, .. } => ask_facts(alloc, app, step, ask, scene),
+        Fact::StateIs { instance, .. } => state_facts(alloc, app, instance, scene),
+        Fact::ModeIs { instance, .. } => mode_facts(alloc, app, instance, scene),
         Fact::SignalWas { .. }
         | Fact::StateWas { .. }
         | Fact::ResetWas { .. }
@@ -276,8 +276,10 @@ pub fn explain(
 ) -> Result<Explanation, Memory>
     requires { IsSceneFor app.now scene.now }
     ensures told { IfOk result (IsTold roots.now) }
+    ensures reasons { IfOk result (HasReasons app.now scene.entry.now) }
     ensures meant { IfOk result (IsMeantThere app.now scene.entry.now roots.now) }
 {
+    app.sound();
     let mut facts = Vec::new(alloc);
     let mut reasons = Vec::new(alloc);
     let mut numbers = vec![in alloc; 0u32; place_count(app)]?;

@@ -1,12 +1,11 @@
 // What is told of the guards of a state.
 
-ghost use Rattle.std.specs.Prelude.{◌≡◌, true, false, Contains, IfOk, MatchOption, OnOk};
-ghost use Rattle.std.specs.List.{AllByRecursion, list_all};
+ghost use Rattle.std.specs.Prelude.{◌≡◌, ◌++◌, not, find, flat_map, Contains, IfOk, OnOk};
 ghost use Rattle.ps_ways.specs.Stepping.{conditions_of};
 ghost use Rattle.ps_ways.specs.Tables.{ways_of};
 ghost use Rattle.ps_ways.specs.Ways.{meets};
-ghost use Rattle.ps_why.specs.Guards.{Decides, LiteralIs, before_any};
-ghost use Rattle.ps_why.specs.Telling.{Adds, IsAskOf};
+ghost use Rattle.ps_why.specs.Guards.{Decides, before_any};
+ghost use Rattle.ps_why.specs.Reasons.{guards_are, literal_is, tried};
 
 use crate::fact::Fact;
 use ps_base::Memory;
@@ -15,8 +14,7 @@ use ps_ways::{Literal, StepConditions, ways};
 
 // The first of these literals that does not hold, up to the first that asks nothing.
 fn failing(literals: &[Literal], seen: &StepConditions) -> Option<Literal>
-    ensures { MatchOption result (list_all (λ l. meets l (conditions_of seen.now)) (before_any literals.now) ≡ true)
-        (λ l. Contains (before_any literals.now) l × (meets l (conditions_of seen.now) ≡ false)) }
+    ensures { result ≡ find (λ l. not (meets l (conditions_of seen.now))) (before_any literals.now) }
 {
     for literal in literals {
         if let Literal::Any = literal {
@@ -36,9 +34,7 @@ fn tell_literal(
     seen: &StepConditions,
     facts: &mut Vec<Fact>,
 ) -> Result<(), Memory>
-    ensures told { OnOk result (LiteralIs (Contains facts.new.items) step literal
-        (meets literal (conditions_of seen.now))) }
-    ensures adds { OnOk result (Adds (IsAskOf step (conditions_of seen.now)) facts.old.items facts.new.items) }
+    ensures { OnOk result (facts.new.items ≡ facts.old.items ++ literal_is step (conditions_of seen.now) literal) }
 {
     match literal {
         Literal::Any => {}
@@ -50,17 +46,15 @@ fn tell_literal(
     Ok(())
 }
 
-// Tells that these literals hold, up to the first that asks nothing.
+// Tells whether these literals hold, up to the first that asks nothing.
 fn tell_literals(
     literals: &[Literal],
     step: u16,
     seen: &StepConditions,
     facts: &mut Vec<Fact>,
 ) -> Result<(), Memory>
-    requires { list_all (λ l. meets l (conditions_of seen.now)) (before_any literals.now) ≡ true }
-    ensures told { OnOk result (AllByRecursion (λ l. LiteralIs (Contains facts.new.items) step l true)
-        (before_any literals.now)) }
-    ensures adds { OnOk result (Adds (IsAskOf step (conditions_of seen.now)) facts.old.items facts.new.items) }
+    ensures { OnOk result (facts.new.items
+        ≡ facts.old.items ++ flat_map (literal_is step (conditions_of seen.now)) (before_any literals.now)) }
 {
     for literal in literals {
         if let Literal::Any = literal {
@@ -83,7 +77,8 @@ pub fn tell_guards(
     facts: &mut Vec<Fact>,
 ) -> Result<u16, Memory>
     ensures decides { IfOk result (λ q. Decides (Contains facts.new.items) step (ways_of kind) state q) }
-    ensures adds { OnOk result (Adds (IsAskOf step (conditions_of seen.now)) facts.old.items facts.new.items) }
+    ensures told { OnOk result (facts.new.items ≡ facts.old.items
+        ++ guards_are step (conditions_of seen.now) (tried (conditions_of seen.now) state (ways_of kind))) }
 {
     for way in ways(kind) {
         if way.state != state {

@@ -1,7 +1,8 @@
 // Which operands are told.
 
-ghost use Rattle.std.specs.Prelude.{ℕ, Contains, OnOk};
+ghost use Rattle.std.specs.Prelude.{◌≡◌, ◌++◌, false, slice_index_or, OnOk};
 ghost use Rattle.ps_model.specs.Exprs.{formula};
+ghost use Rattle.ps_why.specs.Reasons.{deciding};
 ghost use Rattle.ps_why.specs.Telling.{HasItsValue};
 
 use ps_base::Memory;
@@ -13,7 +14,8 @@ use ps_model::{Expr, evaluate};
 /// wanting.
 pub fn tell_signals(e: &Expr, signals: &[bool], told: &mut Vec<u16>) -> Result<(), Memory>
     ensures has { OnOk result (HasItsValue signals.now told.new.items (formula e.now)) }
-    ensures kept { OnOk result ((s : ℕ) → Contains told.old.items s → Contains told.new.items s) }
+    ensures adds { OnOk result (told.new.items
+        ≡ told.old.items ++ deciding (λ s. slice_index_or signals.now s false) (formula e.now)) }
 {
     match e {
         Expr::Signal(s) => told.push(*s)?,

@@ -1,8 +1,7 @@
 // On what the value at a pin rests.
 
-ghost use Rattle.std.specs.Prelude.{IfOk};
-ghost use Rattle.ps_why.specs.declared.fact.Fact.TheVariants.{PinIs};
-ghost use Rattle.ps_why.specs.Resting.{RestsThere};
+ghost use Rattle.std.specs.Prelude.{◌≡◌, IfOk, slice_get};
+ghost use Rattle.ps_why.specs.Reasons.{arguments, wired_by};
 ghost use Rattle.ps_why.specs.Scenes.{IsSceneFor};
 
 use crate::Fact;
@@ -12,17 +11,17 @@ use ps_base::Memory;
 use ps_model::{App, Arg, Step};
 use std::alloc::Global;
 
-/// On what it rests that a call reads a value at a pin.
+/// On what the value rests that a call reads at a pin.
 pub(crate) fn pin_facts(
     alloc: Global,
     app: &App,
     k: u16,
     j: u8,
-    _value: bool,
     scene: &Scene<'_>,
 ) -> Result<Vec<Fact>, Memory>
     requires { IsSceneFor app.now scene.now }
-    ensures { IfOk result (λ facts. RestsThere app.now scene.entry.now (PinIs k j _value) facts.items) }
+    ensures { IfOk result (λ facts. facts.items
+        ≡ wired_by app.now scene.entry.now k (slice_get (arguments (slice_get app.now.steps k)) j)) }
 {
     app.sound();
     if k >= app.step_count() {

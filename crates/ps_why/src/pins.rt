@@ -1,8 +1,8 @@
 // What is told of the pins of a call.
 
-ghost use Rattle.std.specs.Prelude.{◌≡◌, Contains, IfOk, OnOk};
+ghost use Rattle.std.specs.Prelude.{◌≡◌, ◌++◌, ◌∷◌, [], IfOk, OnOk};
 ghost use Rattle.ps_ways.specs.Stepping.{conditions_of};
-ghost use Rattle.ps_why.specs.Telling.{Adds, IsPinOf, TellsModes};
+ghost use Rattle.ps_why.specs.Reasons.{mode_pins};
 ghost use Rattle.ps_why.specs.declared.fact.Fact.TheVariants.{PinIs};
 
 use crate::fact::Fact;
@@ -17,8 +17,8 @@ pub fn tell_pin(
     facts: &mut Vec<Fact>,
 ) -> Result<bool, Memory>
     ensures value { IfOk result (λ value. value ≡ (conditions_of seen.now).pin pin) }
-    ensures told { OnOk result (Contains facts.new.items (PinIs step pin ((conditions_of seen.now).pin pin))) }
-    ensures adds { OnOk result (Adds (IsPinOf step (conditions_of seen.now).pin) facts.old.items facts.new.items) }
+    ensures told { OnOk result (facts.new.items
+        ≡ facts.old.items ++ PinIs step pin ((conditions_of seen.now).pin pin) ∷ []) }
 {
     let value = seen.pin(pin);
     facts.push(Fact::PinIs { step, pin, value })?;
@@ -27,8 +27,7 @@ pub fn tell_pin(
 
 /// Tells the eight pins of the modes. `Err` comes only if memory runs out.
 pub fn tell_modes(step: u16, seen: &StepConditions, facts: &mut Vec<Fact>) -> Result<(), Memory>
-    ensures told { OnOk result (TellsModes step (conditions_of seen.now).pin facts.new.items) }
-    ensures adds { OnOk result (Adds (IsPinOf step (conditions_of seen.now).pin) facts.old.items facts.new.items) }
+    ensures told { OnOk result (facts.new.items ≡ facts.old.items ++ mode_pins step (conditions_of seen.now).pin) }
 {
     for pin in 1..9 {
         tell_pin(step, pin, seen, facts)?;

@@ -3,6 +3,7 @@
 ghost use Rattle.std.specs.Prelude.{◌≡◌, ◌+◌, ◌<◌, ℕ, length, Contains, IfOk, OnOk, [], ◌∷◌};
 ghost use Rattle.ps_model.specs.Blocks.{block};
 ghost use Rattle.ps_model.specs.Network.{first_pin, instance_count, kind_at};
+ghost use Rattle.ps_why.specs.Explanations.{HasReasons};
 ghost use Rattle.ps_why.specs.Telling.{Adds};
 ghost use Rattle.ps_why.specs.declared.fact.Fact.TheVariants.{PinIs, StateIs};
 ghost use Rattle.ps_machine.specs.Calls as pins;
@@ -126,6 +127,8 @@ pub fn answer(
     ensures answers { IfOk result (λ e. IsAnswered app.now scene.entry.now question (Contains e.facts.items)) }
     // Nothing is told that was not asked for and is no reason of a fact that is told before it.
     ensures used { IfOk result (IsAllUsed app.now scene.entry.now question) }
+    // The reasons of each fact are told, all of them and no others, in their order.
+    ensures reasons { IfOk result (HasReasons app.now scene.entry.now) }
     // In every scan that is seen so, all that is told is so, and explained.
     ensures meant { IfOk result (IsAnsweredThere app.now scene.entry.now) }
 {

@@ -7,7 +7,8 @@ ghost use Rattle.ps_model.specs.Blocks.{block};
 ghost use Rattle.ps_model.specs.Exprs.{formula};
 ghost use Rattle.ps_model.specs.Network.{instance_count, kind_at, signal_count};
 ghost use Rattle.ps_ways.specs.Stepping.{conditions_of};
-ghost use Rattle.ps_why.specs.FactsRead.{GivesValue, fact_of_read};
+ghost use Rattle.ps_why.specs.FactsRead.{fact_of_read};
+ghost use Rattle.ps_why.specs.Reasons.{reads};
 ghost use Rattle.ps_why.specs.Scenes.{IsCallFor, IsSceneFor, conditions_in, read_in};
 
 use crate::scene::Scene;
@@ -64,8 +65,7 @@ pub(crate) fn expression_facts(
     scene: &Scene<'_>,
 ) -> Result<Vec<Fact>, Memory>
     requires { IsSceneFor app.now scene.now }
-    ensures { IfOk result (λ facts.
-        GivesValue app.now scene.entry.now k (formula e.now) facts.items) }
+    ensures { IfOk result (λ facts. facts.items ≡ reads app.now scene.entry.now k (formula e.now)) }
 {
     let read = read_signals(alloc, app, k, scene)?;
     let mut signals = Vec::new(alloc);

@@ -1,20 +1,12 @@
 // On what the value of a signal rests.
 
-ghost use Rattle.std.specs.Prelude.{◌≡◌, ◌<◌, ℕ, false, true, length, slice_get, Contains, IfOk, OnOk, Some};
-ghost use Rattle.std.specs.Prelude.{MatchOption};
-ghost use Rattle.ps_model.specs.Action.{assigns};
-ghost use Rattle.ps_model.specs.Blocks.{block};
-ghost use Rattle.ps_model.specs.Demand.{demand};
-ghost use Rattle.ps_model.specs.declared.demands.Need.{Need};
-ghost use Rattle.ps_ways.specs.Stepping.{conditions_of};
-ghost use Rattle.ps_model.specs.Formula.{Formula};
+ghost use Rattle.std.specs.Prelude.{◌≡◌, ◌++◌, false, IfOk, MatchOption, OnOk, Some, slice_get};
+ghost use Rattle.ps_model.specs.Drivers.{driver};
 ghost use Rattle.ps_model.specs.Network.{is_driven};
-ghost use Rattle.ps_why.specs.declared.fact.Fact.TheVariants.{ModeIs, SignalIs, StateIs};
-ghost use Rattle.ps_why.specs.Rests.{IsOutput, unmet};
-ghost use Rattle.ps_why.specs.Telling.{Adds, IsPinOf};
+ghost use Rattle.ps_ways.specs.Stepping.{conditions_of};
+ghost use Rattle.ps_why.specs.declared.fact.Fact.TheVariants.{SignalIs};
 ghost use Rattle.ps_why.specs.Drivers.{IsDrivenBy};
-ghost use Rattle.ps_why.specs.FactsRead.{GivesValue, IsOfState};
-ghost use Rattle.ps_why.specs.Resting.{RestsThere};
+ghost use Rattle.ps_why.specs.Reasons.{assigned_by, driven_by, lacked, output_of, reasons_of, shown};
 ghost use Rattle.ps_why.specs.Scenes.{IsSceneFor};
 
 use crate::scene::Scene;
@@ -27,7 +19,8 @@ use std::alloc::Global;
 
 /// What drives a signal.
 pub(crate) fn driver_of(app: &App, s: u16) -> Option<Driver>
-    ensures { MatchOption result (is_driven app.now s ≡ false) (IsDrivenBy app.now s) }
+    ensures is { result ≡ driver app.now s }
+    ensures drives { MatchOption result (is_driven app.now s ≡ false) (IsDrivenBy app.now s) }
 {
     app.sound();
     if s < app.signal_count() {
@@ -40,8 +33,8 @@ pub(crate) fn driver_of(app: &App, s: u16) -> Option<Driver>
 // By which signals the value has its value that a step assigns.
 fn assigned_facts(alloc: Global, app: &App, k: u16, scene: &Scene<'_>) -> Result<Vec<Fact>, Memory>
     requires { IsSceneFor app.now scene.now }
-    ensures { IfOk result (λ facts. (t : ℕ) (e : Formula) → slice_get app.now.steps k ≡ Some (assigns t e) →
-        GivesValue app.now scene.entry.now k e facts.items) }
+    ensures { IfOk result (λ facts.
+        facts.items ≡ assigned_by app.now scene.entry.now k (slice_get app.now.steps k)) }
 {
     app.sound();
     if k >= app.step_count() {
@@ -55,9 +48,7 @@ fn assigned_facts(alloc: Global, app: &App, k: u16, scene: &Scene<'_>) -> Result
 
 // Tells the state of an instance after the scan, and its mode where its outputs show one.
 fn tell_state(i: u16, kind: Kind, call: &CallScene, facts: &mut Vec<Fact>) -> Result<(), Memory>
-    ensures state { OnOk result (Contains facts.new.items (StateIs i call.now.code)) }
-    ensures mode { OnOk result (kind ≡ Kind.ModeSelector → Contains facts.new.items (ModeIs i call.now.mode)) }
-    ensures adds { OnOk result (Adds (IsOfState i call.now) facts.old.items facts.new.items) }
+    ensures { OnOk result (facts.new.items ≡ facts.old.items ++ shown kind i call.now) }
 {
     facts.push(Fact::StateIs {
         instance: i,
@@ -72,7 +63,7 @@ fn tell_state(i: u16, kind: Kind, call: &CallScene, facts: &mut Vec<Fact>) -> Re
     Ok(())
 }
 
-// Tells the pin that a safe output lacks which is FALSE, if it lacks one, and answers whether it does.
+// Tells the pin that a safe output lacks which is FALSE, if it lacks one.
 fn tell_lack(
     kind: Kind,
     j: u16,
@@ -80,15 +71,15 @@ fn tell_lack(
     step: u16,
     seen: &StepConditions,
     facts: &mut Vec<Fact>,
-) -> Result<bool, Memory>
-    ensures denied { IfOk result (λ b. b ≡ true → (value ≡ false) × (j < length (block kind).outputs)
-        × ((need : Need) × Contains (demand kind j) need × Contains facts.new.items (unmet step need))) }
-    ensures adds { OnOk result (Adds (IsPinOf step (conditions_of seen.now).pin) facts.old.items facts.new.items) }
+) -> Result<(), Memory>
+    ensures { OnOk result (facts.new.items
+        ≡ facts.old.items ++ lacked step (conditions_of seen.now).pin kind j value) }
 {
     if value || j >= safe_count(kind) as u16 {
-        return Ok(false);
+        return Ok(());
     }
-    tell_denial(kind, j as u8, step, seen, facts)
+    tell_denial(kind, j as u8, step, seen, facts)?;
+    Ok(())
 }
 
 // On what an output of an instance rests, that has a value: on a pin that its demand names, or on the state.
@@ -101,8 +92,7 @@ fn output_facts(
     scene: &Scene<'_>,
 ) -> Result<Vec<Fact>, Memory>
     requires { IsSceneFor app.now scene.now }
-    ensures { IfOk result (λ facts. (s : ℕ) → IsOutput app.now s i j →
-        RestsThere app.now scene.entry.now (SignalIs s value) facts.items) }
+    ensures { IfOk result (λ facts. facts.items ≡ output_of app.now scene.entry.now i j value) }
 {
     let mut facts = Vec::new(alloc);
     if (i as usize) >= scene.calls.len() {
@@ -112,7 +102,8 @@ fn output_facts(
     let call = &scene.calls[i as usize];
     let kind = app.instance_kind(i);
     let seen = call_conditions(app, i, call, scene);
-    if tell_lack(kind, j, value, call.step, &seen, &mut facts)? {
+    tell_lack(kind, j, value, call.step, &seen, &mut facts)?;
+    if !facts.is_empty() {
         return Ok(facts);
     }
     tell_state(i, kind, call, &mut facts)?;
@@ -123,14 +114,12 @@ fn output_facts(
 fn driven_facts(
     alloc: Global,
     app: &App,
-    s: u16,
     driver: Driver,
     value: bool,
     scene: &Scene<'_>,
 ) -> Result<Vec<Fact>, Memory>
-    requires fits { IsSceneFor app.now scene.now }
-    requires driven { IsDrivenBy app.now s driver }
-    ensures { IfOk result (λ facts. RestsThere app.now scene.entry.now (SignalIs s value) facts.items) }
+    requires { IsSceneFor app.now scene.now }
+    ensures { IfOk result (λ facts. facts.items ≡ driven_by app.now scene.entry.now value (Some driver)) }
 {
     match driver {
         Driver::Assigned { step } => assigned_facts(alloc, app, step, scene),
@@ -151,13 +140,13 @@ pub(crate) fn signal_facts(
     scene: &Scene<'_>,
 ) -> Result<Vec<Fact>, Memory>
     requires { IsSceneFor app.now scene.now }
-    ensures { IfOk result (λ facts. RestsThere app.now scene.entry.now (SignalIs s value) facts.items) }
+    ensures { IfOk result (λ facts. facts.items ≡ reasons_of app.now scene.entry.now (SignalIs s value)) }
 {
     if s < app.input_count() {
         return Ok(Vec::new(alloc));
     }
     match driver_of(app, s) {
         None => Ok(Vec::new(alloc)),
-        Some(driver) => driven_facts(alloc, app, s, driver, value, scene),
+        Some(driver) => driven_facts(alloc, app, driver, value, scene),
     }
 }

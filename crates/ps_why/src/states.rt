@@ -1,8 +1,7 @@
 // On what the state of an instance rests, and its mode.
 
-ghost use Rattle.std.specs.Prelude.{IfOk};
-ghost use Rattle.ps_why.specs.declared.fact.Fact.TheVariants.{ModeIs, StateIs};
-ghost use Rattle.ps_why.specs.Resting.{RestsThere};
+ghost use Rattle.std.specs.Prelude.{◌≡◌, IfOk};
+ghost use Rattle.ps_why.specs.Reasons.{mode_of, state_of};
 ghost use Rattle.ps_why.specs.Scenes.{IsSceneFor};
 
 use crate::scene::Scene;
@@ -12,17 +11,16 @@ use ps_base::Memory;
 use ps_model::App;
 use std::alloc::Global;
 
-/// On what it rests that an instance is in a state after the scan: on Activate, on the state before, and on what the
+/// On what the state of an instance after the scan rests: on Activate, on the state before, and on what the
 /// guards of that state ask.
 pub(crate) fn state_facts(
     alloc: Global,
     app: &App,
     i: u16,
-    _code: u16,
     scene: &Scene<'_>,
 ) -> Result<Vec<Fact>, Memory>
     requires { IsSceneFor app.now scene.now }
-    ensures { IfOk result (λ facts. RestsThere app.now scene.entry.now (StateIs i _code) facts.items) }
+    ensures { IfOk result (λ facts. facts.items ≡ state_of app.now scene.entry.now i) }
 {
     app.sound();
     let mut facts = Vec::new(alloc);
@@ -46,17 +44,16 @@ pub(crate) fn state_facts(
     Ok(facts)
 }
 
-/// On what it rests that an instance has latched a mode after the scan: on its states, on the modes where it has
+/// On what the mode of an instance after the scan rests: on its states, on the modes where it has
 /// just latched one, and else on the mode before.
 pub(crate) fn mode_facts(
     alloc: Global,
     app: &App,
     i: u16,
-    _mode: u8,
     scene: &Scene<'_>,
 ) -> Result<Vec<Fact>, Memory>
     requires { IsSceneFor app.now scene.now }
-    ensures { IfOk result (λ facts. RestsThere app.now scene.entry.now (ModeIs i _mode) facts.items) }
+    ensures { IfOk result (λ facts. facts.items ≡ mode_of app.now scene.entry.now i) }
 {
     app.sound();
     let mut facts = Vec::new(alloc);

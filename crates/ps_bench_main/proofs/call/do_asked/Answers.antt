@@ -15,6 +15,7 @@ use Rattle.ps_bench_test.proofs.Stopped.{err_is}
 use Rattle.ps_bench_cover.specs.Asking.{AnswersCover, StopsCover}
 use Rattle.ps_bench_campaign.specs.Summing.{AnswersSum, StopsSum}
 use Rattle.ps_bench_main.specs.Answering.{Answers, IsUnreadBy, Stops, covered_of, reported_of, wanted_of}
+use Rattle.ps_bench_main.proofs.Hears.{loud}
 use Rattle.ps_bench_main.proofs.Risen.{risen_any}
 use Rattle.ps_bench_watch.specs.Asking.{AnswersWatch, StopsWatch}
 use Rattle.ps_bench_main.proofs.call.do_asked.Goals as goal
@@ -265,3 +266,135 @@ returns-in-Sum-clause-unread g c =
     (subst (λ (names : List (Bor (List ℕ))). IfErr c.sum.result (λ stop. IsUnread stop → Any (λ (name : List ℕ).
     Rose (g.F.Files.faults c.args.files.now name) (g.F.Files.faults c.sum.new.files name)) (seen names)))
     c.as_slice-in-Sum.ensures.value c.sum.ensures.unread)
+
+pub returns-in-Test-clause-unwritten : goal.returns-in-Test-clause-unwritten
+returns-in-Test-clause-unwritten g c = c.test.ensures.unwritten
+
+pub returns-in-Test-clause-writes : goal.returns-in-Test-clause-writes
+returns-in-Test-clause-writes g c = c.test.ensures.writes
+
+pub returns-in-Test-clause-telling : goal.returns-in-Test-clause-telling
+returns-in-Test-clause-telling g c = c.test.ensures.telling
+
+pub returns-in-Test-clause-silent : goal.returns-in-Test-clause-silent
+returns-in-Test-clause-silent g c = λ silent. loud _ _ c.in-Test.is refl silent
+
+pub returns-in-Watch-clause-unwritten : goal.returns-in-Watch-clause-unwritten
+returns-in-Watch-clause-unwritten g c = c.watch.ensures.unwritten
+
+pub returns-in-Watch-clause-writes : goal.returns-in-Watch-clause-writes
+returns-in-Watch-clause-writes g c = c.watch.ensures.writes
+
+pub returns-in-Watch-clause-telling : goal.returns-in-Watch-clause-telling
+returns-in-Watch-clause-telling g c = c.watch.ensures.telling
+
+pub returns-in-Watch-clause-silent : goal.returns-in-Watch-clause-silent
+returns-in-Watch-clause-silent g c = λ silent. loud _ _ c.in-Watch.is refl silent
+
+pub returns-in-Trace-clause-unwritten : goal.returns-in-Trace-clause-unwritten
+returns-in-Trace-clause-unwritten g c = c.do_trace.ensures.unwritten
+
+pub returns-in-Trace-clause-writes : goal.returns-in-Trace-clause-writes
+returns-in-Trace-clause-writes g c = c.do_trace.ensures.writes
+
+pub returns-in-Trace-clause-telling : goal.returns-in-Trace-clause-telling
+returns-in-Trace-clause-telling g c = c.do_trace.ensures.telling
+
+pub returns-in-Trace-clause-silent : goal.returns-in-Trace-clause-silent
+returns-in-Trace-clause-silent g c = λ silent. refl
+
+pub returns-in-Why-clause-unwritten : goal.returns-in-Why-clause-unwritten
+returns-in-Why-clause-unwritten g c = c.why.ensures.unwritten
+
+pub returns-in-Why-clause-writes : goal.returns-in-Why-clause-writes
+returns-in-Why-clause-writes g c = c.why.ensures.writes
+
+pub returns-in-Why-clause-telling : goal.returns-in-Why-clause-telling
+returns-in-Why-clause-telling g c = c.why.ensures.telling
+
+pub returns-in-Why-clause-silent : goal.returns-in-Why-clause-silent
+returns-in-Why-clause-silent g c = λ silent. loud _ _ c.in-Why.is refl silent
+
+pub returns-in-Cover-clause-unwritten : goal.returns-in-Cover-clause-unwritten
+returns-in-Cover-clause-unwritten g c = c.cover.ensures.unwritten
+
+pub returns-in-Cover-clause-writes : goal.returns-in-Cover-clause-writes
+returns-in-Cover-clause-writes g c = c.cover.ensures.writes
+
+pub returns-in-Cover-clause-telling : goal.returns-in-Cover-clause-telling
+returns-in-Cover-clause-telling g c = c.cover.ensures.telling
+
+pub returns-in-Cover-clause-silent : goal.returns-in-Cover-clause-silent
+returns-in-Cover-clause-silent g c = λ silent. loud _ _ c.in-Cover.is refl silent
+
+pub returns-in-Never-clause-unwritten : goal.returns-in-Never-clause-unwritten
+returns-in-Never-clause-unwritten g c = c.never.ensures.unwritten
+
+pub returns-in-Never-clause-writes : goal.returns-in-Never-clause-writes
+returns-in-Never-clause-writes g c = c.never.ensures.writes
+
+pub returns-in-Never-clause-telling : goal.returns-in-Never-clause-telling
+returns-in-Never-clause-telling g c = c.never.ensures.telling
+
+pub returns-in-Never-clause-silent : goal.returns-in-Never-clause-silent
+returns-in-Never-clause-silent g c = λ silent. refl
+
+pub returns-in-Same-clause-unwritten : goal.returns-in-Same-clause-unwritten
+returns-in-Same-clause-unwritten g c = c.same.ensures.unwritten
+
+pub returns-in-Same-clause-writes : goal.returns-in-Same-clause-writes
+returns-in-Same-clause-writes g c = c.same.ensures.writes
+
+pub returns-in-Same-clause-telling : goal.returns-in-Same-clause-telling
+returns-in-Same-clause-telling g c = c.same.ensures.telling
+
+pub returns-in-Same-clause-silent : goal.returns-in-Same-clause-silent
+returns-in-Same-clause-silent g c = λ silent. loud _ _ c.in-Same.is refl silent
+
+pub returns-in-Campaign-clause-unwritten : goal.returns-in-Campaign-clause-unwritten
+returns-in-Campaign-clause-unwritten g c = c.campaign.ensures.unwritten
+
+pub returns-in-Campaign-clause-writes : goal.returns-in-Campaign-clause-writes
+returns-in-Campaign-clause-writes g c = c.campaign.ensures.writes
+
+pub returns-in-Campaign-clause-telling : goal.returns-in-Campaign-clause-telling
+returns-in-Campaign-clause-telling g c = c.campaign.ensures.telling
+
+pub returns-in-Campaign-clause-silent : goal.returns-in-Campaign-clause-silent
+returns-in-Campaign-clause-silent g c = λ silent. loud _ _ c.in-Campaign.is refl silent
+
+pub returns-in-Sum-clause-unwritten : goal.returns-in-Sum-clause-unwritten
+returns-in-Sum-clause-unwritten g c = c.sum.ensures.unwritten
+
+pub returns-in-Sum-clause-writes : goal.returns-in-Sum-clause-writes
+returns-in-Sum-clause-writes g c = c.sum.ensures.writes
+
+pub returns-in-Sum-clause-telling : goal.returns-in-Sum-clause-telling
+returns-in-Sum-clause-telling g c = c.sum.ensures.telling
+
+pub returns-in-Sum-clause-silent : goal.returns-in-Sum-clause-silent
+returns-in-Sum-clause-silent g c = λ silent. refl
+
+pub returns-in-Report-clause-unwritten : goal.returns-in-Report-clause-unwritten
+returns-in-Report-clause-unwritten g c = c.report.ensures.unwritten
+
+pub returns-in-Report-clause-writes : goal.returns-in-Report-clause-writes
+returns-in-Report-clause-writes g c = c.report.ensures.writes
+
+pub returns-in-Report-clause-telling : goal.returns-in-Report-clause-telling
+returns-in-Report-clause-telling g c = c.report.ensures.telling
+
+pub returns-in-Report-clause-silent : goal.returns-in-Report-clause-silent
+returns-in-Report-clause-silent g c = λ silent. refl
+
+pub returns-in-Live-clause-unwritten : goal.returns-in-Live-clause-unwritten
+returns-in-Live-clause-unwritten g c = c.live.ensures.unwritten
+
+pub returns-in-Live-clause-writes : goal.returns-in-Live-clause-writes
+returns-in-Live-clause-writes g c = c.live.ensures.writes
+
+pub returns-in-Live-clause-telling : goal.returns-in-Live-clause-telling
+returns-in-Live-clause-telling g c = c.live.ensures.telling
+
+pub returns-in-Live-clause-silent : goal.returns-in-Live-clause-silent
+returns-in-Live-clause-silent g c = λ silent. refl

@@ -5,8 +5,8 @@ use Rattle.ps_bench_never.specs.Telling.{told_text}
 use Rattle.ps_bench_never.proofs.Alike.{as_many, says_of_each}
 use Rattle.ps_bench_never.proofs.answering.answer_every.Goals as goal
 
-pub never-requires-clause-says : goal.never-requires-clause-says
-never-requires-clause-says g c = says_of_each c.args.app.now c.args.file.now c.args.every c.in_ok-asked.asked c.in_ok-asked.ensures.asks
+pub found_of-requires-clause-says : goal.found_of-requires-clause-says
+found_of-requires-clause-says g c = says_of_each c.args.app.now c.args.file.now c.args.every c.in_ok-asked.asked c.in_ok-asked.ensures.asks
 
 pub told-requires-clause-says : goal.told-requires-clause-says
 told-requires-clause-says g c = says_of_each c.args.app.now c.args.file.now c.args.every c.in_ok-asked.asked c.in_ok-asked.ensures.asks
@@ -25,6 +25,7 @@ returns-clause-tells g c = record {
   pace = c.requires.pace;
   asks = c.in_ok-asked.ensures.asks;
   answers = c.in_ok-found.ensures.answers;
+  full = c.in_ok-found.ensures.full;
   text = c.in_ok-text.ensures
       ∙ ap (λ (rules : List Rule). told_text c.args.app.now c.args.name.now c.in_ok-asked.asked c.args.most c.in_ok-found.found rules c.in_ok-found.found.paths.items) c.as_slice.ensures;
   holds = c.do_all_hold.ensures;

@@ -7,8 +7,8 @@ use Rattle.ps_bench_never.specs.AnsweringAny.{IsToldBehind, IsToldOfAny}
 use Rattle.ps_bench_never.proofs.Alike.{says_of_each}
 use Rattle.ps_bench_never.proofs.answering_any.answer_asked.Goals as goal
 
-pub never_at_any_times-requires : goal.never_at_any_times-requires
-never_at_any_times-requires g c = record {
+pub whole_of-requires : goal.whole_of-requires
+whole_of-requires g c = record {
   some = c.requires.some;
   says = says_of_each c.args.app.now c.args.file.now 0 c.args.asked.now c.requires.asks;
   timeless = c.requires.asks.pace;
@@ -35,6 +35,7 @@ returns g c =
       pace = c.requires.pace;
       asks = c.requires.asks;
       answers = c.in_ok-whole.ensures.answers;
+      full = c.in_ok-whole.ensures.full;
       wide = c.in_ok-whole.ensures.many;
       tried = is.tried;
       text = is.text;

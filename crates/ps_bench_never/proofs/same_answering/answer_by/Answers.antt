@@ -40,6 +40,7 @@ returns-clause-tells g c =
       asks = c.in_ok-asked.ensures;
       finds = is.finds;
       answers = is.answers;
+      full = is.full;
       text = is.text;
       same = is.same;
     }

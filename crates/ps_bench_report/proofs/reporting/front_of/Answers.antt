@@ -1,4 +1,4 @@
-use Rattle.std.proofs.Common.{◌++◌, ◌∙◌, ap}
+use Rattle.std.proofs.Common.{◌++◌, ◌∙◌}
 use Rattle.ps_bench_report.specs.Contents.{front_pieces}
 use Rattle.ps_bench_report.proofs.reporting.front_of.Goals as goal
 

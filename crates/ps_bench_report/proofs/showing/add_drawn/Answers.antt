@@ -1,4 +1,4 @@
-use Rattle.std.proofs.Common.{List, Option, inl, inr, subst}
+use Rattle.std.proofs.Common.{Option, inl, inr, subst}
 use Rattle.std.specs.Prelude.{IsSomeAnd}
 use Rattle.std.proofs.lemmas.Result.{on_ok_weaker}
 use Rattle.ps_bench_cases.specs.Alone.{alone}

@@ -1,4 +1,9 @@
-use Rattle.std.proofs.Common.{◌≡◌, ◌∙◌, ap, inl, inr, length, slice_get, subst, true, Some, arith}
+use Rattle.std.proofs.Common.{◌≡◌, ◌∙◌, ◌+◌, [], ap, drop, inl, inr, length, slice_get, subst, true, Some, arith}
+use Rattle.std.specs.Prelude.{slice_index_or}
+use Rattle.std.proofs.lemmas.Grind.{common_steps}
+use Rattle.std.proofs.lemmas.List.{get_or_default}
+use Rattle.ps_model.proofs.Rest.{rest_at}
+use Rattle.ps_bench_why.proofs.Ordered.{order_all, order_first}
 use Rattle.std.proofs.lemmas.Bool.{cases_lt}
 use Rattle.std.proofs.lemmas.List.FromFn.{length-map-range_with_len}
 use Rattle.ps_why.specs.Below.{first_line}
@@ -34,11 +39,18 @@ loop-line-preserved c =
                 let same : i ≡ m = omega (arith, below, last) in
                 subst (λ n. slice_get c.tell_first.new.told n ≡ Some true) (is ∙ same) c.in_ok-tell_first.ensures.tells
           ],
+      c.in_ok-tell_first.ensures.order (drop (i + 1) c.args.firsts.now)
+          (order_first c.args.explanation.now c.loop-line.lines.items (slice_index_or c.args.firsts.now i d) (drop (i + 1) c.args.firsts.now) (drop i c.args.firsts.now)
+          (rest_at c.args.firsts.now i (slice_index_or c.args.firsts.now i d) c.loop-line-test.true
+          (get_or_default c.args.firsts.now i d (slice_index_or c.args.firsts.now i d) c.loop-line-test.true)) c.loop-line.invariant.3),
     )
 
 pub returns : goal.returns
 returns c =
-    let count = length c.args.explanation.now.facts.items in
-    telling_all c.args.explanation.now c.loop-line.told c.loop-line.lines.items c.loop-line.invariant.0
+    let e = c.args.explanation.now in
+    let count = length e.facts.items in
+    let end : drop c.loop-line.line-index c.args.firsts.now ≡ [] = grind (arith, common_steps) in
+    telling_all e c.loop-line.told c.loop-line.lines.items c.loop-line.invariant.0
     (λ n within. c.loop-line.invariant.2 n
     (omega (arith, within, c.loop-line-test.false, ap length c.requires.firsts, length-map-range_with_len first_line 0 count)))
+    (order_all e c.loop-line.lines.items (drop c.loop-line.line-index c.args.firsts.now) end c.loop-line.invariant.3)

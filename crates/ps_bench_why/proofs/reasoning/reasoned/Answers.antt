@@ -63,6 +63,10 @@ returns c =
           (c.as_slice-3.ensures.value ∙ c.in_ok-before.ensures ∙ ap (map (λ (s : Since). s.before)) c.since.ensures)
           (c.as_slice-4.ensures.value ∙ c.in_ok-behind.ensures ∙ ap (map (λ (s : Since). s.behind)) c.since-2.ensures)
           fits.each scene.calls;
+      scene = x;
+      fits = fits;
+      seen = scene;
+      reasons = c.in_ok-explanation.ensures.reasons;
       placed = placed;
       told = told;
     }) c.because.ensures

@@ -1,18 +1,26 @@
-use Rattle.ps_edge.proofs.Refused.{alone, of_refusal}
-use Rattle.ps_edge.proofs.refusing.refusal_on.Goals.{in-App+in_ok-bytes-in-App, in_default-spoken+in_ok-bytes-in_default-spoken}
+use Rattle.std.proofs.Common.{◌≡◌, Some, ◌∙◌, subst, sym}
+use Rattle.ps_edge.specs.Hearing.{listener_seen}
+use Rattle.ps_edge.specs.Spoken.{named}
+use Rattle.ps_edge.specs.declared.spoken.Spoken.{Spoken}
+use Rattle.ps_edge.specs.declared.spoken.Spoken.TheVariants.{App}
+use Rattle.ps_edge.proofs.Told.{by_text, of_app, of_refusal}
 use Rattle.ps_edge.proofs.refusing.refusal_on.Goals as goal
 
-pub returns : goal.returns
-returns g c = elim c.match-spoken.branch [
-  | in-App+in_ok-bytes-in-App w ↦
-      of_refusal c.args.words.now c.args.left.now c.in-Some.refusal c.by_rule-spoken.result c.in-Some-name_in.name.now
-      c.source_in-source.result.now c.match-spoken.bytes w.in_ok-bytes-in-App.bytes c.in-Some.is
-      c.by_rule-spoken.ensures c.in-Some-name_in.ensures (λ app. c.source_in-source.ensures) w.bytes-is w.in_ok-bytes-in-App.ensures
-  | in_default-spoken+in_ok-bytes-in_default-spoken w ↦
-      of_refusal c.args.words.now c.args.left.now c.in-Some.refusal c.by_rule-spoken.result c.in-Some-name_in.name.now
-      w.in_ok-bytes-in_default-spoken.ensures.0 c.match-spoken.bytes
-      w.in_ok-bytes-in_default-spoken.bytes c.in-Some.is c.by_rule-spoken.ensures c.in-Some-name_in.ensures
-      (λ app. absurd (w.in_default-spoken.not-App app)) w.bytes-is
-      (alone c.in-Some-name_in.name.now w.in_ok-bytes-in_default-spoken.ensures.0 w.in_ok-bytes-in_default-spoken.ensures.1
-      w.in_ok-bytes-in_default-spoken.bytes c.in-Some.refusal w.in_ok-bytes-in_default-spoken.ensures.2)
-]
+pub returns-in-App : goal.returns-in-App
+returns-in-App g c = λ tells.
+    let who = listener_seen g.L.Listener.quiet g.L.Listener.heard g.L.KnownListener.reads g.L.KnownListener.unread g.L.KnownListener.room c.args.listener.now in
+    let name = c.in-Some-name_in.name.now in
+    of_refusal who c.in-Some.refusal c.args.words.now c.args.left.now name c.refusal_of_app.result App c.in-Some.is
+    (sym c.in-App.is ∙ c.by_rule-spoken.ensures)
+    (subst (λ (s : Spoken). named c.args.words.now s ≡ Some name) c.in-App.is c.in-Some-name_in.ensures)
+    (of_app who c.in-Some.refusal c.args.words.now c.args.left.now name c.refusal_of_app.result c.source_in.result.now c.source_in.ensures
+    c.refusal_of_app.ensures)
+
+pub returns-in_default-spoken : goal.returns-in_default-spoken
+returns-in_default-spoken g c = λ tells.
+    let who = listener_seen g.L.Listener.quiet g.L.Listener.heard g.L.KnownListener.reads g.L.KnownListener.unread g.L.KnownListener.room c.args.listener.now in
+    let name = c.in-Some-name_in.name.now in
+    of_refusal who c.in-Some.refusal c.args.words.now c.args.left.now name c.refusal_of_other.result c.by_rule-spoken.result c.in-Some.is
+    c.by_rule-spoken.ensures c.in-Some-name_in.ensures
+    (by_text who c.in-Some.refusal c.args.words.now c.args.left.now name c.refusal_of_other.result c.by_rule-spoken.result
+    c.in_default-spoken.not-App (c.refusal_of_other.ensures tells))

@@ -1,4 +1,4 @@
-use Rattle.std.proofs.Common.{◌≡◌, ◌≤◌, ◌∙◌, [], List, Some, true, Err, length, ap, subst, sym, refl, arith}
+use Rattle.std.proofs.Common.{◌≡◌, ◌≤◌, ◌∙◌, [], List, true, Err, length, ap, subst, sym, refl, arith}
 use Rattle.std.specs.Prelude.{codes, is_some}
 use Rattle.ps_load.proofs.Parts.{trace_length}
 use Rattle.ps_load.specs.Holding.{held_of}
@@ -7,9 +7,11 @@ use Rattle.ps_model.specs.declared.channel.Fault.{Fault}
 use Rattle.ps_runs.specs.Resting.{ran}
 use Rattle.ps_trace.specs.Reading.{items_left, only_refused}
 use Rattle.ps_trace.specs.Scans.{Scans, scans_behind, scans_of}
-use Rattle.ps_world.specs.Whole.{Whole}
+use Rattle.ps_world.specs.Whole.{machines_in}
+use Rattle.ps_top.specs.Asking.{worked}
+use Rattle.ps_runs.specs.Tripping.{first_trip}
 use Rattle.ps_top.specs.Calls.{SaysAnswer, with_left}
-use Rattle.ps_top.specs.Program.{sum_scans}
+use Rattle.ps_top.specs.Program.{sum_scans, with_world}
 use Rattle.ps_top.specs.Resting.{load_answer}
 use Rattle.ps_top.proofs.Calling.{memory_answers, passes_left, refuses_leaving, says_leaving}
 use Rattle.ps_top.proofs.Counted.{load_answers, never_fails}
@@ -25,6 +27,7 @@ returns-in-Ok-clause-answers g c = λ behind world refusal.
     let w = c.args.runner.now.performer.world in
     let scans = scans_of text net in
     let old = g.C.Call.seen c.args.call.now in
+    let m = machines_in w.setup in
     let new = g.C.Call.seen c.sum_scans.new.call in
     let few : length scans.items ≤ 27000041 = omega (arith, items_few text net, trace_length n, c.requires.last) in
     let same : items_left c.in-Ok.reader text ≡ scans = c.in-Ok.ensures.begins refl text c.requires.held in
@@ -33,8 +36,10 @@ returns-in-Ok-clause-answers g c = λ behind world refusal.
     (subst (λ (fs : List Fault). SaysAnswer (load_answer n net fs w (items_left c.in-Ok.reader text)) old new c.sum_scans.result) c.requires.quiet c.sum_scans.ensures.says) in
     load_answers net c.sound.ensures n w c.requires.first.world (c.quiet_runs_release.ensures c.requires.accepted w.setup c.requires.first.world.setup) scans (scans_timely text net) few
     {old = old} {new = with_left behind new} (says_leaving behind says) (refuses_leaving new.left behind new.out c.sum_scans.result refusal c.sum_scans.ensures.refuses)
-    (λ not_cut. world ∙ ap (λ (x : Whole). Some x) (c.sum_scans.ensures.world not_cut ∙ ap (λ (fs : List Fault). ran fs 1 (items_left c.in-Ok.reader text).items w) c.requires.quiet
-    ∙ ap (λ (s : Scans). ran [] 1 s.items w) same))
+    (λ not_cut.
+    let ends = c.sum_scans.ensures.ends not_cut in
+    world ∙ (λ i. with_world (ends.world i) (ends.trip i) (c.sum_scans.ensures.worked i))
+    ∙ (λ i. with_world (ran (c.requires.quiet i) 1 (same i).items w) (first_trip m (c.requires.quiet i) 1 (same i).items w.state) (worked old.left)))
 
 pub returns-in-Err-Refused-clause-answers : goal.returns-in-Err-Refused-clause-answers
 returns-in-Err-Refused-clause-answers g c = λ behind world refusal.
@@ -44,6 +49,7 @@ returns-in-Err-Refused-clause-answers g c = λ behind world refusal.
     let w = c.args.runner.now.performer.world in
     let scans = scans_of text net in
     let old = g.C.Call.seen c.args.call.now in
+    let m = machines_in w.setup in
     let new = g.C.Call.seen c.say_refused.new.call in
     let few : length scans.items ≤ 27000041 = omega (arith, items_few text net, trace_length n, c.requires.last) in
     let is : scans ≡ only_refused c.in-Err-Refused.refusal =
@@ -52,7 +58,8 @@ returns-in-Err-Refused-clause-answers g c = λ behind world refusal.
     subst (λ (s : Scans). SaysAnswer (load_answer n net [] w s) old new c.say_refused.result) (sym is) c.say_refused.ensures.says in
     load_answers net c.sound.ensures n w c.requires.first.world (c.quiet_runs_release.ensures c.requires.accepted w.setup c.requires.first.world.setup) scans (scans_timely text net) few
     {old = old} {new = with_left behind new} (says_leaving behind says) (refuses_leaving new.left behind new.out c.say_refused.result refusal c.say_refused.ensures.refuses)
-    (λ not_cut. world ∙ ap (λ (s : Scans). Some (ran [] 1 s.items w)) (sym is))
+    (λ not_cut. world ∙ (λ i. with_world w (c.requires.first.no_trip i) (c.say_refused.ensures.worked i))
+    ∙ ap (λ (s : Scans). with_world (ran [] 1 s.items w) (first_trip m [] 1 s.items w.state) (worked old.left)) (sym is))
 
 pub returns-in-Err-Memory-clause-answers : goal.returns-in-Err-Memory-clause-answers
 returns-in-Err-Memory-clause-answers g c = λ behind world refusal.

@@ -4,7 +4,6 @@ use Rattle.ps_runs.specs.Running.{IsBeginning}
 use Rattle.ps_runs.specs.declared.striking.StruckWorld.{StruckWorld}
 use Rattle.ps_trace.specs.Scans.{scans_of}
 use Rattle.ps_world.specs.Whole.{Whole}
-use Rattle.ps_top.specs.Asking.{Worked}
 use Rattle.ps_top.specs.Calls.{CallSeen, Answers, with_left}
 use Rattle.ps_top.specs.Leaving.{left_with}
 use Rattle.ps_top.specs.Program.{sum_scans}
@@ -33,6 +32,3 @@ returns-clause-answers g c =
     subst (λ (x : CallSeen). Answers (sum_scans n net c.args.world.setup (scans_of (trace_text n) net)) [] old x status) (sym c.leave.ensures)
     (subst (λ (w : Whole). Answers (sum_scans n net w.setup (scans_of (trace_text n) net)) [] old (with_left left new) status)
     (ap (λ (p : StruckWorld). p.world) c.in-Ok.ensures.performer ∙ c.new-world.ensures.world) (c.read_sums-status.ensures.answers left refl refl))
-
-pub returns-clause-checked : goal.returns-clause-checked
-returns-clause-checked g c = ap (λ (x : CallSeen). x.left.checked) c.leave.ensures ∙ ap (λ (w : Worked). w.checked) c.read_sums-status.ensures.worked

@@ -28,7 +28,7 @@ returns-in-Ok-clause-says g c =
     let old = g.C.Call.seen c.args.call.now in
     let new = g.C.Call.seen c.say.new.call in
     let held = ap (held_of c.args.files.now) c.requires.file ∙ c.requires.held in
-    let came = loop_counts net p p' scans t' c.args.runner.now.taker c.do_items_of.result c.requires.none (first_stands net p c.requires.first) (c.do_items_of.ensures.does refl (trace_text n) held c.requires.reading) in
+    let came = loop_counts net p p' scans t' c.args.runner.now.taker c.do_items_of.result c.requires.none c.requires.first.no_trip (first_stands net p c.requires.first) (c.do_items_of.ensures.does refl (trace_text n) held c.requires.reading) in
     let ended = subst (λ (e : Result (Unit {0}) Cut). CountsAsEnded net p p' scans t' e) c.in-Ok.is came.1 in
     let said = ap (λ (l : List ℕ). answer l Done) (c.as_slice.ensures ∙ c.summary.ensures) ∙ (λ i. counted_answer n (sym ended.1 i) (ended.0 i)) in
     subst (λ (a : Answer). SaysAnswer a old new c.say.result) said
@@ -46,7 +46,7 @@ returns-in-Err-Refused-clause-says g c =
     let new = g.C.Call.seen c.say_refused.new.call in
     let held = ap (held_of c.args.files.now) c.requires.file ∙ c.requires.held in
     let is = c.in-Err-Refused.is ∙ ap Err c.in-Err-Refused.field-0-is in
-    let came = loop_counts net p p' scans t' c.args.runner.now.taker c.do_items_of.result c.requires.none (first_stands net p c.requires.first) (c.do_items_of.ensures.does refl (trace_text n) held c.requires.reading) in
+    let came = loop_counts net p p' scans t' c.args.runner.now.taker c.do_items_of.result c.requires.none c.requires.first.no_trip (first_stands net p c.requires.first) (c.do_items_of.ensures.does refl (trace_text n) held c.requires.reading) in
     let ended = subst (λ (e : Result (Unit {0}) Cut). CountsAsEnded net p p' scans t' e) is came.1 in
     let said : answer (refusal_text c.in-Err-Refused.refusal) BadInput ≡ load_answer n net p.faults p.world scans =
     (λ i. counted_answer n (sym ended.0 i) (fold counted none_counted (outcomes scans.items (answered net p.faults 1 scans.items p.world)))) in
@@ -63,22 +63,22 @@ returns-in-Err-Unwritten-clause-says g c =
     let scans = items_left c.args.trace.now (trace_text n) in
     let held = ap (held_of c.args.files.now) c.requires.file ∙ c.requires.held in
     let is = c.in-Err-Unwritten.is ∙ ap Err c.in-Err-Unwritten.field-0-is in
-    let came = loop_counts net p p' scans t' c.args.runner.now.taker c.do_items_of.result c.requires.none (first_stands net p c.requires.first) (c.do_items_of.ensures.does refl (trace_text n) held c.requires.reading) in
+    let came = loop_counts net p p' scans t' c.args.runner.now.taker c.do_items_of.result c.requires.none c.requires.first.no_trip (first_stands net p c.requires.first) (c.do_items_of.ensures.does refl (trace_text n) held c.requires.reading) in
     says_nothing (load_answer n net p.faults p.world scans) is c.do_items_of.ensures.writes came.0
 
-pub returns-in-Ok-clause-world : goal.returns-in-Ok-clause-world
-returns-in-Ok-clause-world g c = λ not_cut.
+pub returns-in-Ok-clause-ends : goal.returns-in-Ok-clause-ends
+returns-in-Ok-clause-ends g c = λ not_cut.
     let net = c.args.app.now in
     let p = c.args.runner.now.performer in
     let p' = c.do_items_of.new.runner.performer in
     let t' = c.do_items_of.new.runner.taker in
     let scans = items_left c.args.trace.now (trace_text c.args.number) in
     let held = ap (held_of c.args.files.now) c.requires.file ∙ c.requires.held in
-    let came = loop_counts net p p' scans t' c.args.runner.now.taker c.do_items_of.result c.requires.none (first_stands net p c.requires.first) (c.do_items_of.ensures.does refl (trace_text c.args.number) held c.requires.reading) in
+    let came = loop_counts net p p' scans t' c.args.runner.now.taker c.do_items_of.result c.requires.none c.requires.first.no_trip (first_stands net p c.requires.first) (c.do_items_of.ensures.does refl (trace_text c.args.number) held c.requires.reading) in
     (subst (λ (e : Result (Unit {0}) Cut). CountsAsEnded net p p' scans t' e) c.in-Ok.is came.1).2
 
-pub returns-in-Err-Refused-clause-world : goal.returns-in-Err-Refused-clause-world
-returns-in-Err-Refused-clause-world g c = λ not_cut.
+pub returns-in-Err-Refused-clause-ends : goal.returns-in-Err-Refused-clause-ends
+returns-in-Err-Refused-clause-ends g c = λ not_cut.
     let net = c.args.app.now in
     let p = c.args.runner.now.performer in
     let p' = c.do_items_of.new.runner.performer in
@@ -86,7 +86,7 @@ returns-in-Err-Refused-clause-world g c = λ not_cut.
     let scans = items_left c.args.trace.now (trace_text c.args.number) in
     let held = ap (held_of c.args.files.now) c.requires.file ∙ c.requires.held in
     let is = c.in-Err-Refused.is ∙ ap Err c.in-Err-Refused.field-0-is in
-    let came = loop_counts net p p' scans t' c.args.runner.now.taker c.do_items_of.result c.requires.none (first_stands net p c.requires.first) (c.do_items_of.ensures.does refl (trace_text c.args.number) held c.requires.reading) in
+    let came = loop_counts net p p' scans t' c.args.runner.now.taker c.do_items_of.result c.requires.none c.requires.first.no_trip (first_stands net p c.requires.first) (c.do_items_of.ensures.does refl (trace_text c.args.number) held c.requires.reading) in
     (subst (λ (e : Result (Unit {0}) Cut). CountsAsEnded net p p' scans t' e) is came.1).1
 
 pub unreachable-requires : goal.unreachable-requires

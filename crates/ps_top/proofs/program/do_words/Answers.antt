@@ -2,6 +2,7 @@ use Rattle.std.proofs.Common.{◌∙◌, [], sym, ap, arith}
 use Rattle.ps_words.specs.Command.{command_of, names_of, usage_line}
 use Rattle.ps_words.specs.Command.Command.{Run, Fault, Check, Cert, Verify, Image, Load, Demand, Vote, Heal, NotTaken}
 use Rattle.ps_words.specs.Seen.{command_seen}
+use Rattle.ps_top.specs.Asking.{worked}
 use Rattle.ps_top.specs.Program.{answer, text}
 use Rattle.ps_top.specs.declared.Status.TheVariants.{Usage}
 use Rattle.ps_top.proofs.Calling.{memory_answers, passes_same, said_answers}
@@ -17,7 +18,7 @@ returns-in-NotTaken-clause-answers g c =
     let new = g.C.Call.seen c.say.new.call in
     words_answer c.args.words.now NotTaken (sym (ap command_seen c.in-NotTaken.is) ∙ c.in-Ok.ensures.asked)
     (said_answers (answer usage_line Usage) [] (λ cut. grind arith) c.say.ensures.says
-    (otherwise_refuses Usage c.say.result new.left new.out (λ refusing. grind arith) c.say.ensures.says.ends))
+    (otherwise_refuses Usage c.say.result new.left new.out (λ refusing. grind arith) c.say.ensures.says.ends) (ap worked c.say.ensures.left))
 
 pub returns-in-Run-clause-answers : goal.returns-in-Run-clause-answers
 returns-in-Run-clause-answers g c = words_answer c.args.words.now (Run c.in-Run.app.now c.in-Run.trace.now) (sym (ap command_seen c.in-Run.is) ∙ c.in-Ok.ensures.asked) c.run.ensures.answers

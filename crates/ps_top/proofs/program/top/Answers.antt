@@ -3,7 +3,7 @@ use Rattle.ps_base.specs.declared.failing.Refusal.{Refusal}
 use Rattle.ps_outside.specs.Outside.{CountsStay, Rose}
 use Rattle.ps_report.specs.Short.{refusal_text}
 use Rattle.ps_words.specs.Command.{Command, command_of, names_of}
-use Rattle.ps_top.specs.Asking.{AsksFor, IsAnswer, IsLeft, Worked, worked}
+use Rattle.ps_top.specs.Asking.{AsksFor, IsAnswer, IsLeft, IsLeftAfter, Worked, worked}
 use Rattle.ps_top.specs.Meets.{AppendsAll, AppendsPart, IsCut}
 use Rattle.ps_top.specs.Program as program
 use Rattle.ps_top.specs.declared.Status.TheVariants.{ReadFault, WriteFault, Memory}
@@ -60,7 +60,18 @@ returns-clause-memory g c = λ on is.
 pub returns-clause-leaves : goal.returns-clause-leaves
 returns-clause-leaves g c = λ tells not_cut.
     stays {y = worked c.do_all-status.new.call.left.now} (search rules) (λ (w : Worked). IsLeft (program.text c.args.words.now) (g.F.Files.held c.args.files.now) w)
-    (c.do_all-status.ensures.answers.leaves tells not_cut)
+    (subst (λ (w : Worked). IsLeftAfter (program.text c.args.words.now) (g.F.Files.held c.args.files.now) w (worked c.do_all-status.new.call.left.now))
+    (λ i. record {
+      checked = c.new.ensures.checked i;
+      world = c.new.ensures.world i;
+      votes = c.new.ensures.votes i;
+      trip = c.new.ensures.trip i;
+      again = c.new.ensures.again i;
+      text = c.new.ensures.text i;
+      app = c.new.ensures.app i;
+      source = c.new.ensures.source i;
+    })
+    (c.do_all-status.ensures.answers.leaves tells not_cut))
 
 pub returns-clause-refuses : goal.returns-clause-refuses
 returns-clause-refuses g c = λ refusing.

@@ -1,4 +1,4 @@
-use Rattle.std.proofs.Common.{◌≡◌, ◌∷◌, ◌∙◌, [], ℕ, List, IsTrue, Ok, Err, subst}
+use Rattle.std.proofs.Common.{◌≡◌, ◌∷◌, ◌∙◌, [], ℕ, List, Ok, Err, subst}
 use Rattle.ps_model.specs.declared.channel.Fault.{Fault}
 use Rattle.ps_model.specs.declared.channel.ImageSizes.{ImageSizes}
 use Rattle.ps_trace.specs.Faults.{FaultList, faults_of}
@@ -46,4 +46,4 @@ returns-in-Err-clause-answers g c =
     let same : c.sizes-sizes.result ≡ region_sizes w.setup = c.sizes-sizes.ensures ∙ sizes_at_first w c.requires.first in
     no_faults_answer (λ text. faults_of text (region_sizes w.setup)) name (λ list. run_named net w.setup list trace) (trace ∷ []) {old = old} {mid = mid} {new = new} c.in-Err.why
     (λ tells. subst (λ (s : ImageSizes). GivesFaults (λ text. faults_of text s) (old.files.held name) (Err c.in-Err.why)) same (c.in-Err.ensures.gives tells))
-    c.in-Err.ensures.reads c.fail.ensures.fails c.fail.ensures.refuses
+    c.in-Err.ensures.reads c.fail.ensures.fails c.fail.ensures.refuses c.fail.ensures.worked

@@ -28,7 +28,7 @@ returns-clause-answers g c =
     let first = subst (λ (q : StruckWorld). IsBeginning net q) (sym c.in-Ok.ensures.world) c.requires.first in
     let right = c.runs_are_right.ensures c.requires.accepted p.world.setup first.world.setup in
     let ends = c.status_behind-status.ensures ∙ ap (λ (s : Status). status_behind ran.result s) c.status_at_end.ensures in
-    let answers = world_answers net c.sound.ensures p p' first right c.in-Ok.runner.taker ran.new.runner.taker trace old new left refl refl ran.result status ends
+    let answers = world_answers net c.sound.ensures p p' first right c.in-Ok.runner.taker ran.new.runner.taker trace old new left refl ran.ensures.worked refl ran.result status ends
     ran.ensures.runs ran.ensures.goes ran.ensures.causes ran.ensures.refuses in
     subst (λ (x : CallSeen). Answers (run_named net c.args.world.world.setup c.args.world.faults trace) (trace ∷ []) old x status) (sym c.leave.ensures)
     (subst (λ (q : StruckWorld). Answers (run_named net q.world.setup q.faults trace) (trace ∷ []) old (with_left left new) status) c.in-Ok.ensures.world answers)

@@ -1,12 +1,12 @@
 use Rattle.std.proofs.Common.{◌≡◌, ◌∙◌, ℕ, List, rules, inr, ap, sym, subst, arith}
 use Rattle.std.proofs.lemmas.Grind.{common_steps}
+use Rattle.ps_top.specs.Asking.{worked}
 use Rattle.ps_top.specs.Calls.{SaysAnswer}
 use Rattle.ps_top.specs.Judging.{SaysJudgement}
 use Rattle.ps_top.specs.Leaving.{left_with}
 use Rattle.ps_top.specs.Lines.{verified_line}
 use Rattle.ps_top.specs.Program.{answer}
 use Rattle.ps_top.specs.declared.Status.TheVariants.{Done}
-use Rattle.ps_top.specs.declared.left.Left.{Left}
 use Rattle.ps_top.specs.declared.left.Leaving.TheVariants.{Checked}
 use Rattle.ps_top.specs.declared.verifying.Judgement.{Judgement}
 use Rattle.ps_top.proofs.Calling.{says_left}
@@ -23,5 +23,5 @@ returns-in-Ok-clause-says g c =
     (inr (
       says_left {old = old} {mid = mid} {new = new} (left_with (Checked checked) old.left) c.leave.ensures
           (subst (λ (bytes : List ℕ). SaysAnswer (answer bytes Done) mid new c.say.result) line c.say.ensures.says),
-      ap (λ (l : Left). l.checked) (c.say.ensures.left ∙ ap (λ s. s.left) c.leave.ensures),
+      ap worked c.say.ensures.left ∙ ap (λ s. worked s.left) c.leave.ensures,
     ))

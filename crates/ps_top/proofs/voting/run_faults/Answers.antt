@@ -1,5 +1,4 @@
-use Rattle.std.proofs.Common.{◌≡◌, ◌∷◌, ◌∙◌, [], ℕ, Bool, List, IsTrue, Ok, Err, subst}
-use Rattle.ps_trace.specs.Faults.{FaultList}
+use Rattle.std.proofs.Common.{◌≡◌, ◌∷◌, ◌∙◌, [], Bool, List, Ok, Err, subst}
 use Rattle.ps_vote.specs.Whole.{Whole}
 use Rattle.ps_vote.specs.declared.faults.VoteFault.{VoteFault}
 use Rattle.ps_vote.specs.declared.seat.VoteSizes.{VoteSizes}
@@ -48,4 +47,4 @@ returns-in-Err-clause-answers g c =
     let same : c.sizes-sizes.result ≡ seat_sizes w.setup = c.sizes-sizes.ensures ∙ seat_sizes_at_first w c.requires.first in
     no_faults_answer (λ text. seat_faults_of heals text (seat_sizes w.setup)) name (λ list. vote_named heals net w.setup list trace) (trace ∷ []) {old = old} {mid = mid} {new = new} c.in-Err.why
     (λ tells. subst (λ (s : VoteSizes). GivesFaults (λ text. seat_faults_of heals text s) (old.files.held name) (Err c.in-Err.why)) same (c.in-Err.ensures.gives tells))
-    c.in-Err.ensures.reads c.fail.ensures.fails c.fail.ensures.refuses
+    c.in-Err.ensures.reads c.fail.ensures.fails c.fail.ensures.refuses c.fail.ensures.worked

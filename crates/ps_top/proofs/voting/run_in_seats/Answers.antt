@@ -26,7 +26,7 @@ returns-clause-answers g c =
     let first = subst (λ (q : StruckSeats). AreAtBeginning net q) (sym c.in-Ok.ensures.seats) c.requires.first in
     let votes = c.vote_runs_are_right.ensures c.requires.accepted p.world.setup first.world.setup in
     let healed = c.heal_runs_are_right.ensures c.requires.accepted p.world.setup first.world.setup in
-    let answers = seats_answer net c.sound.ensures p p' first votes healed c.in-Ok.runner.taker ran.new.runner.taker trace old new left refl refl ran.result status c.status_behind.ensures
+    let answers = seats_answer net c.sound.ensures p p' first votes healed c.in-Ok.runner.taker ran.new.runner.taker trace old new left refl ran.ensures.worked refl ran.result status c.status_behind.ensures
     ran.ensures.runs ran.ensures.goes ran.ensures.causes ran.ensures.refuses in
     subst (λ (x : CallSeen). Answers (vote_named c.args.seats.heals net c.args.seats.world.setup c.args.seats.faults trace) (trace ∷ []) old x status) (sym c.leave.ensures)
     (subst (λ (q : StruckSeats). Answers (vote_named q.heals net q.world.setup q.faults trace) (trace ∷ []) old (with_left left new) status) c.in-Ok.ensures.seats answers)

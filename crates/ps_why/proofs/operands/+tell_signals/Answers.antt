@@ -1,8 +1,16 @@
-use Rattle.std.proofs.Common.{ℕ, Contains, refl, subst, sym, inl, inr, arith}
-use Rattle.ps_model.specs.Exprs.{formula}
+use Rattle.std.proofs.Common.{◌≡◌, ◌∙◌, ◌++◌, [], ℕ, List, Contains, false, true, refl, ap, subst, sym, inl, inr, arith, drop, map, append-nil}
+use Rattle.std.specs.Prelude.{slice_index_or, if◌then◌else◌}
+use Rattle.std.proofs.lemmas.Bool.{cond-true, cond-false}
+use Rattle.std.proofs.lemmas.Grind.{common_steps}
+use Rattle.std.proofs.lemmas.List.Elements.{Contains-append_right}
+use mathlib.Core.Bool.{beq}
+use Rattle.ps_model.specs.declared.expr.Expr.{Expr}
+use Rattle.ps_model.specs.Exprs.{formula, operands}
+use Rattle.ps_model.specs.Formula.{value}
 use Rattle.ps_model.proofs.Formulas.{formula-And, formula-Or}
-use Rattle.ps_why.specs.Telling.{HasItsValue}
-use Rattle.ps_why.proofs.Telling.{FirstAreTold, next_told, not_whole, told_by_value, whole_told}
+use Rattle.ps_why.specs.Reasons.{deciding, deciding_with}
+use Rattle.ps_why.specs.Telling.{IsTold}
+use Rattle.ps_why.proofs.Operated.{decided, operand_next, whole_is}
 use Rattle.ps_why.proofs.operands.+tell_signals.Goals as goal
 use Rattle.ps_why.proofs.operands.+tell_signals.Goals.{then-evaluate-whole+in_ok-tell_signals-in-And, else-evaluate-whole}
 
@@ -12,44 +20,55 @@ loop-x-init t c = record {
     | inl is ↦ inl (rw (is, formula-And, c.deref-x-items.ensures.value) refl)
     | inr is ↦ inr (rw (is, formula-Or, c.deref-x-items.ensures.value) refl)
   ];
-  kept = λ s h. h;
-  told = λ i below d is. absurd (omega (arith, below));
+  told = refl;
 }
 
 pub loop-x-preserved : goal.loop-x-preserved
 loop-x-preserved t c =
-    let signals = c.args.signals.now in
+    let v = λ (s : ℕ). slice_index_or c.args.signals.now s false in
     let items = c.deref-x-items.result.now in
     let whole = c.evaluate-whole.result in
-    let x = c.x-item.result in
     let n = c.loop-x.x-index in
-    let told = c.if-evaluate-whole.told.items in
+    let x = c.x-item.result in
+    let told = c.loop-x.told.items in
+    let told' = c.if-evaluate-whole.told.items in
+    let all = c.args.told.now.items ++ deciding_with v whole (operands (map formula items)) in
+    let next = operand_next v whole told told' all items n x c.loop-x-test.true c.x-item.is c.loop-x.invariant.told in
     elim c.if-evaluate-whole.branch [
       | then-evaluate-whole+in_ok-tell_signals-in-And w ↦
-          let more = λ (s : ℕ) (h : Contains c.loop-x.told.items s). subst (λ v. Contains v.items s) (sym w.told-is) (w.in_ok-tell_signals-in-And.ensures.kept s h) in
-          let here = subst (λ v. HasItsValue signals v.items (formula x)) (sym w.told-is) w.in_ok-tell_signals-in-And.ensures.has in
+          let on : beq (value v (formula x)) whole ≡ true = ap (λ b. beq b whole) (sym c.evaluate.ensures) ∙ w.if-evaluate-whole.true in
           record {
             of = c.loop-x.invariant.of;
-            kept = λ s h. more s (c.loop-x.invariant.kept s h);
-            told = next_told signals c.loop-x.told.items told more whole n x items c.loop-x-test.true c.x-item.is c.loop-x.invariant.told
-                (told_by_value signals told whole x here);
+            told = next (subst (λ u. u.items ≡ told ++ (if beq (value v (formula x)) whole then deciding v (formula x) else [])) (sym w.told-is)
+                (w.in_ok-tell_signals-in-And.ensures.adds ∙ ap (λ l. told ++ l) (sym (cond-true (beq (value v (formula x)) whole) (deciding v (formula x)) [] on))));
           }
       | else-evaluate-whole w ↦
-          let more = λ (s : ℕ) (h : Contains c.loop-x.told.items s). subst (λ v. Contains v.items s) (sym w.told-is) h in
+          let off : beq (value v (formula x)) whole ≡ false = ap (λ b. beq b whole) (sym c.evaluate.ensures) ∙ w.if-evaluate-whole.false in
           record {
             of = c.loop-x.invariant.of;
-            kept = λ s h. more s (c.loop-x.invariant.kept s h);
-            told = next_told signals c.loop-x.told.items told more whole n x items c.loop-x-test.true c.x-item.is c.loop-x.invariant.told
-                (not_whole signals told whole c.evaluate.result x c.evaluate.ensures w.if-evaluate-whole.false);
+            told = next (subst (λ u. u.items ≡ told ++ (if beq (value v (formula x)) whole then deciding v (formula x) else [])) (sym w.told-is)
+                (sym (append-nil told) ∙ ap (λ l. told ++ l) (sym (cond-false (beq (value v (formula x)) whole) (deciding v (formula x)) [] off))));
           }
     ]
+
+pub returns-after-loop-x-clause-adds : goal.returns-after-loop-x-clause-adds
+returns-after-loop-x-clause-adds t c =
+    let v = λ (s : ℕ). slice_index_or c.args.signals.now s false in
+    let items = c.deref-x-items.result.now in
+    let told = c.loop-x.told.items in
+    let e = formula c.args.e.now in
+    let end : drop c.loop-x.x-index items ≡ [] = grind (arith, common_steps) in
+    sym (append-nil told)
+    ∙ sym (ap (λ (l : List Expr). told ++ deciding_with v c.evaluate-whole.result (operands (map formula l))) end)
+    ∙ c.loop-x.invariant.told
+    ∙ ap (λ b. c.args.told.now.items ++ deciding_with v b (operands (map formula items))) c.evaluate-whole.ensures
+    ∙ ap (λ l. c.args.told.now.items ++ l) (whole_is v items e c.loop-x.invariant.of)
 
 pub returns-after-loop-x-clause-has : goal.returns-after-loop-x-clause-has
 returns-after-loop-x-clause-has t c =
     let signals = c.args.signals.now in
-    let items = c.deref-x-items.result.now in
-    whole_told signals c.loop-x.told.items items (formula c.args.e.now) c.loop-x.invariant.of
-    (λ i below d. subst (λ whole. FirstAreTold signals c.loop-x.told.items whole c.loop-x.x-index items) c.evaluate-whole.ensures c.loop-x.invariant.told i (omega (arith, below)) d)
-
-pub returns-after-loop-x-clause-kept : goal.returns-after-loop-x-clause-kept
-returns-after-loop-x-clause-kept t c = c.loop-x.invariant.kept
+    let v = λ (s : ℕ). slice_index_or signals s false in
+    let told = c.loop-x.told.items in
+    let e = formula c.args.e.now in
+    decided v (IsTold signals told) e
+    (λ s h. (subst (λ l. Contains l s) (sym (returns-after-loop-x-clause-adds t c)) (Contains-append_right c.args.told.now.items (deciding v e) s h), refl))

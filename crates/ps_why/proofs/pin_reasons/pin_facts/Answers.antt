@@ -1,14 +1,10 @@
-use Rattle.std.proofs.Common.{◌≡◌, ◌∙◌, ap, subst, sym, arith, Some, inl, inr, slice_get}
-use Rattle.std.proofs.lemmas.List.{get_or_past}
-use Rattle.std.proofs.lemmas.Option.{get_or_from_slice_get}
-use Rattle.ps_model.specs.Action.{calls, free, wired}
+use Rattle.std.proofs.Common.{◌≡◌, ◌∙◌, ap, sym, arith, Some, inl, inr, slice_get}
+use Rattle.std.proofs.lemmas.Option.{slice_get_past}
+use Rattle.ps_model.specs.Action.{calls}
 use Rattle.ps_model.specs.Args.{actual}
-use Rattle.ps_model.specs.Exprs.{formula}
 use Rattle.ps_model.specs.Steps.{action}
-use Rattle.ps_why.specs.declared.fact.Fact.TheVariants.{PinIs}
-use Rattle.ps_why.specs.Resting.{RestsThere}
+use Rattle.ps_why.specs.Reasons.{arguments, wired_by}
 use Rattle.ps_why.proofs.Adding.{ok_each}
-use Rattle.ps_why.proofs.Outputs.{IsPlain, plain_rests, stands_at, wired_rests}
 use Rattle.ps_why.proofs.pin_reasons.pin_facts.Goals as goal
 
 pub returns-then-j-len : goal.returns-then-j-len
@@ -16,38 +12,37 @@ returns-then-j-len c =
     let net = c.args.app.now in
     let x = c.args.scene.now in
     let k = c.args.k in
-    let i = c.in-Call.instance in
+    let j = c.args.j in
     let args = c.in-Call.args in
-    let stands : slice_get net.steps k ≡ Some (calls i args) = c.step.ensures ∙ ap (λ s. Some (action s)) c.in-Call.is in
-    subst (RestsThere net x (PinIs k c.args.j c.args._value)) (sym c.new-then-j-len.ensures.items)
-    (plain_rests net x k i args stands c.args.j c.args._value (subst IsPlain (sym (get_or_past args c.args.j free (omega (arith, c.if-j-len.true, c.len.ensures)))) tt))
+    let stands : slice_get net.steps k ≡ Some (calls c.in-Call.instance args) = c.step.ensures ∙ ap (λ s. Some (action s)) c.in-Call.is in
+    c.new-then-j-len.ensures.items
+    ∙ sym (ap (λ a. wired_by net x k (slice_get (arguments a) j)) stands ∙ ap (wired_by net x k) (slice_get_past args j (omega (arith, c.if-j-len.true, c.len.ensures))))
 
 pub returns-in-Value : goal.returns-in-Value
 returns-in-Value c =
     let net = c.args.app.now in
     let x = c.args.scene.now in
     let k = c.args.k in
-    let i = c.in-Call.instance in
+    let j = c.args.j in
     let args = c.in-Call.args in
-    let stands : slice_get net.steps k ≡ Some (calls i args) = c.step.ensures ∙ ap (λ s. Some (action s)) c.in-Call.is in
-    let is : stands_at args c.args.j ≡ wired (formula c.in-Value.e) =
-    get_or_from_slice_get args c.args.j (actual c.at.result.now) free c.at.ensures ∙ ap actual c.in-Value.is in
-    ok_each c.expression_facts.result (λ facts g. wired_rests net x k i args stands c.args.j c.args._value (formula c.in-Value.e) facts.items is g) c.expression_facts.ensures
+    let stands : slice_get net.steps k ≡ Some (calls c.in-Call.instance args) = c.step.ensures ∙ ap (λ s. Some (action s)) c.in-Call.is in
+    let is = ap (λ a. wired_by net x k (slice_get (arguments a) j)) stands ∙ ap (wired_by net x k) (c.at.ensures ∙ ap (λ a. Some (actual a)) c.in-Value.is) in
+    ok_each c.expression_facts.result (λ facts g. g ∙ sym is) c.expression_facts.ensures
 
 pub returns-in-Free : goal.returns-in-Free
 returns-in-Free c =
     let net = c.args.app.now in
     let x = c.args.scene.now in
     let k = c.args.k in
-    let i = c.in-Call.instance in
+    let j = c.args.j in
     let args = c.in-Call.args in
-    let stands : slice_get net.steps k ≡ Some (calls i args) = c.step.ensures ∙ ap (λ s. Some (action s)) c.in-Call.is in
-    let is = get_or_from_slice_get args c.args.j (actual c.at.result.now) free c.at.ensures in
-    subst (RestsThere net x (PinIs k c.args.j c.args._value)) (sym c.new-in-Free.ensures.items)
-    (plain_rests net x k i args stands c.args.j c.args._value (elim c.in-Free.is [
-      | inl e ↦ subst IsPlain (sym (is ∙ ap actual e)) tt
+    let stands : slice_get net.steps k ≡ Some (calls c.in-Call.instance args) = c.step.ensures ∙ ap (λ s. Some (action s)) c.in-Call.is in
+    let there = c.new-in-Free.ensures.items in
+    let at = ap (λ a. wired_by net x k (slice_get (arguments a) j)) stands in
+    elim c.in-Free.is [
+      | inl e ↦ there ∙ sym (at ∙ ap (wired_by net x k) (c.at.ensures ∙ ap (λ a. Some (actual a)) e))
       | inr others ↦ elim others [
-        | inl e ↦ subst IsPlain (sym (is ∙ ap actual e.1)) tt
-        | inr e ↦ subst IsPlain (sym (is ∙ ap actual e.1)) tt
+        | inl e ↦ there ∙ sym (at ∙ ap (wired_by net x k) (c.at.ensures ∙ ap (λ a. Some (actual a)) e.1))
+        | inr e ↦ there ∙ sym (at ∙ ap (wired_by net x k) (c.at.ensures ∙ ap (λ a. Some (actual a)) e.1))
       ]
-    ]))
+    ]

@@ -1,22 +1,21 @@
-use Rattle.std.proofs.Common.{◌≡◌, ◌∙◌, ◌<◌, subst, arith, Some, Contains, inl, inr, length, slice_get}
-use Rattle.std.specs.Prelude.{slice_index_or}
+use Rattle.std.proofs.Common.{◌≡◌, ◌∙◌, ◌++◌, [], List, Some, ap, sym, arith, length, slice_get}
+use Rattle.std.specs.Prelude.{slice_index_or, vec_len}
 use Rattle.std.proofs.lemmas.Option.{slice_get-get_or}
-use Rattle.ps_model.specs.Blocks.{block}
-use Rattle.ps_model.specs.Demand.{demand}
-use Rattle.ps_model.specs.Table.{Conditions}
+use Rattle.ps_model.specs.declared.kind.Kind.{Kind}
 use Rattle.ps_ways.specs.Stepping.{conditions_of}
-use Rattle.ps_why.specs.Telling.{IsPinOf}
-use Rattle.ps_why.proofs.Guarding.{adds_more}
-use Rattle.ps_why.specs.declared.fact.Fact.{Fact}
-use Rattle.ps_why.specs.FactsRead.{IsOfState}
+use Rattle.ps_why.specs.Reasons.{lacked, or_else, shown}
 use Rattle.ps_why.specs.Scenes.{IsCallFor, conditions_in}
-use Rattle.ps_why.proofs.Adding.{adds_as, adds_only}
-use Rattle.ps_why.proofs.Outputs.{IsOfOutput, denied_rests, shown_rests}
+use Rattle.ps_why.specs.declared.fact.Fact.{Fact}
+use Rattle.ps_why.proofs.Listed.{else_these, else_those, no_output, not_nil, output_told, nil_is}
 use Rattle.ps_why.proofs.Seeing.{no_call}
 use Rattle.ps_why.proofs.signals.output_facts.Goals as goal
 
-pub returns-then-branch : goal.returns-then-branch
-returns-then-branch c = λ s output.
+pub returns-then-i-scene : goal.returns-then-i-scene
+returns-then-i-scene c =
+    c.new-facts.ensures.items ∙ no_output c.args.app.now c.args.scene.now c.args.i (omega (arith, c.if-i-scene.true)) c.args.j c.args.value
+
+pub returns-then-not-is_empty : goal.returns-then-not-is_empty
+returns-then-not-is_empty c =
     let net = c.args.app.now in
     let x = c.args.scene.now in
     let i = c.args.i in
@@ -25,17 +24,18 @@ returns-then-branch c = λ s output.
     let call : IsCallFor net i here = c.requires.calls i here at in
     let cs = conditions_of c.call_conditions-seen.result in
     let is : cs ≡ conditions_in net x here.step i call.args here = c.call_conditions-seen.ensures call.args call.stands in
-    let facts = c.tell_lack.new.facts.items in
-    let only = λ (f : Fact) (h : Contains facts f).
-    subst (λ (y : Conditions). IsOfOutput i here y.pin f) is
-    (inl (adds_only (IsPinOf here.step cs.pin) c.new-facts.result.items facts c.new-facts.ensures.items c.in_ok-tell_lack.ensures.adds f h)) in
-    let d = c.in_ok-tell_lack.ensures.denied c.if-branch.true in
-    denied_rests net x i c.args.j here facts call at only s c.args.value output d.0
-    (subst (λ kind. c.args.j < length (block kind).outputs) c.instance_kind-kind.ensures d.1) d.2.0
-    (subst (λ kind. Contains (demand kind c.args.j) d.2.0) c.instance_kind-kind.ensures d.2.1) d.2.2
+    let lack = λ (k : Kind). lacked here.step cs.pin k c.args.j c.args.value in
+    let told : c.tell_lack.new.facts.items ≡ lack c.instance_kind-kind.result =
+    c.in_ok-tell_lack.ensures ∙ ap (λ (l : List Fact). l ++ lack c.instance_kind-kind.result) c.new-facts.ensures.items in
+    let long : vec_len c.tell_lack.new.facts ≡ length c.tell_lack.new.facts.items = omega (arith, c.tell_lack.new.facts.ok.0) in
+    told
+    ∙ sym (else_these (lack c.instance_kind-kind.result) (shown c.instance_kind-kind.result i here)
+    (not_nil c.tell_lack.new.facts.items (lack c.instance_kind-kind.result) told (vec_len c.tell_lack.new.facts) long c.if-not-is_empty.true c.is_empty.ensures))
+    ∙ ap (λ (k : Kind). or_else (lack k) (shown k i here)) c.instance_kind-kind.ensures
+    ∙ output_told net x i here at call.args call.stands cs is c.args.j c.args.value
 
 pub returns : goal.returns
-returns c = λ s output.
+returns c =
     let net = c.args.app.now in
     let x = c.args.scene.now in
     let i = c.args.i in
@@ -44,13 +44,13 @@ returns c = λ s output.
     let call : IsCallFor net i here = c.requires.calls i here at in
     let cs = conditions_of c.call_conditions-seen.result in
     let is : cs ≡ conditions_in net x here.step i call.args here = c.call_conditions-seen.ensures call.args call.stands in
-    let mid = c.tell_lack.new.facts.items in
-    let facts = c.tell_state.new.facts.items in
-    let none = c.new-facts.result.items in
-    let all = adds_more (IsOfOutput i here cs.pin) none mid facts
-    (adds_as (IsPinOf here.step cs.pin) (IsOfOutput i here cs.pin) (λ f h. inl h) none mid c.in_ok-tell_lack.ensures.adds)
-    (adds_as (IsOfState i here) (IsOfOutput i here cs.pin) (λ f h. inr h) mid facts c.in_ok-tell_state.ensures.adds) in
-    let only = λ (f : Fact) (h : Contains facts f).
-    subst (λ (y : Conditions). IsOfOutput i here y.pin f) is (adds_only (IsOfOutput i here cs.pin) none facts c.new-facts.ensures.items all f h) in
-    shown_rests net x i c.args.j here facts call at only s c.args.value output c.in_ok-tell_state.ensures.state
-    (λ e. c.in_ok-tell_state.ensures.mode (c.instance_kind-kind.ensures ∙ e))
+    let lack = λ (k : Kind). lacked here.step cs.pin k c.args.j c.args.value in
+    let kind = c.instance_kind-kind.result in
+    let told : c.tell_lack.new.facts.items ≡ lack kind = c.in_ok-tell_lack.ensures ∙ ap (λ (l : List Fact). l ++ lack kind) c.new-facts.ensures.items in
+    let long : vec_len c.tell_lack.new.facts ≡ length c.tell_lack.new.facts.items = omega (arith, c.tell_lack.new.facts.ok.0) in
+    let none : c.tell_lack.new.facts.items ≡ [] = nil_is c.tell_lack.new.facts.items (vec_len c.tell_lack.new.facts) long c.if-not-is_empty.false c.is_empty.ensures in
+    c.in_ok-tell_state.ensures
+    ∙ ap (λ (l : List Fact). l ++ shown kind i here) none
+    ∙ sym (else_those (lack kind) (shown kind i here) (sym told ∙ none))
+    ∙ ap (λ (k : Kind). or_else (lack k) (shown k i here)) c.instance_kind-kind.ensures
+    ∙ output_told net x i here at call.args call.stands cs is c.args.j c.args.value

@@ -13,6 +13,7 @@ returns-clause-begins c = λ net built.
       world = built;
       none_made = refl;
       none_tripped = refl;
+      no_trip = refl;
       ordered = c.requires.ordered;
       one_channel = c.requires.one_channel;
       within = subst (λ (fs : List Fault). next ≤ length fs) same c.count_upto-next.ensures.within;

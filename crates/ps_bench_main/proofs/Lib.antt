@@ -2,5 +2,3 @@
 pub mod Risen
 -- a call that was cut off
 mod Cut
--- what a listener hears of a call
-mod Hears

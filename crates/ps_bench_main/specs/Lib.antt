@@ -1,4 +1,2 @@
 -- what a call does that did what its words ask: what a reader of the clauses has to believe
 pub mod Answering
--- what a listener hears of a call
-pub mod Hearing

@@ -1,23 +1,18 @@
 // One call of the program, from its words to the number with which it exits.
 
-ghost use Rattle.std.specs.Prelude.{◌≡◌, ◌≢◌, ◌⊎◌, ◌≤◌, ◌∷◌, [], ℕ, Bool, List, Any, Ok, Err, IfOk, IfErr, IsErrOf, IsTrue};
-ghost use Rattle.std.specs.Prelude.{OnErr, OnOk, false};
+ghost use Rattle.std.specs.Prelude.{◌≡◌, ◌⊎◌, ◌≤◌, ◌∷◌, [], ℕ, List, Any, Ok, Err, IfOk, IfErr, IsErrOf, OnErr};
 ghost use Rattle.ps_bench_words.specs.Asking as asking;
 ghost use Rattle.ps_bench_words.specs.Asking.{Asks};
 ghost use Rattle.ps_bench_words.specs.Seen.{asked_seen};
 ghost use Rattle.ps_bench_watch.specs.LiveAsking.{fed};
 ghost use Rattle.ps_bench_main.specs.Answering.{Answers, IsAnswered, IsCutOff, IsUnreadBy, Stops};
-ghost use Rattle.ps_bench_main.specs.Hearing.{IsTold, is_silent};
-ghost use Rattle.ps_edge.specs.Heard.{IsHeard};
-ghost use Rattle.ps_edge.specs.Hearing.{listener_seen};
 ghost use Rattle.ps_bench_frame.specs.Ending.{IsUnread, exit_number, stop_status};
 ghost use Rattle.ps_bench_frame.specs.Stopping.{TookNothing};
 ghost use Rattle.ps_bench_frame.specs.declared.ending.Status.{Status as StatusOf};
 ghost use Rattle.ps_outside.specs.Outside.{Rose};
 ghost use Rattle.ps_bench_watch.specs.Tracing.{AnswersTrace, StopsTrace};
 
-use crate::keeping::{KeptListener, hear_kept};
-use ps_base::{Bytes, Memory};
+use ps_base::Memory;
 use ps_bench_campaign::{Campaign, CampaignAsked, campaign, sum};
 use ps_bench_cover::{CoverAsked, cover};
 use ps_bench_frame::{Status, Stop, exit_code};
@@ -28,12 +23,18 @@ use ps_bench_test::{TestAsked, expand, test};
 use ps_bench_watch::{LiveAsked, Stream, TraceAsked, WatchAsked, live, trace, watch};
 use ps_bench_why::{WhyAsked, why};
 use ps_bench_words::{Asked, asked_of, texts_of};
-use ps_edge::{KnownListener, KnownOutput};
 use ps_message::Listener;
 use ps_outside::{Files, Output, write_all};
 use ps_search::Observer;
 use ps_words::Words;
 use std::alloc::Global;
+
+// Tells what is wrong with words.
+fn tell_words<L: Listener>(listener: &mut L, text: &str) {
+    if !listener.is_quiet() {
+        listener.hear(text);
+    }
+}
 
 // Writes the trace of a log.
 fn do_trace<F: Files, O: Output>(
@@ -82,7 +83,6 @@ fn do_asked<F: Files, I: Stream, O: Output, L: Listener, W: Observer>(
     ensures unwritten { IsErrOf result Stop.Unwritten → Rose (O.faults out.old) (O.faults out.new) }
     ensures writes { O.faults out.old ≤ O.faults out.new }
     ensures telling { O.tells out.new ≡ O.tells out.old }
-    ensures silent { IsTrue (is_silent (asked_seen asked.now)) → listener.new ≡ listener.old }
 {
     match asked {
         Asked::Test { app, cases, format } => {
@@ -215,7 +215,7 @@ fn do_asked<F: Files, I: Stream, O: Output, L: Listener, W: Observer>(
             Ok(Status::Done)
         }
         Asked::NotTaken { text } => {
-            listener.hear(text.as_str());
+            tell_words(listener, text.as_str());
             Ok(Status::Usage)
         }
     }
@@ -293,7 +293,6 @@ fn finished<O: Output>(done: Result<Status, Stop>, out: &mut O) -> Result<Status
     ensures writes { O.faults out.old ≤ O.faults out.new }
     ensures kept { O.taken out.new ≡ O.taken out.old }
     ensures telling { O.tells out.new ≡ O.tells out.old }
-    ensures handed_on { ¬ IsErrOf result Stop.Unwritten → O.held_back out.new ≡ [] }
 {
     match out.finish() {
         Ok(()) => done,
@@ -339,8 +338,6 @@ fn end_asked<F: Files, I: Stream, O: Output, L: Listener, W: Observer>(
     ensures unread { result ≡ StatusOf.ReadFault → IsUnreadBy (asked_seen asked.now)
         (F.faults files.old) (F.faults files.new) (I.faults input.old) (I.faults input.new) }
     ensures unwritten { result ≡ StatusOf.WriteFault → Rose (O.faults out.old) (O.faults out.new) }
-    ensures handed_on { result ≢ StatusOf.WriteFault → O.held_back out.new ≡ [] }
-    ensures silent { IsTrue (is_silent (asked_seen asked.now)) → IsAnswered result → listener.new ≡ listener.old }
 {
     let done = do_asked(alloc, asked, files, input, out, listener, observer);
     match finished(done, out) {
@@ -349,39 +346,41 @@ fn end_asked<F: Files, I: Stream, O: Output, L: Listener, W: Observer>(
     }
 }
 
-// Does what the words ask, and says how the call ended and what is told of it, for whom it reads texts as this listener
-// does. An error means out of memory before anything was done.
+// Does what the words ask. An error means out of memory before anything was done.
 fn do_words<F: Files, I: Stream, O: Output, L: Listener, W: Observer>(
     alloc: Global,
     words: &Words,
     files: &mut F,
     input: &mut I,
     out: &mut O,
-    listener: &L,
+    listener: &mut L,
     observer: &mut W,
-) -> Result<(Status, Result<Bytes, Memory>), Memory>
-    ensures answers { IfOk result (λ ended. IsAnswered ended.0 → (asked : asking.Asked) × Asks words.now asked
+) -> Result<Status, Memory>
+    ensures answers { IfOk result (λ status. IsAnswered status → (asked : asking.Asked) × Asks words.now asked
         × Answers asked (fed (I.tells input.old) (I.coming input.old) (I.coming input.new))
-        (F.tells files.old) (F.held files.old) ended.0
+        (F.tells files.old) (F.held files.old) status
         (O.tells out.old) (O.taken out.old) (O.taken out.new)) }
-    ensures cut_off { IfOk result (λ ended. ¬ IsAnswered ended.0 → (asked : asking.Asked) × Asks words.now asked
+    ensures cut_off { IfOk result (λ status. ¬ IsAnswered status → (asked : asking.Asked) × Asks words.now asked
         × IsCutOff asked (fed (I.tells input.old) (I.coming input.old) (I.coming input.new))
-        (F.tells files.old) (F.held files.old) ended.0
+        (F.tells files.old) (F.held files.old) status
         (O.tells out.old) (O.taken out.old) (O.taken out.new)
-        × (ended.0 ≡ StatusOf.ReadFault → IsUnreadBy asked
+        × (status ≡ StatusOf.ReadFault → IsUnreadBy asked
         (F.faults files.old) (F.faults files.new) (I.faults input.old) (I.faults input.new))) }
-    ensures unwritten { IfOk result (λ ended. ended.0 ≡ StatusOf.WriteFault →
+    ensures unwritten { IfOk result (λ status. status ≡ StatusOf.WriteFault →
         Rose (O.faults out.old) (O.faults out.new)) }
-    ensures handed_on { IfOk result (λ ended. ended.0 ≢ StatusOf.WriteFault → O.held_back out.new ≡ []) }
-    ensures told { IfOk result (λ ended. (asked : asking.Asked) × Asks words.now asked
-        × (IsAnswered ended.0 → IsTrue (is_silent asked) → ended.1 ≡ Ok [])) }
-    ensures nothing { OnErr result (out.new ≡ out.old) }
+    ensures nothing { OnErr result (O.taken out.new ≡ O.taken out.old) }
 {
     let texts = texts_of(alloc, words)?;
     let asked = asked_of(alloc, texts.as_slice())?;
-    let mut kept = KeptListener::new(alloc, listener);
-    let status = end_asked(alloc, &asked, files, input, out, &mut kept, observer);
-    Ok((status, kept.finish()))
+    Ok(end_asked(alloc, &asked, files, input, out, listener, observer))
+}
+
+// The status of a call for which there is no memory before anything was done, and tells of it.
+fn without_memory<L: Listener>(alloc: Global, listener: &mut L) -> Status
+    ensures status { result ≡ StatusOf.Memory }
+{
+    tell(alloc, listener, &Names::of_app(""), Stop::NoMemory);
+    Status::Memory
 }
 
 /// Does what the words ask, and says the number with which the program exits: all that the program does, over any
@@ -389,7 +388,7 @@ fn do_words<F: Files, I: Stream, O: Output, L: Listener, W: Observer>(
 ///
 /// `words` are those after the program's name. The number is that of a status, 0 to 7. Nothing is told of an output
 /// that nobody reads any more.
-pub fn exit_of_call<F: Files, I: Stream, O: KnownOutput, L: KnownListener, W: Observer>(
+pub fn exit_of_call<F: Files, I: Stream, O: Output, L: Listener, W: Observer>(
     alloc: Global,
     words: &Words,
     files: &mut F,
@@ -418,29 +417,9 @@ pub fn exit_of_call<F: Files, I: Stream, O: KnownOutput, L: KnownListener, W: Ob
         × (status ≡ StatusOf.ReadFault → IsUnreadBy asked
         (F.faults files.old) (F.faults files.new) (I.faults input.old) (I.faults input.new))))
         × (status ≡ StatusOf.WriteFault → Rose (O.faults out.old) (O.faults out.new)) }
-
-    // Whatever was taken is handed on, unless a write failed, or memory was out before anything was done.
-    ensures handed_on { result ≢ exit_number StatusOf.WriteFault → (O.held_back out.new ≡ [])
-        ⊎ ((result ≡ exit_number StatusOf.Memory) × (out.new ≡ out.old)) }
-
-    // What is heard is what is told of a call that ended with this number, by whether somebody still reads the output.
-    // Who asks for no messages hears none.
-    ensures hears { IsTrue (L.tells listener.old) → (is_closed : Bool) × (IsTrue (O.tells out.new) → is_closed ≡ O.closed out.new)
-        × (status : StatusOf) × (result ≡ exit_number status)
-        × IsHeard is_closed (IsTold words.now status) false
-        (listener_seen L.quiet L.heard L.reads L.unread L.room listener.old) (L.heard listener.new) }
-    ensures quiet { IsTrue (L.tells listener.old) → IsTrue (L.quiet listener.old) →
-        L.heard listener.new ≡ L.heard listener.old }
-    ensures telling { L.tells listener.new ≡ L.tells listener.old }
 {
-    match do_words(alloc, words, files, input, out, &*listener, observer) {
-        Ok((status, told)) => {
-            hear_kept(out.is_unread(), told, listener);
-            exit_code(status)
-        }
-        Err(Memory) => {
-            hear_kept(out.is_unread(), Err(Memory), listener);
-            exit_code(Status::Memory)
-        }
+    match do_words(alloc, words, files, input, out, listener, observer) {
+        Ok(status) => exit_code(status),
+        Err(Memory) => exit_code(without_memory(alloc, listener)),
     }
 }

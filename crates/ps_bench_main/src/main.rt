@@ -1,12 +1,11 @@
 //! The program `plcsafe-bench`: over any files, any input, any output, whoever listens to why a call did not do
 //! all, and whoever watches a search; and over the system's files, its standard input and its standard output.
 //!
-//! `call` is one call, from its words to the exit status of the program, and `keeping` keeps what a listener hears at its
-//! end. `program` makes the call over the system, and `progress` shows on a terminal how far a search has come.
+//! `call` is one call, from its words to the exit status of the program, `program` makes it over the system,
+//! and `progress` shows on a terminal how far a search has come.
 #![tactic(auto)]
 
 mod call;
-mod keeping;
 mod program;
 mod progress;
 

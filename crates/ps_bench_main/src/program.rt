@@ -3,9 +3,7 @@
 ghost use Rattle.std.specs.Prelude.{◌≤◌};
 
 use crate::call::exit_of_call;
-use crate::keeping::hear_kept;
 use crate::progress::ProgressLine;
-use ps_base::Memory;
 use ps_bench_frame::{Status, exit_code};
 use ps_bench_watch::StdStream;
 use ps_edge::words_given;
@@ -42,10 +40,7 @@ fn exit_of_words<R: Env + rt::Files + Input + Print + Eprint + Clock + AllocGlob
                 &mut line,
             )
         }
-        Err(_) => {
-            hear_kept(false, Err(Memory), &mut listener);
-            exit_code(Status::Memory)
-        }
+        Err(_) => exit_code(Status::Memory),
     }
 }
 

@@ -1,6 +1,5 @@
 -- What a read of a file leaves, and why a call stops by it.
 use Rattle.std.proofs.Common.{◌≡◌, ◌≤◌, ◌∙◌, ℕ, Bool, List, Option, Result, Ok, Err, refl, sym, subst, arith}
-use Rattle.std.specs.Prelude.{IsErrOf}
 use Rattle.ps_bench_cover.specs.Leaving.{Leaves, LeavesOutput, Sides, Stays, sides}
 use Rattle.ps_bench_frame.specs.Ending.{IsUnread}
 use Rattle.ps_bench_frame.specs.declared.ending.Stop.{Stop}

@@ -16,8 +16,8 @@ returns c =
       front = λ whole.
           c.in_ok-front.ensures whole
           ∙ (λ i. front_pieces (title_text (option_map (λ text. text.now) asked.title) asked.app.now) asked.app.now (digest_text (c.as_slice.ensures i)));
-      rows = ap (λ (p : Paged). p.pieces) c.new.ensures;
-      sections = ap (λ (p : Paged). p.pieces) c.new-2.ensures;
+      rows = ap (λ (p : Paged). p.pieces) c.new-2.ensures;
+      sections = ap (λ (p : Paged). p.pieces) c.new-3.ensures;
       tally = c.none.ensures;
       whole = begun_whole net cover is.points is.none_off is.none_on;
       unseen = begun_unseen net cover is.points is.none_off is.none_on;

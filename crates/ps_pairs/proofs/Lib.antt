@@ -10,3 +10,4 @@ pub mod Stepping
 -- What the arrangement cites.
 pub mod Spans
 pub mod Taking
+pub mod Freed

@@ -6,6 +6,7 @@ pub mod Sides
 pub mod Outputs
 -- the laws
 pub mod Telling
+pub mod Unread
 -- apparatus: what is known of a pair of states
 pub mod Standing
 pub mod Keys

@@ -32,12 +32,14 @@ use Rattle.ps_model.specs.declared.channel.ImageSizes.{ImageSizes}
 use Rattle.ps_reach.specs.Asking.{Point, at_first}
 use Rattle.ps_reach.specs.Promised.{SaysOfEach}
 use Rattle.ps_reach.specs.Reaching.{behind, next_point, numbered}
+use Rattle.ps_reach.specs.Telling as paced
 use Rattle.ps_reach.specs.Telling.{inputs_from, scans_at}
 use Rattle.ps_reach.specs.declared.asked.Asked.{Asked}
 use Rattle.ps_reach.specs.declared.asked.InputRule.{InputRule}
 use Rattle.ps_bench_names.specs.Words.{counted, words_in}
 use Rattle.ps_bench_names.specs.declared.name.Setting.{Setting}
 use Rattle.ps_bench_rules.specs.declared.rules.Condition.{Condition}
+use Rattle.ps_bench_rules.specs.declared.rules.Rule.{Rule}
 use Rattle.ps_bench_cases.proofs.ReadBack.{both_hold, digits_of_traces}
 use Rattle.ps_bench_cases.specs.File.{act_after, bytes_after, case_begun, case_judged, cases_of, closed_by, coming, ended_by, fault_left, lines_read, no_lines, said_after, stated, unless_large, unless_refused}
 use Rattle.ps_bench_cases.specs.Line.{alone, asked, case_name, checks_said, expect_of, expect_now, line_said, said_by_words}
@@ -62,8 +64,8 @@ use Rattle.ps_trace.specs.Faults.{first_of, others_of}
 use Rattle.ps_trace.specs.Words.{words}
 use Rattle.ps_bench_never.specs.Casing.{case_text, change_text, set_text, changes_text, expect_text, expected, gap_before, inputs_at, inputs_before, is_of_before, line_text, scan_line}
 use Rattle.ps_bench_never.specs.Pieces.{condition_text, instance_text, name_text, pin_text, sign, signal_text, value_text, values_text}
-use Rattle.ps_bench_never.specs.SameTelling.{outputs_text}
-use Rattle.ps_bench_never.specs.ReadBack.{CaseIsRead, DifferenceIsRead, FoundIsRead, HasPlainNames, HasShortValues, IsOneCaseOf, is_of_name, is_one_line}
+use Rattle.ps_bench_never.specs.SameTelling.{difference_case, outputs_text}
+use Rattle.ps_bench_never.specs.ReadBack.{CaseIsRead, HasPlainNames, HasShortValues, IsOneCaseOf, is_of_name, is_one_line}
 use Rattle.ps_bench_never.proofs.ScanBack.{all_set, scan_done, settings_from, text_plain}
 
 -- ---- Bytes of a line.
@@ -84,7 +86,7 @@ not_return (b ∷ line) (suc k) plain = not_return line k (both_hold (nat_le 32 
 stripped : (line : List ℕ) → is_one_line line ≡ true → strip_carriage_return line ≡ line
 stripped line plain = ap (λ (t : Bool). if t then take (length line - 1) line else line) (not_return line (length line - 1) plain)
 
-one_both : (a b : List ℕ) → is_one_line a ≡ true → is_one_line b ≡ true → is_one_line (a ++ b) ≡ true
+pub one_both : (a b : List ℕ) → is_one_line a ≡ true → is_one_line b ≡ true → is_one_line (a ++ b) ≡ true
 one_both a b first second = list_all-append (λ c. nat_le 32 c) a b ∙ ap (λ (t : Bool). t && is_one_line b) first ∙ second
 
 one_digits : (ds : List ℕ) → list_all is_ascii_digit ds ≡ true → is_one_line ds ≡ true
@@ -670,13 +672,16 @@ found_sizes net q p [] says k d inside = absurd (omega (arith, inside))
 found_sizes net q p (a ∷ path) says zero d inside = numbered_size q.inputs.items p a ∙ says
 found_sizes net q p (a ∷ path) says (suc k) d inside = found_sizes net q (next_point net q p a) path says k d (omega (arith, inside))
 
-pub found_is_read : FoundIsRead
-found_is_read net sizes sound plain_names q says small rule one plain_cs path =
+pub found_back : (net : Network) (sizes : ImageSizes) → IsSound net → HasPlainNames net → (q : Asked) → SaysOfEach net q → q.every ≤ 4294967295 →
+    (rule : Rule) → is_one_line rule.name ≡ true → All HasShortValues rule.conditions → (path : List ℕ) →
+    Read net sizes (paced.items_of net q path) (cases_of net sizes (case_text net rule.name q.every rule.conditions (inputs_from net q (at_first net) path)))
+found_back net sizes sound plain_names q says small rule one plain_cs path =
     case_is_read net sizes sound plain_names rule.name one q.every small rule.conditions plain_cs (inputs_from net q (at_first net) path)
     (found_sizes net q (at_first net) path says)
 
-pub difference_is_read : DifferenceIsRead
-difference_is_read net sizes sound plain_names q says small path values place =
+pub difference_back : (net : Network) (sizes : ImageSizes) → IsSound net → HasPlainNames net → (q : Asked) → SaysOfEach net q → q.every ≤ 4294967295 →
+    (path : List ℕ) (values : List Bool) (place : ℕ) → Read net sizes (paced.items_of net q path) (cases_of net sizes (difference_case net q path values place))
+difference_back net sizes sound plain_names q says small path values place =
     let scans = inputs_from net q (at_first net) path in
     let sizes_are = found_sizes net q (at_first net) path says in
     let every = q.every in

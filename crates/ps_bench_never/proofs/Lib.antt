@@ -4,6 +4,8 @@ pub mod Matching
 pub mod Pins
 pub mod Joining
 pub mod Alike
+-- what is told of what is asked is so of what a rules file means
+pub mod Meant
 pub mod Pacing
 pub mod Saying
 pub mod Finding
@@ -22,5 +24,8 @@ pub mod Naming
 pub mod Verdicts
 pub mod ScanBack
 pub mod CaseBack
+pub mod PlainNames
+pub mod RulesBack
+pub mod ToldBack
 -- how a call of `same` ends, by what stood before its parts
 pub mod SameComing

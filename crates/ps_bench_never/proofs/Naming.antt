@@ -5,16 +5,15 @@ use Rattle.std.proofs.lemmas.List.FromFn.{length-map-range_with_len}
 use Rattle.ps_model.specs.Meaning.{Item, Meaning, Past, Runs, first_state, last, nothing, report, restart, scan}
 use Rattle.ps_model.specs.Network.{Network, input_count}
 use Rattle.ps_model.specs.Scanning.{State, signal_in}
-use Rattle.ps_pairs.specs.Answering.{IsAnswer}
 use Rattle.ps_pairs.specs.Outputs.{last_of, outputs_left}
 use Rattle.ps_pairs.specs.Promised.{LastDiffers}
 use Rattle.ps_pairs.specs.Sides.{unlike}
-use Rattle.ps_pairs.specs.Telling.{TellsApart}
 use Rattle.ps_reach.specs.Telling.{items_of}
 use Rattle.ps_reach.specs.declared.asked.Asked.{Asked}
 use Rattle.ps_search.specs.declared.answer.End.{End}
 use Rattle.ps_search.specs.declared.answer.End.TheVariants.{Whole, Settled, Limit}
 use Rattle.ps_search.specs.declared.answer.Path.{Path}
+use Rattle.ps_bench_never.specs.Meant.{IsAnswerOfTwo, TellsApartOf}
 use Rattle.ps_bench_never.specs.Naming.{NamedDiffers}
 use Rattle.ps_bench_never.specs.SameTelling.{IsSaid, first_place}
 
@@ -31,10 +30,10 @@ module _ (net other : Network) where
   outputs_differ past past' (scan now ins ∷ item ∷ items) (x ∷ ws) (y ∷ vs) runs runs' d w v =
       outputs_differ (last now x) (last now y) (item ∷ items) ws vs runs.1 runs'.1 d x y
 
-  told_apart : (q : Asked) (end : End) (path : Path) → IsAnswer net other q end (Some path) → TellsApart net other q path.inputs.items
-  told_apart q Whole path h = h
-  told_apart q Settled path h = h
-  told_apart q (Limit depth) path h = h
+  told_apart : (meant q : Asked) (end : End) (path : Path) → IsAnswerOfTwo net other meant q end (Some path) → TellsApartOf net other meant q path.inputs.items
+  told_apart meant q Whole path h = h
+  told_apart meant q Settled path h = h
+  told_apart meant q (Limit depth) path h = h
 
 -- ---- the first place at which lists differ
 first_differs : (xs ys : List Bool) → length ys ≡ length xs → xs ≢ ys →
@@ -64,7 +63,7 @@ pub named_differs : NamedDiffers
 named_differs t file told many is path e =
     let q = is.asked in
     let said : IsSaid t q is.found (Some path) told.text = subst (λ p. IsSaid t q is.found p told.text) e is.text in
-    let apart = told_apart t.net t.other q is.found.end path (subst (λ p. IsAnswer t.net t.other q is.found.end p) e is.answers) in
+    let apart = told_apart t.net t.other is.meant q is.found.end path (subst (λ p. IsAnswerOfTwo t.net t.other is.meant q is.found.end p) e is.answers) in
     let ends = apart.difference.ends in
     let values = said.0 in
     let others = said.1 in

@@ -1,13 +1,13 @@
 -- what a rules file asks: what a reader of the clauses has to believe
 pub mod Wanted
 pub mod Asked
+pub mod Meant
 -- what `never` is asked, what it writes by that, and how it stops
 pub mod Asking
 -- what `never` says: what a reader of the promise has to believe
 pub mod Pieces
 pub mod Casing
 pub mod Telling
-pub mod Stopping
 pub mod Answering
 -- what it says if scans come at any times: what a reader of the promise has to believe
 pub mod TellingAny

@@ -10,12 +10,11 @@ ghost use Rattle.ps_bench_never.specs.Asked.{IsAskedBy};
 ghost use Rattle.ps_bench_never.specs.Answering.{HasManyFree, IsToldBy};
 
 use crate::ruling::asked_of;
-use crate::searching::found_of;
 use crate::telling::{Asking, told};
 use ps_base::{Bytes, Memory};
 use ps_bench_rules::{Flaw, RulesFile, RulesRefusal};
 use ps_model::App;
-use ps_reach::{Asked, MOST_FREE, do_all_hold, free_inputs};
+use ps_reach::{Asked, MOST_FREE, do_all_hold, free_inputs, never};
 use ps_search::Observer;
 use std::alloc::Global;
 
@@ -94,8 +93,9 @@ pub fn answer_every<W: Observer>(
     ensures many { (refusal : RulesRefusalOf) → result ≡ Err (NeverFail.Refused refusal) → HasManyFree app.now file.now refusal }
     ensures read { ¬ IsErrOf result NeverFail.Fault }
 {
+    app.sound();
     let asked = asked_if_few(alloc, app, file, every)?;
-    let found = found_of(alloc, app, &asked, most, observer)?;
+    let found = never(alloc, app, &asked, most, observer)?;
     let asking = Asking {
         app,
         file: name,

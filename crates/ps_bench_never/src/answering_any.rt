@@ -1,9 +1,7 @@
 // The answer to a rules file.
 
-ghost use Rattle.std.specs.Prelude.{◌≡◌, ◌<◌, ◌≤◌, ℕ, List, IsTrue, None, Some, Err, IfOk, IfSome, IsErrOf, IsSome, count_by};
+ghost use Rattle.std.specs.Prelude.{◌≡◌, ◌<◌, ◌≤◌, ℕ, List, IsTrue, Some, Err, IfOk, IsErrOf, IsSome, count_by};
 ghost use Rattle.ps_outside.specs.Outside.{Rose};
-ghost use Rattle.ps_reach.specs.AnytimeTelling.{Answers, bits_of};
-ghost use Rattle.ps_reach.specs.Promised.{SaysOfEach};
 ghost use Rattle.ps_reach.specs.Reaching.{is_free};
 ghost use Rattle.ps_bench_rules.specs.File.{pace_of};
 ghost use Rattle.ps_bench_rules.specs.Standing.{IsOfApplication};
@@ -12,11 +10,9 @@ ghost use Rattle.ps_bench_rules.specs.declared.rules.Pace.TheVariants.{Any as At
 ghost use Rattle.ps_bench_never.specs.Answering.{HasManyFree};
 ghost use Rattle.ps_bench_never.specs.Asked.{IsAskedBy, input_rules};
 ghost use Rattle.ps_bench_never.specs.AnsweringAny.{IsRefusedFor, IsTold, IsToldBehind, IsToldOf, IsToldOfAny};
-ghost use Rattle.ps_bench_never.specs.Stopping.{StopsFull};
 
 use crate::answering::{NeverFail, Told, answer_every, asked_if_few};
 use crate::searching::attempts_of;
-use crate::stopping::full_only;
 use crate::telling_any::{Searched, told};
 use ps_base::Memory;
 use ps_bench_rules::{Pace, Purpose, RulesFail, RulesFile, read_rules};
@@ -25,27 +21,6 @@ use ps_outside::Files;
 use ps_reach::{Asked, holds_whole, never_at_any_times, paces_of};
 use ps_search::{Found, Observer};
 use std::alloc::Global;
-
-// What a search at any times finds, if not too many inputs and timers are free.
-fn whole_of<W: Observer>(
-    alloc: Global,
-    app: &App,
-    asked: &Asked,
-    most: u32,
-    observer: &mut W,
-) -> Result<Option<Found>, Memory>
-    requires some { 0 < most }
-    requires says { SaysOfEach app.now asked.now }
-    requires timeless { asked.now.every ≡ 0 }
-    ensures answers { IfOk result (λ found. IfSome found (Answers app.now asked.now)) }
-    ensures full { IfOk result (λ found. IfSome found (StopsFull most)) }
-    ensures many { IfOk result (λ found. found ≡ None → 31 < bits_of app.now asked.now) }
-{
-    match never_at_any_times(alloc, app, asked, most, observer)? {
-        Some(found) => Ok(Some(full_only(found, most)?)),
-        None => Ok(None),
-    }
-}
 
 // What is told after a search at any times.
 fn told_behind<W: Observer>(
@@ -95,7 +70,8 @@ fn answer_asked<W: Observer>(
     requires few { count_by is_free asked.now.inputs.items ≤ 20 }
     ensures { IfOk result (IsToldOfAny app.now name.now most file.now) }
 {
-    let whole = whole_of(alloc, app, asked, most, observer)?;
+    app.sound();
+    let whole = never_at_any_times(alloc, app, asked, most, observer)?;
     told_behind(alloc, app, name, file, &whole, most, observer)
 }
 

@@ -20,15 +20,16 @@ pub fn each_rule_is_as_told()
     ensures any { EachIsSoAtAnyTimes }
 {}
 
-/// What is told is read back, by the definitions by which case files are read: of applications whose names have no blanks,
-/// control bytes, `#` and `=`.
+/// What is told is read back, by the definitions by which case files are read. The first two are of any scans, of names
+/// without blanks, control bytes, `#` and `=`; the others of an accepted application and of a rules file that was read,
+/// which has such names.
 pub fn a_told_case_is_read()
     // A scan line asks for a scan so many ms later, with settings that make the inputs of this scan of those before.
     ensures scans { ScanIsRead }
     // A case that is told, where it keeps within the limits of a case file, is one case of its scans.
     ensures cases { CaseIsRead }
-    // So the case of a rule that fails is the list of scans that was found.
+    // So the case that is told of a rule that fails is the list of scans that was found.
     ensures found { FoundIsRead }
-    // The case of two applications is the list of scans after which an output differs.
+    // The case that is told of two applications is the list of scans after which an output differs.
     ensures differs { DifferenceIsRead }
 {}

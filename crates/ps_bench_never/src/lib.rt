@@ -11,7 +11,6 @@
 //! `never`, whether the scans of the rules file come so many ms apart or at any times:
 //!
 //! - `telling`: the whole text if scans come so many ms apart. `answering`: the answer then.
-//! - `stopping`: whether a search stopped before its end.
 //! - `searching`: the searches of rules whose scans come some ms apart. `telling_any`: the text of what they found.
 //!   `answering_any`: the answer to any rules file.
 //! - `forbidding`: `never APP RULES`.
@@ -39,7 +38,6 @@ mod same_answering;
 pub mod same_laws;
 mod same_telling;
 mod searching;
-mod stopping;
 mod telling;
 mod telling_any;
 mod wanted;

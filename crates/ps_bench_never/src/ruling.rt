@@ -87,7 +87,7 @@ fn either(one: bool, other: bool) -> bool
 }
 
 /// What a rules file says of the inputs of two applications, of which there are as many: an input that neither reads is
-/// FALSE. It takes time as `asked_of`. `Err` comes only if memory runs out.
+/// FALSE, which changes nothing. It takes time as `asked_of`. `Err` comes only if memory runs out.
 pub fn inputs_of_two(
     alloc: Global,
     app: &App,
@@ -166,9 +166,9 @@ fn rules_of(alloc: Global, app: &App, rules: &[Rule]) -> Result<Vec<SearchRule>,
     Ok(asked)
 }
 
-/// What a rules file asks of an application, where scans are so many ms apart: an input that nothing reads is FALSE. It
-/// takes time linear in the file and the application, but for each input a walk over those that are fixed or follow.
-/// `Err` comes only if memory runs out.
+/// What a rules file asks of an application, where scans are so many ms apart: an input that nothing reads is
+/// FALSE, which changes nothing. It takes time linear in the file and the application, but for each input a walk over
+/// those that are fixed or follow. `Err` comes only if memory runs out.
 pub fn asked_of(alloc: Global, app: &App, file: &RulesFile, every: u32) -> Result<Asked, Memory>
     requires { IsOfApplication app.now file.now }
     ensures { IfOk result (IsAskedBy app.now file.now every) }

@@ -17,7 +17,6 @@ ghost use Rattle.ps_reach.specs.Comparing.{two_of};
 
 use crate::inputs_of_two;
 use crate::same_telling::told;
-use crate::stopping::full_only;
 use ps_base::{Bytes, Memory};
 use ps_bench_names::Settings;
 use ps_bench_rules::{
@@ -127,7 +126,7 @@ fn answer_asked<W: Observer>(
     requires shared { FollowsShared compared.now.app.now asked.now }
     ensures { IfOk result (IsToldFor (two_of compared.now) asked.now) }
 {
-    let all = compare(
+    let found = compare(
         alloc,
         compared.app,
         compared.other,
@@ -135,7 +134,6 @@ fn answer_asked<W: Observer>(
         compared.most,
         observer,
     )?;
-    let found = full_only(all, compared.most)?;
     let text = told(alloc, compared, asked, &found)?;
     Ok(Told {
         text,
@@ -159,6 +157,8 @@ fn answer_by<W: Observer>(
     ensures read { ¬ IsErrOf result SameFail.Fault }
     ensures taken { (refusal : RulesRefusalOf) → ¬ (result ≡ Err (SameFail.Refused refusal)) }
 {
+    compared.app.sound();
+    compared.other.sound();
     let every = match file.pace() {
         Pace::Every(every) => every,
         Pace::Any => return Err(SameFail::AnyTimes),

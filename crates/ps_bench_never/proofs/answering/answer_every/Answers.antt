@@ -3,10 +3,11 @@ use Rattle.ps_bench_rules.specs.declared.rules.Rule.{Rule}
 use Rattle.ps_bench_never.specs.Asked.{IsRuleOf}
 use Rattle.ps_bench_never.specs.Telling.{told_text}
 use Rattle.ps_bench_never.proofs.Alike.{as_many, says_of_each}
+use Rattle.ps_bench_never.proofs.Meant.{answers_of, means, with_said}
 use Rattle.ps_bench_never.proofs.answering.answer_every.Goals as goal
 
-pub found_of-requires-clause-says : goal.found_of-requires-clause-says
-found_of-requires-clause-says g c = says_of_each c.args.app.now c.args.file.now c.args.every c.in_ok-asked.asked c.in_ok-asked.ensures.asks
+pub never-requires-clause-says : goal.never-requires-clause-says
+never-requires-clause-says g c = says_of_each c.args.app.now c.args.file.now c.args.every c.in_ok-asked.asked c.in_ok-asked.ensures.asks
 
 pub told-requires-clause-says : goal.told-requires-clause-says
 told-requires-clause-says g c = says_of_each c.args.app.now c.args.file.now c.args.every c.in_ok-asked.asked c.in_ok-asked.ensures.asks
@@ -20,12 +21,14 @@ told-requires-clause-each g c =
 pub returns-clause-tells : goal.returns-clause-tells
 returns-clause-tells g c = record {
   every = c.args.every;
+  meant = with_said c.args.file.now c.in_ok-asked.asked;
   asked = c.in_ok-asked.asked;
   found = c.in_ok-found.found;
   pace = c.requires.pace;
+  means = means c.args.app.now c.sound.ensures c.args.file.now c.args.every c.in_ok-asked.asked c.in_ok-asked.ensures.asks;
   asks = c.in_ok-asked.ensures.asks;
-  answers = c.in_ok-found.ensures.answers;
-  full = c.in_ok-found.ensures.full;
+  answers = answers_of c.args.app.now c.sound.ensures c.args.file.now c.args.every c.in_ok-asked.asked c.in_ok-asked.ensures.asks c.in_ok-found.found c.in_ok-found.ensures.answers;
+  counts = c.in_ok-found.ensures.counts;
   text = c.in_ok-text.ensures
       ∙ ap (λ (rules : List Rule). told_text c.args.app.now c.args.name.now c.in_ok-asked.asked c.args.most c.in_ok-found.found rules c.in_ok-found.found.paths.items) c.as_slice.ensures;
   holds = c.do_all_hold.ensures;

@@ -5,10 +5,11 @@ use Rattle.ps_reach.specs.Reaching.{is_free}
 use Rattle.ps_reach.specs.declared.asked.InputRule.{InputRule}
 use Rattle.ps_bench_never.specs.AnsweringAny.{IsToldBehind, IsToldOfAny}
 use Rattle.ps_bench_never.proofs.Alike.{says_of_each}
+use Rattle.ps_bench_never.proofs.Meant.{any_answers_of, means, with_said}
 use Rattle.ps_bench_never.proofs.answering_any.answer_asked.Goals as goal
 
-pub whole_of-requires : goal.whole_of-requires
-whole_of-requires g c = record {
+pub never_at_any_times-requires : goal.never_at_any_times-requires
+never_at_any_times-requires g c = record {
   some = c.requires.some;
   says = says_of_each c.args.app.now c.args.file.now 0 c.args.asked.now c.requires.asks;
   timeless = c.requires.asks.pace;
@@ -29,13 +30,15 @@ returns g c =
     let whole = c.in_ok-whole.whole in
     IfOk-weaker c.told_behind.result (IsToldBehind net name c.args.most file whole) (IsToldOfAny net name c.args.most file)
     (λ told is. record {
+      meant = with_said file c.args.asked.now;
       asked = c.args.asked.now;
       whole = whole;
       attempts = is.attempts;
       pace = c.requires.pace;
+      means = means net c.sound.ensures file 0 c.args.asked.now c.requires.asks;
       asks = c.requires.asks;
-      answers = c.in_ok-whole.ensures.answers;
-      full = c.in_ok-whole.ensures.full;
+      answers = any_answers_of net c.sound.ensures file 0 c.args.asked.now c.requires.asks whole c.in_ok-whole.ensures.answers;
+      counts = c.in_ok-whole.ensures.counts;
       wide = c.in_ok-whole.ensures.many;
       tried = is.tried;
       text = is.text;

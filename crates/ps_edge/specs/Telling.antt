@@ -1,9 +1,13 @@
 -- What a person is told of a call, besides its answer. Where it is nothing, the text is empty.
 use Rattle.std.specs.Prelude.{◌≡◌, ◌≢◌, ◌⊎◌, ◌||◌, ◌++◌, ◌∷◌, ℕ, Bool, true, false, not, List, [], Option, Some, None}
-use Rattle.std.specs.Prelude.{codes, map, slice_get}
+use Rattle.std.specs.Prelude.{codes, slice_get, slice_index_or, take}
 use Rattle.std.specs.List.{flat_map}
 use Rattle.std.specs.Str.{bytes_eq}
 use Rattle.ps_base.specs.declared.failing.Refusal.{Refusal}
+use Rattle.ps_findings.specs.Comments.{odds_of, odds_of_lines}
+use Rattle.ps_findings.specs.Fields.{IsFieldBy}
+use Rattle.ps_findings.specs.Places.{placed_notes}
+use Rattle.ps_findings.specs.Usage.{help_text, wrong_text}
 use Rattle.ps_findings.specs.declared.usage.TheConstants.{HELP, VERSION}
 use Rattle.ps_text.specs.Also.{also_text}
 use Rattle.ps_message.specs.Ending.{again_text, trip_text, unread_text, usage_text}
@@ -12,7 +16,6 @@ use Rattle.ps_message.specs.NoteLine.{note_text, odd_text}
 use Rattle.ps_message.specs.declared.statuses.Unread.{Unread}
 use Rattle.ps_message.specs.declared.statuses.TheConstants.{NO_MEMORY, UNWRITTEN}
 use Rattle.ps_model.specs.Network.{Network}
-use Rattle.ps_notes.specs.Notes.{notes}
 use Rattle.ps_notes.specs.declared.note.OddComment.{OddComment}
 use Rattle.ps_notes.specs.declared.note.Placed.{Placed}
 use Rattle.ps_parser.specs.Tree.{SourceTree}
@@ -26,16 +29,13 @@ use Rattle.ps_vote.specs.declared.seat.Seat.{Seat}
 use Rattle.ps_vote.specs.declared.seat.Seat.TheVariants.{A, B, C}
 use Rattle.ps_edge.specs.Hearing.{IsFirst, ListenerSeen}
 use Rattle.ps_edge.specs.Spoken.{most_of, named, spoken_of}
+use Rattle.ps_edge.specs.declared.noting.TheConstants.{MOST_LOOKED_AT}
 use Rattle.ps_edge.specs.declared.spoken.Spoken.{Spoken}
 use Rattle.ps_edge.specs.declared.spoken.Spoken.TheVariants.{App, Cert, Faults, Trace}
 use Rattle.ps_edge.specs.declared.telling.Message.{Message}
 use Rattle.ps_edge.specs.declared.telling.Message.TheVariants.{Fixed, Written}
 
 -- ---- notes and comments
-
--- These are the notes of an application in their order, each with a place. Which place is left open.
-abbrev pub ArePlaced : Network → List Placed → Type 0
-ArePlaced net placed = map (λ p. p.note) placed ≡ notes net
 
 -- the lines of notes of an application from a file of this name
 abbrev pub notes_text : (file : List ℕ) → Network → List Placed → List ℕ
@@ -45,26 +45,26 @@ notes_text file net placed = flat_map (note_text file net) placed
 abbrev pub odds_text : (file : List ℕ) → List OddComment → List ℕ
 odds_text file odds = flat_map (odd_text file) odds
 
--- Lines on comments of the text of this name, and nothing where none is named. Which comments, and where they stand, is
--- left open.
-abbrev pub AreOfFile : (file : Option (List ℕ)) → List ℕ → Type 0
-AreOfFile None text = text ≡ []
-AreOfFile (Some file) text = (odds : List OddComment) × (text ≡ odds_text file odds)
+-- The lines on all odd comments of a trace or fault file of this name that are told, by as much of its text as is
+-- looked at, which the listener reads anew; and nothing where none is named.
+abbrev pub AreOfFile : (file : Option (List ℕ)) → ListenerSeen → List ℕ → Type 0
+AreOfFile None who text = text ≡ []
+AreOfFile (Some file) who text =
+    (source : List ℕ) × IsFirst MOST_LOOKED_AT (who.reads file) source × (text ≡ odds_text file (odds_of_lines source))
 
--- these are lines on comments of a text of the call
-abbrev pub AreOnComments : (words : List (List ℕ)) → Spoken → List ℕ → Type 0
-AreOnComments words spoken text = AreOfFile (named words spoken) text
+-- these are the lines on the odd comments of a text of the call
+abbrev pub AreOnComments : (words : List (List ℕ)) → ListenerSeen → Spoken → List ℕ → Type 0
+AreOnComments words who spoken text = AreOfFile (named words spoken) who text
 
--- The notes of this application, all of them, and then lines on its comments. The places of the notes, and which
--- comments these are, are left open.
-abbrev pub AreNotesOn : (file : List ℕ) → Network → List ℕ → Type 0
-AreNotesOn file net text =
-    (placed : List Placed) × ArePlaced net placed × (odds : List OddComment)
-    × (text ≡ notes_text file net placed ++ odds_text file odds)
+-- The lines of the notes of this application, all of them, each at its place in the flat source, and then those on the
+-- odd comments of its text.
+abbrev pub AreNotesOn : (file : List ℕ) → Network → SourceTree → (source : List ℕ) → List ℕ → Type 0
+AreNotesOn file net flat source text =
+    text ≡ notes_text file net (placed_notes flat net) ++ odds_text file (odds_of source)
 
 -- the notes of an application, where it is left with its flat source and its text, and its file is named
 abbrev pub AreNotesOf : Option Network → Option SourceTree → (source file : Option (List ℕ)) → List ℕ → Type 0
-AreNotesOf (Some net) (Some flat) (Some source) (Some file) text = AreNotesOn file net text
+AreNotesOf (Some net) (Some flat) (Some source) (Some file) text = AreNotesOn file net flat source text
 AreNotesOf _ _ _ _ text = text ≡ []
 
 -- the notes of the application that `check` accepted
@@ -81,17 +81,19 @@ asks_run (Some word) =
     || bytes_eq word (codes "heal")
 
 -- lines on comments of the trace, and where it has none, of the fault file
-abbrev pub AreOfTexts : (words : List (List ℕ)) → List ℕ → Type 0
-AreOfTexts words text = (AreOnComments words Trace text × (text ≢ [])) ⊎ AreOnComments words Faults text
+abbrev pub AreOfTexts : (words : List (List ℕ)) → ListenerSeen → List ℕ → Type 0
+AreOfTexts words who text =
+    (AreOnComments words who Trace text × (text ≢ []))
+    ⊎ (AreOnComments words who Trace [] × AreOnComments words who Faults text)
 
 -- these lines, of a command that runs a trace, and nothing of every other
-abbrev pub AreIfRun : (is_run : Bool) → (words : List (List ℕ)) → List ℕ → Type 0
-AreIfRun true words text = AreOfTexts words text
-AreIfRun false words text = text ≡ []
+abbrev pub AreIfRun : (is_run : Bool) → (words : List (List ℕ)) → ListenerSeen → List ℕ → Type 0
+AreIfRun true words who text = AreOfTexts words who text
+AreIfRun false words who text = text ≡ []
 
 -- the lines on the comments of the texts of a run
-abbrev pub AreOfRun : (words : List (List ℕ)) → List ℕ → Type 0
-AreOfRun words text = AreIfRun (asks_run (slice_get words 0)) words text
+abbrev pub AreOfRun : (words : List (List ℕ)) → ListenerSeen → List ℕ → Type 0
+AreOfRun words who text = AreIfRun (asks_run (slice_get words 0)) words who text
 
 -- the letter of a seat
 abbrev pub letter_of : Seat → ℕ
@@ -111,9 +113,10 @@ IsOfAgain words again text = text ≡ again_told again (named words Trace)
 
 -- What is told of a run that did all: the message of the seat that was outvoted again, as it is left, and then lines on
 -- the comments of its texts.
-abbrev pub AreOfWholeRun : (words : List (List ℕ)) → Left → List ℕ → Type 0
-AreOfWholeRun words left text =
-    (again comments : List ℕ) × IsOfAgain words left.again again × AreOfRun words comments × (text ≡ again ++ comments)
+abbrev pub AreOfWholeRun : (words : List (List ℕ)) → ListenerSeen → Left → List ℕ → Type 0
+AreOfWholeRun words who left text =
+    (again comments : List ℕ) × IsOfAgain words left.again again × AreOfRun words who comments
+    × (text ≡ again ++ comments)
 
 -- whether the first word is `check`
 abbrev pub asks_check : Option (List ℕ) → Bool
@@ -121,13 +124,13 @@ asks_check None = false
 asks_check (Some word) = bytes_eq word (codes "check")
 
 -- the notes, of `check`, and what is told of a run, of every other command
-abbrev pub AreIfCheck : (is_check : Bool) → (words : List (List ℕ)) → Left → List ℕ → Type 0
-AreIfCheck true words left text = AreNotes words left text
-AreIfCheck false words left text = AreOfWholeRun words left text
+abbrev pub AreIfCheck : (is_check : Bool) → (words : List (List ℕ)) → ListenerSeen → Left → List ℕ → Type 0
+AreIfCheck true words who left text = AreNotes words left text
+AreIfCheck false words who left text = AreOfWholeRun words who left text
 
 -- what is told of a call that did all
-abbrev pub AreOfDone : (words : List (List ℕ)) → Left → List ℕ → Type 0
-AreOfDone words left text = AreIfCheck (asks_check (slice_get words 0)) words left text
+abbrev pub AreOfDone : (words : List (List ℕ)) → ListenerSeen → Left → List ℕ → Type 0
+AreOfDone words who left text = AreIfCheck (asks_check (slice_get words 0)) words who left text
 
 -- ---- refusals
 
@@ -178,22 +181,27 @@ IsOfBadInput words who left text =
 
 -- ---- trips
 
--- The message of a scan that tripped, in a trace of this name, and the lines on comments after it. What name and which
--- values stand before the number of a field is left open, but for a call that left no text of an application: there it
--- is nothing.
-abbrev pub IsOfScan : (words : List (List ℕ)) → Left → (file : List ℕ) → Trip → List ℕ → Type 0
-IsOfScan words left file trip text =
-    (field comments : List ℕ) × (left.text ≡ None → field ≡ []) × AreOfRun words comments
+-- What is told of the field in which the reports first differ, by the text of the application as it is left, with the
+-- values of the channels there; nothing where no text is left.
+abbrev pub IsOfField : Option (List ℕ) → Trip → List ℕ → Type 0
+IsOfField None trip field = field ≡ []
+IsOfField (Some front) trip field = IsFieldBy front trip.cause trip.values field
+
+-- the message of a scan that tripped, in a trace of this name, and the lines on comments after it
+abbrev pub IsOfScan : (words : List (List ℕ)) → ListenerSeen → Left → (file : List ℕ) → Trip → List ℕ → Type 0
+IsOfScan words who left file trip text =
+    (field comments : List ℕ) × IsOfField left.text trip field × AreOfRun words who comments
     × (text ≡ trip_text file trip.now trip.cause field ++ comments)
 
 -- the same, and nothing where no scan tripped or no trace is named
-abbrev pub IsOfFirst : Option Trip → (file : Option (List ℕ)) → (words : List (List ℕ)) → Left → List ℕ → Type 0
-IsOfFirst (Some trip) (Some file) words left text = IsOfScan words left file trip text
-IsOfFirst _ _ words left text = text ≡ []
+abbrev pub IsOfFirst :
+    Option Trip → (file : Option (List ℕ)) → (words : List (List ℕ)) → ListenerSeen → Left → List ℕ → Type 0
+IsOfFirst (Some trip) (Some file) words who left text = IsOfScan words who left file trip text
+IsOfFirst _ _ words who left text = text ≡ []
 
 -- what is told of the scan that tripped first, as it is left, by the name of the trace
-abbrev pub IsOfTrip : (words : List (List ℕ)) → Left → List ℕ → Type 0
-IsOfTrip words left text = IsOfFirst left.trip (named words Trace) words left text
+abbrev pub IsOfTrip : (words : List (List ℕ)) → ListenerSeen → Left → List ℕ → Type 0
+IsOfTrip words who left text = IsOfFirst left.trip (named words Trace) words who left text
 
 -- ---- texts that cannot be read
 
@@ -233,26 +241,27 @@ asks_version None = false
 asks_version (Some word) =
     bytes_eq word (codes "--version") || bytes_eq word (codes "-V") || bytes_eq word (codes "version")
 
--- Help, or the version, by what is asked for, or else what is wrong with the words and what helps. In which words the
--- last two are said is left open.
-abbrev pub IsOfAsking : (help version : Bool) → List ℕ → Type 0
-IsOfAsking true version text = text ≡ HELP.now
-IsOfAsking false true text = text ≡ VERSION.now
-IsOfAsking false false text = (wrong help : List ℕ) × (text ≡ usage_text wrong help)
+-- Help, or the version, by what is asked for, or else what is wrong with the words and what helps. Of the words the
+-- first five are looked at, one more than any command has.
+abbrev pub IsOfAsking : (help version : Bool) → (words : List (List ℕ)) → List ℕ → Type 0
+IsOfAsking true version words text = text ≡ HELP.now
+IsOfAsking false true words text = text ≡ VERSION.now
+IsOfAsking false false words text =
+    text ≡ usage_text (wrong_text HELP.now (take 5 words)) (help_text HELP.now (slice_index_or (take 5 words) 0 []))
 
 -- what is told of words that are not taken
 abbrev pub IsOfWords : (words : List (List ℕ)) → List ℕ → Type 0
-IsOfWords words text = IsOfAsking (asks_help (slice_get words 0)) (asks_version (slice_get words 0)) text
+IsOfWords words text = IsOfAsking (asks_help (slice_get words 0)) (asks_version (slice_get words 0)) words text
 
 -- ---- calls
 
 -- what is told of a call with these words that left this and ended so, by what the listener reads
 abbrev pub IsTold : (words : List (List ℕ)) → ListenerSeen → Left → Status → List ℕ → Type 0
-IsTold words who left Done text = AreOfDone words left text
+IsTold words who left Done text = AreOfDone words who left text
 IsTold words who left Refused text = IsOfRefusal words who left text
 IsTold words who left Usage text = IsOfWords words text
 IsTold words who left BadInput text = IsOfBadInput words who left text
-IsTold words who left Tripped text = IsOfTrip words left text
+IsTold words who left Tripped text = IsOfTrip words who left text
 IsTold words who left ReadFault text = IsOfUnread words who.unread text
 IsTold words who left WriteFault text = text ≡ UNWRITTEN.now
 IsTold words who left Memory text = text ≡ NO_MEMORY.now

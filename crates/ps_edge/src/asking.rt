@@ -1,6 +1,6 @@
 // What is told of words that are not taken.
 
-ghost use Rattle.std.specs.Prelude.{◌≡◌, IfOk, IsTrue, OnErr, slice_get};
+ghost use Rattle.std.specs.Prelude.{◌≡◌, [], IfOk, IsTrue, OnErr, slice_get, slice_index_or};
 ghost use Rattle.ps_edge.specs.Telling.{Carries, IsOfWords, asks_help, asks_version, takes_memory};
 ghost use Rattle.ps_top.specs.declared.Status.TheVariants.{Usage};
 
@@ -34,7 +34,9 @@ fn asks_version(words: &Words) -> bool
 }
 
 // The bytes of the word at a place; empty where there is none.
-fn word_at(words: &Words, place: usize) -> &[u8] {
+fn word_at(words: &Words, place: usize) -> &[u8]
+    ensures { result.now ≡ slice_index_or words.now place [] }
+{
     if place < words.len() {
         words.at(place).as_str().as_bytes()
     } else {

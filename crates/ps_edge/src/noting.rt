@@ -1,14 +1,16 @@
 // What is told of an application that `check` accepts, and of comments that are shown otherwise than they are read.
 
-ghost use Rattle.std.specs.Prelude.{◌≡◌, IfOk, slice_get};
+ghost use Rattle.std.specs.Prelude.{◌≡◌, IfOk, IsTrue, slice_get};
+ghost use Rattle.ps_edge.specs.Hearing.{listener_seen};
 ghost use Rattle.ps_edge.specs.Telling.{AreNotes, AreNotesOn, AreOfDone, AreOfRun, AreOfWholeRun, AreOnComments};
 ghost use Rattle.ps_edge.specs.Telling.{asks_check, asks_run, notes_text, odds_text};
 
 use crate::again::again_on;
+use crate::known::KnownListener;
 use crate::spoken::Spoken;
 use ps_base::{Bytes, Memory};
 use ps_findings::{odd_comments, odd_lines, placed_notes};
-use ps_message::{Listener, note_line, odd_line};
+use ps_message::{note_line, odd_line};
 use ps_model::App;
 use ps_notes::{OddComment, Placed};
 use ps_parser::Source;
@@ -68,7 +70,7 @@ fn lines_on(
     source: &Source,
     app: &App,
 ) -> Result<Bytes, Memory>
-    ensures { IfOk result (AreNotesOn name.now app.now) }
+    ensures { IfOk result (AreNotesOn name.now app.now source.now text.now) }
 {
     let placed = placed_notes(alloc, source, app)?;
     let odds = odd_comments(alloc, text)?;
@@ -96,17 +98,18 @@ fn notes_on(alloc: Global, words: &Words, left: &Left) -> Result<Bytes, Memory>
 }
 
 // The lines on the comments of a text of a run; empty where it has no odd one.
-fn comments_of<L: Listener>(
+fn comments_of<L: KnownListener>(
     alloc: Global,
     words: &Words,
     spoken: Spoken,
     listener: &L,
 ) -> Result<Bytes, Memory>
-    ensures { IfOk result (AreOnComments words.now spoken) }
+    ensures { IsTrue (L.tells listener.now) → IfOk result (AreOnComments words.now
+        (listener_seen L.quiet L.heard L.reads L.unread L.room listener.now) spoken) }
 {
     match spoken.name_in(words) {
         Some(name) => {
-            let text = listener.text_of(alloc, name, MOST_LOOKED_AT);
+            let text = listener.first_of(alloc, name, MOST_LOOKED_AT);
             let odds = odd_lines(alloc, text.as_slice())?;
             odd_text(alloc, name.as_bytes(), odds.as_slice())
         }
@@ -116,12 +119,13 @@ fn comments_of<L: Listener>(
 
 // The lines on the comments of the first text of a run, the trace or the fault file, that has odd ones; empty where
 // there is none, or the words are of no run.
-pub(crate) fn comments_on<L: Listener>(
+pub(crate) fn comments_on<L: KnownListener>(
     alloc: Global,
     words: &Words,
     listener: &L,
 ) -> Result<Bytes, Memory>
-    ensures { IfOk result (AreOfRun words.now) }
+    ensures { IsTrue (L.tells listener.now) → IfOk result (AreOfRun words.now
+        (listener_seen L.quiet L.heard L.reads L.unread L.room listener.now)) }
 {
     if !asks_run(words) {
         return Ok(Bytes::new(alloc));
@@ -134,13 +138,14 @@ pub(crate) fn comments_on<L: Listener>(
 }
 
 // What is told of a run that did all: of a seat that was outvoted again, and the lines on comments.
-fn run_on<L: Listener>(
+fn run_on<L: KnownListener>(
     alloc: Global,
     words: &Words,
     left: &Left,
     listener: &L,
 ) -> Result<Bytes, Memory>
-    ensures { IfOk result (AreOfWholeRun words.now left.now) }
+    ensures { IsTrue (L.tells listener.now) → IfOk result (AreOfWholeRun words.now
+        (listener_seen L.quiet L.heard L.reads L.unread L.room listener.now) left.now) }
 {
     let mut lines = again_on(alloc, words, left)?;
     let comments = comments_on(alloc, words, listener)?;
@@ -149,13 +154,14 @@ fn run_on<L: Listener>(
 }
 
 // What is told of a call that did all.
-pub(crate) fn done_on<L: Listener>(
+pub(crate) fn done_on<L: KnownListener>(
     alloc: Global,
     words: &Words,
     left: &Left,
     listener: &L,
 ) -> Result<Bytes, Memory>
-    ensures { IfOk result (AreOfDone words.now left.now) }
+    ensures { IsTrue (L.tells listener.now) → IfOk result (AreOfDone words.now
+        (listener_seen L.quiet L.heard L.reads L.unread L.room listener.now) left.now) }
 {
     if asks_check(words) {
         notes_on(alloc, words, left)

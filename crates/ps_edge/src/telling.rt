@@ -1,10 +1,10 @@
 // What is told of a call: why it did not do all, and the notes on an application that `check` accepts.
 
-ghost use Rattle.std.specs.Prelude.{◌≡◌, IsTrue, IfOk, None, OnErr, []};
+ghost use Rattle.std.specs.Prelude.{◌≡◌, IsTrue, IfOk, OnErr};
 ghost use Rattle.ps_edge.specs.Heard.{IsHeard};
 ghost use Rattle.ps_edge.specs.Hearing.{listener_seen};
 ghost use Rattle.ps_edge.specs.Spoken.{named};
-ghost use Rattle.ps_edge.specs.Telling.{Carries, IsOfBadInput, IsOfTrip, IsOfUnread, IsTold};
+ghost use Rattle.ps_edge.specs.Telling.{Carries, IsOfBadInput, IsOfField, IsOfTrip, IsOfUnread, IsTold};
 ghost use Rattle.ps_edge.specs.Telling.{message_bytes, takes_memory, unread_told};
 
 use crate::again::again_on;
@@ -43,7 +43,7 @@ impl Message {
 // The name of the first field that differs in a trip, and its values, by the text of the application that is left;
 // empty where none is.
 fn field_of(alloc: Global, left: &Left, trip: &Trip) -> Result<Bytes, Memory>
-    ensures { left.now.text ≡ None → IfOk result (λ bytes. bytes ≡ []) }
+    ensures { IfOk result (IsOfField left.now.text trip.entry.now) }
 {
     match &left.text {
         Some(text) => field_told(alloc, text.as_slice(), trip.cause, trip.values),
@@ -53,13 +53,14 @@ fn field_of(alloc: Global, left: &Left, trip: &Trip) -> Result<Bytes, Memory>
 
 // The message of the first scan that tripped, as it is left, and the lines on comments of the run; empty where none
 // tripped.
-fn trip_on<L: Listener>(
+fn trip_on<L: KnownListener>(
     alloc: Global,
     words: &Words,
     left: &Left,
     listener: &L,
 ) -> Result<Bytes, Memory>
-    ensures { IfOk result (IsOfTrip words.now left.now) }
+    ensures { IsTrue (L.tells listener.now) → IfOk result (IsOfTrip words.now
+        (listener_seen L.quiet L.heard L.reads L.unread L.room listener.now) left.now) }
 {
     match (&left.trip, Spoken::Trace.name_in(words)) {
         (Some(trip), Some(name)) => {

@@ -1,116 +1,135 @@
 // Comments that an editor shows otherwise than they are read.
 
-use crate::lines::is_feed;
+ghost use Rattle.std.specs.Prelude.{◌≡◌, ℕ, ◌∷◌, [], List, IfOk};
+ghost use Rattle.ps_findings.specs.Comments.{after_byte, after_two, begins_with, embeddings, has_return, isolates};
+ghost use Rattle.ps_findings.specs.Comments.{odd_line};
+ghost use Rattle.ps_findings.specs.Comments.{marks, odd_in, odd_places, odds_of, odds_of_lines, place_behind};
+ghost use Rattle.ps_findings.specs.Comments.{returns, turns};
+ghost use Rattle.ps_findings.specs.Walking.{HasAdded, IsAt};
+
+use crate::odds::Odd;
 use ps_base::{Memory, Place};
 use ps_notes::{OddComment, Oddity};
 use std::alloc::Global;
 
-// The most odd comments that are told.
-const MOST_ODD: usize = 20;
-
-// The odd comments that were found, at most one of a line, and whether memory sufficed for them.
-#[derive(Drop)]
-struct Odd {
-    list: Vec<OddComment>,
-    last: u32,
-    is_whole: bool,
-}
-
-impl Odd {
-    // None. It takes no memory.
-    fn new(alloc: Global) -> Odd {
-        Odd {
-            list: Vec::new(alloc),
-            last: 0,
-            is_whole: true,
-        }
-    }
-
-    // One more, unless its line has one or there are enough.
-    fn add(&mut self, what: Oddity, place: Place) {
-        if self.last < place.line && self.list.len() < MOST_ODD {
-            self.last = place.line;
-            if self.list.push(OddComment { what, place }).is_err() {
-                self.is_whole = false;
-            }
-        }
-    }
-
-    // All of them. An error means out of memory.
-    fn finish(self) -> Result<Vec<OddComment>, Memory> {
-        if self.is_whole {
-            Ok(self.list)
-        } else {
-            Err(Memory)
-        }
-    }
-}
-
-// Where among code and comments a byte of an application stands.
-#[derive(Clone, Copy, PartialEq)]
+// Where a byte of an application stands: in code, in a `//` comment, or in a block comment.
+#[derive(Clone, Copy)]
 enum Spot {
     Code,
     Line,
     Block,
 }
 
-// Whether bytes begin with a character that turns the direction of what is shown: U+061C, U+200E, U+200F, U+202A to
-// U+202E, U+2066 to U+2069.
-fn turns(bytes: &[u8]) -> bool {
-    match bytes {
-        [0xD8, 0x9C, ..] => true,
-        [0xE2, 0x80, 0x8E | 0x8F | 0xAA..=0xAE, ..] => true,
-        [0xE2, 0x81, 0xA6..=0xA9, ..] => true,
-        _ => false,
+// Whether bytes begin with U+061C, U+200E or U+200F.
+fn begins_mark(bytes: &[u8]) -> bool
+    ensures { result ≡ begins_with marks bytes.now }
+{
+    if bytes.starts_with(b"\xD8\x9C") {
+        return true;
     }
+    if bytes.starts_with(b"\xE2\x80\x8E") {
+        return true;
+    }
+    bytes.starts_with(b"\xE2\x80\x8F")
+}
+
+// Whether bytes begin with a character from U+202A to U+202E.
+fn begins_embedding(bytes: &[u8]) -> bool
+    ensures { result ≡ begins_with embeddings bytes.now }
+{
+    if bytes.starts_with(b"\xE2\x80\xAA") {
+        return true;
+    }
+    if bytes.starts_with(b"\xE2\x80\xAB") {
+        return true;
+    }
+    if bytes.starts_with(b"\xE2\x80\xAC") {
+        return true;
+    }
+    if bytes.starts_with(b"\xE2\x80\xAD") {
+        return true;
+    }
+    bytes.starts_with(b"\xE2\x80\xAE")
+}
+
+// Whether bytes begin with a character from U+2066 to U+2069.
+fn begins_isolate(bytes: &[u8]) -> bool
+    ensures { result ≡ begins_with isolates bytes.now }
+{
+    if bytes.starts_with(b"\xE2\x81\xA6") {
+        return true;
+    }
+    if bytes.starts_with(b"\xE2\x81\xA7") {
+        return true;
+    }
+    if bytes.starts_with(b"\xE2\x81\xA8") {
+        return true;
+    }
+    bytes.starts_with(b"\xE2\x81\xA9")
+}
+
+// Whether bytes begin with a character that turns the direction of what is shown.
+fn turns(bytes: &[u8]) -> bool
+    ensures { result ≡ turns bytes.now }
+{
+    begins_mark(bytes) || begins_embedding(bytes) || begins_isolate(bytes)
 }
 
 // Whether bytes begin with a carriage return after which the line goes on.
-fn returns(bytes: &[u8]) -> bool {
-    match bytes {
-        [b'\r', b'\n', ..] | [b'\r'] => false,
-        [b'\r', ..] => true,
-        _ => false,
+fn returns(bytes: &[u8]) -> bool
+    ensures { result ≡ returns bytes.now }
+{
+    bytes.starts_with(b"\r") && bytes.len() > 1 && !bytes.starts_with(b"\r\n")
+}
+
+// Where what comes after a byte stands, if the byte is no sign with the one before it.
+fn after_byte(spot: Spot, byte: u8) -> Spot
+    ensures { result ≡ after_byte spot byte }
+{
+    match spot {
+        Spot::Line if byte == b'\n' => Spot::Code,
+        _ => spot,
     }
 }
 
-// The spot of the first of these bytes, by the spot before it. What closes a comment is code.
-fn spot_at(before: Spot, bytes: &[u8]) -> Spot {
-    match (before, bytes) {
-        (Spot::Code, [b'/', b'/', ..]) => Spot::Line,
-        (Spot::Code, [b'(', b'*', ..]) => Spot::Block,
-        (Spot::Line, [b'\n', ..]) => Spot::Code,
-        (Spot::Block, [b'*', b')', ..]) => Spot::Code,
-        _ => before,
+// Where what comes after two bytes stands, by where the first of them stands, and what comes between them.
+fn after_two(first: Spot, between: Spot, last: u8, byte: u8) -> Spot
+    ensures { result ≡ after_two first between last byte }
+{
+    match first {
+        Spot::Code if last == b'/' && byte == b'/' => Spot::Line,
+        Spot::Code if last == b'(' && byte == b'*' => Spot::Block,
+        Spot::Block if last == b'*' && byte == b')' => Spot::Code,
+        _ => after_byte(between, byte),
     }
 }
 
-// A walk over the bytes of an application: where it is, and whether the next byte ends a sign of two.
+// A walk over the bytes of an application: where what comes next stands, with its place, and the last byte, with where
+// it stands.
 #[derive(Clone, Copy)]
 struct Walk {
     spot: Spot,
-    is_skipped: bool,
     place: Place,
+    last: u8,
+    before: Spot,
 }
 
-// The walk at the first of these bytes, by the walk at the byte before it.
-fn walk_at(walk: Walk, bytes: &[u8], byte: u8) -> Walk {
-    if walk.is_skipped {
-        return Walk {
-            is_skipped: false,
-            ..walk
-        };
-    }
-    let spot = spot_at(walk.spot, bytes);
+// The walk one byte further.
+fn walk_on(walk: Walk, byte: u8) -> Walk
+    ensures { (back : List ℕ) → IsAt walk back → IsAt result (byte ∷ back) }
+{
     Walk {
-        spot,
-        is_skipped: spot != walk.spot && byte != b'\n',
-        place: walk.place,
+        spot: after_two(walk.before, walk.spot, walk.last, byte),
+        place: behind(walk.place, byte),
+        last: byte,
+        before: walk.spot,
     }
 }
 
-// What is odd in a comment at the first of these bytes.
-fn oddity(spot: Spot, bytes: &[u8]) -> Option<Oddity> {
+// What is odd at the first of these bytes, by where it stands.
+fn oddity(spot: Spot, bytes: &[u8]) -> Option<Oddity>
+    ensures { result ≡ odd_in spot bytes.now }
+{
     match spot {
         Spot::Line if returns(bytes) => Some(Oddity::Return),
         Spot::Line | Spot::Block if turns(bytes) => Some(Oddity::Turn),
@@ -119,7 +138,9 @@ fn oddity(spot: Spot, bytes: &[u8]) -> Option<Oddity> {
 }
 
 // The place after a byte.
-fn behind(place: Place, byte: u8) -> Place {
+fn behind(place: Place, byte: u8) -> Place
+    ensures { (back : List ℕ) → place ≡ place_behind back → result ≡ place_behind (byte ∷ back) }
+{
     if byte == b'\n' {
         return Place {
             line: place.line.saturating_add(1),
@@ -132,65 +153,61 @@ fn behind(place: Place, byte: u8) -> Place {
     }
 }
 
-// Whether something odd may begin at some byte: a carriage return after which its line goes on, or the first byte of
-// U+061C or of a character from U+2000 on.
-fn may_have_odd(text: &[u8]) -> bool {
-    for (i, byte) in text.iter().enumerate() {
-        match *byte {
-            0xD8 | 0xE2 => return true,
-            b'\r' if returns(&text[i..]) => return true,
-            _ => (),
-        }
-    }
-    false
-}
-
 // Adds the odd comments of an application's text.
-fn add_odd(odd: &mut Odd, text: &[u8]) {
+fn add_odd(odd: &mut Odd, text: &[u8])
+    ensures { HasAdded (odd_places [] text.now) odd.old odd.new }
+{
     let mut walk = Walk {
         spot: Spot::Code,
-        is_skipped: false,
         place: Place { line: 1, column: 1 },
+        last: 0,
+        before: Spot::Code,
     };
     for (i, byte) in text.iter().enumerate() {
-        walk = walk_at(walk, &text[i..], *byte);
-        if let Some(what) = oddity(walk.spot, &text[i..]) {
-            odd.add(what, walk.place);
-        }
-        walk.place = behind(walk.place, *byte);
+        odd.add(oddity(walk.spot, &text[i..]), walk.place);
+        walk = walk_on(walk, *byte);
     }
 }
 
 /// The odd comments of an application's text, at most 20: in a `//` comment a carriage return that does not end its
 /// line, and in any comment a character that turns the direction of what is shown. Of a line the first is told.
-pub fn odd_comments(alloc: Global, text: &[u8]) -> Result<Vec<OddComment>, Memory> {
+pub fn odd_comments(alloc: Global, text: &[u8]) -> Result<Vec<OddComment>, Memory>
+    ensures says { IfOk result (λ list. list.items ≡ odds_of text.now) }
+{
     let mut odd = Odd::new(alloc);
-    if may_have_odd(text) {
-        add_odd(&mut odd, text);
-    }
+    add_odd(&mut odd, text);
     odd.finish()
 }
 
-// Whether a carriage return stands in a line before its end.
-fn has_return(line: &[u8]) -> bool {
-    for (i, byte) in line.iter().enumerate() {
-        if *byte == b'\r' && i.saturating_add(1) < line.len() {
-            return true;
-        }
+// Whether a carriage return stands in a line before its last byte.
+fn has_return(line: &[u8]) -> bool
+    ensures { result ≡ has_return line.now }
+{
+    let front = &line[..line.len().saturating_sub(1)];
+    front.contains(&b'\r')
+}
+
+// What is odd in a line of a trace or a fault file.
+fn line_oddity(line: &[u8]) -> Option<Oddity>
+    ensures { result ≡ odd_line line.now }
+{
+    if line.starts_with(b"#") && has_return(line) {
+        Some(Oddity::Return)
+    } else {
+        None
     }
-    false
 }
 
 /// The comment lines of a trace or fault file that have a carriage return before their end, at most 20, each told by
 /// its line alone.
-pub fn odd_lines(alloc: Global, text: &[u8]) -> Result<Vec<OddComment>, Memory> {
+pub fn odd_lines(alloc: Global, text: &[u8]) -> Result<Vec<OddComment>, Memory>
+    ensures says { IfOk result (λ list. list.items ≡ odds_of_lines text.now) }
+{
     let mut odd = Odd::new(alloc);
     let mut line = 0u32;
-    for bytes in text.split(is_feed) {
+    for bytes in text.split(|byte| *byte == b'\n') {
         line = line.saturating_add(1);
-        if bytes.starts_with(b"#") && has_return(bytes) {
-            odd.add(Oddity::Return, Place { line, column: 0 });
-        }
+        odd.add(line_oddity(bytes), Place { line, column: 0 });
     }
     odd.finish()
 }

@@ -1,5 +1,6 @@
 // All that SAFEBOOL flow refuses in an application, statement by statement.
 
+use crate::places::place_if;
 use crate::sources::source_of;
 use ps_base::{Fail, Place, Refusal, Rule};
 use ps_model::{App, Arg, Args, Expr, Kind, Step, Ty, input_count, input_type, is_safe, pin_name};
@@ -64,17 +65,10 @@ fn broken_at(app: &App, ty: Ty, arg: &Arg) -> Option<Rule> {
 }
 
 // The place of a step, or of the pin of this name in it; line 0 where there is none.
-pub(crate) fn place_of(source: &Source, step: u16, pin: Option<&str>) -> Place {
-    let none = Place { line: 0, column: 0 };
-    match source.statements.as_slice().get(step as usize) {
-        Some(statement) => match pin {
-            None => statement.place(),
-            Some(pin) => match statement.pin_place(pin) {
-                Some(place) => place,
-                None => none,
-            },
-        },
-        None => none,
+fn place_of(source: &Source, step: u16, pin: Option<&str>) -> Place {
+    match place_if(source, step, pin) {
+        Some(place) => place,
+        None => Place { line: 0, column: 0 },
     }
 }
 

@@ -15,7 +15,7 @@
 //! - `reading`: looks at tokens. `values`: the BOOL values of a value. `pins`: the pins of a kind. `blocks`: the pins
 //!   of function blocks of the text. `inputs`: the names of inputs. `naming`: where a name would be declared, and which
 //!   types there are.
-//! - `sources`: the flat source of a text and its application. `limits`: which limit it passes, and `sizes` how large
+//! - `sources`: the flat source of a text. `limits`: which limit it passes, and `sizes` how large
 //!   it is. `flows`: all that SAFEBOOL flow refuses.
 //!
 //! Together:
@@ -23,7 +23,8 @@
 //! - `telling`: what is told, while it is written.
 //! - `detail`: what is said of a refusal. `further`: what is refused after the first refusal.
 //! - `refusing`: the message of an application that is refused, with the lines of further refusals.
-//! - `places`: where notes belong. `comments`: comments that are shown otherwise than they are read.
+//! - `places`: where notes belong. `comments`: comments that are shown otherwise than they are read, and `odds`
+//!   while they are found.
 #![tactic(auto)]
 
 mod blocks;
@@ -39,6 +40,7 @@ mod inputs;
 mod limits;
 mod lines;
 mod naming;
+mod odds;
 mod pins;
 mod places;
 mod reading;

@@ -1,27 +1,27 @@
 // Looks at the lines and words of a text.
 
+ghost use Rattle.std.specs.Prelude.{◌≡◌, option_copied, slice_get};
+ghost use Rattle.ps_findings.specs.Usage.{is_blank, words_in};
+
 /// Whether a byte ends a line.
 pub(crate) fn is_feed(byte: &u8) -> bool {
     *byte == b'\n'
 }
 
 /// Whether a byte stands between words.
-pub(crate) fn is_blank(byte: &u8) -> bool {
+pub(crate) fn is_blank(byte: &u8) -> bool
+    ensures { result ≡ is_blank byte.now }
+{
     *byte == b' ' || *byte == b'\t' || *byte == b'\r'
 }
 
 /// The word of this number in a line, from 0.
-pub(crate) fn word_at(line: &[u8], number: usize) -> Option<&[u8]> {
-    let mut left = number;
-    for word in line.split(is_blank) {
-        if !word.is_empty() {
-            if left == 0 {
-                return Some(word);
-            }
-            left = left.saturating_sub(1);
-        }
-    }
-    None
+pub(crate) fn word_at(line: &[u8], number: usize) -> Option<&[u8]>
+    ensures { option_copied result ≡ slice_get (words_in line.now) number }
+{
+    line.split(|byte| is_blank(byte))
+        .filter(|word| !word.is_empty())
+        .nth(number)
 }
 
 /// Whether a line is passed over: it has no word, or its first byte is `#`.

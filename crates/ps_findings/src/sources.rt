@@ -1,12 +1,10 @@
-// The flat source of a text, and its application.
+// The flat source of a text.
 
 use ps_accepted::flat_source;
 use ps_base::Fail;
 use ps_derived::{Library, parse_library};
 use ps_lexer::lex;
-use ps_model::App;
 use ps_parser::Source;
-use ps_resolve::resolve;
 use std::alloc::Global;
 
 /// The function blocks and the program of a text.
@@ -21,14 +19,6 @@ pub(crate) fn library_of(alloc: Global, text: &[u8]) -> Result<Library, Fail> {
 pub(crate) fn source_of(alloc: Global, text: &[u8]) -> Result<Source, Fail> {
     match library_of(alloc, text) {
         Ok(library) => flat_source(alloc, library),
-        Err(fail) => Err(fail),
-    }
-}
-
-/// The application of a text.
-pub(crate) fn app_of(alloc: Global, text: &[u8]) -> Result<App, Fail> {
-    match source_of(alloc, text) {
-        Ok(source) => resolve(alloc, &source),
         Err(fail) => Err(fail),
     }
 }

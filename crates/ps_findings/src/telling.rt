@@ -1,5 +1,9 @@
 // What is told, while it is written.
 
+ghost use Rattle.std.specs.Prelude.{◌≡◌, ◌++◌, [], IfOk, IsTrue, true};
+ghost use Rattle.ps_findings.specs.Said.{HasSaid};
+ghost use Rattle.ps_findings.specs.Usage.{in_marks};
+
 use itoa::Buffer;
 use ps_base::{Bytes, Fail, Memory};
 use std::alloc::Global;
@@ -17,7 +21,10 @@ pub(crate) struct Telling {
 
 impl Telling {
     /// Nothing yet. It takes no memory.
-    pub(crate) fn new(alloc: Global) -> Telling {
+    pub(crate) fn new(alloc: Global) -> Telling
+        ensures none { result.bytes ≡ [] }
+        ensures whole { result.is_whole ≡ true }
+    {
         Telling {
             alloc,
             bytes: Bytes::new(alloc),
@@ -53,7 +60,9 @@ impl Telling {
     }
 
     /// These bytes.
-    pub(crate) fn add(&mut self, bytes: &[u8]) {
+    pub(crate) fn add(&mut self, bytes: &[u8])
+        ensures { HasSaid bytes.now self.old self.new }
+    {
         if self.bytes.extend_from_slice(bytes).is_err() {
             self.is_whole = false;
         }
@@ -75,14 +84,18 @@ impl Telling {
     }
 
     /// A word in quotation marks, of which the first 40 bytes are shown.
-    pub(crate) fn add_word(&mut self, word: &[u8]) {
+    pub(crate) fn add_word(&mut self, word: &[u8])
+        ensures { HasSaid (in_marks word.now) self.old self.new }
+    {
         self.add(b"\"");
         self.add(&word[..word.len().min(MOST_OF_WORD)]);
         self.add(b"\"");
     }
 
     /// A word in quotation marks between these bytes.
-    pub(crate) fn say(&mut self, head: &[u8], word: &[u8], tail: &[u8]) {
+    pub(crate) fn say(&mut self, head: &[u8], word: &[u8], tail: &[u8])
+        ensures { HasSaid (head.now ++ in_marks word.now ++ tail.now) self.old self.new }
+    {
         self.add(head);
         self.add_word(word);
         self.add(tail);
@@ -95,7 +108,9 @@ impl Telling {
     }
 
     /// All that is told. An error means out of memory.
-    pub(crate) fn finish(self) -> Result<Bytes, Memory> {
+    pub(crate) fn finish(self) -> Result<Bytes, Memory>
+        ensures { IfOk result (λ bytes. IsTrue self.is_whole × (bytes ≡ self.bytes)) }
+    {
         if self.is_whole {
             Ok(self.bytes)
         } else {

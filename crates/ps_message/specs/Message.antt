@@ -1,5 +1,5 @@
 -- The message of a refusal.
-use Rattle.std.specs.Prelude.{◌≡◌, ◌≢◌, ℕ, Bool, nat_le, ◌==◌, ◌||◌, ◌&&◌, List, [], ◌++◌, codes, decimal, length}
+use Rattle.std.specs.Prelude.{◌≡◌, ◌≢◌, ℕ, ◌-◌, Bool, nat_le, ◌==◌, ◌||◌, ◌&&◌, List, [], ◌++◌, codes, decimal, length, take}
 use Rattle.std.specs.Prelude.{if◌then◌else◌}
 use Rattle.ps_base.specs.declared.failing.Rule.{Rule}
 use Rattle.ps_base.specs.declared.failing.Place.{Place}
@@ -59,3 +59,18 @@ is_short advice =
 abbrev pub Says : (file text : List ℕ) → Refusal → (given : List ℕ) → List ℕ → Type 0
 Says file text refusal given bytes =
     (advice : Advice) × IsOf refusal.rule advice × (words : List ℕ) × AreGiven given words × (bytes ≡ message_text advice words file text refusal.place)
+
+-- lines without the end of the last one
+abbrev pub unended : List ℕ → List ℕ
+unended lines = take (length lines - 1) lines
+
+-- a message without its place and the line: what is wrong, further words, and what helps
+abbrev pub plain_text : Advice → (further_words text : List ℕ) → Place → List ℕ
+plain_text advice further_words text place =
+    unended (reason advice (name_at (behind (line_of text place.line) place.column)) ++ codes "\n" ++ further further_words ++ remedy advice)
+
+-- these bytes are the message of a refusal without its place and the line, with an advice on its rule, and with further
+-- words: those that are given, where there are any
+abbrev pub SaysPlainly : (text : List ℕ) → Refusal → (given : List ℕ) → List ℕ → Type 0
+SaysPlainly text refusal given bytes =
+    (advice : Advice) × IsOf refusal.rule advice × (words : List ℕ) × AreGiven given words × (bytes ≡ plain_text advice words text refusal.place)

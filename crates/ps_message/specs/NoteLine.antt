@@ -16,6 +16,7 @@ use Rattle.ps_notes.specs.declared.note.OddComment.{OddComment}
 use Rattle.ps_notes.specs.declared.note.Oddity.{Oddity}
 use Rattle.ps_notes.specs.declared.note.Oddity.TheVariants.{Return, Turn}
 use Rattle.ps_notes.specs.declared.note.Placed.{Placed}
+use Rattle.ps_message.specs.Message.{unended}
 use Rattle.ps_text.specs.Lines.{place_shown}
 use Rattle.ps_text.specs.Shown.{last_shown}
 
@@ -97,6 +98,10 @@ abbrev pub note_text : (file : List ℕ) → Network → Placed → List ℕ
 note_text file net placed =
     last_shown 255 file ++ place_shown placed.place ++ codes ": note: " ++ subject net placed.note ++ said placed.note
 
+-- the line of a note without its place: what the note is about, and what is said of it
+abbrev pub plain_note_text : Network → Note → List ℕ
+plain_note_text net note = unended (subject net note ++ said note)
+
 -- what is said of an odd comment, what helps, and where more is said
 abbrev pub odd_said : Oddity → List ℕ
 odd_said Return =
@@ -105,6 +110,10 @@ odd_said Return =
 odd_said Turn =
     codes "this comment has a character that turns the direction of what is shown, which may hide what stands here;"
     ++ codes " delete it (docs/notes.md, 15)\n"
+
+-- the line of an odd comment without its place: what is said of it
+abbrev pub plain_odd_text : Oddity → List ℕ
+plain_odd_text what = unended (odd_said what)
 
 -- the line of an odd comment: the name of the file, the place, and what is said of it
 abbrev pub odd_text : (file : List ℕ) → OddComment → List ℕ

@@ -13,8 +13,9 @@
 //!
 //! - `advice`: the table of what is said of each rule. `hints`: what was most likely meant if bytes of another
 //!   language, or of another kind of text, stand at the place. `hint`: what is said of it instead.
-//! - `writing`: the whole message of a refusal.
-//! - `noted`: the line of a note of an application that is accepted, and that of an odd comment.
+//! - `writing`: the whole message of a refusal, and what it says without the place.
+//! - `noted`: the line of a note of an application that is accepted, and that of an odd comment; and both without the
+//!   place.
 //! - `statuses`: the messages of calls that end without a refusal.
 //!
 //! Listeners:
@@ -33,9 +34,9 @@ mod writing;
 
 pub use advice::{Advice, advice_on};
 pub use listening::{Listener, hear_bytes};
-pub use noted::{LONGEST_NOTE, note_line, odd_line};
+pub use noted::{LONGEST_NOTE, note_line, odd_line, plain_note, plain_odd};
 pub use standing::StandardError;
 pub use statuses::{
     NO_MEMORY, UNWRITTEN, Unread, again_message, trip_message, unread_message, usage_message,
 };
-pub use writing::{LONGEST_MESSAGE, advised_message, message};
+pub use writing::{LONGEST_MESSAGE, advised_message, message, plain_message};

@@ -5,9 +5,11 @@ ghost use Rattle.ps_model.specs.Drivers.{driver};
 ghost use Rattle.ps_model.specs.Steps.{action};
 ghost use Rattle.ps_message.specs.NoteLine.{instance_shown, pin_named, pin_shown, output_shown, signal_shown};
 ghost use Rattle.ps_message.specs.NoteLine.{step_shown, subject, said, note_text, odd_said, odd_text};
+ghost use Rattle.ps_message.specs.NoteLine.{plain_note_text, plain_odd_text};
 ghost use Rattle.ps_text.specs.Lines.{IsEnded, place_shown};
 ghost use Rattle.ps_text.specs.Shown.{last_shown};
 
+use crate::writing::unended;
 use ps_base::{Bytes, Memory, Place};
 use ps_model::{App, Driver, Step, input_count, pin_count, pin_name};
 use ps_notes::{Note, OddComment, Oddity, Placed};
@@ -225,6 +227,17 @@ pub fn note_line(alloc: Global, file: &[u8], app: &App, placed: &Placed) -> Resu
     written(alloc, file, app, placed.note, line, column)
 }
 
+/// The line of a note of this application, in the form of `note_line`, for who shows its place himself: without the
+/// place and the end of the line.
+pub fn plain_note(alloc: Global, app: &App, note: Note) -> Result<Bytes, Memory>
+    ensures { IfOk result (λ bytes. bytes ≡ plain_note_text app.now note) }
+{
+    let mut line = Bytes::new(alloc);
+    add_subject(&mut line, app, note)?;
+    line.extend_from_slice(said(note))?;
+    unended(alloc, line.as_slice())
+}
+
 // What is said of an odd comment.
 fn said_of_odd(what: Oddity) -> &'static [u8]
     ensures { result.now ≡ odd_said what }
@@ -250,4 +263,12 @@ pub fn odd_line(alloc: Global, file: &[u8], odd: &OddComment) -> Result<Bytes, M
     message.extend_from_slice(b": note: ")?;
     message.extend_from_slice(said_of_odd(odd.what))?;
     Ok(message)
+}
+
+/// The line of an odd comment, in the form of `odd_line`, for who shows its place himself: without the place and the
+/// end of the line.
+pub fn plain_odd(alloc: Global, what: Oddity) -> Result<Bytes, Memory>
+    ensures { IfOk result (λ bytes. bytes ≡ plain_odd_text what) }
+{
+    unended(alloc, said_of_odd(what))
 }

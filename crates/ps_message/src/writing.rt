@@ -2,7 +2,7 @@
 
 ghost use Rattle.std.specs.Prelude.{◌≡◌, ◌<◌, ◌≤◌, ◌^◌, ◌++◌, codes, decimal, length, IfOk, IsTrue, OnOk};
 ghost use Rattle.ps_message.specs.Message.{further, heading, reason, reference, remedy, message_text, IsOf, Says};
-ghost use Rattle.ps_message.specs.Message.{is_short};
+ghost use Rattle.ps_message.specs.Message.{SaysPlainly, is_short, plain_text, unended};
 ghost use Rattle.ps_text.specs.Lines.{IsEnded};
 ghost use Rattle.ps_text.specs.Quoted.{line_of, behind, name_at, quoted};
 
@@ -146,4 +146,46 @@ pub fn message(
     let advice = advice_of(refusal.rule, text, place);
     let further = further_on(alloc, text, refusal, words)?;
     advised_message(alloc, &advice, further.as_slice(), file, text, place)
+}
+
+/// Lines without the end of the last one.
+pub(crate) fn unended(alloc: Global, lines: &[u8]) -> Result<Bytes, Memory>
+    ensures { IfOk result (λ bytes. bytes ≡ unended lines.now) }
+{
+    Bytes::from_slice(alloc, &lines[..lines.len().saturating_sub(1)])
+}
+
+// The message with this advice at a place in this text, and with these further words, without the place and the line.
+fn plainly_advised(
+    alloc: Global,
+    advice: &Advice,
+    words: &[u8],
+    text: &[u8],
+    place: &Place,
+) -> Result<Bytes, Memory>
+    ensures { IfOk result (λ bytes. bytes ≡ plain_text advice.now words.now text.now place.now) }
+{
+    let (_front, back) = cut_at(line_at(text, place.line), place.column);
+    let mut message = Bytes::new(alloc);
+    add_reason(&mut message, advice, name_of(back))?;
+    add_further(&mut message, words)?;
+    add_remedy(&mut message, advice)?;
+    unended(alloc, message.as_slice())
+}
+
+/// The message of a refusal of this text, in the form of `message`, for who shows its place himself: without the place,
+/// the rule and the line that is quoted. So it is what is wrong, further words if there are any, and what helps, each
+/// in a line; the last line has no end.
+pub fn plain_message(
+    alloc: Global,
+    text: &[u8],
+    refusal: &Refusal,
+    words: &[u8],
+) -> Result<Bytes, Memory>
+    ensures { IfOk result (SaysPlainly text.now refusal.now words.now) }
+{
+    let place = &refusal.place;
+    let advice = advice_of(refusal.rule, text, place);
+    let further = further_on(alloc, text, refusal, words)?;
+    plainly_advised(alloc, &advice, further.as_slice(), text, place)
 }

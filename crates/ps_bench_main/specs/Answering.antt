@@ -28,6 +28,7 @@ use Rattle.ps_bench_watch.specs.Showing.{Wanted}
 use Rattle.ps_bench_frame.specs.Ending.{stop_status}
 use Rattle.ps_bench_frame.specs.Meant.{file_meant}
 use Rattle.ps_bench_frame.specs.Opening.{IsOfApp, IsOfText, source}
+use Rattle.ps_bench_frame.specs.Stopping.{Took, TookSome}
 use Rattle.ps_bench_frame.specs.declared.ending.Status.{Status}
 use Rattle.ps_bench_frame.specs.declared.ending.Status.TheVariants.{Done, Failed, Usage, WriteFault}
 use Rattle.ps_bench_frame.specs.declared.ending.Stop.{Stop}
@@ -91,7 +92,7 @@ Answers (Report app cases title) input reading held status tells before after =
     AnswersReport (reported_of app cases title) reading held tells before after status
 Answers (Live app names) input reading held status tells before after =
     AnswersLive app names input reading held tells before after status
-Answers Page input reading held status tells before after = status ≡ Done
+Answers (Page text) input reading held status tells before after = (status ≡ Done) × Took text tells before after
 Answers NotTaken input reading held status tells before after = (status ≡ Usage) × (IsTrue tells → after ≡ before)
 
 -- By what the words ask: why a call stops before all is done, and what an output that tells took up to there.
@@ -121,17 +122,18 @@ Stops (Report app cases title) input reading held stop tells before after =
     StopsReport (reported_of app cases title) reading held tells before after stop
 Stops (Live app names) input reading held stop tells before after =
     StopsLive app names input reading held tells before after stop
-Stops Page input reading held stop tells before after = stop ≡ Unwritten
+Stops (Page text) input reading held stop tells before after = (stop ≡ Unwritten) × TookSome text tells before after
 Stops NotTaken input reading held stop tells before after = ⊥
 
 -- How a call ended that did not do all: it stopped, which its status tells; or a write failed at the end, where the
--- output handed on what it held back, after that or after all.
+-- output handed on what it held back, after that or after all. So much is heard of why.
 abbrev pub IsCutOff : Asked → Fed → (reading : Bool) (held : List ℕ → Option (List ℕ)) → Status →
-    (tells : Bool) → (before after : List ℕ) → Type 0
-IsCutOff asked input reading held status tells before after =
+    (tells : Bool) → (before after : List ℕ) → (IsHeardOf : Stop → Type 0) → Type 0
+IsCutOff asked input reading held status tells before after IsHeardOf =
     ((stop : Stop) × Stops asked input reading held stop tells before after
-    × ((status ≡ stop_status stop) ⊎ (status ≡ WriteFault)))
-    ⊎ ((all : Status) × Answers asked input reading held all tells before after × (status ≡ WriteFault))
+    × (((status ≡ stop_status stop) × IsHeardOf stop) ⊎ ((status ≡ WriteFault) × IsHeardOf Unwritten)))
+    ⊎ ((all : Status) × Answers asked input reading held all tells before after × (status ≡ WriteFault)
+    × IsHeardOf Unwritten)
 
 -- the name of a file, where one is named
 abbrev pub file_of : Option (List ℕ) → List (List ℕ)
@@ -152,7 +154,7 @@ names_of (Campaign app trace from count channel print) = app ∷ file_meant trac
 names_of (Sum files) = files
 names_of (Report app cases title) = app ∷ cases
 names_of (Live app names) = app ∷ []
-names_of Page = []
+names_of (Page text) = []
 names_of NotTaken = []
 
 -- The count of failed reads rose of what a call reads: of one of its files, or, of `live`, of the stream at its input.

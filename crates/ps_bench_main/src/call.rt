@@ -1,17 +1,23 @@
 // One call of the program, from its words to the number with which it exits.
 
-ghost use Rattle.std.specs.Prelude.{◌≡◌, ◌⊎◌, ◌≤◌, ◌∷◌, [], ℕ, List, Any, Ok, Err, IfOk, IfErr, IsErrOf, OnErr};
+ghost use Rattle.std.specs.Prelude.{◌≡◌, ◌≢◌, ◌⊎◌, ◌≤◌, ◌∷◌, [], ℕ, Bool, false, List, Any, Ok, Err, IfOk, IfErr};
+ghost use Rattle.std.specs.Prelude.{IsErrOf, IsTrue, OnErr};
 ghost use Rattle.ps_bench_words.specs.Asking as asking;
 ghost use Rattle.ps_bench_words.specs.Asking.{Asks};
 ghost use Rattle.ps_bench_words.specs.Seen.{asked_seen};
 ghost use Rattle.ps_bench_watch.specs.LiveAsking.{fed};
 ghost use Rattle.ps_bench_main.specs.Answering.{Answers, IsAnswered, IsCutOff, IsUnreadBy, Stops};
+ghost use Rattle.ps_bench_main.specs.Hearing.{HearsDone, HearsStop, names_asked};
+ghost use Rattle.ps_bench_messages.specs.Telling.{IsTold, named_by};
+ghost use Rattle.ps_edge.specs.Heard.{IsHeard};
+ghost use Rattle.ps_edge.specs.Hearing.{listener_seen};
 ghost use Rattle.ps_bench_frame.specs.Ending.{IsUnread, exit_number, stop_status};
-ghost use Rattle.ps_bench_frame.specs.Stopping.{TookNothing};
+ghost use Rattle.ps_bench_frame.specs.Stopping.{Took, TookNothing, TookSome};
 ghost use Rattle.ps_bench_frame.specs.declared.ending.Status.{Status as StatusOf};
 ghost use Rattle.ps_outside.specs.Outside.{Rose};
 ghost use Rattle.ps_bench_watch.specs.Tracing.{AnswersTrace, StopsTrace};
 
+use crate::onlookers::{Ear, Onlookers};
 use ps_base::Memory;
 use ps_bench_campaign::{Campaign, CampaignAsked, campaign, sum};
 use ps_bench_cover::{CoverAsked, cover};
@@ -23,18 +29,12 @@ use ps_bench_test::{TestAsked, expand, test};
 use ps_bench_watch::{LiveAsked, Stream, TraceAsked, WatchAsked, live, trace, watch};
 use ps_bench_why::{WhyAsked, why};
 use ps_bench_words::{Asked, asked_of, texts_of};
-use ps_message::Listener;
+use ps_edge::{KnownListener, KnownOutput};
+use ps_message::{Listener, NO_MEMORY};
 use ps_outside::{Files, Output, write_all};
 use ps_search::Observer;
 use ps_words::Words;
 use std::alloc::Global;
-
-// Tells what is wrong with words.
-fn tell_words<L: Listener>(listener: &mut L, text: &str) {
-    if !listener.is_quiet() {
-        listener.hear(text);
-    }
-}
 
 // Writes the trace of a log.
 fn do_trace<F: Files, O: Output>(
@@ -60,7 +60,23 @@ fn do_trace<F: Files, O: Output>(
     }
 }
 
-// Does what is asked. Words that are not taken are told.
+// Writes a page.
+fn do_page<O: Output>(out: &mut O, text: &str) -> Result<Status, Stop>
+    ensures answers { IfOk result (λ status. (status ≡ StatusOf.Done)
+        × Took text.now (O.tells out.old) (O.taken out.old) (O.taken out.new)) }
+    ensures stops { IfErr result (λ stop. (stop ≡ Stop.Unwritten)
+        × TookSome text.now (O.tells out.old) (O.taken out.old) (O.taken out.new)) }
+    ensures unwritten { OnErr result (Rose (O.faults out.old) (O.faults out.new)) }
+    ensures writes { O.faults out.old ≤ O.faults out.new }
+    ensures telling { O.tells out.new ≡ O.tells out.old }
+{
+    match write_all(out, text.as_bytes()) {
+        Ok(()) => Ok(Status::Done),
+        Err(_) => Err(Stop::Unwritten),
+    }
+}
+
+// Does what is asked. Of words that are not taken nothing is done.
 fn do_asked<F: Files, I: Stream, O: Output, L: Listener, W: Observer>(
     alloc: Global,
     asked: &Asked<'_>,
@@ -210,19 +226,50 @@ fn do_asked<F: Files, I: Stream, O: Output, L: Listener, W: Observer>(
             };
             live(alloc, files, input, out, &asked)
         }
-        Asked::Page { text } => {
-            write_all(out, text.as_bytes())?;
-            Ok(Status::Done)
-        }
-        Asked::NotTaken { text } => {
-            tell_words(listener, text.as_str());
-            Ok(Status::Usage)
-        }
+        Asked::Page { text } => do_page(out, *text),
+        Asked::NotTaken { .. } => Ok(Status::Usage),
+    }
+}
+
+// Does what is asked. Who asks for no messages is given to no command.
+fn do_heard<F: Files, I: Stream, O: Output, N: Listener, W: Observer>(
+    alloc: Global,
+    asked: &Asked<'_>,
+    files: &mut F,
+    input: &mut I,
+    out: &mut O,
+    onlookers: &mut Onlookers<N, W>,
+) -> Result<Status, Stop>
+    ensures answers { IfOk result (λ status.
+        Answers (asked_seen asked.now) (fed (I.tells input.old) (I.coming input.old) (I.coming input.new))
+        (F.tells files.old) (F.held files.old) status
+        (O.tells out.old) (O.taken out.old) (O.taken out.new)) }
+    ensures stops { IfErr result (λ stop.
+        Stops (asked_seen asked.now) (fed (I.tells input.old) (I.coming input.old) (I.coming input.new))
+        (F.tells files.old) (F.held files.old) stop
+        (O.tells out.old) (O.taken out.old) (O.taken out.new)) }
+    ensures unread { IfErr result (λ stop. IsUnread stop → IsUnreadBy (asked_seen asked.now)
+        (F.faults files.old) (F.faults files.new) (I.faults input.old) (I.faults input.new)) }
+    ensures unwritten { IsErrOf result Stop.Unwritten → Rose (O.faults out.old) (O.faults out.new) }
+    ensures writes { O.faults out.old ≤ O.faults out.new }
+    ensures telling { O.tells out.new ≡ O.tells out.old }
+    ensures quiet { IsTrue (N.tells onlookers.old.hearer) → IsTrue (N.quiet onlookers.old.hearer) →
+        N.heard onlookers.new.hearer ≡ N.heard onlookers.old.hearer }
+{
+    let observer = &mut onlookers.observer;
+    if onlookers.hearer.is_quiet() {
+        let mut nobody = Ear::<N>::of_nobody();
+        do_asked(alloc, asked, files, input, out, &mut nobody, observer)
+    } else {
+        let mut ear = Ear::of(&mut onlookers.hearer);
+        do_asked(alloc, asked, files, input, out, &mut ear, observer)
     }
 }
 
 // The names of the files that are asked of, for messages.
-fn names_in<'a>(asked: &'a Asked<'a>) -> Names<'a> {
+fn names_in<'a>(asked: &'a Asked<'a>) -> Names<'a>
+    ensures { named_by result ≡ names_asked (asked_seen asked.now) }
+{
     match asked {
         Asked::Test { app, cases, .. } => Names {
             cases: cases.as_slice(),
@@ -293,6 +340,7 @@ fn finished<O: Output>(done: Result<Status, Stop>, out: &mut O) -> Result<Status
     ensures writes { O.faults out.old ≤ O.faults out.new }
     ensures kept { O.taken out.new ≡ O.taken out.old }
     ensures telling { O.tells out.new ≡ O.tells out.old }
+    ensures handed_on { (O.held_back out.new ≡ []) ⊎ (result ≡ Err Stop.Unwritten) }
 {
     match out.finish() {
         Ok(()) => done,
@@ -300,8 +348,21 @@ fn finished<O: Output>(done: Result<Status, Stop>, out: &mut O) -> Result<Status
     }
 }
 
+// Tells what is wrong with words that are not taken; of all else nothing.
+fn tell_done<L: KnownListener>(asked: &Asked<'_>, listener: &mut L)
+    ensures told { IsTrue (L.tells listener.old) → HearsDone (asked_seen asked.now)
+        (listener_seen L.quiet L.heard L.reads L.unread L.room listener.old) (L.heard listener.new) }
+    ensures telling { L.tells listener.new ≡ L.tells listener.old }
+{
+    if let Asked::NotTaken { text } = asked {
+        if !listener.is_quiet() {
+            listener.hear_all(text.as_str().as_bytes());
+        }
+    }
+}
+
 // The status of a call that stopped, and tells why unless nobody reads the output any more.
-fn stopped<O: Output, L: Listener>(
+fn stopped<O: KnownOutput, L: KnownListener>(
     alloc: Global,
     out: &O,
     listener: &mut L,
@@ -310,116 +371,174 @@ fn stopped<O: Output, L: Listener>(
 ) -> Status
     ensures status { result ≡ stop_status stop }
     ensures unanswered { ¬ IsAnswered result }
+    ensures told { IsTrue (L.tells listener.old) → (is_closed : Bool)
+        × (IsTrue (O.tells out.now) → is_closed ≡ O.closed out.now)
+        × (let who = listener_seen L.quiet L.heard L.reads L.unread L.room listener.old in
+        IsHeard is_closed (IsTold who (named_by names.now) stop) false who (L.heard listener.new)) }
+    ensures telling { L.tells listener.new ≡ L.tells listener.old }
 {
-    if !out.is_closed() {
-        tell(alloc, listener, names, stop);
-    }
+    tell(alloc, listener, names, stop, out.is_unread());
     stop.status()
 }
 
 // Does what is asked, has the output hand on what it holds back, and tells why it stopped, where it did.
-fn end_asked<F: Files, I: Stream, O: Output, L: Listener, W: Observer>(
+fn end_asked<F: Files, I: Stream, O: KnownOutput, L: KnownListener, N: Listener, W: Observer>(
     alloc: Global,
     asked: &Asked<'_>,
     files: &mut F,
     input: &mut I,
     out: &mut O,
+    onlookers: &mut Onlookers<N, W>,
     listener: &mut L,
-    observer: &mut W,
 ) -> Status
     ensures answers { IsAnswered result →
         Answers (asked_seen asked.now) (fed (I.tells input.old) (I.coming input.old) (I.coming input.new))
         (F.tells files.old) (F.held files.old) result
         (O.tells out.old) (O.taken out.old) (O.taken out.new) }
+    ensures heard { IsAnswered result → IsTrue (L.tells listener.old) → HearsDone (asked_seen asked.now)
+        (listener_seen L.quiet L.heard L.reads L.unread L.room listener.old) (L.heard listener.new) }
     ensures cut_off { ¬ IsAnswered result →
         IsCutOff (asked_seen asked.now) (fed (I.tells input.old) (I.coming input.old) (I.coming input.new))
         (F.tells files.old) (F.held files.old) result
-        (O.tells out.old) (O.taken out.old) (O.taken out.new) }
+        (O.tells out.old) (O.taken out.old) (O.taken out.new)
+        (λ stop. IsTrue (L.tells listener.old) → (is_closed : Bool)
+        × (IsTrue (O.tells out.new) → is_closed ≡ O.closed out.new) × HearsStop is_closed (asked_seen asked.now)
+        (listener_seen L.quiet L.heard L.reads L.unread L.room listener.old) (L.heard listener.new) stop) }
     ensures unread { result ≡ StatusOf.ReadFault → IsUnreadBy (asked_seen asked.now)
         (F.faults files.old) (F.faults files.new) (I.faults input.old) (I.faults input.new) }
     ensures unwritten { result ≡ StatusOf.WriteFault → Rose (O.faults out.old) (O.faults out.new) }
+    ensures handed_on { result ≢ StatusOf.WriteFault → O.held_back out.new ≡ [] }
+    ensures telling { L.tells listener.new ≡ L.tells listener.old }
+    ensures quiet { IsTrue (N.tells onlookers.old.hearer) → IsTrue (N.quiet onlookers.old.hearer) →
+        N.heard onlookers.new.hearer ≡ N.heard onlookers.old.hearer }
 {
-    let done = do_asked(alloc, asked, files, input, out, listener, observer);
+    let done = do_heard(alloc, asked, files, input, out, onlookers);
     match finished(done, out) {
-        Ok(status) => status,
+        Ok(status) => {
+            tell_done(asked, listener);
+            status
+        }
         Err(stop) => stopped(alloc, out, listener, &names_in(asked), stop),
     }
 }
 
 // Does what the words ask. An error means out of memory before anything was done.
-fn do_words<F: Files, I: Stream, O: Output, L: Listener, W: Observer>(
+fn do_words<F: Files, I: Stream, O: KnownOutput, L: KnownListener, N: Listener, W: Observer>(
     alloc: Global,
     words: &Words,
     files: &mut F,
     input: &mut I,
     out: &mut O,
+    onlookers: &mut Onlookers<N, W>,
     listener: &mut L,
-    observer: &mut W,
 ) -> Result<Status, Memory>
     ensures answers { IfOk result (λ status. IsAnswered status → (asked : asking.Asked) × Asks words.now asked
         × Answers asked (fed (I.tells input.old) (I.coming input.old) (I.coming input.new))
         (F.tells files.old) (F.held files.old) status
-        (O.tells out.old) (O.taken out.old) (O.taken out.new)) }
+        (O.tells out.old) (O.taken out.old) (O.taken out.new)
+        × (IsTrue (L.tells listener.old) → HearsDone asked
+        (listener_seen L.quiet L.heard L.reads L.unread L.room listener.old) (L.heard listener.new))) }
     ensures cut_off { IfOk result (λ status. ¬ IsAnswered status → (asked : asking.Asked) × Asks words.now asked
         × IsCutOff asked (fed (I.tells input.old) (I.coming input.old) (I.coming input.new))
         (F.tells files.old) (F.held files.old) status
         (O.tells out.old) (O.taken out.old) (O.taken out.new)
+        (λ stop. IsTrue (L.tells listener.old) → (is_closed : Bool)
+        × (IsTrue (O.tells out.new) → is_closed ≡ O.closed out.new) × HearsStop is_closed asked
+        (listener_seen L.quiet L.heard L.reads L.unread L.room listener.old) (L.heard listener.new) stop)
         × (status ≡ StatusOf.ReadFault → IsUnreadBy asked
         (F.faults files.old) (F.faults files.new) (I.faults input.old) (I.faults input.new))) }
     ensures unwritten { IfOk result (λ status. status ≡ StatusOf.WriteFault →
         Rose (O.faults out.old) (O.faults out.new)) }
-    ensures nothing { OnErr result (O.taken out.new ≡ O.taken out.old) }
+    ensures handed_on { IfOk result (λ status. status ≢ StatusOf.WriteFault → O.held_back out.new ≡ []) }
+    ensures nothing { OnErr result ((out.new ≡ out.old) × (listener.new ≡ listener.old)) }
+    ensures telling { L.tells listener.new ≡ L.tells listener.old }
+    ensures quiet { IsTrue (N.tells onlookers.old.hearer) → IsTrue (N.quiet onlookers.old.hearer) →
+        N.heard onlookers.new.hearer ≡ N.heard onlookers.old.hearer }
 {
     let texts = texts_of(alloc, words)?;
     let asked = asked_of(alloc, texts.as_slice())?;
-    Ok(end_asked(alloc, &asked, files, input, out, listener, observer))
+    Ok(end_asked(alloc, &asked, files, input, out, onlookers, listener))
 }
 
 // The status of a call for which there is no memory before anything was done, and tells of it.
-fn without_memory<L: Listener>(alloc: Global, listener: &mut L) -> Status
+fn without_memory<L: KnownListener>(listener: &mut L) -> Status
     ensures status { result ≡ StatusOf.Memory }
+    ensures told { IsTrue (L.tells listener.old) →
+        (let who = listener_seen L.quiet L.heard L.reads L.unread L.room listener.old in
+        IsHeard false (λ text. text ≡ NO_MEMORY.now) false who (L.heard listener.new)) }
+    ensures telling { L.tells listener.new ≡ L.tells listener.old }
 {
-    tell(alloc, listener, &Names::of_app(""), Stop::NoMemory);
+    if !listener.is_quiet() {
+        listener.hear_all(NO_MEMORY.as_bytes());
+    }
     Status::Memory
 }
 
 /// Does what the words ask, and says the number with which the program exits: all that the program does, over any
-/// files, any input, any output, whoever is told in words why a call did not do all, and whoever watches a search.
+/// files, any input, any output, whoever is told of it while it runs, and whoever is told in words at its end why it did
+/// not do all.
 ///
-/// `words` are those after the program's name. The number is that of a status, 0 to 7. Nothing is told of an output
-/// that nobody reads any more.
-pub fn exit_of_call<F: Files, I: Stream, O: Output, L: Listener, W: Observer>(
+/// `words` are those after the program's name. The number is that of a status, 0 to 7. Nothing is told at the end of an
+/// output that nobody reads any more.
+pub fn exit_of_call<
+    F: Files,
+    I: Stream,
+    O: KnownOutput,
+    L: KnownListener,
+    N: Listener,
+    W: Observer,
+>(
     alloc: Global,
     words: &Words,
     files: &mut F,
     input: &mut I,
     out: &mut O,
+    onlookers: &mut Onlookers<N, W>,
     listener: &mut L,
-    observer: &mut W,
 ) -> u8
     // The number is that of a status. Where nothing stopped the call, the status and what was written are those of what
     // the words ask: of `test`, 0 exactly where every case passed, and else 4; of `never`, 0 where every rule holds,
-    // of `cover` where no less was shown than was asked for, and of `live` where no scan tripped. Where the call did
-    // not do all, why it stopped and what was written up to there are those of what the words ask, unless memory was
-    // wanting before that; of a file or an input that could not be read, and of an output that could not be written,
-    // the count rose.
+    // of `cover` where no less was shown than was asked for, and of `live` where no scan tripped; of help and the
+    // version, the page of those words. Where the call did not do all, why it stopped and what was written up to there
+    // are those of what the words ask, unless memory was out before that; of a file or an input that could not be
+    // read, and of an output that could not be written, the count rose. What the listener hears is the message of that
+    // very stop, by whether somebody still reads the output, or what is wrong with words that are not taken; of a call
+    // that nothing stopped it hears nothing else.
     ensures does { (status : StatusOf) × (result ≡ exit_number status)
         × (IsAnswered status → (asked : asking.Asked) × Asks words.now asked
         × Answers asked (fed (I.tells input.old) (I.coming input.old) (I.coming input.new))
         (F.tells files.old) (F.held files.old) status
-        (O.tells out.old) (O.taken out.old) (O.taken out.new))
+        (O.tells out.old) (O.taken out.old) (O.taken out.new)
+        × (IsTrue (L.tells listener.old) → HearsDone asked
+        (listener_seen L.quiet L.heard L.reads L.unread L.room listener.old) (L.heard listener.new)))
         × (¬ IsAnswered status →
-        ((status ≡ StatusOf.Memory) × TookNothing (O.tells out.old) (O.taken out.old) (O.taken out.new))
+        ((status ≡ StatusOf.Memory) × TookNothing (O.tells out.old) (O.taken out.old) (O.taken out.new)
+        × (IsTrue (L.tells listener.old) →
+        (let who = listener_seen L.quiet L.heard L.reads L.unread L.room listener.old in
+        IsHeard false (λ text. text ≡ NO_MEMORY.now) false who (L.heard listener.new))))
         ⊎ ((asked : asking.Asked) × Asks words.now asked
         × IsCutOff asked (fed (I.tells input.old) (I.coming input.old) (I.coming input.new))
         (F.tells files.old) (F.held files.old) status
         (O.tells out.old) (O.taken out.old) (O.taken out.new)
+        (λ stop. IsTrue (L.tells listener.old) → (is_closed : Bool)
+        × (IsTrue (O.tells out.new) → is_closed ≡ O.closed out.new) × HearsStop is_closed asked
+        (listener_seen L.quiet L.heard L.reads L.unread L.room listener.old) (L.heard listener.new) stop)
         × (status ≡ StatusOf.ReadFault → IsUnreadBy asked
         (F.faults files.old) (F.faults files.new) (I.faults input.old) (I.faults input.new))))
         × (status ≡ StatusOf.WriteFault → Rose (O.faults out.old) (O.faults out.new)) }
+
+    // Whatever was taken is handed on, unless a write failed; a call for which memory is out before it does anything
+    // leaves the output as it was.
+    ensures handed_on { result ≢ exit_number Status.WriteFault →
+        (O.held_back out.new ≡ []) ⊎ ((result ≡ exit_number Status.Memory) × (out.new ≡ out.old)) }
+
+    // Who hears what a command meets, and asks for no messages, hears none.
+    ensures quiet { IsTrue (N.tells onlookers.old.hearer) → IsTrue (N.quiet onlookers.old.hearer) →
+        N.heard onlookers.new.hearer ≡ N.heard onlookers.old.hearer }
+    ensures telling { L.tells listener.new ≡ L.tells listener.old }
 {
-    match do_words(alloc, words, files, input, out, listener, observer) {
+    match do_words(alloc, words, files, input, out, onlookers, listener) {
         Ok(status) => exit_code(status),
-        Err(Memory) => exit_code(without_memory(alloc, listener)),
+        Err(Memory) => exit_code(without_memory(listener)),
     }
 }

@@ -2,10 +2,11 @@
 //! all, and whoever watches a search; and over the system's files, its standard input and its standard output.
 //!
 //! `call` is one call, from its words to the exit status of the program, `program` makes it over the system,
-//! and `progress` shows on a terminal how far a search has come.
+//! `onlookers` is who is told of a call while it runs, and `progress` shows on a terminal how far a search has come.
 #![tactic(auto)]
 
 mod call;
+mod onlookers;
 mod program;
 mod progress;
 

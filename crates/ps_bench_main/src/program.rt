@@ -3,6 +3,7 @@
 ghost use Rattle.std.specs.Prelude.{◌≤◌};
 
 use crate::call::exit_of_call;
+use crate::onlookers::Onlookers;
 use crate::progress::ProgressLine;
 use ps_bench_frame::{Status, exit_code};
 use ps_bench_watch::StdStream;
@@ -24,7 +25,11 @@ fn exit_of_words<R: Env + rt::Files + Input + Print + Eprint + Clock + AllocGlob
 {
     let alloc = system.alloc();
     let mut listener = StandardError::new(system);
-    let mut line = ProgressLine::new(system, is_terminal && !listener.is_quiet());
+    let line = ProgressLine::new(system, is_terminal && !listener.is_quiet());
+    let mut onlookers = Onlookers {
+        hearer: StandardError::new(system),
+        observer: line,
+    };
     match BufWriter::new(alloc, io::writer(system)) {
         Ok(out) => {
             let mut files = DiskFiles::new(system);
@@ -36,8 +41,8 @@ fn exit_of_words<R: Env + rt::Files + Input + Print + Eprint + Clock + AllocGlob
                 &mut files,
                 &mut input,
                 &mut sink,
+                &mut onlookers,
                 &mut listener,
-                &mut line,
             )
         }
         Err(_) => exit_code(Status::Memory),

@@ -1,5 +1,8 @@
 // What a person reads of a case file that is refused.
 
+ghost use Rattle.std.specs.Prelude.{◌≡◌, IfOk};
+ghost use Rattle.ps_bench_messages.specs.Telling.{IsAdvised, case_rule};
+
 use ps_base::{Bytes, Memory, Place};
 use ps_bench_cases::limits::LONGEST_CASE_LINE;
 use ps_bench_cases::{CaseRefusal, CaseRule};
@@ -13,7 +16,9 @@ pub(crate) const MOST_LOOKED_AT: u32 = 16_777_216;
 const MOST_NAMES: u32 = 64;
 
 // The name of a rule.
-fn rule_name(rule: CaseRule) -> &'static str {
+fn rule_name(rule: CaseRule) -> &'static str
+    ensures { result.now ≡ case_rule rule }
+{
     match rule {
         CaseRule::K1 => "K1",
         CaseRule::K2 => "K2",
@@ -251,6 +256,20 @@ fn column_of(refusal: CaseRefusal, app: &[u8], line: &[u8]) -> u32 {
     unknown_column(app, line)
 }
 
+/// The message with this advice, and these further words, at a place of this text in the file of this name.
+pub(crate) fn said_message(
+    alloc: Global,
+    advice: &Advice,
+    words: &[u8],
+    file: &[u8],
+    text: &[u8],
+    place: &Place,
+) -> Result<Bytes, Memory>
+    ensures { IfOk result (IsAdvised advice.now.name.now place.now.line file.now text.now) }
+{
+    advised_message(alloc, advice, words, file, text, place)
+}
+
 // The message of a refusal of the case file of this name and this text, for an application of this text: where, by
 // which rule, what is wrong, the line, and what helps. Of an unknown name it says which.
 pub(crate) fn case_message(
@@ -259,7 +278,9 @@ pub(crate) fn case_message(
     file: &[u8],
     text: &[u8],
     refusal: CaseRefusal,
-) -> Result<Bytes, Memory> {
+) -> Result<Bytes, Memory>
+    ensures { IfOk result (IsAdvised (case_rule refusal.rule) refusal.line file.now text.now) }
+{
     let line = line_at(text, refusal.line);
     let said = said_at(refusal, text, line);
     let column = column_of(refusal, app, line);
@@ -273,5 +294,5 @@ pub(crate) fn case_message(
         line: refusal.line,
         column,
     };
-    advised_message(alloc, &advice, &[], file, text, &place)
+    said_message(alloc, &advice, &[], file, text, &place)
 }

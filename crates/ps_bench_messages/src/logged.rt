@@ -1,10 +1,14 @@
 // What a person reads of a log that is refused.
 
+ghost use Rattle.std.specs.Prelude.{◌≡◌, IfOk};
+ghost use Rattle.ps_bench_messages.specs.Telling.{IsAdvised, log_rule};
+
+use crate::advising::said_message;
 use ps_accepted::accept_text;
 use ps_base::{Bytes, Fail, Memory, Place};
 use ps_bench_frame::pieces::add_shown;
 use ps_bench_logs::{Column, Flaw, LogRefusal};
-use ps_message::{Advice, advised_message};
+use ps_message::Advice;
 use std::alloc::Global;
 
 // What is said of a flaw: its rule, what is wrong, and what helps.
@@ -16,7 +20,9 @@ struct Said {
 }
 
 // What is said of a flaw: one row a rule.
-fn said_of(flaw: Flaw) -> Said {
+fn said_of(flaw: Flaw) -> Said
+    ensures { result.rule.now ≡ log_rule flaw }
+{
     match flaw {
         Flaw::V1 => Said {
             rule: "V1",
@@ -82,7 +88,9 @@ pub(crate) fn log_message(
     file: &[u8],
     text: &[u8],
     refusal: LogRefusal,
-) -> Result<Bytes, Memory> {
+) -> Result<Bytes, Memory>
+    ensures { IfOk result (IsAdvised (log_rule refusal.flaw) refusal.line file.now text.now) }
+{
     let said = said_of(refusal.flaw);
     let words = told_on(alloc, source, refusal.flaw)?;
     let advice = Advice {
@@ -95,5 +103,5 @@ pub(crate) fn log_message(
         line: refusal.line,
         column: 0,
     };
-    advised_message(alloc, &advice, words.as_slice(), file, text, &place)
+    said_message(alloc, &advice, words.as_slice(), file, text, &place)
 }

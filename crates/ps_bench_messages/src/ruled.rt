@@ -1,9 +1,12 @@
 // What a person reads of a rules file that is refused.
 
-use crate::advising::{UNKNOWN, behind, has_word, line_at, part_of, unknown_column};
+ghost use Rattle.std.specs.Prelude.{◌≡◌, IfOk};
+ghost use Rattle.ps_bench_messages.specs.Telling.{IsAdvised, rules_rule};
+
+use crate::advising::{UNKNOWN, behind, has_word, line_at, part_of, said_message, unknown_column};
 use ps_base::{Bytes, Memory, Place};
 use ps_bench_rules::{Flaw, RulesRefusal};
-use ps_message::{Advice, advised_message};
+use ps_message::Advice;
 use std::alloc::Global;
 
 // What is said of a flaw: its rule, what is wrong, and what helps.
@@ -15,7 +18,9 @@ struct Said {
 }
 
 // What is said of a flaw: one row a rule.
-fn said_of(flaw: Flaw) -> Said {
+fn said_of(flaw: Flaw) -> Said
+    ensures { result.rule.now ≡ rules_rule flaw }
+{
     match flaw {
         Flaw::R1 => Said {
             rule: "R1",
@@ -81,7 +86,9 @@ pub(crate) fn rules_message(
     file: &[u8],
     text: &[u8],
     refusal: RulesRefusal,
-) -> Result<Bytes, Memory> {
+) -> Result<Bytes, Memory>
+    ensures { IfOk result (IsAdvised (rules_rule refusal.flaw) refusal.line file.now text.now) }
+{
     let said = said_of(refusal.flaw);
     let column = column_of(refusal, app, line_at(text, refusal.line));
     let advice = Advice {
@@ -94,5 +101,5 @@ pub(crate) fn rules_message(
         line: refusal.line,
         column,
     };
-    advised_message(alloc, &advice, &[], file, text, &place)
+    said_message(alloc, &advice, &[], file, text, &place)
 }

@@ -1,10 +1,13 @@
 // What a person reads of a file of counts that is refused.
 
-use crate::advising::line_at;
+ghost use Rattle.std.specs.Prelude.{◌≡◌, IfOk, codes};
+ghost use Rattle.ps_bench_messages.specs.Telling.{IsAdvised, sum_rule};
+
+use crate::advising::{line_at, said_message};
 use ps_base::{Bytes, Memory, Place};
 use ps_bench_frame::pieces::add_shown;
 use ps_bench_trials::{LARGEST_SUM, SumRefusal, SumRule};
-use ps_message::{Advice, advised_message};
+use ps_message::Advice;
 use std::alloc::Global;
 
 // What is said of a rule: what is wrong, and what helps.
@@ -16,7 +19,9 @@ struct Said {
 }
 
 // What is said of a rule: one row a rule.
-fn said_of(rule: SumRule) -> Said {
+fn said_of(rule: SumRule) -> Said
+    ensures { result.rule.now ≡ sum_rule rule }
+{
     match rule {
         SumRule::U1 => Said {
             rule: "U1",
@@ -37,7 +42,9 @@ fn said_of(rule: SumRule) -> Said {
 }
 
 // The rule of form with words of its own.
-fn of_form(sentence: &'static str, remedy: &'static str) -> Said {
+fn of_form(sentence: &'static str, remedy: &'static str) -> Said
+    ensures { result.rule.now ≡ codes "U1" }
+{
     Said {
         rule: "U1",
         sentence,
@@ -46,7 +53,9 @@ fn of_form(sentence: &'static str, remedy: &'static str) -> Said {
 }
 
 // What a text that is none of a campaign tells by its size and by the line that is refused.
-fn said_of_form(text: &[u8], line: &[u8]) -> Said {
+fn said_of_form(text: &[u8], line: &[u8]) -> Said
+    ensures { result.rule.now ≡ codes "U1" }
+{
     if text.is_empty() {
         return of_form(
             "the file is empty: the call that was to write it did not end",
@@ -75,7 +84,9 @@ fn said_of_form(text: &[u8], line: &[u8]) -> Said {
 }
 
 // What is said of a refusal.
-fn said_at(rule: SumRule, text: &[u8], line: &[u8]) -> Said {
+fn said_at(rule: SumRule, text: &[u8], line: &[u8]) -> Said
+    ensures { result.rule.now ≡ sum_rule rule }
+{
     match rule {
         SumRule::U1 => said_of_form(text, line),
         SumRule::U2 | SumRule::U3 => said_of(rule),
@@ -99,7 +110,9 @@ pub(crate) fn sum_message(
     file: &[u8],
     text: &[u8],
     refusal: SumRefusal,
-) -> Result<Bytes, Memory> {
+) -> Result<Bytes, Memory>
+    ensures { IfOk result (IsAdvised (sum_rule refusal.rule) refusal.line file.now text.now) }
+{
     let said = said_at(refusal.rule, text, line_at(text, refusal.line));
     let words = told_on(alloc, first, refusal.rule)?;
     let advice = Advice {
@@ -112,5 +125,5 @@ pub(crate) fn sum_message(
         line: refusal.line,
         column: 0,
     };
-    advised_message(alloc, &advice, words.as_slice(), file, text, &place)
+    said_message(alloc, &advice, words.as_slice(), file, text, &place)
 }

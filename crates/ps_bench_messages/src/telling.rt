@@ -1,5 +1,13 @@
 // What a person reads on standard error of a call that stopped.
 
+ghost use Rattle.std.specs.Prelude.{◌≡◌, IfOk, IsTrue, false, map};
+ghost use Rattle.ps_edge.specs.Heard.{IsHeard};
+ghost use Rattle.ps_edge.specs.Hearing.{listener_seen};
+ghost use Rattle.ps_bench_messages.specs.Telling as telling;
+ghost use Rattle.ps_bench_messages.specs.Telling.{IsOfCases, IsOfInput, IsOfInputStop, IsOfLog, IsOfRules};
+ghost use Rattle.ps_bench_messages.specs.Telling.{IsOfSource, IsOfStop, IsOfSum};
+ghost use Rattle.ps_bench_messages.specs.Telling.{IsReadAnew, IsTold, at_place, named_app, named_by, unread_told};
+
 use crate::advising::{MOST_LOOKED_AT, case_message};
 use crate::logged::log_message;
 use crate::ruled::rules_message;
@@ -10,7 +18,10 @@ use ps_base::{Bytes, Fail, Memory, Refusal, Rule};
 use ps_bench_cases::CaseRefusal;
 use ps_bench_frame::pieces::add_shown;
 use ps_bench_frame::{Input, InputStop, Stop, word_of};
+use ps_bench_logs::LogRefusal;
+use ps_bench_rules::RulesRefusal;
 use ps_bench_trials::{LARGEST_SUM, SumRefusal};
+use ps_edge::KnownListener;
 use ps_findings::{RegionSizes, detail_on, header_told, inputs_told, past_told, refusal_of_app};
 use ps_message::{
     Listener, NO_MEMORY, UNWRITTEN, Unread, hear_bytes, message as refusal_message, unread_message,
@@ -49,7 +60,9 @@ pub struct Names<'a> {
 
 impl<'a> Names<'a> {
     /// The name of an application, and no other name.
-    pub fn of_app(app: &'a str) -> Names<'a> {
+    pub fn of_app(app: &'a str) -> Names<'a>
+        ensures { named_by result ≡ named_app app.now }
+    {
         Names {
             app,
             cases: &[],
@@ -64,26 +77,32 @@ impl<'a> Names<'a> {
 }
 
 // The message of a refusal of the application.
-fn app_refused<L: Listener>(
+fn app_refused<L: KnownListener>(
     alloc: Global,
     listener: &L,
     name: &str,
     refusal: &Refusal,
-) -> Result<Bytes, Memory> {
-    let text = listener.text_of(alloc, name, LARGEST_SOURCE + 1);
+) -> Result<Bytes, Memory>
+    ensures { IsTrue (L.tells listener.now) → IfOk result (IsOfSource
+        (listener_seen L.quiet L.heard L.reads L.unread L.room listener.now) name.now refusal.now) }
+{
+    let text = listener.first_of(alloc, name, LARGEST_SOURCE + 1);
     refusal_of_app(alloc, name, text.as_slice(), refusal)
 }
 
 // The message of a refusal of a case file.
-fn cases_refused<L: Listener>(
+fn cases_refused<L: KnownListener>(
     alloc: Global,
     listener: &L,
     app: &str,
     name: &str,
     refusal: CaseRefusal,
-) -> Result<Bytes, Memory> {
-    let source = listener.text_of(alloc, app, LARGEST_SOURCE + 1);
-    let text = listener.text_of(alloc, name, MOST_LOOKED_AT);
+) -> Result<Bytes, Memory>
+    ensures { IsTrue (L.tells listener.now) → IfOk result (IsOfCases
+        (listener_seen L.quiet L.heard L.reads L.unread L.room listener.now) name.now refusal) }
+{
+    let source = listener.first_of(alloc, app, LARGEST_SOURCE + 1);
+    let text = listener.first_of(alloc, name, MOST_LOOKED_AT);
     case_message(
         alloc,
         source.as_slice(),
@@ -94,15 +113,20 @@ fn cases_refused<L: Listener>(
 }
 
 // The message of a file that cannot be read; nothing where it can be read by now.
-fn unread<L: Listener>(alloc: Global, listener: &L, name: &str) -> Result<Bytes, Memory> {
-    match listener.why_unread(name) {
+fn unread<L: KnownListener>(alloc: Global, listener: &L, name: &str) -> Result<Bytes, Memory>
+    ensures { IsTrue (L.tells listener.now) → IfOk result (λ bytes. bytes ≡ unread_told
+        (listener_seen L.quiet L.heard L.reads L.unread L.room listener.now) name.now) }
+{
+    match listener.reason(name) {
         Some(why) => unread_message(alloc, name.as_bytes(), why),
         None => Ok(Bytes::new(alloc)),
     }
 }
 
 // The name at a place among names.
-fn name_at<'a>(names: &[&'a str], place: usize) -> &'a str {
+fn name_at<'a>(names: &[&'a str], place: usize) -> &'a str
+    ensures { result.now ≡ at_place (map (λ name. name.now) names.now) place }
+{
     if place < names.len() {
         names[place]
     } else {
@@ -112,7 +136,10 @@ fn name_at<'a>(names: &[&'a str], place: usize) -> &'a str {
 
 // The name of the case file at a place of the words; of a call that names none, the file that its word in the place of
 // a trace names, or the one at this place of its words for traces.
-fn case_file<'a>(names: &Names<'a>, place: usize) -> &'a str {
+fn case_file<'a>(names: &Names<'a>, place: usize) -> &'a str
+    ensures { let named = named_by names.now in
+        result.now ≡ telling.case_file named.cases named.traces named.trace place }
+{
     if !names.cases.is_empty() {
         name_at(names.cases, place)
     } else if !names.traces.is_empty() {
@@ -123,12 +150,16 @@ fn case_file<'a>(names: &Names<'a>, place: usize) -> &'a str {
 }
 
 // Whether this is a trace that came by standard input: nothing of it can be read again.
-fn is_fed(names: &Names<'_>, input: Input) -> bool {
+fn is_fed(names: &Names<'_>, input: Input) -> bool
+    ensures { result ≡ telling.is_fed (named_by names.now) input }
+{
     input == Input::Trace && names.trace.is_empty()
 }
 
 // The name of what a run is made of.
-fn input_name<'a>(names: &Names<'a>, input: Input) -> &'a str {
+fn input_name<'a>(names: &Names<'a>, input: Input) -> &'a str
+    ensures { result.now ≡ telling.input_name (named_by names.now) input }
+{
     match input {
         Input::Trace if names.trace.is_empty() => FED,
         Input::Trace => names.trace,
@@ -141,7 +172,9 @@ fn input_name<'a>(names: &Names<'a>, input: Input) -> &'a str {
 }
 
 // As many bytes of what a run is made of as its rules look at.
-fn most_of(input: Input) -> u32 {
+fn most_of(input: Input) -> u32
+    ensures { result ≡ telling.most_of input }
+{
     match input {
         Input::Trace | Input::TraceAt(_) => LARGEST_TRACE,
         Input::Faults => MOST_FAULT_LINES * (LONGEST_FAULT_LINE + 1),
@@ -200,24 +233,35 @@ fn told_on(alloc: Global, source: &[u8], text: &[u8], refusal: &Refusal) -> Resu
 }
 
 // The text of what a run is made of, as far as its rules look at it.
-fn input_text<L: Listener>(alloc: Global, listener: &L, names: &Names<'_>, input: Input) -> Bytes {
+fn input_text<L: KnownListener>(
+    alloc: Global,
+    listener: &L,
+    names: &Names<'_>,
+    input: Input,
+) -> Bytes
+    ensures { IsTrue (L.tells listener.now) → IsReadAnew
+        (listener_seen L.quiet L.heard L.reads L.unread L.room listener.now) (named_by names.now) input result }
+{
     if is_fed(names, input) {
         Bytes::new(alloc)
     } else {
-        listener.text_of(alloc, input_name(names, input), most_of(input))
+        listener.first_of(alloc, input_name(names, input), most_of(input))
     }
 }
 
 // The message of a refusal of what a run is made of.
-fn input_refused<L: Listener>(
+fn input_refused<L: KnownListener>(
     alloc: Global,
     listener: &L,
     names: &Names<'_>,
     input: Input,
     refusal: &Refusal,
-) -> Result<Bytes, Memory> {
+) -> Result<Bytes, Memory>
+    ensures { IsTrue (L.tells listener.now) → IfOk result (IsOfInput
+        (listener_seen L.quiet L.heard L.reads L.unread L.room listener.now) (named_by names.now) input refusal.now) }
+{
     let name = input_name(names, input);
-    let source = listener.text_of(alloc, names.app, LARGEST_SOURCE);
+    let source = listener.first_of(alloc, names.app, LARGEST_SOURCE);
     let text = input_text(alloc, listener, names, input);
     let words = told_on(alloc, source.as_slice(), text.as_slice(), refusal)?;
     refusal_message(
@@ -230,14 +274,18 @@ fn input_refused<L: Listener>(
 }
 
 // The message of a refusal of a file of counts.
-fn sum_refused<L: Listener>(
+fn sum_refused<L: KnownListener>(
     alloc: Global,
     listener: &L,
     names: &Names<'_>,
     refusal: SumRefusal,
-) -> Result<Bytes, Memory> {
+) -> Result<Bytes, Memory>
+    ensures { IsTrue (L.tells listener.now) → IfOk result (IsOfSum
+        (listener_seen L.quiet L.heard L.reads L.unread L.room listener.now)
+        (at_place (named_by names.now).traces refusal.place) refusal) }
+{
     let name = name_at(names.traces, refusal.place);
-    let text = listener.text_of(alloc, name, LARGEST_SUM + 1);
+    let text = listener.first_of(alloc, name, LARGEST_SUM + 1);
     sum_message(
         alloc,
         name_at(names.traces, 0),
@@ -247,39 +295,64 @@ fn sum_refused<L: Listener>(
     )
 }
 
+// The message of a refusal of the rules file.
+fn rules_refused<L: KnownListener>(
+    alloc: Global,
+    listener: &L,
+    names: &Names<'_>,
+    refusal: RulesRefusal,
+) -> Result<Bytes, Memory>
+    ensures { IsTrue (L.tells listener.now) → IfOk result (IsOfRules
+        (listener_seen L.quiet L.heard L.reads L.unread L.room listener.now) names.now.rules.now refusal) }
+{
+    let source = listener.first_of(alloc, names.app, LARGEST_SOURCE + 1);
+    let text = listener.first_of(alloc, names.rules, MOST_LOOKED_AT);
+    rules_message(
+        alloc,
+        source.as_slice(),
+        names.rules.as_bytes(),
+        text.as_slice(),
+        refusal,
+    )
+}
+
+// The message of a refusal of the log.
+fn log_refused<L: KnownListener>(
+    alloc: Global,
+    listener: &L,
+    names: &Names<'_>,
+    refusal: LogRefusal,
+) -> Result<Bytes, Memory>
+    ensures { IsTrue (L.tells listener.now) → IfOk result (IsOfLog
+        (listener_seen L.quiet L.heard L.reads L.unread L.room listener.now) names.now.log.now refusal) }
+{
+    let source = listener.first_of(alloc, names.app, LARGEST_SOURCE + 1);
+    let text = listener.first_of(alloc, names.log, MOST_LOOKED_AT);
+    log_message(
+        alloc,
+        source.as_slice(),
+        names.log.as_bytes(),
+        text.as_slice(),
+        refusal,
+    )
+}
+
 // What is told of a call that stopped at what a run or a search is made of.
-fn input_message<L: Listener>(
+fn input_message<L: KnownListener>(
     alloc: Global,
     listener: &L,
     names: &Names<'_>,
     why: InputStop,
-) -> Result<Bytes, Memory> {
+) -> Result<Bytes, Memory>
+    ensures { IsTrue (L.tells listener.now) → IfOk result (IsOfInputStop
+        (listener_seen L.quiet L.heard L.reads L.unread L.room listener.now) (named_by names.now) why) }
+{
     match why {
         InputStop::Refused(input, refusal) => {
             input_refused(alloc, listener, names, input, &refusal)
         }
-        InputStop::RulesRefused(refusal) => {
-            let source = listener.text_of(alloc, names.app, LARGEST_SOURCE + 1);
-            let text = listener.text_of(alloc, names.rules, MOST_LOOKED_AT);
-            rules_message(
-                alloc,
-                source.as_slice(),
-                names.rules.as_bytes(),
-                text.as_slice(),
-                refusal,
-            )
-        }
-        InputStop::LogRefused(refusal) => {
-            let source = listener.text_of(alloc, names.app, LARGEST_SOURCE + 1);
-            let text = listener.text_of(alloc, names.log, MOST_LOOKED_AT);
-            log_message(
-                alloc,
-                source.as_slice(),
-                names.log.as_bytes(),
-                text.as_slice(),
-                refusal,
-            )
-        }
+        InputStop::RulesRefused(refusal) => rules_refused(alloc, listener, names, refusal),
+        InputStop::LogRefused(refusal) => log_refused(alloc, listener, names, refusal),
         InputStop::SumRefused(refusal) => sum_refused(alloc, listener, names, refusal),
         InputStop::OtherRefused(refusal) => app_refused(alloc, listener, names.other, &refusal),
         InputStop::Unlike => Ok(Bytes::new(alloc)),
@@ -291,12 +364,15 @@ fn input_message<L: Listener>(
 }
 
 // What is told of a call that stopped so.
-fn message<L: Listener>(
+fn message<L: KnownListener>(
     alloc: Global,
     listener: &L,
     names: &Names<'_>,
     stop: Stop,
-) -> Result<Bytes, Memory> {
+) -> Result<Bytes, Memory>
+    ensures { IsTrue (L.tells listener.now) → IfOk result (IsOfStop
+        (listener_seen L.quiet L.heard L.reads L.unread L.room listener.now) (named_by names.now) stop) }
+{
     match stop {
         Stop::App(refusal) => app_refused(alloc, listener, names.app, &refusal),
         Stop::Cases(place, refusal) => {
@@ -310,14 +386,26 @@ fn message<L: Listener>(
     }
 }
 
-/// Tells a listener why a call stopped. If memory runs out it tells of that.
-pub fn tell<L: Listener>(alloc: Global, listener: &mut L, names: &Names<'_>, stop: Stop) {
-    if listener.is_quiet() {
+/// Tells a listener why a call stopped. If memory runs out it tells of that, and it tells nothing where `is_closed`:
+/// nobody reads the output any more.
+pub fn tell<L: KnownListener>(
+    alloc: Global,
+    listener: &mut L,
+    names: &Names<'_>,
+    stop: Stop,
+    is_closed: bool,
+)
+    ensures told { IsTrue (L.tells listener.old) →
+        (let who = listener_seen L.quiet L.heard L.reads L.unread L.room listener.old in
+        IsHeard is_closed (IsTold who (named_by names.now) stop) false who (L.heard listener.new)) }
+    ensures telling { L.tells listener.new ≡ L.tells listener.old }
+{
+    if is_closed || listener.is_quiet() {
         return;
     }
     match message(alloc, listener, names, stop) {
-        Ok(text) => hear_bytes(listener, text.as_slice()),
-        Err(Memory) => listener.hear(NO_MEMORY),
+        Ok(text) => listener.hear_all(text.as_slice()),
+        Err(Memory) => listener.hear_all(NO_MEMORY.as_bytes()),
     }
 }
 

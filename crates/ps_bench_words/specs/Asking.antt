@@ -1,6 +1,6 @@
 -- What the words of a call ask of the program. They are read as `clap` reads words: options stand before, between and
 -- after the others, `--` ends them, `--format=tap` and `--format tap` are the same.
-use Rattle.std.specs.Prelude.{◌≡◌, ◌⊎◌, ℕ, Bool, ◌==◌, List, [], Option, Some, None, codes, nat_le, nat_lt}
+use Rattle.std.specs.Prelude.{◌≡◌, ◌⊎◌, ℕ, Bool, ◌==◌, List, [], ◌∷◌, Option, Some, None, codes, nat_le, nat_lt}
 use Rattle.std.specs.Prelude.{if◌then◌else◌, unwrap_or}
 use Rattle.std.specs.List.{list_any}
 use Rattle.std.specs.Option.{option_map_or}
@@ -16,13 +16,14 @@ use Rattle.ps_bench_words.specs.declared.asking.Format.{Format}
 use Rattle.ps_bench_words.specs.declared.asking.Format.TheVariants.{Text, Tap, Junit}
 use Rattle.ps_bench_words.specs.declared.asking.Layout.{Layout}
 use Rattle.ps_bench_words.specs.declared.asking.Layout.TheVariants.{Text as AsText, Csv, Json, Vcd}
+use Rattle.ps_bench_words.specs.declared.pages.TheConstants as pages
 use Rattle.ps_cover.specs.declared.format.Format.{Format as Output}
 use Rattle.ps_cover.specs.declared.format.Format.TheVariants.{Text as InText, Json as InJson}
 use Rattle.ps_model.specs.declared.channel.Channel.{Channel}
 use Rattle.ps_model.specs.declared.channel.Channel.TheVariants.{A, B}
 use Rattle.ps_trace.specs.Words.{number_of}
 
--- What the words ask: a command with the names of its files, a page to be shown, or nothing that is taken.
+-- What the words ask: a command with the names of its files, a page to be shown, by its text, or nothing that is taken.
 pub data Asked : Type 0 where
   Test : (app : List ℕ) (cases : List (List ℕ)) (format : Format) → Asked
   Expand : (app cases : List ℕ) → Asked
@@ -36,7 +37,7 @@ pub data Asked : Type 0 where
   Sum : (files : List (List ℕ)) → Asked
   Report : (app : List ℕ) (cases : List (List ℕ)) (title : Option (List ℕ)) → Asked
   Live : (app : List ℕ) (names : Bool) → Asked
-  Page : Asked
+  Page : (text : List ℕ) → Asked
   NotTaken : Asked
 
 -- ---- the values of options
@@ -193,10 +194,33 @@ live_asks rows = Live (value_of (codes "APP") rows) (nat_lt 0 (count_of (codes "
 abbrev pub is_command : List ℕ → Bool
 is_command name = list_any (λ (s : Shape). bytes_eq s.name name) commands
 
+-- the page of this name among the last commands, and the program's where there is none of it
+abbrev pub later_page : List ℕ → List ℕ
+later_page name =
+    if bytes_eq name (codes "never") then pages.NEVER.now
+    else if bytes_eq name (codes "same") then pages.SAME.now
+    else if bytes_eq name (codes "campaign") then pages.CAMPAIGN.now
+    else if bytes_eq name (codes "sum") then pages.SUM.now
+    else if bytes_eq name (codes "report") then pages.REPORT.now
+    else if bytes_eq name (codes "live") then pages.LIVE.now
+    else if bytes_eq name (codes "help") then pages.HELP.now
+    else pages.PROGRAM.now
+
+-- the page of the command of this name, and of the program where there is none of it
+abbrev pub page_named : List ℕ → List ℕ
+page_named name =
+    if bytes_eq name (codes "test") then pages.TEST.now
+    else if bytes_eq name (codes "expand") then pages.EXPAND.now
+    else if bytes_eq name (codes "watch") then pages.WATCH.now
+    else if bytes_eq name (codes "trace") then pages.TRACE.now
+    else if bytes_eq name (codes "why") then pages.WHY.now
+    else if bytes_eq name (codes "cover") then pages.COVER.now
+    else later_page name
+
 -- `help`: the page of a command that there is, or of the program
 abbrev pub help_asks : Option (List ℕ) → Asked
-help_asks None = Page
-help_asks (Some name) = if is_command name then Page else NotTaken
+help_asks None = Page pages.PROGRAM.now
+help_asks (Some name) = if is_command name then Page (page_named name) else NotTaken
 
 -- what a command asks with what was given to it
 abbrev pub command_asks : List ℕ → List Row → Asked
@@ -230,9 +254,16 @@ IsForm words asked = (fault_of workbench words ≡ []) × (asked ≡ matched_ask
 abbrev pub IsRequest : ErrorKind → Type 0
 IsRequest kind = (kind ≡ DisplayHelp) ⊎ (kind ≡ DisplayVersion)
 
--- the words ask for help or for the version
-abbrev pub AsksPage : List (List ℕ) → Type 0
-AsksPage words = (kind : ErrorKind) × IsAmong kind (fault_of workbench words) × IsRequest kind
+-- the page that `--help` asks for: that of the command that the first word names, or of the program
+abbrev pub page_of : List (List ℕ) → List ℕ
+page_of [] = pages.PROGRAM.now
+page_of (word ∷ words) = page_named word
+
+-- the words ask for this page: for help, or for the version
+abbrev pub AsksPage : List (List ℕ) → List ℕ → Type 0
+AsksPage words text =
+    (IsAmong DisplayHelp (fault_of workbench words) × (text ≡ page_of words))
+    ⊎ (IsAmong DisplayVersion (fault_of workbench words) × (text ≡ pages.VERSION.now))
 
 -- `clap` finds a fault in the words
 abbrev pub IsFaulty : List (List ℕ) → Type 0
@@ -240,7 +271,7 @@ IsFaulty words = (kind : ErrorKind) × IsAmong kind (fault_of workbench words) �
 
 -- what is asked where `clap` finds a fault: the page that was asked for, or nothing that is taken
 abbrev pub IsTurnedAway : List (List ℕ) → Asked → Type 0
-IsTurnedAway words Page = AsksPage words
+IsTurnedAway words (Page text) = AsksPage words text
 IsTurnedAway words NotTaken = IsFaulty words
 IsTurnedAway words asked = ⊥
 

@@ -40,7 +40,7 @@ asked_seen (Campaign app trace from count channel print) = CampaignOf app.now tr
 asked_seen (Sum files) = SumOf (seen files.items)
 asked_seen (Report app cases title) = ReportOf app.now (seen cases.items) (option_map (λ text. text.now) title)
 asked_seen (Live app names) = LiveOf app.now names
-asked_seen (Page text) = PageOf
+asked_seen (Page text) = PageOf text.now
 asked_seen (NotTaken text) = NotTakenOf
 
 -- an argument that is given so

@@ -12,6 +12,7 @@ ghost use Rattle.ps_bench_words.specs.Asking.{Asked as AskedOf};
 ghost use Rattle.ps_bench_words.specs.Commands as commands;
 ghost use Rattle.ps_bench_words.specs.Seen.{IsAsked, asked_seen, seen};
 ghost use Rattle.ps_bench_words.specs.declared.forms.Form.{Form as FormOf};
+ghost use Rattle.ps_bench_words.specs.declared.pages.TheConstants as pages_of;
 
 use crate::command::{command_of, let_go, program};
 use crate::forms::{Form, of_campaigns, of_cases, of_pages, of_searches, of_traces};
@@ -143,7 +144,7 @@ pub enum Asked<'a> {
     },
     /// Help or the version was asked for: the page, for standard output.
     Page {
-        text: String,
+        text: &'a str,
     },
     /// The words are not taken: what is wrong, and the usage of their command, for standard error.
     NotTaken {
@@ -162,7 +163,7 @@ pub fn texts_of(alloc: Global, words: &Words) -> Result<Vec<&str>, Memory>
     Ok(texts)
 }
 
-// The text of an error, which is a page or what is wrong.
+// The text of an error: what is wrong with the words, and the usage of their command.
 fn text_of(alloc: Global, error: &Error) -> Result<String, Memory> {
     Ok(format!(in alloc; "{error}")?)
 }
@@ -202,11 +203,51 @@ fn wrong_value(alloc: Global, name: &str, why: &str) -> Result<String, Memory> {
     text_of(alloc, &error?)
 }
 
-// The page that `--help` shows after these words.
-fn shown_page(alloc: Global, words: &[&str]) -> Result<String, Memory> {
-    match program(alloc)?.try_get_matches_from(words) {
-        Ok(_) => Ok(String::new(alloc)),
-        Err(error) => text_of(alloc, &error),
+// The page of the program.
+fn program_page() -> &'static str
+    ensures { result.now ≡ pages_of.PROGRAM.now }
+{
+    pages::PROGRAM
+}
+
+// The page of this name among the last commands, and the program's where there is none of it.
+fn later_page(name: &str) -> &'static str
+    ensures { result.now ≡ asking.later_page name.now }
+{
+    match name {
+        "never" => pages::NEVER,
+        "same" => pages::SAME,
+        "campaign" => pages::CAMPAIGN,
+        "sum" => pages::SUM,
+        "report" => pages::REPORT,
+        "live" => pages::LIVE,
+        "help" => pages::HELP,
+        _ => program_page(),
+    }
+}
+
+// The page of the command of this name, and of the program where there is none of it.
+fn page_named(name: &str) -> &'static str
+    ensures { result.now ≡ asking.page_named name.now }
+{
+    match name {
+        "test" => pages::TEST,
+        "expand" => pages::EXPAND,
+        "watch" => pages::WATCH,
+        "trace" => pages::TRACE,
+        "why" => pages::WHY,
+        "cover" => pages::COVER,
+        _ => later_page(name),
+    }
+}
+
+// The page that `--help` asks for in these words: that of the command that the first one names, or of the program.
+fn page_of(words: &[&str]) -> &'static str
+    ensures { result.now ≡ asking.page_of (seen words.now) }
+{
+    match words.first() {
+        Some(word) => page_named(*word),
+        None => program_page(),
     }
 }
 
@@ -229,15 +270,18 @@ fn is_command(name: &str) -> bool
 }
 
 // What `help` asks about a command, or about the program.
-fn help_in<'a>(alloc: Global, name: Option<&str>) -> Result<Asked<'a>, Unread>
+fn help_in<'a>(name: Option<&str>) -> Result<Asked<'a>, Unread>
     ensures { IsAsked result (asking.help_asks (option_map (λ n. n.now) name.entry)) }
 {
-    let text = match name {
-        None => shown_page(alloc, &["--help"])?,
-        Some(name) if is_command(name) => shown_page(alloc, &[name, "--help"])?,
-        Some(_) => return Err(Unread::Wrong(pages::NO_COMMAND)),
-    };
-    Ok(Asked::Page { text })
+    match name {
+        None => Ok(Asked::Page {
+            text: program_page(),
+        }),
+        Some(name) if is_command(name) => Ok(Asked::Page {
+            text: page_named(name),
+        }),
+        Some(_) => Err(Unread::Wrong(pages::NO_COMMAND)),
+    }
 }
 
 // What a command asks with what was given to it.
@@ -257,7 +301,7 @@ fn command_in<'a>(alloc: Global, name: &str, values: &ArgMatches<'a>) -> Result<
         "sum" => sum_in(alloc, values),
         "report" => report_in(alloc, values),
         "live" => Ok(live_in(values)),
-        "help" => help_in(alloc, given_in(values, "COMMAND")),
+        "help" => help_in(given_in(values, "COMMAND")),
         _ => Err(Unread::Wrong(pages::NO_COMMAND)),
     }
 }
@@ -289,15 +333,18 @@ fn matched<'a>(alloc: Global, matches: &ArgMatches<'a>) -> Result<Asked<'a>, Mem
     }
 }
 
-// What an error of a parse asks: a page, or nothing that is taken.
-fn refused<'a>(alloc: Global, error: &Error) -> Result<Asked<'a>, Memory>
-    ensures { (words : List (List ℕ)) → HasKind (fault_of commands.workbench words) error.now →
-        IfOk result (λ asked. asking.IsTurnedAway words (asked_seen asked)) }
+// What an error of a parse of these words asks: a page, or nothing that is taken.
+fn refused<'a>(alloc: Global, words: &[&str], error: &Error) -> Result<Asked<'a>, Memory>
+    ensures { HasKind (fault_of commands.workbench (seen words.now)) error.now →
+        IfOk result (λ asked. asking.IsTurnedAway (seen words.now) (asked_seen asked)) }
 {
     match error.kind() {
         ErrorKind::OutOfMemory => Err(Memory),
-        ErrorKind::DisplayHelp | ErrorKind::DisplayVersion => Ok(Asked::Page {
-            text: text_of(alloc, error)?,
+        ErrorKind::DisplayHelp => Ok(Asked::Page {
+            text: page_of(words),
+        }),
+        ErrorKind::DisplayVersion => Ok(Asked::Page {
+            text: pages::VERSION,
         }),
         _ => Ok(Asked::NotTaken {
             text: text_of(alloc, error)?,
@@ -311,6 +358,6 @@ pub fn asked_of<'a>(alloc: Global, words: &'a [&'a str]) -> Result<Asked<'a>, Me
 {
     match program(alloc)?.try_get_matches_from(words) {
         Ok(matches) => matched(alloc, &matches),
-        Err(error) => refused(alloc, &error),
+        Err(error) => refused(alloc, words, &error),
     }
 }

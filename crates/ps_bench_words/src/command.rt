@@ -27,9 +27,7 @@ fn word_of<'a>(alloc: Global, argument: &Argument) -> Arg<'a>
     ensures rule { rule_of result ≡ record (word argument.now.id.now) { required = argument.now.required } }
     ensures local { result.global ≡ false }
 {
-    Arg::new(alloc, argument.id)
-        .help(argument.help)
-        .required(argument.required)
+    Arg::new(alloc, argument.id).required(argument.required)
 }
 
 // An argument.
@@ -64,8 +62,6 @@ fn bare_command<'a>(alloc: Global, form: &Form) -> Command<'a>
     ensures local { (fields_of result).has_globals ≡ false }
 {
     Command::new(alloc, form.name)
-        .about(form.about)
-        .after_help(form.example)
 }
 
 /// A command of this form. An error means out of memory.
@@ -88,8 +84,6 @@ fn bare_program<'a>(alloc: Global) -> Command<'a>
     ensures { app_of result ≡ commands.bare }
 {
     Command::new(alloc, pages::NAME)
-        .about(pages::PROGRAM)
-        .after_help(pages::PROGRAM_EXAMPLE)
         .version(pages::VERSION)
         .no_binary_name(true)
         .disable_help_subcommand(true)

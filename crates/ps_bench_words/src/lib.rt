@@ -1,8 +1,8 @@
 //! The words of a call of `plcsafe-bench`, and what they ask.
 //!
-//! `forms` is the table of the commands, with what their pages say; `command` makes of it what `clap` is asked to read,
-//! with its help, its version and its errors; `reading` reads what was given to a command, and `asking` says what the
-//! words ask of the program.
+//! `forms` is the table of the commands, and `command` makes of it what `clap` is asked to read; `pages` has the pages
+//! that help and the version show; `reading` reads what was given to a command, and `asking` says what the words ask of
+//! the program.
 #![tactic(auto)]
 
 mod asking;

@@ -1,10 +1,10 @@
-use Rattle.std.proofs.Common.{ℕ, List, Any, Bor, Err, IfErr, refl, ap, sym, subst, ◌∷◌, ◌∙◌}
+use Rattle.std.proofs.Common.{◌≡◌, ℕ, List, Any, Bor, Err, IfErr, refl, ap, sym, subst, ◌∷◌, ◌∙◌}
 use Rattle.std.specs.Prelude.{IfOk, map, option_map}
 use Rattle.std.proofs.lemmas.Result.{IfErr-weaker, err_from_is_err_and}
 use Rattle.std.proofs.lemmas.Simd.{map-map}
-use Rattle.ps_bench_frame.specs.Ending.{IsUnread}
+use Rattle.ps_bench_frame.specs.Ending.{IsUnread, stop_status}
 use Rattle.ps_bench_frame.specs.Meant.{file_meant}
-use Rattle.ps_bench_frame.specs.declared.ending.Status.TheVariants.{Done}
+use Rattle.ps_bench_frame.specs.declared.ending.Status.TheVariants.{Done, ReadFault, WriteFault}
 use Rattle.ps_bench_words.specs.Seen.{asked_seen, seen}
 use Rattle.ps_bench_words.specs.declared.asking.Asked.{Asked}
 use Rattle.ps_bench_watch.specs.LiveAsking.{fed}
@@ -35,6 +35,24 @@ returns-in_err-expand-in-Expand-clause-stops g c =
     (g.F.Files.tells c.args.files.now) (g.F.Files.held c.args.files.now)
     c.in_err-expand-in-Expand.field-0.0 (g.O.Sink.tells c.args.out.now) (g.O.Sink.taken c.args.out.now) (g.O.Sink.taken c.expand.new.out))
     (sym c.in-Expand.is) c.in_err-expand-in-Expand.ensures.stops)
+
+pub returns-in-Page-clause-answers : goal.returns-in-Page-clause-answers
+returns-in-Page-clause-answers g c =
+    subst (λ (asked : Asked). IfOk c.do_page.result (λ status. Answers (asked_seen asked) (fed (g.I.Stream.tells c.args.input.now) (g.I.Stream.coming c.args.input.now) (g.I.Stream.coming c.args.input.now))
+    (g.F.Files.tells c.args.files.now) (g.F.Files.held c.args.files.now)
+    status (g.O.Sink.tells c.args.out.now) (g.O.Sink.taken c.args.out.now) (g.O.Sink.taken c.do_page.new.out))) (sym c.in-Page.is)
+    c.do_page.ensures.answers
+
+pub returns-in-Page-clause-stops : goal.returns-in-Page-clause-stops
+returns-in-Page-clause-stops g c =
+    subst (λ (asked : Asked). IfErr c.do_page.result (λ stop. Stops (asked_seen asked) (fed (g.I.Stream.tells c.args.input.now) (g.I.Stream.coming c.args.input.now) (g.I.Stream.coming c.args.input.now))
+    (g.F.Files.tells c.args.files.now) (g.F.Files.held c.args.files.now)
+    stop (g.O.Sink.tells c.args.out.now) (g.O.Sink.taken c.args.out.now) (g.O.Sink.taken c.do_page.new.out))) (sym c.in-Page.is)
+    c.do_page.ensures.stops
+
+pub returns-in-Page-clause-unread : goal.returns-in-Page-clause-unread
+returns-in-Page-clause-unread g c = IfErr-weaker c.do_page.result _ _
+    (λ stop is unread. let none : WriteFault ≡ ReadFault = sym (ap stop_status is.0) ∙ unread in cc) c.do_page.ensures.stops
 
 pub returns-in-Test-clause-stops : goal.returns-in-Test-clause-stops
 returns-in-Test-clause-stops g c =

@@ -11,6 +11,7 @@ returns g c =
         asked,
         subst (λ words. Asks words asked) (ap seen c.as_slice.ensures.value ∙ c.in_ok-texts.ensures) c.in_ok-asked.ensures,
         c.end_asked.ensures.answers done,
+        c.end_asked.ensures.heard done,
       );
       cut_off = λ done. (
         asked,
@@ -19,5 +20,8 @@ returns g c =
         c.end_asked.ensures.unread,
       );
       unwritten = c.end_asked.ensures.unwritten;
+      handed_on = c.end_asked.ensures.handed_on;
       nothing = tt;
+      telling = c.end_asked.ensures.telling;
+      quiet = c.end_asked.ensures.quiet;
     }

@@ -27,5 +27,5 @@ pub returns-in-Err : goal.returns-in-Err
 returns-in-Err c =
     let words = seen c.args.words.now in
     IfOk-weaker c.refused.result _ _ (λ asked is. inr is)
-    (c.refused.ensures words (subst (λ (a : App). HasKind (fault_of a words) c.in-Err.error) c.in_ok-program.ensures
+    (c.refused.ensures (subst (λ (a : App). HasKind (fault_of a words) c.in-Err.error) c.in_ok-program.ensures
     (c.in-Err.ensures.kinds (ap is_simple_and_free c.in_ok-program.ensures ∙ free_app))))

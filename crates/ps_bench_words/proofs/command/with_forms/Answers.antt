@@ -15,8 +15,6 @@ abbrev no_form : Form
 no_form = record {
   name = no_text;
   call = no_text;
-  about = no_text;
-  example = no_text;
   arguments = record { ref_ptr = (0, 0); now = [] };
 }
 

@@ -1,0 +1,2 @@
+-- what is told of a call that stopped
+mod Told

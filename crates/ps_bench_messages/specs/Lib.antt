@@ -1,0 +1,2 @@
+-- what a person is told of a call that stopped: what a reader of the clauses has to believe
+pub mod Telling

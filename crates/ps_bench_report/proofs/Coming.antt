@@ -1,5 +1,5 @@
 -- What comes of a call with an application.
-use Rattle.std.proofs.Common.{◌≡◌, ◌≤◌, ◌∙◌, ◌++◌, ◌∷◌, ℕ, zero, Bool, IsTrue, List, Any, Option, Some, Result, Ok, Err, inl, inr, refl, ap, subst, arith}
+use Rattle.std.proofs.Common.{◌≡◌, ◌≤◌, ◌∙◌, ◌++◌, ◌∷◌, [], ℕ, zero, Bool, IsTrue, List, Any, Option, Some, Result, Ok, Err, inl, inr, refl, ap, subst, arith}
 use Rattle.std.proofs.lemmas.Result.{IfErr-weaker}
 use Rattle.std.specs.Prelude.{IfErr, IfOk}
 use Rattle.ps_bench_cover.specs.Leaving.{Leaves, LeavesOutput, Stays, sides}
@@ -22,7 +22,7 @@ use Rattle.ps_bench_report.specs.Results.{cases_rows, files_rows}
 use Rattle.ps_bench_report.specs.Running.{BeginsPages, EndsPage, MakesPage, ShowsFiles, Subject}
 use Rattle.ps_bench_report.specs.Writing.{written}
 use Rattle.ps_bench_report.specs.declared.running.Pages.{Pages}
-use Rattle.ps_bench_report.specs.Sections.{HaveSections, cases_of}
+use Rattle.ps_bench_report.specs.Sections.{HaveFileSections, cases_of}
 use Rattle.ps_bench_test.proofs.Stopped.{any_behind}
 use Rattle.ps_bench_test.specs.Testing.{AreRanFiles, FileRan, tally_of, tally_of_files}
 use Rattle.ps_bench_test.specs.Outcome.{none_told}
@@ -31,6 +31,8 @@ use Rattle.ps_bench_test.specs.declared.outcome.Tally.{Tally}
 use Rattle.ps_bench_words.specs.declared.asking.Format.TheVariants.{Text}
 use Rattle.ps_bench_report.proofs.Reading.{le_two}
 use Rattle.ps_bench_report.proofs.Covering.{told_of}
+use Rattle.ps_bench_report.proofs.Knowing.{all_back, coverage_known, files_known}
+use Rattle.ps_bench_report.specs.Known.{IsReadBack}
 use Rattle.ps_bench_report.proofs.Shown.{rows_of_cases, tally_of_cases}
 
 -- what was answered of an application, and why the call stopped, by how it ended
@@ -59,9 +61,9 @@ moved P net sizes r r' h h' t t' b b' r_is h_is t_is b_is holds =
     (subst (λ (x : List ℕ). P (source net sizes r' h') t' x) b_is holds)))
 
 module _ (from : Source) (wanted : Wanted) (tree : SourceTree) (text : List ℕ)
-    (held : IsTrue from.tells → from.held wanted.app ≡ Some text) (of_source : IsTrue from.tells → IsSourceOf from.held wanted.app tree)
+    (of : IsOfApp from wanted.app) (held : IsTrue from.tells → from.held wanted.app ≡ Some text) (of_source : IsTrue from.tells → IsSourceOf from.held wanted.app tree)
     (begun pages : Pages) (begins : BeginsPages from.net wanted.title wanted.app text begun)
-    (fs : List FileRan) (ran : AreRanFiles from wanted.app wanted.names fs) (shows : ShowsFiles from wanted.names fs begun pages) where
+    (fs : List FileRan) (ran : AreRanFiles from wanted.app wanted.names fs) (shows : ShowsFiles from 0 wanted.names fs begun pages) where
   abbrev of_app : Subject
   of_app = record { net = from.net; tree = tree; name = wanted.app; source = text }
 
@@ -70,6 +72,7 @@ module _ (from : Source) (wanted : Wanted) (tree : SourceTree) (text : List ℕ)
   report_is page makes =
       let front = front_pieces (title_text wanted.title wanted.app) wanted.app (digest_text text) in
       let rows = file_rows wanted.names shows.digests in
+      let back = all_back from wanted.app wanted.names shows.digests fs of shows.named ran in
       let in_front = shows.in_front makes.front in
       let in_rows = shows.in_rows makes.rows in
       let in_parts = shows.in_parts makes.sections in
@@ -85,14 +88,16 @@ module _ (from : Source) (wanted : Wanted) (tree : SourceTree) (text : List ℕ)
         digests = shows.digests;
         named = shows.named;
         sections = pages.sections.pieces;
-        drawn = subst (λ (t : List Piece). HaveSections (cases_of fs) t pages.sections.pieces) begins.sections in_parts.1;
+        drawn = files_known from.tells 0 fs [] pages.sections.pieces back
+            (subst (λ (t : List Piece). HaveFileSections IsReadBack 0 fs t pages.sections.pieces) begins.sections in_parts.1);
         source = text;
         held = held;
         tree = tree;
         of_source = of_source;
         told = makes.told;
         are = makes.are;
-        coverage = told_of from.net tree (cases_of fs) begun.cover pages.cover makes.told.coverage begins.whole begins.unseen shows.covers makes.coverage;
+        coverage = coverage_known from.tells from.net tree (cases_of fs) makes.told.coverage back
+            (told_of from.net tree (cases_of fs) begun.cover pages.cover makes.told.coverage begins.whole begins.unseen shows.covers makes.coverage);
         is = makes.is ∙ (λ i. written (front_is i ++ rows_are i ++ cases_front (total i) ++ pages.sections.pieces ++ back_pieces makes.told));
       }
 

@@ -4,6 +4,7 @@ use Rattle.std.specs.List.{AllByRecursion}
 use Rattle.std.specs.Prelude.{OnOk}
 use Rattle.std.proofs.lemmas.List.{map-append}
 use Rattle.ps_bench_report.specs.Covered.{CoversCases, CoversRun, IsCoverage, IsCoverageOf, IsMeant, steps_in, traces_in}
+use Rattle.ps_bench_report.specs.Known.{IsReadBack}
 use Rattle.ps_bench_report.specs.Taking.{cover_takes}
 use Rattle.ps_bench_report.specs.declared.filming.Both.{Both}
 use Rattle.ps_bench_test.specs.Outcome.{Ran}
@@ -105,17 +106,17 @@ none_covered net c states meant traces first whole knows =
 
 -- one case
 pub one_covered : (r : Ran) (old other new : Cover) →
-    ((states : Ran → List State) → IsMeant states r → CoversRun r.net (steps_in states r) other) → Joins old other new →
+    ((states : Ran → List State) → IsMeant IsReadBack states r → CoversRun r.net (steps_in states r) other) → Joins old other new →
     CoversCases r.net (r ∷ []) old new
 one_covered r old other new covers joins states meant traces first whole knows =
     let run = covers states meant.0 in
     joins_up r.net traces (steps_in states r) first old run.begun other new whole knows run.whole run.unseen run.knows joins
 
-meant_first : (states : Ran → List State) (rs ss : List Ran) → AllByRecursion (IsMeant states) (rs ++ ss) → AllByRecursion (IsMeant states) rs
+meant_first : (states : Ran → List State) (rs ss : List Ran) → AllByRecursion (IsMeant IsReadBack states) (rs ++ ss) → AllByRecursion (IsMeant IsReadBack states) rs
 meant_first states [] ss meant = tt
 meant_first states (r ∷ rs) ss meant = (meant.0, meant_first states rs ss meant.1)
 
-meant_rest : (states : Ran → List State) (rs ss : List Ran) → AllByRecursion (IsMeant states) (rs ++ ss) → AllByRecursion (IsMeant states) ss
+meant_rest : (states : Ran → List State) (rs ss : List Ran) → AllByRecursion (IsMeant IsReadBack states) (rs ++ ss) → AllByRecursion (IsMeant IsReadBack states) ss
 meant_rest states [] ss meant = meant
 meant_rest states (r ∷ rs) ss meant = meant_rest states rs ss meant.1
 
@@ -131,7 +132,7 @@ covered_behind net rs ss old mid new one two states meant traces first whole kno
 
 -- what is told of them by what was kept
 pub told_of : (net : Network) (tree : SourceTree) (rs : List Ran) (begun total : Cover) (text : List ℕ) → IsWhole net begun → IsUnseen begun →
-    CoversCases net rs begun total → IsCoverage net tree total text → IsCoverageOf net tree rs text
+    CoversCases net rs begun total → IsCoverage net tree total text → IsCoverageOf IsReadBack net tree rs text
 told_of net tree rs begun total text whole unseen covers (known, (rows, are, places, stand, is), said) = (
   rows,
   are,

@@ -8,6 +8,10 @@ pub mod Stopping
 pub mod Played
 -- what the scans of runs show of an application
 pub mod Covering
+-- the traces of cases are read as they were written, so that all is known of them
+pub mod Alone
+pub mod InputNames
+pub mod Knowing
 -- the scans that pictures show
 pub mod Picturing
 -- pieces that are added, cases and files that are shown, after others, and the text of their pages

@@ -46,10 +46,10 @@ module _ (net : Network) (sizes : ImageSizes) (tells : Bool) (held : List ℕ �
   digests_held (d ∷ e ∷ ds) named = absurd named.1
 
   -- how a call ends that ran its cases
-  pub ends_held : {X : Type 0} (app : List ℕ) (old new : Pages) (telling : Bool) (before after : List ℕ) (ended : Result X Stop) →
-      EndsFile (from_text net sizes text) app name old new telling before after ended →
-      EndsFile (source net sizes tells held) app name old new telling before after ended
-  ends_held app old new telling before after (Ok done) ends = (
+  pub ends_held : {X : Type 0} (app : List ℕ) (place : ℕ) (old new : Pages) (telling : Bool) (before after : List ℕ) (ended : Result X Stop) →
+      EndsFile (from_text net sizes text) app name place old new telling before after ended →
+      EndsFile (source net sizes tells held) app name place old new telling before after ended
+  ends_held app place old new telling before after (Ok done) ends = (
     ends.0,
     ends.1,
     record { name_is = ends.2.name_is; of_text = of_text_held ends.1.file ends.2.of_text; ran = ends.2.ran },
@@ -63,7 +63,7 @@ module _ (net : Network) (sizes : ImageSizes) (tells : Bool) (held : List ℕ �
       covers = ends.3.covers;
     },
   )
-  ends_held app old new telling before after (Err stop) ends = stops_held stop telling before after ends
+  ends_held app place old new telling before after (Err stop) ends = stops_held stop telling before after ends
 
 -- no count rises where there is none
 never_rose : Rose 0 0 → ⊥

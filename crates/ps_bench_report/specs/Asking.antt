@@ -14,8 +14,9 @@ use Rattle.ps_bench_words.specs.declared.asking.Format.TheVariants.{Text}
 use Rattle.ps_bench_report.specs.Contents.{page_pieces, title_text}
 use Rattle.ps_bench_report.specs.Covered.{IsCoverageOf}
 use Rattle.ps_bench_report.specs.Digests.{AreDigests, file_rows}
+use Rattle.ps_bench_report.specs.Known.{IsKnown}
 use Rattle.ps_bench_report.specs.Results.{files_rows}
-use Rattle.ps_bench_report.specs.Sections.{HaveSections, cases_of}
+use Rattle.ps_bench_report.specs.Sections.{HaveFileSections, cases_of}
 use Rattle.ps_bench_report.specs.Telling.{AreTexts}
 use Rattle.ps_bench_report.specs.Writing.{written}
 use Rattle.ps_bench_report.specs.declared.page.Piece.{Piece}
@@ -49,21 +50,21 @@ wanted_by asked = record {
 -- The text is the report of an application of this name and of the files of these names: all of their cases were run,
 -- the rows of its results are theirs, with their total, and so are the parts of the cases, each with its timing diagram.
 -- Around them stand the title, the SHA-256 of each file, the source, the notes, the demands, the coverage and what is
--- claimed. What a case whose trace is not read as it was written adds to the coverage is left open.
+-- claimed. The coverage and the diagrams are those of the runs that the cases mean, if the files tell what they hold.
 pub record IsReport (from : Source) (wanted : Wanted) (text : List ℕ) : Type 0 where
   pub files : List FileRan
   pub ran : AreRanFiles from wanted.app wanted.names files
   pub digests : List (List ℕ)
   pub named : AreDigests from wanted.names digests
   pub sections : List Piece
-  pub drawn : HaveSections (cases_of files) [] sections
+  pub drawn : HaveFileSections (IsKnown from.tells) 0 files [] sections
   pub source : List ℕ
   pub held : IsTrue from.tells → from.held wanted.app ≡ Some source
   pub tree : SourceTree
   pub of_source : IsTrue from.tells → IsSourceOf from.held wanted.app tree
   pub told : Texts
-  pub are : AreTexts from.net wanted.app source told
-  pub coverage : IsCoverageOf from.net tree (cases_of files) told.coverage
+  pub are : AreTexts from.net tree wanted.app source told
+  pub coverage : IsCoverageOf (IsKnown from.tells) from.net tree (cases_of files) told.coverage
   pub is : IsPageOf (page_pieces (title_text wanted.title wanted.app) wanted.app (digest_text source)
       (foot_text Text (tally_of_files none_told files)) (file_rows wanted.names digests) (files_rows files) sections told) text
 

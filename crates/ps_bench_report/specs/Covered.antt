@@ -1,11 +1,10 @@
 -- What the runs of cases show of an application, and what is told of that.
 use Rattle.std.specs.Prelude.{◌≡◌, ℕ, List, ◌++◌, map}
 use Rattle.std.specs.List.{AllByRecursion}
-use Rattle.ps_bench_cases.specs.Alone.{alone}
-use Rattle.ps_bench_cases.specs.Legible.{IsLegible}
 use Rattle.ps_bench_cases.specs.Meant.{items_of, whole_case}
 use Rattle.ps_bench_cover.specs.Standing.{places_of}
 use Rattle.ps_bench_cover.specs.Telling.{IsKept}
+use Rattle.ps_bench_report.specs.Known.{IsReadBack}
 use Rattle.ps_bench_test.specs.Outcome.{Ran}
 use Rattle.ps_cover.specs.Applying.{ScanStep, scans_of}
 use Rattle.ps_cover.specs.Covers.{Knows}
@@ -25,9 +24,9 @@ use Rattle.ps_parser.specs.Tree.{SourceTree}
 abbrev pub items_in : Ran → List Item
 items_in r = items_of r.net (whole_case r.file r.case)
 
--- The items of a case mean the states that are given for it, and its trace is read as it was written.
-pub record IsMeant (states : Ran → List State) (r : Ran) : Type 0 where
-  pub legible : IsLegible r.net (alone r.file r.case)
+-- A case is one of those of which it is known what they show, and its items mean the states that are given for it.
+pub record IsMeant (known : Ran → Type 0) (states : Ran → List State) (r : Ran) : Type 0 where
+  pub is_known : known r
   pub means : Meaning r.net (items_in r) (states r)
 
 -- the scans of its run, from the first state on
@@ -38,12 +37,12 @@ steps_in states r = scans_of r.net nothing (items_in r) (states r)
 abbrev pub traces_in : (states : Ran → List State) → List Ran → List (List ScanStep)
 traces_in states rs = map (steps_in states) rs
 
--- What `cover` tells of these scans, with what is excluded, and with the places of operands in this source: whichever
--- states the items of the cases mean, of which there is one list.
-abbrev pub IsCoverageOf : Network → SourceTree → List Ran → (text : List ℕ) → Type 0
-IsCoverageOf net tree rs text =
+-- What `cover` tells of the scans of cases, of each of which it is known what it shows, with what is excluded, and with
+-- the places of operands in this source: whichever states the items of the cases mean, of which there is one list.
+abbrev pub IsCoverageOf : (known : Ran → Type 0) → Network → SourceTree → List Ran → (text : List ℕ) → Type 0
+IsCoverageOf known net tree rs text =
     (rows : List Row) × AreRows net rows
-    × ((states : Ran → List State) → AllByRecursion (IsMeant states) rs →
+    × ((states : Ran → List State) → AllByRecursion (IsMeant known states) rs →
     text ≡ coverage_text (known_by net rows (places_of net tree) (traces_in states rs)) Text)
 
 -- A cover that had seen nothing of an application knows these scans.
@@ -58,9 +57,9 @@ pub record CoversRun (net : Network) (steps : List ScanStep) (c : Cover) : Type 
 abbrev pub IsCoverage : Network → SourceTree → Cover → (text : List ℕ) → Type 0
 IsCoverage net tree cover text = (known : Known) × IsKept net tree cover known × (text ≡ coverage_text known Text)
 
--- What was known after some traces is known after these and those of cases.
+-- What was known after some traces is known after these and those of cases whose traces are read as they were written.
 abbrev pub CoversCases : Network → List Ran → (old new : Cover) → Type 0
 CoversCases net rs old new =
-    (states : Ran → List State) → AllByRecursion (IsMeant states) rs →
+    (states : Ran → List State) → AllByRecursion (IsMeant IsReadBack states) rs →
     (traces : List (List ScanStep)) (first : Cover) → IsWhole net first → KnowsTraces net traces first old →
     KnowsTraces net (traces ++ traces_in states rs) first new

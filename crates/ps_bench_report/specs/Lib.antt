@@ -8,6 +8,7 @@ pub mod Texts
 pub mod Numbered
 pub mod Digests
 pub mod Telling
+pub mod Known
 pub mod Covered
 -- apparatus: how calls end that read files, run their cases, and write a page
 pub mod Running
@@ -29,6 +30,8 @@ pub mod Recording
 -- timing diagrams, and what they show of a case
 pub mod Diagram
 pub mod Changes
+pub mod Scale
+pub mod Ground
 pub mod Sheets
 pub mod Played
 -- what a recorder makes of the outcomes of a run

@@ -14,9 +14,10 @@ use Rattle.ps_outside.specs.declared.reading.ReadFail.TheVariants.{Fault, Memory
 use Rattle.ps_bench_report.specs.Contents.{back_pieces, cases_front, front_pieces, results_front, title_text}
 use Rattle.ps_bench_report.specs.Covered.{CoversCases, IsCoverage}
 use Rattle.ps_bench_report.specs.Digests.{AreDigests, file_rows}
+use Rattle.ps_bench_report.specs.Known.{IsReadBack}
 use Rattle.ps_bench_report.specs.Paged.{Adds, OnWhole, Paged}
 use Rattle.ps_bench_report.specs.Results.{cases_rows}
-use Rattle.ps_bench_report.specs.Sections.{HaveSections, cases_of}
+use Rattle.ps_bench_report.specs.Sections.{HaveFileSections, HaveSections, cases_of}
 use Rattle.ps_bench_report.specs.Telling.{AreTexts}
 use Rattle.ps_bench_report.specs.Writing.{written}
 use Rattle.ps_bench_report.specs.declared.running.Pages.{Pages}
@@ -53,38 +54,39 @@ pub record BeginsPages (net : Network) (title : Option (List ℕ)) (name source 
   pub whole : IsWhole net pages.cover
   pub unseen : IsUnseen pages.cover
 
--- After what pages show stands what is shown of these cases.
-pub record ShowsCases (net : Network) (rs : List Ran) (old new : Pages) : Type 0 where
+-- After what pages show stands what is shown of these cases of a file at this place among the words.
+pub record ShowsCases (net : Network) (place : ℕ) (rs : List Ran) (old new : Pages) : Type 0 where
   pub in_front : new.front ≡ old.front
   pub in_rows : Adds old.rows new.rows (cases_rows rs)
-  pub in_parts : OnWhole old.sections new.sections (HaveSections rs)
+  pub in_parts : OnWhole old.sections new.sections (HaveSections IsReadBack place rs)
   pub tally : new.tally ≡ tally_of old.tally rs
   pub covers : CoversCases net rs old.cover new.cover
 
--- After what pages show stands what is shown of the files of these names, and of their cases.
-pub record ShowsFiles (from : Source) (names : List (List ℕ)) (fs : List FileRan) (old new : Pages) : Type 0 where
+-- After what pages show stands what is shown of the files of these names, of which the first has this place among the
+-- words, and of their cases.
+pub record ShowsFiles (from : Source) (place : ℕ) (names : List (List ℕ)) (fs : List FileRan) (old new : Pages) : Type 0 where
   pub digests : List (List ℕ)
   pub named : AreDigests from names digests
   pub in_front : Adds old.front new.front (file_rows names digests)
   pub in_rows : Adds old.rows new.rows (cases_rows (cases_of fs))
-  pub in_parts : OnWhole old.sections new.sections (HaveSections (cases_of fs))
+  pub in_parts : OnWhole old.sections new.sections (HaveFileSections IsReadBack place fs)
   pub tally : new.tally ≡ tally_of old.tally (cases_of fs)
   pub covers : CoversCases from.net (cases_of fs) old.cover new.cover
 
--- How a call ends that runs the cases of the file of this name: all were run, and are shown, and nothing was written;
+-- How a call ends that runs the cases of the file of this name, at this place among the words: all were run, and are shown, and nothing was written;
 -- or it stops without the cases.
-abbrev pub EndsFile : {X : Type 0} → Source → (app name : List ℕ) → (old new : Pages) → (tells : Bool) →
+abbrev pub EndsFile : {X : Type 0} → Source → (app name : List ℕ) → (place : ℕ) → (old new : Pages) → (tells : Bool) →
     (before after : List ℕ) → Result X Stop → Type 0
-EndsFile from app name old new tells before after (Ok done) =
-    (after ≡ before) × (f : FileRan) × IsRanFile from app name f × ShowsFiles from (name ∷ []) (f ∷ []) old new
-EndsFile from app name old new tells before after (Err stop) =
+EndsFile from app name place old new tells before after (Ok done) =
+    (after ≡ before) × (f : FileRan) × IsRanFile from app name f × ShowsFiles from place (name ∷ []) (f ∷ []) old new
+EndsFile from app name place old new tells before after (Err stop) =
     StopsAtCases from name refused_line stop tells before after
 
 -- The same of a call that runs the cases of the files of these names, one file after another.
 abbrev pub EndsFiles : {X : Type 0} → Source → (app : List ℕ) → (names : List (List ℕ)) → (old new : Pages) →
     (tells : Bool) → (before after : List ℕ) → Result X Stop → Type 0
 EndsFiles from app names old new tells before after (Ok done) =
-    (after ≡ before) × (fs : List FileRan) × AreRanFiles from app names fs × ShowsFiles from names fs old new
+    (after ≡ before) × (fs : List FileRan) × AreRanFiles from app names fs × ShowsFiles from 0 names fs old new
 EndsFiles from app names old new tells before after (Err stop) =
     Any (λ (name : List ℕ). StopsAtCases from name refused_line stop tells before after) names
 
@@ -121,7 +123,7 @@ pub record MakesPage (of : Subject) (pages : Pages) (text : List ℕ) : Type 0 w
   pub rows : IsTrue pages.rows.whole
   pub sections : IsTrue pages.sections.whole
   pub told : Texts
-  pub are : AreTexts of.net of.name of.source told
+  pub are : AreTexts of.net of.tree of.name of.source told
   pub coverage : IsCoverage of.net of.tree pages.cover told.coverage
   pub is : text ≡ written ((pages.front.pieces ++ results_front) ++ pages.rows.pieces
       ++ cases_front (foot_text Text pages.tally) ++ pages.sections.pieces ++ back_pieces told)

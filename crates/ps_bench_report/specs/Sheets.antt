@@ -1,15 +1,17 @@
 -- The pictures of a case: which names are drawn, and which scans each picture shows.
 use Rattle.std.specs.Prelude.{◌≡◌, ℕ, suc, Bool, true, not, ◌+◌, ◌-◌, ◌*◌, ◌==◌, ◌||◌, List, [], ◌∷◌, ◌++◌, length, min, nat_le}
-use Rattle.std.specs.Prelude.{if◌then◌else◌}
+use Rattle.std.specs.Prelude.{codes, drop, if◌then◌else◌, map, nat_lt}
 use Rattle.std.specs.List.{flat_map, list_all}
 use Rattle.ps_bench_cases.specs.Meant.{whole_case}
-use Rattle.ps_bench_report.specs.declared.names.Tag.TheVariants.{Figure, Svg}
+use Rattle.ps_bench_report.specs.declared.names.Tag.TheVariants.{Figcaption, Figure, Svg}
 use Rattle.ps_bench_report.specs.declared.page.Piece.{Piece}
-use Rattle.ps_bench_report.specs.declared.page.Piece.TheVariants.{Begin, End, Inside}
+use Rattle.ps_bench_report.specs.declared.page.Piece.TheVariants.{Begin, End, Inside, Value}
 use Rattle.ps_bench_report.specs.declared.picture.TheConstants.{LANE, TOP}
 use Rattle.ps_model.specs.Network.{Network}
 use Rattle.ps_bench_report.specs.Changes.{changes_pieces}
 use Rattle.ps_bench_report.specs.Diagram.{lane_pieces, scan_pieces, shown_in, value_at}
+use Rattle.ps_bench_report.specs.Ground.{front_of}
+use Rattle.ps_bench_report.specs.Scale.{side_by_side, stand_of, unit_of}
 use Rattle.ps_bench_report.specs.declared.diagram.TheConstants.{FEW_NAMES}
 use Rattle.ps_bench_report.specs.declared.drawing.Lane.{Lane}
 use Rattle.ps_bench_report.specs.declared.scale.Scan.{Scan}
@@ -70,23 +72,58 @@ picture_pieces net marks lanes p =
 abbrev pub all_shown : List Picture → List Moment
 all_shown pictures = flat_map (λ (p : Picture). shown_in p.scans) pictures
 
--- Pictures show these scans, each once and in order.
-pub record ShowsPictures (net : Network) (marks : List Mark) (lanes : List Lane) (moments : List Moment)
+-- Pictures, of which the first has this number, show these scans: each as many of those that are left as it has room
+-- for, side by side, after what it is drawn on. After them these scans are left.
+abbrev pub AreDrawn : (id : List ℕ) → List Mark → List Lane → (unit number : ℕ) → List Moment → List Picture →
+    (left : List Moment) → Type 0
+AreDrawn id marks lanes unit number moments [] left = moments ≡ left
+AreDrawn id marks lanes unit number moments (p ∷ ps) left =
+    (p.front ≡ front_of id (min number 1000000) (height_of (length lanes)) lanes p.scans)
+    × (map stand_of p.scans ≡ side_by_side marks unit moments)
+    × AreDrawn id marks lanes unit (suc number) (drop (length p.scans) moments) ps left
+
+-- Pictures show these scans, each once and in order, and are called by this word within the page.
+pub record ShowsPictures (net : Network) (id : List ℕ) (marks : List Mark) (lanes : List Lane) (moments : List Moment)
     (before after : List Piece) : Type 0 where
   pub pictures : List Picture
   pub shows : all_shown pictures ≡ moments
+  pub drawn : AreDrawn id marks lanes (unit_of moments) 0 moments pictures []
   pub is : after ≡ before ++ flat_map (picture_pieces net marks lanes) pictures
 
--- What is recorded is shown by pictures of these names, which have words below them, and by a row for each scan.
-pub record ShowsSheet (net : Network) (r : Recording) (marks : List Mark) (lanes : List Lane)
+-- ---- what stands below the pictures
+
+-- what is said of names that are not drawn, if there are any
+abbrev pub names_left_out : (drawn all : ℕ) → List ℕ
+names_left_out drawn all = if nat_lt drawn all then codes " Of many names only those are drawn that change." else []
+
+-- what is said of scans that are not shown, if there are any that show a change
+abbrev pub scans_left_out : (is_cut : Bool) → List ℕ
+scans_left_out is_cut = if is_cut then codes " Only the first 400 changes are shown." else []
+
+-- what a picture shows of a case
+abbrev pub shown_text : List ℕ
+shown_text =
+    codes "Inputs, outputs, instances and what is expected of others; scans in which nothing changes are left out."
+
+-- what stands below the pictures of a recording, of which so many names are drawn
+abbrev pub caption_pieces : Recording → (drawn : ℕ) → List Piece
+caption_pieces r drawn =
+    Begin Figcaption ∷ Inside ∷ Value shown_text ∷ Value (names_left_out drawn (length r.names.items))
+    ∷ Value (scans_left_out r.is_cut) ∷ End Figcaption ∷ End Figure ∷ []
+
+-- What is recorded is shown by pictures of these names, with what is said of the others below them, and by a row for
+-- each scan.
+pub record ShowsSheet (net : Network) (id : List ℕ) (r : Recording) (marks : List Mark) (lanes : List Lane)
     (before after : List Piece) : Type 0 where
   pub pictures : List Picture
   pub shows : all_shown pictures ≡ r.moments.items
-  pub caption : List Piece
-  pub is : after ≡ before ++ (Begin Figure ∷ Inside ∷ []) ++ flat_map (picture_pieces net marks lanes) pictures ++ caption
+  pub drawn : AreDrawn id marks lanes (unit_of r.moments.items) 0 r.moments.items pictures []
+  pub is : after ≡ before ++ (Begin Figure ∷ Inside ∷ []) ++ flat_map (picture_pieces net marks lanes) pictures
+      ++ caption_pieces r (length lanes)
       ++ changes_pieces net r.names.items marks r.moments.items
 
--- The diagram of a case that was run, with what the case expects.
-abbrev pub ShowsDiagram : Ran → Recording → (before after : List Piece) → Type 0
-ShowsDiagram ran r before after =
-    ShowsSheet ran.net r (marks_in ran.outcome.failures.items (whole_case ran.file ran.case)) (lanes_of r) before after
+-- The diagram of a case that was run, with what the case expects. Its pictures are called by this word within the page.
+abbrev pub ShowsDiagram : Ran → (id : List ℕ) → Recording → (before after : List Piece) → Type 0
+ShowsDiagram ran id r before after =
+    ShowsSheet ran.net id r (marks_in ran.outcome.failures.items (whole_case ran.file ran.case)) (lanes_of r)
+    before after

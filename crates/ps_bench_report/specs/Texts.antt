@@ -34,24 +34,22 @@ of_page =
 -- what is claimed of texts
 abbrev pub of_texts : List ℕ
 of_texts =
-    codes "It is proved that the title, the SHA-256 of the files, the total of the results, the source with the numbers "
-    ++ codes "of its lines, the notes and the demands are those of the application and of its files. Where a note stands "
-    ++ codes "in the source is what the program computed: that is tried, and not proved."
+    codes "It is proved that the title, the SHA-256 of the files, the total of the results, the source with the "
+    ++ codes "numbers of its lines, the notes with their places and the demands are those of the application and of its files."
 
 -- what is claimed of diagrams
 abbrev pub of_diagrams : List ℕ
 of_diagrams =
     codes "Of the timing diagrams, and of the tables of what changes, it is proved that the values of a scan are those "
     ++ codes "of the run that the case means, that a scan which is left out has the values of the one that is shown "
-    ++ codes "before it, and that each expectation stands at its scan, with FAIL where it failed. All else of them is "
-    ++ codes "what the program computed: that is tried, and not proved."
+    ++ codes "before it, that each expectation stands at its scan, with FAIL where it failed, and how all of this is "
+    ++ codes "drawn. Which scans are left out is what the program computed: that is tried, and not proved."
 
 -- what is claimed of coverage
 abbrev pub of_coverage : List ℕ
 of_coverage =
     codes "A case that passes says nothing of other inputs, other times or other faults. Coverage counts what "
-    ++ codes "the cases have shown, and 100 % says no more than that. It is proved to be that of their runs, if the "
-    ++ codes "trace of each case is read as it was written."
+    ++ codes "the cases have shown, and 100 % says no more than that. It is proved to be that of their runs."
 
 -- the limits of what is claimed
 abbrev pub of_times : List ℕ

@@ -1,13 +1,14 @@
 // The timing diagram of a case, and what changed in it in a table.
 
-ghost use Rattle.std.specs.Prelude.{◌≡◌, ◌++◌, IfOk, OnOk, codes, if◌then◌else◌};
+ghost use Rattle.std.specs.Prelude.{◌≡◌, ◌++◌, IfOk, IsTrue, OnOk, codes, if◌then◌else◌, length};
 ghost use Rattle.std.specs.List.{flat_map};
 ghost use Rattle.ps_bench_report.specs.Diagram.{event_pieces, expected_pieces, fails, further_text, lane_pieces, mark_text};
 ghost use Rattle.ps_bench_report.specs.Diagram.{marks_at, marks_class, marks_text, scan_pieces, upright_pieces};
 ghost use Rattle.ps_bench_report.specs.Paged.{Adds, OnWhole};
 ghost use Rattle.ps_bench_report.specs.Picture.{words_pieces};
 ghost use Rattle.ps_bench_report.specs.Sheets.{ShowsDiagram, ShowsPictures, ShowsSheet, has_value, height_of, is_constant};
-ghost use Rattle.ps_bench_report.specs.Sheets.{is_drawn, lanes_of, picture_pieces, with_lane};
+ghost use Rattle.ps_bench_report.specs.Sheets.{caption_pieces, is_drawn, lanes_of, names_left_out, picture_pieces};
+ghost use Rattle.ps_bench_report.specs.Sheets.{scans_left_out, with_lane};
 ghost use Rattle.ps_bench_test.specs.Outcome.{ran_of};
 
 use crate::changes::add_changes;
@@ -246,9 +247,10 @@ pub(crate) fn height_of(lanes: usize) -> u32
 
 // A picture with this front.
 fn add_picture(page: &mut Page, sheet: &Sheet<'_>, front: Page, scans: &[Scan<'_>])
-    ensures { Adds page.old page.new
+    ensures added { Adds page.old page.new
         (picture_pieces sheet.now.app.now sheet.now.marks.now sheet.now.lanes.now
         (record { front = front.pieces; scans = scans.now })) }
+    ensures front { IsTrue page.new.whole → IsTrue front.whole }
 {
     let bottom = height_of(sheet.lanes.len()).saturating_sub(18);
     page.join(front);
@@ -259,8 +261,8 @@ fn add_picture(page: &mut Page, sheet: &Sheet<'_>, front: Page, scans: &[Scan<'_
 
 // The pictures of a case, one below another.
 fn add_pictures(page: &mut Page, sheet: &Sheet<'_>) -> Result<(), Memory>
-    ensures { OnOk result (OnWhole page.old page.new (ShowsPictures sheet.now.app.now sheet.now.marks.now
-        sheet.now.lanes.now sheet.now.recording.now.moments.items)) }
+    ensures { OnOk result (OnWhole page.old page.new (ShowsPictures sheet.now.app.now sheet.now.id.now
+        sheet.now.marks.now sheet.now.lanes.now sheet.now.recording.now.moments.items)) }
 {
     let moments = sheet.recording.moments.as_slice();
     let unit = unit_of(moments);
@@ -280,7 +282,9 @@ fn add_pictures(page: &mut Page, sheet: &Sheet<'_>) -> Result<(), Memory>
 }
 
 // What is said of names that are not drawn, if there are any.
-fn names_left_out(sheet: &Sheet<'_>) -> &'static [u8] {
+fn names_left_out(sheet: &Sheet<'_>) -> &'static [u8]
+    ensures { result.now ≡ names_left_out (length sheet.now.lanes.now) (length sheet.now.recording.now.names.items) }
+{
     if sheet.lanes.len() < sheet.recording.names.len() {
         b" Of many names only those are drawn that change."
     } else {
@@ -289,7 +293,9 @@ fn names_left_out(sheet: &Sheet<'_>) -> &'static [u8] {
 }
 
 // What is said of scans that are not shown, if there are any that show a change.
-fn scans_left_out(recording: &Recording) -> &'static [u8] {
+fn scans_left_out(recording: &Recording) -> &'static [u8]
+    ensures { result.now ≡ scans_left_out recording.now.is_cut }
+{
     if recording.is_cut {
         b" Only the first 400 changes are shown."
     } else {
@@ -298,7 +304,10 @@ fn scans_left_out(recording: &Recording) -> &'static [u8] {
 }
 
 // What stands below the pictures of a case: what of it is not drawn.
-fn caption_of(sheet: &Sheet<'_>) -> Page {
+fn caption_of(sheet: &Sheet<'_>) -> Page
+    ensures { IsTrue result.whole → result.pieces ≡
+        caption_pieces sheet.now.recording.now (length sheet.now.lanes.now) }
+{
     let mut page = Page::new(sheet.alloc);
     add_parts(
         &mut page,
@@ -318,8 +327,8 @@ fn caption_of(sheet: &Sheet<'_>) -> Page {
 
 // The pictures of a case, and what changed in it.
 fn add_sheet(page: &mut Page, sheet: &Sheet<'_>) -> Result<(), Memory>
-    ensures { OnOk result (OnWhole page.old page.new (ShowsSheet sheet.now.app.now sheet.now.recording.now
-        sheet.now.marks.now sheet.now.lanes.now)) }
+    ensures { OnOk result (OnWhole page.old page.new (ShowsSheet sheet.now.app.now sheet.now.id.now
+        sheet.now.recording.now sheet.now.marks.now sheet.now.lanes.now)) }
 {
     add_parts(page, &[Part::Open(Tag::Figure)]);
     add_pictures(page, sheet)?;
@@ -337,7 +346,7 @@ pub(crate) fn add_diagram(
     recording: &Recording,
     id: &[u8],
 ) -> Result<(), Memory>
-    ensures { OnOk result (OnWhole page.old page.new (ShowsDiagram (ran_of run.now) recording.now)) }
+    ensures { OnOk result (OnWhole page.old page.new (ShowsDiagram (ran_of run.now) id.now recording.now)) }
 {
     let marks = marks_of(alloc, run.file, run.case, run.outcome.failures.as_slice())?;
     let lanes = lanes_of(alloc, recording)?;

@@ -3,7 +3,7 @@
 ghost use Rattle.std.specs.Prelude.{◌≡◌, ◌≤◌, ◌∷◌, ◌++◌, ℕ, List, Any, IfOk, IfErr, IsErrOf, IsTrue, Some, option_map};
 ghost use Rattle.ps_bench_cover.specs.Leaving.{Leaves, LeavesOutput, sides};
 ghost use Rattle.ps_bench_frame.specs.Ending.{IsUnread};
-ghost use Rattle.ps_bench_frame.specs.Opening.{source};
+ghost use Rattle.ps_bench_frame.specs.Opening.{IsOfApp, source};
 ghost use Rattle.ps_bench_frame.specs.Sourcing.{IsSourceOf};
 ghost use Rattle.ps_bench_words.specs.Seen.{seen};
 ghost use Rattle.ps_model.specs.Typing.{Accepted};
@@ -174,6 +174,9 @@ fn report_app<F: Files, O: Output>(
     asked: &Asked<'_>,
 ) -> Result<Status, Stop>
     requires accepted { Accepted sourced.now.opened.app }
+    requires app { IsOfApp
+        (source sourced.now.opened.app sourced.now.opened.sizes (F.tells files.old) (F.held files.old))
+        asked.now.app.now }
     requires text { IsTrue (F.tells files.old) → F.held files.old asked.now.app.now ≡ Some sourced.now.opened.text }
     requires source { IsTrue (F.tells files.old) →
         IsSourceOf (F.held files.old) asked.now.app.now sourced.now.source }

@@ -83,7 +83,7 @@ fn run_case(
     requires runnable { IsRunnable bench.now.opened.now.app (whole_case named.now.file.now case.now) }
     ensures { OnOk result ((r : Ran)
         × IsRan bench.now.opened.now.app bench.now.name.now named.now.name.now named.now.file.now case.now r
-        × ShowsCases bench.now.opened.now.app (r ∷ []) pages.old pages.new) }
+        × ShowsCases bench.now.opened.now.app named.now.place (r ∷ []) pages.old pages.new) }
 {
     let app = &bench.opened.app;
     let outcome = outcome_of(bench.alloc, app, named.file, case)?;
@@ -114,7 +114,7 @@ fn run_cases(
         IsRunnable bench.now.opened.now.app (whole_case named.now.file.now case)) cases.now }
     ensures { OnOk result ((rs : List Ran)
         × AreRan bench.now.opened.now.app bench.now.name.now named.now.name.now named.now.file.now cases.now rs
-        × ShowsCases bench.now.opened.now.app rs pages.old pages.new) }
+        × ShowsCases bench.now.opened.now.app named.now.place rs pages.old pages.new) }
 {
     for case in cases {
         run_case(bench, named, case, pages)?;
@@ -166,7 +166,7 @@ fn run_read<F: Files, O: Output>(
     requires { Accepted bench.now.opened.now.app }
     ensures ends { EndsFile
         (source bench.now.opened.now.app bench.now.opened.now.sizes (F.tells files.old) (F.held files.old))
-        bench.now.name.now name.now pages.old pages.new (O.tells out.old) (O.taken out.old) (O.taken out.new) result }
+        bench.now.name.now name.now place pages.old pages.new (O.tells out.old) (O.taken out.old) (O.taken out.new) result }
     ensures leaves { Leaves (Rose (F.faults files.old name.now) (F.faults files.new name.now))
         (sides (F.tells files.old) (F.held files.old) (F.faults files.old) (O.tells out.old) (O.faults out.old))
         (sides (F.tells files.new) (F.held files.new) (F.faults files.new) (O.tells out.new) (O.faults out.new))
@@ -205,7 +205,7 @@ fn run_file<F: Files, O: Output>(
     requires { Accepted bench.now.opened.now.app }
     ensures ends { EndsFile
         (source bench.now.opened.now.app bench.now.opened.now.sizes (F.tells files.old) (F.held files.old))
-        bench.now.name.now name.now pages.old pages.new (O.tells out.old) (O.taken out.old) (O.taken out.new) result }
+        bench.now.name.now name.now place pages.old pages.new (O.tells out.old) (O.taken out.old) (O.taken out.new) result }
     ensures leaves { Leaves (Rose (F.faults files.old name.now) (F.faults files.new name.now))
         (sides (F.tells files.old) (F.held files.old) (F.faults files.old) (O.tells out.old) (O.faults out.old))
         (sides (F.tells files.new) (F.held files.new) (F.faults files.new) (O.tells out.new) (O.faults out.new))

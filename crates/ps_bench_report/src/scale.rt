@@ -1,7 +1,8 @@
 // Where scans stand in a picture: time to scale, with breaks where nothing happens for long.
 
-ghost use Rattle.std.specs.Prelude.{◌≡◌, ◌<◌, IfOk, length, take};
+ghost use Rattle.std.specs.Prelude.{◌≡◌, ◌<◌, IfOk, length, map, take};
 ghost use Rattle.ps_bench_report.specs.Diagram.{shown_in};
+ghost use Rattle.ps_bench_report.specs.Scale.{is_expected, side_by_side, stand_of, unit_of, width_of};
 
 use crate::marks::Mark;
 use crate::picture::LEFT;
@@ -35,7 +36,9 @@ pub(crate) struct Scan<'a> {
 }
 
 /// The shortest time between scans that are shown, in ms; 1 where there is none.
-pub(crate) fn unit_of(moments: &[Moment]) -> u32 {
+pub(crate) fn unit_of(moments: &[Moment]) -> u32
+    ensures { result ≡ unit_of moments.now }
+{
     let mut unit = u32::MAX;
     for moment in moments {
         if moment.wait > 0 && moment.wait < unit {
@@ -46,7 +49,9 @@ pub(crate) fn unit_of(moments: &[Moment]) -> u32 {
 }
 
 // Whether something is expected of a scan.
-fn is_expected(moment: &Moment, marks: &[Mark]) -> bool {
+fn is_expected(moment: &Moment, marks: &[Mark]) -> bool
+    ensures { result ≡ is_expected moment.entry.now marks.now }
+{
     for mark in marks {
         if mark.scan == moment.scan {
             return true;
@@ -56,7 +61,9 @@ fn is_expected(moment: &Moment, marks: &[Mark]) -> bool {
 }
 
 // How wide a scan is to scale, and at least as wide as what stands above it.
-fn width_of(moment: &Moment, marks: &[Mark], unit: u32) -> u32 {
+fn width_of(moment: &Moment, marks: &[Mark], unit: u32) -> u32
+    ensures { result ≡ width_of moment.entry.now marks.now unit }
+{
     let width = moment
         .wait
         .saturating_mul(LEAST_WIDTH)
@@ -77,6 +84,7 @@ pub(crate) fn scans_of<'a>(
     unit: u32,
 ) -> Result<Vec<Scan<'a>>, Memory>
     ensures shown { IfOk result (λ scans. shown_in scans.items ≡ take (length scans.items) moments.now) }
+    ensures stands { IfOk result (λ scans. map stand_of scans.items ≡ side_by_side marks.now unit moments.now) }
     ensures some { IfOk result (λ scans. 0 < length moments.now → 0 < length scans.items) }
 {
     let mut scans = Vec::new(alloc);

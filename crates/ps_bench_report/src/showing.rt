@@ -1,12 +1,13 @@
 // The part of a case in a report, and what its scans show of the application.
 
-ghost use Rattle.std.specs.Prelude.{◌∷◌, [], OnOk};
+ghost use Rattle.std.specs.Prelude.{◌≡◌, ◌∷◌, [], IfOk, OnOk};
 ghost use Rattle.ps_bench_cases.specs.Meant.{whole_case};
 ghost use Rattle.ps_bench_cases.specs.Runnable.{IsRunnable};
 ghost use Rattle.ps_model.specs.Typing.{Accepted};
 ghost use Rattle.ps_bench_report.specs.Covered.{CoversCases};
+ghost use Rattle.ps_bench_report.specs.Known.{IsReadBack};
 ghost use Rattle.ps_bench_report.specs.Paged.{OnWhole};
-ghost use Rattle.ps_bench_report.specs.Sections.{HasDiagram, HasSection};
+ghost use Rattle.ps_bench_report.specs.Sections.{HasDiagram, HasSection, case_id};
 ghost use Rattle.ps_bench_test.specs.Outcome.{ran_of};
 
 use crate::diagram::add_diagram;
@@ -23,7 +24,9 @@ use ps_cover::Cover;
 use std::alloc::Global;
 
 // What the pictures of a case are called within the page: by the place of its file and its line.
-fn id_of(alloc: Global, place: usize, line: u32) -> Result<Bytes, Memory> {
+fn id_of(alloc: Global, place: usize, line: u32) -> Result<Bytes, Memory>
+    ensures { IfOk result (λ id. id ≡ case_id place line) }
+{
     let mut id = Bytes::from_slice(alloc, b"case-")?;
     add_short(&mut id, place.min(1_000_000) as u32)?;
     id.extend_from_slice(b"-")?;
@@ -41,7 +44,7 @@ fn add_drawn(
 ) -> Result<(), Memory>
     requires accepted { Accepted run.now.app.now }
     requires runnable { IsRunnable run.now.app.now (whole_case run.now.file.now run.now.case.now) }
-    ensures drawn { OnOk result (OnWhole page.old page.new (HasDiagram (ran_of run.now))) }
+    ensures drawn { OnOk result (OnWhole page.old page.new (HasDiagram IsReadBack place (ran_of run.now))) }
     ensures covers { OnOk result (CoversCases run.now.app.now (ran_of run.now ∷ []) total.old total.new) }
 {
     match record_case(alloc, run.app, run.file, run.case)? {
@@ -68,7 +71,7 @@ pub(crate) fn add_section(
 ) -> Result<(), Memory>
     requires accepted { Accepted run.now.app.now }
     requires runnable { IsRunnable run.now.app.now (whole_case run.now.file.now run.now.case.now) }
-    ensures shown { OnOk result (OnWhole page.old page.new (HasSection (ran_of run.now))) }
+    ensures shown { OnOk result (OnWhole page.old page.new (HasSection IsReadBack place (ran_of run.now))) }
     ensures covers { OnOk result (CoversCases run.now.app.now (ran_of run.now ∷ []) total.old total.new) }
 {
     let told = case_report(alloc, Format::Text, &Tally::none(), run)?;

@@ -8,7 +8,7 @@ ghost use Rattle.ps_bench_report.specs.Contents.{back_pieces, claims_part, texts
 ghost use Rattle.ps_bench_report.specs.Covered.{IsCoverage};
 ghost use Rattle.ps_bench_report.specs.Numbered.{margin, numbered, numbered_line};
 ghost use Rattle.ps_bench_report.specs.Paged.{Adds};
-ghost use Rattle.ps_bench_report.specs.Telling.{AreDemands, AreNotes, AreTexts};
+ghost use Rattle.ps_bench_report.specs.Telling.{AreDemands, AreTexts, notes_text};
 
 use crate::names::Tag;
 use crate::page::Page;
@@ -79,9 +79,9 @@ fn lines_of(alloc: Global, name: &[u8], app: &App, notes: &[Placed]) -> Result<B
     Ok(lines)
 }
 
-// The notes on an application from a file of this name, each in a line.
+// The notes on an application of this source, from a file of this name, each in a line with its place.
 fn notes_of(alloc: Global, name: &[u8], source: &Source, app: &App) -> Result<Bytes, Memory>
-    ensures { IfOk result (AreNotes app.now name.now) }
+    ensures { IfOk result (λ notes. notes ≡ notes_text app.now source.now name.now) }
 {
     let placed = placed_notes(alloc, source, app)?;
     lines_of(alloc, name, app, placed.as_slice())
@@ -159,7 +159,8 @@ pub(crate) struct Shown<'a> {
 /// The texts of a report on an application.
 pub(crate) fn texts_of(alloc: Global, shown: &Shown<'_>) -> Result<Texts, Memory>
     requires { Accepted shown.now.app.now }
-    ensures texts { IfOk result (AreTexts shown.now.app.now shown.now.name.now shown.now.text.now) }
+    ensures texts { IfOk result (AreTexts shown.now.app.now shown.now.source.now shown.now.name.now
+        shown.now.text.now) }
     ensures coverage { IfOk result (λ texts.
         IsCoverage shown.now.app.now shown.now.source.now shown.now.cover.now texts.coverage) }
 {
@@ -187,20 +188,19 @@ const OF_PAGE: &[u8] =
 
 const OF_TEXTS: &[u8] =
     b"It is proved that the title, the SHA-256 of the files, the total of the results, the \
-    source with the numbers of its lines, the notes and the demands are those of the application and of its files. \
-    Where a note stands in the source is what the program computed: that is tried, and not proved.";
+    source with the numbers of its lines, the notes with their places and the demands are those of the application and \
+    of its files.";
 
 // What is claimed of diagrams, and of coverage.
 const OF_DIAGRAMS: &[u8] =
     b"Of the timing diagrams, and of the tables of what changes, it is proved that the values of \
     a scan are those of the run that the case means, that a scan which is left out has the values of the one that is \
-    shown before it, and that each expectation stands at its scan, with FAIL where it failed. All else of them is what \
-    the program computed: that is tried, and not proved.";
+    shown before it, that each expectation stands at its scan, with FAIL where it failed, and how all of this is \
+    drawn. Which scans are left out is what the program computed: that is tried, and not proved.";
 
 const OF_COVERAGE: &[u8] =
     b"A case that passes says nothing of other inputs, other times or other faults. Coverage \
-    counts what the cases have shown, and 100 % says no more than that. It is proved to be that of their runs, if the \
-    trace of each case is read as it was written.";
+    counts what the cases have shown, and 100 % says no more than that. It is proved to be that of their runs.";
 
 // The limits of what is claimed.
 const OF_TIMES: &[u8] =

@@ -1,6 +1,6 @@
-use Rattle.std.proofs.Common.{◌∷◌, ◌∙◌, ℕ, List, Option, Err, ap, inl, sym, subst}
+use Rattle.std.proofs.Common.{◌∷◌, ◌∙◌, ℕ, true, List, Option, Err, ap, inl, refl, sym, subst}
 use Rattle.ps_bench_frame.proofs.Stopped.{rose_since}
-use Rattle.ps_bench_frame.specs.Opening.{Source, source}
+use Rattle.ps_bench_frame.specs.Opening.{IsOfApp, Source, source}
 use Rattle.ps_bench_frame.specs.Sourcing.{IsSourceOf}
 use Rattle.ps_bench_frame.specs.declared.ending.Stop.TheVariants.{Unwritten}
 use Rattle.ps_bench_words.specs.Seen.{seen}
@@ -8,6 +8,15 @@ use Rattle.ps_bench_report.specs.Asking.{Ends, wanted_by}
 use Rattle.ps_bench_report.proofs.Coming.{answered, moved, stopped, unread_first, unread_since}
 use Rattle.ps_bench_report.proofs.Reading.{le_two, of_err, same_two}
 use Rattle.ps_bench_report.proofs.reporting.report.Goals as goal
+
+pub report_app-requires-clause-app : goal.report_app-requires-clause-app
+report_app-requires-clause-app g c =
+    let is = c.in-Ok.ensures in
+    let net = c.in-Ok.sourced.opened.app in
+    let sizes = c.in-Ok.sourced.opened.sizes in
+    λ tells.
+    subst (λ (h : List ℕ → Option (List ℕ)). IsOfApp (source net sizes true h) c.args.asked.now.app.now) (sym is.kept)
+    (λ told. is.app (sym is.reading ∙ tells)) refl
 
 pub report_app-requires-clause-text : goal.report_app-requires-clause-text
 report_app-requires-clause-text g c =

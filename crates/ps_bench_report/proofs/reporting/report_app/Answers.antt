@@ -42,7 +42,7 @@ returns-in-Ok-run_files g c =
     let after = g.O.Sink.taken c.write_report.new.out in
     record {
       ends = moved (λ (x : Source) tells taken. Ends x wanted tells taken after ended) net sizes r r h h t t' b b' refl refl filed.stays.telling ran.0
-          (reported (source net sizes r h) wanted c.args.sourced.now.source c.args.sourced.now.opened.text c.requires.text c.requires.source
+          (reported (source net sizes r h) wanted c.args.sourced.now.source c.args.sourced.now.opened.text c.requires.app c.requires.text c.requires.source
           c.in-Ok.pages pages c.in-Ok.ensures ran.1 ran.2 ran.3 t' b' after ended c.write_report.ensures.ends);
       leaves = written_behind (Any (λ (name : List ℕ). Rose (f name) (f' name)) (app ∷ names)) r (g.F.Files.tells c.run_files.new.files) h
           (g.F.Files.held c.run_files.new.files) f f' t t' (g.O.Sink.tells c.write_report.new.out) w w' (g.O.Sink.faults c.write_report.new.out) ended

@@ -19,7 +19,7 @@ returns c = IfOk-weaker c.text_of.result _ _
       rows = is.rows;
       sections = is.sections;
       told = texts;
-      are = subst (λ (t : List ℕ). AreTexts sourced.opened.app c.args.asked.now.app.now t texts) c.as_slice-2.ensures c.in_ok-texts.ensures.texts;
+      are = subst (λ (t : List ℕ). AreTexts sourced.opened.app sourced.source c.args.asked.now.app.now t texts) c.as_slice-2.ensures c.in_ok-texts.ensures.texts;
       coverage = c.in_ok-texts.ensures.coverage;
       is = is.is ∙ (λ i. written (opened.1 i ++ old.rows.pieces ++ between_is i ++ old.sections.pieces ++ back_is i));
     }) c.text_of.ensures

@@ -15,6 +15,6 @@ returns c =
     } in (
       r,
       record { net_is = refl; app_is = refl; name_is = refl; file_is = refl; case_is = refl; outcome = c.in_ok-outcome.ensures },
-      one_shown r c.args.pages.now c.add_case.new.page c.add_section.new.page c.add_section.new.total c.add_case.ensures c.in_ok-add_section.ensures.shown c.in_ok-add_section.ensures.covers
+      one_shown c.args.named.now.place r c.args.pages.now c.add_case.new.page c.add_section.new.page c.add_section.new.total c.add_case.ensures c.in_ok-add_section.ensures.shown c.in_ok-add_section.ensures.covers
           c.and-pages.result (c.and-pages.ensures ∙ ap (counted c.args.pages.now.tally) c.passed.ensures),
     )

@@ -7,7 +7,7 @@ use Rattle.ps_bench_report.proofs.Shown.{none_shown, shown_behind}
 use Rattle.ps_bench_report.proofs.running.run_cases.Goals as goal
 
 pub loop-case-init : goal.loop-case-init
-loop-case-init c = ([], tt, none_shown c.args.bench.now.opened.now.app c.args.pages.now)
+loop-case-init c = ([], tt, none_shown c.args.bench.now.opened.now.app c.args.named.now.place c.args.pages.now)
 
 pub loop-case-preserved : goal.loop-case-preserved
 loop-case-preserved c =
@@ -23,7 +23,7 @@ loop-case-preserved c =
       subst (λ cs. AreRan net word name file cs (old.0 ++ new.0 ∷ []))
           (sym (item_more c.args.cases.now place c.case-item.result below c.case-item.is))
           (are_more net word name file (take place c.args.cases.now) c.case-item.result old.0 new.0 old.1 new.1),
-      shown_behind net old.0 (new.0 ∷ []) c.args.pages.now c.loop-case.pages c.run_case.new.pages old.2 new.2,
+      shown_behind net c.args.named.now.place old.0 (new.0 ∷ []) c.args.pages.now c.loop-case.pages c.run_case.new.pages old.2 new.2,
     )
 
 pub run_case-requires-clause-runnable : goal.run_case-requires-clause-runnable

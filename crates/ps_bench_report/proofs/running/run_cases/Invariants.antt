@@ -8,4 +8,4 @@ abbrev pub invariant-loop-case : goal.invariant-loop-case
 invariant-loop-case l =
     (rs : List Ran)
     × AreRan l.bench.opened.now.app l.bench.name.now l.named.name.now l.named.file.now (take l.case-index l.cases) rs
-    × ShowsCases l.bench.opened.now.app rs l.fn.pages l.pages
+    × ShowsCases l.bench.opened.now.app l.named.place rs l.fn.pages l.pages

@@ -36,7 +36,7 @@ returns-in-Ok-Some g c =
     let pages = c.args.pages.now in
     let pages' = c.run_read.new.pages in
     record {
-      ends = ends_held net sizes r h name text there app pages pages' t (g.O.Sink.taken c.args.out.now)
+      ends = ends_held net sizes r h name text there app c.args.place pages pages' t (g.O.Sink.taken c.args.out.now)
           (g.O.Sink.taken c.run_read.new.out) c.run_read.result c.run_read.ensures.ends;
       leaves = leaves_held (Rose (f name) (f' name)) text _ r r' h h' f f' t t' w w' c.run_read.result is.reading is.kept is.reads c.run_read.ensures.leaves;
     }
@@ -66,7 +66,7 @@ returns-in-Ok-None g c =
     let after = sides (g.F.Files.tells ran.new.files) (g.F.Files.held ran.new.files) f'' (g.O.Sink.tells ran.new.out) (g.O.Sink.faults ran.new.out) in
     let stays : Stays before middle = record { reading = is.reading; kept = is.kept; reads = is.reads; telling = refl; writes = (same before).writes } in
     record {
-      ends = moved (λ (x : Source) tells taken. EndsFile x app name pages pages' tells taken
+      ends = moved (λ (x : Source) tells taken. EndsFile x app name c.args.place pages pages' tells taken
           (g.O.Sink.taken ran.new.out) ran.result) net sizes r r' h h' t t b b is.reading is.kept refl refl ran.ensures.ends;
       leaves = behind before middle after ran.result (Rose (f' name) (f'' name)) (Rose (f name) (f'' name)) stays ran.ensures.leaves
           (rose_since (f name) (f' name) (f'' name) (is.reads name));

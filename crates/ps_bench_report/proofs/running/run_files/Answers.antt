@@ -1,5 +1,5 @@
 use Rattle.std.proofs.Common.{◌<◌, ◌≤◌, ◌+◌, ◌∙◌, ◌++◌, ◌∷◌, [], ℕ, List, Any, Bor, Err, length, take, get_or, refl, sym, ap, subst, arith}
-use Rattle.std.proofs.lemmas.List.{take_all}
+use Rattle.std.proofs.lemmas.List.{length_push, take_all}
 use Rattle.ps_bench_cover.proofs.Leaving.{behind, both, done, same}
 use Rattle.ps_bench_cover.specs.Leaving.{sides}
 use Rattle.ps_bench_frame.proofs.Stopped.{rose_since}
@@ -21,7 +21,8 @@ loop-name-init g c = record {
   ran = (
     [],
     tt,
-    none_filed (source c.args.bench.now.opened.now.app c.args.bench.now.opened.now.sizes (g.F.Files.tells c.args.files.now) (g.F.Files.held c.args.files.now)) c.args.pages.now,
+    none_filed (source c.args.bench.now.opened.now.app c.args.bench.now.opened.now.sizes (g.F.Files.tells c.args.files.now) (g.F.Files.held c.args.files.now)) 0 c.args.pages.now,
+    refl,
   );
   place = refl;
   unsaid = refl;
@@ -62,10 +63,12 @@ loop-name-preserved g c =
         subst (λ ns. AreRanFiles from word ns (old.0 ++ new.1 ∷ [])) (sym (seen_more names place none below))
             (are_more_files from word (seen (take place names)) name old.0 new.1 old.1
             (moved (λ (x : Source) tells taken. IsRanFile x word name new.1) net sizes r r' h h' t t' b b' inv.stays.reading inv.stays.kept inv.stays.telling inv.unsaid new.2)),
-        subst (λ ns. ShowsFiles from ns (old.0 ++ new.1 ∷ []) c.args.pages.now c.run_file.new.pages) (sym (seen_more names place none below))
-            (filed_behind from (seen (take place names)) (name ∷ []) old.0 (new.1 ∷ []) c.args.pages.now c.loop-name.pages c.run_file.new.pages old.2
-            (moved (λ (x : Source) tells taken. ShowsFiles x (name ∷ []) (new.1 ∷ []) c.loop-name.pages c.run_file.new.pages) net sizes r r' h h' t t' b b'
+        subst (λ ns. ShowsFiles from 0 ns (old.0 ++ new.1 ∷ []) c.args.pages.now c.run_file.new.pages) (sym (seen_more names place none below))
+            (filed_behind from 0 c.loop-name.place (seen (take place names)) (name ∷ []) old.0 (new.1 ∷ []) c.args.pages.now c.loop-name.pages c.run_file.new.pages
+            (omega (arith, inv.place, old.3)) old.2
+            (moved (λ (x : Source) tells taken. ShowsFiles x c.loop-name.place (name ∷ []) (new.1 ∷ []) c.loop-name.pages c.run_file.new.pages) net sizes r r' h h' t t' b b'
             inv.stays.reading inv.stays.kept inv.stays.telling inv.unsaid new.3)),
+        length_push old.0 new.1 ∙ ap (λ n. n + 1) old.3,
       );
       place = ap (λ n. n + 1) inv.place;
       unsaid = new.0 ∙ inv.unsaid;
@@ -125,7 +128,7 @@ returns g c =
         inv.unsaid,
         old.0,
         subst (λ ns. AreRanFiles from c.args.bench.now.name.now (seen ns) old.0) (take_all i names all) old.1,
-        subst (λ ns. ShowsFiles from (seen ns) old.0 c.args.pages.now c.loop-name.pages) (take_all i names all) old.2,
+        subst (λ ns. ShowsFiles from 0 (seen ns) old.0 c.args.pages.now c.loop-name.pages) (take_all i names all) old.2,
       );
       leaves = done (Any (λ (n : List ℕ). Rose (f n) (f' n)) (seen names)) before after tt inv.stays;
     }

@@ -1,4 +1,4 @@
-use Rattle.std.proofs.Common.{◌≡◌, List, take}
+use Rattle.std.proofs.Common.{◌≡◌, List, length, take}
 use Rattle.ps_bench_cover.specs.Leaving.{Stays, sides}
 use Rattle.ps_bench_frame.specs.Opening.{source}
 use Rattle.ps_bench_words.specs.Seen.{seen}
@@ -11,7 +11,8 @@ invariant-loop-name g l =
     record {
       ran : (fs : List FileRan)
           × AreRanFiles (source l.bench.opened.now.app l.bench.opened.now.sizes (g.F.Files.tells l.fn.files) (g.F.Files.held l.fn.files)) l.bench.name.now (seen (take l.name-index l.names)) fs
-          × ShowsFiles (source l.bench.opened.now.app l.bench.opened.now.sizes (g.F.Files.tells l.fn.files) (g.F.Files.held l.fn.files)) (seen (take l.name-index l.names)) fs l.fn.pages l.pages;
+          × ShowsFiles (source l.bench.opened.now.app l.bench.opened.now.sizes (g.F.Files.tells l.fn.files) (g.F.Files.held l.fn.files)) 0 (seen (take l.name-index l.names)) fs l.fn.pages l.pages
+          × (length fs ≡ l.name-index);
       place : l.place ≡ l.name-index;
       unsaid : g.O.Sink.taken l.out ≡ g.O.Sink.taken l.fn.out;
       stays : Stays (sides (g.F.Files.tells l.fn.files) (g.F.Files.held l.fn.files) (g.F.Files.faults l.fn.files) (g.O.Sink.tells l.fn.out) (g.O.Sink.faults l.fn.out))

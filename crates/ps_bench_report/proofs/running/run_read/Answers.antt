@@ -106,7 +106,7 @@ returns-in-Ok-run_cases g c =
           of_text = is.of_text;
           ran = subst (λ cs. AreRan c.args.bench.now.opened.now.app c.args.bench.now.name.now name c.in-Ok.file cs ran.0) c.as_slice.ensures ran.1;
         },
-        one_filed from name (record { name = name; file = c.in-Ok.file; ran = ran.0 }) named.0 c.args.pages.now c.add_named.new.page c.run_cases.new.pages
+        one_filed from c.args.place name (record { name = name; file = c.in-Ok.file; ran = ran.0 }) named.0 c.args.pages.now c.add_named.new.page c.run_cases.new.pages
             (λ tells. subst (λ (held : List ℕ → Option (List ℕ)). Names (held name) named.0) is.kept (named.1 (is.reading ∙ tells))) named.2 ran.2,
       );
       leaves = done (Rose (f name) (f'' name)) before after c.in-Ok-run_cases.field-0 stays;

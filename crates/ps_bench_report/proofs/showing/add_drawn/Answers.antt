@@ -1,4 +1,4 @@
-use Rattle.std.proofs.Common.{Option, inl, inr, subst}
+use Rattle.std.proofs.Common.{◌∙◌, ℕ, List, Option, inl, inr, subst}
 use Rattle.std.specs.Prelude.{IsSomeAnd}
 use Rattle.std.proofs.lemmas.Result.{on_ok_weaker}
 use Rattle.ps_bench_cases.specs.Alone.{alone}
@@ -6,6 +6,7 @@ use Rattle.ps_bench_cases.specs.Legible.{IsLegible}
 use Rattle.ps_bench_cases.specs.Meant.{whole_case}
 use Rattle.ps_bench_report.specs.Played.{IsKeptOf}
 use Rattle.ps_bench_report.specs.declared.filming.Kept.{Kept}
+use Rattle.ps_bench_report.specs.Sheets.{ShowsDiagram}
 use Rattle.ps_bench_report.proofs.Covering.{one_covered}
 use Rattle.ps_bench_test.specs.Outcome.{ran_of}
 use Rattle.ps_bench_report.proofs.showing.add_drawn.Goals as goal
@@ -23,12 +24,13 @@ returns-in_ok-id-in-Some c =
             inl (record {
               recording = c.in-Some.kept.recording;
               is_of = λ legible. (kept legible).records;
-              shows = is.1;
+              shows = subst (λ (id : List ℕ). ShowsDiagram (ran_of run) id c.in-Some.kept.recording c.args.page.now.pieces c.add_diagram.new.page.pieces)
+                  (c.as_slice.ensures ∙ c.in_ok-id-in-Some.ensures) is.1;
             }),
           )) c.add_diagram.ensures;
       covers = on_ok_weaker c.add_diagram.result
           (λ shown. one_covered (ran_of run) c.args.total.now c.in-Some.kept.cover c.join.new.self
-          (λ states meant. (kept meant.legible).covers (states (ran_of run)) meant.means) c.join.ensures) c.add_diagram.ensures;
+          (λ states meant. (kept meant.is_known).covers (states (ran_of run)) meant.means) c.join.ensures) c.add_diagram.ensures;
     }
 
 pub returns-in-None : goal.returns-in-None
@@ -41,5 +43,5 @@ returns-in-None c =
       drawn = λ whole.
           let is = c.element.ensures whole in
           (is.0, inr (none, is.1));
-      covers = λ states meant. absurd (none meant.0.legible);
+      covers = λ states meant. absurd (none meant.0.is_known);
     }

@@ -3,6 +3,7 @@ use Rattle.ps_bench_words.specs.declared.asking.Format.TheVariants.{Text}
 use Rattle.ps_bench_report.specs.declared.page.Piece.{Piece}
 use Rattle.ps_bench_report.specs.CaseRows.{case_front}
 use Rattle.ps_bench_test.specs.Report.{case_text}
+use Rattle.ps_bench_report.specs.Known.{IsReadBack}
 use Rattle.ps_bench_report.specs.Sections.{HasDiagram}
 use Rattle.ps_bench_test.specs.Outcome.{ran_of}
 use Rattle.ps_bench_test.specs.declared.outcome.Tally.{Tally}
@@ -22,7 +23,7 @@ returns c =
             opened.0,
             record {
               drawn = c.add_drawn.new.page.pieces;
-              diagram = subst (λ (p : List Piece). HasDiagram r p c.add_drawn.new.page.pieces) page drawn.1;
+              diagram = subst (λ (p : List Piece). HasDiagram IsReadBack c.args.place r p c.add_drawn.new.page.pieces) page drawn.1;
               is = closed.1;
             },
           );

@@ -6,8 +6,5 @@ use Rattle.ps_bench_report.proofs.texts.notes_of.Goals as goal
 
 pub returns : goal.returns
 returns c = IfOk-weaker c.lines_of.result _ _
-    (λ lines is. (
-      c.in_ok-placed.placed.items,
-      c.in_ok-placed.ensures.notes,
-      is ∙ ap (flat_map (note_text c.args.name.now c.args.app.now)) c.as_slice.ensures.value,
-    )) c.lines_of.ensures
+    (λ lines is. is ∙ ap (flat_map (note_text c.args.name.now c.args.app.now)) (c.as_slice.ensures.value ∙ c.in_ok-placed.ensures.placed))
+    c.lines_of.ensures

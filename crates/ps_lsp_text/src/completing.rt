@@ -1,5 +1,12 @@
 // What may be written at a place.
 
+ghost use Rattle.std.specs.Prelude.{◌≡◌, ◌-◌, ◌<◌, ◌++◌, ◌∷◌, [], true, IsTrue, IfOk, IsOkAnd, length, option_map};
+ghost use Rattle.ps_model.specs.declared.kind.Kind.{Kind};
+ghost use Rattle.ps_model.specs.Pins.{pin_count};
+ghost use Rattle.ps_lsp_text.specs.Declaring.{IsInstance};
+ghost use Rattle.ps_lsp_text.specs.Hovering.{IsAfterDot, is_output_place};
+ghost use Rattle.ps_lsp_text.specs.Completing.{AreOutputs, IsCompleted, item_with, pin_item, whole_before};
+
 use crate::declared::{declared_type, is_in_section};
 use crate::described::add_pin;
 use crate::looking::{form_at, is_dot, name_at, tokens_before, width};
@@ -60,7 +67,9 @@ fn item_of(
     sort: Sort,
     label: &[u8],
     detail: Result<Bytes, Memory>,
-) -> Result<Item, Memory> {
+) -> Result<Item, Memory>
+    ensures { IfOk result (λ i. IsOkAnd detail (λ d. i ≡ item_with sort label.now d)) }
+{
     let detail = detail?;
     let label = Bytes::from_slice(alloc, label)?;
     Ok(Item {
@@ -77,7 +86,10 @@ fn add_item(
     sort: Sort,
     label: &[u8],
     detail: Result<Bytes, Memory>,
-) {
+)
+    ensures { IsTrue list.new.is_whole → IsTrue list.old.is_whole × (length list.old.list.items < MOST_ITEMS →
+        IsOkAnd detail (λ d. list.new.list.items ≡ list.old.list.items ++ item_with sort label.now d ∷ [])) }
+{
     if list.as_slice().len() < MOST_ITEMS {
         list.add(item_of(alloc, sort, label, detail));
     }
@@ -92,7 +104,10 @@ fn add_keywords(alloc: Global, list: &mut MadeList<Item>, words: &[&str]) {
 }
 
 // The item of a pin of a kind.
-fn add_pin_item(alloc: Global, list: &mut MadeList<Item>, kind: Kind, pin: u8) {
+fn add_pin_item(alloc: Global, list: &mut MadeList<Item>, kind: Kind, pin: u8)
+    ensures { pin < pin_count kind → IsTrue list.new.is_whole → IsTrue list.old.is_whole
+        × (length list.old.list.items < MOST_ITEMS → list.new.list.items ≡ list.old.list.items ++ pin_item kind pin ∷ []) }
+{
     if pin >= pin_count(kind) {
         return;
     }
@@ -103,7 +118,9 @@ fn add_pin_item(alloc: Global, list: &mut MadeList<Item>, kind: Kind, pin: u8) {
 }
 
 // The outputs of a kind.
-fn add_outputs(alloc: Global, list: &mut MadeList<Item>, kind: Kind) {
+fn add_outputs(alloc: Global, list: &mut MadeList<Item>, kind: Kind)
+    ensures { list.old.list.items ≡ [] → IsTrue list.new.is_whole → AreOutputs kind (pin_count kind) list.new.list.items }
+{
     for pin in input_count(kind)..pin_count(kind) {
         add_pin_item(alloc, list, kind, pin);
     }
@@ -198,7 +215,9 @@ fn add_all_names(alloc: Global, list: &mut MadeList<Item>, sight: &Sight) {
 }
 
 // How many tokens stand whole before a place; a name that is being written there is none of them.
-fn whole_before(tokens: &[Token], place: Place) -> usize {
+fn whole_before(tokens: &[Token], place: Place) -> usize
+    ensures { result ≡ whole_before tokens.now place }
+{
     let before = tokens_before(tokens, place);
     if before == 0 || before > tokens.len() {
         return before;
@@ -215,15 +234,9 @@ fn whole_before(tokens: &[Token], place: Place) -> usize {
     }
 }
 
-// What may be written after so many of today's tokens.
-fn add_items_at(alloc: Global, list: &mut MadeList<Item>, sight: &Sight, upto: usize) {
+// What may be written after so many of today's tokens, the last of which is no dot.
+fn add_items_without_dot(alloc: Global, list: &mut MadeList<Item>, sight: &Sight, upto: usize) {
     let tokens = sight.today();
-    if upto >= 2 && is_dot(tokens, upto - 1) {
-        if let Some(kind) = sight.kind_at(upto - 2) {
-            add_outputs(alloc, list, kind);
-        }
-        return;
-    }
     match form_at(tokens, upto.saturating_sub(1)) {
         Some(Form::Colon) => add_types(alloc, list),
         Some(Form::LeftBracket | Form::Comma) => match sight.call_before(upto) {
@@ -234,10 +247,30 @@ fn add_items_at(alloc: Global, list: &mut MadeList<Item>, sight: &Sight, upto: u
     }
 }
 
+// What may be written after so many of today's tokens.
+fn add_items_at(alloc: Global, list: &mut MadeList<Item>, sight: &Sight, upto: usize)
+    ensures outputs { IsAfterDot sight.now.today sight.now.earlier upto → list.old.list.items ≡ [] → IsTrue list.new.is_whole →
+        (kind : Kind) × IsInstance sight.now.today sight.now.earlier (upto - 2) kind
+        × AreOutputs kind (pin_count kind) list.new.list.items }
+    ensures nothing { is_output_place sight.now.today upto ≡ true →
+        ((kind : Kind) → IsInstance sight.now.today sight.now.earlier (upto - 2) kind → ⊥) →
+        list.new.list.items ≡ list.old.list.items }
+{
+    if upto >= 2 && is_dot(sight.today(), upto - 1) {
+        if let Some(kind) = sight.kind_at(upto - 2) {
+            add_outputs(alloc, list, kind);
+        }
+        return;
+    }
+    add_items_without_dot(alloc, list, sight, upto);
+}
 /// What may be written at a place of a text: after the dot of an instance its outputs, in its call the inputs that
 /// it does not give yet, after a colon the types, and else the declared names and the keywords; at most 5,000 items.
 /// Names that the text does not declare are those of the last one that parsed.
-pub fn completions(alloc: Global, asked: Asked) -> Result<Vec<Item>, Memory> {
+pub fn completions(alloc: Global, asked: Asked) -> Result<Vec<Item>, Memory>
+    ensures { IfOk result (λ items. IsCompleted asked.entry.text.now (option_map (λ text. text.now) asked.entry.parsed)
+        asked.entry.place items.items) }
+{
     let sight = Sight::of(alloc, asked.text, asked.parsed)?;
     let mut list = MadeList::new(alloc);
     let upto = whole_before(sight.today(), asked.place);

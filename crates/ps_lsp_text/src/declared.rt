@@ -1,5 +1,8 @@
 // Declarations and calls among tokens.
 
+ghost use Rattle.std.specs.Prelude.{◌≡◌, ℕ, true, false, IfSome, IfNone, option_map};
+ghost use Rattle.ps_lsp_text.specs.Declaring.{Declares, IsColonOf, IsDeclaration, IsTypeOf, IsUndeclared};
+
 use crate::looking::{form_at, name_at, word_at};
 use ps_lexer::{Form, Token, Word};
 
@@ -7,7 +10,10 @@ use ps_lexer::{Form, Token, Word};
 const LONGEST_LIST: usize = 1_000;
 
 // The colon after the names and commas from a token on.
-fn colon_from(tokens: &[Token], from: usize) -> Option<usize> {
+fn colon_from(tokens: &[Token], from: usize) -> Option<usize>
+    ensures some { IfSome result (IsColonOf tokens.now from) }
+    ensures none { IfNone result ((colon : ℕ) → IsColonOf tokens.now from colon → ⊥) }
+{
     for i in from..tokens.len().min(from.saturating_add(LONGEST_LIST)) {
         match form_at(tokens, i) {
             Some(Form::Name(_)) | Some(Form::Comma) => (),
@@ -19,23 +25,37 @@ fn colon_from(tokens: &[Token], from: usize) -> Option<usize> {
 }
 
 /// The type of the declaration that a name is in, if it is in one.
-pub(crate) fn declared_type(tokens: &[Token], at: usize) -> Option<&[u8]> {
+pub(crate) fn declared_type(tokens: &[Token], at: usize) -> Option<&[u8]>
+    ensures { IsTypeOf tokens.now at (option_map (λ name. name.now) result) }
+{
     let colon = colon_from(tokens, at)?;
     name_at(tokens, colon.saturating_add(1))
 }
 
+// Whether a token declares a name.
+fn declares(tokens: &[Token], at: usize, name: &[u8]) -> bool
+    ensures yes { result ≡ true → Declares tokens.now name.now at }
+    ensures no { result ≡ false → Declares tokens.now name.now at → ⊥ }
+{
+    match name_at(tokens, at) {
+        Some(other) => other.eq_ignore_ascii_case(name) && colon_from(tokens, at).is_some(),
+        None => false,
+    }
+}
+
 /// The number of the name that declares a name: the last declaration of it up to a token, or else the first one of the
 /// text. Names are without letter case.
-pub(crate) fn declaration_of(tokens: &[Token], name: &[u8], upto: usize) -> Option<usize> {
+pub(crate) fn declaration_of(tokens: &[Token], name: &[u8], upto: usize) -> Option<usize>
+    ensures some { IfSome result (IsDeclaration tokens.now name.now upto) }
+    ensures none { IfNone result (IsUndeclared tokens.now name.now) }
+{
     let mut found = None;
     for i in 0..tokens.len() {
         if i > upto && found.is_some() {
             return found;
         }
-        if let Some(other) = name_at(tokens, i) {
-            if other.eq_ignore_ascii_case(name) && colon_from(tokens, i).is_some() {
-                found = Some(i);
-            }
+        if declares(tokens, i, name) {
+            found = Some(i);
         }
     }
     found

@@ -1,5 +1,8 @@
 // Where what stands at a place is declared.
 
+ghost use Rattle.std.specs.Prelude.{◌≡◌, IfOk, Some, option_map};
+ghost use Rattle.ps_lsp_text.specs.Defining.{IsDefined, IsDefinition};
+
 use crate::looking::{is_dot, name_at, name_touched, width};
 use crate::sight::{Asked, Sight};
 use ps_base::{Memory, Place};
@@ -17,7 +20,9 @@ pub struct Defined {
 }
 
 // The declaration of the name that is one of today's tokens.
-fn declared_at(sight: &Sight, at: usize) -> Option<Defined> {
+fn declared_at(sight: &Sight, at: usize) -> Option<Defined>
+    ensures { IsDefinition sight.now.today sight.now.earlier (Some at) result }
+{
     if at >= 1 && is_dot(sight.today(), at - 1) {
         return None;
     }
@@ -32,7 +37,9 @@ fn declared_at(sight: &Sight, at: usize) -> Option<Defined> {
 
 /// Where the name at a place of a text is declared: in the text as it is, or else in the last one that parsed. Nothing
 /// where no declared name stands there.
-pub fn definition(alloc: Global, asked: Asked) -> Result<Option<Defined>, Memory> {
+pub fn definition(alloc: Global, asked: Asked) -> Result<Option<Defined>, Memory>
+    ensures { IfOk result (IsDefined asked.entry.text.now (option_map (λ text. text.now) asked.entry.parsed) asked.entry.place) }
+{
     let sight = Sight::of(alloc, asked.text, asked.parsed)?;
     match name_touched(sight.today(), asked.place) {
         Some(at) => Ok(declared_at(&sight, at)),

@@ -1,5 +1,9 @@
 // Kinds and pins in words.
 
+ghost use Rattle.std.specs.Prelude.{◌≡◌, ℕ, IfSome, IfNone};
+ghost use Rattle.ps_lsp_text.specs.Made.{Extends};
+ghost use Rattle.ps_lsp_text.specs.Hovering.{IsPinOf, pin_text, role_text, type_text};
+
 use crate::made::MadeText;
 use ps_lexer::Word;
 use ps_model::{Kind, PinRow, Ty, input_count, kind_name, pin_count, pin_name, pin_row};
@@ -7,7 +11,9 @@ use ps_ways::state_words;
 use std::alloc::Global;
 
 /// The name of a type.
-pub(crate) fn type_name(ty: Ty) -> &'static [u8] {
+pub(crate) fn type_name(ty: Ty) -> &'static [u8]
+    ensures { result.now ≡ type_text ty }
+{
     match ty {
         Ty::Safe => b"SAFEBOOL",
         Ty::Bool => b"BOOL",
@@ -16,7 +22,9 @@ pub(crate) fn type_name(ty: Ty) -> &'static [u8] {
 }
 
 // What a pin is, by its row.
-fn role(row: PinRow) -> &'static [u8] {
+fn role(row: PinRow) -> &'static [u8]
+    ensures { result.now ≡ role_text row }
+{
     match (row.is_input, row.ty, row.free) {
         (false, _, _) => b", output",
         (true, Ty::Time, _) => b", input, 0 ms where it is free",
@@ -26,7 +34,9 @@ fn role(row: PinRow) -> &'static [u8] {
 }
 
 /// What is said of a pin of a kind, after a text.
-pub(crate) fn add_pin(text: &mut MadeText, kind: Kind, pin: u8) {
+pub(crate) fn add_pin(text: &mut MadeText, kind: Kind, pin: u8)
+    ensures { Extends text.old text.new (pin_text kind pin) }
+{
     if pin >= pin_count(kind) {
         return;
     }
@@ -62,7 +72,10 @@ pub(crate) fn add_kind(alloc: Global, text: &mut MadeText, kind: Kind) {
 }
 
 /// The number of the pin of a kind that has a name, without letter case: of an input, or of an output.
-pub(crate) fn pin_named(kind: Kind, name: &[u8], is_input: bool) -> Option<u8> {
+pub(crate) fn pin_named(kind: Kind, name: &[u8], is_input: bool) -> Option<u8>
+    ensures some { IfSome result (IsPinOf kind name.now is_input) }
+    ensures none { IfNone result ((pin : ℕ) → IsPinOf kind name.now is_input pin → ⊥) }
+{
     let inputs = input_count(kind);
     for pin in 0..pin_count(kind) {
         if (pin < inputs) == is_input && pin_name(kind, pin).as_bytes().eq_ignore_ascii_case(name) {

@@ -1,5 +1,11 @@
 // What is told of what stands at a place.
 
+ghost use Rattle.std.specs.Prelude.{◌≡◌, ◌-◌, ℕ, List, false, true, IsTrue, IfOk, IfSome, IfNone, option_map};
+ghost use Rattle.ps_model.specs.declared.kind.Kind.{Kind};
+ghost use Rattle.ps_lsp_text.specs.Declaring.{IsInstance};
+ghost use Rattle.ps_lsp_text.specs.Hovering.{IsAfterDot, IsHovered, IsOutputTold, IsPinTold, is_output_place, told_output, told_words};
+ghost use Rattle.ps_lsp_text.specs.Made.{Extends};
+
 use crate::declared::section_at;
 use crate::described::{add_kind, add_pin, pin_named, section_told};
 use crate::driving::add_driver;
@@ -45,7 +51,10 @@ struct Telling {
 
 impl Telling {
     // What is told of the place of this name; nothing where no word is.
-    fn finish(self, alloc: Global, name: &[u8]) -> Result<Option<Hovered>, Memory> {
+    fn finish(self, alloc: Global, name: &[u8]) -> Result<Option<Hovered>, Memory>
+        ensures words { IfOk result (λ told. IsTrue self.words.is_whole × (told_words told ≡ self.words.bytes)) }
+        ensures output { self.is_output ≡ false → IfOk result (λ told. told_output told ≡ None) }
+    {
         let Telling { words, is_output } = self;
         let words = words.finish()?;
         if words.len() == 0 {
@@ -114,7 +123,12 @@ fn tell_declared(
 
 // The kind whose pin the name is that is a token, and whether it is an input: after the dot of an instance, or before an
 // assignment sign in its call. Nothing where it is none of a pin.
-fn kind_of_pin(sight: &Sight, at: usize) -> Option<(Kind, bool)> {
+fn kind_of_pin(sight: &Sight, at: usize) -> Option<(Kind, bool)>
+    ensures some { is_output_place sight.now.today at ≡ true → IfSome result (λ pin.
+        IsInstance sight.now.today sight.now.earlier (at - 2) pin.0 × (pin.1 ≡ false)) }
+    ensures none { is_output_place sight.now.today at ≡ true → IfNone result ((kind : Kind) →
+        IsInstance sight.now.today sight.now.earlier (at - 2) kind → ⊥) }
+{
     if at >= 2 && is_dot(sight.today(), at.saturating_sub(1)) {
         let kind = sight.kind_at(at.saturating_sub(2))?;
         return Some((kind, false));
@@ -128,6 +142,31 @@ fn kind_of_pin(sight: &Sight, at: usize) -> Option<(Kind, bool)> {
     }
 }
 
+// Tells of the pin of a kind that has a name, if there is one.
+fn tell_pin(words: &mut MadeText, kind: Kind, is_input: bool, name: &[u8])
+    ensures { (told : List ℕ) × IsPinTold kind name.now is_input told × Extends words.old words.new told }
+{
+    if let Some(pin) = pin_named(kind, name, is_input) {
+        add_pin(words, kind, pin);
+    }
+}
+
+// Tells of the name that is a token and no pin: of a kind, or of what is declared.
+fn tell_other(
+    alloc: Global,
+    telling: &mut Telling,
+    asked: Asked,
+    sight: &Sight,
+    at: usize,
+    name: &[u8],
+) {
+    if let Some(kind) = kind_named(name) {
+        add_kind(alloc, &mut telling.words, kind);
+    } else if let Some(declared) = sight.declaration(name, at) {
+        tell_declared(alloc, telling, asked, sight, name, declared);
+    }
+}
+
 // Tells of the name that is a token.
 fn tell_name(
     alloc: Global,
@@ -136,17 +175,14 @@ fn tell_name(
     sight: &Sight,
     at: usize,
     name: &[u8],
-) {
-    if let Some((kind, is_input)) = kind_of_pin(sight, at) {
-        if let Some(pin) = pin_named(kind, name, is_input) {
-            add_pin(&mut telling.words, kind, pin);
-        }
-        return;
-    }
-    if let Some(kind) = kind_named(name) {
-        add_kind(alloc, &mut telling.words, kind);
-    } else if let Some(declared) = sight.declaration(name, at) {
-        tell_declared(alloc, telling, asked, sight, name, declared);
+)
+    ensures { IsAfterDot sight.now.today sight.now.earlier at →
+        (words : List ℕ) × IsOutputTold sight.now.today sight.now.earlier at name.now words
+        × Extends telling.old.words telling.new.words words × (telling.new.is_output ≡ telling.old.is_output) }
+{
+    match kind_of_pin(sight, at) {
+        Some((kind, is_input)) => tell_pin(&mut telling.words, kind, is_input, name),
+        None => tell_other(alloc, telling, asked, sight, at, name),
     }
 }
 
@@ -154,7 +190,9 @@ fn tell_name(
 /// where it is free, and its states in words; of a pin the same of it; of a declared name its type and section, and the
 /// statement that drives it, and of an instance its kind. Nothing where no name stands there that is known. A name
 /// that the text does not declare is looked for in the last text that parsed.
-pub fn hover(alloc: Global, asked: Asked) -> Result<Option<Hovered>, Memory> {
+pub fn hover(alloc: Global, asked: Asked) -> Result<Option<Hovered>, Memory>
+    ensures { IfOk result (IsHovered asked.entry.text.now (option_map (λ text. text.now) asked.entry.parsed) asked.entry.place) }
+{
     let sight = Sight::of(alloc, asked.text, asked.parsed)?;
     let Some(at) = name_touched(sight.today(), asked.place) else {
         return Ok(None);

@@ -7,7 +7,7 @@
 //!
 //! Found in a text, as an editor shows it: its refusals, and the notes if it is accepted.
 //!
-//! - `finding`: what a finding is. `spans`: how long a piece is from a place on. `wording`: what is said of it.
+//! - `finding`: what a finding is. `spans`: how long a piece is from a place on.
 //! - `finding_all`: finds them. `demanding`: what an output demands.
 //!
 //! At a place: what stands there, what may be written there, where it is declared, and what the text declares. These
@@ -41,7 +41,6 @@ mod shown;
 mod sight;
 mod spans;
 mod texts;
-mod wording;
 
 pub use completing::{Item, Sort, completions};
 pub use defining::{Defined, definition};

@@ -2,10 +2,11 @@
 //
 // One for which it did is not whole, stays so, and is never given: whoever makes it learns of that at its end alone.
 
-ghost use Rattle.std.specs.Prelude.{◌≡◌, IsTrue, IfOk};
+ghost use Rattle.std.specs.Prelude.{◌≡◌, [], ◌∷◌, ◌++◌, ℕ, List, IsTrue, IfOk, OnErr, false, decimal};
 ghost use Rattle.serde_json.specs.Data.{no_members, number, object, string, unsigned};
 ghost use Rattle.serde_json.specs.View.{view};
-ghost use Rattle.ps_lsp_text.specs.Made.{Puts, members};
+ghost use Rattle.ps_lsp_text.specs.Made.{Adds, Extends, Puts, members};
+ghost use Rattle.ps_text.specs.Shown.{first_shown};
 
 use ps_base::{Bytes, Memory};
 use ps_text::{add_first, add_number};
@@ -20,7 +21,9 @@ pub(crate) struct MadeText {
 
 impl MadeText {
     /// The text that begins with these bytes.
-    pub(crate) fn of(bytes: Bytes) -> MadeText {
+    pub(crate) fn of(bytes: Bytes) -> MadeText
+        ensures { result.bytes ≡ bytes }
+    {
         MadeText {
             bytes,
             is_whole: true,
@@ -28,33 +31,43 @@ impl MadeText {
     }
 
     /// Memory ran out for something that belongs to the text.
-    pub(crate) fn spoil(&mut self) {
+    pub(crate) fn spoil(&mut self)
+        ensures { (more : List ℕ) → Extends self.old self.new more }
+    {
         self.is_whole = false;
     }
 
     /// These bytes at the end.
-    pub(crate) fn add(&mut self, bytes: &[u8]) {
+    pub(crate) fn add(&mut self, bytes: &[u8])
+        ensures { Extends self.old self.new bytes.now }
+    {
         if self.bytes.extend_from_slice(bytes).is_err() {
             self.is_whole = false;
         }
     }
 
     /// A mark and a number at the end.
-    pub(crate) fn add_number(&mut self, mark: &[u8], number: u32) {
+    pub(crate) fn add_number(&mut self, mark: &[u8], number: u32)
+        ensures { Extends self.old self.new (mark.now ++ decimal number) }
+    {
         if add_number(&mut self.bytes, mark, number).is_err() {
             self.is_whole = false;
         }
     }
 
     /// The first bytes of these at the end, at most so many, and dots for the others.
-    pub(crate) fn add_first(&mut self, bytes: &[u8], most: usize) {
+    pub(crate) fn add_first(&mut self, bytes: &[u8], most: usize)
+        ensures { Extends self.old self.new (first_shown most bytes.now) }
+    {
         if add_first(&mut self.bytes, bytes, most).is_err() {
             self.is_whole = false;
         }
     }
 
     /// The text, if it is whole.
-    pub(crate) fn finish(self) -> Result<Bytes, Memory> {
+    pub(crate) fn finish(self) -> Result<Bytes, Memory>
+        ensures { IfOk result (λ bytes. IsTrue self.is_whole × (bytes ≡ self.bytes)) }
+    {
         let MadeText { bytes, is_whole } = self;
         if is_whole { Ok(bytes) } else { Err(Memory) }
     }
@@ -68,7 +81,9 @@ pub(crate) struct MadeList<T> {
 
 impl<T: Drop> MadeList<T> {
     /// No items. It takes no memory.
-    pub(crate) fn new(alloc: Global) -> MadeList<T> {
+    pub(crate) fn new(alloc: Global) -> MadeList<T>
+        ensures { result.list.items ≡ [] }
+    {
         MadeList {
             list: Vec::new(alloc),
             is_whole: true,
@@ -76,7 +91,11 @@ impl<T: Drop> MadeList<T> {
     }
 
     /// One more item, if there was memory for it.
-    pub(crate) fn add(&mut self, item: Result<T, Memory>) {
+    pub(crate) fn add(&mut self, item: Result<T, Memory>)
+        ensures adds { IfOk item (λ x. Adds self.old.is_whole self.new.is_whole
+            self.old.list.items self.new.list.items (x ∷ [])) }
+        ensures spoilt { OnErr item (self.new.is_whole ≡ false) }
+    {
         match item {
             Ok(item) => {
                 if self.list.push(item).is_err() {
@@ -88,12 +107,16 @@ impl<T: Drop> MadeList<T> {
     }
 
     /// The items so far.
-    pub(crate) fn as_slice(&self) -> &[T] {
+    pub(crate) fn as_slice(&self) -> &[T]
+        ensures { result.now ≡ self.now.list.items }
+    {
         self.list.as_slice()
     }
 
     /// The list, if it is whole.
-    pub(crate) fn finish(self) -> Result<Vec<T>, Memory> {
+    pub(crate) fn finish(self) -> Result<Vec<T>, Memory>
+        ensures { IfOk result (λ list. IsTrue self.is_whole × (list.items ≡ self.list.items)) }
+    {
         let MadeList { list, is_whole } = self;
         if is_whole { Ok(list) } else { Err(Memory) }
     }

@@ -1,11 +1,15 @@
 // The server: its open texts, and what it does for each method.
 
-ghost use Rattle.std.specs.Prelude.{◌≡◌, ℕ, List, IfOk, OnOk};
+ghost use Rattle.std.specs.Prelude.{◌≡◌, ℕ, List, IfOk, OnOk, option_map};
 ghost use Rattle.serde_json.specs.View.{view};
-ghost use Rattle.ps_lsp_text.specs.Findings.{Diagnoses};
+ghost use Rattle.ps_lsp_text.specs.Findings.{Diagnoses, all_of};
 ghost use Rattle.ps_accepted.specs.Answering.{IsFrontOf};
 ghost use Rattle.ps_lsp_text.specs.Texts.{held};
-ghost use Rattle.ps_lsp_text.specs.Published.{TellsOf};
+ghost use Rattle.ps_lsp_text.specs.Asking.{uri_in};
+ghost use Rattle.ps_lsp_text.specs.Published.{TellsOf, front};
+ghost use Rattle.ps_lsp_text.specs.Publishing.{Holds, Publishes, closing_of, findings_of, publishing_by, publishing_in};
+ghost use Rattle.ps_lsp_text.specs.Publishing.{publishing_of};
+ghost use Rattle.ps_lsp_text.specs.Publishing.Publishing.{nothing};
 ghost use Rattle.ps_lsp_rpc.specs.Rpc.{value_of};
 ghost use Rattle.ps_lsp_text.specs.Serving.{IsAnswered};
 ghost use Rattle.ps_lsp_text.specs.Stages.{ended_by, method_in, stage_after, stage_by, stage_of};
@@ -53,7 +57,9 @@ impl Drop for Server {
 }
 
 // A result, and no notice.
-fn given(value: Value) -> Done {
+fn given(value: Value) -> Done
+    ensures { Publishes nothing (option_map view result.notice) }
+{
     Done {
         outcome: Outcome::Given(value),
         notice: None,
@@ -61,7 +67,9 @@ fn given(value: Value) -> Done {
 }
 
 // Why there is no result.
-fn failed(code: Code, why: &'static str) -> Done {
+fn failed(code: Code, why: &'static str) -> Done
+    ensures { Publishes nothing (option_map view result.notice) }
+{
     Done {
         outcome: Outcome::Failed(code, why),
         notice: None,
@@ -69,7 +77,9 @@ fn failed(code: Code, why: &'static str) -> Done {
 }
 
 // A notice, where a message is a notification.
-fn told(notice: Value) -> Done {
+fn told(notice: Value) -> Done
+    ensures { result.notice ≡ Some notice }
+{
     Done {
         outcome: Outcome::Given(Value::Null),
         notice: Some(notice),
@@ -140,6 +150,27 @@ fn result_at(alloc: Global, asks: Asks, uri: &str, asked: Asked) -> Result<Value
     }
 }
 
+// What comes of a method before the server answers.
+fn perform_fresh(alloc: Global, method: &str) -> Result<Done, Memory>
+    ensures { IfOk result (λ done. Publishes nothing (option_map view done.notice)) }
+{
+    match method {
+        "initialize" => Ok(given(capabilities(alloc)?)),
+        "exit" => Ok(given(Value::Null)),
+        _ => Ok(failed(Code::NotReady, "the server has not been asked to begin")),
+    }
+}
+
+// What comes of a method after the server was asked to shut down.
+fn perform_shut(method: &str) -> Done
+    ensures { Publishes nothing (option_map view result.notice) }
+{
+    match method {
+        "exit" => given(Value::Null),
+        _ => failed(Code::NoRequest, "the server is shut down"),
+    }
+}
+
 impl Server {
     /// A server that has not been asked to begin. It takes no memory.
     pub fn new(alloc: Global) -> Server
@@ -164,7 +195,7 @@ impl Server {
     // What is found in the text of a name as it is held; in an empty one, where it is not open.
     fn found(&self, alloc: Global, uri: &str) -> Result<Findings, Memory>
         ensures { IfOk result (λ findings. (text whole : List ℕ) → held self.now.texts uri.now ≡ Some text →
-            IsFrontOf text whole → Diagnoses text whole findings.first) }
+            IsFrontOf text whole → Diagnoses text whole (all_of findings)) }
     {
         match self.texts.text_of(uri) {
             Some(text) => findings_in(alloc, text),
@@ -175,6 +206,7 @@ impl Server {
     // Holds the text of a name, and tells what is found in it.
     fn opened(&mut self, alloc: Global, uri: &str, text: &str) -> Result<Value, Memory>
         ensures tells { IfOk result (λ notice. TellsOf uri.now text.now (view notice)) }
+        ensures holds { OnOk result (held self.new.texts uri.now ≡ Some (front text.now)) }
         ensures stays { self.new.stage ≡ self.old.stage }
     {
         let front = front_of(text);
@@ -188,7 +220,12 @@ impl Server {
 
     // A text is opened, or changed: its name, and what it is now.
     fn open(&mut self, alloc: Global, uri: Option<&str>, text: Option<&str>) -> Result<Done, Memory>
-        ensures { self.new.stage ≡ self.old.stage }
+        ensures publishes { IfOk result (λ done. Publishes
+            (findings_of (option_map (λ s. s.now) uri.entry) (option_map (λ s. s.now) text.entry))
+            (option_map view done.notice)) }
+        ensures holds { OnOk result (Holds
+            (findings_of (option_map (λ s. s.now) uri.entry) (option_map (λ s. s.now) text.entry)) self.new.texts) }
+        ensures stays { self.new.stage ≡ self.old.stage }
     {
         match (uri, text) {
             (Some(uri), Some(text)) => Ok(told(self.opened(alloc, uri, text)?)),
@@ -198,7 +235,9 @@ impl Server {
 
     // A text is closed.
     fn close(&mut self, alloc: Global, request: &Request) -> Result<Done, Memory>
-        ensures { self.new.stage ≡ self.old.stage }
+        ensures publishes { IfOk result (λ done. Publishes (closing_of (uri_in (value_of request.now)))
+            (option_map view done.notice)) }
+        ensures stays { self.new.stage ≡ self.old.stage }
     {
         match uri_of(request) {
             Some(uri) => {
@@ -210,7 +249,9 @@ impl Server {
     }
 
     // What comes of a question about a place of a text.
-    fn ask(&self, alloc: Global, request: &Request, asks: Asks) -> Result<Done, Memory> {
+    fn ask(&self, alloc: Global, request: &Request, asks: Asks) -> Result<Done, Memory>
+        ensures { IfOk result (λ done. Publishes nothing (option_map view done.notice)) }
+    {
         let (Some(uri), Some(position)) = (uri_of(request), position_in(request)) else {
             return Ok(failed(Code::NoParams, "a question has a text and a position"));
         };
@@ -228,7 +269,9 @@ impl Server {
     }
 
     // What comes of a question about a whole text.
-    fn ask_symbols(&self, alloc: Global, request: &Request) -> Result<Done, Memory> {
+    fn ask_symbols(&self, alloc: Global, request: &Request) -> Result<Done, Memory>
+        ensures { IfOk result (λ done. Publishes nothing (option_map view done.notice)) }
+    {
         let Some(uri) = uri_of(request) else {
             return Ok(failed(Code::NoParams, "a question has a text"));
         };
@@ -238,9 +281,26 @@ impl Server {
         }
     }
 
+    // What comes of a question.
+    fn question(&self, alloc: Global, request: &Request, method: &str) -> Result<Done, Memory>
+        ensures { IfOk result (λ done. Publishes nothing (option_map view done.notice)) }
+    {
+        match method {
+            "exit" | "shutdown" | "initialized" => Ok(given(Value::Null)),
+            "textDocument/hover" => self.ask(alloc, request, Asks::Hover),
+            "textDocument/completion" => self.ask(alloc, request, Asks::Completion),
+            "textDocument/definition" => self.ask(alloc, request, Asks::Definition),
+            "textDocument/documentSymbol" => self.ask_symbols(alloc, request),
+            _ => Ok(failed(Code::NoMethod, "there is no such method")),
+        }
+    }
+
     // What comes of a method while the server answers.
     fn run(&mut self, alloc: Global, request: &Request, method: &str) -> Result<Done, Memory>
-        ensures { self.new.stage ≡ self.old.stage }
+        ensures publishes { IfOk result (λ done. Publishes (publishing_by method.now (value_of request.now))
+            (option_map view done.notice)) }
+        ensures holds { OnOk result (Holds (publishing_by method.now (value_of request.now)) self.new.texts) }
+        ensures stays { self.new.stage ≡ self.old.stage }
     {
         match method {
             "textDocument/didOpen" => {
@@ -252,11 +312,7 @@ impl Server {
             }
             "textDocument/didChange" => self.open(alloc, uri_of(request), changed_text(request)),
             "textDocument/didClose" => self.close(alloc, request),
-            "textDocument/hover" => self.ask(alloc, request, Asks::Hover),
-            "textDocument/completion" => self.ask(alloc, request, Asks::Completion),
-            "textDocument/definition" => self.ask(alloc, request, Asks::Definition),
-            "textDocument/documentSymbol" => self.ask_symbols(alloc, request),
-            _ => Ok(failed(Code::NoMethod, "there is no such method")),
+            _ => self.question(alloc, request, method),
         }
     }
 
@@ -268,26 +324,24 @@ impl Server {
         before: Stage,
         method: &str,
     ) -> Result<Done, Memory>
-        ensures { self.new.stage ≡ self.old.stage }
+        ensures publishes { IfOk result (λ done. Publishes
+            (publishing_in before method.now (value_of request.now)) (option_map view done.notice)) }
+        ensures holds { OnOk result (Holds (publishing_in before method.now (value_of request.now)) self.new.texts) }
+        ensures stays { self.new.stage ≡ self.old.stage }
     {
-        match (before, method) {
-            (Stage::Fresh, "initialize") => Ok(given(capabilities(alloc)?)),
-            (_, "exit") | (Stage::Running, "shutdown" | "initialized") => Ok(given(Value::Null)),
-            (Stage::Running, _) => self.run(alloc, request, method),
-            (Stage::Fresh, _) => Ok(failed(
-                Code::NotReady,
-                "the server has not been asked to begin",
-            )),
-            (Stage::Shut | Stage::Ended { .. }, _) => Ok(failed(
-                Code::NoRequest,
-                "the server is shut down",
-            )),
+        match before {
+            Stage::Fresh => perform_fresh(alloc, method),
+            Stage::Running => self.run(alloc, request, method),
+            Stage::Shut | Stage::Ended { .. } => Ok(perform_shut(method)),
         }
     }
 
     // What comes of a message; its method, if it has one, says how far the server is after it.
     fn perform(&mut self, alloc: Global, request: &Request) -> Result<Done, Memory>
-        ensures { OnOk result (self.new.stage ≡ stage_after self.old.stage (method_in (value_of request.now))) }
+        ensures goes { OnOk result (self.new.stage ≡ stage_after self.old.stage (method_in (value_of request.now))) }
+        ensures publishes { IfOk result (λ done. Publishes (publishing_of self.old.stage (value_of request.now))
+            (option_map view done.notice)) }
+        ensures holds { OnOk result (Holds (publishing_of self.old.stage (value_of request.now)) self.new.texts) }
     {
         let Some(method) = request.method() else {
             return Ok(failed(Code::NoRequest, "a request has a method"));

@@ -1,5 +1,9 @@
 // What the editor shows of a place in a text.
 
+ghost use Rattle.std.specs.Prelude.{IfOk, option_map};
+ghost use Rattle.serde_json.specs.View.{view};
+ghost use Rattle.ps_lsp_text.specs.Defining.{Defines};
+
 use crate::made::{MadeList, MadeObject, MadeText};
 use crate::published::{range_value, words_in};
 use crate::{Asked, Item, Sort, Symbol, completions, definition, demand_told, hover, symbols};
@@ -76,7 +80,10 @@ pub(crate) fn completion_value(alloc: Global, asked: Asked) -> Result<Value, Mem
 }
 
 /// Where what stands at a place of the text of a name is declared, or null.
-pub(crate) fn definition_value(alloc: Global, uri: &str, asked: Asked) -> Result<Value, Memory> {
+pub(crate) fn definition_value(alloc: Global, uri: &str, asked: Asked) -> Result<Value, Memory>
+    ensures { IfOk result (λ v. Defines uri.now asked.entry.text.now (option_map (λ text. text.now) asked.entry.parsed)
+        asked.entry.place (view v)) }
+{
     let Some(found) = definition(alloc, asked)? else {
         return Ok(Value::Null);
     };
@@ -86,9 +93,10 @@ pub(crate) fn definition_value(alloc: Global, uri: &str, asked: Asked) -> Result
         asked.parsed.unwrap_or(asked.text)
     };
     let piece = range_from(text, found.place, found.width);
+    let range = range_value(alloc, piece)?;
     let mut object = MadeObject::new(alloc);
     object.put_text("uri", uri);
-    object.put_made("range", range_value(alloc, piece));
+    object.put("range", range);
     object.finish()
 }
 

@@ -1,5 +1,10 @@
 // A text as it is, beside the last one of its name that parsed.
 
+ghost use Rattle.std.specs.Prelude.{◌≡◌, ℕ, List, IfOk, IfNone, IfSome, MatchBool, if◌then◌else◌, option_map};
+ghost use Rattle.ps_model.specs.declared.kind.Kind.{Kind};
+ghost use Rattle.ps_lsp_text.specs.Looking.{AreSeen, AreSeenBy};
+ghost use Rattle.ps_lsp_text.specs.Declaring.{HoldsFor, IsInstance, IsTypeOf, IsTyped, IsUndeclared};
+
 use crate::declared::{bracket_before, declaration_of, declared_type};
 use crate::looking::{name_at, tokens_of};
 use ps_base::{Memory, Place};
@@ -43,7 +48,10 @@ pub(crate) struct Declared {
 
 impl Sight {
     /// The tokens of what is asked about.
-    pub(crate) fn of(alloc: Global, text: &[u8], parsed: Option<&[u8]>) -> Result<Sight, Memory> {
+    pub(crate) fn of(alloc: Global, text: &[u8], parsed: Option<&[u8]>) -> Result<Sight, Memory>
+        ensures today { IfOk result (λ sight. AreSeen text.now sight.today) }
+        ensures earlier { IfOk result (λ sight. AreSeenBy (option_map (λ text. text.now) parsed.entry) sight.earlier) }
+    {
         let today = tokens_of(alloc, text)?;
         let earlier = match parsed {
             Some(parsed) => tokens_of(alloc, parsed)?,
@@ -53,17 +61,23 @@ impl Sight {
     }
 
     /// Today's tokens.
-    pub(crate) fn today(&self) -> &[Token] {
+    pub(crate) fn today(&self) -> &[Token]
+        ensures { result.now ≡ self.now.today }
+    {
         self.today.as_slice()
     }
 
     /// Those of the last text that parsed; none where today's does.
-    pub(crate) fn earlier(&self) -> &[Token] {
+    pub(crate) fn earlier(&self) -> &[Token]
+        ensures { result.now ≡ self.now.earlier }
+    {
         self.earlier.as_slice()
     }
 
     /// The tokens of the text that declares a name.
-    pub(crate) fn tokens_with(&self, declared: Declared) -> &[Token] {
+    pub(crate) fn tokens_with(&self, declared: Declared) -> &[Token]
+        ensures { MatchBool declared.is_today (result.now ≡ self.now.today) (result.now ≡ self.now.earlier) }
+    {
         if declared.is_today {
             self.today()
         } else {
@@ -72,7 +86,10 @@ impl Sight {
     }
 
     /// Where a name is declared for one of today's tokens: in the text as it is, or else in the last one that parsed.
-    pub(crate) fn declaration(&self, name: &[u8], upto: usize) -> Option<Declared> {
+    pub(crate) fn declaration(&self, name: &[u8], upto: usize) -> Option<Declared>
+        ensures some { IfSome result (HoldsFor self.now.today self.now.earlier name.now upto) }
+        ensures none { IfNone result (IsUndeclared self.now.today name.now × IsUndeclared self.now.earlier name.now) }
+    {
         if let Some(at) = declaration_of(self.today(), name, upto) {
             return Some(Declared { is_today: true, at });
         }
@@ -84,14 +101,28 @@ impl Sight {
     }
 
     /// The type of a declared name.
-    pub(crate) fn type_of(&self, declared: Declared) -> Option<&[u8]> {
+    pub(crate) fn type_of(&self, declared: Declared) -> Option<&[u8]>
+        ensures { IsTypeOf (if declared.is_today then self.now.today else self.now.earlier) declared.at
+            (option_map (λ name. name.now) result) }
+    {
         declared_type(self.tokens_with(declared), declared.at)
     }
 
-    /// The kind of the instance whose name is one of today's tokens.
-    pub(crate) fn kind_at(&self, at: usize) -> Option<Kind> {
+    // The type with which the name is declared that is one of today's tokens.
+    fn type_at(&self, at: usize) -> Option<&[u8]>
+        ensures some { IfSome result (λ ty. IsTyped self.now.today self.now.earlier at ty.now) }
+        ensures none { IfNone result ((ty : List ℕ) → IsTyped self.now.today self.now.earlier at ty → ⊥) }
+    {
         let name = name_at(self.today(), at)?;
-        kind_named(self.type_of(self.declaration(name, at)?)?)
+        self.type_of(self.declaration(name, at)?)
+    }
+
+    /// The kind of the instance whose name is one of today's tokens.
+    pub(crate) fn kind_at(&self, at: usize) -> Option<Kind>
+        ensures some { IfSome result (IsInstance self.now.today self.now.earlier at) }
+        ensures none { IfNone result ((kind : Kind) → IsInstance self.now.today self.now.earlier at kind → ⊥) }
+    {
+        kind_named(self.type_at(at)?)
     }
 
     /// The bracket of the call of an instance that is open before one of today's tokens, and the kind of the instance.

@@ -1,6 +1,6 @@
 // The texts that are open.
 
-ghost use Rattle.std.specs.Prelude.{◌≡◌, ◌<◌, IfSome, OnOk, None, option_map, vec_len};
+ghost use Rattle.std.specs.Prelude.{◌≡◌, ◌<◌, ℕ, List, IfSome, OnOk, None, option_map, vec_len};
 ghost use Rattle.ps_lsp_text.specs.Texts.{earlier, held, is_named, parsed_of};
 
 use ps_base::{Bytes, Memory};
@@ -124,8 +124,10 @@ impl Texts {
         Ok(())
     }
 
-    /// Notes that the text of a name parses.
-    pub fn note_parsed(&mut self, uri: &str) {
+    /// Notes that the text of a name parses. What is held stays.
+    pub fn note_parsed(&mut self, uri: &str)
+        ensures { (name : List ℕ) → held self.new name ≡ held self.old name }
+    {
         if let Some(number) = self.number_of(uri) {
             self.list[number].parses = true;
         }

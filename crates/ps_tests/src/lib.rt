@@ -9,6 +9,7 @@
 //! - `evaluator`: the plain evaluator over the tables of `worked`. `rows`: channel B's rows.
 //! - `world`: scans of a world of two channels in several orders of turns. `left`: the world that a call of the program
 //!   leaves.
+//! - `parts`: what is cut of an application for a rule. `trying`: runs that are tried.
 //! - `sources`, `readers`, `outside`: tokens and sources, texts that are read in pieces, files and outputs.
 #![tactic(auto)]
 
@@ -31,11 +32,15 @@ mod machines;
 #[cfg(test)]
 mod outside;
 #[cfg(test)]
+mod parts;
+#[cfg(test)]
 mod readers;
 #[cfg(test)]
 mod rows;
 #[cfg(test)]
 mod sources;
+#[cfg(test)]
+mod trying;
 #[cfg(test)]
 mod turns_a;
 #[cfg(test)]

@@ -70,7 +70,7 @@ use Rattle.ps_bench_never.proofs.ScanBack.{all_set, scan_done, settings_from, te
 
 -- ---- Bytes of a line.
 
-no_feed : (line : List ℕ) → is_one_line line ≡ true → HasNoLineFeed line
+pub no_feed : (line : List ℕ) → is_one_line line ≡ true → HasNoLineFeed line
 no_feed [] plain = refl
 no_feed (b ∷ line) plain =
     let both = both_hold (nat_le 32 b) (is_one_line line) plain in
@@ -83,7 +83,7 @@ not_return [] k plain = refl
 not_return (b ∷ line) zero plain = let first : nat_le 32 b ≡ true = (both_hold (nat_le 32 b) (is_one_line line) plain).0 in grind (arith, nat_tests)
 not_return (b ∷ line) (suc k) plain = not_return line k (both_hold (nat_le 32 b) (is_one_line line) plain).1
 
-stripped : (line : List ℕ) → is_one_line line ≡ true → strip_carriage_return line ≡ line
+pub stripped : (line : List ℕ) → is_one_line line ≡ true → strip_carriage_return line ≡ line
 stripped line plain = ap (λ (t : Bool). if t then take (length line - 1) line else line) (not_return line (length line - 1) plain)
 
 pub one_both : (a b : List ℕ) → is_one_line a ≡ true → is_one_line b ≡ true → is_one_line (a ++ b) ≡ true
@@ -105,7 +105,7 @@ one_name (b ∷ bytes) are =
     let rest : is_one_line bytes ≡ true = one_name bytes both.1 in
     grind (arith, nat_tests)
 
-one_each : {X : Type 0} (f : X → List ℕ) → ((x : X) → is_one_line (f x) ≡ true) → (xs : List X) → is_one_line (flat_map f xs) ≡ true
+pub one_each : {X : Type 0} (f : X → List ℕ) → ((x : X) → is_one_line (f x) ≡ true) → (xs : List X) → is_one_line (flat_map f xs) ≡ true
 one_each f each [] = refl
 one_each f each (x ∷ xs) = one_both (f x) (flat_map f xs) (each x) (one_each f each xs)
 
@@ -235,7 +235,7 @@ module _ (net : Network) (sound : IsSound net) (plain_names : HasPlainNames net)
       (one_both (instance_text net i) (codes ".") (instance_one i (nat_lt i (instance_count net)) refl) refl)
       (pin_one i j (nat_lt i (instance_count net)) refl)
 
-  condition_one : (c : Condition) → HasShortValues c → is_one_line (condition_text net c) ≡ true
+  pub condition_one : (c : Condition) → HasShortValues c → is_one_line (condition_text net c) ≡ true
   condition_one c short =
       one_both (codes " " ++ name_text net c.name ++ sign c.denied) (values_text c.name c.values)
       (one_both (codes " " ++ name_text net c.name) (sign c.denied) (one_both (codes " ") (name_text net c.name) refl (name_one c.name)) (one_sign c.denied))
@@ -255,13 +255,13 @@ made_past e y false x is = cc
 
 -- ---- One scan after another.
 
-before_next : (scans : List (List Bool)) (i : ℕ) → inputs_before scans (i + 1) ≡ inputs_at scans i
+pub before_next : (scans : List (List Bool)) (i : ℕ) → inputs_before scans (i + 1) ≡ inputs_at scans i
 before_next scans i =
     let far : (i + 1 == 0) ≡ false = grind (arith, nat_tests) in
     let back : i + 1 - 1 ≡ i = omega arith in
     ap (λ (t : Bool). if t then [] else inputs_at scans (i + 1 - 1)) far ∙ ap (inputs_at scans) back
 
-gap_next : (every i : ℕ) → gap_before every (i + 1) ≡ every
+pub gap_next : (every i : ℕ) → gap_before every (i + 1) ≡ every
 gap_next every i =
     let far : (i + 1 == 0) ≡ false = grind (arith, nat_tests) in
     ap (λ (t : Bool). if t then 0 else every) far
@@ -290,7 +290,7 @@ items_push ins (x ∷ ss) s =
     ∙ sym (append_assoc (items_made now x.act) (items_from now ss) (items_made (set_by (ins_after now ss) s.settings) s.act))
 
 -- a scan at a time
-abbrev pace_to : (from target : ℕ) → Pace
+abbrev pub pace_to : (from target : ℕ) → Pace
 pace_to from target = record { from = from; step = target - from; upto = target; count = 1 }
 
 one_made : (ins : List Bool) (from gap : ℕ) → items_made ins (act.Scans (pace_to from (from + gap))) ≡ scan (from + gap) ins ∷ []
@@ -407,7 +407,7 @@ module _ (net : Network) (sizes : ImageSizes) (total : List Item) where
   -- ---- A scan.
 
   module _ (sound : IsSound net) (plain_names : HasPlainNames net) where
-    one_set : (s : ℕ) (value : Bool) → is_one_line (set_text net s value) ≡ true
+    pub one_set : (s : ℕ) (value : Bool) → is_one_line (set_text net s value) ≡ true
     one_set s true = one_both (32 ∷ signal_text net s) (codes "=1") (text_named net sound plain_names s (nat_lt s (declared_count net)) refl) refl
     one_set s false = one_both (32 ∷ signal_text net s) (codes "=0") (text_named net sound plain_names s (nat_lt s (declared_count net)) refl) refl
 
@@ -417,7 +417,7 @@ module _ (net : Network) (sizes : ImageSizes) (total : List Item) where
     one_change s false true = one_set s true
     one_change s false false = refl
 
-    one_scan_line : (gap : ℕ) → gap ≤ 4294967295 → (before values : List Bool) → is_one_line (scan_line net gap before values) ≡ true
+    pub one_scan_line : (gap : ℕ) → gap ≤ 4294967295 → (before values : List Bool) → is_one_line (scan_line net gap before values) ≡ true
     one_scan_line gap small before values =
         let fits : gap < 2 ^ 64 = omega arith in
         one_both (codes "  +" ++ decimal gap) (changes_text net before values)
@@ -607,7 +607,7 @@ module _ (net : Network) (sizes : ImageSizes) (total : List Item) where
         (λ d' number' at' stands'. lines_are_read n (i + 1) (omega (arith, all)) d' number' at' now (now + every) (items ++ scan now values ∷ []) values stands'
         (ap (λ (g : ℕ). now + g) next_gap) size' (λ j. ap (λ (b : List Bool). slice_index_or b j false) next_before) left')))
 
-all_false : (n j : ℕ) → false ≡ slice_index_or (replicate n false) j false
+pub all_false : (n j : ℕ) → false ≡ slice_index_or (replicate n false) j false
 all_false zero j = refl
 all_false (suc n) zero = refl
 all_false (suc n) (suc j) = all_false n j
@@ -667,7 +667,7 @@ numbered_size : (rules : List InputRule) (p : Point) (a : ℕ) → length (numbe
 numbered_size [] p a = refl
 numbered_size (rule ∷ rules) p a = ap suc (numbered_size rules p (behind rule a))
 
-found_sizes : (net : Network) (q : Asked) (p : Point) (path : List ℕ) → SaysOfEach net q → All (λ ins. length ins ≡ input_count net) (inputs_from net q p path)
+pub found_sizes : (net : Network) (q : Asked) (p : Point) (path : List ℕ) → SaysOfEach net q → All (λ ins. length ins ≡ input_count net) (inputs_from net q p path)
 found_sizes net q p [] says k d inside = absurd (omega (arith, inside))
 found_sizes net q p (a ∷ path) says zero d inside = numbered_size q.inputs.items p a ∙ says
 found_sizes net q p (a ∷ path) says (suc k) d inside = found_sizes net q (next_point net q p a) path says k d (omega (arith, inside))

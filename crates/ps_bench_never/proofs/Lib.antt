@@ -1,6 +1,7 @@
 -- what a rules file asks, what is found of a rule, and its text
 pub mod Marking
 pub mod Matching
+pub mod Runs
 pub mod Pins
 pub mod Joining
 pub mod Alike
@@ -23,9 +24,15 @@ pub mod Naming
 -- what is told is so, and is read back
 pub mod Verdicts
 pub mod ScanBack
+pub mod NameBack
+pub mod CheckBack
 pub mod CaseBack
+pub mod CaseTaken
 pub mod PlainNames
 pub mod RulesBack
 pub mod ToldBack
+pub mod OutputNames
+pub mod OutputBack
+pub mod Accepted
 -- how a call of `same` ends, by what stood before its parts
 pub mod SameComing

@@ -23,7 +23,7 @@ use Rattle.ps_bench_cases.specs.File.{act_after, said_after}
 use Rattle.ps_bench_cases.specs.Stands.{one_scan, unless_over}
 use Rattle.ps_bench_cases.specs.Line.{line_said, said_by_words, settings_said}
 use Rattle.ps_bench_cases.specs.Meant.{set_by}
-use Rattle.ps_bench_cases.specs.Parts.{and_then, both}
+use Rattle.ps_bench_cases.specs.Parts.{and_then}
 use Rattle.ps_bench_cases.specs.Words.{number_said, setting_said}
 use Rattle.ps_bench_cases.specs.declared.rule.CaseRule.{CaseRule}
 use Rattle.ps_bench_never.specs.Casing.{change_text, scan_line}
@@ -120,10 +120,10 @@ name_byte b is =
 
 module _ (value : List ℕ) where
   -- a name and a value after `=`
-  abbrev with_value : List ℕ → List ℕ
+  abbrev pub with_value : List ℕ → List ℕ
   with_value name = name ++ 61 ∷ value
 
-  has : (name : List ℕ) → has_equals (with_value name) ≡ true
+  pub has : (name : List ℕ) → has_equals (with_value name) ≡ true
   has [] = refl
   has (b ∷ name) = let rest : list_any is_equals (with_value name) ≡ true = has name in grind (arith, common_steps)
 
@@ -143,10 +143,10 @@ module _ (value : List ℕ) where
   back [] = refl
   back (b ∷ name) = back name
 
-  name_read : (name : List ℕ) → list_all is_of_name name ≡ true → name_part (with_value name) ≡ name
+  pub name_read : (name : List ℕ) → list_all is_of_name name ≡ true → name_part (with_value name) ≡ name
   name_read name are = ap (λ (n : ℕ). take n (with_value name)) (place name are) ∙ front name
 
-  value_read : (name : List ℕ) → list_all is_of_name name ≡ true → value_part (with_value name) ≡ value
+  pub value_read : (name : List ℕ) → list_all is_of_name name ≡ true → value_part (with_value name) ≡ value
   value_read name are =
       let next : length name + 1 ≡ suc (length name) = omega arith in
       ap (λ (n : ℕ). drop (n + 1) (with_value name)) (place name are) ∙ ap (λ (n : ℕ). drop n (with_value name)) next ∙ back name
@@ -157,7 +157,7 @@ module _ (value : List ℕ) where
       let both = both_hold (is_of_name b) (list_all is_of_name name) are in
       ap (λ (t : Bool). t && is_unbroken (with_value name)) (name_byte b both.0).0 ∙ unbroken_value is name both.1
 
-  plain_value : is_unbroken value ≡ true → (name : List ℕ) → list_all is_of_name name ≡ true → IsPlain (with_value name)
+  pub plain_value : is_unbroken value ≡ true → (name : List ℕ) → list_all is_of_name name ≡ true → IsPlain (with_value name)
   plain_value is [] are = plain 61 value is refl
   plain_value is (b ∷ name) are =
       plain b (with_value name) (unbroken_value is (b ∷ name) are) (name_byte b (both_hold (is_of_name b) (list_all is_of_name name) are).0).1
@@ -219,7 +219,7 @@ module _ (net : Network) (sound : IsSound net) (plain_names : HasPlainNames net)
       same_name false (get_or declared s []) (get_or declared t []) (λ no. cc, λ same. absurd (apart (sym same)))
 
   -- its name is found at its place
-  found : (s : ℕ) → s < declared_count net → number_named (signal_names net) (signal_text net s) ≡ Some s
+  pub found : (s : ℕ) → s < declared_count net → number_named (signal_names net) (signal_text net s) ≡ Some s
   found s inside =
       let q = get_or declared s [] in
       ap (number_named (signal_names net)) (text_is s inside ∙ sym (has_name s inside))

@@ -9,6 +9,9 @@ pub mod Pieces
 pub mod Casing
 pub mod Telling
 pub mod Answering
+-- a rules file with one rule alone, and what it says of a rule that holds by a part of the application
+pub mod Single
+pub mod ByPart
 -- what it says if scans come at any times: what a reader of the promise has to believe
 pub mod TellingAny
 pub mod AnsweringAny

@@ -42,7 +42,10 @@ values_text name (value ∷ rest) = value_text name value ++ flat_map (λ v. cod
 abbrev pub sign : Bool → List ℕ
 sign denied = if denied then codes "!=" else codes "="
 
--- a condition as an expectation has it, as ` S_Ram=1` or ` Guard!=8000`
+-- a condition as a word of an expectation, as `S_Ram=1` or `Guard!=8000`
+abbrev pub condition_word : Network → Condition → List ℕ
+condition_word net c = name_text net c.name ++ sign c.denied ++ values_text c.name c.values
+
+-- this word after a space
 abbrev pub condition_text : Network → Condition → List ℕ
-condition_text net c =
-    codes " " ++ name_text net c.name ++ sign c.denied ++ values_text c.name c.values
+condition_text net c = codes " " ++ condition_word net c

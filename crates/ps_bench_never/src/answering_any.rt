@@ -1,21 +1,25 @@
 // The answer to a rules file.
 
-ghost use Rattle.std.specs.Prelude.{◌≡◌, ◌<◌, ◌≤◌, ℕ, List, IsTrue, Some, Err, IfOk, IsErrOf, IsSome, count_by};
+ghost use Rattle.std.specs.Prelude.{◌≡◌, ◌⊎◌, ◌<◌, ◌≤◌, ◌++◌, ◌∷◌, [], ℕ, List, IsTrue, Some, Err, IfOk, OnOk, IsErrOf, IsSome, count_by};
 ghost use Rattle.ps_outside.specs.Outside.{Rose};
 ghost use Rattle.ps_reach.specs.Reaching.{is_free};
 ghost use Rattle.ps_bench_rules.specs.File.{pace_of};
-ghost use Rattle.ps_bench_rules.specs.Standing.{IsOfApplication};
+ghost use Rattle.ps_bench_rules.specs.Standing.{IsOfApplication, IsOfNames};
 ghost use Rattle.ps_bench_rules.specs.declared.flaw.RulesRefusal.{RulesRefusal as RulesRefusalOf};
 ghost use Rattle.ps_bench_rules.specs.declared.rules.Pace.TheVariants.{Any as AtAnyTimes};
 ghost use Rattle.ps_bench_never.specs.Answering.{HasManyFree};
-ghost use Rattle.ps_bench_never.specs.Asked.{IsAskedBy, input_rules};
-ghost use Rattle.ps_bench_never.specs.AnsweringAny.{IsRefusedFor, IsTold, IsToldBehind, IsToldOf, IsToldOfAny};
+ghost use Rattle.ps_bench_never.specs.Asked.{AreAlike, IsAskedBy, input_rules};
+ghost use Rattle.ps_bench_never.specs.Answering.{IsToldBy};
+ghost use Rattle.ps_bench_never.specs.AnsweringAny.{HasRuleWithManyFree, IsJoined, IsRefusedFor, IsTold, IsToldAlone, IsToldBehind, IsToldOf, IsToldOfAny};
+ghost use Rattle.ps_bench_never.specs.Single.{with_rule};
 
 use crate::answering::{NeverFail, Told, answer_every, asked_if_few};
+use crate::by_part::answer_by_part;
 use crate::searching::attempts_of;
+use crate::single::with_rule;
 use crate::telling_any::{Searched, told};
-use ps_base::Memory;
-use ps_bench_rules::{Pace, Purpose, RulesFail, RulesFile, read_rules};
+use ps_base::{Bytes, Memory};
+use ps_bench_rules::{Pace, Purpose, Rule, RulesFail, RulesFile, read_rules};
 use ps_model::App;
 use ps_outside::Files;
 use ps_reach::{Asked, holds_whole, never_at_any_times, paces_of};
@@ -96,7 +100,98 @@ fn answer_any<W: Observer>(
     Ok(told)
 }
 
-// The answer to a rules file that is read.
+// The answer to a rules file that is read, by searches of the whole application.
+fn answer_whole<W: Observer>(
+    alloc: Global,
+    app: &App,
+    name: &str,
+    file: &RulesFile,
+    most: u32,
+    observer: &mut W,
+) -> Result<Told, NeverFail>
+    requires some { 0 < most }
+    requires stands { IsOfApplication app.now file.now }
+    ensures tells { IfOk result (λ told. IsToldBy app.now name.now most file.now told ⊎ IsToldOfAny app.now name.now most file.now told) }
+    ensures many { (refusal : RulesRefusalOf) → result ≡ Err (NeverFail.Refused refusal) → HasManyFree app.now file.now refusal }
+    ensures read { ¬ IsErrOf result NeverFail.Fault }
+{
+    match file.pace() {
+        Pace::Every(every) => answer_every(alloc, app, name, file, every, most, observer),
+        Pace::Any => answer_any(alloc, app, name, file, most, observer),
+    }
+}
+
+// The answer to a rule of a rules file by itself: by a part of the application, if that decides it, and else by searches
+// of the whole.
+fn answer_rule<W: Observer>(
+    alloc: Global,
+    app: &App,
+    name: &str,
+    file: &RulesFile,
+    rule: &Rule,
+    most: u32,
+    observer: &mut W,
+) -> Result<Told, NeverFail>
+    requires some { 0 < most }
+    requires stands { IsOfApplication app.now file.now }
+    requires names { IsOfNames app.now rule.now }
+    ensures tells { IfOk result (IsToldAlone app.now name.now most file.now rule.now) }
+    ensures many { (refusal : RulesRefusalOf) → result ≡ Err (NeverFail.Refused refusal) → HasManyFree app.now (with_rule file.now rule.now) refusal }
+    ensures read { ¬ IsErrOf result NeverFail.Fault }
+{
+    let one = with_rule(alloc, file, rule)?;
+    match answer_by_part(alloc, app, name, &one, rule, most, observer)? {
+        Some(told) => Ok(told),
+        None => answer_whole(alloc, app, name, &one, most, observer),
+    }
+}
+
+// Adds what is told of a rule.
+fn add_told(tolds: &mut Vec<Told>, told: Told) -> Result<(), Memory>
+    ensures { OnOk result (tolds.new.items ≡ tolds.old.items ++ told ∷ []) }
+{
+    tolds.push(told)?;
+    Ok(())
+}
+
+// The answers to the rules of a rules file, each by itself.
+fn answer_rules<W: Observer>(
+    alloc: Global,
+    app: &App,
+    name: &str,
+    file: &RulesFile,
+    most: u32,
+    observer: &mut W,
+) -> Result<Vec<Told>, NeverFail>
+    requires some { 0 < most }
+    requires stands { IsOfApplication app.now file.now }
+    ensures tells { IfOk result (λ tolds. AreAlike (IsToldAlone app.now name.now most file.now) file.now.rules tolds.items) }
+    ensures many { (refusal : RulesRefusalOf) → result ≡ Err (NeverFail.Refused refusal) → HasRuleWithManyFree app.now file.now refusal }
+    ensures read { ¬ IsErrOf result NeverFail.Fault }
+{
+    let rules = file.rules.as_slice();
+    let mut tolds = Vec::new(alloc);
+    for rule in rules {
+        let told = answer_rule(alloc, app, name, file, rule, most, observer)?;
+        add_told(&mut tolds, told)?;
+    }
+    Ok(tolds)
+}
+
+// All that is told of rules, in order, and whether all of them hold.
+fn joined(alloc: Global, tolds: &[Told]) -> Result<Told, Memory>
+    ensures { IfOk result (IsJoined tolds.now) }
+{
+    let mut text = Bytes::new(alloc);
+    let mut do_all_hold = true;
+    for told in tolds {
+        text.extend_from_slice(told.text.as_slice())?;
+        do_all_hold = do_all_hold && told.do_all_hold;
+    }
+    Ok(Told { text, do_all_hold })
+}
+
+// The answer to a rules file that is read: to each rule by itself.
 fn answer_file<W: Observer>(
     alloc: Global,
     app: &App,
@@ -108,13 +203,12 @@ fn answer_file<W: Observer>(
     requires some { 0 < most }
     requires stands { IsOfApplication app.now file.now }
     ensures tells { IfOk result (IsTold app.now name.now most file.now) }
-    ensures many { (refusal : RulesRefusalOf) → result ≡ Err (NeverFail.Refused refusal) → HasManyFree app.now file.now refusal }
+    ensures many { (refusal : RulesRefusalOf) → result ≡ Err (NeverFail.Refused refusal) → HasRuleWithManyFree app.now file.now refusal }
     ensures read { ¬ IsErrOf result NeverFail.Fault }
 {
-    match file.pace() {
-        Pace::Every(every) => answer_every(alloc, app, name, file, every, most, observer),
-        Pace::Any => answer_any(alloc, app, name, file, most, observer),
-    }
+    let tolds = answer_rules(alloc, app, name, file, most, observer)?;
+    let told = joined(alloc, tolds.as_slice())?;
+    Ok(told)
 }
 
 /// The answer to the rules file of this name, of which so many states may be held: what is told of its rules, and whether

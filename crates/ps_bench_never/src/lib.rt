@@ -11,6 +11,7 @@
 //! `never`, whether the scans of the rules file come so many ms apart or at any times:
 //!
 //! - `telling`: the whole text if scans come so many ms apart. `answering`: the answer then.
+//! - `single`: a file with one of its rules alone. `by_part`: a rule that holds by a part of the application.
 //! - `searching`: the searches of rules whose scans come some ms apart. `telling_any`: the text of what they found.
 //!   `answering_any`: the answer to any rules file.
 //! - `forbidding`: `never APP RULES`.
@@ -26,6 +27,7 @@
 
 mod answering;
 mod answering_any;
+mod by_part;
 mod casing;
 mod comparing;
 mod forbidding;
@@ -38,6 +40,7 @@ mod same_answering;
 pub mod same_laws;
 mod same_telling;
 mod searching;
+mod single;
 mod telling;
 mod telling_any;
 mod wanted;

@@ -5,7 +5,7 @@ ghost use Rattle.ps_model.specs.Network.{input_count as count_of_inputs};
 ghost use Rattle.std.specs.List.{All};
 ghost use Rattle.ps_bench_rules.specs.Standing.{IsOfApplication, IsOfName, IsOfNames};
 ghost use Rattle.ps_bench_names.specs.Names.{IsNameOf};
-ghost use Rattle.ps_bench_never.specs.Asked.{AreAlike, IsAskedBy, IsCheckOf, IsRuleOf, followed_by, input_rules};
+ghost use Rattle.ps_bench_never.specs.Asked.{AreAlike, IsAskedBy, IsCheckOf, IsMeantBy, IsRuleOf, followed_by, input_rules, said_of, said_rules};
 ghost use Rattle.ps_bench_never.specs.Asked.{rule_by, rules_of_two, source_by, subject_of, value_given};
 
 use crate::wanted::wanted_inputs;
@@ -164,6 +164,36 @@ fn rules_of(alloc: Global, app: &App, rules: &[Rule]) -> Result<Vec<SearchRule>,
         asked.push(rule_of(alloc, app, rule)?)?;
     }
     Ok(asked)
+}
+
+// What is said of each input, whether something reads it or not.
+fn said_rules(alloc: Global, app: &App, file: &RulesFile) -> Result<Vec<InputRule>, Memory>
+    ensures { IfOk result (λ rules. rules.items ≡ said_rules app.now file.now) }
+{
+    let count = app.input_count();
+    let mut rules = Vec::with_capacity(alloc, count as usize)?;
+    for i in 0..count {
+        rules.push(rule_by(file, true, i))?;
+    }
+    Ok(rules)
+}
+
+/// What a rules file means of an application, where scans are so many ms apart: an input of which it says nothing may be
+/// TRUE or FALSE in each scan. `Err` comes only if memory runs out.
+pub(crate) fn meant_of(
+    alloc: Global,
+    app: &App,
+    file: &RulesFile,
+    every: u32,
+) -> Result<Asked, Memory>
+    requires { IsOfApplication app.now file.now }
+    ensures { IfOk result (IsMeantBy app.now file.now every) }
+{
+    Ok(Asked {
+        every,
+        inputs: said_rules(alloc, app, file)?,
+        rules: rules_of(alloc, app, file.rules.as_slice())?,
+    })
 }
 
 /// What a rules file asks of an application, where scans are so many ms apart: an input that nothing reads is

@@ -6,6 +6,7 @@ ghost use Rattle.ps_lsp_text.specs.Stages.{ended_by, stage_of};
 ghost use Rattle.ps_lsp_main.specs.Endings.{Goes, Leads, ending_in, status_of};
 ghost use Rattle.ps_lsp_main.specs.Streaming.{EndsWith, HandsOn, HandsOnNext, IsFailed, IsShort, Serves, ServesFrame};
 ghost use Rattle.ps_lsp_main.specs.Streaming.{ServesNext, ServesStream};
+ghost use Rattle.ps_lsp_main.specs.declared.serving.Ending.{Ending as EndingOf};
 
 use ps_lsp_rpc::{Frame, Incoming, Unsent, read_frame, send_reply};
 use ps_lsp_text::Server;
@@ -151,4 +152,19 @@ pub(crate) fn serve<I: Incoming, O: Output>(alloc: Global, input: &mut I, out: &
         }
     }
     Ending::Unread
+}
+
+/// Serves the messages of a stream, and says the number with which the program exits: 0 after `exit` that follows
+/// `shutdown`, 1 after one that does not and at the end of the input, 5 where the input cannot be read, 6 where the
+/// output cannot be written, and 7 if memory runs out.
+pub(crate) fn exit_of_stream<I: Incoming, O: Output>(
+    alloc: Global,
+    input: &mut I,
+    out: &mut O,
+) -> u8
+    ensures exits { (ending : EndingOf) × (result ≡ status_of ending)
+        × ServesStream (I.tells input.old) (O.tells out.old) ending (I.ahead input.old) (I.ahead input.new)
+        (O.taken out.old) (O.taken out.new) (O.held_back out.old) (O.held_back out.new) }
+{
+    serve(alloc, input, out).number()
 }

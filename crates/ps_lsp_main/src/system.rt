@@ -1,6 +1,6 @@
 // The server over standard input and standard output.
 
-use crate::serving::{Ending, serve};
+use crate::serving::{Ending, exit_of_stream};
 use ps_lsp_rpc::SystemIncoming;
 use ps_outside::StdSink;
 use std::io;
@@ -17,5 +17,5 @@ pub(crate) fn exit_of_server<R: Input + Print + AllocGlobal>(system: &R) -> u8 {
     };
     let mut input = SystemIncoming::new(reader);
     let mut out = StdSink::new(writer);
-    serve(alloc, &mut input, &mut out).number()
+    exit_of_stream(alloc, &mut input, &mut out)
 }

@@ -1,5 +1,5 @@
 -- Requests and answers, after JSON-RPC 2.0: what a message asks, and what its answer is.
-use Rattle.std.specs.Prelude.{◌≡◌, ◌⊎◌, ℕ, ℤ, negsuc, List, Option, Some, None, Bool, true, false, codes, cond}
+use Rattle.std.specs.Prelude.{◌≡◌, ℕ, ℤ, negsuc, List, Option, Some, None, Bool, true, false, codes, cond}
 use Rattle.std.specs.Prelude.{option_map, option_and_then}
 use Rattle.std.specs.Str.{IsUtf8}
 use Rattle.serde_json.specs.Data.{Data, null, boolean, number, string, array, object, member}
@@ -10,13 +10,15 @@ use Rattle.serde_json.specs.View.{view}
 use Rattle.ps_lsp_rpc.specs.declared.request.Request.{Request}
 use Rattle.ps_lsp_rpc.specs.declared.answering.Code.{Code}
 use Rattle.ps_lsp_rpc.specs.declared.answering.Code.TheVariants.{NoJson, NoRequest, NoMethod, NoParams, NotReady}
+use Rattle.ps_lsp_rpc.specs.declared.answering.Outcome.{Outcome}
+use Rattle.ps_lsp_rpc.specs.declared.answering.Outcome.TheVariants.{Given, Failed}
 
 -- what a message asks
 pub data Asked : Type 0 where
   -- it is no JSON
   unreadable : Asked
-  -- it is JSON and no request, and its id is none
-  invalid : Asked
+  -- it is JSON and no request: why
+  invalid : (why : List ℕ) → Asked
   -- a request, which has an answer under its id
   request : (id : Data) → (method : List ℕ) → Asked
   -- a notification, which has no answer
@@ -35,10 +37,10 @@ is_id (object _) = false
 
 -- what a message with this id and this method asks, of which each may be wanting
 abbrev pub asked_by : Option Data → Option (List ℕ) → Asked
-asked_by (Some id) (Some method) = cond (is_id id) (request id method) invalid
+asked_by (Some id) (Some method) = cond (is_id id) (request id method) (invalid (codes "an id is a number or a text"))
 asked_by (Some id) None = answer
 asked_by None (Some method) = notification method
-asked_by None None = invalid
+asked_by None None = invalid (codes "a request has a method")
 
 -- what a message of this value asks
 abbrev pub asked_of : Data → Asked
@@ -76,18 +78,26 @@ failure id code why =
     object (member (codes "error") (object (member (codes "code") (number (of_integer (code_number code))) (member (codes "message") (string why) no_members)))
     (member (codes "id") id (member (codes "jsonrpc") (string (codes "2.0")) no_members)))
 
--- a value is the one answer to the request of an id: a result, or why there is none
-abbrev pub IsAnswerOf : (id : Data) → Data → Type 0
-IsAnswerOf id value = ((result : Data) × (value ≡ success id result)) ⊎ ((code : Code) × (why : List ℕ) × (value ≡ failure id code why))
+-- what there is to say of a request: its result, or why it has none
+pub data Said : Type 0 where
+  gives : (value : Data) → Said
+  fails : Code → (why : List ℕ) → Said
 
--- Each message is answered as often as it asks: a request once under its id, what is no request once under no id,
--- and a notification or an answer never.
-abbrev pub Answers : Asked → Option Data → Type 0
-Answers (request id method) (Some value) = IsAnswerOf id value
-Answers (request id method) None = ⊥
-Answers unreadable (Some value) = (why : List ℕ) × (value ≡ failure null NoJson why)
-Answers unreadable None = ⊥
-Answers invalid (Some value) = (why : List ℕ) × (value ≡ failure null NoRequest why)
-Answers invalid None = ⊥
-Answers (notification method) given = given ≡ None
-Answers answer given = given ≡ None
+-- what an outcome says
+abbrev pub said_by : Outcome → Said
+said_by (Given value) = gives (view value)
+said_by (Failed code why) = fails code why.now
+
+-- the answer to the request of an id of which this is said
+abbrev pub answer_of : (id : Data) → Said → Data
+answer_of id (gives value) = success id value
+answer_of id (fails code why) = failure id code why
+
+-- The answer to a message of which this is said, where it is a request: a request has one, under its id, that says just
+-- this; what is no request has one under no id, that says so; and a notification or an answer has none.
+abbrev pub answer_to : Asked → Said → Option Data
+answer_to (request id method) said = Some (answer_of id said)
+answer_to unreadable said = Some (failure null NoJson (codes "the message is no JSON"))
+answer_to (invalid why) said = Some (failure null NoRequest why)
+answer_to (notification method) said = None
+answer_to answer said = None

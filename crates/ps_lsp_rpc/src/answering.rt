@@ -3,7 +3,8 @@
 ghost use Rattle.std.specs.Prelude.{◌≡◌, IfOk, option_map};
 ghost use Rattle.serde_json.specs.Data.{null};
 ghost use Rattle.serde_json.specs.View.{view};
-ghost use Rattle.ps_lsp_rpc.specs.Rpc.{Answers, IsAnswerOf, asked, code_number, failure, is_id, success, value_of};
+ghost use Rattle.ps_lsp_rpc.specs.Rpc.{answer_of, answer_to, asked, code_number, failure, is_id, said_by, success};
+ghost use Rattle.ps_lsp_rpc.specs.Rpc.{value_of};
 
 use crate::request::Request;
 use ps_base::Memory;
@@ -66,7 +67,7 @@ fn failure(alloc: Global, id: Value, code: Code, why: &str) -> Result<Value, All
 
 // The answer to the request of an id.
 fn answer_of(alloc: Global, id: &Value, outcome: Outcome) -> Result<Value, AllocError>
-    ensures { IfOk result (λ v. IsAnswerOf (view id.now) (view v)) }
+    ensures { IfOk result (λ v. view v ≡ answer_of (view id.now) (said_by outcome)) }
 {
     let id = id.clone()?;
     match outcome {
@@ -92,10 +93,11 @@ fn refused(alloc: Global, code: Code, why: &str) -> Result<Option<Value>, Memory
     Ok(Some(failure(alloc, Value::Null, code, why)?))
 }
 
-/// The answer to a message of which this came: of a request one, with its id; of what is no request one that says so;
-/// of a notification, and of an answer, none.
+/// The answer to a message of which this came: of a request one, with its id, that says what came of it; of what is no
+/// request one that says so; of a notification, and of an answer, none.
 pub fn answer(alloc: Global, request: &Request, outcome: Outcome) -> Result<Option<Value>, Memory>
-    ensures { IfOk result (λ given. Answers (asked (value_of request.now)) (option_map view given)) }
+    ensures answers { IfOk result (λ given.
+        option_map view given ≡ answer_to (asked (value_of request.now)) (said_by outcome)) }
 {
     if request.value().is_none() {
         return refused(alloc, Code::NoJson, "the message is no JSON");

@@ -19,7 +19,16 @@ mod AtTokens
 mod AmongTokens
 mod Definitions
 -- what is told of a place
+mod Growing
+mod Capitals
+mod OpenBrackets
+mod SectionsAt
+mod Drivers
 mod Hovers
+mod DemandLines
+-- what a text declares
+mod Spotted
+mod Outlined
 -- what may be written at a place
 mod Items
 mod Offered

@@ -7,8 +7,8 @@ use Rattle.ps_model.specs.declared.kind.Kind.{Kind}
 use Rattle.ps_model.specs.Pins.{pin_count}
 use Rattle.ps_lsp_text.specs.Looking.{AreSeen, AreSeenBy}
 use Rattle.ps_lsp_text.specs.Declaring.{IsInstance}
-use Rattle.ps_lsp_text.specs.Hovering.{IsAfterDot, is_output_place}
-use Rattle.ps_lsp_text.specs.Completing.{AreOutputs, IsCompleted, whole_before}
+use Rattle.ps_lsp_text.specs.Hovering.{is_output_place}
+use Rattle.ps_lsp_text.specs.Completing.{AreOutputs, IsAfterDot, IsCompleted, whole_before}
 use Rattle.ps_lsp_text.specs.declared.completing.Item.{Item}
 use Rattle.ps_lsp_text.specs.declared.made.MadeList.{MadeList}
 

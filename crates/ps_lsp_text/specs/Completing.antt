@@ -1,7 +1,9 @@
--- What may be written at a place of a text.
+-- What may be written at a place of a text, and as JSON after the Language Server Protocol.
 use Rattle.std.specs.Prelude.{◌≡◌, ◌==◌, ℕ, ◌+◌, ◌-◌, ◌<◌, Bool, false, ◌&&◌, ◌||◌, not, nat_lt, nat_le, is_some, true, if◌then◌else◌}
-use Rattle.std.specs.Prelude.{List, [], Option, Some, None, length, slice_get, unwrap_or}
+use Rattle.std.specs.Prelude.{List, [], Option, Some, None, codes, length, map, slice_get, unwrap_or}
 use Rattle.std.specs.List.{position_or_len}
+use Rattle.serde_json.specs.Data.{Data, array, member, no_members, number, object, string, unsigned}
+use Rattle.serde_json.specs.View.{items_of}
 use Rattle.ps_base.specs.declared.failing.Place.{Place}
 use Rattle.ps_lexer.specs.declared.token.Token.{Token}
 use Rattle.ps_model.specs.declared.kind.Kind.{Kind}
@@ -9,10 +11,18 @@ use Rattle.ps_model.specs.Blocks.{block}
 use Rattle.ps_model.specs.Pins.{pin_count, pin_names}
 use Rattle.ps_lsp_text.specs.Looking.{AreSeen, AreSeenBy, name_of_form, width_of}
 use Rattle.ps_lsp_text.specs.Declaring.{IsInstance}
-use Rattle.ps_lsp_text.specs.Hovering.{IsAfterDot, is_output_place, pin_text}
+use Rattle.ps_lsp_text.specs.Describing.{pin_text}
+use Rattle.ps_lsp_text.specs.Hovering.{is_output_place}
+use Rattle.ps_lsp_text.specs.Published.{text_of}
 use Rattle.ps_lsp_text.specs.declared.completing.Item.{Item}
 use Rattle.ps_lsp_text.specs.declared.completing.Sort.{Sort}
 use Rattle.ps_lsp_text.specs.declared.completing.Sort.TheVariants as sort
+
+-- a token stands after the dot of an instance
+pub record IsAfterDot (today earlier : List Token) (token : ℕ) : Type 0 where
+  pub place : is_output_place today token ≡ true
+  pub kind : Kind
+  pub instance : IsInstance today earlier (token - 2) kind
 
 -- an item with this label and this detail
 abbrev pub item_with : Sort → (label detail : List ℕ) → Item
@@ -61,3 +71,22 @@ pub record IsCompleted (text : List ℕ) (parsed : Option (List ℕ)) (place : P
       (kind : Kind) × IsInstance today earlier (whole_before today place - 2) kind × AreOutputs kind (pin_count kind) items
   pub nothing : is_output_place today (whole_before today place) ≡ true →
       ((kind : Kind) → IsInstance today earlier (whole_before today place - 2) kind → ⊥) → items ≡ []
+
+-- what an item is, by the numbers of the protocol: a class, a field, a variable or a keyword
+abbrev pub sort_number : Sort → ℕ
+sort_number sort.Kind = 7
+sort_number sort.Pin = 5
+sort_number sort.Name = 6
+sort_number sort.Keyword = 14
+
+-- an item
+abbrev pub item_data : Item → Data
+item_data item =
+    object (member (codes "detail") (string (text_of item.detail)) (member (codes "kind") (number (unsigned (sort_number item.sort)))
+    (member (codes "label") (string (text_of item.label)) no_members)))
+
+-- an answer lists what may be written at a place of a text
+pub record Completes (text : List ℕ) (parsed : Option (List ℕ)) (place : Place) (answer : Data) : Type 0 where
+  pub items : List Item
+  pub completed : IsCompleted text parsed place items
+  pub is : answer ≡ array (items_of (map item_data items))

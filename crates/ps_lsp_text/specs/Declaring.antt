@@ -53,13 +53,17 @@ HoldsFor today earlier name token declared =
     MatchBool declared.is_today (IsDeclaration today name token declared.at)
     (IsUndeclared today name × IsDeclaration earlier name (length earlier) declared.at)
 
+-- the tokens of the text that declares a name
+abbrev pub declaring_tokens : (today earlier : List Token) → Declared → List Token
+declaring_tokens today earlier declared = if declared.is_today then today else earlier
+
 -- one of today's tokens is a name that is declared with this type
 pub record IsTyped (today earlier : List Token) (token : ℕ) (ty : List ℕ) : Type 0 where
   pub name : List ℕ
   pub there : name_in today token ≡ Some name
   pub declared : Declared
   pub holds : HoldsFor today earlier name token declared
-  pub typed : IsTypeOf (if declared.is_today then today else earlier) declared.at (Some ty)
+  pub typed : IsTypeOf (declaring_tokens today earlier declared) declared.at (Some ty)
 
 -- one of today's tokens is the name of an instance of this kind, whose name is the type in any letter case
 pub record IsInstance (today earlier : List Token) (token : ℕ) (kind : Kind) : Type 0 where

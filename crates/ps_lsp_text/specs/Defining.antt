@@ -6,10 +6,9 @@ use Rattle.ps_base.specs.declared.failing.Place.{Place}
 use Rattle.ps_lexer.specs.declared.token.Form.{Form}
 use Rattle.ps_lexer.specs.declared.token.Form.TheVariants as form
 use Rattle.ps_lexer.specs.declared.token.Token.{Token}
-use Rattle.ps_text.specs.Columns.{position, place_behind}
-use Rattle.ps_text.specs.declared.positions.Range.{Range}
 use Rattle.ps_lsp_text.specs.Looking.{AreSeen, AreSeenBy, form_in, name_in, name_touched, width_of}
 use Rattle.ps_lsp_text.specs.Declaring.{IsDeclaration, IsUndeclared}
+use Rattle.ps_lsp_text.specs.Pieces.{range_of}
 use Rattle.ps_lsp_text.specs.Published.{range_data}
 use Rattle.ps_lsp_text.specs.declared.defining.Defined.{Defined}
 
@@ -59,18 +58,11 @@ pub record IsDefined (text : List ℕ) (parsed : Option (List ℕ)) (place : Pla
 abbrev pub declaring : (text : List ℕ) (parsed : Option (List ℕ)) → Defined → List ℕ
 declaring text parsed found = if found.is_today then text else unwrap_or parsed text
 
--- the piece of a text that declares a name
-abbrev pub declared_range : List ℕ → Defined → Range
-declared_range text found = record {
-  start = position text found.place;
-  end = position text (place_behind found.place found.width);
-}
-
 -- the answer: the name of the text and the range of the declaration, or null
 abbrev pub definition_data : (uri text : List ℕ) (parsed : Option (List ℕ)) → Option Defined → Data
 definition_data uri text parsed None = null
 definition_data uri text parsed (Some found) =
-    object (member (codes "range") (range_data (declared_range (declaring text parsed found) found))
+    object (member (codes "range") (range_data (range_of (declaring text parsed found) found.place found.width))
     (member (codes "uri") (string uri) no_members))
 
 -- an answer is the range of the declaration of the name at a place of a text, or null if it has none

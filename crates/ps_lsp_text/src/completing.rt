@@ -4,8 +4,8 @@ ghost use Rattle.std.specs.Prelude.{◌≡◌, ◌-◌, ◌<◌, ◌++◌, ◌�
 ghost use Rattle.ps_model.specs.declared.kind.Kind.{Kind};
 ghost use Rattle.ps_model.specs.Pins.{pin_count};
 ghost use Rattle.ps_lsp_text.specs.Declaring.{IsInstance};
-ghost use Rattle.ps_lsp_text.specs.Hovering.{IsAfterDot, is_output_place};
-ghost use Rattle.ps_lsp_text.specs.Completing.{AreOutputs, IsCompleted, item_with, pin_item, whole_before};
+ghost use Rattle.ps_lsp_text.specs.Hovering.{is_output_place};
+ghost use Rattle.ps_lsp_text.specs.Completing.{AreOutputs, IsAfterDot, IsCompleted, item_with, pin_item, whole_before};
 
 use crate::declared::{declared_type, is_in_section};
 use crate::described::add_pin;

@@ -1,7 +1,11 @@
 // Declarations and calls among tokens.
 
-ghost use Rattle.std.specs.Prelude.{◌≡◌, ℕ, true, false, IfSome, IfNone, option_map};
+ghost use Rattle.std.specs.Prelude.{◌≡◌, ◌+◌, ◌-◌, ◌<◌, ℕ, true, false, length, min, IfSome, IfNone, option_map};
+ghost use Rattle.ps_lsp_text.specs.Calls.{IsBracketBefore, closing, is_bracket, is_semicolon, opening};
 ghost use Rattle.ps_lsp_text.specs.Declaring.{Declares, IsColonOf, IsDeclaration, IsTypeOf, IsUndeclared};
+ghost use Rattle.ps_lsp_text.specs.Looking.{form_in};
+ghost use Rattle.ps_lsp_text.specs.Outlining.{is_within};
+ghost use Rattle.ps_lsp_text.specs.Sections.{IsSectionOf, opens_section, section_after};
 
 use crate::looking::{form_at, name_at, word_at};
 use ps_lexer::{Form, Token, Word};
@@ -61,40 +65,87 @@ pub(crate) fn declaration_of(tokens: &[Token], name: &[u8], upto: usize) -> Opti
     found
 }
 
+// Whether a keyword opens a section of names.
+fn opens_section(word: Word) -> bool
+    ensures { result ≡ opens_section word }
+{
+    matches!(word, Word::VarInput | Word::VarOutput | Word::Var)
+}
+
 /// Whether tokens stand in a section after a token, where it opens or ends one, and else what was.
-pub(crate) fn is_in_section(tokens: &[Token], at: usize, was: bool) -> bool {
+pub(crate) fn is_in_section(tokens: &[Token], at: usize, was: bool) -> bool
+    requires { at < length tokens.now }
+    ensures { was ≡ is_within tokens.now at → result ≡ is_within tokens.now (at + 1) }
+{
     match word_at(tokens, at) {
-        Some(Word::VarInput | Word::VarOutput | Word::Var) => true,
-        Some(_) => false,
+        Some(word) => opens_section(word),
         None => was,
     }
 }
 
-/// The section in which a token stands.
-pub(crate) fn section_at(tokens: &[Token], at: usize) -> Option<Word> {
-    for i in (0..at.min(tokens.len())).rev() {
-        match word_at(tokens, i) {
-            Some(word) if matches!(word, Word::VarInput | Word::VarOutput | Word::Var) => {
-                return Some(word);
-            }
-            Some(Word::EndVar) => return None,
-            _ => (),
-        }
+// The section in which tokens stand after a keyword, if there is one, and before it.
+fn section_after(was: Option<Word>, word: Option<Word>) -> Option<Word>
+    ensures { result ≡ section_after was word }
+{
+    match word {
+        Some(Word::VarInput | Word::VarOutput | Word::Var) => word,
+        Some(Word::EndVar) => None,
+        _ => was,
     }
-    None
 }
 
-/// The bracket that is open before a token.
-pub(crate) fn bracket_before(tokens: &[Token], at: usize) -> Option<usize> {
+/// The section in which a token stands.
+pub(crate) fn section_at(tokens: &[Token], at: usize) -> Option<Word>
+    ensures { IsSectionOf tokens.now at result }
+{
+    let mut section = None;
+    for i in 0..at.min(tokens.len()) {
+        section = section_after(section, word_at(tokens, i));
+    }
+    section
+}
+
+// Whether a token is a semicolon.
+fn is_semicolon(tokens: &[Token], i: usize) -> bool
+    ensures { result ≡ is_semicolon (form_in tokens.now i) }
+{
+    matches!(form_at(tokens, i), Some(Form::Semicolon))
+}
+
+// Whether a token is a bracket that opens.
+fn is_bracket(tokens: &[Token], i: usize) -> bool
+    ensures { result ≡ is_bracket (form_in tokens.now i) }
+{
+    matches!(form_at(tokens, i), Some(Form::LeftBracket))
+}
+
+// How many brackets close from a token on that open before it, by how many do so from the next one on.
+fn depth_before(tokens: &[Token], i: usize, depth: usize) -> usize
+    ensures { result ≡ min (depth + closing (form_in tokens.now i)) 18446744073709551615 - opening (form_in tokens.now i) }
+{
+    match form_at(tokens, i) {
+        Some(Form::RightBracket) => depth.saturating_add(1),
+        Some(Form::LeftBracket) => depth.saturating_sub(1),
+        _ => depth,
+    }
+}
+
+/// The bracket that is open before a token, in its statement.
+pub(crate) fn bracket_before(tokens: &[Token], at: usize) -> Option<usize>
+    ensures some { IfSome result (IsBracketBefore tokens.now at) }
+    ensures none { IfNone result ((bracket : ℕ) → IsBracketBefore tokens.now at bracket → ⊥) }
+{
     let mut depth = 0usize;
-    for i in (0..at.min(tokens.len())).rev() {
-        match form_at(tokens, i) {
-            Some(Form::Semicolon) => return None,
-            Some(Form::RightBracket) => depth = depth.saturating_add(1),
-            Some(Form::LeftBracket) if depth == 0 => return Some(i),
-            Some(Form::LeftBracket) => depth = depth.saturating_sub(1),
-            _ => (),
+    let mut i = at.min(tokens.len());
+    while i > 0 {
+        i -= 1;
+        if is_semicolon(tokens, i) {
+            return None;
         }
+        if depth == 0 && is_bracket(tokens, i) {
+            return Some(i);
+        }
+        depth = depth_before(tokens, i, depth);
     }
     None
 }

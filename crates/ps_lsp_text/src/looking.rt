@@ -5,6 +5,7 @@ ghost use Rattle.ps_lexer.specs.Gaps.{place_after};
 ghost use Rattle.ps_lsp_text.specs.Completing.{begins_before, tokens_before};
 ghost use Rattle.ps_lsp_text.specs.Defining.{is_dot};
 ghost use Rattle.ps_lsp_text.specs.Pieces.{AreTokensOf};
+ghost use Rattle.ps_lsp_text.specs.Sections.{word_in};
 ghost use Rattle.ps_lsp_text.specs.Looking.{AreSeen, form_in, name_in, name_touched, width_of, touches};
 
 use ps_base::{Fail, Memory, Place};
@@ -74,7 +75,9 @@ pub(crate) fn name_at(tokens: &[Token], i: usize) -> Option<&[u8]>
 }
 
 /// The keyword at a place among the tokens, if there is one.
-pub(crate) fn word_at(tokens: &[Token], i: usize) -> Option<Word> {
+pub(crate) fn word_at(tokens: &[Token], i: usize) -> Option<Word>
+    ensures { result ≡ word_in tokens.now i }
+{
     match form_at(tokens, i) {
         Some(Form::Word(word)) => Some(*word),
         _ => None,

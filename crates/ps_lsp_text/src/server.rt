@@ -5,25 +5,28 @@ ghost use Rattle.serde_json.specs.View.{view};
 ghost use Rattle.ps_lsp_text.specs.Findings.{Diagnoses, all_of};
 ghost use Rattle.ps_accepted.specs.Answering.{IsFrontOf};
 ghost use Rattle.ps_lsp_text.specs.Texts.{held};
-ghost use Rattle.ps_lsp_text.specs.Asking.{uri_in};
+ghost use Rattle.ps_lsp_text.specs.Answering.{IsResultAt, Says, beginning, capabilities, said_closing, said_fresh};
+ghost use Rattle.ps_lsp_text.specs.Answering.{said_opening, said_shut, saying_asked, saying_at, saying_by, saying_in};
+ghost use Rattle.ps_lsp_text.specs.Answering.{saying_of, saying_on};
+ghost use Rattle.ps_lsp_text.specs.Asking.{position_in, uri_in};
 ghost use Rattle.ps_lsp_text.specs.Published.{TellsOf, front};
 ghost use Rattle.ps_lsp_text.specs.Publishing.{Holds, Publishes, closing_of, findings_of, publishing_by, publishing_in};
 ghost use Rattle.ps_lsp_text.specs.Publishing.{publishing_of};
 ghost use Rattle.ps_lsp_text.specs.Publishing.Publishing.{nothing};
-ghost use Rattle.ps_lsp_rpc.specs.Rpc.{value_of};
+ghost use Rattle.serde_json.specs.Data.{null};
+ghost use Rattle.ps_lsp_rpc.specs.Rpc.{fails, gives, said_by, value_of};
 ghost use Rattle.ps_lsp_text.specs.Serving.{IsAnswered};
 ghost use Rattle.ps_lsp_text.specs.Stages.{ended_by, method_in, stage_after, stage_by, stage_of};
 
-use crate::asking::{changed_text, position_in, text_at, uri_of};
+use crate::asking::{changed_text, place_of, position_in, text_at, uri_of};
 use crate::fronts::front_of;
 use crate::published::{published, withdrawn};
 use crate::shown::{completion_value, definition_value, hover_value, symbols_value};
 use crate::{Asked, Findings, Texts, findings_in};
 use ps_base::Memory;
 use ps_lsp_rpc::{Code, Outcome, Reply, Request, answer};
-use ps_text::place_at;
-use serde_json::Value;
-use std::alloc::Global;
+use serde_json::{Value, json};
+use std::alloc::{AllocError, Global};
 
 /// How far a server is.
 #[derive(Clone, Copy)]
@@ -58,7 +61,8 @@ impl Drop for Server {
 
 // A result, and no notice.
 fn given(value: Value) -> Done
-    ensures { Publishes nothing (option_map view result.notice) }
+    ensures says { said_by result.outcome ≡ gives (view value) }
+    ensures publishes { Publishes nothing (option_map view result.notice) }
 {
     Done {
         outcome: Outcome::Given(value),
@@ -68,7 +72,8 @@ fn given(value: Value) -> Done
 
 // Why there is no result.
 fn failed(code: Code, why: &'static str) -> Done
-    ensures { Publishes nothing (option_map view result.notice) }
+    ensures says { said_by result.outcome ≡ fails code why.now }
+    ensures publishes { Publishes nothing (option_map view result.notice) }
 {
     Done {
         outcome: Outcome::Failed(code, why),
@@ -78,7 +83,8 @@ fn failed(code: Code, why: &'static str) -> Done
 
 // A notice, where a message is a notification.
 fn told(notice: Value) -> Done
-    ensures { result.notice ≡ Some notice }
+    ensures says { said_by result.outcome ≡ gives null }
+    ensures tells { result.notice ≡ Some notice }
 {
     Done {
         outcome: Outcome::Given(Value::Null),
@@ -87,24 +93,25 @@ fn told(notice: Value) -> Done
 }
 
 // What the server can do.
-const CAPABILITIES: &str = r#"{
-    "capabilities": {
+fn capabilities(alloc: Global) -> Result<Value, AllocError>
+    ensures { IfOk result (λ v. view v ≡ capabilities) }
+{
+    json!(in alloc; {
         "positionEncoding": "utf-16",
-        "textDocumentSync": {"openClose": true, "change": 1},
+        "textDocumentSync": {"openClose": true, "change": 1u32},
         "hoverProvider": true,
         "definitionProvider": true,
         "documentSymbolProvider": true,
         "completionProvider": {"triggerCharacters": ["."]}
-    },
-    "serverInfo": {"name": "plcsafe-lsp"}
-}"#;
+    })
+}
 
-// What the server can do, as JSON.
-fn capabilities(alloc: Global) -> Result<Value, Memory> {
-    match Value::from_str(alloc, CAPABILITIES) {
-        Ok(value) => Ok(value),
-        Err(_) => Err(Memory),
-    }
+// The same, and the name of the server.
+fn beginning(alloc: Global) -> Result<Value, AllocError>
+    ensures { IfOk result (λ v. view v ≡ beginning) }
+{
+    let capabilities = capabilities(alloc)?;
+    json!(in alloc; {"capabilities": capabilities, "serverInfo": {"name": "plcsafe-lsp"}})
 }
 
 // How far a server is after a method.
@@ -142,7 +149,10 @@ enum Asks {
 }
 
 // The result of a question about a place of the text of a name.
-fn result_at(alloc: Global, asks: Asks, uri: &str, asked: Asked) -> Result<Value, Memory> {
+fn result_at(alloc: Global, asks: Asks, uri: &str, asked: Asked) -> Result<Value, Memory>
+    ensures { IfOk result (λ v. IsResultAt asks uri.now asked.entry.text.now
+        (option_map (λ text. text.now) asked.entry.parsed) asked.entry.place (view v)) }
+{
     match asks {
         Asks::Hover => hover_value(alloc, asked),
         Asks::Completion => completion_value(alloc, asked),
@@ -152,10 +162,11 @@ fn result_at(alloc: Global, asks: Asks, uri: &str, asked: Asked) -> Result<Value
 
 // What comes of a method before the server answers.
 fn perform_fresh(alloc: Global, method: &str) -> Result<Done, Memory>
-    ensures { IfOk result (λ done. Publishes nothing (option_map view done.notice)) }
+    ensures says { IfOk result (λ done. said_by done.outcome ≡ said_fresh method.now) }
+    ensures publishes { IfOk result (λ done. Publishes nothing (option_map view done.notice)) }
 {
     match method {
-        "initialize" => Ok(given(capabilities(alloc)?)),
+        "initialize" => Ok(given(beginning(alloc)?)),
         "exit" => Ok(given(Value::Null)),
         _ => Ok(failed(Code::NotReady, "the server has not been asked to begin")),
     }
@@ -163,7 +174,8 @@ fn perform_fresh(alloc: Global, method: &str) -> Result<Done, Memory>
 
 // What comes of a method after the server was asked to shut down.
 fn perform_shut(method: &str) -> Done
-    ensures { Publishes nothing (option_map view result.notice) }
+    ensures says { said_by result.outcome ≡ said_shut method.now }
+    ensures publishes { Publishes nothing (option_map view result.notice) }
 {
     match method {
         "exit" => given(Value::Null),
@@ -220,6 +232,8 @@ impl Server {
 
     // A text is opened, or changed: its name, and what it is now.
     fn open(&mut self, alloc: Global, uri: Option<&str>, text: Option<&str>) -> Result<Done, Memory>
+        ensures says { IfOk result (λ done. said_by done.outcome
+            ≡ said_opening (option_map (λ s. s.now) uri.entry) (option_map (λ s. s.now) text.entry)) }
         ensures publishes { IfOk result (λ done. Publishes
             (findings_of (option_map (λ s. s.now) uri.entry) (option_map (λ s. s.now) text.entry))
             (option_map view done.notice)) }
@@ -235,6 +249,7 @@ impl Server {
 
     // A text is closed.
     fn close(&mut self, alloc: Global, request: &Request) -> Result<Done, Memory>
+        ensures says { IfOk result (λ done. said_by done.outcome ≡ said_closing (uri_in (value_of request.now))) }
         ensures publishes { IfOk result (λ done. Publishes (closing_of (uri_in (value_of request.now)))
             (option_map view done.notice)) }
         ensures stays { self.new.stage ≡ self.old.stage }
@@ -250,7 +265,10 @@ impl Server {
 
     // What comes of a question about a place of a text.
     fn ask(&self, alloc: Global, request: &Request, asks: Asks) -> Result<Done, Memory>
-        ensures { IfOk result (λ done. Publishes nothing (option_map view done.notice)) }
+        ensures says { IfOk result (λ done. Says self.now.texts
+            (saying_at asks (uri_in (value_of request.now)) (position_in (value_of request.now)))
+            (said_by done.outcome)) }
+        ensures publishes { IfOk result (λ done. Publishes nothing (option_map view done.notice)) }
     {
         let (Some(uri), Some(position)) = (uri_of(request), position_in(request)) else {
             return Ok(failed(Code::NoParams, "a question has a text and a position"));
@@ -260,7 +278,7 @@ impl Server {
                 let asked = Asked {
                     text,
                     parsed: self.texts.earlier_of(uri),
-                    place: place_at(text, position),
+                    place: place_of(text, position),
                 };
                 Ok(given(result_at(alloc, asks, uri, asked)?))
             }
@@ -270,7 +288,9 @@ impl Server {
 
     // What comes of a question about a whole text.
     fn ask_symbols(&self, alloc: Global, request: &Request) -> Result<Done, Memory>
-        ensures { IfOk result (λ done. Publishes nothing (option_map view done.notice)) }
+        ensures says { IfOk result (λ done. Says self.now.texts (saying_on (uri_in (value_of request.now)))
+            (said_by done.outcome)) }
+        ensures publishes { IfOk result (λ done. Publishes nothing (option_map view done.notice)) }
     {
         let Some(uri) = uri_of(request) else {
             return Ok(failed(Code::NoParams, "a question has a text"));
@@ -283,7 +303,9 @@ impl Server {
 
     // What comes of a question.
     fn question(&self, alloc: Global, request: &Request, method: &str) -> Result<Done, Memory>
-        ensures { IfOk result (λ done. Publishes nothing (option_map view done.notice)) }
+        ensures says { IfOk result (λ done. Says self.now.texts (saying_asked method.now (value_of request.now))
+            (said_by done.outcome)) }
+        ensures publishes { IfOk result (λ done. Publishes nothing (option_map view done.notice)) }
     {
         match method {
             "exit" | "shutdown" | "initialized" => Ok(given(Value::Null)),
@@ -297,6 +319,8 @@ impl Server {
 
     // What comes of a method while the server answers.
     fn run(&mut self, alloc: Global, request: &Request, method: &str) -> Result<Done, Memory>
+        ensures says { IfOk result (λ done. Says self.old.texts (saying_by method.now (value_of request.now))
+            (said_by done.outcome)) }
         ensures publishes { IfOk result (λ done. Publishes (publishing_by method.now (value_of request.now))
             (option_map view done.notice)) }
         ensures holds { OnOk result (Holds (publishing_by method.now (value_of request.now)) self.new.texts) }
@@ -324,6 +348,8 @@ impl Server {
         before: Stage,
         method: &str,
     ) -> Result<Done, Memory>
+        ensures says { IfOk result (λ done. Says self.old.texts
+            (saying_in before method.now (value_of request.now)) (said_by done.outcome)) }
         ensures publishes { IfOk result (λ done. Publishes
             (publishing_in before method.now (value_of request.now)) (option_map view done.notice)) }
         ensures holds { OnOk result (Holds (publishing_in before method.now (value_of request.now)) self.new.texts) }
@@ -339,6 +365,8 @@ impl Server {
     // What comes of a message; its method, if it has one, says how far the server is after it.
     fn perform(&mut self, alloc: Global, request: &Request) -> Result<Done, Memory>
         ensures goes { OnOk result (self.new.stage ≡ stage_after self.old.stage (method_in (value_of request.now))) }
+        ensures says { IfOk result (λ done. Says self.old.texts (saying_of self.old.stage (value_of request.now))
+            (said_by done.outcome)) }
         ensures publishes { IfOk result (λ done. Publishes (publishing_of self.old.stage (value_of request.now))
             (option_map view done.notice)) }
         ensures holds { OnOk result (Holds (publishing_of self.old.stage (value_of request.now)) self.new.texts) }

@@ -1,9 +1,10 @@
 // A text as it is, beside the last one of its name that parsed.
 
-ghost use Rattle.std.specs.Prelude.{◌≡◌, ℕ, List, IfOk, IfNone, IfSome, MatchBool, if◌then◌else◌, option_map};
+ghost use Rattle.std.specs.Prelude.{◌≡◌, ℕ, List, IfOk, IfNone, IfSome, MatchBool, option_map};
 ghost use Rattle.ps_model.specs.declared.kind.Kind.{Kind};
 ghost use Rattle.ps_lsp_text.specs.Looking.{AreSeen, AreSeenBy};
-ghost use Rattle.ps_lsp_text.specs.Declaring.{HoldsFor, IsInstance, IsTypeOf, IsTyped, IsUndeclared};
+ghost use Rattle.ps_lsp_text.specs.Calls.{IsCall};
+ghost use Rattle.ps_lsp_text.specs.Declaring.{HoldsFor, IsInstance, IsTypeOf, IsTyped, IsUndeclared, declaring_tokens};
 
 use crate::declared::{bracket_before, declaration_of, declared_type};
 use crate::looking::{name_at, tokens_of};
@@ -76,7 +77,8 @@ impl Sight {
 
     /// The tokens of the text that declares a name.
     pub(crate) fn tokens_with(&self, declared: Declared) -> &[Token]
-        ensures { MatchBool declared.is_today (result.now ≡ self.now.today) (result.now ≡ self.now.earlier) }
+        ensures by_text { MatchBool declared.is_today (result.now ≡ self.now.today) (result.now ≡ self.now.earlier) }
+        ensures are { result.now ≡ declaring_tokens self.now.today self.now.earlier declared }
     {
         if declared.is_today {
             self.today()
@@ -102,7 +104,7 @@ impl Sight {
 
     /// The type of a declared name.
     pub(crate) fn type_of(&self, declared: Declared) -> Option<&[u8]>
-        ensures { IsTypeOf (if declared.is_today then self.now.today else self.now.earlier) declared.at
+        ensures { IsTypeOf (declaring_tokens self.now.today self.now.earlier declared) declared.at
             (option_map (λ name. name.now) result) }
     {
         declared_type(self.tokens_with(declared), declared.at)
@@ -126,9 +128,17 @@ impl Sight {
     }
 
     /// The bracket of the call of an instance that is open before one of today's tokens, and the kind of the instance.
-    pub(crate) fn call_before(&self, at: usize) -> Option<(usize, Kind)> {
+    pub(crate) fn call_before(&self, at: usize) -> Option<(usize, Kind)>
+        ensures some { IfSome result (λ call. IsCall self.now.today self.now.earlier at call.0 call.1) }
+        ensures none { IfNone result ((bracket : ℕ) (kind : Kind) → IsCall self.now.today self.now.earlier at bracket kind → ⊥) }
+    {
         let bracket = bracket_before(self.today(), at)?;
-        let kind = self.kind_at(bracket.checked_sub(1)?)?;
-        Some((bracket, kind))
+        if bracket == 0 {
+            return None;
+        }
+        match self.kind_at(bracket - 1) {
+            Some(kind) => Some((bracket, kind)),
+            None => None,
+        }
     }
 }

@@ -20,7 +20,7 @@ returns-in_err-token c =
     let today = c.args.sight.now.today in
     let known : name_in today c.args.at ≡ Some c.in_ok-name_at.field-0.now =
     name_known c.today-2.result.now today c.args.at c.name_at.result c.in_ok-name_at.field-0 c.name_at.ensures c.today-2.ensures c.in_ok-name_at.was in
-    absurd (never_lost today c.args.sight.now.earlier c.args.at c.in_ok-name_at.field-0.now known c.tokens_with.result.now c.in_ok-declared.declared c.tokens_with.ensures
+    absurd (never_lost today c.args.sight.now.earlier c.args.at c.in_ok-name_at.field-0.now known c.tokens_with.result.now c.in_ok-declared.declared c.tokens_with.ensures.by_text
     c.in_ok-declared.ensures.some (is_some c.get.result) c.get.ensures.lookup.0 (ap is_some c.in_err-token.was))
 
 pub returns : goal.returns
@@ -36,5 +36,5 @@ returns c =
           dot_apart w.today.result.now today c.args.at (c.args.at - 1) w.is_dot.result w.is_dot.ensures w.today.ensures refl w.if-is_dot.false
       | else-at-ge1-via-else-at-ge1 w ↦ first_apart today c.args.at (omega arith)
     ] in
-    defined today c.args.sight.now.earlier c.args.at c.in_ok-name_at.field-0.now known c.tokens_with.result.now c.in_ok-declared.declared c.tokens_with.ensures
+    defined today c.args.sight.now.earlier c.args.at c.in_ok-name_at.field-0.now known c.tokens_with.result.now c.in_ok-declared.declared c.tokens_with.ensures.by_text
     c.in_ok-declared.ensures.some c.in_ok-token.token.now c.width.result there c.width.ensures apart

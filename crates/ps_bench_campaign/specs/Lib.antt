@@ -19,3 +19,5 @@ pub mod Bench
 pub mod Recorded
 -- apparatus: what a call leaves of files and of an output
 pub mod Leaving
+-- what a listener hears of it while it runs
+pub mod Remarking

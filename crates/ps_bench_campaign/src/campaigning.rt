@@ -1,17 +1,21 @@
 // `campaign APP TRACE FROM COUNT`: what the faults of trials come to.
 
-ghost use Rattle.std.specs.Prelude.{◌≡◌, ◌≤◌, ◌∷◌, [], ℕ, List, Any, Some, IsTrue, IfOk, IfErr, IsErrOf};
+ghost use Rattle.std.specs.Prelude.{◌≡◌, ◌≤◌, ◌∷◌, [], ℕ, List, Any, Some, Ok, IsTrue, IfOk, IfErr, IsErrOf};
 ghost use Rattle.ps_bench_frame.specs.Ending.{IsUnread};
 ghost use Rattle.ps_bench_frame.specs.Meant.{file_meant};
 ghost use Rattle.ps_bench_frame.specs.Opening.{Source, source};
 ghost use Rattle.ps_bench_frame.specs.Stopping.{Took, TookSome};
 ghost use Rattle.ps_bench_campaign.specs.Asking.{AnswersCampaign, AnswersIn, StopsCampaign, wanted_by};
 ghost use Rattle.ps_bench_campaign.specs.Leaving.{Leaves, LeavesOutput, sides};
+ghost use Rattle.ps_bench_campaign.specs.Remarking.{HearsCampaign};
+ghost use Rattle.ps_bench_messages.specs.Remarking.{RemarksIf};
+ghost use Rattle.ps_edge.specs.Hearing.{listener_seen};
 ghost use Rattle.ps_model.specs.Typing.{Accepted};
 ghost use Rattle.ps_model.specs.declared.channel.Fault.{Fault as FaultOf};
 ghost use Rattle.ps_outside.specs.Outside.{Rose};
 ghost use Rattle.ps_bench_trials.specs.Naming.{Names};
 ghost use Rattle.ps_bench_trace.specs.Playing.{MeansPlay};
+ghost use Rattle.ps_bench_trace.specs.Remarking.{TellsNoCase};
 
 use crate::recording::record_play;
 use crate::telling::campaign_text;
@@ -20,7 +24,7 @@ use ps_base::{Bytes, Memory};
 use ps_bench_frame::{Opened, Status, Stop, open_app};
 use ps_bench_trace::{Expansion, Play, open_play};
 use ps_bench_trials::digest_of_text;
-use ps_message::Listener;
+use ps_edge::KnownListener;
 use ps_outside::{Files, Output, write_all};
 use std::alloc::Global;
 
@@ -73,6 +77,7 @@ fn campaign_play<F: Files, O: Output>(
         (Rose (F.faults files.old (file_meant asked.now.trace.now)) (F.faults files.new (file_meant asked.now.trace.now)))
         (sides (F.faults files.old) (O.tells out.old) (O.faults out.old))
         (sides (F.faults files.new) (O.tells out.new) (O.faults out.new)) result }
+    ensures done { IfOk result (λ status. status ≡ Status.Done) }
 {
     let recorded = match record_play(alloc, files, out, &opened.app, asked.trace, cases) {
         Ok(recorded) => recorded,
@@ -85,7 +90,7 @@ fn campaign_play<F: Files, O: Output>(
 }
 
 // Makes the trials on an application, over what the word for the trace means.
-fn campaign_app<F: Files, O: Output, L: Listener>(
+fn campaign_app<F: Files, O: Output, L: KnownListener>(
     alloc: Global,
     files: &mut F,
     out: &mut O,
@@ -101,6 +106,10 @@ fn campaign_app<F: Files, O: Output, L: Listener>(
         (asked.now.app.now ∷ file_meant asked.now.trace.now ∷ []))
         (sides (F.faults files.old) (O.tells out.old) (O.faults out.old))
         (sides (F.faults files.new) (O.tells out.new) (O.faults out.new)) result }
+    ensures told { IsTrue (L.tells listener.old) → RemarksIf (result ≡ Ok Status.Usage) (TellsNoCase
+        (source opened.now.app opened.now.sizes (F.tells files.old) (F.held files.old)) asked.now.trace.now)
+        (listener_seen L.quiet L.heard L.reads L.unread L.room listener.old) (L.heard listener.new) }
+    ensures listening { L.tells listener.new ≡ L.tells listener.old }
 {
     let name = match digest_of_text(alloc, opened.text.as_slice()) {
         Ok(name) => name,
@@ -130,7 +139,7 @@ fn campaign_app<F: Files, O: Output, L: Listener>(
 ///
 /// A file that cannot be read is one of the two, whose count of the files rose in this call; `Unwritten` comes only
 /// where the output's count rose.
-pub fn campaign<F: Files, O: Output, L: Listener>(
+pub fn campaign<F: Files, O: Output, L: KnownListener>(
     alloc: Global,
     files: &mut F,
     out: &mut O,
@@ -147,6 +156,10 @@ pub fn campaign<F: Files, O: Output, L: Listener>(
     ensures unwritten { IsErrOf result Stop.Unwritten → Rose (O.faults out.old) (O.faults out.new) }
     ensures writes { O.faults out.old ≤ O.faults out.new }
     ensures telling { O.tells out.new ≡ O.tells out.old }
+    ensures told { IsTrue (L.tells listener.old) → HearsCampaign asked.now.app.now (wanted_by asked.now)
+        (F.tells files.old) (F.held files.old) result
+        (listener_seen L.quiet L.heard L.reads L.unread L.room listener.old) (L.heard listener.new) }
+    ensures listening { L.tells listener.new ≡ L.tells listener.old }
 {
     match open_app(alloc, files, out, asked.app) {
         Ok(opened) => campaign_app(alloc, files, out, listener, &opened, asked),

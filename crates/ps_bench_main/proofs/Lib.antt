@@ -2,3 +2,5 @@
 pub mod Risen
 -- a call that was cut off
 mod Cut
+-- what is heard of a command while it does what the words ask
+mod Meanwhile

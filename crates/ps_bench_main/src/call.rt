@@ -1,13 +1,22 @@
 // One call of the program, from its words to the number with which it exits.
 
 ghost use Rattle.std.specs.Prelude.{◌≡◌, ◌≢◌, ◌⊎◌, ◌≤◌, ◌∷◌, [], ℕ, Bool, false, List, Any, Ok, Err, IfOk, IfErr};
-ghost use Rattle.std.specs.Prelude.{IsErrOf, IsTrue, OnErr};
+ghost use Rattle.std.specs.Prelude.{◌++◌, IsErrOf, IsTrue, OnErr, map, option_map};
 ghost use Rattle.ps_bench_words.specs.Asking as asking;
 ghost use Rattle.ps_bench_words.specs.Asking.{Asks};
-ghost use Rattle.ps_bench_words.specs.Seen.{asked_seen};
+ghost use Rattle.ps_bench_words.specs.Seen.{asked_seen, seen};
+ghost use Rattle.ps_bench_cover.specs.Asking as covering;
+ghost use Rattle.ps_bench_cover.specs.Asking.{AnswersCover, StopsCover};
+ghost use Rattle.ps_bench_frame.specs.Meant.{file_meant};
+ghost use Rattle.ps_bench_frame.specs.Opening.{IsOfApp, source};
+ghost use Rattle.ps_bench_never.specs.SameAsking.{AnswersSame, StopsSame, files_of};
+ghost use Rattle.ps_bench_test.specs.Stopping.{StopsTesting};
+ghost use Rattle.ps_bench_test.specs.Testing.{AreRanFiles, FileRan, test_status, test_text};
+ghost use Rattle.ps_model.specs.Network.{Network};
+ghost use Rattle.ps_model.specs.declared.channel.ImageSizes.{ImageSizes};
 ghost use Rattle.ps_bench_watch.specs.LiveAsking.{fed};
 ghost use Rattle.ps_bench_main.specs.Answering.{Answers, IsAnswered, IsCutOff, IsUnreadBy, Stops};
-ghost use Rattle.ps_bench_main.specs.Hearing.{HearsDone, HearsStop, names_asked};
+ghost use Rattle.ps_bench_main.specs.Hearing.{HearsDone, HearsMeanwhile, HearsStop, IsToldMeanwhile, names_asked};
 ghost use Rattle.ps_bench_messages.specs.Telling.{IsTold, named_by};
 ghost use Rattle.ps_edge.specs.Heard.{IsHeard};
 ghost use Rattle.ps_edge.specs.Hearing.{listener_seen};
@@ -17,7 +26,7 @@ ghost use Rattle.ps_bench_frame.specs.declared.ending.Status.{Status as StatusOf
 ghost use Rattle.ps_outside.specs.Outside.{Rose};
 ghost use Rattle.ps_bench_watch.specs.Tracing.{AnswersTrace, StopsTrace};
 
-use crate::onlookers::{Ear, Onlookers};
+use crate::onlookers::{Nobody, Onlookers};
 use ps_base::Memory;
 use ps_bench_campaign::{Campaign, CampaignAsked, campaign, sum};
 use ps_bench_cover::{CoverAsked, cover};
@@ -76,8 +85,104 @@ fn do_page<O: Output>(out: &mut O, text: &str) -> Result<Status, Stop>
     }
 }
 
+// Runs cases. Who asks for no messages is told nothing.
+fn do_test<F: Files, O: Output, L: Listener>(
+    alloc: Global,
+    files: &mut F,
+    out: &mut O,
+    listener: &mut L,
+    asked: &TestAsked<'_>,
+) -> Result<Status, Stop>
+    ensures ran { IfOk result (λ status. (net : Network) × (sizes : ImageSizes)
+        × IsOfApp (source net sizes (F.tells files.old) (F.held files.old)) asked.now.app.now
+        × (fs : List FileRan)
+        × AreRanFiles (source net sizes (F.tells files.old) (F.held files.old)) asked.now.app.now
+        (seen asked.now.cases.now) fs
+        × (status ≡ test_status fs)
+        × (IsTrue (O.tells out.old) → O.taken out.new ≡ O.taken out.old ++ test_text asked.now.format fs)) }
+    ensures stops { IfErr result (λ stop. StopsTesting (F.tells files.old) (F.held files.old)
+        asked.now.app.now (seen asked.now.cases.now) asked.now.format stop
+        (O.tells out.old) (O.taken out.old) (O.taken out.new)) }
+    ensures unread { IfErr result (λ stop. IsUnread stop →
+        Any (λ (name : List ℕ). Rose (F.faults files.old name) (F.faults files.new name))
+        (asked.now.app.now ∷ seen asked.now.cases.now)) }
+    ensures unwritten { IsErrOf result Stop.Unwritten → Rose (O.faults out.old) (O.faults out.new) }
+    ensures writes { O.faults out.old ≤ O.faults out.new }
+    ensures telling { O.tells out.new ≡ O.tells out.old }
+    ensures quiet { IsTrue (L.tells listener.old) → IsTrue (L.quiet listener.old) →
+        L.heard listener.new ≡ L.heard listener.old }
+{
+    if listener.is_quiet() {
+        let mut nobody = Nobody;
+        test(alloc, files, out, &mut nobody, asked)
+    } else {
+        test(alloc, files, out, listener, asked)
+    }
+}
+
+// Writes what traces show. Who asks for no messages is told nothing.
+fn do_cover<F: Files, O: Output, L: Listener>(
+    alloc: Global,
+    files: &mut F,
+    out: &mut O,
+    listener: &mut L,
+    asked: &CoverAsked<'_>,
+) -> Result<Status, Stop>
+    ensures answers { IfOk result (AnswersCover asked.now.app.now (covering.wanted_by asked.now)
+        (F.tells files.old) (F.held files.old) (O.tells out.old) (O.taken out.old) (O.taken out.new)) }
+    ensures stops { IfErr result (StopsCover asked.now.app.now (covering.wanted_by asked.now)
+        (F.tells files.old) (F.held files.old) (O.tells out.old) (O.taken out.old) (O.taken out.new)) }
+    ensures unread { IfErr result (λ stop. IsUnread stop →
+        Any (λ (name : List ℕ). Rose (F.faults files.old name) (F.faults files.new name))
+        (asked.now.app.now ∷ map (λ word. file_meant word.now) asked.now.traces.now)) }
+    ensures unwritten { IsErrOf result Stop.Unwritten → Rose (O.faults out.old) (O.faults out.new) }
+    ensures writes { O.faults out.old ≤ O.faults out.new }
+    ensures telling { O.tells out.new ≡ O.tells out.old }
+    ensures quiet { IsTrue (L.tells listener.old) → IsTrue (L.quiet listener.old) →
+        L.heard listener.new ≡ L.heard listener.old }
+{
+    if listener.is_quiet() {
+        let mut nobody = Nobody;
+        cover(alloc, files, out, &mut nobody, asked)
+    } else {
+        cover(alloc, files, out, listener, asked)
+    }
+}
+
+// Compares two applications. Who asks for no messages is told nothing.
+fn do_same<F: Files, O: Output, L: KnownListener, W: Observer>(
+    alloc: Global,
+    files: &mut F,
+    out: &mut O,
+    listener: &mut L,
+    asked: &SameAsked<'_>,
+    observer: &mut W,
+) -> Result<Status, Stop>
+    ensures answers { IfOk result (AnswersSame asked.now.app.now asked.now.other.now
+        (option_map (λ n. n.now) asked.now.rules) asked.now.states
+        (F.tells files.old) (F.held files.old) (O.tells out.old) (O.taken out.old) (O.taken out.new)) }
+    ensures stops { IfErr result (StopsSame asked.now.app.now asked.now.other.now
+        (option_map (λ n. n.now) asked.now.rules) asked.now.states
+        (F.tells files.old) (F.held files.old) (O.tells out.old) (O.taken out.old) (O.taken out.new)) }
+    ensures unread { IfErr result (λ stop. IsUnread stop →
+        Any (λ (name : List ℕ). Rose (F.faults files.old name) (F.faults files.new name))
+        (files_of asked.now.app.now asked.now.other.now (option_map (λ n. n.now) asked.now.rules))) }
+    ensures unwritten { IsErrOf result Stop.Unwritten → Rose (O.faults out.old) (O.faults out.new) }
+    ensures writes { O.faults out.old ≤ O.faults out.new }
+    ensures telling { O.tells out.new ≡ O.tells out.old }
+    ensures quiet { IsTrue (L.tells listener.old) → IsTrue (L.quiet listener.old) →
+        L.heard listener.new ≡ L.heard listener.old }
+{
+    if listener.is_quiet() {
+        let mut nobody = Nobody;
+        same(alloc, files, out, &mut nobody, asked, observer)
+    } else {
+        same(alloc, files, out, listener, asked, observer)
+    }
+}
+
 // Does what is asked. Of words that are not taken nothing is done.
-fn do_asked<F: Files, I: Stream, O: Output, L: Listener, W: Observer>(
+fn do_asked<F: Files, I: Stream, O: Output, L: KnownListener, W: Observer>(
     alloc: Global,
     asked: &Asked<'_>,
     files: &mut F,
@@ -99,6 +204,9 @@ fn do_asked<F: Files, I: Stream, O: Output, L: Listener, W: Observer>(
     ensures unwritten { IsErrOf result Stop.Unwritten → Rose (O.faults out.old) (O.faults out.new) }
     ensures writes { O.faults out.old ≤ O.faults out.new }
     ensures telling { O.tells out.new ≡ O.tells out.old }
+    ensures hears { IsTrue (L.tells listener.old) →
+        HearsMeanwhile (asked_seen asked.now) (F.tells files.old) (F.held files.old) result
+        (listener_seen L.quiet L.heard L.reads L.unread L.room listener.old) (L.heard listener.new) }
 {
     match asked {
         Asked::Test { app, cases, format } => {
@@ -107,7 +215,7 @@ fn do_asked<F: Files, I: Stream, O: Output, L: Listener, W: Observer>(
                 cases: cases.as_slice(),
                 format: *format,
             };
-            test(alloc, files, out, listener, &asked)
+            do_test(alloc, files, out, listener, &asked)
         }
         Asked::Expand { app, cases } => {
             expand(alloc, files, out, *app, *cases)?;
@@ -166,7 +274,7 @@ fn do_asked<F: Files, I: Stream, O: Output, L: Listener, W: Observer>(
                 least: *least,
                 ideas: *ideas,
             };
-            cover(alloc, files, out, listener, &asked)
+            do_cover(alloc, files, out, listener, &asked)
         }
         Asked::Never { app, rules, states } => {
             let asked = NeverAsked {
@@ -188,7 +296,7 @@ fn do_asked<F: Files, I: Stream, O: Output, L: Listener, W: Observer>(
                 rules: *rules,
                 states: *states,
             };
-            same(alloc, files, out, listener, &asked, observer)
+            do_same(alloc, files, out, listener, &asked, observer)
         }
         Asked::Campaign {
             app,
@@ -228,41 +336,6 @@ fn do_asked<F: Files, I: Stream, O: Output, L: Listener, W: Observer>(
         }
         Asked::Page { text } => do_page(out, *text),
         Asked::NotTaken { .. } => Ok(Status::Usage),
-    }
-}
-
-// Does what is asked. Who asks for no messages is given to no command.
-fn do_heard<F: Files, I: Stream, O: Output, N: Listener, W: Observer>(
-    alloc: Global,
-    asked: &Asked<'_>,
-    files: &mut F,
-    input: &mut I,
-    out: &mut O,
-    onlookers: &mut Onlookers<N, W>,
-) -> Result<Status, Stop>
-    ensures answers { IfOk result (λ status.
-        Answers (asked_seen asked.now) (fed (I.tells input.old) (I.coming input.old) (I.coming input.new))
-        (F.tells files.old) (F.held files.old) status
-        (O.tells out.old) (O.taken out.old) (O.taken out.new)) }
-    ensures stops { IfErr result (λ stop.
-        Stops (asked_seen asked.now) (fed (I.tells input.old) (I.coming input.old) (I.coming input.new))
-        (F.tells files.old) (F.held files.old) stop
-        (O.tells out.old) (O.taken out.old) (O.taken out.new)) }
-    ensures unread { IfErr result (λ stop. IsUnread stop → IsUnreadBy (asked_seen asked.now)
-        (F.faults files.old) (F.faults files.new) (I.faults input.old) (I.faults input.new)) }
-    ensures unwritten { IsErrOf result Stop.Unwritten → Rose (O.faults out.old) (O.faults out.new) }
-    ensures writes { O.faults out.old ≤ O.faults out.new }
-    ensures telling { O.tells out.new ≡ O.tells out.old }
-    ensures quiet { IsTrue (N.tells onlookers.old.hearer) → IsTrue (N.quiet onlookers.old.hearer) →
-        N.heard onlookers.new.hearer ≡ N.heard onlookers.old.hearer }
-{
-    let observer = &mut onlookers.observer;
-    if onlookers.hearer.is_quiet() {
-        let mut nobody = Ear::<N>::of_nobody();
-        do_asked(alloc, asked, files, input, out, &mut nobody, observer)
-    } else {
-        let mut ear = Ear::of(&mut onlookers.hearer);
-        do_asked(alloc, asked, files, input, out, &mut ear, observer)
     }
 }
 
@@ -382,7 +455,7 @@ fn stopped<O: KnownOutput, L: KnownListener>(
 }
 
 // Does what is asked, has the output hand on what it holds back, and tells why it stopped, where it did.
-fn end_asked<F: Files, I: Stream, O: KnownOutput, L: KnownListener, N: Listener, W: Observer>(
+fn end_asked<F: Files, I: Stream, O: KnownOutput, L: KnownListener, N: KnownListener, W: Observer>(
     alloc: Global,
     asked: &Asked<'_>,
     files: &mut F,
@@ -409,10 +482,22 @@ fn end_asked<F: Files, I: Stream, O: KnownOutput, L: KnownListener, N: Listener,
     ensures unwritten { result ≡ StatusOf.WriteFault → Rose (O.faults out.old) (O.faults out.new) }
     ensures handed_on { result ≢ StatusOf.WriteFault → O.held_back out.new ≡ [] }
     ensures telling { L.tells listener.new ≡ L.tells listener.old }
+    ensures meanwhile { IsTrue (N.tells onlookers.old.hearer) → IsToldMeanwhile (asked_seen asked.now)
+        (F.tells files.old) (F.held files.old) result
+        (listener_seen N.quiet N.heard N.reads N.unread N.room onlookers.old.hearer) (N.heard onlookers.new.hearer) }
     ensures quiet { IsTrue (N.tells onlookers.old.hearer) → IsTrue (N.quiet onlookers.old.hearer) →
         N.heard onlookers.new.hearer ≡ N.heard onlookers.old.hearer }
 {
-    let done = do_heard(alloc, asked, files, input, out, onlookers);
+    let observer = &mut onlookers.observer;
+    let done = do_asked(
+        alloc,
+        asked,
+        files,
+        input,
+        out,
+        &mut onlookers.hearer,
+        observer,
+    );
     match finished(done, out) {
         Ok(status) => {
             tell_done(asked, listener);
@@ -423,7 +508,7 @@ fn end_asked<F: Files, I: Stream, O: KnownOutput, L: KnownListener, N: Listener,
 }
 
 // Does what the words ask. An error means out of memory before anything was done.
-fn do_words<F: Files, I: Stream, O: KnownOutput, L: KnownListener, N: Listener, W: Observer>(
+fn do_words<F: Files, I: Stream, O: KnownOutput, L: KnownListener, N: KnownListener, W: Observer>(
     alloc: Global,
     words: &Words,
     files: &mut F,
@@ -452,6 +537,11 @@ fn do_words<F: Files, I: Stream, O: KnownOutput, L: KnownListener, N: Listener, 
     ensures handed_on { IfOk result (λ status. status ≢ StatusOf.WriteFault → O.held_back out.new ≡ []) }
     ensures nothing { OnErr result ((out.new ≡ out.old) × (listener.new ≡ listener.old)) }
     ensures telling { L.tells listener.new ≡ L.tells listener.old }
+    ensures meanwhile { IfOk result (λ status. IsTrue (N.tells onlookers.old.hearer) →
+        (asked : asking.Asked) × Asks words.now asked
+        × IsToldMeanwhile asked (F.tells files.old) (F.held files.old) status
+        (listener_seen N.quiet N.heard N.reads N.unread N.room onlookers.old.hearer) (N.heard onlookers.new.hearer)) }
+    ensures unheard { OnErr result (onlookers.new ≡ onlookers.old) }
     ensures quiet { IsTrue (N.tells onlookers.old.hearer) → IsTrue (N.quiet onlookers.old.hearer) →
         N.heard onlookers.new.hearer ≡ N.heard onlookers.old.hearer }
 {
@@ -485,7 +575,7 @@ pub fn exit_of_call<
     I: Stream,
     O: KnownOutput,
     L: KnownListener,
-    N: Listener,
+    N: KnownListener,
     W: Observer,
 >(
     alloc: Global,
@@ -531,6 +621,15 @@ pub fn exit_of_call<
     // leaves the output as it was.
     ensures handed_on { result ≢ exit_number Status.WriteFault →
         (O.held_back out.new ≡ []) ⊎ ((result ≡ exit_number Status.Memory) × (out.new ≡ out.old)) }
+
+    // What who hears a command hears is what it remarks, by what the words ask and how that ended: that a word names
+    // nothing, that no case has a line, or that no scan is at or before a time, and of all else nothing; of `test`,
+    // `cover` and `same` it is left open.
+    ensures meanwhile { IsTrue (N.tells onlookers.old.hearer) →
+        ((result ≡ exit_number Status.Memory) × (onlookers.new ≡ onlookers.old))
+        ⊎ ((status : StatusOf) × (result ≡ exit_number status) × (asked : asking.Asked) × Asks words.now asked
+        × IsToldMeanwhile asked (F.tells files.old) (F.held files.old) status
+        (listener_seen N.quiet N.heard N.reads N.unread N.room onlookers.old.hearer) (N.heard onlookers.new.hearer)) }
 
     // Who hears what a command meets, and asks for no messages, hears none.
     ensures quiet { IsTrue (N.tells onlookers.old.hearer) → IsTrue (N.quiet onlookers.old.hearer) →

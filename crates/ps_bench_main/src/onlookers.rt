@@ -1,8 +1,9 @@
 // Who is told of a call while it runs.
 
-ghost use Rattle.std.specs.Prelude.{[], false};
+ghost use Rattle.std.specs.Prelude.{[], None, false};
 
 use ps_base::Bytes;
+use ps_edge::KnownListener;
 use ps_message::{Listener, Unread};
 use std::alloc::Global;
 
@@ -15,28 +16,11 @@ pub struct Onlookers<N, W> {
     pub observer: W,
 }
 
-/// Who hears a command while it runs: a listener that asks for messages, or nobody. It reads no texts: a command only
-/// speaks to it.
-#[derive(Drop)]
-pub struct Ear<'l, N: Listener> {
-    listener: Option<&'l mut N>,
-}
+/// Nobody, for a command of which no messages are asked for.
+#[derive(Clone, Copy)]
+pub struct Nobody;
 
-impl<'l, N: Listener> Ear<'l, N> {
-    /// That of a listener that asks for messages.
-    pub fn of(listener: &'l mut N) -> Ear<'l, N> {
-        Ear {
-            listener: Some(listener),
-        }
-    }
-
-    /// Nobody's.
-    pub fn of_nobody() -> Ear<'l, N> {
-        Ear { listener: None }
-    }
-}
-
-impl<'l, N: Listener> Listener for Ear<'l, N> {
+impl Listener for Nobody {
     ghost tells = { λ _. false };
 
     ghost quiet = { λ _. false };
@@ -44,7 +28,7 @@ impl<'l, N: Listener> Listener for Ear<'l, N> {
     ghost heard = { λ _. [] };
 
     fn is_quiet(&self) -> bool {
-        self.listener.is_none()
+        true
     }
 
     fn text_of(&self, alloc: Global, _name: &str, _most: u32) -> Bytes {
@@ -55,9 +39,23 @@ impl<'l, N: Listener> Listener for Ear<'l, N> {
         None
     }
 
-    fn hear(&mut self, text: &str) {
-        if let Some(listener) = &mut self.listener {
-            listener.hear(text);
-        }
+    fn hear(&mut self, _text: &str) {}
+}
+
+impl KnownListener for Nobody {
+    ghost reads = { λ _ _. [] };
+
+    ghost unread = { λ _ _. None };
+
+    ghost room = { λ _. 0 };
+
+    fn first_of(&self, alloc: Global, _name: &str, _most: u32) -> Bytes {
+        Bytes::new(alloc)
     }
+
+    fn reason(&self, _name: &str) -> Option<Unread> {
+        None
+    }
+
+    fn hear_all(&mut self, _bytes: &[u8]) {}
 }

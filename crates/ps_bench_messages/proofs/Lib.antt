@@ -1,2 +1,4 @@
 -- what is told of a call that stopped
 mod Told
+-- what is remarked, and what is not
+pub mod Remarked

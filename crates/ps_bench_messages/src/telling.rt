@@ -3,6 +3,7 @@
 ghost use Rattle.std.specs.Prelude.{◌≡◌, IfOk, IsTrue, false, map};
 ghost use Rattle.ps_edge.specs.Heard.{IsHeard};
 ghost use Rattle.ps_edge.specs.Hearing.{listener_seen};
+ghost use Rattle.ps_bench_messages.specs.Remarking.{HearsRemark, no_name_text};
 ghost use Rattle.ps_bench_messages.specs.Telling as telling;
 ghost use Rattle.ps_bench_messages.specs.Telling.{IsOfCases, IsOfInput, IsOfInputStop, IsOfLog, IsOfRules};
 ghost use Rattle.ps_bench_messages.specs.Telling.{IsOfSource, IsOfStop, IsOfSum};
@@ -23,9 +24,7 @@ use ps_bench_rules::RulesRefusal;
 use ps_bench_trials::{LARGEST_SUM, SumRefusal};
 use ps_edge::KnownListener;
 use ps_findings::{RegionSizes, detail_on, header_told, inputs_told, past_told, refusal_of_app};
-use ps_message::{
-    Listener, NO_MEMORY, UNWRITTEN, Unread, hear_bytes, message as refusal_message, unread_message,
-};
+use ps_message::{NO_MEMORY, UNWRITTEN, Unread, message as refusal_message, unread_message};
 use ps_model::ImageSizes;
 use ps_world::World;
 use std::alloc::Global;
@@ -410,7 +409,9 @@ pub fn tell<L: KnownListener>(
 }
 
 // What is told of a word that names nothing in the application of this name.
-fn no_name(alloc: Global, app: &str, word: &str) -> Result<Bytes, Memory> {
+fn no_name(alloc: Global, app: &str, word: &str) -> Result<Bytes, Memory>
+    ensures { IfOk result (λ text. text ≡ no_name_text app.now word.now) }
+{
     let mut text = Bytes::new(alloc);
     add_shown(&mut text, app)?;
     text.extend_from_slice(b": nothing there is called ")?;
@@ -422,19 +423,27 @@ fn no_name(alloc: Global, app: &str, word: &str) -> Result<Bytes, Memory> {
 }
 
 /// Tells a listener that a word names nothing in the application of this name.
-pub fn tell_no_name<L: Listener>(alloc: Global, listener: &mut L, app: &str, word: &str) {
+pub fn tell_no_name<L: KnownListener>(alloc: Global, listener: &mut L, app: &str, word: &str)
+    ensures told { IsTrue (L.tells listener.old) → HearsRemark (λ text. text ≡ no_name_text app.now word.now)
+        (listener_seen L.quiet L.heard L.reads L.unread L.room listener.old) (L.heard listener.new) }
+    ensures telling { L.tells listener.new ≡ L.tells listener.old }
+{
     if listener.is_quiet() {
         return;
     }
     match no_name(alloc, app, word) {
-        Ok(text) => hear_bytes(listener, text.as_slice()),
-        Err(Memory) => listener.hear(NO_MEMORY),
+        Ok(text) => listener.hear_all(text.as_slice()),
+        Err(Memory) => listener.hear_all(NO_MEMORY.as_bytes()),
     }
 }
 
 /// Tells a listener that scans at any times are not searched.
-pub fn tell_any_times<L: Listener>(listener: &mut L) {
+pub fn tell_any_times<L: KnownListener>(listener: &mut L)
+    ensures told { IsTrue (L.tells listener.old) → HearsRemark (λ text. text ≡ ANY_TIMES.now)
+        (listener_seen L.quiet L.heard L.reads L.unread L.room listener.old) (L.heard listener.new) }
+    ensures telling { L.tells listener.new ≡ L.tells listener.old }
+{
     if !listener.is_quiet() {
-        listener.hear(ANY_TIMES);
+        listener.hear_all(ANY_TIMES.as_bytes());
     }
 }

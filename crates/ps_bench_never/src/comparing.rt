@@ -14,7 +14,7 @@ use crate::{at_least_one, refuse_rules, write_told};
 use ps_base::Memory;
 use ps_bench_frame::{Input, InputStop, Opened, Sourced, Status, Stop, open_app, open_sourced};
 use ps_bench_messages::tell_any_times;
-use ps_message::Listener;
+use ps_edge::KnownListener;
 use ps_model::App;
 use ps_outside::{Files, Output};
 use ps_pairs::app_arranged;
@@ -36,7 +36,7 @@ pub struct Asked<'a> {
 }
 
 // Ends a call by what was found of two applications.
-fn end<O: Output, L: Listener>(
+fn end<O: Output, L: KnownListener>(
     alloc: Global,
     out: &mut O,
     listener: &mut L,
@@ -65,7 +65,7 @@ fn end<O: Output, L: Listener>(
 }
 
 // Compares two applications.
-fn same_of<F: Files, O: Output, L: Listener, W: Observer>(
+fn same_of<F: Files, O: Output, L: KnownListener, W: Observer>(
     alloc: Global,
     files: &mut F,
     out: &mut O,
@@ -171,7 +171,7 @@ fn open_other<F: Files, O: Output>(
 }
 
 // Compares an application with the other one, which is opened.
-fn same_with<F: Files, O: Output, L: Listener, W: Observer>(
+fn same_with<F: Files, O: Output, L: KnownListener, W: Observer>(
     alloc: Global,
     files: &mut F,
     out: &mut O,
@@ -227,7 +227,7 @@ fn same_with<F: Files, O: Output, L: Listener, W: Observer>(
 ///
 /// A file that cannot be read is one of the three, whose count of the files rose in this call; `Unwritten` comes only
 /// where the output's count rose.
-pub fn same<F: Files, O: Output, L: Listener, W: Observer>(
+pub fn same<F: Files, O: Output, L: KnownListener, W: Observer>(
     alloc: Global,
     files: &mut F,
     out: &mut O,

@@ -6,3 +6,5 @@ pub mod Coming
 pub mod Opening
 -- how a call stops at a word in the place of a trace
 pub mod Refusing
+-- what is remarked of such a word
+pub mod Remarking

@@ -1,7 +1,8 @@
 // What a word means in the place of a trace, made ready to be run.
 
-ghost use Rattle.std.specs.Prelude.{◌≡◌, ◌≤◌, ◌∷◌, ℕ, List, Some, None, IfOk, IfErr};
-ghost use Rattle.std.specs.Prelude.{IfSome, IfNone, IsErrOf, OnOk, All, length, []};
+ghost use Rattle.std.specs.Prelude.{◌≡◌, ◌≤◌, ◌∷◌, ◌++◌, ℕ, List, Some, None, Ok, IfOk, IfErr};
+ghost use Rattle.std.specs.Prelude.{IfSome, IfNone, IsErrOf, IsTrue, OnOk, All, codes, decimal, length, []};
+ghost use Rattle.std.specs.List.{flat_map};
 ghost use Rattle.ps_bench_frame.specs.Ending.{IsUnread};
 ghost use Rattle.ps_bench_frame.specs.Leaving.{OnlyReads};
 ghost use Rattle.ps_bench_frame.specs.Meant.{file_meant};
@@ -14,17 +15,21 @@ ghost use Rattle.ps_bench_cases.specs.Meant.{faults_in, whole_case};
 ghost use Rattle.ps_bench_cases.specs.Runnable.{IsRunnable};
 ghost use Rattle.ps_bench_cases.specs.declared.case.Case.{Case as CaseOf};
 ghost use Rattle.ps_bench_cases.specs.declared.limits.TheConstants.{MOST_CASES};
+ghost use Rattle.ps_bench_messages.specs.Remarking.{HearsRemark, RemarksIf};
+ghost use Rattle.ps_edge.specs.Hearing.{listener_seen};
 ghost use Rattle.ps_outside.specs.Outside.{Rose};
 ghost use Rattle.ps_trace.specs.FaultOrder.{AreInOrder, AreOfOneChannel};
 ghost use Rattle.ps_bench_trace.specs.Coming.{ComesToPart, ComesToPlay};
 ghost use Rattle.ps_bench_trace.specs.Playing.{LacksCase, LacksCaseOf, MeansPart, MeansPlay};
+ghost use Rattle.ps_bench_trace.specs.Remarking.{TellsNoCaseOf, first_lines_text, lines_text, no_case_text};
 
 use crate::expansion::Expansion;
 use ps_base::{Bytes, Memory};
 use ps_bench_cases::{Case, CaseFile, case_with_line, faults_of};
 use ps_bench_frame::pieces::{add_short, add_shown};
 use ps_bench_frame::{Call, Opened, Part, Stop, Word, open_written_cases, word_of};
-use ps_message::{Listener, NO_MEMORY, hear_bytes};
+use ps_edge::KnownListener;
+use ps_message::NO_MEMORY;
 use ps_model::App;
 use ps_outside::{Files, Output};
 use ps_trace::Faults;
@@ -79,43 +84,77 @@ fn play_with(alloc: Global, app: &App, file: &CaseFile, line: u32) -> Result<Opt
     }
 }
 
+// As many lines of cases as a message names.
+const MOST_TOLD: usize = 20;
+
+// The line on which one more case begins.
+fn add_other_line(text: &mut Bytes, case: &Case) -> Result<(), Memory>
+    ensures { OnOk result (text.new ≡ text.old ++ codes ", " ++ decimal case.now.line) }
+{
+    text.extend_from_slice(b", ")?;
+    add_short(text, case.line)
+}
+
+// The lines on which more cases begin.
+fn add_other_lines(text: &mut Bytes, cases: &[Case]) -> Result<(), Memory>
+    ensures { OnOk result (text.new ≡ text.old ++ flat_map (λ case. codes ", " ++ decimal case.line) cases.now) }
+{
+    for case in cases {
+        add_other_line(text, case)?;
+    }
+    Ok(())
+}
+
+// The lines on which cases begin, with a comma between them.
+fn add_lines(text: &mut Bytes, cases: &[Case]) -> Result<(), Memory>
+    ensures { OnOk result (text.new ≡ text.old ++ lines_text cases.now) }
+{
+    match cases {
+        [] => Ok(()),
+        [first, others @ ..] => {
+            add_short(text, first.line)?;
+            add_other_lines(text, others)
+        }
+    }
+}
+
+// The same, of many the first ones.
+fn add_first_lines(text: &mut Bytes, cases: &[Case]) -> Result<(), Memory>
+    ensures { OnOk result (text.new ≡ text.old ++ first_lines_text cases.now) }
+{
+    if cases.len() <= MOST_TOLD {
+        return add_lines(text, cases);
+    }
+    add_lines(text, &cases[..MOST_TOLD])?;
+    text.extend_from_slice(b", ..")
+}
+
 // What is told of a word whose line is in no case of its file.
-fn no_case(alloc: Global, word: &str, file: &CaseFile) -> Result<Bytes, Memory> {
+fn no_case(alloc: Global, word: &str, file: &CaseFile) -> Result<Bytes, Memory>
+    ensures { IfOk result (λ text. text ≡ no_case_text word.now file.now) }
+{
     let mut text = Bytes::new(alloc);
     add_shown(&mut text, word)?;
     text.extend_from_slice(
         b": no case has this line\nname a line of a case; the cases begin at the lines ",
     )?;
-    add_lines(&mut text, file.cases.as_slice())?;
+    add_first_lines(&mut text, file.cases.as_slice())?;
     text.extend_from_slice(b" (docs/watch.md)\n")?;
     Ok(text)
 }
 
-// As many lines of cases as a message names.
-const MOST_TOLD: usize = 20;
-
-// The lines on which cases begin; of many the first.
-fn add_lines(text: &mut Bytes, cases: &[Case]) -> Result<(), Memory> {
-    for (place, case) in cases.iter().enumerate() {
-        if place == MOST_TOLD {
-            return text.extend_from_slice(b", ..");
-        }
-        if place > 0 {
-            text.extend_from_slice(b", ")?;
-        }
-        add_short(text, case.line)?;
-    }
-    Ok(())
-}
-
 // Tells a listener that the line of a word is in no case of its file.
-fn tell_no_case<L: Listener>(alloc: Global, listener: &mut L, word: &str, file: &CaseFile) {
+fn tell_no_case<L: KnownListener>(alloc: Global, listener: &mut L, word: &str, file: &CaseFile)
+    ensures told { IsTrue (L.tells listener.old) → HearsRemark (λ text. text ≡ no_case_text word.now file.now)
+        (listener_seen L.quiet L.heard L.reads L.unread L.room listener.old) (L.heard listener.new) }
+    ensures listening { L.tells listener.new ≡ L.tells listener.old }
+{
     if listener.is_quiet() {
         return;
     }
     match no_case(alloc, word, file) {
-        Ok(text) => hear_bytes(listener, text.as_slice()),
-        Err(Memory) => listener.hear(NO_MEMORY),
+        Ok(text) => listener.hear_all(text.as_slice()),
+        Err(Memory) => listener.hear_all(NO_MEMORY.as_bytes()),
     }
 }
 
@@ -155,7 +194,7 @@ fn open_all<F: Files, O: Output>(
 }
 
 // The case of the file of this name that has this line; or tells that none has it.
-fn open_one<F: Files, O: Output, L: Listener>(
+fn open_one<F: Files, O: Output, L: KnownListener>(
     alloc: Global,
     files: &mut F,
     out: &mut O,
@@ -183,6 +222,11 @@ fn open_one<F: Files, O: Output, L: Listener>(
     ensures writes { O.faults out.old ≤ O.faults out.new }
     ensures kept { F.held files.new ≡ F.held files.old }
     ensures reading { F.tells files.new ≡ F.tells files.old }
+    ensures told { IsTrue (L.tells listener.old) → RemarksIf (result ≡ Ok None) (TellsNoCaseOf
+        (source opened.now.app opened.now.sizes (F.tells files.old) (F.held files.old)) name.now word.now)
+        (listener_seen L.quiet L.heard L.reads L.unread L.room listener.old) (L.heard listener.new) }
+    ensures stays { IfOk result (λ got. IfSome got (λ play. listener.new ≡ listener.old)) }
+    ensures listening { L.tells listener.new ≡ L.tells listener.old }
     ensures telling { O.tells out.new ≡ O.tells out.old }
 {
     let file = match open_written_cases(alloc, files, out, opened, name) {
@@ -217,7 +261,7 @@ fn play_file(alloc: Global) -> Play
 /// A run reads its trace from `cases` where there is one, by any name, and else from the files, by the name of
 /// `word_of`. `UnreadCases` comes only where the files' count of that name rose in this call, and `Unwritten` only
 /// where the output's did.
-pub fn open_play<F: Files, O: Output, L: Listener>(
+pub fn open_play<F: Files, O: Output, L: KnownListener>(
     alloc: Global,
     files: &mut F,
     out: &mut O,
@@ -243,6 +287,11 @@ pub fn open_play<F: Files, O: Output, L: Listener>(
     ensures writes { O.faults out.old ≤ O.faults out.new }
     ensures kept { F.held files.new ≡ F.held files.old }
     ensures reading { F.tells files.new ≡ F.tells files.old }
+    ensures told { IsTrue (L.tells listener.old) → RemarksIf (result ≡ Ok None) (TellsNoCaseOf
+        (source opened.now.app opened.now.sizes (F.tells files.old) (F.held files.old)) (file_meant word.now) word.now)
+        (listener_seen L.quiet L.heard L.reads L.unread L.room listener.old) (L.heard listener.new) }
+    ensures stays { IfOk result (λ got. IfSome got (λ play. listener.new ≡ listener.old)) }
+    ensures listening { L.tells listener.new ≡ L.tells listener.old }
     ensures telling { O.tells out.new ≡ O.tells out.old }
 {
     let Word { file, part } = word_of(word);

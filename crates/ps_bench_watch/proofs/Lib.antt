@@ -39,3 +39,5 @@ mod Ran
 mod Watched
 -- how a call of `live` ends, by what it came to
 mod LiveComing
+-- what is remarked of words that mean nothing
+mod Remarked

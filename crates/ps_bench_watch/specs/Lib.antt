@@ -39,3 +39,5 @@ pub mod Reading
 pub mod Feeding
 pub mod InMemory
 pub mod System
+-- what a listener hears of `watch` while it runs
+pub mod Remarking

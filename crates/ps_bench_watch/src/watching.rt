@@ -1,6 +1,6 @@
 // `watch APP TRACE [NAME..]`: what happens in a run, by name.
 
-ghost use Rattle.std.specs.Prelude.{◌≡◌, ◌≢◌, ◌≤◌, ◌⊎◌, ℕ, List, IsTrue, Some, Err, option_map};
+ghost use Rattle.std.specs.Prelude.{◌≡◌, ◌≢◌, ◌≤◌, ◌⊎◌, ℕ, List, IsTrue, Some, Ok, Err, option_map};
 ghost use Rattle.std.specs.Prelude.{IfOk, IfErr, IsErrOf, OnOk};
 ghost use Rattle.ps_base.specs.declared.failing.Refusal.{Refusal as RefusalOf};
 ghost use Rattle.ps_bench_frame.specs.Ending.{IsOfRun, IsUnread};
@@ -8,9 +8,11 @@ ghost use Rattle.ps_bench_frame.specs.Meant.{file_meant};
 ghost use Rattle.ps_bench_frame.specs.Opening.{source};
 ghost use Rattle.ps_bench_frame.specs.Stopping.{Took};
 ghost use Rattle.ps_bench_frame.specs.declared.ending.Input.{Input as InputOf};
+ghost use Rattle.ps_bench_messages.specs.Remarking.{RemarksIf};
 ghost use Rattle.ps_bench_words.specs.Seen.{seen};
 ghost use Rattle.ps_bench_words.specs.declared.asking.Layout.{Layout as LayoutOf};
 ghost use Rattle.ps_bench_words.specs.declared.asking.Layout.TheVariants.{Vcd};
+ghost use Rattle.ps_edge.specs.Hearing.{listener_seen};
 ghost use Rattle.ps_model.specs.Network.{input_count};
 ghost use Rattle.ps_outside.specs.Outside.{Rose};
 ghost use Rattle.ps_report.specs.Short.{refusal_text};
@@ -21,10 +23,12 @@ ghost use Rattle.ps_trace.specs.Reading.{IsReadingTrace, file_of, input_count_of
 ghost use Rattle.ps_top.specs.Program.{region_sizes};
 ghost use Rattle.ps_bench_trace.specs.Opening.{AreFaults, RosesIn};
 ghost use Rattle.ps_bench_trace.specs.Playing.{MeansPlay, trace_held};
+ghost use Rattle.ps_bench_trace.specs.Remarking.{TellsNoCase};
 ghost use Rattle.ps_bench_watch.specs.Asking.{AnswersIn, AnswersWatch, IsRisen, StopsWatch};
 ghost use Rattle.ps_bench_watch.specs.Asking.{default_in, head_in, text_in, wanted_by};
 ghost use Rattle.ps_bench_watch.specs.Naming.{AreWatched};
 ghost use Rattle.ps_bench_watch.specs.Prepared.{IsPlayerFor, IsPlayerOf, IsPrepared, layout_of, performer_of};
+ghost use Rattle.ps_bench_watch.specs.Remarking.{HearsWatch, TellsUnmeant};
 ghost use Rattle.ps_bench_watch.specs.Showing.{ComesOfHeld, ComesOfRun, MakesRun, Run, Shows};
 ghost use Rattle.ps_bench_watch.specs.Stopping.{EndsBehind};
 
@@ -38,7 +42,7 @@ use ps_bench_names::Name;
 use ps_bench_trace::{Expansion, Play, open_play, refuse_input};
 use ps_bench_waves::{Format, head_of, header_of, parts_of};
 use ps_bench_words::Layout;
-use ps_message::Listener;
+use ps_edge::KnownListener;
 use ps_model::{App, ImageSizes};
 use ps_outside::{Files, Output, write_all};
 use ps_runs::{Cut, StruckWorld};
@@ -398,7 +402,7 @@ fn watch_play<F: Files, O: Output>(
 
 // Writes what is watched, of these names, of the run that is asked for; or tells that no case has the line that is
 // asked for.
-fn watch_names<F: Files, O: Output, L: Listener>(
+fn watch_names<F: Files, O: Output, L: KnownListener>(
     alloc: Global,
     files: &mut F,
     out: &mut O,
@@ -418,6 +422,10 @@ fn watch_names<F: Files, O: Output, L: Listener>(
     ensures reads { (other : List ℕ) → F.faults files.old other ≤ F.faults files.new other }
     ensures writes { O.faults out.old ≤ O.faults out.new }
     ensures telling { O.tells out.new ≡ O.tells out.old }
+    ensures told { IsTrue (L.tells listener.old) → RemarksIf (result ≡ Ok Status.Usage) (TellsNoCase
+        (source opened.now.app opened.now.sizes (F.tells files.old) (F.held files.old)) asked.now.trace.now)
+        (listener_seen L.quiet L.heard L.reads L.unread L.room listener.old) (L.heard listener.new) }
+    ensures listening { L.tells listener.new ≡ L.tells listener.old }
 {
     match open_play(alloc, files, out, listener, opened, asked.trace) {
         Ok(Some(play)) => match watch_play(alloc, files, out, opened, asked, names, play) {
@@ -430,7 +438,7 @@ fn watch_names<F: Files, O: Output, L: Listener>(
 }
 
 // Writes what is watched of the run that is asked for, of an application; or tells which word means nothing.
-fn watch_app<F: Files, O: Output, L: Listener>(
+fn watch_app<F: Files, O: Output, L: KnownListener>(
     alloc: Global,
     files: &mut F,
     out: &mut O,
@@ -447,8 +455,13 @@ fn watch_app<F: Files, O: Output, L: Listener>(
     ensures reads { (other : List ℕ) → F.faults files.old other ≤ F.faults files.new other }
     ensures writes { O.faults out.old ≤ O.faults out.new }
     ensures telling { O.tells out.new ≡ O.tells out.old }
+    ensures told { IsTrue (L.tells listener.old) → RemarksIf (result ≡ Ok Status.Usage) (TellsUnmeant asked.now.app.now
+        (wanted_by asked.now) (source opened.now.app opened.now.sizes (F.tells files.old) (F.held files.old)))
+        (listener_seen L.quiet L.heard L.reads L.unread L.room listener.old) (L.heard listener.new) }
+    ensures listening { L.tells listener.new ≡ L.tells listener.old }
 {
-    match watched_names(alloc, &opened.app, asked.layout, asked.names)? {
+    let found = watched_names(alloc, &opened.app, asked.layout, asked.names)?;
+    match found {
         Ok(names) => watch_names(alloc, files, out, listener, opened, asked, names.as_slice()),
         Err(word) => {
             tell_no_name(alloc, listener, asked.app, word);
@@ -465,7 +478,7 @@ fn watch_app<F: Files, O: Output, L: Listener>(
 /// line in no case: that is told, and nothing is written. Where the application, the case file, the faults or the
 /// header of the trace are refused, the line of the refusal is written in their place, and where a later line of the
 /// trace is, after what comes before it. The run takes no memory.
-pub fn watch<F: Files, O: Output, L: Listener>(
+pub fn watch<F: Files, O: Output, L: KnownListener>(
     alloc: Global,
     files: &mut F,
     out: &mut O,
@@ -482,6 +495,10 @@ pub fn watch<F: Files, O: Output, L: Listener>(
     ensures unwritten { IsErrOf result Stop.Unwritten → Rose (O.faults out.old) (O.faults out.new) }
     ensures writes { O.faults out.old ≤ O.faults out.new }
     ensures telling { O.tells out.new ≡ O.tells out.old }
+    ensures told { IsTrue (L.tells listener.old) → HearsWatch asked.now.app.now (wanted_by asked.now)
+        (F.tells files.old) (F.held files.old) result
+        (listener_seen L.quiet L.heard L.reads L.unread L.room listener.old) (L.heard listener.new) }
+    ensures listening { L.tells listener.new ≡ L.tells listener.old }
 {
     match open_app(alloc, files, out, asked.app) {
         Ok(opened) => watch_app(alloc, files, out, listener, &opened, asked),

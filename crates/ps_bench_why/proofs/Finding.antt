@@ -1,7 +1,12 @@
 -- A scan that is found in what is held, and in what a word means.
-use Rattle.std.proofs.Common.{◌≡◌, ◌∙◌, ℕ, IsTrue, List, Option, Some, None, Result, Ok, Err, refl, subst, sym}
-use Rattle.std.specs.Prelude.{OnOk}
+use Rattle.std.proofs.Common.{◌≡◌, ◌∙◌, ℕ, Bool, IsTrue, List, Option, Some, None, Result, Ok, Err, inl, inr, refl, subst, sym}
+use Rattle.std.specs.Prelude.{IfErr, IfOk, OnOk}
 use Rattle.ps_bench_frame.specs.Opening.{Source}
+use Rattle.ps_bench_frame.specs.Stopping.{Took, TookSome}
+use Rattle.ps_bench_frame.specs.declared.ending.Status.{Status}
+use Rattle.ps_bench_frame.specs.declared.ending.Status.TheVariants.{Done}
+use Rattle.ps_bench_frame.specs.declared.ending.Stop.{Stop}
+use Rattle.ps_bench_frame.specs.declared.ending.Stop.TheVariants.{Unwritten}
 use Rattle.ps_model.proofs.Runs.{has_one_meaning}
 use Rattle.ps_model.specs.Meaning.{Meaning}
 use Rattle.ps_model.specs.Network.{Network}
@@ -19,7 +24,7 @@ use Rattle.ps_parser.specs.Tree.{SourceTree}
 use Rattle.ps_bench_frame.specs.Sourcing.{IsSourceOf}
 use Rattle.ps_bench_names.specs.Names.{name_of}
 use Rattle.ps_bench_names.specs.declared.name.Name.{Name}
-use Rattle.ps_bench_why.specs.Asking.{IsFoundAt, IsTold, Wanted}
+use Rattle.ps_bench_why.specs.Asking.{AnswersIn, IsFoundAt, IsTold, Wanted}
 use Rattle.ps_bench_why.specs.Reasoned.{IsReasoned, question_of}
 use Rattle.ps_bench_why.specs.Walked.{WalksHeld, WalksWord}
 
@@ -64,3 +69,21 @@ told_found from app wanted tree name w times text named walks source last reason
         × (t : SourceTree) × IsSourceOf from.held app t × IsReasoned from.net t s (question_of from.net name) wanted.format text
     there (None, at, none) of = absurd (let same = sym none ∙ last in cc)
     there (Some s, at, look) of = (s, at, tree, of, reasoned s look last)
+
+-- the same by a network that is the one of the source
+pub told_by : (net : Network) (from : Source) (app : List ℕ) (wanted : Wanted) (tree : SourceTree) (name : Name) (w : Walker) (times : LastScan) (text : List ℕ) →
+    from.net ≡ net → name_of net wanted.name ≡ Some name → (IsTrue from.tells → WalksWord from wanted.trace wanted.time w) →
+    (IsTrue from.tells → IsSourceOf from.held app tree) → w.last ≡ Some times →
+    ((s : Scanned) → IsLook net s w → w.last ≡ Some times → IsReasoned net tree s (question_of net name) wanted.format text) →
+    IsTold from app wanted text
+told_by net from app wanted tree name w times text same named walks source last reasoned =
+    told_found from app wanted tree name w times text (subst (λ (n : Network). name_of n wanted.name ≡ Some name) (sym same) named) walks source last
+    (subst (λ (n : Network). (s : Scanned) → IsLook n s w → w.last ≡ Some times → IsReasoned n tree s (question_of n name) wanted.format text)
+    (sym same) reasoned)
+
+-- what came of writing a text that tells of the scan that is found
+pub written : (from : Source) (app : List ℕ) (wanted : Wanted) (text : List ℕ) (tells : Bool) (before after : List ℕ) (ended : Result Status Stop) →
+    IsTold from app wanted text → IfOk ended (λ status. (status ≡ Done) × Took text tells before after) →
+    IfErr ended (λ stop. (stop ≡ Unwritten) × TookSome text tells before after) → AnswersIn from app wanted tells before after ended
+written from app wanted text tells before after (Ok status) told all some = inl (text, told, all.0, all.1)
+written from app wanted text tells before after (Err stop) told all some = inr (inl (text, told, some.0, some.1))

@@ -17,3 +17,5 @@ pub mod Reasons
 -- lines that are written, one after another
 pub mod Tellings
 pub mod Ordered
+-- what is remarked where nothing is asked for
+pub mod Remarked

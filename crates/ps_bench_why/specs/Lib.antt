@@ -13,6 +13,8 @@ pub mod Waiting
 pub mod Facts
 pub mod Trees
 pub mod Because
+-- what a listener hears of `why` while it runs
+pub mod Remarking
 -- apparatus: what is kept from scan to scan, and the scan that was found, by what is kept of it
 pub mod Walking
 pub mod Walked

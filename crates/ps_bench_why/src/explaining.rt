@@ -1,14 +1,17 @@
 // `why APP TRACE TIME NAME`: why something has its value.
 
-ghost use Rattle.std.specs.Prelude.{◌≡◌, ◌≤◌, ◌∷◌, [], ℕ, List, Any, IsTrue, IfOk, IfErr, IsErrOf, Some};
+ghost use Rattle.std.specs.Prelude.{◌≡◌, ◌≤◌, ◌∷◌, [], ℕ, List, Any, IsTrue, IfOk, IfErr, IsErrOf, Some, Ok};
 ghost use Rattle.ps_bench_frame.specs.Ending.{IsUnread};
 ghost use Rattle.ps_bench_frame.specs.Meant.{file_meant};
 ghost use Rattle.ps_bench_frame.specs.Opening.{Source, source};
 ghost use Rattle.ps_bench_frame.specs.Stopping.{Took, TookSome};
 ghost use Rattle.ps_bench_why.specs.Asking.{AnswersIn, AnswersWhy, IsTold, StopsWhy, wanted_by};
 ghost use Rattle.ps_bench_why.specs.Reasoned.{question_of};
+ghost use Rattle.ps_bench_why.specs.Remarking.{HearsWhy, TellsNoScan, TellsNoTime, TellsNothing};
 ghost use Rattle.ps_bench_why.specs.Walked.{IsBegun, WalksWord};
 ghost use Rattle.ps_bench_why.specs.Walking.{IsWalkerFor};
+ghost use Rattle.ps_bench_messages.specs.Remarking.{RemarksIf};
+ghost use Rattle.ps_edge.specs.Hearing.{listener_seen};
 ghost use Rattle.ps_outside.specs.Outside.{Rose};
 ghost use Rattle.ps_bench_frame.specs.Sourcing.{IsSourceOf};
 ghost use Rattle.ps_bench_names.specs.Names.{IsNameOf, name_of};
@@ -23,7 +26,7 @@ use ps_bench_frame::{Sourced, Status, Stop, open_sourced};
 use ps_bench_messages::tell_no_name;
 use ps_bench_names::{Name, name_of};
 use ps_cover::Format;
-use ps_message::Listener;
+use ps_edge::KnownListener;
 use ps_outside::{Files, Output, write_all};
 use std::alloc::Global;
 
@@ -59,7 +62,7 @@ fn write_told<O: Output>(out: &mut O, text: &[u8]) -> Result<Status, Stop>
 }
 
 // Writes why it is so what a name asks, in the scan that was found; where none was, the listener is told.
-fn tell_found<O: Output, L: Listener>(
+fn tell_found<O: Output, L: KnownListener>(
     alloc: Global,
     out: &mut O,
     listener: &mut L,
@@ -81,6 +84,11 @@ fn tell_found<O: Output, L: Listener>(
     ensures unwritten { IsErrOf result Stop.Unwritten → Rose (O.faults out.old) (O.faults out.new) }
     ensures writes { O.faults out.old ≤ O.faults out.new }
     ensures telling { O.tells out.new ≡ O.tells out.old }
+    ensures told { IsTrue (L.tells listener.old) → (from : Source) →
+        (IsTrue from.tells → WalksWord from asked.now.trace.now asked.now.time walker.now) →
+        RemarksIf (result ≡ Ok Status.Usage) (TellsNoScan (wanted_by asked.now) from)
+        (listener_seen L.quiet L.heard L.reads L.unread L.room listener.old) (L.heard listener.new) }
+    ensures listening { L.tells listener.new ≡ L.tells listener.old }
 {
     let Some(times) = walker.last() else {
         tell_no_scan(alloc, listener, asked.trace, asked.time, met);
@@ -103,7 +111,7 @@ fn tell_found<O: Output, L: Listener>(
 }
 
 // Writes why it is so what a name of an application asks.
-fn why_named<F: Files, O: Output, L: Listener>(
+fn why_named<F: Files, O: Output, L: KnownListener>(
     alloc: Global,
     files: &mut F,
     out: &mut O,
@@ -125,6 +133,11 @@ fn why_named<F: Files, O: Output, L: Listener>(
     ensures reads { (other : List ℕ) → F.faults files.old other ≤ F.faults files.new other }
     ensures writes { O.faults out.old ≤ O.faults out.new }
     ensures telling { O.tells out.new ≡ O.tells out.old }
+    ensures told { IsTrue (L.tells listener.old) → RemarksIf (result ≡ Ok Status.Usage)
+        (TellsNoTime (wanted_by asked.now)
+        (source sourced.now.opened.app sourced.now.opened.sizes (F.tells files.old) (F.held files.old)))
+        (listener_seen L.quiet L.heard L.reads L.unread L.room listener.old) (L.heard listener.new) }
+    ensures listening { L.tells listener.new ≡ L.tells listener.old }
 {
     let opened = &sourced.opened;
     let mut walker = match begun(alloc, &opened.app) {
@@ -148,7 +161,7 @@ fn why_named<F: Files, O: Output, L: Listener>(
 }
 
 // Writes why it is so what is asked of an application.
-fn why_app<F: Files, O: Output, L: Listener>(
+fn why_app<F: Files, O: Output, L: KnownListener>(
     alloc: Global,
     files: &mut F,
     out: &mut O,
@@ -166,6 +179,11 @@ fn why_app<F: Files, O: Output, L: Listener>(
     ensures reads { (other : List ℕ) → F.faults files.old other ≤ F.faults files.new other }
     ensures writes { O.faults out.old ≤ O.faults out.new }
     ensures telling { O.tells out.new ≡ O.tells out.old }
+    ensures told { IsTrue (L.tells listener.old) → RemarksIf (result ≡ Ok Status.Usage)
+        (TellsNothing asked.now.app.now (wanted_by asked.now)
+        (source sourced.now.opened.app sourced.now.opened.sizes (F.tells files.old) (F.held files.old)))
+        (listener_seen L.quiet L.heard L.reads L.unread L.room listener.old) (L.heard listener.new) }
+    ensures listening { L.tells listener.new ≡ L.tells listener.old }
 {
     match name_of(&sourced.opened.app, asked.name.as_bytes()) {
         Some(name) => why_named(alloc, files, out, listener, sourced, asked, name),
@@ -188,7 +206,7 @@ fn why_app<F: Files, O: Output, L: Listener>(
 ///
 /// A file that cannot be read is one of the two, whose count of the files rose in this call; `Unwritten` comes only
 /// where the output's count rose.
-pub fn why<F: Files, O: Output, L: Listener>(
+pub fn why<F: Files, O: Output, L: KnownListener>(
     alloc: Global,
     files: &mut F,
     out: &mut O,
@@ -205,6 +223,10 @@ pub fn why<F: Files, O: Output, L: Listener>(
     ensures unwritten { IsErrOf result Stop.Unwritten → Rose (O.faults out.old) (O.faults out.new) }
     ensures writes { O.faults out.old ≤ O.faults out.new }
     ensures telling { O.tells out.new ≡ O.tells out.old }
+    ensures told { IsTrue (L.tells listener.old) → HearsWhy asked.now.app.now (wanted_by asked.now)
+        (F.tells files.old) (F.held files.old) result
+        (listener_seen L.quiet L.heard L.reads L.unread L.room listener.old) (L.heard listener.new) }
+    ensures listening { L.tells listener.new ≡ L.tells listener.old }
 {
     match open_sourced(alloc, files, out, asked.app) {
         Ok(sourced) => why_app(alloc, files, out, listener, &sourced, asked),

@@ -11,14 +11,17 @@ ghost use Rattle.ps_bench_why.specs.Walked.{IsBegun, WalksHeld, WalksWord};
 ghost use Rattle.ps_bench_why.specs.Walking.{IsWalkerFor};
 ghost use Rattle.ps_outside.specs.Outside.{Rose};
 ghost use Rattle.ps_report.specs.Short.{refusal_text};
+ghost use Rattle.ps_bench_messages.specs.Remarking.{RemarksIf};
 ghost use Rattle.ps_bench_trace.specs.Playing.{LacksCase, trace_held};
+ghost use Rattle.ps_bench_trace.specs.Remarking.{TellsNoCase};
+ghost use Rattle.ps_edge.specs.Hearing.{listener_seen};
 
 use crate::looping::{Met, walk_up_to};
 use crate::walker::Walker;
 use ps_base::Memory;
 use ps_bench_frame::{Input, InputStop, Opened, Stop, word_of};
 use ps_bench_trace::{Expansion, Play, open_play, open_trace, refuse_input};
-use ps_message::Listener;
+use ps_edge::KnownListener;
 use ps_model::App;
 use ps_outside::{Files, Output};
 use ps_trace::TraceStop;
@@ -120,7 +123,7 @@ fn walk_play<F: Files, O: Output>(
 
 /// Makes the scans up to a time of what a word means in the place of a trace. None: no case has the line of the word,
 /// which the listener was told. A trace or a case file that is refused ends it: its line is written.
-pub(crate) fn walk_word<F: Files, O: Output, L: Listener>(
+pub(crate) fn walk_word<F: Files, O: Output, L: KnownListener>(
     alloc: Global,
     files: &mut F,
     out: &mut O,
@@ -146,6 +149,11 @@ pub(crate) fn walk_word<F: Files, O: Output, L: Listener>(
     ensures reads { (other : List ℕ) → F.faults files.old other ≤ F.faults files.new other }
     ensures writes { O.faults out.old ≤ O.faults out.new }
     ensures telling { O.tells out.new ≡ O.tells out.old }
+    ensures told { IsTrue (L.tells listener.old) → RemarksIf (result ≡ Ok None) (TellsNoCase
+        (source opened.now.app opened.now.sizes (F.tells files.old) (F.held files.old)) word.now)
+        (listener_seen L.quiet L.heard L.reads L.unread L.room listener.old) (L.heard listener.new) }
+    ensures stays { IfOk result (λ got. IfSome got (λ met. listener.new ≡ listener.old)) }
+    ensures listening { L.tells listener.new ≡ L.tells listener.old }
 {
     match open_play(alloc, files, out, listener, opened, word) {
         Ok(Some(play)) => {

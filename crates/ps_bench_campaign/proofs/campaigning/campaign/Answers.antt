@@ -1,7 +1,11 @@
-use Rattle.std.proofs.Common.{◌≡◌, ◌∙◌, [], ◌∷◌, ℕ, IsTrue, List, Option, Some, Err, ap, inl, refl, subst, sym}
+use Rattle.std.proofs.Common.{◌≡◌, ◌∙◌, [], ◌∷◌, ℕ, IsTrue, List, Option, Some, Ok, Err, ap, inl, refl, subst, sym}
 use Rattle.ps_bench_frame.proofs.Stopped.{rose_since}
 use Rattle.ps_bench_frame.specs.Meant.{file_meant}
 use Rattle.ps_bench_frame.specs.declared.ending.Stop.TheVariants.{Unwritten}
+use Rattle.ps_bench_frame.specs.declared.ending.Status.TheVariants.{Usage}
+use Rattle.ps_bench_messages.proofs.Remarked.{not_so, of_app}
+use Rattle.ps_bench_trace.specs.Remarking.{TellsNoCase}
+use Rattle.ps_edge.specs.Hearing.{listener_seen}
 use Rattle.ps_bench_campaign.specs.Asking.{wanted_by}
 use Rattle.ps_bench_campaign.proofs.Coming.{answered, any_since, moved, stops}
 use Rattle.ps_bench_campaign.proofs.Leaving.{app_rose, le_two, of_err}
@@ -40,6 +44,12 @@ returns-in-Ok g c = record {
       c.in-Ok.ensures.writes (c.campaign_app.ensures.leaves.unwritten is);
   writes = le_two (g.O.Sink.faults c.args.out.now) _ _ c.in-Ok.ensures.writes c.campaign_app.ensures.leaves.stays.writes;
   telling = c.campaign_app.ensures.leaves.stays.telling ∙ c.in-Ok.ensures.telling;
+  told = λ tells.
+      of_app (c.campaign_app.result ≡ Ok Usage) (λ from. TellsNoCase from c.args.asked.now.trace.now) c.in-Ok.opened.app c.in-Ok.opened.sizes
+      c.args.asked.now.app.now (g.F.Files.tells c.args.files.now) _ (g.F.Files.held c.args.files.now) _
+      (listener_seen g.L.Listener.quiet g.L.Listener.heard g.L.KnownListener.reads g.L.KnownListener.unread g.L.KnownListener.room c.args.listener.now)
+      (g.L.Listener.heard c.campaign_app.new.listener) c.in-Ok.ensures.reading c.in-Ok.ensures.kept c.in-Ok.ensures.app (c.campaign_app.ensures.told tells);
+  listening = c.campaign_app.ensures.listening;
 }
 
 pub returns-in-Err : goal.returns-in-Err
@@ -52,4 +62,6 @@ returns-in-Err g c = record {
   unwritten = λ is. c.open_app.ensures.unwritten (c.in-Err.is ∙ ap Err (of_err _ c.in-Err.stop Unwritten refl is));
   writes = c.in-Err.ensures.writes;
   telling = c.in-Err.ensures.telling;
+  told = λ tells. not_so _ _ _ _ (λ is. cc) refl;
+  listening = refl;
 }

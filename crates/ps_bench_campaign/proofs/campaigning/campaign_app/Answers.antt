@@ -4,7 +4,9 @@ use Rattle.ps_bench_frame.specs.Opening.{source}
 use Rattle.ps_bench_frame.specs.declared.ending.Status.TheVariants.{Usage}
 use Rattle.ps_outside.specs.Outside.{Rose}
 use Rattle.ps_bench_trials.specs.Naming.{Names, digest_text}
+use Rattle.ps_bench_messages.proofs.Remarked.{not_so, not_usage, so}
 use Rattle.ps_bench_trace.proofs.Refused.{of_some}
+use Rattle.ps_bench_trace.proofs.Remarked.{no_case, no_play, some_case}
 use Rattle.ps_bench_trace.specs.Playing.{MeansPlay}
 use Rattle.ps_bench_trace.specs.declared.playing.Play.{Play}
 use Rattle.ps_bench_campaign.specs.Asking.{wanted_by}
@@ -57,6 +59,11 @@ returns-in-Ok-Some g c = record {
       behind before middle after c.campaign_play.result (Rose (mid trace) (reads' trace))
       (Any (λ (name : List ℕ). Rose (reads name) (reads' name)) (app ∷ trace ∷ [])) stays c.campaign_play.ensures.leaves
       (trace_rose reads mid reads' app trace (stays.reads trace));
+  told = λ tells.
+      not_so _ _ _ _ (not_usage c.campaign_play.result c.campaign_play.ensures.done)
+      (some_case _ _ c.open_play.result _ c.in-Ok-Some.field-0 c.in-Ok-Some.play c.in-Ok-Some.is c.in-Ok-Some.field-0-is
+      (c.open_play.ensures.told tells));
+  listening = c.open_play.ensures.listening;
 }
 
 pub returns-in-Ok-None : goal.returns-in-Ok-None
@@ -74,6 +81,12 @@ returns-in-Ok-None g c = record {
       (sides reads (g.O.Sink.tells c.args.out.now) (g.O.Sink.faults c.args.out.now))
       (sides reads' (g.O.Sink.tells c.open_play.new.out) (g.O.Sink.faults c.open_play.new.out)) Usage
       (record { reads = is.reads; telling = is.telling; writes = is.writes });
+  told = λ tells.
+      so _ _ _ _ refl (no_case _ _ c.open_play.result
+      (source c.args.opened.now.app c.args.opened.now.sizes (g.F.Files.tells c.args.files.now) (g.F.Files.held c.args.files.now))
+      c.args.asked.now.trace.now c.in-Ok-None.field-0 c.in-Ok-None.is c.in-Ok-None.field-0-is c.in-Ok-None.ensures.none
+      (c.open_play.ensures.told tells));
+  listening = c.open_play.ensures.listening;
 }
 
 pub returns : goal.returns
@@ -91,6 +104,9 @@ returns g c = record {
       (record { reads = is.reads; telling = is.telling; writes = is.writes })
       (λ unread. trace_rose reads reads reads' app trace (no_more (reads trace)) (is.unread unread))
       (λ at. c.open_play.ensures.unwritten (c.in-Err-open_play.is ∙ ap Err at));
+  told = λ tells.
+      not_so _ _ _ _ (λ is. cc) (no_play _ _ c.open_play.result _ c.in-Err-open_play.stop c.in-Err-open_play.is (c.open_play.ensures.told tells));
+  listening = c.open_play.ensures.listening;
 }
 
 pub returns-in-Err : goal.returns-in-Err
@@ -103,4 +119,6 @@ returns-in-Err g c = record {
       no_memory (Any (λ (name : List ℕ). Rose (reads name) (reads name))
       (c.args.asked.now.app.now ∷ file_meant c.args.asked.now.trace.now ∷ [])) (sides reads tells writes) (sides reads tells writes)
       (record { reads = λ other. no_more (reads other); telling = refl; writes = no_more writes });
+  told = λ tells. not_so _ _ _ _ (λ is. cc) refl;
+  listening = refl;
 }

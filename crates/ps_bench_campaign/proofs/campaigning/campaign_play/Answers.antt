@@ -1,6 +1,8 @@
-use Rattle.std.proofs.Common.{◌∙◌, ap, inl, inr, refl}
+use Rattle.std.proofs.Common.{◌≡◌, ◌∙◌, ap, inl, inr, refl}
 use Rattle.ps_bench_frame.specs.Meant.{file_meant}
 use Rattle.ps_bench_frame.specs.Opening.{source}
+use Rattle.ps_bench_frame.specs.declared.ending.Status.TheVariants.{Done}
+use Rattle.ps_bench_messages.proofs.Remarked.{first_of}
 use Rattle.ps_outside.specs.Outside.{Rose}
 use Rattle.ps_bench_trace.specs.Playing.{trace_held}
 use Rattle.ps_bench_trace.proofs.Refused.{stops_weaker, word_refused}
@@ -48,6 +50,7 @@ returns-in-Ok-campaign_text g c = record {
       written_behind (Rose (reads trace) (reads' trace)) reads reads' (g.O.Sink.tells c.args.out.now) (g.O.Sink.tells c.record_play.new.out)
       (g.O.Sink.tells c.write_told.new.out) (g.O.Sink.faults c.args.out.now) (g.O.Sink.faults c.record_play.new.out)
       (g.O.Sink.faults c.write_told.new.out) c.write_told.result c.in-Ok.ensures.leaves.stays c.write_told.ensures.leaves;
+  done = first_of (λ status. status ≡ Done) _ c.write_told.result c.write_told.ensures.all;
 }
 
 pub returns : goal.returns
@@ -59,6 +62,7 @@ returns g c = record {
       let reads' = g.F.Files.faults c.record_play.new.files in
       no_memory (Rose (reads trace) (reads' trace)) (sides reads (g.O.Sink.tells c.args.out.now) (g.O.Sink.faults c.args.out.now))
       (sides reads' (g.O.Sink.tells c.record_play.new.out) (g.O.Sink.faults c.record_play.new.out)) c.in-Ok.ensures.leaves.stays;
+  done = tt;
 }
 
 pub returns-in-Err : goal.returns-in-Err
@@ -76,4 +80,5 @@ returns-in-Err g c = record {
       let reads' = g.F.Files.faults c.record_play.new.files in
       passed (Rose (reads trace) (reads' trace)) (sides reads (g.O.Sink.tells c.args.out.now) (g.O.Sink.faults c.args.out.now))
       (sides reads' (g.O.Sink.tells c.record_play.new.out) (g.O.Sink.faults c.record_play.new.out)) c.in-Err.stop c.in-Err.ensures.leaves;
+  done = tt;
 }

@@ -23,5 +23,11 @@ returns g c =
       handed_on = c.end_asked.ensures.handed_on;
       nothing = tt;
       telling = c.end_asked.ensures.telling;
+      meanwhile = λ tells. (
+        asked,
+        subst (λ words. Asks words asked) (ap seen c.as_slice.ensures.value ∙ c.in_ok-texts.ensures) c.in_ok-asked.ensures,
+        c.end_asked.ensures.meanwhile tells,
+      );
+      unheard = tt;
       quiet = c.end_asked.ensures.quiet;
     }

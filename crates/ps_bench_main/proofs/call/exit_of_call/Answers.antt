@@ -13,3 +13,8 @@ returns-in-Ok-clause-does g c = (
 
 pub returns-in-Ok-clause-handed_on : goal.returns-in-Ok-clause-handed_on
 returns-in-Ok-clause-handed_on g c = λ not. inl (c.in-Ok.ensures.handed_on (λ is. not (c.exit_code.ensures ∙ ap exit_number is)))
+
+pub returns-in-Ok-clause-meanwhile : goal.returns-in-Ok-clause-meanwhile
+returns-in-Ok-clause-meanwhile g c = λ tells.
+    let told = c.in-Ok.ensures.meanwhile tells in
+    inr (c.in-Ok.status, c.exit_code.ensures, told.0, told.1, told.2)

@@ -1,10 +1,14 @@
-use Rattle.std.proofs.Common.{◌≡◌, None, Option, subst}
+use Rattle.std.proofs.Common.{◌≡◌, None, Option, refl, subst}
 use Rattle.std.specs.Prelude.{IfNone}
 use Rattle.ps_accepted.proofs.Sourced.{some_of}
 use Rattle.ps_bench_cases.specs.Alone.{alone, case_with}
 use Rattle.ps_bench_cases.specs.Expanded.{expanded}
 use Rattle.ps_trace.specs.FaultOrder.{AreInOrder, AreOfOneChannel}
+use Rattle.ps_bench_frame.specs.Opening.{source}
+use Rattle.ps_bench_messages.proofs.Remarked.{not_so, so}
+use Rattle.ps_edge.specs.Hearing.{listener_seen}
 use Rattle.ps_bench_trace.proofs.Plays.{of_some, same_trace}
+use Rattle.ps_bench_trace.proofs.Remarked.{by_text}
 use Rattle.ps_bench_trace.specs.declared.playing.Play.{Play}
 use Rattle.ps_bench_trace.proofs.playing.open_one.Goals as goal
 
@@ -23,6 +27,9 @@ returns-in-Err g c = record {
   kept = c.in-Err.ensures.kept;
   reading = c.in-Err.ensures.reading;
   telling = c.in-Err.ensures.telling;
+  told = λ tells. not_so _ _ _ _ (λ is. cc) refl;
+  stays = tt;
+  listening = refl;
 }
 
 pub returns-in-Ok-Some : goal.returns-in-Ok-Some
@@ -57,6 +64,9 @@ returns-in-Ok-Some g c =
       kept = c.in-Ok.ensures.kept;
       reading = c.in-Ok.ensures.reading;
       telling = c.in-Ok.ensures.telling;
+      told = λ tells. not_so _ _ _ _ (λ is. cc) refl;
+      stays = refl;
+      listening = refl;
     }
 
 pub returns-in-Ok-None : goal.returns-in-Ok-None
@@ -81,6 +91,13 @@ returns-in-Ok-None g c = record {
   kept = c.in-Ok.ensures.kept;
   reading = c.in-Ok.ensures.reading;
   telling = c.in-Ok.ensures.telling;
+  told = λ tells.
+      so _ _ _ _ refl (by_text (source c.args.opened.now.app c.args.opened.now.sizes (g.F.Files.tells c.args.files.now) (g.F.Files.held c.args.files.now))
+      c.args.name.now c.args.word.now
+      (listener_seen g.L.Listener.quiet g.L.Listener.heard g.L.KnownListener.reads g.L.KnownListener.unread g.L.KnownListener.room c.args.listener.now)
+      (g.L.Listener.heard c.tell_no_case.new.listener) c.in-Ok.file c.in-Ok.ensures.of_text (c.tell_no_case.ensures.told tells));
+  stays = tt;
+  listening = c.tell_no_case.ensures.listening;
 }
 
 pub returns : goal.returns
@@ -98,4 +115,7 @@ returns g c = record {
   kept = c.in-Ok.ensures.kept;
   reading = c.in-Ok.ensures.reading;
   telling = c.in-Ok.ensures.telling;
+  told = λ tells. not_so _ _ _ _ (λ is. cc) refl;
+  stays = tt;
+  listening = refl;
 }

@@ -1,7 +1,11 @@
-use Rattle.std.proofs.Common.{ℕ, IsTrue, List, Option, sym, subst}
+use Rattle.std.proofs.Common.{◌≡◌, ℕ, IsTrue, List, Option, Ok, refl, sym, subst}
 use Rattle.ps_bench_frame.specs.Meant.{file_meant}
 use Rattle.ps_bench_frame.specs.Sourcing.{IsSourceOf}
+use Rattle.ps_bench_frame.specs.declared.ending.Status.TheVariants.{Usage}
+use Rattle.ps_bench_messages.proofs.Remarked.{not_so, of_app}
+use Rattle.ps_edge.specs.Hearing.{listener_seen}
 use Rattle.ps_bench_why.specs.Asking.{wanted_by}
+use Rattle.ps_bench_why.specs.Remarking.{TellsNothing}
 use Rattle.ps_bench_why.proofs.Coming.{answered, moved, stops, unread_since}
 use Rattle.ps_bench_why.proofs.explaining.why.Goals as goal
 
@@ -37,3 +41,15 @@ pub why_app-requires : goal.why_app-requires
 why_app-requires g c = λ tells.
     let there = c.in-Ok.ensures.source (subst IsTrue c.in-Ok.ensures.reading tells) in
     subst (λ (held : List ℕ → Option (List ℕ)). IsSourceOf held c.args.asked.now.app.now c.in-Ok.sourced.source) (sym c.in-Ok.ensures.kept) there
+
+pub returns-in-Ok-clause-told : goal.returns-in-Ok-clause-told
+returns-in-Ok-clause-told g c = λ tells.
+    let opened = c.in-Ok.sourced.opened in
+    let app = c.args.asked.now.app.now in
+    of_app (c.why_app.result ≡ Ok Usage) (TellsNothing app (wanted_by c.args.asked.now)) opened.app opened.sizes app
+    (g.F.Files.tells c.args.files.now) _ (g.F.Files.held c.args.files.now) _
+    (listener_seen g.L.Listener.quiet g.L.Listener.heard g.L.KnownListener.reads g.L.KnownListener.unread g.L.KnownListener.room c.args.listener.now)
+    (g.L.Listener.heard c.why_app.new.listener) c.in-Ok.ensures.reading c.in-Ok.ensures.kept c.in-Ok.ensures.app (c.why_app.ensures.told tells)
+
+pub returns-in-Err-clause-told : goal.returns-in-Err-clause-told
+returns-in-Err-clause-told g c = λ tells. not_so _ _ _ _ (λ is. cc) refl
